@@ -1,0 +1,16 @@
+pub mod Aggregates
+pub mod Assignments
+pub mod Atoms
+pub mod Choices
+pub mod Counts
+pub mod Digits
+pub mod Envs
+pub mod FunctionValues
+pub mod Intervals
+pub mod Loops
+pub mod Members
+pub mod Pairs
+pub mod Sums
+pub mod Tuples
+pub mod ViewsOf
+pub mod WithinBounds

@@ -1,0 +1,120 @@
+-- Worked examples of truth and value, in a structure that is small enough to work them out by hand.
+use Rattle.std.specs.Prelude.{◌≡◌, ℕ, pos, negsuc, List, [], ◌∷◌, Bool, true, false}
+use Rattle.kb_logic.specs.declared.elements.Elem.{Elem}
+use Rattle.kb_logic.specs.declared.elements.Elem.TheVariants.{Named, Num}
+use Rattle.kb_logic.specs.declared.vocabularies.Bound.{Bound}
+use Rattle.kb_logic.specs.declared.structures.Structure.{Structure}
+use Rattle.kb_logic.specs.declared.syntax.Cmp.TheVariants as cmp
+use Rattle.kb_logic.specs.declared.syntax.AggKind.TheVariants as kind
+use Rattle.kb_logic.specs.Trees.{TermTree, variable, integer, constructed, application, summation, product, aggregate, no_terms, more_terms, no_summands, more_summands, FormulaTree, verum, falsum, atom, comparison, negation, conjunction, disjunction, implication, equivalence, universal, existential, numbered, no_formulas, more_formulas}
+use Rattle.kb_logic.specs.Denotations.{Denotation, number, minus_infinity, plus_infinity, undefined}
+use Rattle.kb_logic.specs.Meaning.{value_of, truth_of}
+
+abbrev one : Elem
+one = Num (pos 1)
+
+abbrev two : Elem
+two = Num (pos 2)
+
+abbrev three : Elem
+three = Num (pos 3)
+
+-- the types are number = {1; 2; 3}, nothing = {} and letter = {a}. The predicate 0 is small = {1; 2}. The function 1 is
+-- weight = {1->2; 2->2; 3->5}
+abbrev sample : Structure
+sample = record {
+  domains = (one ∷ two ∷ three ∷ []) ∷ [] ∷ (Named (97 ∷ []) ∷ []) ∷ [];
+  relations = record { symbol = 0; rows = (one ∷ []) ∷ (two ∷ []) ∷ [] } ∷ [];
+  functions = record { symbol = 1; rows = (one ∷ two ∷ []) ∷ (two ∷ two ∷ []) ∷ (three ∷ Num (pos 5) ∷ []) ∷ [] } ∷ [];
+}
+
+abbrev is_true : FormulaTree → Bool
+is_true f = truth_of sample f []
+
+abbrev value : TermTree → Denotation
+value t = value_of sample t []
+
+-- one variable of a type
+abbrev over : ℕ → List Bound
+over ty = record { name = 120 ∷ []; ty = ty } ∷ []
+
+abbrev small : TermTree → FormulaTree
+small t = atom 0 (more_terms t no_terms)
+
+abbrev weight : TermTree → TermTree
+weight t = application 1 (more_terms t no_terms)
+
+abbrev x : TermTree
+x = variable 0
+
+abbrev y : TermTree
+y = variable 1
+
+abbrev both : FormulaTree → FormulaTree → FormulaTree
+both f g = conjunction (more_formulas f (more_formulas g no_formulas))
+
+abbrev either : FormulaTree → FormulaTree → FormulaTree
+either f g = disjunction (more_formulas f (more_formulas g no_formulas))
+
+-- connectives
+abbrev pub Connectives : Type 0
+Connectives =
+    (is_true (both verum falsum) ≡ false)
+    × (is_true (either verum falsum) ≡ true)
+    × (is_true (negation falsum) ≡ true)
+    × (is_true (implication falsum falsum) ≡ true)
+    × (is_true (implication verum falsum) ≡ false)
+    × (is_true (equivalence falsum verum) ≡ false)
+    × (is_true (equivalence falsum falsum) ≡ true)
+    × (is_true (conjunction no_formulas) ≡ true)
+    × (is_true (disjunction no_formulas) ≡ false)
+
+-- atoms and comparisons: 3 is not small, 7 is no number of the structure, and letters have no order
+abbrev pub Atoms : Type 0
+Atoms =
+    (is_true (small (integer (pos 2))) ≡ true)
+    × (is_true (small (integer (pos 3))) ≡ false)
+    × (is_true (small (integer (pos 7))) ≡ false)
+    × (is_true (small (constructed 2 0)) ≡ false)
+    × (is_true (comparison cmp.Eq (constructed 2 0) (constructed 2 0)) ≡ true)
+    × (is_true (comparison cmp.Lt (constructed 2 0) (integer (pos 1))) ≡ false)
+    × (is_true (comparison cmp.Le (integer (negsuc 0)) (integer (pos 0))) ≡ true)
+    × (is_true (comparison cmp.Ne (weight (integer (pos 1))) (weight (integer (pos 2)))) ≡ false)
+
+-- quantifiers: over three numbers, over nothing, nested over types of different sizes, and with a variable that hides another
+abbrev pub Quantifiers : Type 0
+Quantifiers =
+    (is_true (universal (over 0) (small x)) ≡ false)
+    × (is_true (existential (over 0) (small x)) ≡ true)
+    × (is_true (universal (over 1) falsum) ≡ true)
+    × (is_true (existential (over 1) verum) ≡ false)
+    × (is_true (universal (over 0) (existential (over 2) (comparison cmp.Ne x y))) ≡ true)
+    × (is_true (universal (over 0) (existential (over 0) (comparison cmp.Lt x y))) ≡ false)
+    × (is_true (existential (over 0) (universal (over 0) (comparison cmp.Le x y))) ≡ true)
+    × (is_true (universal (over 0) (existential (over 0) (both (small y) (negation (comparison cmp.Eq x y))))) ≡ true)
+    × (is_true (numbered cmp.Eq (pos 2) (over 0) (small x)) ≡ true)
+    × (is_true (numbered cmp.Gt (pos 2) (over 0) (small x)) ≡ false)
+    × (is_true (numbered cmp.Eq (pos 0) (over 1) verum) ≡ true)
+
+-- arithmetic: 2 - 5, 2 * 5 * -1, and a sum with a letter
+abbrev pub Arithmetic : Type 0
+Arithmetic =
+    (value (summation (more_summands false (integer (pos 2)) (more_summands true (weight (integer (pos 3))) no_summands))) ≡ number (negsuc 2))
+    × (value (product (more_terms (integer (pos 2)) (more_terms (weight (integer (pos 3))) (more_terms (integer (negsuc 0)) no_terms)))) ≡ number (negsuc 9))
+    × (value (summation (more_summands false (constructed 2 0) no_summands)) ≡ undefined)
+
+-- aggregates: the two small numbers both weigh 2; over nothing a count and a sum are 0, and a minimum and a maximum infinite
+abbrev pub Aggregates : Type 0
+Aggregates =
+    (value (aggregate kind.Count (over 0) (small x) (integer (pos 1))) ≡ number (pos 2))
+    × (value (aggregate kind.Sum (over 0) (small x) (weight x)) ≡ number (pos 4))
+    × (value (aggregate kind.Min (over 0) verum (weight x)) ≡ number (pos 2))
+    × (value (aggregate kind.Max (over 0) verum (weight x)) ≡ number (pos 5))
+    × (value (aggregate kind.Count (over 0) falsum (integer (pos 1))) ≡ number (pos 0))
+    × (value (aggregate kind.Sum (over 1) verum x) ≡ number (pos 0))
+    × (value (aggregate kind.Min (over 1) verum x) ≡ plus_infinity)
+    × (value (aggregate kind.Max (over 0) falsum (weight x)) ≡ minus_infinity)
+    × (is_true (universal (over 0) (comparison cmp.Le (aggregate kind.Count (over 0) (comparison cmp.Lt y x) (integer (pos 1))) x)) ≡ true)
+
+abbrev pub WorkedExamples : Type 0
+WorkedExamples = Connectives × Atoms × Quantifiers × Arithmetic × Aggregates

@@ -1,0 +1,16 @@
+pub mod Trees
+pub mod Views
+pub mod Structures
+pub mod Denotations
+pub mod Meaning
+pub mod Values
+pub mod Environments
+pub mod Arithmetic
+pub mod Bounds
+pub mod Weights
+pub mod Laws
+pub mod Models
+pub mod First
+pub mod Plain
+pub mod Decimals
+pub mod Examples

@@ -1,0 +1,39 @@
+//! Elements of domains, and integers with infinities.
+ghost use Rattle.std.specs.Prelude.{◌≡◌, IfOk};
+
+use crate::errors::Memory;
+use crate::lists::Copied;
+use crate::names::Name;
+use std::alloc::Global;
+
+/// An element of a type's domain.
+#[derive(Drop)]
+pub enum Elem {
+    Named(Name),
+    Num(i64),
+}
+
+impl Elem {
+    pub fn copy(&self, alloc: Global) -> Result<Elem, Memory>
+        ensures { IfOk result (λ x. x ≡ self.now) }
+    {
+        match self {
+            Elem::Named(name) => Ok(Elem::Named(name.copy(alloc)?)),
+            Elem::Num(n) => Ok(Elem::Num(*n)),
+        }
+    }
+}
+
+impl Copied for Elem {
+    fn copied(&self, alloc: Global) -> Result<Elem, Memory> {
+        self.copy(alloc)
+    }
+}
+
+/// A value of arithmetic: the least of nothing is `PosInf`, and the greatest of nothing is `NegInf`.
+#[derive(Clone, Copy)]
+pub enum ExtInt {
+    NegInf,
+    Num(i64),
+    PosInf,
+}

@@ -1,0 +1,39 @@
+//! The language of knowledge bases: vocabularies, terms, formulas, theories and structures, and what a
+//! formula means in a structure.
+//!
+//! The language is FO(.) as the IDP3 manual has it, with definitions that are not recursive: first-order
+//! logic with types, functions, arithmetic, aggregates and definitions.
+#![tactic(auto)]
+
+mod copies;
+mod decimals;
+mod elements;
+pub mod environments;
+mod errors;
+mod evaluation;
+pub mod first;
+pub mod frames;
+pub mod laws;
+mod lists;
+mod names;
+mod structures;
+mod syntax;
+#[cfg(test)]
+mod tests;
+pub mod values;
+mod vocabularies;
+
+pub use decimals::decimal;
+pub use elements::{Elem, ExtInt};
+pub use errors::Memory;
+pub use evaluation::truth;
+pub use lists::{Copied, DomainList, ElemList, ListOf, NameList, NumberList, RowList};
+pub use names::Name;
+pub use structures::{Literal, LiteralList, Structure, Table, TableList};
+pub use syntax::{
+    AggKind, Cmp, Definition, DefinitionList, Formula, FormulaList, Rule, RuleList, Signed, Term,
+    TermList, Theory,
+};
+pub use vocabularies::{
+    Bound, BoundList, Parent, Symbol, SymbolList, TypeDecl, TypeList, Vocabulary,
+};
