@@ -1,0 +1,5 @@
+pub mod Pieces
+pub mod Named
+pub mod Cutting
+pub mod Reading
+pub mod Answering

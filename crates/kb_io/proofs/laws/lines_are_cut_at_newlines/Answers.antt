@@ -1,0 +1,5 @@
+use Rattle.kb_io.specs.Lines.{lines_are_cut}
+use Rattle.kb_io.proofs.laws.lines_are_cut_at_newlines.Goals as goal
+
+pub returns : goal.returns
+returns c = lines_are_cut

@@ -1,0 +1,5 @@
+use Rattle.kb_io.specs.Pending.{next_line_is_first}
+use Rattle.kb_io.proofs.lines.next_line.Goals as goal
+
+pub returns-clause-lines : goal.returns-clause-lines
+returns-clause-lines g c = rw (← c.state.view_is) (next_line_is_first _ _ _ _ _ _ _ c.next.ensures.next)

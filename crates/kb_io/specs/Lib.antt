@@ -1,0 +1,9 @@
+pub mod Outside
+pub mod KnownBytes
+pub mod Lines
+pub mod Whole
+pub mod Memory
+pub mod Files
+pub mod Pending
+pub mod Buffer
+pub mod Finishes
