@@ -1,0 +1,9 @@
+pub mod Closes
+pub mod Exact
+pub mod Exists
+pub mod Fronts
+pub mod Numbers
+pub mod Passages
+pub mod Pieces
+pub mod Spans
+pub mod Splits

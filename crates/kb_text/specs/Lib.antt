@@ -1,0 +1,9 @@
+pub mod Bytes
+pub mod Refusals
+pub mod Ends
+pub mod Pieces
+pub mod Procedures
+pub mod Roles
+pub mod Depth
+pub mod Tokens
+pub mod Found
