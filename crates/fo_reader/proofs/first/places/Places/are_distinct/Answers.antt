@@ -1,0 +1,10 @@
+use Rattle.fo_reader.specs.FirstPlaces.{names_in}
+use Rattle.fo_reader.specs.FirstTables.{AreFirst}
+use Rattle.fo_reader.specs.FirstFiles.{AreDistinct}
+use Rattle.fo_reader.proofs.FirstNames.{told, distinct_first, first_distinct}
+use Rattle.fo_reader.proofs.first.places.Places.are_distinct.Goals as goal
+
+pub returns : goal.returns
+returns c =
+    let names = names_in c.args.self.now in
+    told c.are_first.result (AreFirst names 0 names) (AreDistinct names) (distinct_first names 0 names) (first_distinct names) c.are_first.ensures

@@ -1,0 +1,75 @@
+//! Knowledge bases of the first profile: one vocabulary of propositions, one theory of sentences over them
+//! and one structure, in this order. It stands in until the whole grammar is read.
+ghost use Rattle.std.specs.Prelude.{◌≡◌};
+ghost use Rattle.fo_reader.specs.FirstFiles.{place_of_theory};
+ghost use Rattle.fo_reader.specs.FirstViews.{lexemes};
+ghost use Rattle.fo_reader.specs.FirstReads.{ReadsFirst, Answers};
+
+mod blocks;
+mod build;
+mod depth;
+mod formula;
+mod joins;
+mod places;
+mod rules;
+mod scan;
+mod steps;
+mod stop;
+mod token;
+
+use crate::error::KbError;
+use blocks::read_blocks;
+use build::knowledge_base;
+use depth::is_shallow;
+use kb_logic::first::FirstKb;
+use kb_text::{K, KbFault};
+use rules::is_consistent;
+use scan::tokens;
+use std::alloc::Global;
+use stop::Stop;
+use token::{Kind, Token};
+
+const UNSUPPORTED: KbFault = KbFault {
+    cause: K::Unsupported,
+    place: 0,
+};
+
+fn theory_place(tokens: &[Token<'_>]) -> usize
+    ensures { result ≡ place_of_theory (lexemes tokens.now) }
+{
+    for token in tokens {
+        if token.kind == Kind::Reserved && token.text == b"theory".as_slice() {
+            return token.place;
+        }
+    }
+    0
+}
+
+fn read(alloc: Global, src: &[u8]) -> Result<FirstKb, Stop>
+    ensures { Answers src.now result }
+{
+    let all = tokens(alloc, src)?;
+    if !is_shallow(alloc, &all)? {
+        return Err(Stop::Unread);
+    }
+    let blocks = read_blocks(alloc, &all)?;
+    if !is_consistent(alloc, &blocks)? {
+        return Err(Stop::Unread);
+    }
+    let place = theory_place(&all);
+    Ok(knowledge_base(alloc, blocks, place)?)
+}
+
+/// The knowledge base of a file of the first profile.
+///
+/// Any other file is refused as unsupported. The places of refusals come with the readers of the whole
+/// grammar, and until then each stands at the first byte.
+pub fn read_first(alloc: Global, src: &[u8]) -> Result<FirstKb, KbError>
+    ensures { ReadsFirst src.now result }
+{
+    match read(alloc, src) {
+        Ok(kb) => Ok(kb),
+        Err(Stop::Unread) => Err(KbError::Refused(UNSUPPORTED)),
+        Err(Stop::Memory) => Err(KbError::Memory),
+    }
+}

@@ -1,0 +1,28 @@
+//! What an operand turns out to be.
+use crate::raw::{RawApp, RawFormula, RawTermTree, RawUnary};
+use sqlite_items::Items;
+
+/// The places of two brackets.
+#[derive(Clone, Copy, Debug)]
+pub struct Pair {
+    pub start: usize,
+    pub close: usize,
+}
+
+/// What stands where an operand of a connective may stand.
+#[derive(Drop)]
+pub enum Operand {
+    /// And whether no quantified formula stands at its end.
+    Formula(RawUnary, bool),
+    Term(RawTermTree),
+    /// An application in so many brackets, the innermost first: a formula as well as a term.
+    Either(RawApp, Items<Pair>),
+}
+
+/// What stands in brackets.
+#[derive(Drop)]
+pub enum Content {
+    Formula(RawFormula),
+    Term(RawTermTree),
+    Either(RawApp, Items<Pair>),
+}

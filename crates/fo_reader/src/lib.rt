@@ -1,0 +1,28 @@
+//! Reads knowledge bases: today those of the first profile, by `read_first`. The grammar of the whole language stands
+//! beside it: its raw trees with the places of their tokens, their spelling, and the law that no text is written by two.
+#![tactic(auto)]
+
+mod binders;
+mod build;
+mod cursor;
+mod error;
+mod first;
+mod kinds;
+mod laws;
+mod raw;
+mod stops;
+mod terminal;
+#[cfg(test)]
+mod tests;
+
+pub use error::KbError;
+pub use first::read_first;
+pub use kb_text::{K, KbFault};
+pub use laws::one_formula;
+pub use raw::{
+    RawAnd, RawAndTail, RawApp, RawFactor, RawFormula, RawInteger, RawLink, RawName, RawNumber,
+    RawOpening, RawOr, RawOrTail, RawPrim, RawProduct, RawProductTail, RawSumTail, RawTermTree,
+    RawTerms, RawTermsTail, RawUnary, RawVar, RawVarTail, RawVarType, RawVars,
+};
+pub use stops::ReadError;
+pub use terminal::{Adding, Aggregation, Arrow, Comparison, Item, Outer, Terminal};
