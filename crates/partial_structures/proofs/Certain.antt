@@ -1,0 +1,138 @@
+-- What is known holds where the data is extended, and what quantifiers say for certain.
+use Rattle.std.proofs.Common.{◌≡◌, ◌↔◌, ℕ, suc, List, [], ◌∷◌, ◌++◌, Bool, true, false, ◌||◌, if◌then◌else◌, refl, sym, ap, ◌∙◌, ◌⊎◌, inl, inr, subst}
+use Rattle.std.specs.List.{list_any, AllByRecursion, Contains}
+use Rattle.std.proofs.lemmas.Bool.{or_cases, true≢false}
+use Rattle.kb_logic.specs.Models.{GroundAtom}
+use Rattle.kb_logic.specs.Structures.{choices}
+use Rattle.partial_structures.specs.KnownAtoms.{same_atom}
+use Rattle.partial_structures.specs.Certainty.{both_certain, either_certain, all_certain, any_certain, certain_truth}
+use Rattle.partial_structures.specs.Laws.{KnownAtomsHold, EveryIsConjunction, SomeIsDisjunction}
+use Rattle.partial_structures.specs.declared.truths.Truth.{Truth}
+use Rattle.partial_structures.specs.declared.truths.Truth.TheVariants.{Yes, No, Unknown}
+use Rattle.partial_structures.proofs.Members.{Has, has_from}
+use Rattle.partial_structures.proofs.TestLemmas.{contains_from}
+use Rattle.partial_structures.proofs.Sames.{atom_is}
+
+at_listed : (a : GroundAtom) (P : GroundAtom → Type 0) (xs : List GroundAtom) → list_any (same_atom a) xs ≡ true → AllByRecursion P xs → P a
+at_listed a P [] h all = absurd (true≢false (sym h))
+at_listed a P (x ∷ xs) h all = elim (or_cases (same_atom a x) (list_any (same_atom a) xs) h) [
+  | inl e ↦ subst P (atom_is a x e) all.0
+  | inr m ↦ at_listed a P xs m all.1
+]
+
+is_true : (t f : Bool) → (if t then Yes else (if f then No else Unknown)) ≡ Yes → t ≡ true
+is_true true f h = refl
+is_true false true h = absurd (cc)
+is_true false false h = absurd (cc)
+
+is_false : (t f : Bool) → (if t then Yes else (if f then No else Unknown)) ≡ No → f ≡ true
+is_false true f h = absurd (cc)
+is_false false true h = refl
+is_false false false h = absurd (cc)
+
+pub known_atoms_hold : KnownAtomsHold
+known_atoms_hold m k a extends = (
+  λ h. at_listed a _ k.true_atoms (is_true (list_any (same_atom a) k.true_atoms) (list_any (same_atom a) k.false_atoms) h) extends.true_atoms,
+  λ h. at_listed a _ k.false_atoms (is_false (list_any (same_atom a) k.true_atoms) (list_any (same_atom a) k.false_atoms) h) extends.false_atoms,
+)
+
+both_yes : (a b : Truth) → both_certain a b ≡ Yes → (a ≡ Yes) × (b ≡ Yes)
+both_yes Yes b h = (refl, h)
+both_yes No b h = absurd (cc)
+both_yes Unknown Yes h = absurd (cc)
+both_yes Unknown No h = absurd (cc)
+both_yes Unknown Unknown h = absurd (cc)
+
+both_no : (a b : Truth) → both_certain a b ≡ No → (a ≡ No) ⊎ (b ≡ No)
+both_no Yes b h = inr h
+both_no No b h = inl refl
+both_no Unknown Yes h = absurd (cc)
+both_no Unknown No h = inr refl
+both_no Unknown Unknown h = absurd (cc)
+
+second_no : (a b : Truth) → b ≡ No → both_certain a b ≡ No
+second_no Yes b h = h
+second_no No b h = refl
+second_no Unknown b h = ap (both_certain Unknown) h
+
+either_yes : (a b : Truth) → either_certain a b ≡ Yes → (a ≡ Yes) ⊎ (b ≡ Yes)
+either_yes Yes b h = inl refl
+either_yes No b h = inr h
+either_yes Unknown Yes h = inr refl
+either_yes Unknown No h = absurd (cc)
+either_yes Unknown Unknown h = absurd (cc)
+
+either_no : (a b : Truth) → either_certain a b ≡ No → (a ≡ No) × (b ≡ No)
+either_no Yes b h = absurd (cc)
+either_no No b h = (refl, h)
+either_no Unknown Yes h = absurd (cc)
+either_no Unknown No h = absurd (cc)
+either_no Unknown Unknown h = absurd (cc)
+
+second_yes : (a b : Truth) → b ≡ Yes → either_certain a b ≡ Yes
+second_yes Yes b h = refl
+second_yes No b h = h
+second_yes Unknown b h = ap (either_certain Unknown) h
+
+module _ {X : Type 0} (P : X → Truth) where
+  all_yes : (xs : List X) → all_certain P xs ≡ Yes → (x : X) → Has xs x → P x ≡ Yes
+  all_yes [] h x m = absurd m
+  all_yes (y ∷ xs) h x (inl e) = ap P (sym e) ∙ (both_yes (P y) (all_certain P xs) h).0
+  all_yes (y ∷ xs) h x (inr m) = all_yes xs (both_yes (P y) (all_certain P xs) h).1 x m
+
+  yes_all : (xs : List X) → ((x : X) → Has xs x → P x ≡ Yes) → all_certain P xs ≡ Yes
+  yes_all [] h = refl
+  yes_all (y ∷ xs) h = ap (λ t. both_certain t (all_certain P xs)) (h y (inl refl)) ∙ yes_all xs (λ x m. h x (inr m))
+
+  all_no : (xs : List X) → all_certain P xs ≡ No → (x : X) × Has xs x × (P x ≡ No)
+  all_no [] h = absurd (cc)
+  all_no (y ∷ xs) h = elim (both_no (P y) (all_certain P xs) h) [
+    | inl e ↦ (y, inl refl, e)
+    | inr e ↦ let r = all_no xs e in (r.0, inr r.1, r.2)
+  ]
+
+  no_all : (xs : List X) (x : X) → Has xs x → P x ≡ No → all_certain P xs ≡ No
+  no_all [] x m h = absurd m
+  no_all (y ∷ xs) x (inl e) h = ap (λ t. both_certain t (all_certain P xs)) (ap P e ∙ h)
+  no_all (y ∷ xs) x (inr m) h = second_no (P y) (all_certain P xs) (no_all xs x m h)
+
+  any_no : (xs : List X) → any_certain P xs ≡ No → (x : X) → Has xs x → P x ≡ No
+  any_no [] h x m = absurd m
+  any_no (y ∷ xs) h x (inl e) = ap P (sym e) ∙ (either_no (P y) (any_certain P xs) h).0
+  any_no (y ∷ xs) h x (inr m) = any_no xs (either_no (P y) (any_certain P xs) h).1 x m
+
+  no_any : (xs : List X) → ((x : X) → Has xs x → P x ≡ No) → any_certain P xs ≡ No
+  no_any [] h = refl
+  no_any (y ∷ xs) h = ap (λ t. either_certain t (any_certain P xs)) (h y (inl refl)) ∙ no_any xs (λ x m. h x (inr m))
+
+  any_yes : (xs : List X) → any_certain P xs ≡ Yes → (x : X) × Has xs x × (P x ≡ Yes)
+  any_yes [] h = absurd (cc)
+  any_yes (y ∷ xs) h = elim (either_yes (P y) (any_certain P xs) h) [
+    | inl e ↦ (y, inl refl, e)
+    | inr e ↦ let r = any_yes xs e in (r.0, inr r.1, r.2)
+  ]
+
+  yes_any : (xs : List X) (x : X) → Has xs x → P x ≡ Yes → any_certain P xs ≡ Yes
+  yes_any [] x m h = absurd m
+  yes_any (y ∷ xs) x (inl e) h = ap (λ t. either_certain t (any_certain P xs)) (ap P e ∙ h)
+  yes_any (y ∷ xs) x (inr m) h = second_yes (P y) (any_certain P xs) (yes_any xs x m h)
+
+pub every_is_conjunction : EveryIsConjunction
+every_is_conjunction k bs f e =
+    let cs = choices k.domains bs in (
+      (λ h a m. all_yes (λ a. certain_truth k f (e ++ a)) cs h a (has_from cs a m), λ h. yes_all (λ a. certain_truth k f (e ++ a)) cs (λ a m. h a (contains_from cs a m))),
+      (
+        λ h. let r = all_no (λ a. certain_truth k f (e ++ a)) cs h in (r.0, contains_from cs r.0 r.1, r.2),
+        λ r. no_all (λ a. certain_truth k f (e ++ a)) cs r.0 (has_from cs r.0 r.1) r.2,
+      ),
+    )
+
+pub some_is_disjunction : SomeIsDisjunction
+some_is_disjunction k bs f e =
+    let cs = choices k.domains bs in (
+      (
+        λ h. let r = any_yes (λ a. certain_truth k f (e ++ a)) cs h in (r.0, contains_from cs r.0 r.1, r.2),
+        λ r. yes_any (λ a. certain_truth k f (e ++ a)) cs r.0 (has_from cs r.0 r.1) r.2,
+      ),
+      (λ h a m. any_no (λ a. certain_truth k f (e ++ a)) cs h a (has_from cs a m), λ h. no_any (λ a. certain_truth k f (e ++ a)) cs (λ a m. h a (contains_from cs a m))),
+    )

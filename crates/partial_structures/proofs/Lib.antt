@@ -1,0 +1,14 @@
+pub mod Places
+pub mod Labels
+pub mod Nodes
+pub mod Growth
+pub mod Changes
+pub mod WordLemmas
+pub mod Members
+pub mod Sames
+pub mod Listed
+pub mod Labelled
+pub mod Statuses
+pub mod Views
+pub mod TestLemmas
+pub mod Certain

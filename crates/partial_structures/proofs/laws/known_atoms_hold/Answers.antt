@@ -1,0 +1,5 @@
+use Rattle.partial_structures.proofs.Certain.{known_atoms_hold}
+use Rattle.partial_structures.proofs.laws.known_atoms_hold.Goals as goal
+
+pub returns : goal.returns
+returns c = known_atoms_hold

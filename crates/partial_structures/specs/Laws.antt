@@ -1,0 +1,30 @@
+-- What the definitions say, in the subject's own words.
+use Rattle.std.specs.Prelude.{◌≡◌, ◌↔◌, List, ◌++◌, Contains}
+use Rattle.kb_logic.specs.declared.elements.Elem.{Elem}
+use Rattle.kb_logic.specs.declared.vocabularies.Bound.{Bound}
+use Rattle.kb_logic.specs.declared.structures.Structure.{Structure}
+use Rattle.kb_logic.specs.Trees.{FormulaTree, universal, existential}
+use Rattle.kb_logic.specs.Structures.{choices}
+use Rattle.kb_logic.specs.Models.{GroundAtom, AtomHolds}
+use Rattle.partial_structures.specs.KnownAtoms.{KnownAtoms, value_at}
+use Rattle.partial_structures.specs.Extension.{ExtendsData}
+use Rattle.partial_structures.specs.Certainty.{certain_truth}
+use Rattle.partial_structures.specs.declared.truths.Truth.TheVariants as truth
+
+-- what is known of an atom is so in every structure that extends the data
+abbrev pub KnownAtomsHold : Type 0
+KnownAtomsHold = (m : Structure) (k : KnownAtoms) (a : GroundAtom) → ExtendsData m k → (value_at k a ≡ truth.Yes → AtomHolds m a) × (value_at k a ≡ truth.No → AtomHolds m a → ⊥)
+
+-- a universal formula is certainly true where each instance is, and certainly false where some instance is
+abbrev pub EveryIsConjunction : Type 0
+EveryIsConjunction =
+    (k : KnownAtoms) (bs : List Bound) (f : FormulaTree) (e : List Elem)
+    → (certain_truth k (universal bs f) e ≡ truth.Yes ↔ ((a : List Elem) → Contains (choices k.domains bs) a → certain_truth k f (e ++ a) ≡ truth.Yes))
+    × (certain_truth k (universal bs f) e ≡ truth.No ↔ ((a : List Elem) × Contains (choices k.domains bs) a × (certain_truth k f (e ++ a) ≡ truth.No)))
+
+-- an existential formula is certainly true where some instance is, and certainly false where each instance is
+abbrev pub SomeIsDisjunction : Type 0
+SomeIsDisjunction =
+    (k : KnownAtoms) (bs : List Bound) (f : FormulaTree) (e : List Elem)
+    → (certain_truth k (existential bs f) e ≡ truth.Yes ↔ ((a : List Elem) × Contains (choices k.domains bs) a × (certain_truth k f (e ++ a) ≡ truth.Yes)))
+    × (certain_truth k (existential bs f) e ≡ truth.No ↔ ((a : List Elem) → Contains (choices k.domains bs) a → certain_truth k f (e ++ a) ≡ truth.No))

@@ -1,0 +1,118 @@
+//! What rows say of an atom.
+ghost use Rattle.std.specs.Prelude.{IfOk, Some, ◌≡◌, List, ℕ, All, IfSome, IsTrue, OnOk, OnErr};
+ghost use Rattle.kb_logic.specs.declared.elements.Elem.{Elem as Element};
+ghost use Rattle.partial_structures.specs.Words.{words_in};
+ghost use Rattle.partial_structures.specs.Rows.{Grows, MadeFalse, MadeTrue, node_of, row_of, denied, has_label, mark_of, settled, status_of};
+
+use crate::rows::{Mark, Rows};
+use crate::truths::Truth;
+use kb_logic::{Literal, Memory};
+
+fn if_closed(closed: bool, known: Truth) -> Truth
+    ensures { result ≡ settled closed known }
+{
+    match known {
+        Truth::Yes => Truth::Yes,
+        Truth::No => Truth::No,
+        Truth::Unknown => if closed { Truth::No } else { Truth::Unknown },
+    }
+}
+
+fn denial(known: Truth) -> Truth
+    ensures { result ≡ denied known }
+{
+    match known {
+        Truth::No => Truth::No,
+        _ => Truth::Unknown,
+    }
+}
+
+/// What is known of the atom, where `closed` says that the rest of its symbol is false.
+pub(crate) fn status(rows: &Rows, closed: bool, atom: &Literal) -> Truth
+    ensures { result ≡ status_of (words_in rows.now.words) rows.now.nodes.entries closed atom.now.symbol atom.now.args atom.now.value }
+{
+    let front = rows.find(atom.symbol, atom.args.as_slice());
+    let mark = rows.mark(front);
+    match &atom.value {
+        None => if_closed(closed, mark.known),
+        Some(value) => match mark.value {
+            Some(label) => {
+                if rows.label(value) == Some(label) {
+                    Truth::Yes
+                } else {
+                    Truth::No
+                }
+            }
+            None => if_closed(closed, denial(rows.mark(rows.step(front, value)).known)),
+        },
+    }
+}
+
+/// Makes the atom true.
+pub(crate) fn make_true(rows: &mut Rows, atom: &Literal) -> Result<(), Memory>
+    requires { All (λ x. IsTrue (has_label (words_in rows.old.words) x)) atom.now.args }
+    ensures ok { OnOk result (MadeTrue (words_in rows.old.words) rows.old.nodes.entries rows.new.nodes.entries atom.now.symbol atom.now.args atom.now.value) }
+    ensures err { OnErr result ((s : ℕ) (xs : List Element) → mark_of (words_in rows.old.words) rows.new.nodes.entries s xs ≡ mark_of (words_in rows.old.words) rows.old.nodes.entries s xs) }
+    ensures words { rows.new.words ≡ rows.old.words }
+{
+    let node = rows.reach(atom.symbol, atom.args.as_slice())?;
+    let mark = rows.mark(Some(node));
+    match &atom.value {
+        None => {
+            rows.set_mark(
+                node,
+                Mark {
+                    known: Truth::Yes,
+                    value: mark.value,
+                },
+            );
+            Ok(())
+        }
+        Some(value) => {
+            let value = rows.label(value);
+            rows.set_mark(
+                node,
+                Mark {
+                    known: mark.known,
+                    value,
+                },
+            );
+            Ok(())
+        }
+    }
+}
+
+/// Makes the atom false.
+pub(crate) fn make_false(rows: &mut Rows, atom: &Literal) -> Result<(), Memory>
+    requires args { All (λ x. IsTrue (has_label (words_in rows.old.words) x)) atom.now.args }
+    requires value { IfSome atom.now.value (λ x. IsTrue (has_label (words_in rows.old.words) x)) }
+    ensures ok { OnOk result (MadeFalse (words_in rows.old.words) rows.old.nodes.entries rows.new.nodes.entries atom.now.symbol atom.now.args atom.now.value) }
+    ensures err { OnErr result ((s : ℕ) (xs : List Element) → mark_of (words_in rows.old.words) rows.new.nodes.entries s xs ≡ mark_of (words_in rows.old.words) rows.old.nodes.entries s xs) }
+    ensures words { rows.new.words ≡ rows.old.words }
+{
+    let node = reach_atom(rows, atom)?;
+    let mark = rows.mark(Some(node));
+    rows.set_mark(
+        node,
+        Mark {
+            known: Truth::No,
+            value: mark.value,
+        },
+    );
+    Ok(())
+}
+
+/// The node of the atom's row, with its value where it has one.
+fn reach_atom(rows: &mut Rows, atom: &Literal) -> Result<usize, Memory>
+    requires args { All (λ x. IsTrue (has_label (words_in rows.old.words) x)) atom.now.args }
+    requires value { IfSome atom.now.value (λ x. IsTrue (has_label (words_in rows.old.words) x)) }
+    ensures node { IfOk result (λ n. node_of (words_in rows.new.words) rows.new.nodes.entries atom.now.symbol (row_of atom.now.args atom.now.value) ≡ Some n) }
+    ensures grows { Grows rows.old.nodes.entries rows.new.nodes.entries }
+    ensures words { rows.new.words ≡ rows.old.words }
+{
+    let node = rows.reach(atom.symbol, atom.args.as_slice())?;
+    match &atom.value {
+        None => Ok(node),
+        Some(value) => Ok(rows.reach_child(node, value)?),
+    }
+}

@@ -1,0 +1,185 @@
+//! A tree of rows whose branches are hashed, so that a row is found by its elements one after another.
+ghost use Rattle.std.specs.Prelude.{◌≡◌, ◌<◌, ◌||◌, ◌++◌, ◌∷◌, None, Some, [], List, ℕ, length, reverse, nat_lt, true, IsTrue, IsSome, All, OnOk, OnErr, IfOk};
+ghost use Rattle.indexmap.specs.IndexMap.{set_value_at};
+ghost use Rattle.partial_structures.specs.Words.{words_in};
+ghost use Rattle.partial_structures.specs.Rows.{Grows, child_of, child_by, has_label, is_symbol, is_tree, label_of, mark_at, node_of};
+
+use crate::truths::Truth;
+use crate::words::Words;
+use indexmap::IndexMap;
+use kb_logic::{Elem, Memory};
+use std::alloc::Global;
+
+/// What leads from one node to the next: a symbol from the root, then elements.
+#[derive(Clone, Copy, PartialEq, Eq, Hash, Debug)]
+pub(crate) enum Label {
+    Symbol(u32),
+    Word(usize),
+    Number(i64),
+}
+
+/// The way to a node from the node before it.
+#[derive(Clone, Copy, PartialEq, Eq, Hash, Debug)]
+pub(crate) struct Edge {
+    pub parent: usize,
+    pub label: Label,
+}
+
+/// What is known of a row: whether it is that of a true or a false atom, and the value of a function
+/// where the row has its arguments.
+#[derive(Clone, Copy)]
+pub(crate) struct Mark {
+    pub known: Truth,
+    pub value: Option<Label>,
+}
+
+impl Mark {
+    pub const BLANK: Mark = Mark {
+        known: Truth::Unknown,
+        value: None,
+    };
+}
+
+/// Rows by their symbols and elements. Each node of the tree stands for the front of a row.
+#[derive(Drop)]
+pub(crate) struct Rows {
+    pub words: Words,
+    pub nodes: IndexMap<Edge, Mark>,
+    ghost tree: { is_tree nodes.entries ≡ true },
+}
+
+impl Rows {
+    /// No rows, for elements with these names.
+    pub fn new(alloc: Global, words: Words) -> Rows
+        ensures words { result.words ≡ words }
+        ensures nodes { result.nodes.entries ≡ [] }
+    {
+        Rows {
+            words,
+            nodes: IndexMap::new(alloc),
+        }
+    }
+
+    /// A copy of the rows, for elements with these names.
+    pub fn with_words(&self, words: Words) -> Result<Rows, Memory>
+        ensures words { IfOk result (λ r. r.words ≡ words) }
+        ensures nodes { IfOk result (λ r. r.nodes.entries ≡ self.now.nodes.entries) }
+    {
+        Ok(Rows {
+            words,
+            nodes: self.nodes.clone()?,
+        })
+    }
+
+    pub fn label(&self, elem: &Elem) -> Option<Label>
+        ensures { result ≡ label_of (words_in self.now.words) elem.now }
+    {
+        match elem {
+            Elem::Named(name) => match self.words.number(name.text()) {
+                Some(number) => Some(Label::Word(number)),
+                None => None,
+            },
+            Elem::Num(n) => Some(Label::Number(*n)),
+        }
+    }
+
+    fn child(&self, parent: usize, label: Label) -> Option<usize>
+        ensures { result ≡ child_of self.now.nodes.entries parent label }
+    {
+        self.nodes.get_index_of(&Edge { parent, label })
+    }
+
+    /// The node of a symbol's empty row.
+    pub fn root(&self, symbol: u32) -> Option<usize>
+        ensures { result ≡ node_of (words_in self.now.words) self.now.nodes.entries symbol [] }
+    {
+        self.child(0, Label::Symbol(symbol))
+    }
+
+    /// The node of the row with one more element.
+    pub fn step(&self, node: Option<usize>, elem: &Elem) -> Option<usize>
+        ensures { result ≡ child_by self.now.nodes.entries node (label_of (words_in self.now.words) elem.now) }
+    {
+        match (node, self.label(elem)) {
+            (Some(parent), Some(label)) => self.child(parent, label),
+            _ => None,
+        }
+    }
+
+    /// The node of a symbol's row.
+    pub fn find(&self, symbol: u32, args: &[Elem]) -> Option<usize>
+        ensures { result ≡ node_of (words_in self.now.words) self.now.nodes.entries symbol (reverse args.now) }
+    {
+        let mut node = self.root(symbol);
+        for elem in args {
+            node = self.step(node, elem);
+        }
+        node
+    }
+
+    pub fn mark(&self, node: Option<usize>) -> Mark
+        ensures { result ≡ mark_at self.now.nodes.entries node }
+    {
+        match node {
+            Some(node) => match self.nodes.get_index(node) {
+                Some((_, mark)) => *mark,
+                None => Mark::BLANK,
+            },
+            None => Mark::BLANK,
+        }
+    }
+
+    fn child_or_new(&mut self, parent: usize, label: Label) -> Result<usize, Memory>
+        requires { (is_symbol label || nat_lt parent (length self.old.nodes.entries)) ≡ true }
+        ensures child { IfOk result (λ n. child_of self.new.nodes.entries parent label ≡ Some n) }
+        ensures grows { Grows self.old.nodes.entries self.new.nodes.entries }
+        ensures words { self.new.words ≡ self.old.words }
+    {
+        match self.child(parent, label) {
+            Some(node) => Ok(node),
+            None => {
+                let node = self.nodes.len();
+                self.nodes.insert(Edge { parent, label }, Mark::BLANK)?;
+                Ok(node)
+            }
+        }
+    }
+
+    /// The node of a symbol's row, which is made where there is none. Its elements have labels.
+    pub fn reach(&mut self, symbol: u32, args: &[Elem]) -> Result<usize, Memory>
+        requires { All (λ x. IsTrue (has_label (words_in self.old.words) x)) args.now }
+        ensures node { IfOk result (λ n. node_of (words_in self.new.words) self.new.nodes.entries symbol (reverse args.now) ≡ Some n) }
+        ensures grows { Grows self.old.nodes.entries self.new.nodes.entries }
+        ensures words { self.new.words ≡ self.old.words }
+    {
+        let mut node = self.child_or_new(0, Label::Symbol(symbol))?;
+        for elem in args {
+            node = self.reach_child(node, elem)?;
+        }
+        Ok(node)
+    }
+
+    /// The node of the row with one more element, which is made where there is none.
+    pub fn reach_child(&mut self, node: usize, elem: &Elem) -> Result<usize, Memory>
+        requires parent { node < length self.old.nodes.entries }
+        requires label { IsTrue (has_label (words_in self.old.words) elem.now) }
+        ensures child { IfOk result (λ n. child_by self.new.nodes.entries (Some node) (label_of (words_in self.new.words) elem.now) ≡ Some n) }
+        ensures grows { Grows self.old.nodes.entries self.new.nodes.entries }
+        ensures words { self.new.words ≡ self.old.words }
+    {
+        match self.label(elem) {
+            Some(label) => self.child_or_new(node, label),
+            None => unreachable!(),
+        }
+    }
+
+    pub fn set_mark(&mut self, node: usize, mark: Mark)
+        requires { node < length self.old.nodes.entries }
+        ensures nodes { self.new.nodes.entries ≡ set_value_at self.old.nodes.entries node mark }
+        ensures words { self.new.words ≡ self.old.words }
+    {
+        if let Some(place) = self.nodes.get_index_mut(node) {
+            *place = mark;
+        }
+    }
+}

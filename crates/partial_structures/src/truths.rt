@@ -1,0 +1,9 @@
+//! The three truth values of Kleene's logic.
+
+/// What is known of an atom or of a formula.
+#[derive(Clone, Copy, PartialEq, Eq, Debug)]
+pub enum Truth {
+    Yes,
+    No,
+    Unknown,
+}

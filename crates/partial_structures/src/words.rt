@@ -1,0 +1,59 @@
+//! The names among the elements, each with a number.
+ghost use Rattle.std.specs.Prelude.{◌≡◌, [], IfOk, OnOk, OnErr};
+ghost use Rattle.partial_structures.specs.Words.{place, words_in, words_of, with_word, with_element};
+ghost use Rattle.std.specs.Str.{bytes_eq};
+
+use indexmap::IndexSet;
+use kb_logic::{DomainList, Elem, Memory};
+use std::alloc::Global;
+
+/// Words, each numbered by its place.
+#[derive(Drop)]
+pub(crate) struct Words {
+    pub words: IndexSet<Vec<u8>>,
+}
+
+impl Words {
+    /// The names of these elements.
+    pub fn of(alloc: Global, domains: &DomainList) -> Result<Words, Memory>
+        ensures { IfOk result (λ w. words_in w ≡ words_of domains.now) }
+    {
+        let mut words = Words {
+            words: IndexSet::new(alloc),
+        };
+        for domain in domains.as_slice() {
+            for elem in domain.as_slice() {
+                words.add_element(alloc, elem)?;
+            }
+        }
+        Ok(words)
+    }
+
+    fn add_element(&mut self, alloc: Global, elem: &Elem) -> Result<(), Memory>
+        ensures { OnOk result (words_in self.new ≡ with_element (words_in self.old) elem.now) }
+    {
+        match elem {
+            Elem::Named(name) => {
+                self.add(alloc, name.text())?;
+                Ok(())
+            }
+            Elem::Num(_) => Ok(()),
+        }
+    }
+
+    fn add(&mut self, alloc: Global, word: &[u8]) -> Result<(), Memory>
+        ensures { OnOk result (words_in self.new ≡ with_word (words_in self.old) word.now) }
+    {
+        if !self.words.contains(word) {
+            self.words.insert_full(Vec::from_slice(alloc, word)?)?;
+        }
+        Ok(())
+    }
+
+    /// The number of a word.
+    pub fn number(&self, word: &[u8]) -> Option<usize>
+        ensures { result ≡ place (bytes_eq word.now) (words_in self.now) }
+    {
+        self.words.get_index_of(word)
+    }
+}
