@@ -1,0 +1,5 @@
+pub mod Closure
+pub mod FreshFromQuiet
+pub mod Freshness
+pub mod LiteralFacts
+pub mod Soundness

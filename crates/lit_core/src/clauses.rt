@@ -1,0 +1,160 @@
+ghost use Rattle.std.specs.Prelude.{◌≡◌, ◌≤◌, ◌↔◌, ◌++◌, ◌∷◌, [], length, take, slice_get, IsTrue, IfOk, OnOk, OnErr, MatchOption, Option, Some};
+
+use crate::errors::Memory;
+use crate::literals::Lit;
+use smallvec::SmallVec;
+use std::alloc::Global;
+use std::marker::Model;
+
+/// A disjunction of literals. Up to three of them stand in the value itself.
+#[derive(Debug, Drop)]
+pub struct Clause {
+    lits: SmallVec<Lit, 3>,
+}
+
+impl Model for Clause {
+    ghost use Rattle.std.specs.Prelude.{List};
+    ghost use Rattle.lit_core.specs.declared.literals.Lit.{Lit};
+
+    ghost Value = { List Lit };
+
+    ghost view = { λ c. c.lits.items };
+}
+
+impl Clause {
+    /// The empty clause, which is false.
+    pub fn new(alloc: Global) -> Clause
+        ensures { result ≡ [] }
+    {
+        Clause {
+            lits: SmallVec::new(alloc),
+        }
+    }
+
+    /// The clause of these literals.
+    pub fn from_slice(alloc: Global, lits: &[Lit]) -> Result<Clause, Memory>
+        ensures { IfOk result (λ c. c ≡ lits.now) }
+    {
+        Ok(Clause {
+            lits: SmallVec::from_slice(alloc, lits)?,
+        })
+    }
+
+    /// The clause of these literals, in their own memory.
+    pub fn from_small_vec(lits: SmallVec<Lit, 3>) -> Clause
+        ensures { result ≡ lits.items }
+    {
+        Clause { lits }
+    }
+
+    /// Adds a literal at the end.
+    pub fn push(&mut self, lit: Lit) -> Result<(), Memory>
+        ensures ok { OnOk result (self.new ≡ self.old ++ lit ∷ []) }
+        ensures err { OnErr result (self.new ≡ self.old) }
+    {
+        self.lits.push(lit)?;
+        Ok(())
+    }
+
+    /// The number of literals.
+    pub fn len(&self) -> usize
+        ensures { result ≡ length self.now }
+    {
+        self.lits.len()
+    }
+
+    /// Whether there is no literal.
+    pub fn is_empty(&self) -> bool
+        ensures { IsTrue result ↔ (length self.now ≡ 0) }
+    {
+        self.lits.is_empty()
+    }
+
+    /// The literals.
+    pub fn as_slice(&self) -> &[Lit]
+        ensures { result.now ≡ self.now }
+    {
+        self.lits.as_slice()
+    }
+
+    /// A clause of the same literals.
+    pub fn copy(&self, alloc: Global) -> Result<Clause, Memory>
+        ensures { IfOk result (λ c. c ≡ self.now) }
+    {
+        Clause::from_slice(alloc, self.as_slice())
+    }
+}
+
+/// Clauses, by their places.
+#[derive(Debug, Drop)]
+pub struct ClauseList {
+    clauses: Vec<Clause>,
+}
+
+impl Model for ClauseList {
+    ghost use Rattle.std.specs.Prelude.{List};
+    ghost use Rattle.lit_core.specs.declared.literals.Lit.{Lit};
+
+    ghost Value = { List (List Lit) };
+
+    ghost view = { λ c. c.clauses.items };
+}
+
+impl ClauseList {
+    /// No clause.
+    pub fn new(alloc: Global) -> ClauseList
+        ensures { result ≡ [] }
+    {
+        ClauseList {
+            clauses: Vec::new(alloc),
+        }
+    }
+
+    /// The number of clauses.
+    pub fn len(&self) -> usize
+        ensures { result ≡ length self.now }
+    {
+        self.clauses.len()
+    }
+
+    /// Whether there is no clause.
+    pub fn is_empty(&self) -> bool
+        ensures { IsTrue result ↔ (length self.now ≡ 0) }
+    {
+        self.clauses.is_empty()
+    }
+
+    /// The clause at a place, or None past the end.
+    pub fn get(&self, i: usize) -> Option<&Clause>
+        ensures { MatchOption result (length self.now ≤ i) (λ c. slice_get self.now i ≡ Some c.now) }
+    {
+        self.clauses.get(i)
+    }
+
+    /// Adds a clause at the end.
+    pub fn push(&mut self, clause: Clause) -> Result<(), Memory>
+        ensures ok { OnOk result (self.new ≡ self.old ++ clause ∷ []) }
+        ensures err { OnErr result (self.new ≡ self.old) }
+    {
+        self.clauses.push(clause)?;
+        Ok(())
+    }
+
+    /// Keeps the first `len` clauses.
+    pub fn truncate(&mut self, len: usize)
+        ensures { self.new ≡ take len self.old }
+    {
+        self.clauses.truncate(len);
+    }
+
+    /// The same clauses once more.
+    pub fn copy(&self, alloc: Global) -> Result<ClauseList, Memory>
+        ensures { IfOk result (λ c. c ≡ self.now) }
+    {
+        let mut clauses = Vec::with_capacity(alloc, self.clauses.len())?;
+        for clause in &self.clauses {
+            clauses.push(clause.copy(alloc)?)?;
+        }
+        Ok(ClauseList { clauses })
+    }
+}
