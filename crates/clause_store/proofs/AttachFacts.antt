@@ -1,0 +1,168 @@
+-- One more clause is watched.
+use Rattle.std.proofs.Common.{◌≡◌, ℕ, ◌<◌, ◌≤◌, ◌+◌, ◌*◌, true, false, Some, List, ◌∷◌, length, set, sym, ap, ◌∙◌, ◌⊎◌, inl, inr, ⊎_elim, arith, slice_get, subst, Contains}
+use Rattle.std.specs.Vec.{with_item}
+use Rattle.std.proofs.lemmas.Bool.{cases_eq}
+use Rattle.std.proofs.lemmas.List.{length-set}
+use Rattle.lit_core.specs.declared.literals.Lit.{Lit}
+use Rattle.lit_core.specs.Literals.{value_in}
+use Rattle.lit_core.proofs.LiteralFacts.{Contains-cons_cases, Contains-head, Contains-tail}
+use Rattle.clause_store.specs.declared.engine.Watch.{Watch}
+use Rattle.clause_store.specs.declared.engine.Engine.{Engine}
+use Rattle.clause_store.specs.declared.engine.Pick.TheVariants.{Two}
+use Rattle.clause_store.specs.ListsState.{ListsState, HasLaws, nodes_of}
+use Rattle.clause_store.specs.StoreState.{IsHeld}
+use Rattle.clause_store.specs.TrailLaws.{IsMade}
+use Rattle.clause_store.specs.Watching.{code_of, store_of, IsEngine, IsHanging, IsHung, IsNodeOf, IsWatched}
+use Rattle.clause_store.specs.Visits.{CanAttach, IsPartner, PickGives}
+use Rattle.clause_store.proofs.ListFacts.{slice_get-set_same, slice_get-set_other}
+use Rattle.clause_store.proofs.WatchFacts.{guards-unfalse, same-held}
+use Rattle.clause_store.proofs.HangFacts.{same-node}
+
+-- a node of the next clause hangs nowhere
+pub next-free : (e : Engine) → IsEngine e → (n : ℕ) → IsNodeOf n e.checked → (j : ℕ) → Contains (nodes_of e.lists j) n → ⊥
+next-free e h n of j has =
+    let w = h.hanging j n has in
+    let same : w.id ≡ e.checked = same-node n w.id e.checked w.of of in
+    let lt : w.id < e.checked = w.checked in
+    omega arith
+
+-- a node was hung in front of a list
+pub record Hangs (old new : ListsState) (to node : ℕ) : Type 0 where
+  pub there : Contains (nodes_of new to) node
+  pub kept : (j m : ℕ) → Contains (nodes_of old j) m → Contains (nodes_of new j) m
+  pub was : (j m : ℕ) → Contains (nodes_of new j) m → (m ≡ node) ⊎ Contains (nodes_of old j) m
+
+pub hangs : (old new : ListsState) (to node : ℕ) → nodes_of new to ≡ node ∷ nodes_of old to → ((j : ℕ) → (j ≡ to → ⊥) → nodes_of new j ≡ nodes_of old j) → Hangs old new to node
+hangs old new to node here rest = record {
+  there = subst (λ (xs : List ℕ). Contains xs node) (sym here) (Contains-head node (nodes_of old to));
+  kept = λ j m has. ⊎_elim
+      (λ e. subst (λ (k : ℕ). Contains (nodes_of new k) m) (sym e) (subst (λ (xs : List ℕ). Contains xs m) (sym here) (Contains-tail node (nodes_of old to) m (subst (λ (k : ℕ). Contains (nodes_of old k) m) e has))))
+      (λ ne. subst (λ (xs : List ℕ). Contains xs m) (sym (rest j ne)) has)
+      (cases_eq j to);
+  was = λ j m has. ⊎_elim
+      (λ e. ⊎_elim
+      (λ is. inl (sym is))
+      (λ old_one. inr (subst (λ (k : ℕ). Contains (nodes_of old k) m) (sym e) old_one))
+      (Contains-cons_cases node (nodes_of old to) m (subst (λ (xs : List ℕ). Contains xs m) (ap (nodes_of new) e ∙ here) has)))
+      (λ ne. inr (subst (λ (xs : List ℕ). Contains xs m) (rest j ne) has))
+      (cases_eq j to);
+}
+
+module _ (e : Engine) (h : IsEngine e) (more : e.checked < length e.held.clauses) (w : Watch) (mid lists : ListsState) (first : Hangs e.lists mid (code_of w.first) (2 * e.checked)) (second : Hangs mid lists (code_of w.second) (2 * e.checked + 1)) where
+  abbrev after-attach : Engine
+  after-attach = record { held = e.held; watches = with_item e.watches e.checked w; lists = lists; trail = e.trail; queue = e.queue; checked = e.checked + 1; stale = e.stale }
+
+  within : e.checked < length e.watches.items
+  within = let a : length e.held.clauses ≤ length e.watches.items = h.watches in omega arith
+
+  at-next : slice_get (set e.watches.items e.checked w) e.checked ≡ Some w
+  at-next = slice_get-set_same e.watches.items e.checked w within
+
+  hung-next : IsHung after-attach e.checked
+  hung-next = record {
+    watch = w;
+    is_watch = at-next;
+    first = second.kept (code_of w.first) (2 * e.checked) first.there;
+    second = second.there;
+  }
+
+  hung-before : (i : ℕ) → (i ≡ e.checked → ⊥) → IsHung e i → IsHung after-attach i
+  hung-before i ne g = record {
+    watch = g.watch;
+    is_watch = slice_get-set_other e.watches.items e.checked i w ne ∙ g.is_watch;
+    first = second.kept (code_of g.watch.first) (2 * i) (first.kept (code_of g.watch.first) (2 * i) g.first);
+    second = second.kept (code_of g.watch.second) (2 * i + 1) (first.kept (code_of g.watch.second) (2 * i + 1) g.second);
+  }
+
+  pub attach-engine : HasLaws lists → lists.nodes ≡ e.lists.nodes → length lists.lists ≡ length e.lists.lists → w.first.var.0 < length e.trail.values → w.second.var.0 < length e.trail.values → CanAttach e w → IsEngine after-attach
+  attach-engine laws nodes count in_first in_second can =
+      let hanging-next : (n : ℕ) → IsNodeOf n e.checked → IsHanging after-attach n = λ n of. record { id = e.checked; of = of; checked = omega arith; watch = w; is_watch = at-next; first = in_first; second = in_second } in
+      let hanging-before : (j n : ℕ) → Contains (nodes_of e.lists j) n → IsHanging after-attach n = λ j n has. (
+      let g = h.hanging j n has in
+      let lt : g.id < e.checked = g.checked in
+      record { id = g.id; of = g.of; checked = omega arith; watch = g.watch; is_watch = slice_get-set_other e.watches.items e.checked g.id w (λ x. let y : g.id ≡ e.checked = x in omega arith) ∙ g.is_watch; first = g.first; second = g.second }) in
+      record {
+        store = h.store;
+        lists = laws;
+        queue = h.queue;
+        checked = omega arith;
+        watches = rw length-set h.watches;
+        nodes = let k : 2 * length e.held.clauses ≤ e.lists.nodes = h.nodes in omega arith;
+        count = let k : 2 * length e.trail.values ≤ length e.lists.lists = h.count in omega arith;
+        room = λ spare. let r = h.room spare in (rw length-set r.0, let k : 2 * length e.held.clauses + 2 ≤ e.lists.nodes = r.1 in omega arith);
+        guarded = λ i c lt held. ⊎_elim
+            (λ same. (w, ap (slice_get (set e.watches.items e.checked w)) same ∙ at-next, can c (subst (λ (n : ℕ). IsHeld (store_of e) n c) same held)))
+            (λ ne. let g = h.guarded i c (omega arith) held in (g.0, slice_get-set_other e.watches.items e.checked i w ne ∙ g.1, g.2))
+            (cases_eq i e.checked);
+        current = h.current;
+        hung = λ i c lt held. ⊎_elim
+            (λ same. subst (IsHung after-attach) (sym same) hung-next)
+            (λ ne. hung-before i ne (h.hung i c (omega arith) held))
+            (cases_eq i e.checked);
+        hanging = λ j n has. ⊎_elim
+            (λ is. hanging-next n (inr is))
+            (λ rest. ⊎_elim (λ is. hanging-next n (inl is)) (λ old. hanging-before j n old) (first.was j n rest))
+            (second.was j n has);
+      }
+
+-- a removed clause is passed over
+pub skip-engine : (e : Engine) → IsEngine e → e.checked < length e.held.clauses → ((c : List Lit) → IsHeld (store_of e) e.checked c → ⊥) → IsEngine (record { held = e.held; watches = e.watches; lists = e.lists; trail = e.trail; queue = e.queue; checked = e.checked + 1; stale = e.stale })
+skip-engine e h more gone = record {
+  store = h.store;
+  lists = h.lists;
+  queue = h.queue;
+  checked = omega arith;
+  watches = h.watches;
+  nodes = h.nodes;
+  count = h.count;
+  room = h.room;
+  guarded = λ i c lt held. ⊎_elim
+      (λ same. absurd (gone c (subst (λ (n : ℕ). IsHeld (store_of e) n c) same held)))
+      (λ ne. h.guarded i c (omega arith) held)
+      (cases_eq i e.checked);
+  current = h.current;
+  hung = λ i c lt held. ⊎_elim
+      (λ same. absurd (gone c (subst (λ (n : ℕ). IsHeld (store_of e) n c) same held)))
+      (λ ne. let g = h.hung i c (omega arith) held in record { watch = g.watch; is_watch = g.is_watch; first = g.first; second = g.second })
+      (cases_eq i e.checked);
+  hanging = λ j n has. let g = h.hanging j n has in let lt : g.id < e.checked = g.checked in record { id = g.id; of = g.of; checked = omega arith; watch = g.watch; is_watch = g.is_watch; first = g.first; second = g.second };
+}
+
+-- two literals that are not false may be watched
+pub two-attach : (e : Engine) (w : Watch) → IsEngine e → PickGives e e.checked (Two w) → CanAttach e w
+two-attach e w h p c held =
+    subst (λ (x : List Lit). IsWatched e.trail.steps e.queue e.stale x w) (same-held (store_of e) e.checked p.0 c p.1 held) (record {
+      has_first = p.2;
+      has_second = p.3;
+      ways = inr (record {
+        distinct = λ y. p.4 (sym y);
+        first = guards-unfalse e.trail.values e.trail.steps e.queue e.stale w.first w.second h.store.trail.coherent p.5;
+        second = guards-unfalse e.trail.values e.trail.steps e.queue e.stale w.second w.first h.store.trail.coherent p.6;
+      });
+    })
+
+-- a true literal may be watched with one that became false at no lower level
+pub pair-attach : (e : Engine) (l m : Lit) (c : List Lit) → IsEngine e → IsHeld (store_of e) e.checked c → Contains c l → value_in e.trail.values l ≡ Some true → IsPartner e e.checked l m → CanAttach e (record { first = l; second = m })
+pair-attach e l m c h held has t p d k =
+    let w : Watch = record { first = l; second = m } in
+    subst (λ (x : List Lit). IsWatched e.trail.steps e.queue e.stale x w) (same-held (store_of e) e.checked c d held k) (record {
+      has_first = has;
+      has_second = p.member c held;
+      ways = inr (record {
+        distinct = p.distinct;
+        first = guards-unfalse e.trail.values e.trail.steps e.queue e.stale l m h.store.trail.coherent (λ f. let y : Some true ≡ Some false = sym t ∙ f in cc);
+        second = λ i u lt eu is. (p.at, p.step, p.is_step, p.made, inr (p.later i u eu is));
+      });
+    })
+
+-- a clause with a true literal may be watched by it, at level 0 or where levels are passed over
+pub one-attach : (e : Engine) (l : Lit) (c : List Lit) → IsEngine e → IsHeld (store_of e) e.checked c → Contains c l → value_in e.trail.values l ≡ Some true → ((e.stale ≡ true) ⊎ (e.trail.level ≡ 0)) → CanAttach e (record { first = l; second = l })
+one-attach e l c h held has t low d k =
+    let m : IsMade e.trail.steps l = h.store.trail.coherent.was_made l t in
+    let w : Watch = record { first = l; second = l } in
+    let top : m.1.level ≤ e.trail.level = h.store.trail.top m.0 m.1 m.2 in
+    subst (λ (x : List Lit). IsWatched e.trail.steps e.queue e.stale x w) (same-held (store_of e) e.checked c d held k) (record {
+      has_first = has;
+      has_second = has;
+      ways = inl (m.0, m.1, m.2, subst (Contains c) (sym m.3) has, ⊎_elim (λ s. inl s) (λ z. inr (omega arith)) low);
+    })

@@ -1,0 +1,213 @@
+-- A walk over the clauses that watch a literal which became false.
+use Rattle.std.proofs.Common.{◌≡◌, ℕ, suc, ◌<◌, ◌+◌, ◌*◌, cond, eqb, Option, Some, None, List, [], ◌∷◌, ◌++◌, length, get_or, refl, sym, ap, ◌∙◌, ◌⊎◌, inl, inr, ⊎_elim, arith, slice_get, subst, Contains}
+use Rattle.std.proofs.lemmas.Option.{same_Some, slice_get-get_or}
+use Rattle.std.proofs.lemmas.List.{get_or-map}
+use Rattle.std.proofs.lemmas.List.Elements.{Contains-append_right}
+use Rattle.std.proofs.lemmas.Bool.{cases_eq, cond-true, cond-false, eq-eqb, ne_eqb}
+use Rattle.lit_core.specs.declared.literals.Lit.{Lit}
+use Rattle.lit_core.specs.Literals.{negated}
+use Rattle.lit_core.proofs.LiteralFacts.{decide_literal, Contains-cons_cases, Contains-head, nothing_in_none}
+use Rattle.clause_store.specs.declared.trails.Step.{Step}
+use Rattle.clause_store.specs.declared.engine.Visit.TheVariants.{Done}
+use Rattle.clause_store.specs.declared.engine.Engine.{Engine}
+use Rattle.clause_store.specs.Links.{first_of, last_of, IsOnce}
+use Rattle.clause_store.specs.ListsState.{nodes_of}
+use Rattle.clause_store.specs.StoreState.{IsHeld, Propagates}
+use Rattle.clause_store.specs.TrailLaws.{lits_of}
+use Rattle.clause_store.specs.Watching.{code_of, store_of, Guarded, IsEngine, IsNodeOf}
+use Rattle.clause_store.specs.Visits.{IsAt, IsNext, Keeps, VisitGives}
+use Rattle.clause_store.proofs.ListFacts.{slice_get-take-below}
+use Rattle.clause_store.proofs.PropagateFacts.{propagates-trans, propagates-refl}
+use Rattle.clause_store.proofs.WatchFacts.{pair-untouched, next-within}
+
+-- how many nodes of a list are from this one on
+abbrev pub left : List ℕ → Option ℕ → ℕ
+left xs None = 0
+left [] (Some n) = 0
+left (x ∷ xs) (Some n) = cond (eqb x n) (suc (length xs)) (left xs (Some n))
+
+pub left-is : (front : List ℕ) (n : ℕ) (back : List ℕ) → IsOnce (front ++ n ∷ back) → left (front ++ n ∷ back) (Some n) ≡ suc (length back)
+left-is [] n back once = cond-true (eqb n n) (suc (length back)) (left back (Some n)) (eq-eqb n n refl)
+left-is (x ∷ front) n back once =
+    let ne : x ≡ n → ⊥ = λ e. once.0 (subst (λ (m : ℕ). Contains (front ++ n ∷ back) m) (sym e) (Contains-append_right front (n ∷ back) n (Contains-head n back))) in
+    cond-false (eqb x n) (suc (length (front ++ n ∷ back))) (left (front ++ n ∷ back) (Some n)) (ne_eqb x n ne) ∙ left-is front n back once.1
+
+pub left-first : (front back : List ℕ) → IsOnce (front ++ back) → left (front ++ back) (first_of back) ≡ length back
+left-first front [] once = refl
+left-first front (n ∷ back) once = left-is front n back once
+
+pub record Walks (old e : Engine) (f : Lit) (at before : Option ℕ) : Type 0 where
+  pub engine : IsEngine e
+  pub same : Propagates (store_of old) (store_of e)
+  pub queue : e.queue ≡ old.queue
+  pub checked : e.checked ≡ old.checked
+  pub next : IsNext e f
+  -- the part of the list that is walked, and the rest
+  pub front : List ℕ
+  pub back : List ℕ
+  pub is : nodes_of e.lists (code_of f) ≡ front ++ back
+  pub at_is : at ≡ first_of back
+  pub before_is : last_of front ≡ before
+  pub walked : (id : ℕ) (c : List Lit) → id < e.checked → IsHeld (store_of e) id c → Guarded e (e.queue + 1) id c ⊎ ((n : ℕ) × IsNodeOf n id × Contains back n)
+
+-- where the walk is at a node, the rest begins with it
+pub back-is : (back : List ℕ) (n : ℕ) → Some n ≡ first_of back → (rest : List ℕ) × (back ≡ n ∷ rest)
+back-is [] n e = cc
+back-is (m ∷ rest) n e = (rest, ap (λ (x : ℕ). x ∷ rest) (sym (same_Some n m e)))
+
+pub back-none : (back : List ℕ) → None ≡ first_of back → back ≡ []
+back-none [] e = refl
+back-none (m ∷ rest) e = cc
+
+-- a clause that watches other literals stays watched
+pub walk-start : (e : Engine) → IsEngine e → (f : Lit) → IsNext e f → (at : Option ℕ) → at ≡ first_of (nodes_of e.lists (code_of f)) → Walks e e f at None
+walk-start e h f next at first = record {
+  engine = h;
+  same = propagates-refl (store_of e);
+  queue = refl;
+  checked = refl;
+  next = next;
+  front = [];
+  back = nodes_of e.lists (code_of f);
+  is = refl;
+  at_is = first;
+  before_is = refl;
+  walked = λ id c lt held.
+      let g = h.guarded id c lt held in
+      let w = h.hung id c lt held in
+      let same : w.watch ≡ g.0 = same_Some w.watch g.0 (sym w.is_watch ∙ g.1) in
+      ⊎_elim
+      (λ af. inr (2 * id, inl refl, subst (λ (x : Lit). Contains (nodes_of e.lists (code_of x)) (2 * id)) af w.first))
+      (λ na. ⊎_elim
+      (λ bf. inr (2 * id + 1, inr refl, subst (λ (x : Lit). Contains (nodes_of e.lists (code_of x)) (2 * id + 1)) bf w.second))
+      (λ nb. inl (
+        g.0,
+        g.1,
+        record {
+          has_first = g.2.has_first;
+          has_second = g.2.has_second;
+          ways = ⊎_elim (λ x. inl x) (λ p. inr (pair-untouched e h f next g.0.first g.0.second (λ x. na (ap (λ y. y.first) same ∙ x)) (λ x. nb (ap (λ y. y.second) same ∙ x)) p)) g.2.ways;
+        },
+      ))
+      (decide_literal w.watch.second f))
+      (decide_literal w.watch.first f);
+}
+
+-- the node that comes next stands in the list
+pub walk-at : (old e : Engine) (f : Lit) (n : ℕ) (before : Option ℕ) → Walks old e f (Some n) before → IsAt e.lists (code_of f) before n
+walk-at old e f n before h = let r = back-is h.back n h.at_is in (h.front, r.0, h.is ∙ ap (λ (xs : List ℕ). h.front ++ xs) r.1, h.before_is)
+
+-- the measure falls
+pub walk-left : (old e : Engine) (f : Lit) (at before : Option ℕ) (h : Walks old e f at before) → left (nodes_of e.lists (code_of f)) at ≡ length h.back
+walk-left old e f at before h =
+    let once : IsOnce (h.front ++ h.back) = subst IsOnce h.is (h.engine.lists.once (code_of f)) in
+    ap (λ (xs : List ℕ). left xs at) h.is ∙ ap (left (h.front ++ h.back)) h.at_is ∙ left-first h.front h.back once
+
+module _ (old e new : Engine) (f : Lit) (n : ℕ) (at before last : Option ℕ) (h : Walks old e f (Some n) before) (after : (front back : List ℕ) → nodes_of e.lists (code_of f) ≡ front ++ n ∷ back → at ≡ first_of back) (engine : IsEngine new) (same : Propagates (store_of e) (store_of new)) (keeps : Keeps e new n) (done : VisitGives e new n f before (Done last)) where
+  rest : List ℕ
+  rest = (back-is h.back n h.at_is).0
+
+  rest-is : h.back ≡ n ∷ rest
+  unfolding rest
+  rest-is = (back-is h.back n h.at_is).1
+
+  list-is : nodes_of e.lists (code_of f) ≡ h.front ++ n ∷ rest
+  list-is = h.is ∙ ap (λ (xs : List ℕ). h.front ++ xs) rest-is
+
+  next-kept : IsNext new f
+  next-kept =
+      let within : e.queue < length e.trail.steps = next-within e h.engine f h.next in
+      let kept : slice_get new.trail.steps e.queue ≡ Some h.next.0 = sym (slice_get-take-below (length e.trail.steps) new.trail.steps e.queue within) ∙ ap (λ (xs : List Step). slice_get xs e.queue) (sym same.kept) ∙ h.next.1 in
+      (h.next.0, ap (slice_get new.trail.steps) keeps.queue ∙ kept, h.next.2)
+
+  walked-on : (id : ℕ) (c : List Lit) → id < new.checked → IsHeld (store_of new) id c → Guarded new (new.queue + 1) id c ⊎ ((m : ℕ) × IsNodeOf m id × Contains rest m)
+  walked-on id c lt held = by_node (is_of id)
+    where
+      nq : e.queue + 1 ≡ new.queue + 1
+      nq = ap (λ (x : ℕ). x + 1) (sym keeps.queue)
+
+      within : e.queue < length e.trail.steps
+      within = next-within e h.engine f h.next
+
+      is_of : (i : ℕ) → IsNodeOf n i ⊎ (IsNodeOf n i → ⊥)
+      is_of i = ⊎_elim (λ a. inl (inl a)) (λ a. ⊎_elim (λ b. inl (inr b)) (λ b. inr (λ x. ⊎_elim a b x)) (cases_eq n (2 * i + 1))) (cases_eq n (2 * i))
+
+      heldo : IsHeld (store_of e) id c
+      heldo = ap (λ (xs : List (Option (List Lit))). slice_get xs id) (sym same.clauses) ∙ held
+
+      lto : id < e.checked
+      lto = let x : new.checked ≡ e.checked = keeps.checked in omega arith
+
+      by_node : IsNodeOf n id ⊎ (IsNodeOf n id → ⊥) → Guarded new (new.queue + 1) id c ⊎ ((m : ℕ) × IsNodeOf m id × Contains rest m)
+      by_node (inl of) = inl (done.1 id c of held)
+      by_node (inr other) = ⊎_elim
+          (λ g. inl (subst (λ (q : ℕ). Guarded new q id c) nq (keeps.others (e.queue + 1) id c other (let w : e.queue < length e.trail.steps = within in omega arith) g)))
+          (λ w. inr (
+            w.0,
+            w.1,
+            ⊎_elim
+                (λ e2. absurd (other (subst (λ (x : ℕ). IsNodeOf x id) (sym e2) w.1)))
+                (λ r. r)
+                (Contains-cons_cases n rest w.0 (subst (λ (xs : List ℕ). Contains xs w.0) rest-is w.2)),
+          ))
+          (h.walked id c lto heldo)
+
+  pub walk-step : Walks old new f at last
+  walk-step =
+      let passed = done.0 h.front rest list-is h.before_is in
+      record {
+        engine = engine;
+        same = propagates-trans (store_of old) (store_of e) (store_of new) h.same same;
+        queue = keeps.queue ∙ h.queue;
+        checked = keeps.checked ∙ h.checked;
+        next = next-kept;
+        front = passed.0;
+        back = rest;
+        is = passed.1;
+        at_is = after h.front rest list-is;
+        before_is = passed.2;
+        walked = walked-on;
+      }
+
+  pub walk-smaller : left (nodes_of new.lists (code_of f)) at < left (nodes_of e.lists (code_of f)) (Some n)
+  unfolding walk-step
+  walk-smaller =
+      let a : left (nodes_of new.lists (code_of f)) at ≡ length rest = walk-left old new f at last walk-step in
+      let b : left (nodes_of e.lists (code_of f)) (Some n) ≡ length h.back = walk-left old e f (Some n) before h in
+      let c : length h.back ≡ suc (length rest) = ap length rest-is in
+      omega arith
+
+-- at the end of the walk
+module _ (old e : Engine) (f : Lit) (before : Option ℕ) (h : Walks old e f None before) where
+  pub walk-engine : IsEngine (record { held = e.held; watches = e.watches; lists = e.lists; trail = e.trail; queue = e.queue + 1; checked = e.checked; stale = e.stale })
+  walk-engine =
+      let within : e.queue < length e.trail.steps = next-within e h.engine f h.next in
+      let none : h.back ≡ [] = back-none h.back h.at_is in
+      record {
+        store = h.engine.store;
+        lists = h.engine.lists;
+        queue = omega arith;
+        checked = h.engine.checked;
+        watches = h.engine.watches;
+        nodes = h.engine.nodes;
+        count = h.engine.count;
+        room = h.engine.room;
+        guarded = λ id c lt held. ⊎_elim (λ g. g) (λ w. absurd (nothing_in_none w.0 (subst (λ (xs : List ℕ). Contains xs w.0) none w.2))) (h.walked id c lt held);
+        current = λ n k t le et. h.engine.current n k t (omega arith) et;
+        hung = λ i c lt held. let g = h.engine.hung i c lt held in record { watch = g.watch; is_watch = g.is_watch; first = g.first; second = g.second };
+        hanging = λ j n has. let g = h.engine.hanging j n has in record { id = g.id; of = g.of; checked = g.checked; watch = g.watch; is_watch = g.is_watch; first = g.first; second = g.second };
+      }
+
+-- the literal that the next step makes false
+pub next-of : (e : Engine) (d : Lit) (lits : List Lit) (f : Lit) → e.queue < length e.trail.steps → lits ≡ lits_of e.trail.steps → f ≡ negated (get_or lits e.queue d) → IsNext e f
+next-of e d lits f lt is neg =
+    let s : Step = record { lit = d; level = 0; reason = None } in
+    let t : Step = get_or e.trail.steps e.queue s in
+    let at : slice_get e.trail.steps e.queue ≡ Some t = slice_get-get_or e.trail.steps e.queue s lt in
+    let same : get_or lits e.queue d ≡ t.lit = ap (λ (xs : List Lit). get_or xs e.queue d) is ∙ get_or-map (λ (x : Step). x.lit) e.trail.steps e.queue s d lt in
+    (t, at, neg ∙ ap negated same)
+
+pub next-in-range : (e : Engine) → IsEngine e → (f : Lit) → IsNext e f → f.var.0 < length e.trail.values
+next-in-range e h f next =
+    let lt : next.0.lit.var.0 < length e.trail.values = h.store.trail.coherent.in_range e.queue next.0 next.1 in
+    subst (λ (x : Lit). x.var.0 < length e.trail.values) (sym next.2) lt

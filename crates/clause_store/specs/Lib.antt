@@ -1,0 +1,15 @@
+pub mod HeldFields
+pub mod HeldState
+pub mod Passes
+pub mod PlainFields
+pub mod Standings
+pub mod StoreState
+pub mod TrailFields
+pub mod TrailLaws
+pub mod TrailState
+pub mod Links
+pub mod ListsState
+pub mod ListsFields
+pub mod Watching
+pub mod Visits
+pub mod StoreFields

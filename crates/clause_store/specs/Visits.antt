@@ -1,0 +1,129 @@
+-- What a visit of a clause leaves.
+use Rattle.std.specs.Prelude.{◌≡◌, ◌≢◌, ℕ, ◌<◌, ◌≤◌, ◌+◌, ◌*◌, Bool, true, false, Option, Some, None, List, ◌∷◌, ◌++◌, length, slice_get, All, Contains, ◌⊎◌}
+use Rattle.lit_core.specs.declared.literals.Lit.{Lit}
+use Rattle.lit_core.specs.Literals.{value_in, negated}
+use Rattle.lit_core.specs.Truth.{IsFalsified}
+use Rattle.clause_store.specs.declared.engine.Visit.{Visit}
+use Rattle.clause_store.specs.declared.engine.Visit.TheVariants.{Conflict, Done}
+use Rattle.clause_store.specs.declared.engine.Look.{Look}
+use Rattle.clause_store.specs.declared.engine.Look.TheVariants.{Fine, Loose}
+use Rattle.clause_store.specs.declared.engine.Found.{Found}
+use Rattle.clause_store.specs.declared.engine.Found.TheVariants.{Gone, Other, Last, False}
+use Rattle.clause_store.specs.declared.engine.Pick.{Pick}
+use Rattle.clause_store.specs.declared.engine.Pick.TheVariants.{Gone as NoClause, Two, One, False as NoPick}
+use Rattle.clause_store.specs.declared.engine.Watch.{Watch}
+use Rattle.clause_store.specs.declared.engine.Engine.{Engine}
+use Rattle.clause_store.specs.declared.trails.Step.{Step}
+use Rattle.clause_store.specs.Links.{last_of}
+use Rattle.clause_store.specs.ListsState.{ListsState, nodes_of}
+use Rattle.clause_store.specs.StoreState.{IsHeld, IsConflict}
+use Rattle.clause_store.specs.Watching.{code_of, Guarded, IsGood, IsNodeOf, IsPair, IsWatched, store_of}
+
+-- the literal may stand in for a watched one beside the other, or no literal may
+abbrev pub Replaces : List (Option Bool) → List Lit → Lit → Option Lit → Type 0
+Replaces a c other None = All (λ m. (m ≡ other) ⊎ (value_in a m ≡ Some false)) c
+Replaces a c other (Some l) = Contains c l × (l ≢ other) × (value_in a l ≢ Some false)
+
+-- the literal became false by the first step that is not yet propagated
+abbrev pub IsNext : Engine → Lit → Type 0
+IsNext e f = (t : Step) × (slice_get e.trail.steps e.queue ≡ Some t) × (f ≡ negated t.lit)
+
+-- the node stands in the list right after this one
+abbrev pub IsAt : ListsState → ℕ → Option ℕ → ℕ → Type 0
+IsAt s j before node = (front : List ℕ) × (back : List ℕ) × (nodes_of s j ≡ front ++ node ∷ back) × (last_of front ≡ before)
+
+-- the clause watches a literal that is false, and another that is not true
+pub record IsLoose (e : Engine) (node id : ℕ) (f other : Lit) (c : List Lit) : Type 0 where
+  pub held : IsHeld (store_of e) id c
+  pub has_false : Contains c f
+  pub has_other : Contains c other
+  pub untrue : value_in e.trail.values other ≢ Some true
+  pub ways : IsGood e.trail.steps e.stale c ⊎ IsPair e.trail.steps e.queue e.stale f other
+  pub watch : Watch
+  pub is_watch : slice_get e.watches.items id ≡ Some watch
+  pub sides : ((node ≡ 2 * id) × (watch.first ≡ f) × (watch.second ≡ other)) ⊎ ((node ≡ 2 * id + 1) × (watch.first ≡ other) × (watch.second ≡ f))
+
+abbrev pub LookGives : Engine → ℕ → Lit → Look → Type 0
+LookGives e node f Fine = (id : ℕ) (c : List Lit) → IsNodeOf node id → IsHeld (store_of e) id c → Guarded e (e.queue + 1) id c
+LookGives e node f (Loose other) = (other.var.0 < length e.trail.values) × ((id : ℕ) → IsNodeOf node id → (id < e.checked) × ((c : List Lit) → IsHeld (store_of e) id c → IsLoose e node id f other c))
+
+-- the literal may be watched in place of the false one
+pub record CanMove (e : Engine) (node : ℕ) (f l : Lit) : Type 0 where
+  pub id : ℕ
+  pub of : IsNodeOf node id
+  pub checked : id < e.checked
+  pub clause : List Lit
+  pub other : Lit
+  pub loose : IsLoose e node id f other clause
+  pub member : Contains clause l
+  pub distinct : l ≢ other
+  pub unfalse : value_in e.trail.values l ≢ Some false
+
+-- the other watched literal is the only one that is not false
+pub record CanImply (e : Engine) (node : ℕ) (f other : Lit) : Type 0 where
+  pub id : ℕ
+  pub of : IsNodeOf node id
+  pub checked : id < e.checked
+  pub clause : List Lit
+  pub loose : IsLoose e node id f other clause
+  pub unassigned : value_in e.trail.values other ≡ None
+  pub others : All (λ m. (m ≡ other) ⊎ (value_in e.trail.values m ≡ Some false)) clause
+
+abbrev pub FoundGives : Engine → ℕ → Lit → Found → Type 0
+FoundGives e id other Gone = (c : List Lit) → IsHeld (store_of e) id c → ⊥
+FoundGives e id other (Other l) = (c : List Lit) × IsHeld (store_of e) id c × Contains c l × (l ≢ other) × (value_in e.trail.values l ≢ Some false)
+FoundGives e id other Last = (value_in e.trail.values other ≡ None) × ((c : List Lit) × IsHeld (store_of e) id c × All (λ m. (m ≡ other) ⊎ (value_in e.trail.values m ≡ Some false)) c)
+FoundGives e id other False = (c : List Lit) × IsHeld (store_of e) id c × ((value_in e.trail.values other ≡ Some true) ⊎ IsFalsified e.trail.values c)
+
+-- clauses of other nodes stay watched
+pub record Keeps (old new : Engine) (node : ℕ) : Type 0 where
+  pub held : new.held ≡ old.held
+  pub queue : new.queue ≡ old.queue
+  pub checked : new.checked ≡ old.checked
+  pub stale : new.stale ≡ old.stale
+  pub others : (q i : ℕ) (c : List Lit) → (IsNodeOf node i → ⊥) → q ≤ length old.trail.steps → Guarded old q i c → Guarded new q i c
+
+-- the rest of the list stays, after the last of these nodes
+abbrev pub Passes : Engine → Engine → ℕ → Lit → Option ℕ → Option ℕ → Type 0
+Passes old new node f before last = (front rest : List ℕ) → nodes_of old.lists (code_of f) ≡ front ++ node ∷ rest → last_of front ≡ before → (passed : List ℕ) × (nodes_of new.lists (code_of f) ≡ passed ++ rest) × (last_of passed ≡ last)
+
+abbrev pub VisitGives : Engine → Engine → ℕ → Lit → Option ℕ → Visit → Type 0
+VisitGives old new node f before Conflict = (id : ℕ) → IsNodeOf node id → IsConflict (store_of new) id
+VisitGives old new node f before (Done last) = Passes old new node f before last × ((id : ℕ) (c : List Lit) → IsNodeOf node id → IsHeld (store_of new) id c → Guarded new (new.queue + 1) id c)
+
+abbrev pub OneGives : Engine → Engine → Option ℕ → Type 0
+OneGives old new None = (new.queue ≡ old.queue + 1) × (new.checked ≡ old.checked)
+OneGives old new (Some id) = IsConflict (store_of new) id
+
+-- a step without a reason comes where all is propagated, or levels are passed over
+abbrev pub MayAssign : Engine → Option ℕ → Type 0
+MayAssign e None = (e.stale ≡ true) ⊎ (length e.trail.steps ≤ e.queue)
+MayAssign e (Some id) = Unit {0}
+
+-- the next clause may be watched so
+abbrev pub CanAttach : Engine → Watch → Type 0
+CanAttach e w = (c : List Lit) → IsHeld (store_of e) e.checked c → IsWatched e.trail.steps e.queue e.stale c w
+
+abbrev pub OpensAt : List (Option Bool) → List Lit → Option Lit → Type 0
+OpensAt a c None = All (λ m. value_in a m ≡ Some false) c
+OpensAt a c (Some l) = Contains c l × (value_in a l ≢ Some false)
+
+abbrev pub PickGives : Engine → ℕ → Pick → Type 0
+PickGives e id NoClause = (c : List Lit) → IsHeld (store_of e) id c → ⊥
+PickGives e id (Two w) = (c : List Lit) × IsHeld (store_of e) id c × Contains c w.first × Contains c w.second × (w.second ≢ w.first) × (value_in e.trail.values w.first ≢ Some false) × (value_in e.trail.values w.second ≢ Some false)
+PickGives e id (One l) = (c : List Lit) × IsHeld (store_of e) id c × Contains c l × (value_in e.trail.values l ≢ Some false) × All (λ m. (m ≡ l) ⊎ (value_in e.trail.values m ≡ Some false)) c
+PickGives e id NoPick = IsConflict (store_of e) id
+
+-- another literal of the clause, which became false at no lower level than this one became true
+pub record IsPartner (e : Engine) (id : ℕ) (l m : Lit) : Type 0 where
+  pub member : (c : List Lit) → IsHeld (store_of e) id c → Contains c m
+  pub distinct : l ≢ m
+  pub at : ℕ
+  pub step : Step
+  pub is_step : slice_get e.trail.steps at ≡ Some step
+  pub made : step.lit ≡ l
+  pub later : (k : ℕ) (t : Step) → slice_get e.trail.steps k ≡ Some t → t.lit ≡ negated m → step.level ≤ t.level
+
+abbrev pub AttachGives : Engine → Engine → Option ℕ → Type 0
+AttachGives old new None = new.checked ≡ old.checked + 1
+AttachGives old new (Some id) = IsConflict (store_of new) id

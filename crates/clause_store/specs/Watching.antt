@@ -1,0 +1,76 @@
+-- What the watches of the clauses keep.
+use Rattle.std.specs.Prelude.{◌≡◌, ◌≢◌, ℕ, ◌<◌, ◌≤◌, ◌+◌, ◌*◌, Bool, true, false, cond, Some, List, length, slice_get, Contains, ◌⊎◌}
+use Rattle.lit_core.specs.declared.literals.Lit.{Lit}
+use Rattle.lit_core.specs.Literals.{negated}
+use Rattle.clause_store.specs.declared.trails.Step.{Step}
+use Rattle.clause_store.specs.declared.engine.Watch.{Watch}
+use Rattle.clause_store.specs.declared.engine.Engine.{Engine}
+use Rattle.clause_store.specs.ListsState.{HasLaws, nodes_of}
+use Rattle.clause_store.specs.StoreState.{StoreState, IsStore, IsHeld}
+
+abbrev pub store_of : Engine → StoreState
+store_of e = record { clauses = e.held.clauses; trail = e.trail; spare = e.held.spare }
+
+-- the number of the list of a literal
+abbrev pub code_of : Lit → ℕ
+code_of l = 2 * l.var.0 + cond l.positive 1 0
+
+-- a clause has two nodes
+abbrev pub IsNodeOf : ℕ → ℕ → Type 0
+IsNodeOf node id = (node ≡ 2 * id) ⊎ (node ≡ 2 * id + 1)
+
+-- if one of the first q steps made the literal a false, then b is true, and was so at that level, unless levels are passed over
+abbrev pub Guards : List Step → ℕ → Bool → Lit → Lit → Type 0
+Guards steps q stale a b = (k : ℕ) (t : Step) → k < q → slice_get steps k ≡ Some t → t.lit ≡ negated a → (j : ℕ) × (u : Step) × (slice_get steps j ≡ Some u) × (u.lit ≡ b) × ((stale ≡ true) ⊎ (u.level ≤ t.level))
+
+-- a literal of the clause is true at level 0
+abbrev pub IsGood : List Step → Bool → List Lit → Type 0
+IsGood steps stale c = (j : ℕ) × (u : Step) × (slice_get steps j ≡ Some u) × Contains c u.lit × ((stale ≡ true) ⊎ (u.level ≡ 0))
+
+-- two literals watch each other
+pub record IsPair (steps : List Step) (q : ℕ) (stale : Bool) (a b : Lit) : Type 0 where
+  pub distinct : a ≢ b
+  pub first : Guards steps q stale a b
+  pub second : Guards steps q stale b a
+
+-- the clause is watched over the first q steps
+pub record IsWatched (steps : List Step) (q : ℕ) (stale : Bool) (c : List Lit) (w : Watch) : Type 0 where
+  pub has_first : Contains c w.first
+  pub has_second : Contains c w.second
+  pub ways : IsGood steps stale c ⊎ IsPair steps q stale w.first w.second
+
+abbrev pub Guarded : Engine → ℕ → ℕ → List Lit → Type 0
+Guarded e q id c = (w : Watch) × (slice_get e.watches.items id ≡ Some w) × IsWatched e.trail.steps q e.stale c w
+
+-- the nodes of the clause hang in the lists of its watched literals
+pub record IsHung (e : Engine) (id : ℕ) : Type 0 where
+  pub watch : Watch
+  pub is_watch : slice_get e.watches.items id ≡ Some watch
+  pub first : Contains (nodes_of e.lists (code_of watch.first)) (2 * id)
+  pub second : Contains (nodes_of e.lists (code_of watch.second)) (2 * id + 1)
+
+-- the clause of a node that hangs was watched, by literals of the store
+pub record IsHanging (e : Engine) (node : ℕ) : Type 0 where
+  pub id : ℕ
+  pub of : IsNodeOf node id
+  pub checked : id < e.checked
+  pub watch : Watch
+  pub is_watch : slice_get e.watches.items id ≡ Some watch
+  pub first : watch.first.var.0 < length e.trail.values
+  pub second : watch.second.var.0 < length e.trail.values
+
+pub record IsEngine (e : Engine) : Type 0 where
+  pub store : IsStore (store_of e)
+  pub lists : HasLaws e.lists
+  pub queue : e.queue ≤ length e.trail.steps
+  pub checked : e.checked ≤ length e.held.clauses
+  pub watches : length e.held.clauses ≤ length e.watches.items
+  pub nodes : 2 * length e.held.clauses ≤ e.lists.nodes
+  pub count : 2 * length e.trail.values ≤ length e.lists.lists
+  -- room for the watches of the next clause
+  pub room : 0 < e.held.spare → (length e.held.clauses < length e.watches.items) × (2 * length e.held.clauses + 2 ≤ e.lists.nodes)
+  pub guarded : (id : ℕ) (c : List Lit) → id < e.checked → IsHeld (store_of e) id c → Guarded e e.queue id c
+  -- while levels are not passed over, what is not yet propagated is of the current level
+  pub current : e.stale ≡ false → (k : ℕ) (t : Step) → e.queue ≤ k → slice_get e.trail.steps k ≡ Some t → t.level ≡ e.trail.level
+  pub hung : (id : ℕ) (c : List Lit) → id < e.checked → IsHeld (store_of e) id c → IsHung e id
+  pub hanging : (j node : ℕ) → Contains (nodes_of e.lists j) node → IsHanging e node
