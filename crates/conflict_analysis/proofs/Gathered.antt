@@ -1,0 +1,96 @@
+-- What is marked after one more literal.
+use Rattle.std.proofs.Common.{◌≡◌, ℕ, ◌<◌, ◌≤◌, ◌+◌, Option, Some, None, List, [], ◌∷◌, ◌++◌, length, refl, sym, ap, ◌∙◌, ◌⊎◌, inl, inr, ⊎_elim, subst, Contains, slice_get, arith}
+use Rattle.std.specs.Ordering.{nat_cmp}
+use Rattle.std.specs.BTreeSet.{insert_key}
+use Rattle.std.specs.Option.{IsSome}
+use Rattle.std.proofs.lemmas.List.Elements.{Contains-push_cases}
+use Rattle.lit_core.specs.declared.literals.Lit.{Lit}
+use Rattle.lit_core.specs.Literals.{negated}
+use Rattle.lit_core.proofs.LiteralFacts.{nothing_in_none}
+use Rattle.clause_store.specs.declared.trails.Step.{Step}
+use Rattle.clause_store.specs.TrailState.{TrailState}
+use Rattle.clause_store.specs.TrailLaws.{IsTrail, IsFixed}
+use Rattle.clause_store.specs.StoreState.{IsMadeBefore}
+use Rattle.conflict_analysis.specs.declared.resolvent.Resolvent.{Resolvent}
+use Rattle.conflict_analysis.specs.Resolvents.{IsMadeAt, IsMarked, IsUpper, IsLower, Gathers}
+use Rattle.conflict_analysis.proofs.Keys.{inserted-old, inserted-new, inserted-cases}
+use Rattle.conflict_analysis.proofs.Places.{made-below, variable-of}
+
+-- nothing is gathered yet
+pub gathers-none : (steps : List Step) (r : Resolvent) → Gathers steps r (Contains []) r
+gathers-none steps r = record {
+  floor = refl;
+  top = refl;
+  marked = λ m has k lt at. absurd (nothing_in_none m has);
+  kept_upper = λ k h. h;
+  kept_lower = λ k h. h;
+  from_upper = λ k h. inl h;
+  from_lower = λ k h. inl h;
+}
+
+-- what was gathered, and then one literal
+pub gathers-more : (steps : List Step) (old mid new : Resolvent) (lits : List Lit) (lit : Lit) → Gathers steps old (Contains lits) mid → Gathers steps mid (λ m. m ≡ lit) new → Gathers steps old (Contains (lits ++ lit ∷ [])) new
+gathers-more steps old mid new lits lit h g = record {
+  floor = g.floor ∙ h.floor;
+  top = g.top ∙ h.top;
+  marked = λ m has k lt at. ⊎_elim
+      (λ o. ⊎_elim (λ u. inl (g.kept_upper k u)) (λ l. inr (g.kept_lower k l)) (h.marked m o k lt at))
+      (λ e. g.marked m (sym e) k (subst (λ (n : ℕ). k < n) (sym h.top) lt) at)
+      (Contains-push_cases lits lit m has);
+  kept_upper = λ k o. g.kept_upper k (h.kept_upper k o);
+  kept_lower = λ k o. g.kept_lower k (h.kept_lower k o);
+  from_upper = λ k has. ⊎_elim
+      (λ o. h.from_upper k o)
+      (λ n. inr (subst (λ (x : ℕ). k < x) h.top n.0, subst (λ (f : ℕ). IsUpper steps f k) h.floor n.1))
+      (g.from_upper k has);
+  from_lower = λ k has. ⊎_elim
+      (λ o. h.from_lower k o)
+      (λ n. inr (subst (λ (f : ℕ). IsLower steps f k) h.floor n))
+      (g.from_lower k has);
+}
+
+module _ (s : TrailState) (trail : IsTrail s) (old new : Resolvent) (lit : Lit) (made : IsMadeBefore s.steps old.top (negated lit) ⊎ IsMadeAt s.steps old.top lit) (place : ℕ) (t : Step) (at : slice_get s.steps place ≡ Some t) (same : t.lit.var ≡ lit.var) where
+  var-same : t.lit.var.0 ≡ lit.var.0
+  var-same = ap (λ v. v.0) same
+
+  -- what made the literal false stands at this place
+  is-place : (m : Lit) → m ≡ lit → (k : ℕ) → IsMadeAt s.steps k (negated m) → place ≡ k
+  is-place m e k w = trail.coherent.apart place k t w.0 at w.1 (var-same ∙ sym (variable-of w.0.lit (negated m) w.2 ∙ variable-of m lit e))
+
+  -- a literal whose step is not below the top is passed over
+  pub gathers-past : old.top ≤ place → Gathers s.steps old (λ m. m ≡ lit) old
+  gathers-past past = record {
+    floor = refl;
+    top = refl;
+    marked = λ m e k lt w. let one : place ≡ k = is-place m e k w in absurd (omega (arith, one, lt, past));
+    kept_upper = λ k h. h;
+    kept_lower = λ k h. h;
+    from_upper = λ k h. inl h;
+    from_lower = λ k h. inl h;
+  }
+
+  pub gathers-lower : new.floor ≡ old.floor → new.top ≡ old.top → new.upper.keys ≡ old.upper.keys → new.lower.keys ≡ insert_key nat_cmp old.lower.keys place → t.level < old.floor → Gathers s.steps old (λ m. m ≡ lit) new
+  gathers-lower floor top upper lower lt = record {
+    floor = floor;
+    top = top;
+    marked = λ m e k below w. inr (subst (λ (ks : List ℕ). Contains ks k) (sym lower) (subst (Contains (insert_key nat_cmp old.lower.keys place)) (is-place m e k w) (inserted-new old.lower.keys place)));
+    kept_upper = λ k h. subst (λ (ks : List ℕ). Contains ks k) (sym upper) h;
+    kept_lower = λ k h. subst (λ (ks : List ℕ). Contains ks k) (sym lower) (inserted-old old.lower.keys place k h);
+    from_upper = λ k h. inl (subst (λ (ks : List ℕ). Contains ks k) upper h);
+    from_lower = λ k h. ⊎_elim (λ o. inl o) (λ e. inr (subst (IsLower s.steps old.floor) e (t, at, lt))) (inserted-cases old.lower.keys place k (subst (λ (ks : List ℕ). Contains ks k) lower h));
+  }
+
+  reasoned : (o : Option ℕ) → t.reason ≡ o → (IsFixed s (negated lit) → ⊥) → place < old.top → t.level ≡ 0 → IsSome o
+  reasoned (Some id) e unfixed lt flat = refl
+  reasoned None e unfixed lt flat = absurd (unfixed (place, t, at, made-below s.values s.steps trail.coherent lit old.top place t made at var-same lt, flat, e))
+
+  pub gathers-upper : new.floor ≡ old.floor → new.top ≡ old.top → new.lower.keys ≡ old.lower.keys → new.upper.keys ≡ insert_key nat_cmp old.upper.keys place → old.floor ≤ t.level → place < old.top → (IsFixed s (negated lit) → ⊥) → Gathers s.steps old (λ m. m ≡ lit) new
+  gathers-upper floor top lower upper le lt unfixed = record {
+    floor = floor;
+    top = top;
+    marked = λ m e k below w. inl (subst (λ (ks : List ℕ). Contains ks k) (sym upper) (subst (Contains (insert_key nat_cmp old.upper.keys place)) (is-place m e k w) (inserted-new old.upper.keys place)));
+    kept_upper = λ k h. subst (λ (ks : List ℕ). Contains ks k) (sym upper) (inserted-old old.upper.keys place k h);
+    kept_lower = λ k h. subst (λ (ks : List ℕ). Contains ks k) (sym lower) h;
+    from_upper = λ k h. ⊎_elim (λ o. inl o) (λ e. inr (subst (λ (n : ℕ). n < old.top) e lt, subst (IsUpper s.steps old.floor) e (t, at, le, reasoned t.reason refl unfixed lt))) (inserted-cases old.upper.keys place k (subst (λ (ks : List ℕ). Contains ks k) upper h));
+    from_lower = λ k h. inl (subst (λ (ks : List ℕ). Contains ks k) lower h);
+  }
