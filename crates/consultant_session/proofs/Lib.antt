@@ -1,0 +1,11 @@
+pub mod FillingLemmas
+pub mod ListLemmas
+pub mod OrderLemmas
+pub mod ApartLemmas
+pub mod RepeatLemmas
+pub mod MemberLemmas
+pub mod BegunLemmas
+pub mod SortLemmas
+pub mod FitsLemmas
+pub mod CompletionLemmas
+pub mod SampleLemmas

@@ -1,0 +1,7 @@
+pub mod Begun
+pub mod Completion
+pub mod DomainOrder
+pub mod Filling
+pub mod Replies
+pub mod Sessions
+pub mod Samples
