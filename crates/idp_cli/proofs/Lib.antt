@@ -1,0 +1,6 @@
+mod Cutting
+mod Blanks
+mod Saying
+mod Words
+mod Ending
+mod Elimination

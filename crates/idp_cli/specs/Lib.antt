@@ -1,0 +1,11 @@
+pub mod Commands
+pub mod Spaces
+pub mod Replies
+pub mod Files
+pub mod Reading
+pub mod Consultation
+pub mod Top
+pub mod Stops
+pub mod Printing
+pub mod Laws
+pub mod Codes
