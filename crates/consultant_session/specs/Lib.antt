@@ -3,5 +3,6 @@ pub mod Completion
 pub mod DomainOrder
 pub mod Filling
 pub mod Replies
+pub mod States
 pub mod Sessions
 pub mod Samples

@@ -1,24 +1,54 @@
 -- Which reply to a command is right.
-use Rattle.std.specs.Prelude.{◌≤◌, ◌^◌, List, [], ◌∷◌, length, ⊤}
+use Rattle.std.specs.Prelude.{◌≡◌, ◌≤◌, ◌^◌, ◌++◌, List, [], ◌∷◌, length, Contains, Bool, true, false, Option, Some, None, ⊤}
+use Rattle.std.specs.List.{AllByRecursion}
+use Rattle.kb_logic.specs.declared.elements.Elem.{Elem}
 use Rattle.kb_logic.specs.declared.structures.Structure.{Structure}
+use Rattle.kb_logic.specs.declared.structures.Literal.{Literal}
 use Rattle.kb_logic.specs.declared.first.FirstKb.{FirstKb}
 use Rattle.kb_logic.specs.First.{IsFirstKb, ModelOfFirst, open_atom_count}
-use Rattle.consultant_session.specs.declared.replies.Command.{Command}
-use Rattle.consultant_session.specs.declared.replies.Command.TheVariants as command
-use Rattle.consultant_session.specs.declared.replies.Reply.{Reply}
-use Rattle.consultant_session.specs.declared.replies.Reply.TheVariants as reply
+use Rattle.kb_logic.specs.Meaning.{rows_of}
+use Rattle.consult_text.specs.declared.refusals.F.{F}
+use Rattle.consult_text.specs.declared.commands.Command.{Command}
+use Rattle.consult_text.specs.declared.commands.Command.TheVariants as command
+use Rattle.consult_text.specs.declared.replies.Reply.{Reply}
+use Rattle.consult_text.specs.declared.replies.Reply.TheVariants as reply
+use Rattle.consultant_session.specs.States.{State, command_refusal}
 
--- the reply to `model`: a model that extends the data, or that no structure is one
-abbrev pub RightReply : FirstKb → Command → Reply → Type 0
-RightReply kb command.Model (reply.Model m) = ModelOfFirst kb m
-RightReply kb command.Model reply.Inconsistent = (m : Structure) → ModelOfFirst kb m → ⊥
+-- the atom of the literal is true in the structure: its arguments are in the predicate's table, or they are in the function's table with its value
+abbrev pub HoldsAtom : Structure → Literal → Option Elem → Type 0
+HoldsAtom m l None = Contains (rows_of l.symbol m.relations) l.args
+HoldsAtom m l (Some x) = Contains (rows_of l.symbol m.functions) (l.args ++ x ∷ [])
 
--- each command has a right reply, in order, and there are no others
-abbrev pub AllRight : FirstKb → List Command → List Reply → Type 0
-AllRight kb [] [] = ⊤
-AllRight kb [] (r ∷ replies) = ⊥
-AllRight kb (c ∷ commands) [] = ⊥
-AllRight kb (c ∷ commands) (r ∷ replies) = RightReply kb c r × AllRight kb commands replies
+abbrev pub HoldsWithSign : Bool → Type 0 → Type 0
+HoldsWithSign true A = A
+HoldsWithSign false A = A → ⊥
+
+-- the literal is true in the structure
+abbrev pub HoldsIn : Structure → Literal → Type 0
+HoldsIn m l = HoldsWithSign l.positive (HoldsAtom m l l.value)
+
+-- m is a model that extends the data and makes every choice true
+pub record ModelOfState (kb : FirstKb) (s : State) (m : Structure) : Type 0 where
+  pub model : ModelOfFirst kb m
+  pub choices : AllByRecursion (HoldsIn m) s.choices
+
+-- the reply to a command that is not refused
+abbrev pub RightAnswer : FirstKb → State → Command → Reply → Type 0
+RightAnswer kb s (command.Assert l) r = r ≡ reply.Fine
+RightAnswer kb s (command.Retract l) r = r ≡ reply.Fine
+RightAnswer kb s command.Reset r = r ≡ reply.Fine
+RightAnswer kb s command.Choices r = r ≡ reply.Choices s.choices
+RightAnswer kb s command.Model (reply.Model m) = ModelOfState kb s m
+RightAnswer kb s command.Model reply.Inconsistent = (m : Structure) → ModelOfState kb s m → ⊥
+RightAnswer kb s command.Model _ = ⊥
+
+abbrev pub RightUnless : Option F → FirstKb → State → Command → Reply → Type 0
+RightUnless (Some f) kb s c r = r ≡ reply.Refused f
+RightUnless None kb s c r = RightAnswer kb s c r
+
+-- the reply to a command in a state: its refusal where it is refused, and else what it asks
+abbrev pub RightReply : FirstKb → State → Command → Reply → Type 0
+RightReply kb s c r = RightUnless (command_refusal kb s c) kb s c r
 
 -- a knowledge base that a session can be opened on: its symbols have numbers of 32 bits, and at most twenty atoms are unknown
 pub record IsSmallFirstKb (kb : FirstKb) : Type 0 where

@@ -5,12 +5,11 @@ mod atoms;
 mod begun;
 mod completion;
 mod elements;
-mod replies;
 mod rows;
 mod session;
 #[cfg(test)]
 mod tests;
 mod tuples;
 
-pub use replies::{Command, Reply};
+
 pub use session::Session;

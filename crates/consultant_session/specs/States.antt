@@ -1,0 +1,70 @@
+-- The state of a session: the choices, and what each command does to them.
+use Rattle.std.specs.Prelude.{ℕ, List, [], ◌∷◌, ◌++◌, Bool, true, false, ◌&&◌, ◌==◌, not, filter, if◌then◌else◌, Option, Some, None}
+use Rattle.std.specs.List.{list_any}
+use Rattle.kb_logic.specs.declared.elements.Elem.{Elem}
+use Rattle.kb_logic.specs.declared.structures.Literal.{Literal}
+use Rattle.kb_logic.specs.declared.first.FirstKb.{FirstKb}
+use Rattle.kb_logic.specs.First.{is_given}
+use Rattle.consult_text.specs.declared.commands.Command.{Command}
+use Rattle.consult_text.specs.declared.commands.Command.TheVariants as command
+use Rattle.consult_text.specs.declared.refusals.F.{F}
+use Rattle.consult_text.specs.declared.refusals.F.TheVariants as refusal
+use Rattle.consultant_session.specs.DomainOrder.{same_elem, same_row}
+
+-- what a session's replies depend on, beside the knowledge base
+pub record State : Type 0 where
+  pub choices : List Literal
+
+-- a session begins without choices
+abbrev pub first_state : State
+first_state = record { choices = [] }
+
+abbrev pub same_sign : Bool → Bool → Bool
+same_sign true b = b
+same_sign false b = not b
+
+abbrev pub same_given_value : Option Elem → Option Elem → Bool
+same_given_value None None = true
+same_given_value None (Some y) = false
+same_given_value (Some x) None = false
+same_given_value (Some x) (Some y) = same_elem x y
+
+-- the literals have the same sign, symbol, arguments and value
+abbrev pub same_literal : Literal → Literal → Bool
+same_literal a b = (same_sign a.positive b.positive && (a.symbol == b.symbol)) && (same_row a.args b.args && same_given_value a.value b.value)
+
+-- the literal is a choice
+abbrev pub is_chosen : State → Literal → Bool
+is_chosen s l = list_any (same_literal l) s.choices
+
+abbrev pub refusal_unless : Bool → F → Option F
+refusal_unless true f = None
+refusal_unless false f = Some f
+
+-- why a command is refused, if it is: a literal that the data decide, or that is a choice already, is not asserted, and one that is no choice is not retracted
+abbrev pub command_refusal : FirstKb → State → Command → Option F
+command_refusal kb s (command.Assert l) = if is_given kb.given l.symbol then Some refusal.GivenByData else refusal_unless (not (is_chosen s l)) refusal.AlreadyChosen
+command_refusal kb s (command.Retract l) = refusal_unless (is_chosen s l) refusal.NotChosen
+command_refusal kb s command.Reset = None
+command_refusal kb s command.Choices = None
+command_refusal kb s command.Model = None
+
+-- the choices without this one, in their order
+abbrev pub without : Literal → List Literal → List Literal
+without l choices = filter (λ c. not (same_literal l c)) choices
+
+-- what a command that is not refused does
+abbrev pub carried_out : State → Command → State
+carried_out s (command.Assert l) = record { choices = s.choices ++ l ∷ [] }
+carried_out s (command.Retract l) = record { choices = without l s.choices }
+carried_out s command.Reset = first_state
+carried_out s command.Choices = s
+carried_out s command.Model = s
+
+abbrev pub unless_refused : Option F → State → State → State
+unless_refused None s t = t
+unless_refused (Some f) s t = s
+
+-- the state after a command; one that is refused changes nothing
+abbrev pub state_after : FirstKb → State → Command → State
+state_after kb s c = unless_refused (command_refusal kb s c) s (carried_out s c)
