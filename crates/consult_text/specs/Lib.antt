@@ -2,4 +2,5 @@ pub mod Refusals
 pub mod Literals
 pub mod Written
 pub mod Lines
+pub mod Cuts
 pub mod Texts

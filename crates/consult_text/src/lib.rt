@@ -4,10 +4,12 @@
 #![tactic(auto)]
 
 mod commands;
+mod cuts;
 mod lines;
 mod refusals;
 mod replies;
 mod texts;
+mod written;
 
 pub use commands::Command;
 pub use lines::{CommandError, read_command};
