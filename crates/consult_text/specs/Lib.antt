@@ -3,4 +3,5 @@ pub mod Literals
 pub mod Written
 pub mod Lines
 pub mod Cuts
+pub mod Ranges
 pub mod Texts

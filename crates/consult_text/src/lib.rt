@@ -6,6 +6,7 @@
 mod commands;
 mod cuts;
 mod lines;
+mod lookup;
 mod refusals;
 mod replies;
 mod texts;
