@@ -4,3 +4,4 @@ pub mod Rows
 pub mod Digits
 pub mod Symbols
 pub mod Forms
+pub mod Parses

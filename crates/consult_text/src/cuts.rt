@@ -212,11 +212,7 @@ fn cut_equality<'a, 'b>(tokens: &'b [Token<'a>]) -> Option<(bool, &'b [Token<'a>
     }
 }
 
-fn make_literal<'a>(
-    positive: bool,
-    head: Head<'a>,
-    value: Option<ElemText<'a>>,
-) -> LiteralText<'a>
+fn make_literal<'a>(positive: bool, head: Head<'a>, value: Option<ElemText<'a>>) -> LiteralText<'a>
     ensures { literal_view result ≡ head_literal positive head.entry value.entry }
 {
     LiteralText {
@@ -228,10 +224,7 @@ fn make_literal<'a>(
 }
 
 /// An atom behind its `~`.
-fn cut_negated<'a>(
-    alloc: Global,
-    tokens: &[Token<'a>],
-) -> Result<Option<LiteralText<'a>>, Memory>
+fn cut_negated<'a>(alloc: Global, tokens: &[Token<'a>]) -> Result<Option<LiteralText<'a>>, Memory>
     ensures { IfOk result (λ found. CutsNegated (toks tokens.now) found) }
 {
     let Some((head, rest)) = cut_head(alloc, tokens)? else {
@@ -245,10 +238,7 @@ fn cut_negated<'a>(
 }
 
 /// A literal without `~` before it.
-fn cut_positive<'a>(
-    alloc: Global,
-    tokens: &[Token<'a>],
-) -> Result<Option<LiteralText<'a>>, Memory>
+fn cut_positive<'a>(alloc: Global, tokens: &[Token<'a>]) -> Result<Option<LiteralText<'a>>, Memory>
     ensures { IfOk result (λ found. CutsPositive (toks tokens.now) found) }
 {
     let Some((head, rest)) = cut_head(alloc, tokens)? else {
@@ -270,10 +260,7 @@ fn cut_positive<'a>(
     }
 }
 
-fn cut_literal<'a>(
-    alloc: Global,
-    tokens: &[Token<'a>],
-) -> Result<Option<LiteralText<'a>>, Memory>
+fn cut_literal<'a>(alloc: Global, tokens: &[Token<'a>]) -> Result<Option<LiteralText<'a>>, Memory>
     ensures { IfOk result (λ found. CutsLiteral (toks tokens.now) found) }
 {
     match behind_sign(b"~", tokens) {

@@ -48,11 +48,7 @@ pub fn read_command(
 }
 
 /// The command that is written, where its literal's names are those of the knowledge base.
-fn meaning(
-    alloc: Global,
-    kb: &FirstKb,
-    text: &CommandText<'_>,
-) -> Result<Command, CommandError>
+fn meaning(alloc: Global, kb: &FirstKb, text: &CommandText<'_>) -> Result<Command, CommandError>
     requires few { length kb.now.vocab.symbols ≤ 2 ^ 32 }
     requires ranges { HasRanges (command_view text.now) }
     ensures { Answers kb.now (command_view text.now) result }

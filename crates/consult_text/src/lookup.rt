@@ -164,11 +164,7 @@ fn is_literal_over(kb: &FirstKb, symbol: &Symbol, literal: &Literal) -> bool
 }
 
 /// The literal that is written.
-pub fn look_up(
-    alloc: Global,
-    kb: &FirstKb,
-    text: &LiteralText<'_>,
-) -> Result<Literal, CommandError>
+pub fn look_up(alloc: Global, kb: &FirstKb, text: &LiteralText<'_>) -> Result<Literal, CommandError>
     requires few { length kb.now.vocab.symbols ≤ 2 ^ 32 }
     requires range { HasRange (literal_view text.now) }
     ensures { LooksUp kb.now (literal_view text.now) result }
