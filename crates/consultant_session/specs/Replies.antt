@@ -50,6 +50,12 @@ RightUnless None kb s c r = RightAnswer kb s c r
 abbrev pub RightReply : FirstKb → State → Command → Reply → Type 0
 RightReply kb s c r = RightUnless (command_refusal kb s c) kb s c r
 
+-- the command may stay without a reply for want of memory
+abbrev pub TakesMemory : Command → Type 0
+TakesMemory (command.Retract l) = ⊥
+TakesMemory command.Reset = ⊥
+TakesMemory _ = ⊤
+
 -- a knowledge base that a session can be opened on: its symbols have numbers of 32 bits, and at most twenty atoms are unknown
 pub record IsSmallFirstKb (kb : FirstKb) : Type 0 where
   pub first : IsFirstKb kb
