@@ -1,23 +1,20 @@
 -- What commands do to the choices.
-use Rattle.std.proofs.Common.{◌≡◌, ◌≢◌, List, [], ◌∷◌, ◌++◌, refl, sym, ◌∙◌, ap, subst, Bool, true, false, cond, not, Option, Some, None, inl, inr, IsTrue}
+use Rattle.std.proofs.Common.{◌≡◌, List, [], ◌∷◌, ◌++◌, refl, sym, ◌∙◌, subst, Bool, true, false, cond, not, Option, None, inl, inr}
 use Rattle.std.specs.Bool.{Decides}
-use Rattle.std.specs.List.{AllByRecursion, list_any, filter, Contains}
-use Rattle.std.proofs.lemmas.Bool.{false≢true, false_from_ne_true}
+use Rattle.std.specs.List.{list_any, filter, Contains}
+use Rattle.std.proofs.lemmas.Bool.{false≢true}
 use Rattle.std.proofs.lemmas.Bool.Decides.{Decides-not}
-use Rattle.std.proofs.lemmas.List.Elements.{Contains-push_cases}
 use Rattle.std.proofs.lemmas.Map.Views.{Contains-from_any}
 use Rattle.kb_logic.specs.declared.structures.Literal.{Literal}
-use Rattle.kb_logic.specs.declared.structures.Structure.{Structure}
 use Rattle.kb_logic.specs.declared.first.FirstKb.{FirstKb}
 use Rattle.kb_logic.specs.Structures.{IsDistinct}
-use Rattle.kb_logic.specs.First.{is_given}
 use Rattle.kb_logic.proofs.Members.{member_cases, from_filter, none_in, distinct-append, one_is_some}
-use Rattle.consult_text.specs.declared.commands.Command.{Command}
 use Rattle.consult_text.specs.declared.commands.Command.TheVariants as command
+use Rattle.consult_text.specs.declared.refusals.F.{F}
 use Rattle.consult_text.specs.declared.refusals.F.TheVariants as refusal
-use Rattle.consultant_session.specs.States.{State, same_literal, is_chosen, without, refusal_unless, carried_out, unless_refused, state_after, command_refusal}
+use Rattle.consultant_session.specs.States.{State, same_literal, is_chosen, is_known, refused_where, carried_out, unless_refused, state_after}
 use Rattle.consultant_session.specs.Laws.{SameLiteralIsEquality, ChosenIsMembership, WithoutRemovesOne, ChoicesStayDistinct, OppositeChoicesHaveNoModel, opposite}
-use Rattle.consultant_session.specs.Replies.{HoldsIn, ModelOfState}
+use Rattle.consultant_session.specs.Replies.{HoldsIn}
 use Rattle.consultant_session.proofs.MemberLemmas.{all_at, contains_filter, filter_contains}
 use Rattle.consultant_session.proofs.LiteralLemmas.{same_literal_decides, opposites_clash}
 
@@ -56,18 +53,19 @@ distinct_filter passes (c ∷ choices) distinct =
 
 asserted_distinct : (kb : FirstKb) (s : State) (l : Literal) → IsDistinct s.choices → IsDistinct (state_after kb s (command.Assert l)).choices
 asserted_distinct kb s l distinct =
-    let added : (b : Bool) → is_chosen s l ≡ b → IsDistinct (unless_refused (refusal_unless (not b) refusal.AlreadyChosen) s (carried_out s (command.Assert l))).choices =
-    λ b. elim b as (λ (b : Bool). is_chosen s l ≡ b → IsDistinct (unless_refused (refusal_unless (not b) refusal.AlreadyChosen) s (carried_out s (command.Assert l))).choices) [
+    let after : Option F → State = λ refused. unless_refused refused s (carried_out s (command.Assert l)) in
+    let added : (b : Bool) → is_chosen s l ≡ b → IsDistinct (after (refused_where b refusal.AlreadyChosen None)).choices =
+    λ b. elim b as (λ (b : Bool). is_chosen s l ≡ b → IsDistinct (after (refused_where b refusal.AlreadyChosen None)).choices) [
       | true ↦ (λ chosen. distinct)
       | false ↦ (λ new. distinct_push s.choices l distinct (λ contains. false≢true (sym new ∙ contains_among l s.choices contains)))
     ] in
-    elim (is_given kb.given l.symbol) as (λ (given : Bool). IsDistinct (unless_refused (cond given (Some refusal.GivenByData) (refusal_unless (not (is_chosen s l)) refusal.AlreadyChosen)) s (carried_out s (command.Assert l))).choices)
+    elim (is_known kb l) as (λ (b : Bool). IsDistinct (after (refused_where b refusal.GivenByData (refused_where (is_chosen s l) refusal.AlreadyChosen None))).choices)
     [ true ↦ distinct | false ↦ added (is_chosen s l) refl ]
 
 pub choices_stay_distinct : ChoicesStayDistinct
 choices_stay_distinct kb s (command.Assert l) distinct = asserted_distinct kb s l distinct
 choices_stay_distinct kb s (command.Retract l) distinct =
-    elim (is_chosen s l) as (λ (b : Bool). IsDistinct (unless_refused (refusal_unless b refusal.NotChosen) s (carried_out s (command.Retract l))).choices)
+    elim (is_chosen s l) as (λ (b : Bool). IsDistinct (unless_refused (refused_where (not b) refusal.NotChosen None) s (carried_out s (command.Retract l))).choices)
     [ true ↦ distinct_filter (λ d. not (same_literal l d)) s.choices distinct | false ↦ distinct ]
 choices_stay_distinct kb s command.Reset distinct = tt
 choices_stay_distinct kb s command.Choices distinct = distinct
