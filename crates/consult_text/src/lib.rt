@@ -9,6 +9,8 @@ mod lines;
 mod lookup;
 mod refusals;
 mod replies;
+#[cfg(test)]
+mod tests;
 mod texts;
 mod written;
 
