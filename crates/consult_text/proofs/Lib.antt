@@ -5,3 +5,5 @@ pub mod Digits
 pub mod Symbols
 pub mod Forms
 pub mod Parses
+pub mod Blanks
+pub mod Meanings

@@ -4,4 +4,5 @@ pub mod Written
 pub mod Lines
 pub mod Cuts
 pub mod Ranges
+pub mod Laws
 pub mod Texts

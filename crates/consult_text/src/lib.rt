@@ -5,6 +5,7 @@
 
 mod commands;
 mod cuts;
+mod laws;
 mod lines;
 mod lookup;
 mod refusals;
@@ -15,6 +16,7 @@ mod texts;
 mod written;
 
 pub use commands::Command;
+pub use laws::{commands_are_over_the_base, one_meaning};
 pub use lines::{CommandError, read_command};
 pub use refusals::F;
 pub use replies::Reply;
