@@ -1,6 +1,6 @@
 -- A line of spaces has no token.
-use Rattle.std.proofs.Common.{◌≡◌, ℕ, zero, suc, ◌+◌, List, [], ◌∷◌, length, take, drop, Bool, true, false, cond, Result, Ok, Err, refl, sym, ap, ◌∙◌, subst, codes}
-use Rattle.std.specs.List.{list_all, prefix_len}
+use Rattle.std.proofs.Common.{◌≡◌, ℕ, zero, suc, ◌+◌, List, [], ◌∷◌, take, drop, Bool, true, false, cond, Ok, refl, ap, subst, codes}
+use Rattle.std.specs.List.{prefix_len}
 use Rattle.std.proofs.lemmas.Bool.{and_parts}
 use Rattle.std.proofs.lemmas.Slice.Eq.{bytes_eq-Decides}
 use Rattle.kb_text.specs.declared.bytes.Class.{Class}
@@ -8,7 +8,7 @@ use Rattle.kb_text.specs.declared.bytes.Class.TheVariants.{Space, Letter, Digit,
 use Rattle.kb_text.specs.declared.token.Kind.{Kind}
 use Rattle.kb_text.specs.declared.token.Kind.TheVariants.{Word, Int, Sign, Procedure}
 use Rattle.kb_text.specs.Bytes.{class_of, is_space, in_word, is_word_byte, is_space_byte, only_spaces}
-use Rattle.kb_text.specs.Pieces.{Piece, WordText, IntText, SignText, IsPiece}
+use Rattle.kb_text.specs.Pieces.{WordText, IntText, SignText, IsPiece}
 use Rattle.kb_text.specs.Procedures.{word_end, begins_procedure}
 use Rattle.kb_text.specs.Depth.{Around, outermost}
 use Rattle.kb_text.specs.Tokens.{Lexeme, Outcome, TokensFrom, nothing, gap, token, token_before, refused, stuck, IsTokenAt}

@@ -1,14 +1,14 @@
 -- A line means at most one thing.
-use Rattle.std.proofs.Common.{◌≡◌, ◌≢◌, ℕ, ◌<◌, ◌⊎◌, inl, inr, List, [], ◌∷◌, length, map, get_or, Bool, true, false, Result, Ok, Err, Option, Some, None, refl, sym, ap, ◌∙◌, subst, codes, arith}
+use Rattle.std.proofs.Common.{◌≡◌, ◌≢◌, ℕ, ◌<◌, List, [], ◌∷◌, map, Bool, true, false, Ok, Err, Some, None, refl, sym, ap, ◌∙◌, subst, codes, arith}
 use Rattle.std.specs.Str.{bytes_eq}
-use Rattle.std.specs.List.{slice_get, Contains}
+use Rattle.std.specs.List.{Contains}
 use Rattle.std.proofs.lemmas.Option.{slice_get_within, get_or_from_slice_get}
 use Rattle.std.proofs.lemmas.Slice.Eq.{bytes_eq-Decides}
 use Rattle.kb_logic.specs.declared.vocabularies.Symbol.{Symbol}
 use Rattle.kb_logic.specs.declared.structures.Literal.{Literal}
 use Rattle.kb_logic.specs.declared.first.FirstKb.{FirstKb}
 use Rattle.kb_text.specs.Depth.{outermost}
-use Rattle.kb_text.specs.Tokens.{Lexeme, Outcome, TokensFrom}
+use Rattle.kb_text.specs.Tokens.{Lexeme, TokensFrom}
 use Rattle.consult_text.specs.declared.commands.Command.{Command}
 use Rattle.consult_text.specs.declared.commands.Command.TheVariants as command
 use Rattle.consult_text.specs.declared.refusals.F.{F}
@@ -18,7 +18,7 @@ use Rattle.consult_text.specs.Written.{Tok, word, digits, sign, WrittenElem, Wri
 use Rattle.consult_text.specs.Literals.{IsLiteralOver, IsFirstNamed, HasFormOf, name_of, literal_of}
 use Rattle.consult_text.specs.Lines.{tok_of, IsWritten, IsBlank, IsNoCommand, StandsFor, IsRefusedFor, Asks, RefusesFor, HasCommand, HasRefusal, IsCommandOver}
 use Rattle.consult_text.specs.Cuts.{dot, IsClosed}
-use Rattle.consult_text.specs.Laws.{Meaning, Means, HasOneMeaning, CommandsAreOverTheBase}
+use Rattle.consult_text.specs.Laws.{HasOneMeaning, CommandsAreOverTheBase}
 use Rattle.consult_text.proofs.Spelling.{elem_same, args_same, sign_above, dot_closed, equals_closed}
 use Rattle.consult_text.proofs.Parses.{HasOneOutcome, same_lexemes}
 use Rattle.consult_text.proofs.Blanks.{no_tokens}
@@ -130,13 +130,15 @@ first_same : (xs : List Symbol) (name : List ℕ) (n m : ℕ) (s t : Symbol) →
 first_same xs name n m s t h h' =
     let same : n ≡ m = numbers in
     (same, let e = h.at in let e' = h'.at in cc)
-    where
-      not_below : n < m → ⊥
-      not_below lt = h'.first n s lt h.at h.named
-      not_above : m < n → ⊥
-      not_above lt = h.first m t lt h'.at h'.named
-      numbers : n ≡ m
-      numbers = omega (arith, not_below, not_above)
+  where
+    not_below : n < m → ⊥
+    not_below lt = h'.first n s lt h.at h.named
+
+    not_above : m < n → ⊥
+    not_above lt = h.first m t lt h'.at h'.named
+
+    numbers : n ≡ m
+    numbers = omega (arith, not_below, not_above)
 
 literal_of_line : (kb : FirstKb) (w : WrittenLiteral) (l l' : Literal) → StandsFor kb w l → StandsFor kb w l' → l ≡ l'
 literal_of_line kb w l l' h h' =
