@@ -5,4 +5,5 @@ pub mod Lines
 pub mod Cuts
 pub mod Ranges
 pub mod Laws
+pub mod OneText
 pub mod Texts

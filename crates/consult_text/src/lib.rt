@@ -16,7 +16,7 @@ mod texts;
 mod written;
 
 pub use commands::Command;
-pub use laws::{commands_are_over_the_base, one_meaning};
+pub use laws::{commands_are_over_the_base, no_two_replies_have_one_text, one_meaning};
 pub use lines::{CommandError, read_command};
 pub use refusals::F;
 pub use replies::Reply;
