@@ -1,22 +1,21 @@
 -- The texts of choices.
-use Rattle.std.proofs.Common.{◌≡◌, ◌≢◌, ℕ, zero, suc, ◌+◌, ◌<◌, List, [], ◌∷◌, ◌++◌, map, flat_map, length, get_or, Bool, true, false, Option, Some, None, refl, sym, ap, ◌∙◌, subst, codes, append_assoc, arith}
+use Rattle.std.proofs.Common.{◌≡◌, ℕ, zero, suc, ◌<◌, List, [], ◌∷◌, ◌++◌, map, flat_map, length, get_or, Bool, true, false, Option, Some, None, refl, sym, ap, ◌∙◌, subst, codes, append_assoc, arith}
 use Rattle.std.specs.List.{AllByRecursion, slice_get, Contains}
 use Rattle.std.proofs.lemmas.List.{append_cancel_left}
-use Rattle.std.proofs.lemmas.Option.{slice_get_within, get_or_from_slice_get}
 use Rattle.kb_logic.specs.declared.elements.Elem.{Elem}
 use Rattle.kb_logic.specs.declared.vocabularies.Symbol.{Symbol}
 use Rattle.kb_logic.specs.declared.structures.Literal.{Literal}
 use Rattle.kb_logic.specs.declared.first.FirstKb.{FirstKb}
 use Rattle.kb_logic.specs.First.{IsRowOver, IsFirstKb, IsPlainPredicate}
 use Rattle.kb_logic.specs.Structures.{domain_at, IsDistinct}
-use Rattle.kb_text.specs.declared.bytes.Class.TheVariants.{Letter, Mark}
+use Rattle.kb_text.specs.declared.bytes.Class.TheVariants.{Mark}
 use Rattle.kb_text.specs.Bytes.{class_of}
 use Rattle.kb_text.specs.Pieces.{IsPiece, WordText}
 use Rattle.consult_text.specs.Literals.{IsLiteralOver, IsValueOver}
-use Rattle.consult_text.specs.Texts.{row_text, args_text, negation_text, choice_line, name_of}
+use Rattle.consult_text.specs.Texts.{row_text, args_text, negation_text, choice_line}
 use Rattle.consult_text.specs.OneText.{CanBeWritten, HasWordNames}
-use Rattle.consult_text.proofs.InnerBytes.{Inner, Stopped, word_inner, split_same}
-use Rattle.consult_text.proofs.RowTexts.{NoComma, byte_above, rest_same, stop_at, row_same}
+use Rattle.consult_text.proofs.InnerBytes.{Stopped, word_inner, split_same}
+use Rattle.consult_text.proofs.RowTexts.{byte_above, rest_same, stop_at, row_same}
 
 all_at : {X : Type 0} (P : X → Type 0) (xs : List X) (n : ℕ) (x : X) → AllByRecursion P xs → slice_get xs n ≡ Some x → P x
 all_at P [] n x all at = absurd (cc)
@@ -68,11 +67,12 @@ record Choice (kb : FirstKb) (l : Literal) : Type 0 where
 
 choice_of : (kb : FirstKb) (l : Literal) → IsFirstKb kb → HasWordNames kb → IsLiteralOver kb l → Choice kb l
 choice_of kb l first names h = record {
-    symbol = h.symbol;
-    at = h.declared;
-    word = all_at (λ s. IsPiece WordText s.name) kb.vocab.symbols l.symbol h.symbol names.words h.declared;
-    args = row_written kb.domains h.symbol.args l.args names.elements h.args;
-    value = no_value kb.domains h.symbol.value l.value (all_at (IsPlainPredicate (length kb.vocab.types)) kb.vocab.symbols l.symbol h.symbol first.symbols h.declared).0 h.value }
+  symbol = h.symbol;
+  at = h.declared;
+  word = all_at (λ s. IsPiece WordText s.name) kb.vocab.symbols l.symbol h.symbol names.words h.declared;
+  args = row_written kb.domains h.symbol.args l.args names.elements h.args;
+  value = no_value kb.domains h.symbol.value l.value (all_at (IsPlainPredicate (length kb.vocab.types)) kb.vocab.symbols l.symbol h.symbol first.symbols h.declared).0 h.value;
+}
 
 abbrev pub line_end : List ℕ → List ℕ
 line_end r = 10 ∷ r
@@ -90,7 +90,7 @@ args_texts_same [] (y ∷ ys) r s all all' q = absurd (byte_above 40 10 (omega a
 args_texts_same (x ∷ xs) [] r s all all' q = absurd (byte_above 40 10 (omega arith) q)
 args_texts_same (x ∷ xs) (y ∷ ys) r s all all' q =
     let tails : row_text (x ∷ xs) ++ (41 ∷ line_end r) ≡ row_text (y ∷ ys) ++ (41 ∷ line_end s) =
-        sym (append_assoc (row_text (x ∷ xs)) (codes ")") (line_end r)) ∙ (rest_same q ∙ append_assoc (row_text (y ∷ ys)) (codes ")") (line_end s)) in
+    sym (append_assoc (row_text (x ∷ xs)) (codes ")") (line_end r)) ∙ (rest_same q ∙ append_assoc (row_text (y ∷ ys)) (codes ")") (line_end s)) in
     let cut = row_same x y xs ys (41 ∷ line_end r) (41 ∷ line_end s) all all' (stop_at 41 (line_end r) (λ b i. i.closing)) (stop_at 41 (line_end s) (λ b i. i.closing)) (λ t e. byte_above 44 41 (omega arith) (sym e)) (λ t e. byte_above 44 41 (omega arith) (sym e)) tails in
     (cut.0, rest_same (rest_same cut.1))
 
@@ -98,7 +98,7 @@ args_texts_same (x ∷ xs) (y ∷ ys) r s all all' q =
 atom_same : (name other : List ℕ) (xs ys : List Elem) (r s : List ℕ) → IsPiece WordText name → IsPiece WordText other → AllByRecursion CanBeWritten xs → AllByRecursion CanBeWritten ys → (name ++ args_text xs) ++ line_end r ≡ (other ++ args_text ys) ++ line_end s → (name ≡ other) × (xs ≡ ys) × (r ≡ s)
 atom_same name other xs ys r s word word' all all' q =
     let tails : name ++ (args_text xs ++ line_end r) ≡ other ++ (args_text ys ++ line_end s) =
-        sym (append_assoc name (args_text xs) (line_end r)) ∙ (q ∙ append_assoc other (args_text ys) (line_end s)) in
+    sym (append_assoc name (args_text xs) (line_end r)) ∙ (q ∙ append_assoc other (args_text ys) (line_end s)) in
     let cut = split_same name other (args_text xs ++ line_end r) (args_text ys ++ line_end s) (word_inner name word) (word_inner other word') (args_stopped xs r) (args_stopped ys s) tails in
     let more = args_texts_same xs ys r s all all' cut.1 in
     (cut.0, more.0, more.1)
@@ -138,9 +138,9 @@ line_is kb l c = rw (c.value, c.at)
 literal_same : (kb : FirstKb) (l k : Literal) (r s : List ℕ) → HasWordNames kb → Choice kb l → Choice kb k → choice_line kb.vocab l ++ r ≡ choice_line kb.vocab k ++ s → (l ≡ k) × (r ≡ s)
 literal_same kb l k r s names c d q =
     let left : choice_line kb.vocab l ++ r ≡ codes "choice " ++ (shown kb l c.symbol.name ++ line_end r) =
-        ap (λ (t : List ℕ). t ++ r) (line_is kb l c) ∙ ap (λ (t : List ℕ). codes "choice " ++ t) (append_assoc (shown kb l c.symbol.name) (codes "\n") r) in
+    ap (λ (t : List ℕ). t ++ r) (line_is kb l c) ∙ ap (λ (t : List ℕ). codes "choice " ++ t) (append_assoc (shown kb l c.symbol.name) (codes "\n") r) in
     let right : choice_line kb.vocab k ++ s ≡ codes "choice " ++ (shown kb k d.symbol.name ++ line_end s) =
-        ap (λ (t : List ℕ). t ++ s) (line_is kb k d) ∙ ap (λ (t : List ℕ). codes "choice " ++ t) (append_assoc (shown kb k d.symbol.name) (codes "\n") s) in
+    ap (λ (t : List ℕ). t ++ s) (line_is kb k d) ∙ ap (λ (t : List ℕ). codes "choice " ++ t) (append_assoc (shown kb k d.symbol.name) (codes "\n") s) in
     let tails = append_cancel_left (codes "choice ") (shown kb l c.symbol.name ++ line_end r) (shown kb k d.symbol.name ++ line_end s) (sym left ∙ (q ∙ right)) in
     let cut = signed_same l.positive k.positive c.symbol.name d.symbol.name l.args k.args r s c.word d.word c.args d.args tails in
     let number = same_number kb.vocab.symbols l.symbol k.symbol c.symbol d.symbol names.apart c.at d.at cut.1 in
@@ -153,7 +153,7 @@ choices_same kb [] (k ∷ ks) first names all all' q = absurd (byte_above 100 99
 choices_same kb (l ∷ ls) [] first names all all' q = absurd (byte_above 100 99 (omega arith) (sym q))
 choices_same kb (l ∷ ls) (k ∷ ks) first names all all' q =
     let tails : choice_line kb.vocab l ++ (flat_map (choice_line kb.vocab) ls ++ codes "done\n") ≡ choice_line kb.vocab k ++ (flat_map (choice_line kb.vocab) ks ++ codes "done\n") =
-        sym (append_assoc (choice_line kb.vocab l) (flat_map (choice_line kb.vocab) ls) (codes "done\n")) ∙ (q ∙ append_assoc (choice_line kb.vocab k) (flat_map (choice_line kb.vocab) ks) (codes "done\n")) in
+    sym (append_assoc (choice_line kb.vocab l) (flat_map (choice_line kb.vocab) ls) (codes "done\n")) ∙ (q ∙ append_assoc (choice_line kb.vocab k) (flat_map (choice_line kb.vocab) ks) (codes "done\n")) in
     let cut = literal_same kb l k (flat_map (choice_line kb.vocab) ls ++ codes "done\n") (flat_map (choice_line kb.vocab) ks ++ codes "done\n") names (choice_of kb l first names all.0) (choice_of kb k first names all'.0) tails in
     let one = cut.0 in
     let more = choices_same kb ls ks first names all.1 all'.1 cut.1 in

@@ -1,5 +1,5 @@
 -- The bytes of names and elements, which none of those between them is.
-use Rattle.std.proofs.Common.{◌≡◌, ◌≢◌, ℕ, zero, suc, ◌+◌, ◌-◌, ◌<◌, ◌≤◌, ◌^◌, ℤ, pos, negsuc, nat_abs, List, [], ◌∷◌, ◌++◌, length, Bool, true, false, refl, sym, ap, ◌∙◌, subst, arith}
+use Rattle.std.proofs.Common.{◌≡◌, ◌≢◌, ℕ, zero, suc, ◌+◌, ◌-◌, ◌<◌, ◌≤◌, ◌^◌, ℤ, pos, negsuc, nat_abs, List, [], ◌∷◌, ◌++◌, length, true, false, refl, sym, ap, ◌∙◌, subst, arith}
 use Rattle.std.specs.List.{AllByRecursion, list_all}
 use Rattle.std.specs.Fmt.{signed_decimal, decimal}
 use Rattle.std.proofs.lemmas.Bool.{and_parts}
@@ -34,33 +34,36 @@ not_other b n c is out inside e =
 word_byte : (b : ℕ) → is_word_byte b ≡ true → Inner b
 unfolding class_of
 word_byte b h = record {
-    line = not_other b 10 Space refl refl h;
-    blank = not_other b 32 Space refl refl h;
-    opening = not_other b 40 Mark refl refl h;
-    closing = not_other b 41 Mark refl refl h;
-    comma = not_other b 44 Mark refl refl h;
-    semicolon = not_other b 59 Mark refl refl h;
-    brace = not_other b 125 Mark refl refl h }
+  line = not_other b 10 Space refl refl h;
+  blank = not_other b 32 Space refl refl h;
+  opening = not_other b 40 Mark refl refl h;
+  closing = not_other b 41 Mark refl refl h;
+  comma = not_other b 44 Mark refl refl h;
+  semicolon = not_other b 59 Mark refl refl h;
+  brace = not_other b 125 Mark refl refl h;
+}
 
 digit_byte : (b : ℕ) → 48 ≤ b → b ≤ 57 → Inner b
 digit_byte b low high = record {
-    line = λ e. omega arith;
-    blank = λ e. omega arith;
-    opening = λ e. omega arith;
-    closing = λ e. omega arith;
-    comma = λ e. omega arith;
-    semicolon = λ e. omega arith;
-    brace = λ e. omega arith }
+  line = λ e. omega arith;
+  blank = λ e. omega arith;
+  opening = λ e. omega arith;
+  closing = λ e. omega arith;
+  comma = λ e. omega arith;
+  semicolon = λ e. omega arith;
+  brace = λ e. omega arith;
+}
 
 minus_byte : Inner 45
 minus_byte = record {
-    line = λ e. omega arith;
-    blank = λ e. omega arith;
-    opening = λ e. omega arith;
-    closing = λ e. omega arith;
-    comma = λ e. omega arith;
-    semicolon = λ e. omega arith;
-    brace = λ e. omega arith }
+  line = λ e. omega arith;
+  blank = λ e. omega arith;
+  opening = λ e. omega arith;
+  closing = λ e. omega arith;
+  comma = λ e. omega arith;
+  semicolon = λ e. omega arith;
+  brace = λ e. omega arith;
+}
 
 all_word_bytes : (bs : List ℕ) → list_all is_word_byte bs ≡ true → AllByRecursion Inner bs
 all_word_bytes [] h = tt

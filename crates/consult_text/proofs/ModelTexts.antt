@@ -1,6 +1,6 @@
 -- The texts of models.
-use Rattle.std.proofs.Common.{◌≡◌, ◌≢◌, ℕ, zero, suc, ◌+◌, ◌<◌, ◌≤◌, ◌⊎◌, inl, inr, List, [], ◌∷◌, ◌++◌, map, flat_map, length, Bool, true, false, cond, Option, Some, None, refl, sym, ap, ◌∙◌, subst, codes, append_assoc, arith}
-use Rattle.std.specs.Prelude.{is_none, is_some, ◌==◌, filter}
+use Rattle.std.proofs.Common.{◌≡◌, ◌≢◌, ℕ, ◌+◌, ◌<◌, ◌⊎◌, inl, inr, List, [], ◌∷◌, ◌++◌, map, flat_map, length, Bool, true, false, cond, Option, refl, sym, ap, ◌∙◌, subst, codes, append_assoc, arith}
+use Rattle.std.specs.Prelude.{is_none, is_some, filter}
 use Rattle.std.specs.List.{AllByRecursion, enumerate_from}
 use Rattle.std.proofs.lemmas.Bool.{eq-eqb, ne_eqb}
 use Rattle.std.proofs.lemmas.List.{append_cancel_left}
@@ -10,7 +10,7 @@ use Rattle.kb_logic.specs.declared.structures.Table.{Table}
 use Rattle.kb_logic.specs.declared.structures.Structure.{Structure}
 use Rattle.kb_logic.specs.declared.first.FirstKb.{FirstKb}
 use Rattle.kb_logic.specs.First.{IsFirstKb, IsPlainPredicate}
-use Rattle.kb_logic.specs.Structures.{domain_at, tuples_over, tuples_of, predicates_of, functions_of, EachWith, IsRelation, IsFunction, IsStructure}
+use Rattle.kb_logic.specs.Structures.{domain_at, tuples_over, tuples_of, EachWith, IsRelation, IsFunction, IsStructure}
 use Rattle.kb_logic.specs.Meaning.{rows_of}
 use Rattle.consult_text.specs.Texts.{rows_text, truth_text, value_text, symbol_line, symbol_lines}
 use Rattle.consult_text.specs.OneText.{CanBeWritten, HasWordNames}
@@ -36,7 +36,7 @@ value_same : (types : List ℕ) (rows rows' : List (List Elem)) (r s : List ℕ)
 value_same [] rows rows' r s h k q = truth_same rows rows' r s h k q
 value_same (ty ∷ types) rows rows' r s h k q =
     let tails : rows_text rows ++ brace (line_end r) ≡ rows_text rows' ++ brace (line_end s) =
-        sym (append_assoc (rows_text rows) (codes "}") (line_end r)) ∙ (rest_same q ∙ append_assoc (rows_text rows') (codes "}") (line_end s)) in
+    sym (append_assoc (rows_text rows) (codes "}") (line_end r)) ∙ (rest_same q ∙ append_assoc (rows_text rows') (codes "}") (line_end s)) in
     let cut = rows_same rows rows' (line_end r) (line_end s) h k tails in
     (cut.0, rest_same cut.1)
 
@@ -45,16 +45,16 @@ line_same m m' x r s h k q =
     let v = value_text x.1.args (rows_of x.0 m.relations) in
     let w = value_text x.1.args (rows_of x.0 m'.relations) in
     let named = append_cancel_left x.1.name ((codes " = " ++ (v ++ codes "\n")) ++ r) ((codes " = " ++ (w ++ codes "\n")) ++ s)
-        (sym (append_assoc x.1.name (codes " = " ++ (v ++ codes "\n")) r) ∙ (q ∙ append_assoc x.1.name (codes " = " ++ (w ++ codes "\n")) s)) in
+    (sym (append_assoc x.1.name (codes " = " ++ (v ++ codes "\n")) r) ∙ (q ∙ append_assoc x.1.name (codes " = " ++ (w ++ codes "\n")) s)) in
     let tails : v ++ line_end r ≡ w ++ line_end s =
-        sym (append_assoc v (codes "\n") r) ∙ (append_cancel_left (codes " = ") ((v ++ codes "\n") ++ r) ((w ++ codes "\n") ++ s) named ∙ append_assoc w (codes "\n") s) in
+    sym (append_assoc v (codes "\n") r) ∙ (append_cancel_left (codes " = ") ((v ++ codes "\n") ++ r) ((w ++ codes "\n") ++ s) named ∙ append_assoc w (codes "\n") s) in
     value_same x.1.args (rows_of x.0 m.relations) (rows_of x.0 m'.relations) r s h k tails
 
 lines_same : (m m' : Structure) (xs : List (ℕ × Symbol)) (r s : List ℕ) → AllByRecursion (λ x. IsReadable x.1.args (rows_of x.0 m.relations)) xs → AllByRecursion (λ x. IsReadable x.1.args (rows_of x.0 m'.relations)) xs → flat_map (symbol_line m) xs ++ r ≡ flat_map (symbol_line m') xs ++ s → AllByRecursion (λ x. rows_of x.0 m.relations ≡ rows_of x.0 m'.relations) xs
 lines_same m m' [] r s h k q = tt
 lines_same m m' (x ∷ xs) r s h k q =
     let tails : symbol_line m x ++ (flat_map (symbol_line m) xs ++ r) ≡ symbol_line m' x ++ (flat_map (symbol_line m') xs ++ s) =
-        sym (append_assoc (symbol_line m x) (flat_map (symbol_line m) xs) r) ∙ (q ∙ append_assoc (symbol_line m' x) (flat_map (symbol_line m') xs) s) in
+    sym (append_assoc (symbol_line m x) (flat_map (symbol_line m) xs) r) ∙ (q ∙ append_assoc (symbol_line m' x) (flat_map (symbol_line m') xs) s) in
     let cut = line_same m m' x (flat_map (symbol_line m) xs ++ r) (flat_map (symbol_line m') xs ++ s) h.0 k.0 tails in
     (cut.0, lines_same m m' xs r s h.1 k.1 cut.1)
 
@@ -171,11 +171,12 @@ record Parts (kb : FirstKb) (m : Structure) : Type 0 where
 
 parts_of : (kb : FirstKb) (m : Structure) → IsFirstKb kb → IsStructure kb.vocab m × (m.domains ≡ kb.domains) → Parts kb m
 parts_of kb m first h = record {
-    domains = h.1;
-    relations = subst (λ (d : List (List Elem)). EachWith (IsRelation d) (enumerate_from 0 kb.vocab.symbols) m.relations) h.1
-        (subst (λ (l : List (ℕ × Symbol)). EachWith (IsRelation m.domains) l m.relations) (all_predicates (length kb.vocab.types) 0 kb.vocab.symbols first.symbols) h.0.relations);
-    functions = none_each m.domains m.functions
-        (subst (λ (l : List (ℕ × Symbol)). EachWith (IsFunction m.domains) l m.functions) (no_functions (length kb.vocab.types) 0 kb.vocab.symbols first.symbols) h.0.functions) }
+  domains = h.1;
+  relations = subst (λ (d : List (List Elem)). EachWith (IsRelation d) (enumerate_from 0 kb.vocab.symbols) m.relations) h.1
+      (subst (λ (l : List (ℕ × Symbol)). EachWith (IsRelation m.domains) l m.relations) (all_predicates (length kb.vocab.types) 0 kb.vocab.symbols first.symbols) h.0.relations);
+  functions = none_each m.domains m.functions
+      (subst (λ (l : List (ℕ × Symbol)). EachWith (IsFunction m.domains) l m.functions) (no_functions (length kb.vocab.types) 0 kb.vocab.symbols first.symbols) h.0.functions);
+}
 
 pub models_same : (kb : FirstKb) (m m' : Structure) → IsFirstKb kb → HasWordNames kb → IsStructure kb.vocab m × (m.domains ≡ kb.domains) → IsStructure kb.vocab m' × (m'.domains ≡ kb.domains) → symbol_lines kb.vocab m ++ codes "done\n" ≡ symbol_lines kb.vocab m' ++ codes "done\n" → m ≡ m'
 models_same kb m m' first names h h' q =

@@ -1,20 +1,16 @@
 -- No two replies over a knowledge base have one text.
-use Rattle.std.proofs.Common.{◌≡◌, ℕ, zero, suc, ◌+◌, ◌<◌, List, [], ◌∷◌, ◌++◌, flat_map, refl, sym, ap, ◌∙◌, subst, codes, append_assoc, arith}
-use Rattle.std.specs.List.{AllByRecursion}
+use Rattle.std.proofs.Common.{◌≡◌, ℕ, zero, suc, ◌+◌, ◌<◌, List, [], ◌∷◌, ◌++◌, flat_map, refl, sym, ap, ◌∙◌, codes, arith}
 use Rattle.std.proofs.lemmas.List.{append_cancel_left}
 use Rattle.std.proofs.lemmas.Fmt.{decimal_digit}
 use Rattle.kb_logic.specs.declared.structures.Literal.{Literal}
 use Rattle.kb_logic.specs.declared.structures.Structure.{Structure}
 use Rattle.kb_logic.specs.declared.vocabularies.Vocabulary.{Vocabulary}
-use Rattle.kb_logic.specs.declared.first.FirstKb.{FirstKb}
-use Rattle.kb_logic.specs.First.{IsFirstKb}
 use Rattle.consult_text.specs.declared.refusals.F.{F}
 use Rattle.consult_text.specs.declared.refusals.F.TheVariants as refusal
-use Rattle.consult_text.specs.declared.replies.Reply.{Reply}
 use Rattle.consult_text.specs.declared.replies.Reply.TheVariants as reply
 use Rattle.consult_text.specs.Refusals.{number_of, name_of, text_of}
-use Rattle.consult_text.specs.Texts.{choice_line, symbol_lines, reply_text}
-use Rattle.consult_text.specs.OneText.{HasWordNames, IsReplyOver, NoTwoRepliesHaveOneText}
+use Rattle.consult_text.specs.Texts.{choice_line, symbol_lines}
+use Rattle.consult_text.specs.OneText.{NoTwoRepliesHaveOneText}
 use Rattle.consult_text.proofs.RowTexts.{byte_above}
 use Rattle.consult_text.proofs.ChoiceTexts.{choices_same}
 use Rattle.consult_text.proofs.ModelTexts.{models_same}

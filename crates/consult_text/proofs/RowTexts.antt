@@ -1,5 +1,5 @@
 -- The texts of rows and tables.
-use Rattle.std.proofs.Common.{◌≡◌, ◌≢◌, ℕ, List, [], ◌∷◌, ◌++◌, flat_map, refl, sym, ap, ◌∙◌, subst, codes, append_assoc, arith, ◌<◌}
+use Rattle.std.proofs.Common.{◌≡◌, ◌≢◌, ℕ, List, [], ◌∷◌, ◌++◌, flat_map, refl, sym, ◌∙◌, codes, append_assoc, arith, ◌<◌}
 use Rattle.std.specs.List.{AllByRecursion}
 use Rattle.kb_logic.specs.declared.elements.Elem.{Elem}
 use Rattle.consult_text.specs.Texts.{elem_text, row_text, rows_text}
@@ -36,7 +36,7 @@ further_same [] (y ∷ ys) r s all all' stop stop' end end' q = absurd (end ((el
 further_same (x ∷ xs) [] r s all all' stop stop' end end' q = absurd (end' ((elem_text x ++ further_text xs) ++ r) (sym q))
 further_same (x ∷ xs) (y ∷ ys) r s all all' stop stop' end end' q =
     let tails : elem_text x ++ (further_text xs ++ r) ≡ elem_text y ++ (further_text ys ++ s) =
-        sym (append_assoc (elem_text x) (further_text xs) r) ∙ (rest_same q ∙ append_assoc (elem_text y) (further_text ys) s) in
+    sym (append_assoc (elem_text x) (further_text xs) r) ∙ (rest_same q ∙ append_assoc (elem_text y) (further_text ys) s) in
     let cut = split_same (elem_text x) (elem_text y) (further_text xs ++ r) (further_text ys ++ s) (elem_inner x all.0) (elem_inner y all'.0) (further_stopped xs r stop) (further_stopped ys s stop') tails in
     let one = elem_text_same x y all.0 all'.0 cut.0 in
     let more = further_same xs ys r s all.1 all'.1 stop stop' end end' cut.1 in
@@ -47,7 +47,7 @@ further_same (x ∷ xs) (y ∷ ys) r s all all' stop stop' end end' q =
 pub row_same : (x y : Elem) (xs ys : List Elem) (r s : List ℕ) → AllByRecursion CanBeWritten (x ∷ xs) → AllByRecursion CanBeWritten (y ∷ ys) → Stopped r → Stopped s → NoComma r → NoComma s → row_text (x ∷ xs) ++ r ≡ row_text (y ∷ ys) ++ s → (x ∷ xs ≡ y ∷ ys) × (r ≡ s)
 row_same x y xs ys r s all all' stop stop' end end' q =
     let tails : elem_text x ++ (further_text xs ++ r) ≡ elem_text y ++ (further_text ys ++ s) =
-        sym (append_assoc (elem_text x) (further_text xs) r) ∙ (q ∙ append_assoc (elem_text y) (further_text ys) s) in
+    sym (append_assoc (elem_text x) (further_text xs) r) ∙ (q ∙ append_assoc (elem_text y) (further_text ys) s) in
     let cut = split_same (elem_text x) (elem_text y) (further_text xs ++ r) (further_text ys ++ s) (elem_inner x all.0) (elem_inner y all'.0) (further_stopped xs r stop) (further_stopped ys s stop') tails in
     let one = elem_text_same x y all.0 all'.0 cut.0 in
     let more = further_same xs ys r s all.1 all'.1 stop stop' end end' cut.1 in
@@ -87,7 +87,7 @@ others_same [] (y ∷ rows') r s all all' q = absurd (byte_above 125 59 (omega a
 others_same (x ∷ rows) [] r s all all' q = absurd (byte_above 125 59 (omega arith) (sym q))
 others_same (x ∷ rows) (y ∷ rows') r s all all' q =
     let tails : row_text x ++ (others_text rows ++ brace r) ≡ row_text y ++ (others_text rows' ++ brace s) =
-        sym (append_assoc (row_text x) (others_text rows) (brace r)) ∙ (rest_same (rest_same q) ∙ append_assoc (row_text y) (others_text rows') (brace s)) in
+    sym (append_assoc (row_text x) (others_text rows) (brace r)) ∙ (rest_same (rest_same q) ∙ append_assoc (row_text y) (others_text rows') (brace s)) in
     let cut = some_row_same x y (others_text rows ++ brace r) (others_text rows' ++ brace s) all.0 all'.0 (others_stopped rows r) (others_stopped rows' s) (others_end rows r) (others_end rows' s) tails in
     let one = cut.0 in
     let more = others_same rows rows' r s all.1 all'.1 cut.1 in
@@ -111,7 +111,7 @@ rows_same [] (y ∷ rows') r s all all' q = absurd (no_row y r (others_text rows
 rows_same (x ∷ rows) [] r s all all' q = absurd (no_row x s (others_text rows ++ brace r) all.0 (others_stopped rows r) (sym q ∙ append_assoc (row_text x) (others_text rows) (brace r)))
 rows_same (x ∷ rows) (y ∷ rows') r s all all' q =
     let tails : row_text x ++ (others_text rows ++ brace r) ≡ row_text y ++ (others_text rows' ++ brace s) =
-        sym (append_assoc (row_text x) (others_text rows) (brace r)) ∙ (q ∙ append_assoc (row_text y) (others_text rows') (brace s)) in
+    sym (append_assoc (row_text x) (others_text rows) (brace r)) ∙ (q ∙ append_assoc (row_text y) (others_text rows') (brace s)) in
     let cut = some_row_same x y (others_text rows ++ brace r) (others_text rows' ++ brace s) all.0 all'.0 (others_stopped rows r) (others_stopped rows' s) (others_end rows r) (others_end rows' s) tails in
     let one = cut.0 in
     let more = others_same rows rows' r s all.1 all'.1 cut.1 in
