@@ -89,7 +89,7 @@ refusal_ends status.Usage before now file bytes k line is refused ends = absurd 
 refusal_ends status.ReadFault before now file bytes k line is refused ends = tt
 refusal_ends status.WriteFault before now file bytes k line is refused ends = tt
 refusal_ends status.Memory before now file bytes k line is refused ends = tt
-refusal_ends status.ScriptTooLong before now file bytes k line is refused ends = let taken = told (before.files file) bytes _ is ends.2 in absurd (refused_or_taken k line bytes taken.0 refused taken.1)
+refusal_ends status.ScriptTooLong before now file bytes k line is refused ends = let taken = told (before.files file) bytes _ is ends.1 in absurd (refused_or_taken k line bytes taken.0 refused taken.1)
 
 pub refusal_law : RefusalLaw
 refusal_law s words before now file bytes k line is told refused ends = refusal_ends s before now file bytes k line told refused (consulted s words before now file is ends)
@@ -116,6 +116,6 @@ length_law s words before now file bytes script kb is held taken held' long ends
 
 pub short_law : ShortLaw
 short_law words before now file bytes script is held held' short ends =
-    let taken = told (before.files file) bytes _ held (consulted status.ScriptTooLong words before now file is ends).2 in
-    let long : 67108864 < length script = told before.script script _ held' taken.2 in
-    omega (arith, long, short)
+    let taken = told (before.files file) bytes _ held (consulted status.ScriptTooLong words before now file is ends).1 in
+    let answered = told before.script script _ held' taken.2 in
+    omega (arith, answered.0, short)

@@ -3,7 +3,8 @@ use Rattle.std.specs.Prelude.{◌≡◌, ◌<◌, ◌≤◌, ℕ, List, Some, le
 use Rattle.kb_text.specs.declared.fault.K.{K}
 use Rattle.kb_logic.specs.declared.first.FirstKb.{FirstKb}
 use Rattle.idp_cli.specs.Files.{IsRefused, IsConsultable}
-use Rattle.idp_cli.specs.Top.{Words, Outside, IsConsult, IsUsage, RunEnds, most_script_bytes}
+use Rattle.idp_cli.specs.Top.{Words, Outside, IsConsult, IsUsage, RunEnds}
+use Rattle.idp_cli.specs.Answering.{most_script_bytes}
 use Rattle.idp_cli.specs.declared.status.Status.{Status}
 use Rattle.idp_cli.specs.declared.status.Status.TheVariants as status
 
