@@ -2,7 +2,7 @@
 use Rattle.std.proofs.Common.{◌≡◌, ℕ, List, sym, subst, Option, Some, None, inl, inr}
 use Rattle.kb_logic.specs.declared.first.FirstKb.{FirstKb}
 use Rattle.idp_cli.specs.Files.{IfTold, IsConsultable}
-use Rattle.idp_cli.specs.Answering.{Streams, AnswersScript, AnswersCommands, EndsBegun}
+use Rattle.idp_cli.specs.Answering.{Streams, AnswersScript, AnswersCommands, OpensAndAnswers}
 use Rattle.idp_cli.specs.Top.{Outside, ConsultationEnds, AnswersByFile}
 use Rattle.idp_cli.specs.declared.status.Status.{Status}
 use Rattle.idp_cli.specs.declared.status.Status.TheVariants as status
@@ -26,6 +26,6 @@ answered_ends status.Usage file kb before now shelf is ends = absurd ends.0
 
 -- the commands were answered, or memory was wanting before that
 pub consultation_ends : (s : Status) (file : List ℕ) (kb : FirstKb) (before now : Outside) → now.shelf_faults ≡ before.shelf_faults → IfTold (before.files file) (λ bytes. IsConsultable bytes kb)
-    → EndsBegun s kb (streams_of before) (streams_of now) → ConsultationEnds s file before now
+    → OpensAndAnswers s kb (streams_of before) (streams_of now) → ConsultationEnds s file before now
 consultation_ends s file kb before now shelf is (inl wanting) = subst (λ (t : Status). ConsultationEnds t file before now) (sym wanting.0) (inl (wanting.1, wanting.2))
 consultation_ends s file kb before now shelf is (inr ends) = answered_ends s file kb before now shelf is ends

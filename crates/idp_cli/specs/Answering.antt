@@ -66,6 +66,6 @@ AnswersScript status.Usage kb script left old new = ⊥
 abbrev pub AnswersCommands : Status → FirstKb → Streams → Streams → Type 0
 AnswersCommands s kb before now = HasReason s before now × IfTold before.script (λ script. AnswersScript s kb script now.script before.out now.out)
 
--- the same, or memory was wanting before a byte of the commands was taken
-abbrev pub EndsBegun : Status → FirstKb → Streams → Streams → Type 0
-EndsBegun s kb before now = ((s ≡ status.Memory) × (now.script ≡ before.script) × (now.out ≡ before.out)) ⊎ AnswersCommands s kb before now
+-- a session is opened and answers the commands, or memory is wanting before a byte of them is taken
+abbrev pub OpensAndAnswers : Status → FirstKb → Streams → Streams → Type 0
+OpensAndAnswers s kb before now = ((s ≡ status.Memory) × (now.script ≡ before.script) × (now.out ≡ before.out)) ⊎ AnswersCommands s kb before now

@@ -6,7 +6,7 @@ ghost use Rattle.kb_io.specs.Outside.{HasCause, GrewByName, KeptNumber};
 ghost use Rattle.kb_io.specs.Whole.{AppendsFront};
 ghost use Rattle.idp_cli.specs.Files.{refusal_text};
 ghost use Rattle.idp_cli.specs.Top.{IsConsult, IsUsage, is_option, RunEnds, ConsultationEnds, AsksForFile, Outside};
-ghost use Rattle.idp_cli.specs.Answering.{EndsBegun};
+ghost use Rattle.idp_cli.specs.Answering.{OpensAndAnswers};
 ghost use Rattle.idp_cli.specs.Printing.{PrintsRefusal};
 ghost use Rattle.consultant_session.specs.Replies.{IsSmallFirstKb};
 
@@ -67,7 +67,7 @@ fn answer_commands<C: Source, W: Sink>(
     out: &mut W,
 ) -> Status
     requires { IsSmallFirstKb kb }
-    ensures { EndsBegun result kb
+    ensures { OpensAndAnswers result kb
         (record { script = C.left commands.old; out = W.holds out.old; script_faults = C.faults commands.old; out_faults = W.faults out.old })
         (record { script = C.left commands.new; out = W.holds out.new; script_faults = C.faults commands.new; out_faults = W.faults out.new }) }
 {
