@@ -1,13 +1,15 @@
 -- What a command line means.
-use Rattle.std.specs.Prelude.{◌≡◌, ◌≢◌, ℕ, List, [], ◌∷◌, length, map, Bool, true, slice_range, Contains, Option, Some, None, Result, Ok, Err, ⊤}
+use Rattle.std.specs.Prelude.{◌≡◌, ◌≢◌, ℕ, List, [], ◌∷◌, length, map, Bool, ◌&&◌, true, slice_range, Contains, Option, Some, None, Result, Ok, Err, ⊤}
 use Rattle.kb_logic.specs.declared.vocabularies.Symbol.{Symbol}
 use Rattle.kb_logic.specs.declared.structures.Literal.{Literal}
 use Rattle.kb_logic.specs.declared.first.FirstKb.{FirstKb}
 use Rattle.kb_text.specs.Bytes.{only_spaces}
 use Rattle.kb_text.specs.Depth.{outermost}
+use Rattle.kb_text.specs.declared.token.Kind.{Kind}
+use Rattle.kb_text.specs.declared.token.Kind.TheVariants.{Word, Int, Sign, Procedure}
 use Rattle.kb_text.specs.Tokens.{Lexeme, TokensFrom}
 use Rattle.consult_text.specs.Written as written
-use Rattle.consult_text.specs.Written.{Tok, WrittenLiteral, WrittenCommand, put_command, IsNamedWell}
+use Rattle.consult_text.specs.Written.{Tok, word, digits, sign, procedure, WrittenLiteral, WrittenCommand, put_command, IsNamedWell}
 use Rattle.consult_text.specs.Literals.{IsLiteralOver, IsFirstNamed, HasFormOf, literal_of, name_of}
 use Rattle.consult_text.specs.declared.commands.Command.{Command}
 use Rattle.consult_text.specs.declared.commands.Command.TheVariants as command
@@ -16,19 +18,25 @@ use Rattle.consult_text.specs.declared.lines.CommandError.TheVariants as errors
 use Rattle.consult_text.specs.declared.refusals.F.{F}
 use Rattle.consult_text.specs.declared.refusals.F.TheVariants as refusal
 
+abbrev pub tok : Kind → List ℕ → Tok
+tok Word text = word text
+tok Int text = digits text
+tok Sign text = sign text
+tok Procedure text = procedure
+
 abbrev pub tok_of : Lexeme → Tok
-tok_of l = record { kind = l.kind; text = l.text }
+tok_of l = tok l.kind l.text
 
 -- only spaces stand before, between and behind the tokens, where the first may begin at this place
-abbrev pub HaveSpacesAlone : ℕ → List ℕ → List Lexeme → Type 0
-HaveSpacesAlone from line [] = only_spaces (slice_range line from (length line)) ≡ true
-HaveSpacesAlone from line (l ∷ ls) = (only_spaces (slice_range line from l.start) ≡ true) × HaveSpacesAlone l.stop line ls
+abbrev pub has_spaces_alone : ℕ → List ℕ → List Lexeme → Bool
+has_spaces_alone from line [] = only_spaces (slice_range line from (length line))
+has_spaces_alone from line (l ∷ ls) = only_spaces (slice_range line from l.start) && has_spaces_alone l.stop line ls
 
 -- the line has this command, and no comment
 pub record IsWritten (line : List ℕ) (w : WrittenCommand) : Type 0 where
   pub lexemes : List Lexeme
   pub tokens : TokensFrom outermost 0 line (Ok lexemes)
-  pub spaces : HaveSpacesAlone 0 line lexemes
+  pub spaces : has_spaces_alone 0 line lexemes ≡ true
   pub spelled : map tok_of lexemes ≡ put_command w
   pub named : IsNamedWell w
 

@@ -1,23 +1,14 @@
 -- Command lines as they are written, and the tokens that spell them.
 use Rattle.std.specs.Prelude.{◌≡◌, ℕ, List, [], ◌∷◌, ◌++◌, Bool, true, false, codes, ⊤}
 use Rattle.std.specs.List.{AllByRecursion}
-use Rattle.kb_text.specs.declared.token.Kind.{Kind}
-use Rattle.kb_text.specs.declared.token.Kind.TheVariants as kind
 use Rattle.kb_text.specs.Tokens.{is_word_of}
 
 -- a token, without its place
-pub record Tok : Type 0 where
-  pub kind : Kind
-  pub text : List ℕ
-
-abbrev pub word : List ℕ → Tok
-word text = record { kind = kind.Word; text = text }
-
-abbrev pub digits : List ℕ → Tok
-digits text = record { kind = kind.Int; text = text }
-
-abbrev pub sign : List ℕ → Tok
-sign text = record { kind = kind.Sign; text = text }
+pub data Tok : Type 0 where
+  word : (text : List ℕ) → Tok
+  digits : (text : List ℕ) → Tok
+  sign : (text : List ℕ) → Tok
+  procedure : Tok
 
 -- an element as it is written: a name, or digits with or without a minus
 pub data WrittenElem : Type 0 where

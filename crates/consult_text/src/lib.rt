@@ -4,10 +4,13 @@
 #![tactic(auto)]
 
 mod commands;
+mod cuts;
 mod lines;
+mod lookup;
 mod refusals;
 mod replies;
 mod texts;
+mod written;
 
 pub use commands::Command;
 pub use lines::{CommandError, read_command};

@@ -6,6 +6,7 @@ use Rattle.std.proofs.lemmas.List.{take_at, length-map}
 use Rattle.kb_logic.specs.declared.elements.Elem.{Elem}
 use Rattle.kb_logic.specs.declared.syntax.Formula.{Formula}
 use Rattle.kb_logic.specs.declared.syntax.Definition.{Definition}
+use Rattle.kb_logic.specs.declared.structures.Literal.{Literal}
 use Rattle.kb_logic.specs.declared.structures.Table.{Table}
 use Rattle.kb_logic.specs.declared.structures.Structure.{Structure}
 use Rattle.kb_logic.specs.declared.first.FirstKb.{FirstKb}
@@ -17,9 +18,11 @@ use Rattle.kb_logic.specs.First.{IsFirstKb, ModelOfFirst}
 use Rattle.consultant_session.specs.declared.atoms.Atom.{Atom}
 use Rattle.consultant_session.specs.Filling.{with_row, without_row, with_tables, Completes, Slot, begun_table, atom_at, atoms_from, IsFilled}
 use Rattle.consultant_session.specs.Begun.{slots_of}
-use Rattle.consultant_session.specs.Completion.{accepts, ArePlaced}
+use Rattle.consultant_session.specs.Completion.{accepts, holds, ArePlaced}
+use Rattle.consultant_session.specs.Replies.{ModelOfState}
 use Rattle.consultant_session.proofs.ApartLemmas.{all_append, all_map, all_always}
 use Rattle.consultant_session.proofs.FillingLemmas.{completes_filled, filled_completes}
+use Rattle.consultant_session.proofs.LiteralLemmas.{choices_hold}
 use Rattle.consultant_session.proofs.BegunLemmas.{model_fills, filled_structure, filled_agrees, no_function_tables}
 
 with_row_is : (tables : List Table) (place : ℕ) (row : List Elem) (t : Table) → place < length tables → t ≡ get_or tables place t
@@ -78,17 +81,17 @@ pub rows_popped : (popped items rows : List (List Elem)) (n : ℕ) → popped �
 rows_popped popped items rows n is long same =
     is ∙ (ap (λ (k : ℕ). take (k - 1) items) long ∙ ap (λ (l : List (List Elem)). take (length l - 1) l) same)
 
--- where no completion with the atom makes the sentences true, it is taken out again
-pub settled_without : (kb : FirstKb) (others : List Atom) (m added after removed : Structure) (place : ℕ) (row copied : List Elem) → copied ≡ row
+-- where no completion with the atom makes the choices and the sentences true, it is taken out again
+pub settled_without : (kb : FirstKb) (choices : List Literal) (others : List Atom) (m added after removed : Structure) (place : ℕ) (row copied : List Elem) → copied ≡ row
     → added ≡ with_tables m (with_row m.relations place copied)
-    → (after ≡ added) × ((tables : List Table) → Completes added.relations others tables → accepts kb (with_tables added tables) ≡ false)
+    → (after ≡ added) × ((tables : List Table) → Completes added.relations others tables → accepts kb choices (with_tables added tables) ≡ false)
     → removed ≡ with_tables after (without_row after.relations place)
-    → (removed ≡ m) × ((tables : List Table) → Completes (with_row m.relations place row) others tables → accepts kb (with_tables m tables) ≡ false)
-settled_without kb others m added after removed place row copied same added_is none removed_is =
+    → (removed ≡ m) × ((tables : List Table) → Completes (with_row m.relations place row) others tables → accepts kb choices (with_tables m tables) ≡ false)
+settled_without kb choices others m added after removed place row copied same added_is none removed_is =
     let relations : added.relations ≡ with_row m.relations place row = ap (λ (s : Structure). s.relations) added_is ∙ ap (λ (r : List Elem). with_row m.relations place r) same in (
       removed_is ∙ (ap (λ (s : Structure). with_tables s (without_row s.relations place)) (none.0 ∙ added_is) ∙ ap (with_tables m) (without_with m.relations place copied)),
       (λ tables completes.
-          ap (λ (s : Structure). accepts kb (with_tables s tables)) (sym added_is)
+          ap (λ (s : Structure). accepts kb choices (with_tables s tables)) (sym added_is)
           ∙ none.1 tables (subst (λ (l : List Table). Completes l others tables) (sym relations) completes)),
     )
 
@@ -116,11 +119,11 @@ true_all : (m : Structure) (sentences : List Formula) → AllByRecursion (λ f. 
 true_all m [] all = refl
 true_all m (f ∷ sentences) all = and_from (truth_of m (formula_view f) []) (list_all (λ g. truth_of m (formula_view g) []) sentences) all.0 (true_all m sentences all.1)
 
--- what completes the tables and makes the sentences true is a model
-pub completion_is_model : (kb : FirstKb) (begun after : Structure) (atoms : List Atom) → IsFirstKb kb → begun.domains ≡ kb.domains → begun.functions ≡ []
+-- what completes the tables and makes the choices and the sentences true is a model with these choices
+pub completion_is_model : (kb : FirstKb) (choices : List Literal) (begun after : Structure) (atoms : List Atom) → IsFirstKb kb → begun.domains ≡ kb.domains → begun.functions ≡ []
     → begun.relations ≡ map begun_table (slots_of kb) → atoms ≡ atoms_from 0 (slots_of kb)
-    → Completes begun.relations atoms after.relations → after ≡ with_tables begun after.relations → accepts kb after ≡ true → ModelOfFirst kb after
-completion_is_model kb begun after atoms first same_domains no_tables tables_are atoms_are completes changed accepted =
+    → Completes begun.relations atoms after.relations → after ≡ with_tables begun after.relations → accepts kb choices after ≡ true → ModelOfState kb (record { choices = choices }) after
+completion_is_model kb choices begun after atoms first same_domains no_tables tables_are atoms_are completes changed accepted =
     let from_start : Completes (map begun_table (slots_of kb)) (atoms_from 0 (slots_of kb)) after.relations =
     subst (λ (l : List Atom). Completes (map begun_table (slots_of kb)) l after.relations) atoms_are
     (subst (λ (l : List Table). Completes l atoms after.relations) tables_are completes) in
@@ -128,21 +131,24 @@ completion_is_model kb begun after atoms first same_domains no_tables tables_are
     let filled : EachWith IsFilled (slots_of kb) after.relations = subst (λ (l : List Table). EachWith IsFilled (slots_of kb) l) (sym reached.1) reached.2 in
     let domains : after.domains ≡ kb.domains = ap (λ (s : Structure). s.domains) changed ∙ same_domains in
     let functions : after.functions ≡ [] = ap (λ (s : Structure). s.functions) changed ∙ no_tables in
-    record {
+    let parts = and_parts (list_all (holds after) choices) (list_all (λ f. truth_of after (formula_view f) []) kb.theory.sentences) accepted in
+    let model : ModelOfFirst kb after = record {
       structure = filled_structure kb after first domains functions filled;
       domains = domains;
       given = filled_agrees kb after first filled;
       theory = record {
-        sentences = all_true after kb.theory.sentences accepted;
+        sentences = all_true after kb.theory.sentences parts.1;
         definitions = subst (λ (l : List Definition). AllByRecursion (ModelOfDefinition kb.vocab after) (map definition_view l)) (sym first.definitions) tt;
       };
-    }
+    } in
+    record { model = model; choices = (choices_hold after choices).0 parts.0 }
 
--- if no completion makes the sentences true, there is no model
-pub no_completion_no_model : (kb : FirstKb) (begun : Structure) (atoms : List Atom) → IsFirstKb kb → begun.domains ≡ kb.domains → begun.functions ≡ []
+-- if no completion makes them true, there is no such model
+pub no_completion_no_model : (kb : FirstKb) (choices : List Literal) (begun : Structure) (atoms : List Atom) → IsFirstKb kb → begun.domains ≡ kb.domains → begun.functions ≡ []
     → begun.relations ≡ map begun_table (slots_of kb) → atoms ≡ atoms_from 0 (slots_of kb)
-    → ((tables : List Table) → Completes begun.relations atoms tables → accepts kb (with_tables begun tables) ≡ false) → (m : Structure) → ModelOfFirst kb m → ⊥
-no_completion_no_model kb begun atoms first same_domains no_tables tables_are atoms_are none m model =
+    → ((tables : List Table) → Completes begun.relations atoms tables → accepts kb choices (with_tables begun tables) ≡ false) → (m : Structure) → ModelOfState kb (record { choices = choices }) m → ⊥
+no_completion_no_model kb choices begun atoms first same_domains no_tables tables_are atoms_are none m is =
+    let model : ModelOfFirst kb m = is.model in
     let completes : Completes (map begun_table (slots_of kb)) (atoms_from 0 (slots_of kb)) m.relations =
     completes_filled [] (slots_of kb) m.relations (model_fills kb m first model.structure model.domains model.given) in
     let from_begun : Completes begun.relations atoms m.relations =
@@ -150,7 +156,9 @@ no_completion_no_model kb begun atoms first same_domains no_tables tables_are at
     (subst (λ (l : List Atom). Completes (map begun_table (slots_of kb)) l m.relations) (sym atoms_are) completes) in
     let same : with_tables begun m.relations ≡ m =
     structure_is m begun.domains begun.functions (same_domains ∙ sym model.domains) (no_tables ∙ sym (no_function_tables kb m first model.structure)) in
-    false≢true (sym (none m.relations from_begun) ∙ (ap (accepts kb) same ∙ true_all m kb.theory.sentences model.theory.sentences))
+    false≢true (sym (none m.relations from_begun) ∙ (ap (accepts kb choices) same
+    ∙ and_from (list_all (holds m) choices) (list_all (λ f. truth_of m (formula_view f) []) kb.theory.sentences)
+    ((choices_hold m choices).1 is.choices) (true_all m kb.theory.sentences model.theory.sentences)))
   where
     structure_is : (m : Structure) (domains : List (List Elem)) (functions : List Table) → domains ≡ m.domains → functions ≡ m.functions
         → record { domains = domains; relations = m.relations; functions = functions } ≡ m

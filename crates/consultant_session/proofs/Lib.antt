@@ -9,3 +9,5 @@ pub mod SortLemmas
 pub mod FitsLemmas
 pub mod CompletionLemmas
 pub mod SampleLemmas
+pub mod LiteralLemmas
+pub mod ChoiceLemmas

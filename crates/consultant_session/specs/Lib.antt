@@ -6,3 +6,4 @@ pub mod Replies
 pub mod States
 pub mod Sessions
 pub mod Samples
+pub mod Laws

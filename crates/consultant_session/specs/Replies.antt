@@ -1,5 +1,5 @@
 -- Which reply to a command is right.
-use Rattle.std.specs.Prelude.{◌≡◌, ◌≤◌, ◌^◌, ◌++◌, List, [], ◌∷◌, length, Contains, Bool, true, false, Option, Some, None, ⊤}
+use Rattle.std.specs.Prelude.{◌≡◌, ◌≤◌, ◌^◌, ◌++◌, [], ◌∷◌, length, Contains, Bool, true, false, Option, Some, None, ⊤}
 use Rattle.std.specs.List.{AllByRecursion}
 use Rattle.kb_logic.specs.declared.elements.Elem.{Elem}
 use Rattle.kb_logic.specs.declared.structures.Structure.{Structure}
@@ -49,6 +49,12 @@ RightUnless None kb s c r = RightAnswer kb s c r
 -- the reply to a command in a state: its refusal where it is refused, and else what it asks
 abbrev pub RightReply : FirstKb → State → Command → Reply → Type 0
 RightReply kb s c r = RightUnless (command_refusal kb s c) kb s c r
+
+-- the command may stay without a reply for want of memory
+abbrev pub TakesMemory : Command → Type 0
+TakesMemory (command.Retract l) = ⊥
+TakesMemory command.Reset = ⊥
+TakesMemory _ = ⊤
 
 -- a knowledge base that a session can be opened on: its symbols have numbers of 32 bits, and at most twenty atoms are unknown
 pub record IsSmallFirstKb (kb : FirstKb) : Type 0 where

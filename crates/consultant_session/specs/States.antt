@@ -1,5 +1,5 @@
 -- The state of a session: the choices, and what each command does to them.
-use Rattle.std.specs.Prelude.{ℕ, List, [], ◌∷◌, ◌++◌, Bool, true, false, ◌&&◌, ◌==◌, not, filter, if◌then◌else◌, Option, Some, None}
+use Rattle.std.specs.Prelude.{List, [], ◌∷◌, ◌++◌, Bool, true, false, ◌&&◌, ◌==◌, not, filter, Option, Some, None}
 use Rattle.std.specs.List.{list_any}
 use Rattle.kb_logic.specs.declared.elements.Elem.{Elem}
 use Rattle.kb_logic.specs.declared.structures.Literal.{Literal}
@@ -37,14 +37,19 @@ same_literal a b = (same_sign a.positive b.positive && (a.symbol == b.symbol)) &
 abbrev pub is_chosen : State → Literal → Bool
 is_chosen s l = list_any (same_literal l) s.choices
 
-abbrev pub refusal_unless : Bool → F → Option F
-refusal_unless true f = None
-refusal_unless false f = Some f
+-- the literal's atom is known in the data, which give its predicate
+abbrev pub is_known : FirstKb → Literal → Bool
+is_known kb l = is_given kb.given l.symbol
 
--- why a command is refused, if it is: a literal that the data decide, or that is a choice already, is not asserted, and one that is no choice is not retracted
+-- this refusal where its cause holds, and else the next one
+abbrev pub refused_where : Bool → F → Option F → Option F
+refused_where true f next = Some f
+refused_where false f next = next
+
+-- why a command is refused, if it is: a literal whose atom is known in the data, and then one that is a choice already, is not asserted, and one that is no choice is not retracted
 abbrev pub command_refusal : FirstKb → State → Command → Option F
-command_refusal kb s (command.Assert l) = if is_given kb.given l.symbol then Some refusal.GivenByData else refusal_unless (not (is_chosen s l)) refusal.AlreadyChosen
-command_refusal kb s (command.Retract l) = refusal_unless (is_chosen s l) refusal.NotChosen
+command_refusal kb s (command.Assert l) = refused_where (is_known kb l) refusal.GivenByData (refused_where (is_chosen s l) refusal.AlreadyChosen None)
+command_refusal kb s (command.Retract l) = refused_where (not (is_chosen s l)) refusal.NotChosen None
 command_refusal kb s command.Reset = None
 command_refusal kb s command.Choices = None
 command_refusal kb s command.Model = None

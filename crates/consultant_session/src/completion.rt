@@ -5,23 +5,29 @@ ghost use Rattle.kb_logic.specs.declared.structures.Structure.{Structure};
 ghost use Rattle.kb_logic.specs.Views.{formula_view};
 ghost use Rattle.kb_logic.specs.Meaning.{truth_of};
 ghost use Rattle.kb_logic.specs.Arithmetic.{ArithmeticFits};
-ghost use Rattle.kb_logic.specs.First.{IsFirstKb, ModelOfFirst};
+ghost use Rattle.kb_logic.specs.First.{IsFirstKb};
 ghost use Rattle.consultant_session.specs.Filling.{with_row, without_row, with_tables};
-ghost use Rattle.consultant_session.specs.Completion.{accepts, ArePlaced, Settles};
+ghost use Rattle.consultant_session.specs.Replies.{ModelOfState};
+ghost use Rattle.consultant_session.specs.Completion.{accepts, holds, ArePlaced, Settles};
 
 use crate::atoms::Atom;
 use crate::begun::begin;
+use crate::literals::is_true_in;
 use kb_logic::first::FirstKb;
 use kb_logic::laws::no_arithmetic_fits;
-use kb_logic::{ElemList, Formula, Memory, RowList, Structure, TableList, truth};
+use kb_logic::{ElemList, Formula, Literal, Memory, RowList, Structure, TableList, truth};
 use std::alloc::Global;
 use std::mem;
 
-/// A model, where there is one.
-pub(crate) fn find_model(alloc: Global, kb: &FirstKb) -> Result<Option<Structure>, Memory>
+/// A model that makes every choice true, where there is one.
+pub(crate) fn find_model(
+    alloc: Global,
+    kb: &FirstKb,
+    choices: &[Literal],
+) -> Result<Option<Structure>, Memory>
     requires first { IsFirstKb kb.now }
     requires numbered { length kb.now.vocab.symbols ≤ 2 ^ 32 }
-    ensures { IfOk result (λ found. MatchOption found ((m : Structure) → ModelOfFirst kb.now m → ⊥) (λ m. ModelOfFirst kb.now m)) }
+    ensures { IfOk result (λ found. MatchOption found ((m : Structure) → ModelOfState kb.now (record { choices = choices.now }) m → ⊥) (λ m. ModelOfState kb.now (record { choices = choices.now }) m)) }
 {
     let (tables, atoms) = begin(alloc, kb)?;
     let mut m = Structure {
@@ -29,27 +35,33 @@ pub(crate) fn find_model(alloc: Global, kb: &FirstKb) -> Result<Option<Structure
         relations: TableList::from_vec(tables),
         functions: TableList::new(alloc),
     };
-    if complete(alloc, kb, &atoms, &mut m)? {
+    if complete(alloc, kb, choices, &atoms, &mut m)? {
         Ok(Some(m))
     } else {
         Ok(None)
     }
 }
 
-/// Whether the structure, with some of the atoms added, is a model. If so, it is left so.
+/// Whether the structure, with some of the atoms added, is a model with these choices. If so, it is left so.
 #[cycle(backtracking)]
-fn complete(alloc: Global, kb: &FirstKb, atoms: &[Atom], m: &mut Structure) -> Result<bool, Memory>
+fn complete(
+    alloc: Global,
+    kb: &FirstKb,
+    choices: &[Literal],
+    atoms: &[Atom],
+    m: &mut Structure,
+) -> Result<bool, Memory>
     requires first { IsFirstKb kb.now }
     requires places { ArePlaced m.old atoms.now }
-    ensures { Settles kb.now m.old.relations atoms.now m.old m.new result }
+    ensures { Settles kb.now choices.now m.old.relations atoms.now m.old m.new result }
 {
     match atoms.split_first() {
-        None => Ok(is_accepted(m, kb)),
+        None => Ok(is_accepted(m, kb, choices)),
         Some((atom, others)) => {
-            if complete(alloc, kb, others, m)? {
+            if complete(alloc, kb, choices, others, m)? {
                 return Ok(true);
             }
-            complete_with(alloc, kb, atom, others, m)
+            complete_with(alloc, kb, choices, atom, others, m)
         }
     }
 }
@@ -59,6 +71,7 @@ fn complete(alloc: Global, kb: &FirstKb, atoms: &[Atom], m: &mut Structure) -> R
 fn complete_with(
     alloc: Global,
     kb: &FirstKb,
+    choices: &[Literal],
     atom: &Atom,
     others: &[Atom],
     m: &mut Structure,
@@ -66,10 +79,10 @@ fn complete_with(
     requires first { IsFirstKb kb.now }
     requires place { atom.now.table < length m.old.relations }
     requires places { ArePlaced m.old others.now }
-    ensures { Settles kb.now (with_row m.old.relations atom.now.table atom.now.row) others.now m.old m.new result }
+    ensures { Settles kb.now choices.now (with_row m.old.relations atom.now.table atom.now.row) others.now m.old m.new result }
 {
     add_row(alloc, m, atom.table, atom.row.copy(alloc)?)?;
-    if complete(alloc, kb, others, m)? {
+    if complete(alloc, kb, choices, others, m)? {
         return Ok(true);
     }
     remove_row(alloc, m, atom.table);
@@ -100,13 +113,22 @@ fn remove_row(alloc: Global, m: &mut Structure, place: usize)
     m.relations = TableList::from_vec(tables);
 }
 
-/// Whether each sentence is true.
-fn is_accepted(m: &Structure, kb: &FirstKb) -> bool
+/// Whether each choice and each sentence is true. The choices come first, since they are tested faster.
+fn is_accepted(m: &Structure, kb: &FirstKb, choices: &[Literal]) -> bool
     requires { IsFirstKb kb.now }
-    ensures { result ≡ accepts kb.now m.now }
+    ensures { result ≡ accepts kb.now choices.now m.now }
 {
+    if !hold(m, choices) {
+        return false;
+    }
     no_arithmetic_fits();
     are_true(m, kb.theory.sentences.as_slice())
+}
+
+fn hold(m: &Structure, choices: &[Literal]) -> bool
+    ensures { result ≡ list_all (holds m.now) choices.now }
+{
+    choices.iter().all(|choice| is_true_in(m, choice))
 }
 
 fn are_true(m: &Structure, sentences: &[Formula]) -> bool

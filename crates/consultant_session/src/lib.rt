@@ -5,11 +5,12 @@ mod atoms;
 mod begun;
 mod completion;
 mod elements;
+pub mod laws;
+mod literals;
 mod rows;
 mod session;
 #[cfg(test)]
 mod tests;
 mod tuples;
-
 
 pub use session::Session;

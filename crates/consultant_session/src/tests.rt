@@ -5,14 +5,17 @@ ghost use Rattle.kb_logic.specs.declared.elements.Elem.TheVariants.{Named};
 ghost use Rattle.kb_logic.specs.Trees.{atom, more_terms, no_terms, variable, negation};
 ghost use Rattle.kb_logic.specs.Views.{formula_view};
 ghost use Rattle.kb_logic.specs.First.{AreApart, IsFirstKb};
+ghost use Rattle.consultant_session.specs.Replies.{IsSmallFirstKb};
+ghost use Rattle.consultant_session.specs.Sessions.{kb_of};
 ghost use Rattle.consultant_session.specs.Samples.{IsForEach, IsOnePlainType, AreTwoPredicates, AreCoverSentences, IsRowOfA, two_atoms, one_of_two};
 
-use crate::{Command, Reply, Session};
+use crate::Session;
+use consult_text::{Command, F, Reply};
 use kb_logic::first::{FirstKb, open_atoms};
 use kb_logic::{
-    Bound, DefinitionList, DomainList, Elem, ElemList, Formula, FormulaList, Memory, Name,
-    NameList, NumberList, Parent, RowList, Structure, Symbol, SymbolList, Table, TableList, Term,
-    Theory, TypeDecl, TypeList, Vocabulary,
+    Bound, DefinitionList, DomainList, Elem, ElemList, Formula, FormulaList, Literal, LiteralList,
+    Memory, Name, NameList, NumberList, Parent, RowList, Structure, Symbol, SymbolList, Table,
+    TableList, Term, Theory, TypeDecl, TypeList, Vocabulary,
 };
 use std::alloc::Global;
 use std::test::Fail;
@@ -156,7 +159,7 @@ fn is_model_with(reply: &Reply, p: &[u8], q: &[u8]) -> bool {
             [first, second] => is_only(first, p) && is_only(second, q),
             _ => false,
         },
-        Reply::Inconsistent => false,
+        _ => false,
     }
 }
 
@@ -184,5 +187,191 @@ fn nothing_covers_two_where_both_have_a(rt: HostRuntime) -> Result<(), Fail> {
     let mut session = Session::open(alloc, kb)?;
     let reply = session.step(&Command::Model)?;
     assert!(rt; matches!(reply, Reply::Inconsistent));
+    Ok(())
+}
+
+/// A session over the cover of two, with some of P and Q given. It fails as for want of memory if the counting of
+/// atoms were wrong.
+fn cover_session(alloc: Global, given: TableList) -> Result<Session, Memory>
+    requires rows { AllByRecursion IsRowOfA given }
+    requires apart { AreApart given }
+    ensures { IfOk result (λ session. IsSmallFirstKb (kb_of session)) }
+{
+    let kb = cover_of_two(alloc, given)?;
+    if open_atoms(&kb) > 20 {
+        return Err(Memory);
+    }
+    Session::open(alloc, kb)
+}
+
+fn session_with_a_in_p(alloc: Global) -> Result<Session, Memory>
+    ensures { IfOk result (λ session. IsSmallFirstKb (kb_of session)) }
+{
+    let given = TableList::from_vec(vec![in alloc; only_a(alloc, 0)?]?);
+    cover_session(alloc, given)
+}
+
+/// An atom of P or Q, or its negation.
+fn literal(alloc: Global, positive: bool, symbol: u32, text: &[u8]) -> Result<Literal, Memory> {
+    Ok(Literal {
+        positive,
+        symbol,
+        args: ElemList::from_vec(vec![in alloc; elem(alloc, text)?]?),
+        value: None,
+    })
+}
+
+/// Whether the command is carried out.
+fn accepts(session: &mut Session, command: Command) -> Result<bool, Memory>
+    requires { IsSmallFirstKb (kb_of session.old) }
+    ensures { IsSmallFirstKb (kb_of session.new) }
+{
+    let reply = session.step(&command)?;
+    Ok(matches!(reply, Reply::Fine))
+}
+
+/// Whether the command is refused for this cause.
+fn refuses(session: &mut Session, command: Command, cause: F) -> Result<bool, Memory>
+    requires { IsSmallFirstKb (kb_of session.old) }
+    ensures { IsSmallFirstKb (kb_of session.new) }
+{
+    match session.step(&command)? {
+        Reply::Refused(why) => Ok(why == cause),
+        _ => Ok(false),
+    }
+}
+
+fn asserts(session: &mut Session, literal: Literal) -> Result<bool, Memory>
+    requires { IsSmallFirstKb (kb_of session.old) }
+    ensures { IsSmallFirstKb (kb_of session.new) }
+{
+    accepts(session, Command::Assert(literal))
+}
+
+fn is_inconsistent(session: &mut Session) -> Result<bool, Memory>
+    requires { IsSmallFirstKb (kb_of session.old) }
+    ensures { IsSmallFirstKb (kb_of session.new) }
+{
+    let reply = session.step(&Command::Model)?;
+    Ok(matches!(reply, Reply::Inconsistent))
+}
+
+fn has_model_with(session: &mut Session, p: &[u8], q: &[u8]) -> Result<bool, Memory>
+    requires { IsSmallFirstKb (kb_of session.old) }
+    ensures { IsSmallFirstKb (kb_of session.new) }
+{
+    let reply = session.step(&Command::Model)?;
+    Ok(is_model_with(&reply, p, q))
+}
+
+fn is_literal(literal: &Literal, positive: bool, symbol: u32, text: &[u8]) -> bool {
+    if literal.positive != positive || literal.symbol != symbol {
+        return false;
+    }
+    match literal.args.as_slice() {
+        [Elem::Named(name)] => name.text() == text,
+        _ => false,
+    }
+}
+
+/// `Q(a)` is asserted, and then retracted.
+fn frees_the_model(alloc: Global, session: &mut Session) -> Result<bool, Memory>
+    requires { IsSmallFirstKb (kb_of session.old) }
+{
+    if !asserts(session, literal(alloc, true, 1, b"a")?)? || !is_inconsistent(session)? {
+        return Ok(false);
+    }
+    let retracts = accepts(session, Command::Retract(literal(alloc, true, 1, b"a")?))?;
+    if !retracts || !session.choices().is_empty() {
+        return Ok(false);
+    }
+    has_model_with(session, b"a", b"b")
+}
+
+#[test]
+fn retracted_choice_frees_the_model(rt: HostRuntime) -> Result<(), Fail> {
+    let alloc = rt.alloc();
+    let mut session = session_with_a_in_p(alloc)?;
+    assert!(rt; frees_the_model(alloc, &mut session)?);
+    Ok(())
+}
+
+/// `Q(b)` and `~Q(b)` are asserted, and then all is taken back.
+fn clashes_until_reset(alloc: Global, session: &mut Session) -> Result<bool, Memory>
+    requires { IsSmallFirstKb (kb_of session.old) }
+{
+    let first = asserts(session, literal(alloc, true, 1, b"b")?)?;
+    let second = asserts(session, literal(alloc, false, 1, b"b")?)?;
+    if !first || !second || !is_inconsistent(session)? {
+        return Ok(false);
+    }
+    let resets = accepts(session, Command::Reset)?;
+    Ok(resets && has_model_with(session, b"a", b"b")?)
+}
+
+#[test]
+fn opposite_choices_are_inconsistent(rt: HostRuntime) -> Result<(), Fail> {
+    let alloc = rt.alloc();
+    let mut session = session_with_a_in_p(alloc)?;
+    assert!(rt; clashes_until_reset(alloc, &mut session)?);
+    Ok(())
+}
+
+/// `~P(a)` and `P(b)` are asserted.
+fn selects_the_model(alloc: Global, session: &mut Session) -> Result<bool, Memory>
+    requires { IsSmallFirstKb (kb_of session.old) }
+{
+    let first = asserts(session, literal(alloc, false, 0, b"a")?)?;
+    let second = asserts(session, literal(alloc, true, 0, b"b")?)?;
+    Ok(first && second && has_model_with(session, b"b", b"a")?)
+}
+
+#[test]
+fn choices_select_the_model(rt: HostRuntime) -> Result<(), Fail> {
+    let alloc = rt.alloc();
+    let mut session = cover_session(alloc, TableList::new(alloc))?;
+    assert!(rt; selects_the_model(alloc, &mut session)?);
+    Ok(())
+}
+
+/// `Q(b)` is asserted twice, `Q(a)` retracted and `P(a)` asserted.
+fn refuses_three(alloc: Global, session: &mut Session) -> Result<bool, Memory>
+    requires { IsSmallFirstKb (kb_of session.old) }
+    ensures { IsSmallFirstKb (kb_of session.new) }
+{
+    let first = asserts(session, literal(alloc, true, 1, b"b")?)?;
+    let again = Command::Assert(literal(alloc, true, 1, b"b")?);
+    let other = Command::Retract(literal(alloc, true, 1, b"a")?);
+    let given = Command::Assert(literal(alloc, true, 0, b"a")?);
+    let chosen = refuses(session, again, F::AlreadyChosen)?;
+    let absent = refuses(session, other, F::NotChosen)?;
+    let known = refuses(session, given, F::GivenByData)?;
+    Ok(first && chosen && absent && known)
+}
+
+/// Whether the session replies this literal as its only choice.
+fn has_one_choice(
+    session: &mut Session,
+    positive: bool,
+    symbol: u32,
+    text: &[u8],
+) -> Result<bool, Memory>
+    requires { IsSmallFirstKb (kb_of session.old) }
+{
+    match session.step(&Command::Choices)? {
+        Reply::Choices(choices) => match choices.as_slice() {
+            [choice] => Ok(is_literal(choice, positive, symbol, text)),
+            _ => Ok(false),
+        },
+        _ => Ok(false),
+    }
+}
+
+#[test]
+fn refused_commands_leave_the_choices(rt: HostRuntime) -> Result<(), Fail> {
+    let alloc = rt.alloc();
+    let mut session = session_with_a_in_p(alloc)?;
+    assert!(rt; refuses_three(alloc, &mut session)?);
+    assert!(rt; has_one_choice(&mut session, true, 1, b"b")?);
     Ok(())
 }

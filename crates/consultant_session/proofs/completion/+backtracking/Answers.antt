@@ -14,5 +14,5 @@ complete_with-remove_row-requires t c =
 pub complete_with-returns : goal.complete_with-returns
 complete_with-returns t c =
     let settled = rw c.if-branch.false at c.in_ok-complete.ensures in
-    settled_without c.args.kb.now c.args.others.now c.args.m.now c.add_row.new.m c.complete.new.m c.remove_row.new.m c.args.atom.now.table c.args.atom.now.row c.in_ok-copy.field-0
+    settled_without c.args.kb.now c.args.choices.now c.args.others.now c.args.m.now c.add_row.new.m c.complete.new.m c.remove_row.new.m c.args.atom.now.table c.args.atom.now.row c.in_ok-copy.field-0
     c.in_ok-copy.ensures c.in_ok-add_row.ensures settled c.remove_row.ensures

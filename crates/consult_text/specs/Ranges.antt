@@ -1,0 +1,48 @@
+-- Written integers whose values have 63 bits, as those of every line that has tokens.
+use Rattle.std.specs.Prelude.{◌≡◌, ℕ, List, ◌<◌, ◌^◌, Bool, Result, Ok, Err, ⊤}
+use Rattle.std.specs.List.{AllByRecursion}
+use Rattle.kb_logic.specs.declared.structures.Literal.{Literal}
+use Rattle.kb_logic.specs.declared.first.FirstKb.{FirstKb}
+use Rattle.kb_text.specs.Tokens.{decimal}
+use Rattle.consult_text.specs.Written as written
+use Rattle.consult_text.specs.Written.{WrittenElem, named, integer, WrittenLiteral, atom, equation, WrittenCommand}
+use Rattle.consult_text.specs.Lines.{StandsFor, IsRefusedFor, IsWritten, IsNoCommand, Asks, RefusesFor}
+use Rattle.consult_text.specs.Cuts.{command_view}
+use Rattle.consult_text.specs.declared.commands.Command.{Command}
+use Rattle.consult_text.specs.declared.written.CommandText.{CommandText}
+use Rattle.consult_text.specs.declared.refusals.F.TheVariants.{Syntax}
+use Rattle.consult_text.specs.declared.lines.CommandError.{CommandError}
+use Rattle.consult_text.specs.declared.lines.CommandError.TheVariants as errors
+
+abbrev pub IsInRange : WrittenElem → Type 0
+IsInRange (named text) = ⊤
+IsInRange (integer negative text) = decimal text < 2 ^ 63
+
+abbrev pub HasRange : WrittenLiteral → Type 0
+HasRange (atom positive name args) = AllByRecursion IsInRange args
+HasRange (equation positive name args value) = AllByRecursion IsInRange args × IsInRange value
+
+abbrev pub HasRanges : WrittenCommand → Type 0
+HasRanges (written.assert l) = HasRange l
+HasRanges (written.retract l) = HasRange l
+HasRanges written.reset = ⊤
+HasRanges written.choices = ⊤
+HasRanges written.model = ⊤
+
+-- what a written literal is looked up as
+abbrev pub LooksUp : FirstKb → WrittenLiteral → Result Literal CommandError → Type 0
+LooksUp kb w (Ok l) = StandsFor kb w l
+LooksUp kb w (Err (errors.Refused f)) = IsRefusedFor kb w f
+LooksUp kb w (Err errors.Memory) = ⊤
+
+-- what a line that is not blank is parsed as
+abbrev pub ParsesAs : List ℕ → Result CommandText CommandError → Type 0
+ParsesAs line (Ok c) = IsWritten line (command_view c) × HasRanges (command_view c)
+ParsesAs line (Err (errors.Refused f)) = (f ≡ Syntax) × IsNoCommand line
+ParsesAs line (Err errors.Memory) = ⊤
+
+-- what a written command means
+abbrev pub Answers : FirstKb → WrittenCommand → Result Command CommandError → Type 0
+Answers kb w (Ok c) = Asks kb w c
+Answers kb w (Err (errors.Refused f)) = RefusesFor kb w f
+Answers kb w (Err errors.Memory) = ⊤

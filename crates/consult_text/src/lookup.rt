@@ -1,0 +1,184 @@
+//! Looks the names of a written literal up.
+ghost use Rattle.std.specs.Prelude.{◌≡◌, ◌≢◌, ◌<◌, ◌≤◌, ◌^◌, ℕ, length, map, Contains, Some, slice_get, is_some, IfOk, MatchBool, MatchOption};
+ghost use Rattle.std.specs.List.{AllByRecursion};
+ghost use Rattle.kb_logic.specs.First.{IsRowOver};
+ghost use Rattle.kb_text.specs.Tokens.{decimal};
+ghost use Rattle.consult_text.specs.Literals.{integer_of, elem_of, IsFirstNamed, HasFormOf, IsValueOver, IsLiteralOver, literal_of};
+ghost use Rattle.consult_text.specs.Cuts.{elem_view, elem_views, literal_view};
+ghost use Rattle.consult_text.specs.Ranges.{IsInRange, HasRange, LooksUp};
+
+use crate::lines::CommandError;
+use crate::refusals::F;
+use crate::written::{ElemText, LiteralText};
+use kb_logic::first::FirstKb;
+use kb_logic::values::domain_in;
+use kb_logic::{Elem, ElemList, Literal, Memory, Name, Symbol};
+use std::alloc::Global;
+
+fn digits_value(digits: &[u8]) -> u64
+    requires { decimal digits.now < 2 ^ 63 }
+    ensures { result ≡ decimal digits.now }
+{
+    let mut value: u64 = 0;
+    for digit in digits {
+        value = 10 * value + u64::from(digit.saturating_sub(b'0'));
+    }
+    value
+}
+
+fn integer(negative: bool, digits: &[u8]) -> i64
+    requires { decimal digits.now < 2 ^ 63 }
+    ensures { result ≡ integer_of negative digits.now }
+{
+    let value = digits_value(digits) as i64;
+    if negative { -value } else { value }
+}
+
+fn make_elem(alloc: Global, text: &ElemText<'_>) -> Result<Elem, Memory>
+    requires { IsInRange (elem_view text.now) }
+    ensures { IfOk result (λ x. x ≡ elem_of (elem_view text.now)) }
+{
+    match text {
+        ElemText::Name(name) => Ok(Elem::Named(Name::new(alloc, name)?)),
+        ElemText::Integer(negative, digits) => Ok(Elem::Num(integer(*negative, digits))),
+    }
+}
+
+fn make_row(alloc: Global, texts: &[ElemText<'_>]) -> Result<ElemList, Memory>
+    requires { AllByRecursion IsInRange (elem_views texts.now) }
+    ensures { IfOk result (λ row. row ≡ map elem_of (elem_views texts.now)) }
+{
+    let mut row = Vec::with_capacity(alloc, texts.len())?;
+    for text in texts {
+        row.push(make_elem(alloc, text)?)?;
+    }
+    Ok(ElemList::from_vec(row))
+}
+
+/// The literal that is written, of the symbol with this number.
+fn make_literal(alloc: Global, number: u32, text: &LiteralText<'_>) -> Result<Literal, Memory>
+    requires { HasRange (literal_view text.now) }
+    ensures { IfOk result (λ l. l ≡ literal_of number (literal_view text.now)) }
+{
+    match &text.value {
+        None => Ok(Literal {
+            positive: text.positive,
+            symbol: number,
+            args: make_row(alloc, &text.args)?,
+            value: None,
+        }),
+        Some(value) => Ok(Literal {
+            positive: text.positive,
+            symbol: number,
+            args: make_row(alloc, &text.args)?,
+            value: Some(make_elem(alloc, value)?),
+        }),
+    }
+}
+
+/// The first symbol of this name, and its number.
+fn find_symbol<'a>(symbols: &'a [Symbol], name: &[u8]) -> Option<(u32, &'a Symbol)>
+    requires { length symbols.now ≤ 2 ^ 32 }
+    ensures { MatchOption result ((s : Symbol) → Contains symbols.now s → s.name ≢ name.now) (λ p. IsFirstNamed symbols.now name.now p.0 p.1.now) }
+{
+    for number in 0..symbols.len() {
+        if symbols[number].name.text() == name {
+            return Some((number as u32, &symbols[number]));
+        }
+    }
+    None
+}
+
+fn has_form(symbol: &Symbol, text: &LiteralText<'_>) -> bool
+    ensures { MatchBool result (HasFormOf symbol.now (literal_view text.now)) (HasFormOf symbol.now (literal_view text.now) → ⊥) }
+{
+    if symbol.args.len() != text.args.len() {
+        return false;
+    }
+    is_alike(symbol.value, &text.value)
+}
+
+/// Whether there is a value exactly where there is a type for it.
+fn is_alike(ty: Option<u32>, value: &Option<ElemText<'_>>) -> bool
+    ensures { MatchBool result (is_some ty ≡ is_some value.now) (is_some ty ≢ is_some value.now) }
+{
+    match (ty, value) {
+        (None, None) => true,
+        (Some(_), Some(_)) => true,
+        _ => false,
+    }
+}
+
+fn is_same(x: &Elem, y: &Elem) -> bool
+    ensures { MatchBool result (x.now ≡ y.now) (x.now ≢ y.now) }
+{
+    match (x, y) {
+        (Elem::Named(name), Elem::Named(other)) => name.text() == other.text(),
+        (Elem::Num(n), Elem::Num(other)) => n == other,
+        _ => false,
+    }
+}
+
+fn is_in(domain: &[Elem], elem: &Elem) -> bool
+    ensures { MatchBool result (Contains domain.now elem.now) (Contains domain.now elem.now → ⊥) }
+{
+    for member in domain {
+        if is_same(member, elem) {
+            return true;
+        }
+    }
+    false
+}
+
+fn is_row_over(domains: &[ElemList], types: &[u32], row: &[Elem]) -> bool
+    requires { length types.now ≡ length row.now }
+    ensures { MatchBool result (IsRowOver domains.now types.now row.now) (IsRowOver domains.now types.now row.now → ⊥) }
+{
+    for place in 0..row.len() {
+        if !is_in(domain_in(domains, types[place]), &row[place]) {
+            return false;
+        }
+    }
+    true
+}
+
+fn is_value_over(domains: &[ElemList], ty: Option<u32>, value: &Option<Elem>) -> bool
+    ensures { MatchBool result (IsValueOver domains.now ty value.now) (IsValueOver domains.now ty value.now → ⊥) }
+{
+    match (ty, value) {
+        (None, None) => true,
+        (Some(ty), Some(elem)) => is_in(domain_in(domains, ty), elem),
+        _ => false,
+    }
+}
+
+/// Whether the literal's elements are in the types that its symbol has.
+fn is_literal_over(kb: &FirstKb, symbol: &Symbol, literal: &Literal) -> bool
+    requires declared { slice_get kb.now.vocab.symbols literal.now.symbol ≡ Some symbol.now }
+    requires args { length symbol.now.args ≡ length literal.now.args }
+    ensures { MatchBool result (IsLiteralOver kb.now literal.now) (IsLiteralOver kb.now literal.now → ⊥) }
+{
+    let domains = kb.domains.as_slice();
+    is_row_over(domains, symbol.args.as_slice(), literal.args.as_slice())
+        && is_value_over(domains, symbol.value, &literal.value)
+}
+
+/// The literal that is written.
+pub fn look_up(alloc: Global, kb: &FirstKb, text: &LiteralText<'_>) -> Result<Literal, CommandError>
+    requires few { length kb.now.vocab.symbols ≤ 2 ^ 32 }
+    requires range { HasRange (literal_view text.now) }
+    ensures { LooksUp kb.now (literal_view text.now) result }
+{
+    let Some((number, symbol)) = find_symbol(kb.vocab.symbols.as_slice(), text.name) else {
+        return Err(CommandError::Refused(F::UnknownSymbol));
+    };
+    if !has_form(symbol, text) {
+        return Err(CommandError::Refused(F::WrongArity));
+    }
+    let literal = make_literal(alloc, number, text)?;
+    if is_literal_over(kb, symbol, &literal) {
+        Ok(literal)
+    } else {
+        Err(CommandError::Refused(F::NotAnElement))
+    }
+}

@@ -1,0 +1,34 @@
+//! Commands as they are written, before their names are looked up.
+
+/// An element as it is written.
+#[derive(Clone, Copy)]
+pub enum ElemText<'a> {
+    Name(&'a [u8]),
+    Integer(bool, &'a [u8]),
+}
+
+/// A name with its arguments.
+#[derive(Drop)]
+pub struct Head<'a> {
+    pub name: &'a [u8],
+    pub args: Vec<ElemText<'a>>,
+}
+
+/// A literal as it is written: `P(args)` or `f(args) = value`, or its negation.
+#[derive(Drop)]
+pub struct LiteralText<'a> {
+    pub positive: bool,
+    pub name: &'a [u8],
+    pub args: Vec<ElemText<'a>>,
+    pub value: Option<ElemText<'a>>,
+}
+
+/// A command as it is written.
+#[derive(Drop)]
+pub enum CommandText<'a> {
+    Assert(LiteralText<'a>),
+    Retract(LiteralText<'a>),
+    Reset,
+    Choices,
+    Model,
+}
