@@ -7,7 +7,7 @@ use Rattle.kb_logic.specs.First.{open_atom_count}
 use Rattle.fo_reader.specs.FirstReads.{IsReadAs}
 use Rattle.idp_cli.specs.Files.{IfTold, IsRefused, IsConsultable, line_of}
 use Rattle.idp_cli.specs.Top.{Words, Outside, IsConsult, ConsultationEnds, RunEnds}
-use Rattle.idp_cli.specs.Laws.{IsUnlessFailed, UsageLaw, CommandLaw, RefusalLaw, TakingLaw, LengthLaw, ShortLaw}
+use Rattle.idp_cli.specs.Laws.{IsUnlessFailed, UsageLaw, CommandLaw, RefusalLaw, TakingLaw, LengthLaw, ShortLaw, DoneLaw}
 use Rattle.idp_cli.specs.declared.status.Status.{Status}
 use Rattle.idp_cli.specs.declared.status.Status.TheVariants as status
 
@@ -119,3 +119,12 @@ short_law words before now file bytes script is held held' short ends =
     let taken = told (before.files file) bytes _ held (consulted status.ScriptTooLong words before now file is ends).1 in
     let answered = told before.script script _ held' taken.2 in
     omega (arith, answered.0, short)
+
+pub done_law : DoneLaw
+done_law status.Done words before now file bytes script kb is held taken held' short ends = refl
+done_law (status.KbRefused k line) words before now file bytes script kb is held taken held' short ends = absurd (taking_law k line words before now file bytes kb is held taken ends)
+done_law status.Usage words before now file bytes script kb is held taken held' short ends = absurd (command_law words before now file is ends)
+done_law status.ReadFault words before now file bytes script kb is held taken held' short ends = tt
+done_law status.WriteFault words before now file bytes script kb is held taken held' short ends = tt
+done_law status.Memory words before now file bytes script kb is held taken held' short ends = tt
+done_law status.ScriptTooLong words before now file bytes script kb is held taken held' short ends = absurd (short_law words before now file bytes script is held held' short ends)
