@@ -2,8 +2,8 @@
 use Rattle.std.proofs.Common.{◌≡◌, ℕ, List, sym, subst, Option, Some, None, inl, inr}
 use Rattle.kb_logic.specs.declared.first.FirstKb.{FirstKb}
 use Rattle.idp_cli.specs.Files.{IfTold, IsConsultable}
-use Rattle.idp_cli.specs.Answering.{Streams, AnswersScript, AnswersCommands, OpensAndAnswers}
-use Rattle.idp_cli.specs.Top.{Outside, ConsultationEnds, AnswersByFile}
+use Rattle.idp_cli.specs.Answering.{Streams, AnswersCommands, OpensAndAnswers}
+use Rattle.idp_cli.specs.Top.{Outside, ConsultationEnds}
 use Rattle.idp_cli.specs.declared.status.Status.{Status}
 use Rattle.idp_cli.specs.declared.status.Status.TheVariants as status
 

@@ -1,13 +1,11 @@
 -- How the answers to the commands go on and end.
-use Rattle.std.proofs.Common.{◌≡◌, ℕ, ◌+◌, ◌-◌, ◌<◌, ◌≤◌, ◌++◌, max, List, ◌∷◌, [], length, refl, sym, ◌∙◌, ap, subst, arith, length-append, Bool, true, false, Option, Some, None, Result, Ok, Err, inl, inr}
-use Rattle.std.specs.Io.KnownBytes.{Appends, IsAtEnd}
-use Rattle.kb_io.specs.Lines.{command_lines, IsNextLine}
+use Rattle.std.proofs.Common.{◌≡◌, ℕ, ◌+◌, ◌-◌, ◌<◌, ◌≤◌, ◌++◌, List, ◌∷◌, [], length, refl, sym, ◌∙◌, ap, subst, arith, length-append, true, false, Option, Some, None, Ok, Err, inl, inr}
 use Rattle.kb_io.specs.Outside.{Rose}
-use Rattle.kb_io.specs.Pending.{Pending, NextLine, most_bytes}
+use Rattle.kb_io.specs.Pending.{Pending, most_bytes}
 use Rattle.kb_logic.specs.declared.first.FirstKb.{FirstKb}
 use Rattle.consultant_session.specs.States.{State, first_state}
 use Rattle.idp_cli.specs.Files.{IfTold}
-use Rattle.idp_cli.specs.Consultation.{AnswersTo, state_left}
+use Rattle.idp_cli.specs.Consultation.{AnswersTo}
 use Rattle.idp_cli.specs.Answering.{Streams, IsWithoutFault, AnswersCommands, status_of}
 use Rattle.idp_cli.specs.Turns.{Turns, TakesLine}
 use Rattle.idp_cli.specs.declared.stops.Stop.{Stop}

@@ -1,5 +1,5 @@
 -- The reply that is written is the answer to the line.
-use Rattle.std.proofs.Common.{◌≡◌, ℕ, List, refl, sym, ap, ◌∙◌, subst, Option, Some, None, Result, Ok, Err}
+use Rattle.std.proofs.Common.{◌≡◌, ℕ, List, sym, subst, Option, Some, Result, Ok, Err}
 use Rattle.std.specs.Io.KnownBytes.{Appends}
 use Rattle.kb_io.specs.Whole.{AppendsFront}
 use Rattle.kb_logic.specs.declared.vocabularies.Vocabulary.{Vocabulary}

@@ -76,10 +76,7 @@ fn shelf(rt: &HostRuntime, plan: Plan<'_>) -> Result<MemShelf, Fail> {
         name: String::from_str(rt.alloc(), "kb")?,
         source: source(rt, plan.file, plan.file_failing, plan.file_pieces)?,
     };
-    Ok(MemShelf::new(
-        vec![in rt.alloc(); file]?,
-        Vec::new(rt.alloc()),
-    ))
+    Ok(MemShelf::new(vec![in rt.alloc(); file]?, Vec::new(rt.alloc())))
 }
 
 fn words(rt: &HostRuntime, texts: &[&str]) -> Result<Vec<String>, Fail> {
@@ -172,13 +169,15 @@ fn each_line_has_its_answer(rt: HostRuntime) -> Result<(), Fail> {
 
 #[test]
 fn each_refusal_has_its_line(rt: HostRuntime) -> Result<(), Fail> {
-    let script = b"assert q.\nassert q.\nretract p.\nassert r.\nassert s.\nassert q(a).\nassert q = a.\nassert q\nminimize t.\n\
+    let script =
+        b"assert q.\nassert q.\nretract p.\nassert r.\nassert s.\nassert q(a).\nassert q = a.\nassert q\nminimize t.\n\
         assert ~p.\nchoices.\nmodel.\nreset.\nchoices.\n"
-        .as_slice();
-    let wanted = b"ok\nrefused F5 AlreadyChosen\nrefused F6 NotChosen\nrefused F7 GivenByData\nrefused F2 UnknownSymbol\n\
+            .as_slice();
+    let wanted =
+        b"ok\nrefused F5 AlreadyChosen\nrefused F6 NotChosen\nrefused F7 GivenByData\nrefused F2 UnknownSymbol\n\
         refused F3 WrongArity\nrefused F3 WrongArity\nrefused F1 Syntax\nrefused F1 Syntax\n\
         ok\nchoice q\nchoice ~p\ndone\nmodel\np = false\nq = true\nr = true\ndone\nok\ndone\n"
-        .as_slice();
+            .as_slice();
     let plan = Plan {
         file: R_IS_GIVEN,
         script,
@@ -196,8 +195,7 @@ fn longer_lines_are_refused(rt: HostRuntime) -> Result<(), Fail> {
         script.push(b'a')?;
     }
     script.extend_from_slice(b"\nchoices.\n")?;
-    let wanted =
-        b"refused F1 Syntax\nok\nrefused F8 LineTooLong\nchoice q\ndone\n".as_slice();
+    let wanted = b"refused F1 Syntax\nok\nrefused F8 LineTooLong\nchoice q\ndone\n".as_slice();
     let plan = Plan {
         script: &script,
         ..PLAN
@@ -352,11 +350,7 @@ fn before_a_failing_flush_all_answers_stand(rt: HostRuntime) -> Result<(), Fail>
 fn long_script(rt: &HostRuntime, length: usize) -> Result<MemSource, AllocError> {
     let mut script = b"choices.\n".to_vec(rt.alloc())?;
     script.resize(length, b'a')?;
-    Ok(MemSource::new(
-        script,
-        Vec::new(rt.alloc()),
-        Vec::new(rt.alloc()),
-    ))
+    Ok(MemSource::new(script, Vec::new(rt.alloc()), Vec::new(rt.alloc())))
 }
 
 #[test]

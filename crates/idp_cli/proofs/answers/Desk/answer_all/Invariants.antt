@@ -1,7 +1,6 @@
-use Rattle.std.proofs.Common.{◌≡◌, ◌+◌, ◌-◌, ℕ, length}
+use Rattle.std.proofs.Common.{◌≡◌, ◌+◌, ◌-◌, length}
 use Rattle.kb_io.specs.Pending.{most_bytes}
 use Rattle.consultant_session.specs.Sessions.{kb_of, state_of}
-use Rattle.idp_cli.specs.Answering.{Streams}
 use Rattle.idp_cli.proofs.Ending.{IsSoFar}
 use Rattle.idp_cli.proofs.answers.Desk.answer_all.Given as goal
 
