@@ -1,12 +1,11 @@
 -- Written literals, by whether they have a value.
-use Rattle.std.proofs.Common.{◌≡◌, ◌≢◌, ℕ, zero, suc, ◌<◌, List, [], ◌∷◌, length, map, get_or, Bool, true, false, Option, Some, None, MatchBool, refl, sym, ap, ◌∙◌, subst, arith}
+use Rattle.std.proofs.Common.{◌≡◌, ◌≢◌, ℕ, zero, suc, ◌<◌, List, [], ◌∷◌, length, get_or, Bool, true, false, Option, Some, None, MatchBool, refl, sym, ap, ◌∙◌, subst, arith}
 use Rattle.std.specs.Prelude.{is_some}
 use Rattle.std.specs.List.{Contains, AllByRecursion}
 use Rattle.std.proofs.lemmas.List.{length-map}
 use Rattle.kb_logic.specs.declared.vocabularies.Symbol.{Symbol}
 use Rattle.consult_text.specs.declared.written.ElemText.{ElemText}
 use Rattle.consult_text.specs.declared.written.LiteralText.{LiteralText}
-use Rattle.consult_text.specs.Written.{WrittenElem}
 use Rattle.consult_text.specs.Literals.{IsFirstNamed, HasLengthOf, HasFormOf, name_of, literal_of}
 use Rattle.consult_text.specs.Cuts.{elem_view, elem_views, valued_view, literal_view}
 use Rattle.consult_text.specs.Ranges.{IsInRange}

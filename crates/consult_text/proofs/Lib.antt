@@ -5,3 +5,10 @@ pub mod Digits
 pub mod Symbols
 pub mod Forms
 pub mod Parses
+pub mod Blanks
+pub mod Meanings
+pub mod InnerBytes
+pub mod RowTexts
+pub mod ChoiceTexts
+pub mod ModelTexts
+pub mod ReplyTexts

@@ -1,11 +1,10 @@
 -- The first symbol of a name.
-use Rattle.std.proofs.Common.{◌≡◌, ◌≢◌, ℕ, ◌+◌, ◌<◌, ◌≤◌, List, length, get_or, refl, sym, ap, ◌∙◌, subst, Some, Bool, true, false, arith, below_more}
+use Rattle.std.proofs.Common.{◌≡◌, ◌≢◌, ℕ, ◌+◌, ◌<◌, ◌≤◌, List, length, refl, sym, ap, ◌∙◌, Some, Bool, false, arith, below_more}
 use Rattle.std.specs.Str.{bytes_eq}
 use Rattle.std.proofs.lemmas.Slice.Eq.{bytes_eq-Decides}
 use Rattle.std.specs.List.{slice_get, Contains}
-use Rattle.std.proofs.lemmas.Option.{slice_get_within, slice_get_read}
+use Rattle.std.proofs.lemmas.Option.{slice_get_read}
 use Rattle.kb_logic.specs.declared.vocabularies.Symbol.{Symbol}
-use Rattle.consult_text.specs.Literals.{IsFirstNamed}
 
 pub no_more_named : (xs : List Symbol) (name : List ℕ) (i : ℕ) (s : Symbol) → ((n : ℕ) (t : Symbol) → n < i → slice_get xs n ≡ Some t → t.name ≢ name) → slice_get xs i ≡ Some s → s.name ≢ name → (n : ℕ) (t : Symbol) → n < i + 1 → slice_get xs n ≡ Some t → t.name ≢ name
 no_more_named xs name i s before at other n t lt found q =

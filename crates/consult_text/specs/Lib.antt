@@ -4,4 +4,6 @@ pub mod Written
 pub mod Lines
 pub mod Cuts
 pub mod Ranges
+pub mod Laws
+pub mod OneText
 pub mod Texts

@@ -1,5 +1,5 @@
 -- Literals over a knowledge base: what a written one stands for, and why it is refused.
-use Rattle.std.specs.Prelude.{◌≡◌, ◌≢◌, ◌<◌, ℕ, zero, suc, ℤ, pos, negsuc, List, [], ◌∷◌, Bool, true, false, Option, Some, None, map, slice_get, Contains, ⊤}
+use Rattle.std.specs.Prelude.{◌≡◌, ◌≢◌, ◌<◌, ℕ, ℤ, pos, neg_ℤ, List, [], ◌∷◌, Bool, true, false, Option, Some, None, map, slice_get, Contains, ⊤}
 use Rattle.kb_logic.specs.declared.elements.Elem.{Elem}
 use Rattle.kb_logic.specs.declared.elements.Elem.TheVariants.{Named, Num}
 use Rattle.kb_logic.specs.declared.vocabularies.Symbol.{Symbol}
@@ -24,14 +24,10 @@ pub record IsLiteralOver (kb : FirstKb) (l : Literal) : Type 0 where
   pub args : IsRowOver kb.domains symbol.args l.args
   pub value : IsValueOver kb.domains symbol.value l.value
 
-abbrev pub minus : ℕ → ℤ
-minus zero = pos 0
-minus (suc n) = negsuc n
-
 -- the integer with these digits
 abbrev pub integer_of : Bool → List ℕ → ℤ
 integer_of false text = pos (decimal text)
-integer_of true text = minus (decimal text)
+integer_of true text = neg_ℤ (pos (decimal text))
 
 abbrev pub elem_of : WrittenElem → Elem
 elem_of (named text) = Named text

@@ -1,5 +1,5 @@
 -- Command lines as they are written, and the tokens that spell them.
-use Rattle.std.specs.Prelude.{◌≡◌, ℕ, List, [], ◌∷◌, ◌++◌, Bool, true, false, codes, ⊤}
+use Rattle.std.specs.Prelude.{◌≡◌, ℕ, List, [], ◌∷◌, Bool, true, false, codes, ⊤}
 use Rattle.std.specs.List.{AllByRecursion}
 use Rattle.kb_text.specs.Tokens.{is_word_of}
 

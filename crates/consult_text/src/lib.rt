@@ -5,14 +5,18 @@
 
 mod commands;
 mod cuts;
+mod laws;
 mod lines;
 mod lookup;
 mod refusals;
 mod replies;
+#[cfg(test)]
+mod tests;
 mod texts;
 mod written;
 
 pub use commands::Command;
+pub use laws::{commands_are_over_the_base, no_two_replies_have_one_text, one_meaning};
 pub use lines::{CommandError, read_command};
 pub use refusals::F;
 pub use replies::Reply;

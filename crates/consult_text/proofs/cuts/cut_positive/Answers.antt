@@ -1,5 +1,4 @@
-use Rattle.std.proofs.Common.{subst, MatchOption}
-use Rattle.consult_text.specs.Cuts.{toks, elem_views, elem_view, CutsHead, HasNoHead}
+use Rattle.consult_text.specs.Cuts.{toks, elem_views, elem_view, CutsHead}
 use Rattle.consult_text.proofs.Cut.{no_positive}
 use Rattle.consult_text.proofs.cuts.cut_positive.Goals as goal
 

@@ -1,5 +1,4 @@
 use Rattle.std.proofs.Common.{drop}
-use Rattle.kb_logic.specs.First.{IsRowOver}
 use Rattle.consult_text.proofs.Rows.{SameRest}
 use Rattle.consult_text.proofs.lookup.is_row_over.Given as goal
 

@@ -1,0 +1,267 @@
+-- A line means at most one thing.
+use Rattle.std.proofs.Common.{◌≡◌, ◌≢◌, ℕ, ◌<◌, List, [], ◌∷◌, map, Bool, true, false, Ok, Err, Some, None, refl, sym, ap, ◌∙◌, subst, codes, arith}
+use Rattle.std.specs.Str.{bytes_eq}
+use Rattle.std.specs.List.{Contains}
+use Rattle.std.proofs.lemmas.Option.{slice_get_within, get_or_from_slice_get}
+use Rattle.std.proofs.lemmas.Slice.Eq.{bytes_eq-Decides}
+use Rattle.kb_logic.specs.declared.vocabularies.Symbol.{Symbol}
+use Rattle.kb_logic.specs.declared.structures.Literal.{Literal}
+use Rattle.kb_logic.specs.declared.first.FirstKb.{FirstKb}
+use Rattle.kb_text.specs.Depth.{outermost}
+use Rattle.kb_text.specs.Tokens.{Lexeme, TokensFrom}
+use Rattle.consult_text.specs.declared.commands.Command.{Command}
+use Rattle.consult_text.specs.declared.commands.Command.TheVariants as command
+use Rattle.consult_text.specs.declared.refusals.F.{F}
+use Rattle.consult_text.specs.declared.refusals.F.TheVariants as refusal
+use Rattle.consult_text.specs.Written as written
+use Rattle.consult_text.specs.Written.{Tok, word, digits, sign, WrittenElem, WrittenLiteral, atom, equation, WrittenCommand, put_elem, put_args, put_literal, put_command, equals}
+use Rattle.consult_text.specs.Literals.{IsLiteralOver, IsFirstNamed, HasFormOf, name_of, literal_of}
+use Rattle.consult_text.specs.Lines.{tok_of, IsWritten, IsBlank, IsNoCommand, StandsFor, IsRefusedFor, Asks, RefusesFor, HasCommand, HasRefusal, IsCommandOver}
+use Rattle.consult_text.specs.Cuts.{dot, IsClosed}
+use Rattle.consult_text.specs.Laws.{HasOneMeaning, CommandsAreOverTheBase}
+use Rattle.consult_text.proofs.Spelling.{elem_same, args_same, sign_above, dot_closed, equals_closed}
+use Rattle.consult_text.proofs.Parses.{HasOneOutcome, same_lexemes}
+use Rattle.consult_text.proofs.Blanks.{no_tokens}
+
+behind_same : {x y : Tok} {a b : List Tok} → x ∷ a ≡ y ∷ b → a ≡ b
+behind_same q = cc
+
+words_apart : (x y : List ℕ) {a b : List Tok} → bytes_eq x y ≡ false → word x ∷ a ≡ word y ∷ b → ⊥
+words_apart x y other q =
+    let same : x ≡ y = cc in
+    let equal = (bytes_eq-Decides x y).1 same in
+    let f : true ≡ false = sym equal ∙ other in
+    absurd (cc)
+
+no_equals_dot : (p : Bool) {b : List Tok} → dot ≡ sign (equals p) ∷ b → ⊥
+no_equals_dot true q = sign_above 61 46 (omega arith) (sym q)
+no_equals_dot false q = sign_above 126 46 (omega arith) (sym q)
+
+no_sign_word : {x y : List ℕ} {a b : List Tok} → sign x ∷ a ≡ word y ∷ b → ⊥
+no_sign_word q = absurd (cc)
+
+same_equals : (p p' : Bool) {a b : List Tok} → sign (equals p) ∷ a ≡ sign (equals p') ∷ b → p ≡ p'
+same_equals true true q = refl
+same_equals true false q = absurd (sign_above 126 61 (omega arith) (sym q))
+same_equals false true q = absurd (sign_above 126 61 (omega arith) q)
+same_equals false false q = refl
+
+same_atoms : (name name' : List ℕ) (args args' : List WrittenElem) (r r' : List Tok) → IsClosed r → IsClosed r' → word name ∷ put_args args r ≡ word name' ∷ put_args args' r' → (name ≡ name') × (args ≡ args') × (r ≡ r')
+same_atoms name name' args args' r r' closed closed' q =
+    let tails : put_args args r ≡ put_args args' r' = cc in
+    let same = args_same args args' r r' closed closed' tails in
+    (cc, same.0, same.1)
+
+literal_same : (l l' : WrittenLiteral) → put_literal l dot ≡ put_literal l' dot → l ≡ l'
+literal_same (atom true name args) (atom true name' args') q =
+    let same = same_atoms name name' args args' dot dot (dot_closed []) (dot_closed []) q in
+    let e = same.0 in let f = same.1 in cc
+literal_same (atom true name args) (atom false name' args') q = absurd (no_sign_word (sym q))
+literal_same (atom true name args) (equation p' name' args' v') q =
+    absurd (no_equals_dot p' (same_atoms name name' args args' dot (sign (equals p') ∷ put_elem v' dot) (dot_closed []) (equals_closed p' (put_elem v' dot)) q).2)
+literal_same (atom false name args) (atom true name' args') q = absurd (no_sign_word q)
+literal_same (atom false name args) (atom false name' args') q =
+    let tails : word name ∷ put_args args dot ≡ word name' ∷ put_args args' dot = cc in
+    let same = same_atoms name name' args args' dot dot (dot_closed []) (dot_closed []) tails in
+    let e = same.0 in let f = same.1 in cc
+literal_same (atom false name args) (equation p' name' args' v') q = absurd (no_sign_word q)
+literal_same (equation p name args v) (atom true name' args') q =
+    absurd (no_equals_dot p (same_atoms name' name args' args dot (sign (equals p) ∷ put_elem v dot) (dot_closed []) (equals_closed p (put_elem v dot)) (sym q)).2)
+literal_same (equation p name args v) (atom false name' args') q = absurd (no_sign_word (sym q))
+literal_same (equation p name args v) (equation p' name' args' v') q =
+    let same = same_atoms name name' args args' (sign (equals p) ∷ put_elem v dot) (sign (equals p') ∷ put_elem v' dot) (equals_closed p (put_elem v dot)) (equals_closed p' (put_elem v' dot)) q in
+    let e = same.0 in
+    let f = same.1 in
+    let g = same_equals p p' same.2 in
+    let tails : put_elem v dot ≡ put_elem v' dot = behind_same same.2 in
+    let h = (elem_same v v' dot dot tails).0 in
+    cc
+
+-- no tokens spell two commands
+command_same : (w w' : WrittenCommand) → put_command w ≡ put_command w' → w ≡ w'
+command_same (written.assert l) (written.assert l') q = ap (λ (x : WrittenLiteral). written.assert x) (literal_same l l' (behind_same q))
+command_same (written.assert l) (written.retract l') q = absurd (words_apart (codes "assert") (codes "retract") refl q)
+command_same (written.assert l) written.reset q = absurd (words_apart (codes "assert") (codes "reset") refl q)
+command_same (written.assert l) written.choices q = absurd (words_apart (codes "assert") (codes "choices") refl q)
+command_same (written.assert l) written.model q = absurd (words_apart (codes "assert") (codes "model") refl q)
+command_same (written.retract l) (written.assert l') q = absurd (words_apart (codes "retract") (codes "assert") refl q)
+command_same (written.retract l) (written.retract l') q = ap (λ (x : WrittenLiteral). written.retract x) (literal_same l l' (behind_same q))
+command_same (written.retract l) written.reset q = absurd (words_apart (codes "retract") (codes "reset") refl q)
+command_same (written.retract l) written.choices q = absurd (words_apart (codes "retract") (codes "choices") refl q)
+command_same (written.retract l) written.model q = absurd (words_apart (codes "retract") (codes "model") refl q)
+command_same written.reset (written.assert l') q = absurd (words_apart (codes "reset") (codes "assert") refl q)
+command_same written.reset (written.retract l') q = absurd (words_apart (codes "reset") (codes "retract") refl q)
+command_same written.reset written.reset q = refl
+command_same written.reset written.choices q = absurd (words_apart (codes "reset") (codes "choices") refl q)
+command_same written.reset written.model q = absurd (words_apart (codes "reset") (codes "model") refl q)
+command_same written.choices (written.assert l') q = absurd (words_apart (codes "choices") (codes "assert") refl q)
+command_same written.choices (written.retract l') q = absurd (words_apart (codes "choices") (codes "retract") refl q)
+command_same written.choices written.reset q = absurd (words_apart (codes "choices") (codes "reset") refl q)
+command_same written.choices written.choices q = refl
+command_same written.choices written.model q = absurd (words_apart (codes "choices") (codes "model") refl q)
+command_same written.model (written.assert l') q = absurd (words_apart (codes "model") (codes "assert") refl q)
+command_same written.model (written.retract l') q = absurd (words_apart (codes "model") (codes "retract") refl q)
+command_same written.model written.reset q = absurd (words_apart (codes "model") (codes "reset") refl q)
+command_same written.model written.choices q = absurd (words_apart (codes "model") (codes "choices") refl q)
+command_same written.model written.model q = refl
+
+-- a line has at most one written command
+written_same : {line : List ℕ} (w w' : WrittenCommand) → HasOneOutcome line → IsWritten line w → IsWritten line w' → w ≡ w'
+written_same w w' one h h' =
+    command_same w w' (sym h.spelled ∙ (ap (map tok_of) (same_lexemes h.lexemes h'.lexemes one h.tokens h'.tokens) ∙ h'.spelled))
+
+-- and none where it is blank
+some_token : (w : WrittenCommand) → [] ≡ put_command w → ⊥
+some_token (written.assert l) q = absurd (cc)
+some_token (written.retract l) q = absurd (cc)
+some_token written.reset q = absurd (cc)
+some_token written.choices q = absurd (cc)
+some_token written.model q = absurd (cc)
+
+blank_by : {line : List ℕ} (w : WrittenCommand) (ls : List Lexeme) → IsBlank line → TokensFrom outermost 0 line (Ok ls) → map tok_of ls ≡ put_command w → ⊥
+blank_by w [] blank h q = some_token w q
+blank_by w (l ∷ ls) blank h q = no_tokens l ls blank h
+
+blank_written : {line : List ℕ} (w : WrittenCommand) → IsBlank line → IsWritten line w → ⊥
+blank_written w blank h = blank_by w h.lexemes blank h.tokens h.spelled
+
+-- a name has one first symbol
+first_same : (xs : List Symbol) (name : List ℕ) (n m : ℕ) (s t : Symbol) → IsFirstNamed xs name n s → IsFirstNamed xs name m t → (n ≡ m) × (s ≡ t)
+first_same xs name n m s t h h' =
+    let same : n ≡ m = numbers in
+    (same, let e = h.at in let e' = h'.at in cc)
+  where
+    not_below : n < m → ⊥
+    not_below lt = h'.first n s lt h.at h.named
+
+    not_above : m < n → ⊥
+    not_above lt = h.first m t lt h'.at h'.named
+
+    numbers : n ≡ m
+    numbers = omega (arith, not_below, not_above)
+
+literal_of_line : (kb : FirstKb) (w : WrittenLiteral) (l l' : Literal) → StandsFor kb w l → StandsFor kb w l' → l ≡ l'
+literal_of_line kb w l l' h h' =
+    let same = (first_same kb.vocab.symbols (name_of w) h.0 h'.0 h.1 h'.1 h.2 h'.2).0 in
+    h.4 ∙ (ap (λ (n : ℕ). literal_of n w) same ∙ sym h'.4)
+
+-- the cause of a refusal
+data Cause (kb : FirstKb) (w : WrittenLiteral) : F → Type 0 where
+  unknown : ((s : Symbol) → Contains kb.vocab.symbols s → s.name ≢ name_of w) → Cause kb w refusal.UnknownSymbol
+  form : (n : ℕ) (s : Symbol) → IsFirstNamed kb.vocab.symbols (name_of w) n s → (HasFormOf s w → ⊥) → Cause kb w refusal.WrongArity
+  element : (n : ℕ) (s : Symbol) → IsFirstNamed kb.vocab.symbols (name_of w) n s → HasFormOf s w → (IsLiteralOver kb (literal_of n w) → ⊥) → Cause kb w refusal.NotAnElement
+
+cause_of : (kb : FirstKb) (w : WrittenLiteral) (f : F) → IsRefusedFor kb w f → Cause kb w f
+cause_of kb w refusal.UnknownSymbol h = unknown h
+cause_of kb w refusal.WrongArity h = form h.0 h.1 h.2 h.3
+cause_of kb w refusal.NotAnElement h = element h.0 h.1 h.2 h.3 h.4
+cause_of kb w refusal.Syntax h = absurd h
+cause_of kb w refusal.AlreadyChosen h = absurd h
+cause_of kb w refusal.NotChosen h = absurd h
+cause_of kb w refusal.GivenByData h = absurd h
+cause_of kb w refusal.LineTooLong h = absurd h
+
+is_declared : (kb : FirstKb) (name : List ℕ) (n : ℕ) (s : Symbol) → IsFirstNamed kb.vocab.symbols name n s → ((t : Symbol) → Contains kb.vocab.symbols t → t.name ≢ name) → ⊥
+is_declared kb name n s h none = none s (n, slice_get_within kb.vocab.symbols n s h.at, get_or_from_slice_get kb.vocab.symbols n s s h.at) h.named
+
+no_form : (kb : FirstKb) (w : WrittenLiteral) (n m : ℕ) (s t : Symbol) → IsFirstNamed kb.vocab.symbols (name_of w) n s → IsFirstNamed kb.vocab.symbols (name_of w) m t → (HasFormOf s w → ⊥) → HasFormOf t w → ⊥
+no_form kb w n m s t h h' other is = other (subst (λ (x : Symbol). HasFormOf x w) (sym (first_same kb.vocab.symbols (name_of w) n m s t h h').1) is)
+
+cause_same : (kb : FirstKb) (w : WrittenLiteral) (f g : F) → Cause kb w f → Cause kb w g → f ≡ g
+cause_same kb w f g (unknown none) (unknown none') = refl
+cause_same kb w f g (unknown none) (form n s h other) = absurd (is_declared kb (name_of w) n s h none)
+cause_same kb w f g (unknown none) (element n s h is other) = absurd (is_declared kb (name_of w) n s h none)
+cause_same kb w f g (form n s h other) (unknown none) = absurd (is_declared kb (name_of w) n s h none)
+cause_same kb w f g (form n s h other) (form m t h' other') = refl
+cause_same kb w f g (form n s h other) (element m t h' is other') = absurd (no_form kb w n m s t h h' other is)
+cause_same kb w f g (element n s h is other) (unknown none) = absurd (is_declared kb (name_of w) n s h none)
+cause_same kb w f g (element n s h is other) (form m t h' other') = absurd (no_form kb w m n t s h' h other' is)
+cause_same kb w f g (element n s h is other) (element m t h' is' other') = refl
+
+no_cause : (kb : FirstKb) (w : WrittenLiteral) (l : Literal) (f : F) → StandsFor kb w l → Cause kb w f → ⊥
+no_cause kb w l f h (unknown none) = is_declared kb (name_of w) h.0 h.1 h.2 none
+no_cause kb w l f h (form n s h' other) = no_form kb w n h.0 s h.1 h' h.2 other h.3
+no_cause kb w l f h (element n s h' is other) =
+    let same = (first_same kb.vocab.symbols (name_of w) h.0 n h.1 s h.2 h').0 in
+    other (subst (IsLiteralOver kb) (h.4 ∙ ap (λ (x : ℕ). literal_of x w) same) h.5)
+
+asks_same : (kb : FirstKb) (w : WrittenCommand) (c d : Command) → Asks kb w c → Asks kb w d → c ≡ d
+asks_same kb (written.assert w) (command.Assert l) (command.Assert l') h h' = ap (λ (x : Literal). command.Assert x) (literal_of_line kb w l l' h h')
+asks_same kb (written.retract w) (command.Retract l) (command.Retract l') h h' = ap (λ (x : Literal). command.Retract x) (literal_of_line kb w l l' h h')
+asks_same kb written.reset command.Reset command.Reset h h' = refl
+asks_same kb written.choices command.Choices command.Choices h h' = refl
+asks_same kb written.model command.Model command.Model h h' = refl
+asks_same kb (written.assert w) (command.Assert l) d h h' = absurd h'
+asks_same kb (written.retract w) (command.Retract l) d h h' = absurd h'
+asks_same kb written.reset command.Reset d h h' = absurd h'
+asks_same kb written.choices command.Choices d h h' = absurd h'
+asks_same kb written.model command.Model d h h' = absurd h'
+asks_same kb w c d h h' = absurd h
+
+no_refusal : (kb : FirstKb) (w : WrittenCommand) (c : Command) (f : F) → Asks kb w c → RefusesFor kb w f → ⊥
+no_refusal kb (written.assert w) (command.Assert l) f h r = no_cause kb w l f h (cause_of kb w f r)
+no_refusal kb (written.retract w) (command.Retract l) f h r = no_cause kb w l f h (cause_of kb w f r)
+no_refusal kb written.reset c f h r = r
+no_refusal kb written.choices c f h r = r
+no_refusal kb written.model c f h r = r
+no_refusal kb w c f h r = h
+
+refuses_same : (kb : FirstKb) (w : WrittenCommand) (f g : F) → RefusesFor kb w f → RefusesFor kb w g → f ≡ g
+refuses_same kb (written.assert w) f g h h' = cause_same kb w f g (cause_of kb w f h) (cause_of kb w g h')
+refuses_same kb (written.retract w) f g h h' = cause_same kb w f g (cause_of kb w f h) (cause_of kb w g h')
+refuses_same kb written.reset f g h h' = absurd h
+refuses_same kb written.choices f g h h' = absurd h
+refuses_same kb written.model f g h h' = absurd h
+
+-- a refused line is no command, or has one whose literal is refused
+data Refusal (kb : FirstKb) (line : List ℕ) : F → Type 0 where
+  none : IsNoCommand line → Refusal kb line refusal.Syntax
+  some : {f : F} (w : WrittenCommand) → IsWritten line w → RefusesFor kb w f → Refusal kb line f
+
+refusal_of : (kb : FirstKb) (line : List ℕ) (f : F) → HasRefusal kb line f → Refusal kb line f
+refusal_of kb line refusal.Syntax h = none h
+refusal_of kb line refusal.UnknownSymbol h = some h.0 h.1 h.2
+refusal_of kb line refusal.WrongArity h = some h.0 h.1 h.2
+refusal_of kb line refusal.NotAnElement h = some h.0 h.1 h.2
+refusal_of kb line refusal.AlreadyChosen h = some h.0 h.1 h.2
+refusal_of kb line refusal.NotChosen h = some h.0 h.1 h.2
+refusal_of kb line refusal.GivenByData h = some h.0 h.1 h.2
+refusal_of kb line refusal.LineTooLong h = some h.0 h.1 h.2
+
+refusal_same : (kb : FirstKb) (line : List ℕ) (f g : F) → HasOneOutcome line → Refusal kb line f → Refusal kb line g → f ≡ g
+refusal_same kb line f g one (none h) (none h') = refl
+refusal_same kb line f g one (none h) (some w is r) = absurd (h.1 w is)
+refusal_same kb line f g one (some w is r) (none h) = absurd (h.1 w is)
+refusal_same kb line f g one (some w is r) (some w' is' r') =
+    refuses_same kb w f g r (subst (λ (x : WrittenCommand). RefusesFor kb x g) (written_same w' w one is' is) r')
+
+not_refused : (kb : FirstKb) (line : List ℕ) (c : Command) (f : F) → HasOneOutcome line → HasCommand kb line c → Refusal kb line f → ⊥
+not_refused kb line c f one h (none no_command) = no_command.1 h.0 h.1
+not_refused kb line c f one h (some w is r) = no_refusal kb h.0 c f h.2 (subst (λ (x : WrittenCommand). RefusesFor kb x f) (written_same w h.0 one is h.1) r)
+
+not_blank : (kb : FirstKb) (line : List ℕ) (f : F) → IsBlank line → Refusal kb line f → ⊥
+not_blank kb line f blank (none h) = h.0 blank
+not_blank kb line f blank (some w is r) = blank_written w blank is
+
+pub one_meaning : (kb : FirstKb) (line : List ℕ) → HasOneOutcome line → HasOneMeaning kb line
+one_meaning kb line one (Ok None) (Ok None) h h' = refl
+one_meaning kb line one (Ok None) (Ok (Some d)) h h' = absurd (blank_written h'.0 h h'.1)
+one_meaning kb line one (Ok None) (Err g) h h' = absurd (not_blank kb line g h (refusal_of kb line g h'))
+one_meaning kb line one (Ok (Some c)) (Ok None) h h' = absurd (blank_written h.0 h' h.1)
+one_meaning kb line one (Ok (Some c)) (Ok (Some d)) h h' =
+    ap (λ (x : Command). Ok (Some x)) (asks_same kb h.0 c d h.2 (subst (λ (x : WrittenCommand). Asks kb x d) (written_same h'.0 h.0 one h'.1 h.1) h'.2))
+one_meaning kb line one (Ok (Some c)) (Err g) h h' = absurd (not_refused kb line c g one h (refusal_of kb line g h'))
+one_meaning kb line one (Err f) (Ok None) h h' = absurd (not_blank kb line f h' (refusal_of kb line f h))
+one_meaning kb line one (Err f) (Ok (Some d)) h h' = absurd (not_refused kb line d f one h' (refusal_of kb line f h))
+one_meaning kb line one (Err f) (Err g) h h' = ap (λ (x : F). Err x) (refusal_same kb line f g one (refusal_of kb line f h) (refusal_of kb line g h'))
+
+over_by : (kb : FirstKb) (w : WrittenCommand) (c : Command) → Asks kb w c → IsCommandOver kb c
+over_by kb (written.assert w) (command.Assert l) h = h.5
+over_by kb (written.retract w) (command.Retract l) h = h.5
+over_by kb w command.Reset h = tt
+over_by kb w command.Choices h = tt
+over_by kb w command.Model h = tt
+over_by kb w c h = absurd h
+
+pub commands_over : CommandsAreOverTheBase
+commands_over kb line c h = over_by kb h.0 c h.2
