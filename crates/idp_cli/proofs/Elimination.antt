@@ -7,7 +7,7 @@ use Rattle.kb_logic.specs.First.{open_atom_count}
 use Rattle.fo_reader.specs.FirstReads.{IsReadAs}
 use Rattle.idp_cli.specs.Files.{IfTold, IsRefused, IsConsultable, line_of}
 use Rattle.idp_cli.specs.Top.{Words, Outside, IsConsult, ConsultationEnds, RunEnds}
-use Rattle.idp_cli.specs.Laws.{IsUnlessFailed, UsageLaw, CommandLaw, RefusalLaw, TakingLaw, LengthLaw, ShortLaw}
+use Rattle.idp_cli.specs.Laws.{IsUnlessFailed, UsageLaw, CommandLaw, RefusalLaw, TakingLaw, LengthLaw, ShortLaw, DoneLaw}
 use Rattle.idp_cli.specs.declared.status.Status.{Status}
 use Rattle.idp_cli.specs.declared.status.Status.TheVariants as status
 
@@ -89,7 +89,7 @@ refusal_ends status.Usage before now file bytes k line is refused ends = absurd 
 refusal_ends status.ReadFault before now file bytes k line is refused ends = tt
 refusal_ends status.WriteFault before now file bytes k line is refused ends = tt
 refusal_ends status.Memory before now file bytes k line is refused ends = tt
-refusal_ends status.ScriptTooLong before now file bytes k line is refused ends = let taken = told (before.files file) bytes _ is ends.2 in absurd (refused_or_taken k line bytes taken.0 refused taken.1)
+refusal_ends status.ScriptTooLong before now file bytes k line is refused ends = let taken = told (before.files file) bytes _ is ends.1 in absurd (refused_or_taken k line bytes taken.0 refused taken.1)
 
 pub refusal_law : RefusalLaw
 refusal_law s words before now file bytes k line is told refused ends = refusal_ends s before now file bytes k line told refused (consulted s words before now file is ends)
@@ -116,6 +116,15 @@ length_law s words before now file bytes script kb is held taken held' long ends
 
 pub short_law : ShortLaw
 short_law words before now file bytes script is held held' short ends =
-    let taken = told (before.files file) bytes _ held (consulted status.ScriptTooLong words before now file is ends).2 in
-    let long : 67108864 < length script = told before.script script _ held' taken.2 in
-    omega (arith, long, short)
+    let taken = told (before.files file) bytes _ held (consulted status.ScriptTooLong words before now file is ends).1 in
+    let answered = told before.script script _ held' taken.2 in
+    omega (arith, answered.0, short)
+
+pub done_law : DoneLaw
+done_law status.Done words before now file bytes script kb is held taken held' short ends = refl
+done_law (status.KbRefused k line) words before now file bytes script kb is held taken held' short ends = absurd (taking_law k line words before now file bytes kb is held taken ends)
+done_law status.Usage words before now file bytes script kb is held taken held' short ends = absurd (command_law words before now file is ends)
+done_law status.ReadFault words before now file bytes script kb is held taken held' short ends = tt
+done_law status.WriteFault words before now file bytes script kb is held taken held' short ends = tt
+done_law status.Memory words before now file bytes script kb is held taken held' short ends = tt
+done_law status.ScriptTooLong words before now file bytes script kb is held taken held' short ends = absurd (short_law words before now file bytes script is held held' short ends)

@@ -1,57 +1,82 @@
--- How a consultation ends.
-use Rattle.std.proofs.Common.{◌≡◌, ℕ, ◌+◌, ◌<◌, ◌≤◌, List, [], ◌++◌, length, refl, sym, ◌∙◌, ap, subst, arith, Option, Some, None, inl, inr, length-append, append-nil}
-use Rattle.std.specs.Io.KnownBytes.{Consumes, IsAtEnd}
-use Rattle.kb_io.specs.KnownBytes.{keeps_none}
+-- How the answers to the commands go on and end.
+use Rattle.std.proofs.Common.{◌≡◌, ℕ, ◌+◌, ◌-◌, ◌<◌, ◌≤◌, ◌++◌, List, ◌∷◌, [], length, refl, sym, ◌∙◌, ap, subst, arith, length-append, true, false, Option, Some, None, Ok, Err, inl, inr}
+use Rattle.kb_io.specs.Outside.{Rose}
+use Rattle.kb_io.specs.Pending.{Pending, most_bytes}
 use Rattle.kb_logic.specs.declared.first.FirstKb.{FirstKb}
-use Rattle.idp_cli.specs.Files.{IfTold, IsConsultable}
-use Rattle.idp_cli.specs.Consultation.{AnswersInPart}
-use Rattle.idp_cli.specs.Printing.{AnswersScript}
-use Rattle.idp_cli.specs.Top.{Outside, ConsultationEnds, most_script_bytes}
-use Rattle.idp_cli.specs.declared.status.Status.{Status}
+use Rattle.consultant_session.specs.States.{State, first_state}
+use Rattle.idp_cli.specs.Files.{IfTold}
+use Rattle.idp_cli.specs.Consultation.{AnswersTo}
+use Rattle.idp_cli.specs.Answering.{Streams, IsWithoutFault, AnswersCommands, status_of}
+use Rattle.idp_cli.specs.Turns.{Turns, TakesLine}
+use Rattle.idp_cli.specs.declared.stops.Stop.{Stop}
+use Rattle.idp_cli.specs.declared.stops.Stop.TheVariants as stop
 use Rattle.idp_cli.specs.declared.status.Status.TheVariants as status
-use Rattle.idp_cli.proofs.Saying.{answers_none}
+use Rattle.idp_cli.proofs.Answered.{answers_none, answers_more}
+use Rattle.idp_cli.proofs.Progress.{Given, none_given, line_given, some_given, next_given, all_given, ended_given, ended_within}
 
--- no line was answered yet
-pub answers_nothing : (kb : FirstKb) (lines : List (List ℕ)) (out : Option (List ℕ)) → AnswersInPart kb lines out out
-answers_nothing kb lines out = ([], lines, refl, out, answers_none kb out, inl (keeps_none out))
+-- the lines that were given are answered
+abbrev pub IsSoFar : FirstKb → State → Pending → Streams → Streams → Type 0
+IsSoFar kb s p before now =
+    (p.taken ≤ most_bytes) × IsWithoutFault before now × ((front : List (List ℕ)) × AnswersTo kb front s before.out now.out × Given before.script now.script front p)
 
--- what was taken up to the end is all that there was
-told_whole : (before now : Option (List ℕ)) (bytes : List ℕ) (P : List ℕ → Type 0) → Consumes before now bytes → IsAtEnd now → P bytes → IfTold before P
-told_whole None now bytes P took at_end is = tt
-told_whole (Some xs) None bytes P took at_end is = absurd took
-told_whole (Some xs) (Some ys) bytes P took at_end is = subst P (sym (took ∙ ap (λ (l : List ℕ). bytes ++ l) at_end ∙ append-nil bytes)) is
+pub begins : (kb : FirstKb) (before : Streams) → IsSoFar kb first_state (record { taken = 0; ahead = []; line = [] }) before before
+begins kb before = (omega arith, (refl, refl), ([], answers_none kb before.out, none_given before.script))
 
--- as many bytes as were taken were there
-told_more : (before now : Option (List ℕ)) (bytes : List ℕ) (n : ℕ) → Consumes before now bytes → length bytes ≡ n + 1 → IfTold before (λ told. n < length told)
-told_more None now bytes n took size = tt
-told_more (Some xs) None bytes n took size = absurd took
-told_more (Some xs) (Some ys) bytes n took size = omega (arith, ap length took, length-append bytes ys, size)
+-- a line more
+pub goes_on : (kb kb' : FirstKb) (s t : State) (p p' : Pending) (before mid now : Streams) → kb' ≡ kb → IsSoFar kb s p before mid → Turns (Ok true) kb' s t p p' mid now → IsSoFar kb t p' before now
+goes_on kb kb' s t p p' before mid now same so_far turned =
+    let turn = subst (λ (k : FirstKb). Turns (Ok true) k s t p p' mid now) same turned in
+    let takes = turn.1.1 in
+    let answer = turn.1.2 in (
+      omega (arith, so_far.0, takes.3),
+      (turn.0.0 ∙ so_far.1.0, turn.0.1 ∙ so_far.1.1),
+      (
+        so_far.2.0 ++ turn.1.0 ∷ [],
+        answers_more kb so_far.2.0 turn.1.0 s t answer.0 before.out mid.out now.out so_far.2.1 answer.1 answer.2 answer.3,
+        line_given before.script mid.script now.script so_far.2.0 turn.1.0 p p' so_far.2.2 takes,
+      ),
+    )
 
-consults_with : (file : Option (List ℕ)) (kb : FirstKb) (P : FirstKb → Type 0) → IfTold file (λ bytes. IsConsultable bytes kb) → P kb → IfTold file (λ bytes. (kb : FirstKb) × IsConsultable bytes kb × P kb)
-consults_with None kb P is holds = tt
-consults_with (Some bytes) kb P is holds = (kb, is, holds)
+map_told : (o : Option (List ℕ)) (P Q : List ℕ → Type 0) → ((bytes : List ℕ) → P bytes → Q bytes) → IfTold o P → IfTold o Q
+map_told None P Q f is = tt
+map_told (Some bytes) P Q f is = f bytes is
 
--- the commands were read whole
-pub script_ends : (s : Status) (file : List ℕ) (kb : FirstKb) (before now : Outside) (bytes : List ℕ) → AnswersScript s kb bytes before.out now.out before.out_faults now.out_faults
-    → now.shelf_faults ≡ before.shelf_faults → now.script_faults ≡ before.script_faults → Consumes before.script now.script bytes → IsAtEnd now.script → length bytes ≤ most_script_bytes
-    → IfTold (before.files file) (λ bytes. IsConsultable bytes kb) → ConsultationEnds s file before now
-script_ends status.Done file kb before now bytes ends shelf script took at_end short is = (
-  record { shelf = shelf; script = script; out = ends.0 },
-  at_end,
-  consults_with (before.files file) kb _ is (told_whole before.script now.script bytes _ took at_end (short, ends.1)),
-)
-script_ends status.WriteFault file kb before now bytes ends shelf script took at_end short is =
-    (ends.0, inr (consults_with (before.files file) kb _ is (told_whole before.script now.script bytes _ took at_end (short, ends.1))))
-script_ends status.Memory file kb before now bytes ends shelf script took at_end short is =
-    inr (consults_with (before.files file) kb _ is (told_whole before.script now.script bytes _ took at_end (short, ends)))
-script_ends (status.KbRefused k line) file kb before now bytes ends shelf script took at_end short is = absurd ends
-script_ends status.Usage file kb before now bytes ends shelf script took at_end short is = absurd ends
-script_ends status.ReadFault file kb before now bytes ends shelf script took at_end short is = absurd ends
-script_ends status.ScriptTooLong file kb before now bytes ends shelf script took at_end short is = absurd ends
+-- no line is left
+pub ends_done : (kb kb' : FirstKb) (s t : State) (p p' : Pending) (before mid now : Streams) → kb' ≡ kb → IsSoFar kb s p before mid → Turns (Ok false) kb' s t p p' mid now → AnswersCommands status.Done kb before now
+ends_done kb kb' s t p p' before mid now same so_far turn =
+    let answered : AnswersTo kb so_far.2.0 s before.out now.out = subst (AnswersTo kb so_far.2.0 s before.out) (sym turn.1) so_far.2.1 in (
+      ((turn.0.4 ∙ so_far.1.0, turn.2 ∙ so_far.1.1), turn.0.1),
+      map_told before.script _ _ (λ bytes given. (given.0, (s, subst (λ (ls : List (List ℕ)). AnswersTo kb ls s before.out now.out) (sym given.1) answered))) (all_given before.script mid.script now.script so_far.2.0 p p' mid.script_faults now.script_faults so_far.2.2 so_far.0 turn.0),
+    )
 
--- more commands were offered than are read
-pub script_too_long : (file : List ℕ) (kb : FirstKb) (before now : Outside) (bytes : List ℕ) → now.shelf_faults ≡ before.shelf_faults → now.script_faults ≡ before.script_faults → now.out_faults ≡ before.out_faults
-    → now.out ≡ before.out → Consumes before.script now.script bytes → length bytes ≡ most_script_bytes + 1 → IfTold (before.files file) (λ bytes. IsConsultable bytes kb)
-    → ConsultationEnds status.ScriptTooLong file before now
-script_too_long file kb before now bytes shelf script out same took size is =
-    (record { shelf = shelf; script = script; out = out }, same, consults_with (before.files file) kb _ is (told_more before.script now.script bytes most_script_bytes took size))
+-- the answers end early
+pub ends_early : (stop : Stop) (kb kb' : FirstKb) (s t : State) (p p' : Pending) (before mid now : Streams) → kb' ≡ kb → IsSoFar kb s p before mid → Turns (Err stop) kb' s t p p' mid now → AnswersCommands (status_of stop) kb before now
+ends_early stop.ReadFault kb kb' s t p p' before mid now same so_far turn =
+    let answered : AnswersTo kb so_far.2.0 s before.out now.out = subst (AnswersTo kb so_far.2.0 s before.out) (sym turn.1) so_far.2.1 in (
+      subst (λ n. Rose n now.script_faults) so_far.1.0 turn.0.5,
+      map_told before.script _ _ (λ bytes given. (given.0, so_far.2.0, given.1, given.2, given.3, (s, answered))) (ended_given before.script mid.script now.script so_far.2.0 p p' mid.script_faults now.script_faults so_far.2.2 so_far.0 turn.0),
+    )
+ends_early stop.WriteFault kb kb' s t p p' before mid now same so_far turned =
+    let turn = subst (λ (k : FirstKb). Turns (Err stop.WriteFault) k s t p p' mid now) same turned in (
+      subst (λ n. Rose n now.out_faults) so_far.1.1 turn.0,
+      map_told before.script _ _ (λ bytes given. (so_far.2.0, turn.1.0, given.0, given.1, (s, mid.out, so_far.2.1, turn.1.2)))
+          (next_given before.script mid.script now.script so_far.2.0 turn.1.0 p p' so_far.2.2 turn.1.1),
+    )
+ends_early stop.Memory kb kb' s t p p' before mid now same so_far turn =
+    let answered : AnswersTo kb so_far.2.0 s before.out now.out = subst (AnswersTo kb so_far.2.0 s before.out) (sym turn) so_far.2.1 in
+    (tt, map_told before.script _ _ (λ bytes given. (so_far.2.0, given.0, given.1, (s, answered))) (some_given before.script mid.script so_far.2.0 p so_far.2.2))
+ends_early stop.ScriptTooLong kb kb' s t p p' before mid now same so_far turn =
+    let answered : AnswersTo kb so_far.2.0 s before.out now.out = subst (AnswersTo kb so_far.2.0 s before.out) (sym turn.1) so_far.2.1 in (
+      (turn.0.6 ∙ so_far.1.0, turn.2 ∙ so_far.1.1),
+      map_told before.script _ _ (λ bytes given. (given.0, (s, subst (λ (ls : List (List ℕ)). AnswersTo kb ls s before.out now.out) given.1 answered)))
+          (ended_within before.script mid.script now.script so_far.2.0 p p' mid.script_faults now.script_faults so_far.2.2 so_far.0 turn.0),
+    )
+
+-- a line that is taken leaves less to take
+pub takes_some : (line : List ℕ) (p p' : Pending) (left left' : Option (List ℕ)) → p.taken ≤ most_bytes → TakesLine line p p' left left' → most_bytes + length p'.ahead - p'.taken < most_bytes + length p.ahead - p.taken
+takes_some line p p' left left' within takes =
+    let both = length-append p.ahead takes.0 in
+    elim takes.4.1 [
+      | inl ends ↦ omega (arith, within, takes.2, takes.3, both, ap length ends, length-append line (10 ∷ p'.ahead))
+      | inr last ↦ omega (arith, within, takes.2, takes.3, both, ap length last.0, last.1, ap length last.2)
+    ]

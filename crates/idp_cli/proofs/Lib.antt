@@ -1,6 +1,8 @@
-mod Cutting
-mod Blanks
-mod Saying
 mod Words
+mod Ended
+mod Answered
+mod Progress
 mod Ending
+mod Replying
+mod Consulting
 mod Elimination

@@ -1,52 +1,78 @@
--- A whole consultation.
-use Rattle.std.specs.Prelude.{◌≡◌, ℕ, List, [], ◌∷◌, ◌++◌, ◌⊎◌, Option, codes, flat_map}
-use Rattle.std.specs.Io.KnownBytes.{Appends, Keeps}
+-- A consultation: what is rightly said in answer to lines, one after another.
+use Rattle.std.specs.Prelude.{◌≡◌, ℕ, ◌<◌, ◌≤◌, List, [], ◌∷◌, ◌++◌, Option, length, flat_map}
+use Rattle.std.specs.Io.KnownBytes.{Appends}
+use Rattle.kb_io.specs.Lines.{longest_line}
 use Rattle.kb_io.specs.Whole.{AppendsFront}
-use Rattle.kb_logic.specs.Structures.{EachWith}
 use Rattle.kb_logic.specs.declared.vocabularies.Vocabulary.{Vocabulary}
 use Rattle.kb_logic.specs.declared.first.FirstKb.{FirstKb}
+use Rattle.consult_text.specs.Lines.{IsBlank, HasCommand, HasRefusal}
+use Rattle.consult_text.specs.Texts.{reply_text}
+use Rattle.consult_text.specs.declared.refusals.F.{F}
+use Rattle.consult_text.specs.declared.refusals.F.TheVariants as refusal
+use Rattle.consult_text.specs.declared.commands.Command.{Command}
+use Rattle.consult_text.specs.declared.replies.Reply.{Reply}
+use Rattle.consult_text.specs.declared.replies.Reply.TheVariants as reply
 use Rattle.consultant_session.specs.Replies.{RightReply}
-use Rattle.consultant_session.specs.declared.replies.Reply.{Reply}
-use Rattle.consultant_session.specs.declared.replies.Command.TheVariants as command
-use Rattle.idp_cli.specs.Commands.{AreSpaces, IsModelLine}
-use Rattle.idp_cli.specs.Replies.{reply_text}
+use Rattle.consultant_session.specs.States.{State, first_state, state_after}
 
--- what is said in answer to a line
+-- what is said in answer to a line: nothing, that it is too long, that its text is refused, or a reply to its command
 pub data Said : Type 0 where
   nothing : Said
-  syntax_refused : Said
-  replied : Reply → Said
+  too_long : Said
+  refused : F → Said
+  replied : Command → Reply → Said
 
--- a blank line is answered by nothing, `model.` by a right reply, and every other line is refused
-abbrev pub RightAnswer : FirstKb → List ℕ → Said → Type 0
-RightAnswer kb line nothing = AreSpaces line
-RightAnswer kb line syntax_refused = (AreSpaces line → ⊥) × (IsModelLine line → ⊥)
-RightAnswer kb line (replied reply) = IsModelLine line × RightReply kb command.Model reply
+-- A blank line is answered by nothing, a line of more than 65,536 bytes by that, a line whose text is refused by the refusal,
+-- and a command by a reply that is right in the state.
+abbrev pub IsRightAnswer : FirstKb → State → List ℕ → Said → Type 0
+IsRightAnswer kb s line nothing = (length line ≤ longest_line) × IsBlank line
+IsRightAnswer kb s line too_long = longest_line < length line
+IsRightAnswer kb s line (refused f) = (length line ≤ longest_line) × HasRefusal kb line f
+IsRightAnswer kb s line (replied c r) = (length line ≤ longest_line) × HasCommand kb line c × RightReply kb s c r
+
+-- the state that it leaves: only a command changes it
+abbrev pub state_left : FirstKb → State → Said → State
+state_left kb s nothing = s
+state_left kb s too_long = s
+state_left kb s (refused f) = s
+state_left kb s (replied c r) = state_after kb s c
 
 -- its bytes
 abbrev pub said_text : Vocabulary → Said → List ℕ
 said_text vocab nothing = []
-said_text vocab syntax_refused = codes "refused F1 Syntax\n"
-said_text vocab (replied reply) = reply_text vocab reply
+said_text vocab too_long = reply_text vocab (reply.Refused refusal.LineTooLong)
+said_text vocab (refused f) = reply_text vocab (reply.Refused f)
+said_text vocab (replied c r) = reply_text vocab r
 
 -- the bytes of what was said
 abbrev pub said_texts : FirstKb → List Said → List ℕ
 said_texts kb said = flat_map (said_text kb.vocab) said
 
--- each line has its right answer, in order, and out grew by exactly their texts
-abbrev pub Answers : FirstKb → List (List ℕ) → Option (List ℕ) → Option (List ℕ) → Type 0
-Answers kb lines old new = (said : List Said) × EachWith (RightAnswer kb) lines said × Appends old new (said_texts kb said)
+-- From the state s, each line has its right answer, in the state that the lines before it left; the last one leaves t.
+abbrev pub Consultation : FirstKb → State → List (List ℕ) → List Said → State → Type 0
+Consultation kb s [] [] t = t ≡ s
+Consultation kb s [] (said ∷ more) t = ⊥
+Consultation kb s (line ∷ lines) [] t = ⊥
+Consultation kb s (line ∷ lines) (said ∷ more) t = IsRightAnswer kb s line said × Consultation kb (state_left kb s said) lines more t
 
--- out grew by the right answer to the line
-abbrev pub AnswersLine : FirstKb → List ℕ → Option (List ℕ) → Option (List ℕ) → Type 0
-AnswersLine kb line old new = (said : Said) × RightAnswer kb line said × Appends old new (said_text kb.vocab said)
+-- the lines have their right answers from the first state on, they leave t, and out grew by exactly the answers' bytes
+abbrev pub AnswersTo : FirstKb → List (List ℕ) → State → Option (List ℕ) → Option (List ℕ) → Type 0
+AnswersTo kb lines t old new = (said : List Said) × Consultation kb first_state lines said t × Appends old new (said_texts kb said)
 
 -- out grew by a front of the right answer to the line
-abbrev pub AnswersFront : FirstKb → List ℕ → Option (List ℕ) → Option (List ℕ) → Type 0
-AnswersFront kb line old new = (said : Said) × RightAnswer kb line said × AppendsFront old new (said_text kb.vocab said)
+abbrev pub AnswersFront : FirstKb → State → List ℕ → Option (List ℕ) → Option (List ℕ) → Type 0
+AnswersFront kb s line old new = (said : Said) × IsRightAnswer kb s line said × AppendsFront old new (said_text kb.vocab said)
 
--- a front of the lines was answered, and then out grew by nothing more or by a front of the answer to the next line
+-- all of the lines are answered
+abbrev pub AnswersAll : FirstKb → List (List ℕ) → Option (List ℕ) → Option (List ℕ) → Type 0
+AnswersAll kb lines old new = (t : State) × AnswersTo kb lines t old new
+
+-- a front of the lines is answered
+abbrev pub AnswersSome : FirstKb → List (List ℕ) → Option (List ℕ) → Option (List ℕ) → Type 0
+AnswersSome kb lines old new = (front : List (List ℕ)) × (rest : List (List ℕ)) × (lines ≡ front ++ rest) × AnswersAll kb front old new
+
+-- a front of the lines is answered, and after it a front of the answer to the next line
 abbrev pub AnswersInPart : FirstKb → List (List ℕ) → Option (List ℕ) → Option (List ℕ) → Type 0
 AnswersInPart kb lines old new =
-    (front : List (List ℕ)) × (more : List (List ℕ)) × (lines ≡ front ++ more) × (mid : Option (List ℕ)) × Answers kb front old mid
-    × (Keeps mid new ⊎ ((line : List ℕ) × (rest : List (List ℕ)) × (more ≡ line ∷ rest) × AnswersFront kb line mid new))
+    (front : List (List ℕ)) × (line : List ℕ) × (rest : List (List ℕ)) × (lines ≡ front ++ line ∷ rest)
+    × ((t : State) × (mid : Option (List ℕ)) × AnswersTo kb front t old mid × AnswersFront kb t line mid new)

@@ -1,11 +1,10 @@
-pub mod Commands
-pub mod Spaces
-pub mod Replies
 pub mod Files
 pub mod Reading
 pub mod Consultation
+pub mod EndedLines
+pub mod Answering
+pub mod Turns
 pub mod Top
-pub mod Stops
 pub mod Printing
 pub mod Laws
 pub mod Codes

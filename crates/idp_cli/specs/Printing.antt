@@ -1,13 +1,10 @@
--- What is said of a refused file, and in answer to a script.
+-- What is said of a refused file.
 use Rattle.std.specs.Prelude.{◌≡◌, ℕ, List, Option}
 use Rattle.std.specs.Io.KnownBytes.{Appends}
-use Rattle.kb_io.specs.Lines.{command_lines}
 use Rattle.kb_io.specs.Outside.{Rose}
 use Rattle.kb_io.specs.Whole.{AppendsFront}
 use Rattle.kb_text.specs.declared.fault.K.{K}
-use Rattle.kb_logic.specs.declared.first.FirstKb.{FirstKb}
 use Rattle.idp_cli.specs.Files.{refusal_text}
-use Rattle.idp_cli.specs.Consultation.{Answers, AnswersInPart}
 use Rattle.idp_cli.specs.declared.status.Status.{Status}
 use Rattle.idp_cli.specs.declared.status.Status.TheVariants as status
 
@@ -20,13 +17,3 @@ PrintsRefusal status.Done k line old new before now = ⊥
 PrintsRefusal status.Usage k line old new before now = ⊥
 PrintsRefusal status.ReadFault k line old new before now = ⊥
 PrintsRefusal status.ScriptTooLong k line old new before now = ⊥
-
--- the lines of the script are answered, or a front of them
-abbrev pub AnswersScript : Status → FirstKb → List ℕ → Option (List ℕ) → Option (List ℕ) → ℕ → ℕ → Type 0
-AnswersScript status.Done kb script old new before now = (now ≡ before) × Answers kb (command_lines script) old new
-AnswersScript status.WriteFault kb script old new before now = Rose before now × AnswersInPart kb (command_lines script) old new
-AnswersScript status.Memory kb script old new before now = AnswersInPart kb (command_lines script) old new
-AnswersScript (status.KbRefused k line) kb script old new before now = ⊥
-AnswersScript status.Usage kb script old new before now = ⊥
-AnswersScript status.ReadFault kb script old new before now = ⊥
-AnswersScript status.ScriptTooLong kb script old new before now = ⊥

@@ -1,15 +1,14 @@
 -- The top call: when each status comes.
-use Rattle.std.specs.Prelude.{◌≡◌, ◌⊎◌, ℕ, ◌<◌, ◌≤◌, List, [], ◌∷◌, ◌==◌, Bool, false, map, codes, Option, length}
+use Rattle.std.specs.Prelude.{◌≡◌, ◌⊎◌, ℕ, List, [], ◌∷◌, ◌==◌, Bool, false, map, codes, Option}
 use Rattle.std.specs.String.{string_bytes}
 use Rattle.std.specs.Io.KnownBytes.{Appends, IsAtEnd}
 use Rattle.std.specs.declared.string.String.{String}
 use Rattle.std.specs.declared.alloc.Global.{Global}
-use Rattle.kb_io.specs.Lines.{command_lines}
 use Rattle.kb_io.specs.Outside.{Rose, GrewByName, KeptNames}
 use Rattle.kb_io.specs.Whole.{AppendsFront}
 use Rattle.kb_logic.specs.declared.first.FirstKb.{FirstKb}
 use Rattle.idp_cli.specs.Files.{IfTold, IsConsultable, IsRefused, refusal_text}
-use Rattle.idp_cli.specs.Consultation.{Answers, AnswersInPart}
+use Rattle.idp_cli.specs.Answering.{AnswersScript}
 use Rattle.kb_text.specs.declared.fault.K.{K}
 use Rattle.idp_cli.specs.declared.status.Status.{Status}
 use Rattle.idp_cli.specs.declared.status.Status.TheVariants as status
@@ -25,10 +24,6 @@ is_option (byte ∷ bytes) = byte == 45
 -- the words are `consult FILE`, where FILE is no option
 abbrev pub IsConsult : Words → List ℕ → Type 0
 IsConsult words file = (map string_bytes words ≡ codes "consult" ∷ file ∷ []) × (is_option file ≡ false)
-
--- how many bytes of commands may be offered
-abbrev pub most_script_bytes : ℕ
-most_script_bytes = 67108864
 
 -- The outside at one moment, as far as it is told: the files of the shelf, the bytes that the commands have left, those
 -- that the output holds, and the counts of faults.
@@ -46,32 +41,26 @@ pub record IsFaultless (before now : Outside) : Type 0 where
   pub script : now.script_faults ≡ before.script_faults
   pub out : now.out_faults ≡ before.out_faults
 
--- the file is consulted about, where it is told
-abbrev pub Consults : Outside → List ℕ → (FirstKb → Type 0) → Type 0
-Consults before file P = IfTold (before.files file) (λ bytes. (kb : FirstKb) × IsConsultable bytes kb × P kb)
+-- the lines of the commands were answered by the knowledge base of the file, where both are told
+abbrev pub AnswersByFile : Status → List ℕ → Outside → Outside → Type 0
+AnswersByFile s file before now =
+    IfTold (before.files file) (λ bytes. (kb : FirstKb) × IsConsultable bytes kb × IfTold before.script (λ script. AnswersScript s kb script now.script before.out now.out))
 
--- the commands were read whole, and their lines were answered in part
-abbrev pub AnswersScriptInPart : Outside → Outside → FirstKb → Type 0
-AnswersScriptInPart before now kb = IfTold before.script (λ script. (length script ≤ most_script_bytes) × AnswersInPart kb (command_lines script) before.out now.out)
-
--- what each status says of a consultation about this file
+-- What each status says of a consultation about this file. Before the commands are answered no byte of them is taken.
 abbrev pub ConsultationEnds : Status → List ℕ → Outside → Outside → Type 0
-ConsultationEnds status.Done file before now =
-    IsFaultless before now × IsAtEnd now.script
-    × Consults before file (λ kb. IfTold before.script (λ script. (length script ≤ most_script_bytes) × Answers kb (command_lines script) before.out now.out))
+ConsultationEnds status.Done file before now = IsFaultless before now × IsAtEnd now.script × AnswersByFile status.Done file before now
 ConsultationEnds (status.KbRefused k line) file before now =
     IsFaultless before now × (now.script ≡ before.script) × IfTold (before.files file) (IsRefused k line) × Appends before.out now.out (refusal_text k line)
 ConsultationEnds status.Usage file before now = ⊥
 ConsultationEnds status.ReadFault file before now =
-    (now.out ≡ before.out)
-    × ((Rose before.shelf_faults now.shelf_faults × (now.script ≡ before.script)) ⊎ (Rose before.script_faults now.script_faults × Consults before file (λ kb. Unit {0})))
+    (Rose before.shelf_faults now.shelf_faults × (now.script ≡ before.script) × (now.out ≡ before.out))
+    ⊎ (Rose before.script_faults now.script_faults × AnswersByFile status.ReadFault file before now)
 ConsultationEnds status.WriteFault file before now =
     Rose before.out_faults now.out_faults
     × (((now.script ≡ before.script) × ((k : K) × (line : ℕ) × IfTold (before.files file) (IsRefused k line) × AppendsFront before.out now.out (refusal_text k line)))
-    ⊎ Consults before file (AnswersScriptInPart before now))
-ConsultationEnds status.Memory file before now = (now.out ≡ before.out) ⊎ Consults before file (AnswersScriptInPart before now)
-ConsultationEnds status.ScriptTooLong file before now =
-    IsFaultless before now × (now.out ≡ before.out) × Consults before file (λ kb. IfTold before.script (λ script. most_script_bytes < length script))
+    ⊎ AnswersByFile status.WriteFault file before now)
+ConsultationEnds status.Memory file before now = ((now.script ≡ before.script) × (now.out ≡ before.out)) ⊎ AnswersByFile status.Memory file before now
+ConsultationEnds status.ScriptTooLong file before now = IsFaultless before now × AnswersByFile status.ScriptTooLong file before now
 
 -- the words are no command line
 abbrev pub IsUsage : Words → Type 0

@@ -1,43 +1,23 @@
 //! Answers to the lines of the commands.
-ghost use Rattle.std.specs.Prelude.{◌≡◌, ◌≤◌, ◌++◌, OnOk, OnErr, ◌⊎◌};
-ghost use Rattle.std.specs.Io.KnownBytes.{Appends, Keeps};
-ghost use Rattle.kb_io.specs.Lines.{command_lines};
+ghost use Rattle.std.specs.Prelude.{◌≡◌, ◌≤◌, ◌++◌, [], length, OnOk, OnErr, IfOk};
+ghost use Rattle.std.specs.Io.KnownBytes.{Appends};
+ghost use Rattle.kb_io.specs.Lines.{longest_line};
 ghost use Rattle.kb_io.specs.Outside.{HasCause};
 ghost use Rattle.kb_io.specs.Whole.{AppendsFront};
+ghost use Rattle.consult_text.specs.Texts.{reply_text};
 ghost use Rattle.consultant_session.specs.Replies.{IsSmallFirstKb};
-ghost use Rattle.consultant_session.specs.Sessions.{kb_of};
-ghost use Rattle.idp_cli.specs.Consultation.{Answers, AnswersInPart, AnswersLine, AnswersFront};
-ghost use Rattle.idp_cli.specs.Stops.{StopsFor, ModelSaid, ModelBegun};
-ghost use Rattle.idp_cli.specs.declared.answers.Stop.TheVariants.{WriteFault, Memory};
+ghost use Rattle.consultant_session.specs.Sessions.{kb_of, state_of};
+ghost use Rattle.consultant_session.specs.States.{first_state};
+ghost use Rattle.idp_cli.specs.Answering.{AnswersCommands, ended_as};
+ghost use Rattle.idp_cli.specs.Turns.{RepliesTo, Writes, AnswersLine, Turns};
 
-use crate::commands::{Asked, asked_by, cut_line};
-use crate::replies::text_of;
-use consultant_session::{Command, Session};
-use kb_io::{Failed, Sink, write_all};
+use crate::stops::Stop;
+use consult_text::{CommandError, F, Reply, read_command, write_reply};
+use consultant_session::Session;
+use kb_io::{Failed, LineState, Next, Sink, Source, next_line, write_all};
+use kb_logic::Memory;
+use kb_logic::first::FirstKb;
 use std::alloc::Global;
-
-/// Why the answers end early.
-#[derive(Clone, Copy)]
-pub enum Stop {
-    WriteFault,
-    Memory,
-}
-
-impl From<Failed> for Stop {
-    ghost from_gives = { λ _ e. e ≡ WriteFault };
-
-    fn from(_e: Failed) -> Stop {
-        Stop::WriteFault
-    }
-}
-
-impl From<kb_logic::Memory> for Stop {
-    ghost from_gives = { λ _ e. e ≡ Memory };
-
-    fn from(_e: kb_logic::Memory) -> Stop {
-        Stop::Memory
-    }
-}
 
 /// Writes a text and flushes.
 pub fn say<W: Sink>(out: &mut W, text: &[u8]) -> Result<(), Failed>
@@ -49,60 +29,115 @@ pub fn say<W: Sink>(out: &mut W, text: &[u8]) -> Result<(), Failed>
     out.flush()
 }
 
-/// Answers the line that asks for a model.
-fn answer_model<W: Sink>(alloc: Global, session: &mut Session, out: &mut W) -> Result<(), Stop>
-    requires { IsSmallFirstKb (kb_of session.old) }
-    ensures ok { OnOk result (ModelSaid (kb_of session.old) (W.holds out.old) (W.holds out.new)) }
-    ensures err { OnErr result (ModelBegun (kb_of session.old) (W.holds out.old) (W.holds out.new)) }
-    ensures same { session.new ≡ session.old }
-    ensures cause { StopsFor (W.faults out.old) (W.faults out.new) result }
+/// The reply to a line; none to a blank one.
+fn reply_to(alloc: Global, session: &mut Session, line: &[u8]) -> Result<Option<Reply>, Memory>
+    requires small { IsSmallFirstKb (kb_of session.old) }
+    requires short { length line.now ≤ longest_line }
+    ensures right { IfOk result (λ reply. RepliesTo (kb_of session.old) (state_of session.old) line.now reply (state_of session.new)) }
+    ensures kb { kb_of session.new ≡ kb_of session.old }
 {
-    let reply = session.step(&Command::Model)?;
-    let text = text_of(alloc, &session.kb().vocab, &reply)?;
-    say(out, &text)?;
-    Ok(())
+    match read_command(alloc, line, session.kb()) {
+        Ok(None) => Ok(None),
+        Ok(Some(command)) => Ok(Some(session.step(&command)?)),
+        Err(CommandError::Refused(f)) => Ok(Some(Reply::Refused(f))),
+        Err(CommandError::Memory) => Err(Memory),
+    }
 }
 
-/// Answers one line.
-fn answer<W: Sink>(
+/// A session, with what it takes to read lines and to write replies.
+#[derive(Drop)]
+pub struct Desk {
     alloc: Global,
-    session: &mut Session,
-    line: &[u8],
-    out: &mut W,
-) -> Result<(), Stop>
-    requires { IsSmallFirstKb (kb_of session.old) }
-    ensures ok { OnOk result (AnswersLine (kb_of session.old) line.now (W.holds out.old) (W.holds out.new)) }
-    ensures err { OnErr result (Keeps (W.holds out.old) (W.holds out.new) ⊎ AnswersFront (kb_of session.old) line.now (W.holds out.old) (W.holds out.new)) }
-    ensures same { session.new ≡ session.old }
-    ensures cause { StopsFor (W.faults out.old) (W.faults out.new) result }
-{
-    match asked_by(line) {
-        Asked::Nothing => Ok(()),
-        Asked::Model => answer_model(alloc, session, out),
-        Asked::NoCommand => {
-            say(out, b"refused F1 Syntax\n")?;
-            Ok(())
+    session: Session,
+    lines: LineState,
+    text: Vec<u8>,
+}
+
+impl Desk {
+    /// No line was read.
+    pub fn open(alloc: Global, kb: FirstKb) -> Result<Desk, Memory>
+        requires { IsSmallFirstKb kb }
+        ensures kb { IfOk result (λ desk. kb_of desk.session ≡ kb) }
+        ensures first { IfOk result (λ desk. state_of desk.session ≡ first_state) }
+        ensures lines { IfOk result (λ desk. desk.lines ≡ record { taken = 0; ahead = []; line = [] }) }
+    {
+        let session = Session::open(alloc, kb)?;
+        let Ok(lines) = LineState::new(alloc) else {
+            return Err(Memory);
+        };
+        Ok(Desk {
+            alloc,
+            session,
+            lines,
+            text: Vec::new(alloc),
+        })
+    }
+
+    /// Writes a reply and flushes.
+    fn write<W: Sink>(&mut self, reply: &Reply, out: &mut W) -> Result<(), Stop>
+        ensures written { Writes result (reply_text (kb_of self.old.session).vocab reply.now) (W.holds out.old) (W.holds out.new) (W.faults out.old) (W.faults out.new) }
+        ensures session { self.new.session ≡ self.old.session }
+        ensures lines { self.new.lines ≡ self.old.lines }
+    {
+        self.text.clear();
+        write_reply(&mut self.text, &self.session.kb().vocab, reply)?;
+        say(out, &self.text)?;
+        Ok(())
+    }
+
+    /// Answers the line that was read.
+    fn answer<W: Sink>(&mut self, out: &mut W) -> Result<(), Stop>
+        requires small { IsSmallFirstKb (kb_of self.old.session) }
+        requires short { length self.old.lines.line ≤ longest_line }
+        ensures answered { AnswersLine result (kb_of self.old.session) (state_of self.old.session) (state_of self.new.session) self.old.lines.line (W.holds out.old) (W.holds out.new) (W.faults out.old) (W.faults out.new) }
+        ensures kb { kb_of self.new.session ≡ kb_of self.old.session }
+        ensures lines { self.new.lines ≡ self.old.lines }
+    {
+        match reply_to(self.alloc, &mut self.session, self.lines.line())? {
+            None => Ok(()),
+            Some(reply) => self.write(&reply, out),
         }
     }
-}
 
-/// Answers the lines of the script in order.
-pub fn answer_all<W: Sink>(
-    alloc: Global,
-    session: &mut Session,
-    script: &[u8],
-    out: &mut W,
-) -> Result<(), Stop>
-    requires { IsSmallFirstKb (kb_of session.old) }
-    ensures ok { OnOk result (Answers (kb_of session.old) (command_lines script.now) (W.holds out.old) (W.holds out.new)) }
-    ensures err { OnErr result (AnswersInPart (kb_of session.old) (command_lines script.now) (W.holds out.old) (W.holds out.new)) }
-    ensures cause { StopsFor (W.faults out.old) (W.faults out.new) result }
-{
-    let mut rest = script;
-    while !rest.is_empty() {
-        let (line, after) = cut_line(rest);
-        answer(alloc, session, line, out)?;
-        rest = after;
+    /// Reads the next line and answers it; false where no line is left.
+    fn answer_next<C: Source, W: Sink>(
+        &mut self,
+        commands: &mut C,
+        out: &mut W,
+    ) -> Result<bool, Stop>
+        requires { IsSmallFirstKb (kb_of self.old.session) }
+        ensures turn { Turns result (kb_of self.old.session) (state_of self.old.session) (state_of self.new.session) self.old.lines self.new.lines
+            (record { script = C.left commands.old; out = W.holds out.old; script_faults = C.faults commands.old; out_faults = W.faults out.old })
+            (record { script = C.left commands.new; out = W.holds out.new; script_faults = C.faults commands.new; out_faults = W.faults out.new }) }
+        ensures kb { kb_of self.new.session ≡ kb_of self.old.session }
+    {
+        match next_line(commands, &mut self.lines)? {
+            Next::Line => {
+                self.answer(out)?;
+                Ok(true)
+            }
+            Next::LongLine => {
+                self.write(&Reply::Refused(F::LineTooLong), out)?;
+                Ok(true)
+            }
+            Next::End => Ok(false),
+        }
     }
-    Ok(())
+
+    /// Answers the lines that the commands have left, each before the next one is read.
+    pub fn answer_all<C: Source, W: Sink>(
+        &mut self,
+        commands: &mut C,
+        out: &mut W,
+    ) -> Result<(), Stop>
+        requires small { IsSmallFirstKb (kb_of self.old.session) }
+        requires first { state_of self.old.session ≡ first_state }
+        requires lines { self.old.lines ≡ record { taken = 0; ahead = []; line = [] } }
+        ensures { AnswersCommands (ended_as result) (kb_of self.old.session)
+            (record { script = C.left commands.old; out = W.holds out.old; script_faults = C.faults commands.old; out_faults = W.faults out.old })
+            (record { script = C.left commands.new; out = W.holds out.new; script_faults = C.faults commands.new; out_faults = W.faults out.new }) }
+    {
+        while self.answer_next(commands, out)? {}
+        Ok(())
+    }
 }

@@ -1,7 +1,7 @@
 //! Laws on how a run ends.
-ghost use Rattle.idp_cli.specs.Laws.{UsageLaw, CommandLaw, RefusalLaw, TakingLaw, LengthLaw, ShortLaw};
+ghost use Rattle.idp_cli.specs.Laws.{UsageLaw, CommandLaw, RefusalLaw, TakingLaw, LengthLaw, ShortLaw, DoneLaw};
 
-/// Usage, a refusal and ScriptTooLong come exactly where they should, unless a device failed or memory was wanting.
+/// Usage, a refusal, ScriptTooLong and Done come exactly where they should, unless a device failed or memory was wanting.
 pub fn statuses_come_where_they_should()
     ensures usage { UsageLaw }
     ensures command { CommandLaw }
@@ -9,4 +9,5 @@ pub fn statuses_come_where_they_should()
     ensures taking { TakingLaw }
     ensures length { LengthLaw }
     ensures short { ShortLaw }
+    ensures done { DoneLaw }
 {}

@@ -2,12 +2,11 @@
 #![tactic(auto)]
 
 mod answers;
-mod commands;
 mod edge;
 mod laws;
 mod loading;
-mod replies;
 mod status;
+mod stops;
 #[cfg(test)]
 mod tests;
 mod top;

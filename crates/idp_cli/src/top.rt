@@ -6,19 +6,17 @@ ghost use Rattle.kb_io.specs.Outside.{HasCause, GrewByName, KeptNumber};
 ghost use Rattle.kb_io.specs.Whole.{AppendsFront};
 ghost use Rattle.idp_cli.specs.Files.{refusal_text};
 ghost use Rattle.idp_cli.specs.Top.{IsConsult, IsUsage, is_option, RunEnds, ConsultationEnds, AsksForFile, Outside};
-ghost use Rattle.idp_cli.specs.Printing.{PrintsRefusal, AnswersScript};
+ghost use Rattle.idp_cli.specs.Answering.{OpensAndAnswers};
+ghost use Rattle.idp_cli.specs.Printing.{PrintsRefusal};
 ghost use Rattle.consultant_session.specs.Replies.{IsSmallFirstKb};
 
-use crate::answers::{Stop, answer_all, say};
+use crate::answers::{Desk, say};
 use crate::loading::{Unloaded, load};
 use crate::status::Status;
-use consultant_session::Session;
-use kb_io::{ReadError, Shelf, Sink, Source, read_up_to};
+use kb_io::{Shelf, Sink, Source};
 use kb_logic::first::FirstKb;
 use kb_text::K;
 use std::alloc::{AllocError, Global};
-
-const MOST_SCRIPT_BYTES: usize = 67_108_864;
 
 /// The file of `consult FILE`.
 fn consult_file(words: &[String]) -> Option<&str>
@@ -61,18 +59,24 @@ fn refuse<W: Sink>(alloc: Global, out: &mut W, k: K, line: u64) -> Status
     }
 }
 
-/// Answers the script by the knowledge base.
-fn answer_script<W: Sink>(alloc: Global, kb: FirstKb, script: &[u8], out: &mut W) -> Status
+/// Answers the commands by the knowledge base. Their first byte is taken after all memory that a line takes is at hand.
+fn answer_commands<C: Source, W: Sink>(
+    alloc: Global,
+    kb: FirstKb,
+    commands: &mut C,
+    out: &mut W,
+) -> Status
     requires { IsSmallFirstKb kb }
-    ensures { AnswersScript result kb script.now (W.holds out.old) (W.holds out.new) (W.faults out.old) (W.faults out.new) }
+    ensures { OpensAndAnswers result kb
+        (record { script = C.left commands.old; out = W.holds out.old; script_faults = C.faults commands.old; out_faults = W.faults out.old })
+        (record { script = C.left commands.new; out = W.holds out.new; script_faults = C.faults commands.new; out_faults = W.faults out.new }) }
 {
-    let Ok(mut session) = Session::open(alloc, kb) else {
+    let Ok(mut desk) = Desk::open(alloc, kb) else {
         return Status::Memory;
     };
-    match answer_all(alloc, &mut session, script, out) {
+    match desk.answer_all(commands, out) {
         Ok(()) => Status::Done,
-        Err(Stop::WriteFault) => Status::WriteFault,
-        Err(Stop::Memory) => Status::Memory,
+        Err(stop) => stop.status(),
     }
 }
 
@@ -96,12 +100,7 @@ fn consult<H: Shelf, C: Source, W: Sink>(
         Err(Unloaded::ReadFault) => return Status::ReadFault,
         Err(Unloaded::Memory) => return Status::Memory,
     };
-    match read_up_to(alloc, commands, MOST_SCRIPT_BYTES) {
-        Ok(script) => answer_script(alloc, kb, &script, out),
-        Err(ReadError::Fault) => Status::ReadFault,
-        Err(ReadError::Memory) => Status::Memory,
-        Err(ReadError::TooLong(_)) => Status::ScriptTooLong,
-    }
+    answer_commands(alloc, kb, commands, out)
 }
 
 /// Does what the words say, and answers how that ended.

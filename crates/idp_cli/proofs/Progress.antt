@@ -1,0 +1,194 @@
+-- How far the lines of a script were taken.
+use Rattle.std.proofs.Common.{◌≡◌, ℕ, ◌+◌, ◌-◌, ◌<◌, ◌≤◌, ◌⊎◌, List, [], ◌∷◌, ◌++◌, length, take, drop, refl, sym, ◌∙◌, ap, arith, append_assoc, length-append, append-nil, take-append-drop, Option, Some, None, Ok, Err, inl, inr}
+use Rattle.std.proofs.lemmas.List.{take-append-le}
+use Rattle.std.proofs.Math.Seq.{take-append-add}
+use Rattle.std.specs.Io.KnownBytes.{Consumes}
+use Rattle.kb_io.specs.Lines.{newlines, newlines-append, command_lines, ended, last_line, IsNextLine, next_line_begins}
+use Rattle.kb_io.specs.Pending.{Pending, NextLine, most_bytes}
+use Rattle.kb_io.specs.declared.lines.LineError.TheVariants as line_error
+use Rattle.kb_io.specs.declared.lines.Next.TheVariants as next
+use Rattle.idp_cli.specs.Files.{IfTold}
+use Rattle.idp_cli.specs.EndedLines.{ended_lines, HaveEnded}
+use Rattle.idp_cli.specs.Turns.{TakesLine}
+use Rattle.idp_cli.proofs.Ended.{AreWhole, whole_more, ended_more, lines_after, ended_are}
+
+-- a newline ended each of the lines, and the rest is ahead and left
+abbrev pub IsUnderWay : List ℕ → List ℕ → List (List ℕ) → Pending → Type 0
+IsUnderWay script left front p = AreWhole front × (script ≡ ended front ++ (p.ahead ++ left)) × (p.taken ≡ length (ended front ++ p.ahead))
+
+-- the last line ended with the script
+abbrev pub IsOver : List ℕ → List ℕ → List (List ℕ) → Pending → Type 0
+IsOver script left front p = (p.ahead ≡ []) × (left ≡ []) × (command_lines script ≡ front) × (p.taken ≡ length script)
+
+-- these lines were given of the script
+abbrev pub Given : Option (List ℕ) → Option (List ℕ) → List (List ℕ) → Pending → Type 0
+Given None left front p = Unit {0}
+Given (Some script) None front p = ⊥
+Given (Some script) (Some left) front p = IsUnderWay script left front p ⊎ IsOver script left front p
+
+pub none_given : (script : Option (List ℕ)) → Given script script [] (record { taken = 0; ahead = []; line = [] })
+none_given None = tt
+none_given (Some script) = inl (tt, refl, refl)
+
+one_line : (line : List ℕ) → newlines line ≡ 0 → 0 < length line → command_lines line ≡ line ∷ []
+one_line [] none some = absurd (omega (arith, some))
+one_line (byte ∷ line) none some = last_line byte line none
+
+regroup : (a line ahead left : List ℕ) → a ++ ((line ++ 10 ∷ ahead) ++ left) ≡ (a ++ (line ++ 10 ∷ [])) ++ (ahead ++ left)
+regroup a line ahead left = simp append_assoc
+
+-- what is left goes on with the bytes that were taken
+taken_next : (script a ahead bytes left left' : List ℕ) → script ≡ a ++ (ahead ++ left) → left ≡ bytes ++ left' → script ≡ a ++ ((ahead ++ bytes) ++ left')
+taken_next script a ahead bytes left left' is took = is ∙ ap (λ (l : List ℕ). a ++ l) (ap (λ (l : List ℕ). ahead ++ l) took ∙ sym (append_assoc ahead bytes left'))
+
+under_way_more : (script left left' bytes line : List ℕ) (front : List (List ℕ)) (p p' : Pending) → IsUnderWay script left front p → left ≡ bytes ++ left' → p'.taken ≡ p.taken + length bytes
+    → IsNextLine (p.ahead ++ bytes) line p'.ahead (Some left') → IsUnderWay script left' (front ++ line ∷ []) p' ⊎ IsOver script left' (front ++ line ∷ []) p'
+under_way_more script left left' bytes line front p p' under took count next =
+    let all : script ≡ ended front ++ ((p.ahead ++ bytes) ++ left') = taken_next script (ended front) p.ahead bytes left left' under.1 took in
+    let size : length (ended front ++ p.ahead) ≡ length (ended front) + length p.ahead = length-append (ended front) p.ahead in
+    let both : length (p.ahead ++ bytes) ≡ length p.ahead + length bytes = length-append p.ahead bytes in
+    elim next.1 [
+      | inl ends ↦
+          inl (
+            whole_more front line under.0 next.0,
+            all ∙ ap (λ (l : List ℕ). ended front ++ (l ++ left')) ends ∙ regroup (ended front) line p'.ahead left' ∙ ap (λ (l : List ℕ). l ++ (p'.ahead ++ left')) (sym (ended_more front line)),
+            omega (
+              arith,
+              count,
+              under.2,
+              size,
+              both,
+              ap length ends,
+              length-append line (10 ∷ p'.ahead),
+              length-append (ended (front ++ line ∷ [])) p'.ahead,
+              ap length (ended_more front line),
+              length-append (ended front) (line ++ 10 ∷ []),
+              length-append line (10 ∷ []),
+            ),
+          )
+      | inr last ↦
+          let whole : script ≡ ended front ++ line = all ∙ ap (λ (l : List ℕ). ended front ++ l) (ap (λ (l : List ℕ). (p.ahead ++ bytes) ++ l) last.3 ∙ append-nil (p.ahead ++ bytes) ∙ last.0) in
+          inr (
+            last.2,
+            last.3,
+            ap command_lines whole ∙ lines_after front line under.0 ∙ ap (λ (ls : List (List ℕ)). front ++ ls) (one_line line next.0 last.1),
+            omega (arith, count, under.2, size, both, ap length last.0, ap length whole, length-append (ended front) line),
+          )
+    ]
+
+over_no_more : (script left left' bytes line : List ℕ) (front : List (List ℕ)) (p p' : Pending) → IsOver script left front p → left ≡ bytes ++ left' → IsNextLine (p.ahead ++ bytes) line p'.ahead (Some left') → ⊥
+over_no_more script left left' bytes line front p p' over took next =
+    let none : length (p.ahead ++ bytes) ≡ 0 = omega (arith, length-append p.ahead bytes, ap length over.0, ap length over.1, ap length took, length-append bytes left') in
+    elim next.1 [
+      | inl ends ↦ omega (arith, none, ap length ends, length-append line (10 ∷ p'.ahead))
+      | inr last ↦ omega (arith, none, ap length last.0, last.1)
+    ]
+
+-- one line more
+pub line_given : (script left left' : Option (List ℕ)) (front : List (List ℕ)) (line : List ℕ) (p p' : Pending) → Given script left front p → TakesLine line p p' left left' → Given script left' (front ++ line ∷ []) p'
+line_given None left left' front line p p' so_far takes = tt
+line_given (Some script) None left' front line p p' so_far takes = absurd so_far
+line_given (Some script) (Some left) None front line p p' so_far takes = absurd takes.1
+line_given (Some script) (Some left) (Some left') front line p p' so_far takes = elim so_far [
+  | inl under ↦ under_way_more script left left' takes.0 line front p p' under takes.1 takes.2 takes.4
+  | inr over ↦ absurd (over_no_more script left left' takes.0 line front p p' over takes.1 takes.4)
+]
+
+-- the lines that were not given are ahead and left
+lines_left : (script left : List ℕ) (front : List (List ℕ)) (p : Pending) → IsUnderWay script left front p ⊎ IsOver script left front p → command_lines script ≡ front ++ command_lines (p.ahead ++ left)
+lines_left script left front p (inl under) = ap command_lines under.1 ∙ lines_after front (p.ahead ++ left) under.0
+lines_left script left front p (inr over) =
+    let none : p.ahead ++ left ≡ [] = ap (λ (l : List ℕ). l ++ left) over.0 ∙ over.1 in
+    over.2 ∙ sym (append-nil front) ∙ ap (λ (l : List ℕ). front ++ command_lines l) (sym none)
+
+pub some_given : (script left : Option (List ℕ)) (front : List (List ℕ)) (p : Pending) → Given script left front p → IfTold script (λ bytes. (rest : List (List ℕ)) × (command_lines bytes ≡ front ++ rest))
+some_given None left front p so_far = tt
+some_given (Some script) None front p so_far = absurd so_far
+some_given (Some script) (Some left) front p so_far = (command_lines (p.ahead ++ left), lines_left script left front p so_far)
+
+-- the line that is taken next is one of the script
+pub next_given : (script left left' : Option (List ℕ)) (front : List (List ℕ)) (line : List ℕ) (p p' : Pending) → Given script left front p → TakesLine line p p' left left'
+    → IfTold script (λ bytes. (rest : List (List ℕ)) × (command_lines bytes ≡ front ++ line ∷ rest))
+next_given None left left' front line p p' so_far takes = tt
+next_given (Some script) None left' front line p p' so_far takes = absurd so_far
+next_given (Some script) (Some left) None front line p p' so_far takes = absurd takes.1
+next_given (Some script) (Some left) (Some left') front line p p' so_far takes =
+    let begins = next_line_begins p.ahead takes.0 line p'.ahead (Some left) (Some left') takes.1 takes.4 in
+    (command_lines (p'.ahead ++ left'), lines_left script left front p so_far ∙ ap (λ (ls : List (List ℕ)). front ++ ls) begins)
+
+size_given : (script left : List ℕ) (front : List (List ℕ)) (p : Pending) → IsUnderWay script left front p ⊎ IsOver script left front p → p.ahead ≡ [] → left ≡ [] → length script ≡ p.taken
+size_given script left front p (inl under) none at_end =
+    omega (arith, ap length under.1, under.2, length-append (ended front) (p.ahead ++ left), length-append p.ahead left, length-append (ended front) p.ahead, ap length none, ap length at_end)
+size_given script left front p (inr over) none at_end = sym over.3
+
+-- all lines were given
+pub all_given : (script left left' : Option (List ℕ)) (front : List (List ℕ)) (p p' : Pending) (before now : ℕ) → Given script left front p → p.taken ≤ most_bytes
+    → NextLine (Ok next.End) p p' left left' before now → IfTold script (λ bytes. (length bytes ≤ most_bytes) × (command_lines bytes ≡ front))
+all_given None left left' front p p' before now so_far within next = tt
+all_given (Some script) None left' front p p' before now so_far within next = absurd so_far
+all_given (Some script) (Some left) None front p p' before now so_far within next = absurd next.0
+all_given (Some script) (Some left) (Some left') front p p' before now so_far within next =
+    let at_end : left ≡ [] = next.0 ∙ next.1 in
+    let none : p.ahead ++ left ≡ [] = ap (λ (l : List ℕ). l ++ left) next.2 ∙ at_end in (
+      omega (arith, size_given script left front p so_far next.2 at_end, within),
+      lines_left script left front p so_far ∙ ap (λ (l : List ℕ). front ++ command_lines l) none ∙ append-nil front,
+    )
+
+no_more : (bytes left left' : List ℕ) → left ≡ [] → left ≡ bytes ++ left' → left' ≡ []
+no_more [] left left' none took = sym took ∙ none
+no_more (byte ∷ bytes) left left' none took = absurd (omega (arith, ap length none, ap length took))
+
+-- after a failing read the lines that ended were given
+pub ended_given : (script left left' : Option (List ℕ)) (front : List (List ℕ)) (p p' : Pending) (before now : ℕ) → Given script left front p → p.taken ≤ most_bytes
+    → NextLine (Err line_error.Fault) p p' left left' before now
+    → IfTold script (λ bytes. (taken : List ℕ) × Consumes (Some bytes) left' taken × (length taken ≤ most_bytes) × HaveEnded front taken left')
+ended_given None left left' front p p' before now so_far within next = tt
+ended_given (Some script) None left' front p p' before now so_far within next = absurd so_far
+ended_given (Some script) (Some left) None front p p' before now so_far within next = absurd next.1
+ended_given (Some script) (Some left) (Some left') front p p' before now so_far within next = elim so_far [
+  | inl under ↦
+      let bytes = next.0 in
+      let begun : List ℕ = p.ahead ++ bytes in (
+        ended front ++ begun,
+        taken_next script (ended front) p.ahead bytes left left' under.1 next.1 ∙ sym (append_assoc (ended front) begun left'),
+        omega (arith, within, under.2, next.2, next.3, length-append (ended front) begun, length-append p.ahead bytes, length-append (ended front) p.ahead),
+        inl (sym (ended_are front begun under.0 next.6)),
+      )
+  | inr over ↦
+      let none : left' ≡ [] = no_more next.0 left left' over.1 next.1 in
+      (script, sym (append-nil script) ∙ ap (λ (l : List ℕ). script ++ l) (sym none), omega (arith, over.3, within), inr (none, sym over.2))
+]
+
+-- the bytes begun hold no newline, so the lines of the allowed bytes are those before them
+allowed_lines : (front : List (List ℕ)) (begun beyond more script : List ℕ) → AreWhole front → script ≡ ended front ++ (begun ++ more) → length (ended front) + length begun + length beyond ≡ most_bytes + 1
+    → length beyond ≤ 1 → length (ended front) ≤ most_bytes → newlines begun ≡ 0 → front ≡ ended_lines (take most_bytes script)
+allowed_lines front begun beyond more script whole all sizes few short none =
+    let room : ℕ = most_bytes - length (ended front) in
+    let whole_size : length (ended front) + room ≡ most_bytes = omega arith in
+    let fits : room ≤ length begun = omega arith in
+    let cut : take most_bytes script ≡ ended front ++ take room begun =
+    ap (take most_bytes) all ∙ ap (λ n. take n (ended front ++ (begun ++ more))) (sym whole_size) ∙ take-append-add (ended front) (begun ++ more) room
+    ∙ ap (λ (l : List ℕ). ended front ++ l) (take-append-le room begun more fits) in
+    let no_newline : newlines (take room begun) ≡ 0 = omega (arith, newlines-append (take room begun) (drop room begun), ap newlines (take-append-drop room begun), none) in
+    sym (ap ended_lines cut ∙ ended_are front (take room begun) whole no_newline)
+
+-- where too many bytes were offered, the lines that ended within the allowed ones were given
+pub ended_within : (script left left' : Option (List ℕ)) (front : List (List ℕ)) (p p' : Pending) (before now : ℕ) → Given script left front p → p.taken ≤ most_bytes
+    → NextLine (Err line_error.TooLong) p p' left left' before now → IfTold script (λ bytes. (most_bytes < length bytes) × (front ≡ ended_lines (take most_bytes bytes)))
+ended_within None left left' front p p' before now so_far within next = tt
+ended_within (Some script) None left' front p p' before now so_far within next = absurd so_far
+ended_within (Some script) (Some left) None front p p' before now so_far within next = absurd next.2
+ended_within (Some script) (Some left) (Some left') front p p' before now so_far within next = elim so_far [
+  | inl under ↦
+      let bytes = next.0 in
+      let beyond = next.1 in
+      let begun : List ℕ = p.ahead ++ bytes in
+      let more : List ℕ = beyond ++ left' in
+      let took : left ≡ bytes ++ more = next.2 ∙ append_assoc bytes beyond left' in
+      let all : script ≡ ended front ++ (begun ++ more) = taken_next script (ended front) p.ahead bytes left more under.1 took in
+      let sizes : length (ended front) + length begun + length beyond ≡ most_bytes + 1 = omega (arith, under.2, next.3, next.4, length-append p.ahead bytes, length-append (ended front) p.ahead) in
+      let long : most_bytes < length script = omega (arith, ap length all, length-append (ended front) (begun ++ more), length-append begun more, length-append beyond left', sizes) in
+      let short : length (ended front) ≤ most_bytes = omega (arith, under.2, within, length-append (ended front) p.ahead) in
+      (long, allowed_lines front begun beyond more script under.0 all sizes next.5 short next.7)
+  | inr over ↦ absurd (omega (arith, over.3, within, next.3, next.4, ap length over.1, ap length next.2, length-append (next.0 ++ next.1) left', length-append next.0 next.1))
+]

@@ -1,7 +1,0 @@
-use Rattle.std.proofs.Common.{◌≡◌, ◌++◌, drop, flat_map}
-use Rattle.std.specs.List.{enumerate_from}
-use Rattle.idp_cli.specs.Replies.{symbol_line}
-use Rattle.idp_cli.proofs.replies.push_symbols.Given as goal
-
-abbrev pub invariant-loop-number : goal.invariant-loop-number
-invariant-loop-number l = l.text.items ++ flat_map (symbol_line l.m) (enumerate_from l.number (drop l.number l.symbols)) ≡ l.initial.text.items ++ flat_map (symbol_line l.m) (enumerate_from 0 l.symbols)
