@@ -25,12 +25,11 @@ pub struct Reader<F, G, H> {
 }
 
 impl<
-        'a,
-        F: Fn(Global, &'a [Item<'a>], usize) -> Found<'a, RawFormula>,
-        G: Fn(Global, &'a [Item<'a>], usize) -> Found<'a, Content>,
-        H: Fn(Global, &'a [Item<'a>], usize) -> Found<'a, RawTermTree>,
-    > Reader<F, G, H>
-{
+    'a,
+    F: Fn(Global, &'a [Item<'a>], usize) -> Found<'a, RawFormula>,
+    G: Fn(Global, &'a [Item<'a>], usize) -> Found<'a, Content>,
+    H: Fn(Global, &'a [Item<'a>], usize) -> Found<'a, RawTermTree>,
+> Reader<F, G, H> {
     /// The formula that nests here.
     pub fn formula(&self, items: &'a [Item<'a>]) -> Found<'a, RawFormula>
         requires nests { Readers self.now.left (F.pre self.now.formula) (F.post self.now.formula) (G.pre self.now.content) (G.post self.now.content) (H.pre self.now.term) (H.post self.now.term) }

@@ -16,9 +16,7 @@ use crate::cursor::{
 };
 use crate::expressions::{Found, Reader};
 use crate::kinds::Content;
-use crate::raw::{
-    RawApp, RawFactor, RawFormula, RawName, RawOpening, RawProduct, RawTermTree,
-};
+use crate::raw::{RawApp, RawFactor, RawFormula, RawName, RawOpening, RawProduct, RawTermTree};
 use crate::stops::ReadError;
 use crate::terminal::{Aggregation, Item, Terminal};
 use sqlite_items::Items;
@@ -57,12 +55,11 @@ fn signed(alloc: Global, mut signs: Items<usize>, first: RawFactor) -> Result<Ra
 }
 
 impl<
-        'a,
-        F: Fn(Global, &'a [Item<'a>], usize) -> Found<'a, RawFormula>,
-        G: Fn(Global, &'a [Item<'a>], usize) -> Found<'a, Content>,
-        H: Fn(Global, &'a [Item<'a>], usize) -> Found<'a, RawTermTree>,
-    > Reader<F, G, H>
-{
+    'a,
+    F: Fn(Global, &'a [Item<'a>], usize) -> Found<'a, RawFormula>,
+    G: Fn(Global, &'a [Item<'a>], usize) -> Found<'a, Content>,
+    H: Fn(Global, &'a [Item<'a>], usize) -> Found<'a, RawTermTree>,
+> Reader<F, G, H> {
     /// The arguments behind a word, if it has any.
     pub fn arguments(&self, name: RawName, items: &'a [Item<'a>]) -> Found<'a, RawApp>
         requires nests { Readers self.now.left (F.pre self.now.formula) (F.post self.now.formula) (G.pre self.now.content) (G.post self.now.content) (H.pre self.now.term) (H.post self.now.term) }

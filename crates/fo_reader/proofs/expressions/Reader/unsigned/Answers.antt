@@ -22,6 +22,6 @@ returns-in_err-app-in-Word-clause-reads g c =
 pub returns-in_default-terminal : goal.returns-in_default-terminal
 returns-in_default-terminal g c = record {
   reads = factor_other (toks c.args.items.now) c.args.self.now.end c.in-Some.item (toks c.in-Some.rest.now) c.in-Some.ensures.some
-    c.in_default-terminal.not-Integer c.in_default-terminal.not-Word c.in_default-terminal.not-Open c.in_default-terminal.not-Count c.in_default-terminal.not-Aggregate c.requires.unsigned;
+      c.in_default-terminal.not-Integer c.in_default-terminal.not-Word c.in_default-terminal.not-Open c.in_default-terminal.not-Count c.in_default-terminal.not-Aggregate c.requires.unsigned;
   shorter = tt;
 }
