@@ -1,9 +1,9 @@
 -- Resolution along the trail, from its end.
-use Rattle.std.proofs.Common.{◌≡◌, ℕ, ◌<◌, ◌≤◌, ◌+◌, Bool, Option, Some, None, List, [], ◌∷◌, ◌++◌, length, map, refl, sym, ap, ◌∙◌, ◌⊎◌, inl, inr, ⊎_elim, arith, slice_get, subst, All, Contains, get_or}
+use Rattle.std.proofs.Common.{◌≡◌, ℕ, ◌<◌, ◌≤◌, ◌+◌, Bool, Option, Some, List, [], ◌∷◌, ◌++◌, length, map, refl, sym, ap, ◌∙◌, ◌⊎◌, inl, inr, ⊎_elim, arith, slice_get, subst, Contains, get_or}
 use mathlib.Core.List.{reverse}
 use Rattle.std.specs.List.{AllZip}
 use Rattle.std.specs.Option.{IsSome}
-use Rattle.std.proofs.lemmas.Option.{slice_get_within, same_Some}
+use Rattle.std.proofs.lemmas.Option.{slice_get_within}
 use Rattle.std.proofs.lemmas.List.{get_or-map, length-map, reverse-append}
 use Rattle.std.proofs.lemmas.List.Elements.{All-contains, Contains-append_left, Contains-push, Contains-push_cases, Contains-get_or}
 use Rattle.lit_core.specs.declared.literals.Lit.{Lit}
@@ -15,8 +15,8 @@ use Rattle.clause_store.specs.TrailLaws.{IsCoherent}
 use Rattle.clause_store.specs.StoreState.{StoreState, IsStore, IsHeld, IsMadeBefore}
 use Rattle.clause_store.proofs.WatchFacts.{same-held}
 use Rattle.conflict_analysis.specs.declared.resolvent.Resolvent.{Resolvent}
-use Rattle.conflict_analysis.specs.Resolvents.{IsMadeAt, IsMarked, IsUpper, IsLower, IsNew, Absorbs, TakesLast}
-use Rattle.conflict_analysis.specs.Tracing.{LeavesOpen, IsRefutedBelow, IsNeeded, IsResolvent, IsTaken}
+use Rattle.conflict_analysis.specs.Resolvents.{IsMarked, IsUpper, IsLower, IsNew, Absorbs, TakesLast}
+use Rattle.conflict_analysis.specs.Tracing.{IsRefutedBelow, IsNeeded, IsResolvent, IsTaken}
 use Rattle.conflict_analysis.proofs.Places.{same-step}
 
 pub map-contains : (xs : List Lit) (m : Lit) → Contains xs m → Contains (map negated xs) (negated m)

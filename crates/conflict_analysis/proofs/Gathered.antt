@@ -1,5 +1,5 @@
 -- What is marked after one more literal.
-use Rattle.std.proofs.Common.{◌≡◌, ℕ, ◌<◌, ◌≤◌, ◌+◌, Option, Some, None, List, [], ◌∷◌, ◌++◌, length, refl, sym, ap, ◌∙◌, ◌⊎◌, inl, inr, ⊎_elim, subst, Contains, slice_get, arith}
+use Rattle.std.proofs.Common.{◌≡◌, ℕ, ◌<◌, ◌≤◌, Option, Some, None, List, [], ◌∷◌, ◌++◌, refl, sym, ap, ◌∙◌, ◌⊎◌, inl, inr, ⊎_elim, subst, Contains, slice_get, arith}
 use Rattle.std.specs.Ordering.{nat_cmp}
 use Rattle.std.specs.BTreeSet.{insert_key}
 use Rattle.std.specs.Option.{IsSome}
@@ -12,7 +12,7 @@ use Rattle.clause_store.specs.TrailState.{TrailState}
 use Rattle.clause_store.specs.TrailLaws.{IsTrail, IsFixed}
 use Rattle.clause_store.specs.StoreState.{IsMadeBefore}
 use Rattle.conflict_analysis.specs.declared.resolvent.Resolvent.{Resolvent}
-use Rattle.conflict_analysis.specs.Resolvents.{IsMadeAt, IsMarked, IsUpper, IsLower, Gathers}
+use Rattle.conflict_analysis.specs.Resolvents.{IsMadeAt, IsUpper, IsLower, Gathers}
 use Rattle.conflict_analysis.proofs.Keys.{inserted-old, inserted-new, inserted-cases}
 use Rattle.conflict_analysis.proofs.Places.{made-below, variable-of}
 

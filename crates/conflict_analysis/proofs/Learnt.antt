@@ -1,12 +1,11 @@
 -- The clause that is learnt.
-use Rattle.std.proofs.Common.{◌≡◌, ℕ, zero, suc, ◌<◌, ◌≤◌, ◌+◌, Bool, true, false, Option, Some, None, List, [], ◌∷◌, ◌++◌, length, reverse, refl, sym, ap, ◌∙◌, ◌⊎◌, inl, inr, ⊎_elim, arith, slice_get, subst, All, Contains, get_or}
+use Rattle.std.proofs.Common.{◌≡◌, ℕ, ◌<◌, ◌≤◌, ◌+◌, Bool, false, Option, Some, None, List, [], ◌∷◌, ◌++◌, length, reverse, refl, sym, ap, ◌∙◌, ◌⊎◌, inl, inr, ⊎_elim, arith, slice_get, subst, All, Contains, get_or}
 use Rattle.std.specs.List.{AllZip}
-use Rattle.std.specs.Option.{IsSome}
 use Rattle.std.proofs.lemmas.Option.{slice_get_within, get_or_from_slice_get}
 use Rattle.std.proofs.lemmas.List.Elements.{Contains-append_left, Contains-push, Contains-push_cases, Contains-get_or}
 use Rattle.lit_core.specs.declared.literals.Lit.{Lit}
 use Rattle.lit_core.specs.Literals.{negated, value_in, HasEachOnce}
-use Rattle.lit_core.proofs.LiteralFacts.{negated-negated, nothing_in_none, Contains-cons_cases, Contains-head}
+use Rattle.lit_core.proofs.LiteralFacts.{negated-negated, nothing_in_none, Contains-cons_cases}
 use Rattle.clause_store.specs.declared.trails.Step.{Step}
 use Rattle.clause_store.specs.TrailLaws.{IsCoherent}
 use Rattle.clause_store.specs.StoreState.{StoreState, IsStore, IsHeld, IsConflict}

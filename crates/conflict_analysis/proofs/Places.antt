@@ -1,7 +1,7 @@
 -- Places on the trail, and what was made true there.
-use Rattle.std.proofs.Common.{◌≡◌, ℕ, ◌<◌, ◌≤◌, Bool, true, false, Option, Some, None, List, [], ◌∷◌, length, get_or, refl, sym, ap, ◌∙◌, ◌⊎◌, inl, inr, ⊎_elim, subst, Contains, All, slice_get, arith}
+use Rattle.std.proofs.Common.{◌≡◌, ℕ, ◌<◌, ◌≤◌, Bool, true, false, Option, Some, None, List, length, get_or, sym, ap, ◌∙◌, ◌⊎◌, inl, inr, ⊎_elim, subst, Contains, slice_get, arith}
 use Rattle.std.proofs.lemmas.Option.{slice_get_within, same_Some, none-some}
-use Rattle.std.proofs.lemmas.List.{get_or_past, length-map}
+use Rattle.std.proofs.lemmas.List.{get_or_past}
 use Rattle.std.proofs.lemmas.List.Elements.{All-contains}
 use Rattle.std.proofs.lemmas.Bool.{cases_lt}
 use Rattle.lit_core.specs.declared.literals.Lit.{Lit}
@@ -11,7 +11,6 @@ use Rattle.clause_store.specs.declared.trails.Step.{Step}
 use Rattle.clause_store.specs.TrailLaws.{IsCoherent, IsFixed}
 use Rattle.clause_store.specs.StoreState.{StoreState, IsStore, IsHeld, IsConflict, IsMadeBefore}
 use Rattle.clause_store.proofs.StoreFacts.{negated-true}
-use Rattle.clause_store.proofs.WatchFacts.{same-held}
 use Rattle.conflict_analysis.specs.Resolvents.{IsMadeAt, IsOfStep}
 
 -- there is one step at a place

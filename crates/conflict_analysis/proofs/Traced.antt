@@ -1,8 +1,8 @@
 -- Resolution down to decisions.
-use Rattle.std.proofs.Common.{◌≡◌, ℕ, zero, suc, ◌<◌, ◌≤◌, ◌+◌, Option, Some, None, List, [], ◌∷◌, ◌++◌, length, map, reverse, refl, sym, ap, ◌∙◌, ◌⊎◌, inl, inr, ⊎_elim, arith, slice_get, subst, All, Contains, get_or}
+use Rattle.std.proofs.Common.{◌≡◌, ℕ, zero, suc, ◌<◌, ◌≤◌, Option, Some, None, List, [], ◌∷◌, ◌++◌, length, map, reverse, refl, sym, ap, ◌∙◌, inl, inr, ⊎_elim, arith, slice_get, subst, All, Contains, get_or}
 use Rattle.std.specs.List.{AllZip}
 use Rattle.std.specs.Option.{IsSome}
-use Rattle.std.proofs.lemmas.Option.{slice_get_within, same_Some, none-some, get_or_from_slice_get}
+use Rattle.std.proofs.lemmas.Option.{slice_get_within, none-some, get_or_from_slice_get}
 use Rattle.std.proofs.lemmas.Bool.{cases_lt}
 use Rattle.std.proofs.lemmas.List.Elements.{All-nil, All-cons, Contains-append_left, Contains-push, Contains-push_cases, Contains-get_or}
 use Rattle.lit_core.specs.declared.literals.Lit.{Lit}

@@ -1,12 +1,12 @@
 -- How far a false clause has been resolved.
-use Rattle.std.specs.Prelude.{◌≡◌, ℕ, ◌<◌, ◌≤◌, ◌+◌, Option, Some, None, List, [], ◌∷◌, ◌++◌, length, reverse, slice_get, All, Contains, ◌⊎◌, IsSome}
+use Rattle.std.specs.Prelude.{◌≡◌, ℕ, ◌<◌, ◌≤◌, ◌+◌, Some, None, List, [], length, reverse, slice_get, Contains, ◌⊎◌, IsSome}
 use Rattle.std.specs.List.{AllZip}
 use Rattle.lit_core.specs.declared.literals.Lit.{Lit}
 use Rattle.lit_core.specs.Literals.{negated, HasEachOnce}
 use Rattle.lit_core.specs.Refutation.{RefutesInOrder}
 use Rattle.clause_store.specs.declared.trails.Step.{Step}
 use Rattle.clause_store.specs.StoreState.{StoreState, IsHeld}
-use Rattle.conflict_analysis.specs.Analyses.{IsDecided, FollowsFrom}
+use Rattle.conflict_analysis.specs.Analyses.{FollowsFrom}
 use Rattle.conflict_analysis.specs.Resolvents.{IsMadeAt, IsMarked, IsUpper, IsLower}
 use Rattle.conflict_analysis.specs.declared.refutations.Refuted.{Refuted}
 use Rattle.conflict_analysis.specs.declared.resolvent.Resolvent.{Resolvent}

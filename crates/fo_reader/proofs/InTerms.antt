@@ -1,6 +1,8 @@
 -- Where a part of a term is stuck.
-use Rattle.std.proofs.Common.{◌≡◌, ℕ, List, [], ◌∷◌, ◌++◌, Bool, false, refl, sym, ap, ◌∙◌}
+use Rattle.std.proofs.Common.{◌≡◌, ℕ, List, [], ◌∷◌, ◌++◌, Bool, false, Result, Ok, Err, Bor, refl, sym, ap, ◌∙◌}
 use Rattle.fo_reader.specs.declared.stops.ReadError.{ReadError}
+use Rattle.fo_reader.specs.declared.terminal.Item.{Item}
+use Rattle.fo_reader.specs.declared.raw.RawTermTree.{RawTermTree}
 use Rattle.fo_reader.specs.declared.terminal.Terminal.TheVariants as t
 use Rattle.fo_reader.specs.declared.terminal.Adding.{Adding}
 use Rattle.fo_reader.specs.Terminals.{Tok, tok_at, mark, sign}
@@ -13,13 +15,13 @@ use Rattle.fo_reader.specs.Modes.{term_sort}
 use Rattle.fo_reader.specs.View.{terms_of, product_of, term_of}
 use Rattle.fo_reader.specs.Parts.{EndsFactor, EndsTerm, NoClose, NoComma, NoTimes, NoAdd, Position, wanted, needed, at_position, mode_at, sort_at, at_factor, at_either, at_vars, Lacks, Fails}
 use Rattle.fo_reader.specs.Binders.{Binder, binder, put_binder, Whole}
-use Rattle.fo_reader.specs.Results.{Opening, opening, put_opening, at_opening, TermIs}
+use Rattle.fo_reader.specs.Results.{Opening, opening, put_opening, at_opening, TermIs, SumRead, TermRead}
 use Rattle.fo_reader.proofs.Append.{name-append, term-append, product-append, terms-append}
 use Rattle.fo_reader.proofs.Ends.{terms_no_close}
 use Rattle.fo_reader.proofs.Runs as Runs
 use Rattle.fo_reader.proofs.Runs.{named_done, args_want, unclosed, run_times, run_add}
 use Rattle.fo_reader.proofs.Readings.{want_term, want_product, need_term, need_product}
-use Rattle.fo_reader.proofs.Inside.{Context, lacks_fails}
+use Rattle.fo_reader.proofs.Inside.{Context, fails_in, lacks_fails}
 
 pub term_no_args : (ts : List Tok) → EndsTerm ts → EndsFactor ts
 term_no_args [] h = tt
@@ -288,3 +290,7 @@ sum_ends (tok_at (mark t.Open) p ∷ ts) a b d = elim a [ ]
 sum_ends (tok_at (mark t.Times) p ∷ ts) a b d = elim b [ ]
 sum_ends (tok_at (mark (t.Add s)) p ∷ ts) a b d = elim d [ ]
 sum_ends (tok_at s p ∷ ts) a b d = tt
+
+pub summed_read : (f : Factor) (ts rest : List Tok) (len : ℕ) (r : Result (RawTermTree × Bor (List Item)) ReadError) → ts ≡ put_factor f rest → SumRead (put_factor f rest) len r → TermRead ts len r
+summed_read f ts rest len (Ok p) is h = record { spelled = is ∙ h.spelled; fine = h.fine; ends = h.ends }
+summed_read f ts rest len (Err e) is h = fails_in len e (summed_from f ts rest is) h

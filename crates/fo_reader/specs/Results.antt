@@ -127,6 +127,15 @@ pub record Nests {R : Type 0} (left : ℕ) (Read : List Tok → ℕ → Result (
   pub reads : (alloc : Global) (items : Bor (List Item)) (len : ℕ) (r : Result (R × Bor (List Item)) ReadError) → post alloc items len r → Read (toks items.now) len r
   pub shorter : (alloc : Global) (items : Bor (List Item)) (len : ℕ) (r : Result (R × Bor (List Item)) ReadError) → post alloc items len r → IfOk r (λ p. length p.1.now ≤ length items.now)
 
+-- the readers of what nests in a text of so many tokens
+pub record Readers (left : ℕ)
+    (formula_pre : Global → Bor (List Item) → ℕ → Type 0) (formula_post : Global → Bor (List Item) → ℕ → Result (RawFormula × Bor (List Item)) ReadError → Type 0)
+    (content_pre : Global → Bor (List Item) → ℕ → Type 0) (content_post : Global → Bor (List Item) → ℕ → Result (Content × Bor (List Item)) ReadError → Type 0)
+    (term_pre : Global → Bor (List Item) → ℕ → Type 0) (term_post : Global → Bor (List Item) → ℕ → Result (RawTermTree × Bor (List Item)) ReadError → Type 0) : Type 0 where
+  pub formulas : Nests left FormulaRead formula_pre formula_post
+  pub contents : Nests left ContentRead content_pre content_post
+  pub terms : Nests left TermRead term_pre term_post
+
 -- ---- the parts of terms
 
 -- arguments may not come behind a word that has none

@@ -6,12 +6,14 @@ mod binders;
 mod build;
 mod cursor;
 mod error;
+mod expressions;
 mod first;
 mod kinds;
 mod laws;
 mod raw;
 mod stops;
 mod terminal;
+mod terms;
 #[cfg(test)]
 mod tests;
 

@@ -1,4 +1,4 @@
-use Rattle.std.proofs.Common.{◌≡◌, ℕ, ◌-◌, List, false, Contains, length, refl, inr}
+use Rattle.std.proofs.Common.{◌≡◌, ℕ, ◌-◌, List, false, length, refl, inr}
 use Rattle.std.specs.Ordering.{is_lt, nat_cmp}
 use Rattle.std.proofs.lemmas.List.Elements.{All-contains}
 use Rattle.std.proofs.lemmas.Map.Keys.{ge_from_not_lt}

@@ -1,6 +1,5 @@
-use Rattle.std.proofs.Common.{◌≡◌, ℕ, false, true, Some, None, length, refl, sym, subst, Contains}
+use Rattle.std.proofs.Common.{◌≡◌, ℕ, false, true, length, refl, sym, subst}
 use Rattle.std.proofs.lemmas.List.{nil_from_length}
-use Rattle.clause_store.specs.StoreState.{StoreState}
 use Rattle.conflict_analysis.specs.Resolvents.{IsOfStep}
 use Rattle.conflict_analysis.specs.Tracing.{NoLiteral, HasUpper}
 use Rattle.conflict_analysis.proofs.Keys.{some-number}

@@ -1,5 +1,4 @@
-use Rattle.std.proofs.Common.{◌≡◌, ◌∙◌, Some, refl, ap, slice_get}
-use Rattle.std.proofs.lemmas.Option.{slice_get_within}
+use Rattle.std.proofs.Common.{◌≡◌, ◌∙◌, Some, ap, slice_get}
 use Rattle.lit_core.specs.Literals.{negated}
 use Rattle.std.proofs.lemmas.Result.{IfOk-weaker}
 use Rattle.lit_core.specs.declared.literals.Var.{Var}
@@ -8,7 +7,7 @@ use Rattle.conflict_analysis.specs.Tracing.{IsTraced}
 use Rattle.clause_store.specs.declared.trails.Step.{Step}
 use Rattle.clause_store.specs.StoreState.{StoreState}
 use Rattle.conflict_analysis.proofs.Places.{same-step, in_range-false, assigned-false, made-at, of-reason}
-use Rattle.conflict_analysis.proofs.Traced.{refuted-by, refuted-alone}
+use Rattle.conflict_analysis.proofs.Traced.{refuted-by}
 use Rattle.conflict_analysis.proofs.refutations.final_core.Goals as goal
 
 pub place_of-place-requires-clause-in_range : goal.place_of-place-requires-clause-in_range

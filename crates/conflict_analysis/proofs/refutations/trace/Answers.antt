@@ -1,4 +1,4 @@
-use Rattle.std.proofs.Common.{◌≡◌, ℕ, Bool, false, List, [], refl, sym, subst}
+use Rattle.std.proofs.Common.{◌≡◌, ℕ, Bool, List, [], sym, subst}
 use Rattle.std.specs.Bool.{OnFalse}
 use Rattle.lit_core.specs.declared.literals.Lit.{Lit}
 use Rattle.conflict_analysis.specs.declared.refutations.Refuted.{Refuted}

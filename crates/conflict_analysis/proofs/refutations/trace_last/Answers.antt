@@ -1,6 +1,5 @@
-use Rattle.std.proofs.Common.{◌≡◌, ℕ, List, refl, sym, subst}
+use Rattle.std.proofs.Common.{ℕ, List, refl, sym, subst}
 use Rattle.lit_core.specs.declared.literals.Lit.{Lit}
-use Rattle.clause_store.specs.StoreState.{StoreState}
 use Rattle.conflict_analysis.specs.Resolvents.{IsOfStep}
 use Rattle.conflict_analysis.specs.Tracing.{IsBeside, IsTracing}
 use Rattle.conflict_analysis.proofs.Places.{of-reason}

@@ -1,4 +1,4 @@
-use Rattle.std.proofs.Common.{◌≡◌, ℕ, ◌<◌, ◌+◌, ◌++◌, ◌∷◌, [], List, length, take, false, refl, sym, ap, ◌∙◌, subst, get_or, Contains, ◌⊎◌}
+use Rattle.std.proofs.Common.{◌≡◌, ℕ, ◌+◌, ◌++◌, ◌∷◌, [], List, take, false, sym, ap, ◌∙◌, subst, get_or, Contains, ◌⊎◌}
 use Rattle.std.proofs.lemmas.List.{take_more, take_all}
 use Rattle.std.proofs.lemmas.List.Elements.{Contains-get_or}
 use Rattle.lit_core.specs.declared.literals.Lit.{Lit}
@@ -6,7 +6,7 @@ use Rattle.lit_core.specs.Literals.{negated}
 use Rattle.clause_store.specs.StoreState.{StoreState, IsMadeBefore}
 use Rattle.clause_store.proofs.WatchFacts.{same-held}
 use Rattle.conflict_analysis.specs.Resolvents.{Gathers, IsMadeAt}
-use Rattle.conflict_analysis.proofs.Gathered.{gathers-more, gathers-none}
+use Rattle.conflict_analysis.proofs.Gathered.{gathers-more}
 use Rattle.conflict_analysis.proofs.Places.{unfixed-of}
 use Rattle.conflict_analysis.proofs.resolvent.Resolvent.absorb.Goals as goal
 
