@@ -22,3 +22,5 @@ pub mod Inside
 pub mod Binds
 pub mod InTerms
 pub mod InFactors
+pub mod InOperands
+pub mod InChains

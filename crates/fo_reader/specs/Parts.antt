@@ -6,7 +6,7 @@ use Rattle.fo_reader.specs.declared.terminal.Terminal.{Terminal}
 use Rattle.fo_reader.specs.declared.terminal.Terminal.TheVariants as t
 use Rattle.fo_reader.specs.declared.terminal.Arrow.{Arrow}
 use Rattle.fo_reader.specs.declared.terminal.Adding.TheVariants.{Minus}
-use Rattle.fo_reader.specs.Terminals.{Tok, tok_at, mark, place_of}
+use Rattle.fo_reader.specs.Terminals.{Tok, tok_at, mark, word, place_of}
 use Rattle.fo_reader.specs.Machine.{Frame, need, want, vars_first, number_first, colon, Chain, unsettled, fresh, settled, Mode, in_formula, Sort, term, either, on, stuck, run, goes_on}
 
 -- no arguments come
@@ -98,6 +98,28 @@ Connects (tok_at (mark t.And) p ∷ ts) = Unit {0}
 Connects (tok_at (mark t.Or) p ∷ ts) = Unit {0}
 Connects (tok_at (mark (t.Arrow a)) p ∷ ts) = Unit {0}
 Connects _ = ⊥
+
+-- neither an arrow nor & nor | comes
+abbrev pub NoConnective : List Tok → Type 0
+NoConnective (tok_at (mark t.And) p ∷ ts) = ⊥
+NoConnective (tok_at (mark t.Or) p ∷ ts) = ⊥
+NoConnective (tok_at (mark (t.Arrow a)) p ∷ ts) = ⊥
+NoConnective _ = Unit {0}
+
+-- no ~ comes
+abbrev pub NoNot : List Tok → Type 0
+NoNot (tok_at (mark t.Not) p ∷ ts) = ⊥
+NoNot _ = Unit {0}
+
+-- nothing comes with which more than a term may begin
+abbrev pub TermsOnly : List Tok → Type 0
+TermsOnly (tok_at (word w) p ∷ ts) = ⊥
+TermsOnly (tok_at (mark (t.Truth b)) p ∷ ts) = ⊥
+TermsOnly (tok_at (mark t.Not) p ∷ ts) = ⊥
+TermsOnly (tok_at (mark t.Every) p ∷ ts) = ⊥
+TermsOnly (tok_at (mark t.Some) p ∷ ts) = ⊥
+TermsOnly (tok_at (mark t.Open) p ∷ ts) = ⊥
+TermsOnly _ = Unit {0}
 
 -- the text does not go on behind an operand
 abbrev pub Halts : Mode → Sort → List Tok → Type 0

@@ -22,7 +22,7 @@ use Rattle.fo_reader.specs.declared.terminal.Terminal.TheVariants as t
 use Rattle.fo_reader.specs.declared.raw.RawOpening.{RawOpening}
 use Rattle.fo_reader.specs.declared.terminal.Adding.TheVariants.{Minus}
 use Rattle.fo_reader.specs.Terminals.{Tok, sign, toks}
-use Rattle.fo_reader.specs.Trees.{Formula, alone, Or, one, And, single, Unary, prim, Prim, group, atom, Term, product, Product, factor, Factor, value, brackets, negative, App, constant, empty, apply, Vars}
+use Rattle.fo_reader.specs.Trees.{Formula, alone, Or, one, And, single, Unary, not, prim, Prim, group, atom, Term, product, Product, factor, Factor, value, brackets, negative, App, constant, empty, apply, Vars}
 use Rattle.fo_reader.specs.Spelling.{put_formula, put_or, put_and, put_unary, put_prim, put_term, put_product, put_factor, put_app, put_vars}
 use Rattle.fo_reader.specs.Fine.{closed_unary, closed_and, closed_or, FineFormula, FineOr, FineAnd, FineUnary, FineTerm, FineProduct, FineFactor, FineApp}
 use Rattle.fo_reader.specs.Sorts.{app_formula, app_unary, app_term}
@@ -230,3 +230,27 @@ negatives (p ∷ ps) x = negative p (negatives ps x)
 abbrev pub put_minuses : List ℕ → List Tok → List Tok
 put_minuses [] ts = ts
 put_minuses (p ∷ ps) ts = sign (t.Add Minus) p ∷ put_minuses ps ts
+
+-- ---- the parts of formulas
+
+-- an operand as that of a connective
+abbrev pub SettledRead : List Tok → List Tok → ℕ → Result (RawUnary × Bool) ReadError → Type 0
+SettledRead ts rest len (Ok p) = UnaryIs ts (unary_view p.0) p.1 rest
+SettledRead ts rest len (Err e) = Fails at_unary put_unary FineUnary ts len e
+
+-- an operand of | or of an arrow, behind it
+abbrev pub ConjunctionRead : List Tok → ℕ → Result (RawAnd × Bool × Bor (List Item)) ReadError → Type 0
+ConjunctionRead ts len (Ok p) = AndIs ts (and_view p.0) p.1 (toks p.2.now)
+ConjunctionRead ts len (Err e) = Fails at_unary put_and FineAnd ts len e
+
+abbrev pub DisjunctionRead : List Tok → ℕ → Result (RawOr × Bool × Bor (List Item)) ReadError → Type 0
+DisjunctionRead ts len (Ok p) = OrIs ts (or_view p.0) p.1 (toks p.2.now)
+DisjunctionRead ts len (Err e) = Fails at_unary put_or FineOr ts len e
+
+abbrev pub nots : List ℕ → Unary → Unary
+nots [] u = u
+nots (p ∷ ps) u = not p (nots ps u)
+
+abbrev pub put_nots : List ℕ → List Tok → List Tok
+put_nots [] ts = ts
+put_nots (p ∷ ps) ts = sign t.Not p ∷ put_nots ps ts

@@ -1,7 +1,7 @@
 //! The next token, and what stands behind it.
-ghost use Rattle.std.specs.Prelude.{◌≡◌, ◌∷◌, [], ◌≤◌, ◌<◌, length, IfOk, IfErr, IfSome, IfNone, true};
+ghost use Rattle.std.specs.Prelude.{◌≡◌, ◌∷◌, [], ◌≤◌, ◌<◌, length, IfOk, IfErr, IfSome, IfNone, true, false};
 ghost use Rattle.fo_reader.specs.Terminals.{tok, toks, sign, place_of};
-ghost use Rattle.fo_reader.specs.Parts.{Lacks, NoAnd, NoOr, NoArrows, NoArrow, NoTimes, NoAdd, NoCompare, NoComma, NoSquare, NoClose, NoMinus, EndsFactor};
+ghost use Rattle.fo_reader.specs.Parts.{Connects, NoConnective, NoNot, EndsPrim, Lacks, NoAnd, NoOr, NoArrows, NoArrow, NoTimes, NoAdd, NoCompare, NoComma, NoSquare, NoClose, NoMinus, EndsFactor};
 ghost use Rattle.fo_reader.specs.declared.terminal.Adding.TheVariants.{Minus};
 ghost use Rattle.fo_reader.specs.Results.{Unsealed};
 ghost use Rattle.fo_reader.specs.declared.terminal.Terminal.TheVariants as t;
@@ -309,4 +309,45 @@ pub fn start<'a>(items: &'a [Item<'a>]) -> (usize, &'a [Item<'a>])
     ensures same { result.1.now ≡ items.now }
 {
     (items.len(), items)
+}
+
+/// Behind `~`, if it comes: its place.
+pub fn after_not<'a>(items: &'a [Item<'a>]) -> Option<(usize, &'a [Item<'a>])>
+    ensures some { IfSome result (λ p. toks items.now ≡ sign t.Not p.0 ∷ toks p.1.now) }
+    ensures shorter { IfSome result (λ p. length p.1.now < length items.now) }
+    ensures none { IfNone result (NoNot (toks items.now)) }
+{
+    let (item, rest) = split(items)?;
+    match item.terminal {
+        Terminal::Not => Some((item.place, rest)),
+        _ => None,
+    }
+}
+
+/// Whether a connective comes.
+pub fn connects(items: &[Item<'_>]) -> bool
+    ensures yes { result ≡ true → Connects (toks items.now) }
+    ensures no { result ≡ false → NoConnective (toks items.now) }
+{
+    let Some((item, _rest)) = split(items) else {
+        return false;
+    };
+    match item.terminal {
+        Terminal::And | Terminal::Or | Terminal::Arrow(_) => true,
+        _ => false,
+    }
+}
+
+/// Whether what was read goes on as a term: by an operator or a comparison.
+pub fn goes_on(items: &[Item<'_>]) -> bool
+    ensures yes { result ≡ true → EndsPrim (toks items.now) → ⊥ }
+    ensures no { result ≡ false → EndsFactor (toks items.now) → EndsPrim (toks items.now) }
+{
+    let Some((item, _rest)) = split(items) else {
+        return false;
+    };
+    match item.terminal {
+        Terminal::Times | Terminal::Add(_) | Terminal::Compare(_) => true,
+        _ => false,
+    }
 }

@@ -8,6 +8,7 @@ mod cursor;
 mod error;
 mod expressions;
 mod first;
+mod formulas;
 mod kinds;
 mod laws;
 mod raw;

@@ -1,0 +1,18 @@
+use Rattle.std.proofs.Common.{◌≡◌, false, arith, refl, sym}
+use Rattle.std.proofs.lemmas.Result.{err_from_is_err_and}
+use Rattle.fo_reader.specs.Terminals.{toks}
+use Rattle.fo_reader.specs.Trees.{atom, value}
+use Rattle.fo_reader.specs.Spelling.{put_prim, put_factor}
+use Rattle.fo_reader.specs.View.{app_view, factor_view}
+use Rattle.fo_reader.specs.Results.{wrap_prim, wrap_factor}
+use Rattle.fo_reader.proofs.InOperands.{wrapped_put, wrap_factor_fine, operand_from}
+use Rattle.fo_reader.proofs.expressions.Reader.applied.Goals as goal
+
+pub returns-then-goes_on-clause-reads : goal.returns-then-goes_on-clause-reads
+returns-then-goes_on-clause-reads g c =
+    let read = c.begun.ensures.reads (λ h. absurd (c.goes_on.ensures.yes c.if-goes_on.true h)) in
+    operand_from (put_prim (wrap_prim c.args.pairs (atom (app_view c.args.app))) (toks c.args.items.now)) (put_factor (wrap_factor c.args.pairs (value (app_view c.args.app))) (toks c.args.items.now)) c.args.self.now.end c.begun.result
+    (wrapped_put c.args.pairs (app_view c.args.app) (toks c.args.items.now)) (rw c.in_ok-first.ensures.same at read)
+
+pub returns-clause-reads : goal.returns-clause-reads
+returns-clause-reads g c = record { spelled = refl; fine = c.requires.fine; ends = c.goes_on.ensures.no c.if-goes_on.false c.requires.ends }

@@ -1,0 +1,250 @@
+//! Formulas, and the operands of which they are made.
+ghost use Rattle.std.specs.Prelude.{◌≡◌, ◌∷◌, ◌≤◌, ◌<◌, List, length, true, false, IfOk};
+ghost use Rattle.fo_reader.specs.Terminals.{Tok, toks, tok_at, word, sign};
+ghost use Rattle.fo_reader.specs.Trees as tree;
+ghost use Rattle.fo_reader.specs.Spelling.{put_unary, put_prim, put_term, put_factor};
+ghost use Rattle.fo_reader.specs.Fine.{FineTerm, FineFactor, FineApp};
+ghost use Rattle.fo_reader.specs.Sorts.{app_formula, app_or, app_and, app_unary, app_term, app_factor};
+ghost use Rattle.fo_reader.specs.View.{formula_view, or_view, and_view, unary_view, prim_view, term_view, factor_view, app_view};
+ghost use Rattle.fo_reader.specs.Parts.{EndsFactor, EndsTerm, EndsPrim, NoNot, TermsOnly};
+ghost use Rattle.fo_reader.specs.Results.{Readers, UnaryIs, UnaryRead, AndRead, OrRead, ConjunctionRead, DisjunctionRead, FormulaRead, LinkedRead, OperandIs, OperandRead, ContentRead, SettledRead, wrap_prim, wrap_factor, nots};
+ghost use Rattle.fo_reader.specs.declared.terminal.Terminal.TheVariants as t;
+
+use crate::binders::{binder, number};
+use crate::build;
+use crate::cursor::{after_compare, close, goes_on, place_at, sealed, split};
+use crate::expressions::{Found, Reader};
+use crate::kinds::{Content, Operand, Pair};
+use crate::raw::{RawApp, RawFactor, RawFormula, RawPrim, RawTermTree, RawUnary};
+use crate::stops::ReadError;
+use crate::terminal::{Item, Terminal};
+use sqlite_items::Items;
+use std::alloc::{AllocError, Global};
+
+// The formula that is this operand alone.
+fn only(alloc: Global, prim: RawPrim) -> RawFormula
+    ensures { formula_view result ≡ tree.alone (tree.one (tree.single (tree.prim (prim_view prim)))) }
+{
+    let and = build::and(build::prim(prim), Items::new(alloc));
+    build::alone(build::or(and, Items::new(alloc)))
+}
+
+// The term that is this factor alone.
+fn sole(alloc: Global, factor: RawFactor) -> RawTermTree
+    ensures { term_view result ≡ tree.product (tree.factor (factor_view factor)) }
+{
+    build::term(build::product(factor, Items::new(alloc)), Items::new(alloc))
+}
+
+// The application in these brackets, as a formula.
+fn wrapped(alloc: Global, app: RawApp, pairs: Items<Pair>) -> Result<RawPrim, AllocError>
+    ensures { IfOk result (λ x. prim_view x ≡ wrap_prim pairs (tree.atom (app_view app))) }
+{
+    let mut found = build::atom(app);
+    let mut rest = pairs.as_slice();
+    while let Some((pair, after)) = rest.split_first() {
+        found = build::group(alloc, pair.start, only(alloc, found), pair.close)?;
+        rest = after;
+    }
+    Ok(found)
+}
+
+// The application in these brackets, as a term.
+fn bracketed(alloc: Global, app: RawApp, pairs: Items<Pair>) -> Result<RawFactor, AllocError>
+    ensures same { IfOk result (λ x. factor_view x ≡ wrap_factor pairs (tree.value (app_view app))) }
+    ensures fine { IfOk result (λ x. FineApp (app_view app) → FineFactor (factor_view x)) }
+{
+    let mut found = build::value(app);
+    let mut rest = pairs.as_slice();
+    while let Some((pair, after)) = rest.split_first() {
+        found = build::brackets(alloc, pair.start, sole(alloc, found), pair.close)?;
+        rest = after;
+    }
+    Ok(found)
+}
+
+/// The operand behind these signs, the outermost first.
+pub fn negated(
+    alloc: Global,
+    mut signs: Items<usize>,
+    first: RawUnary,
+) -> Result<RawUnary, AllocError>
+    ensures { IfOk result (λ u. unary_view u ≡ nots signs (unary_view first)) }
+{
+    let mut found = first;
+    while let Some(place) = signs.pop() {
+        found = build::negated(alloc, place, found)?;
+    }
+    Ok(found)
+}
+
+/// An operand of a connective, which is no term.
+pub fn settle(
+    alloc: Global,
+    found: Operand,
+    rest: &[Item<'_>],
+    end: usize,
+) -> Result<(RawUnary, bool), ReadError>
+    ensures reads { (ts : List Tok) → OperandIs ts found (toks rest.now) → SettledRead ts (toks rest.now) end result }
+{
+    match found {
+        Operand::Formula(unary, closed) => Ok((unary, closed)),
+        Operand::Either(app, pairs) => Ok((build::prim(wrapped(alloc, app, pairs)?), true)),
+        Operand::Term(_term) => Err(ReadError::Stuck(place_at(rest, end))),
+    }
+}
+
+impl<
+    'a,
+    F: Fn(Global, &'a [Item<'a>], usize) -> Found<'a, RawFormula>,
+    G: Fn(Global, &'a [Item<'a>], usize) -> Found<'a, Content>,
+    H: Fn(Global, &'a [Item<'a>], usize) -> Found<'a, RawTermTree>,
+> Reader<F, G, H> {
+    // A term in the place of an operand, or the comparison that it begins.
+    fn compared(&self, term: RawTermTree, items: &'a [Item<'a>]) -> Found<'a, Operand>
+        requires nests { Readers self.now.left (F.pre self.now.formula) (F.post self.now.formula) (G.pre self.now.content) (G.post self.now.content) (H.pre self.now.term) (H.post self.now.term) }
+        requires fewer { length items.now ≤ self.now.left }
+        requires fine { FineTerm (term_view term) }
+        requires ends { EndsTerm (toks items.now) }
+        ensures reads { (EndsPrim (toks items.now) → app_term (term_view term) ≡ false) → OperandRead (put_term (term_view term) (toks items.now)) self.now.end result }
+        ensures shorter { IfOk result (λ p. length p.1.now ≤ length items.now) }
+    {
+        let Some((sign, place, rest)) = after_compare(items) else {
+            return Ok((Operand::Term(term), items));
+        };
+        let (right, last) = self.whole_term(rest)?;
+        let found = build::prim(build::compare(term, sign, place, right));
+        Ok((Operand::Formula(found, true), last))
+    }
+
+    // The operand that has begun with this factor.
+    fn begun(&self, first: RawFactor, items: &'a [Item<'a>]) -> Found<'a, Operand>
+        requires nests { Readers self.now.left (F.pre self.now.formula) (F.post self.now.formula) (G.pre self.now.content) (G.post self.now.content) (H.pre self.now.term) (H.post self.now.term) }
+        requires fewer { length items.now ≤ self.now.left }
+        requires fine { FineFactor (factor_view first) }
+        requires ends { EndsFactor (toks items.now) }
+        ensures reads { (EndsPrim (toks items.now) → app_factor (factor_view first) ≡ false) → OperandRead (put_factor (factor_view first) (toks items.now)) self.now.end result }
+        ensures shorter { IfOk result (λ p. length p.1.now ≤ length items.now) }
+    {
+        let (term, rest) = self.summed(first, items)?;
+        self.compared(term, rest)
+    }
+
+    // A factor that is no application, and what it begins.
+    fn measured(&self, items: &'a [Item<'a>]) -> Found<'a, Operand>
+        requires nests { Readers self.now.left (F.pre self.now.formula) (F.post self.now.formula) (G.pre self.now.content) (G.post self.now.content) (H.pre self.now.term) (H.post self.now.term) }
+        requires fewer { length items.now ≤ self.now.left }
+        ensures reads { TermsOnly (toks items.now) → OperandRead (toks items.now) self.now.end result }
+        ensures shorter { IfOk result (λ p. length p.1.now ≤ length items.now) }
+    {
+        let (first, rest) = self.factor(items)?;
+        self.begun(first, rest)
+    }
+
+    // An application in these brackets, or what it begins.
+    fn applied(&self, app: RawApp, pairs: Items<Pair>, items: &'a [Item<'a>]) -> Found<'a, Operand>
+        requires nests { Readers self.now.left (F.pre self.now.formula) (F.post self.now.formula) (G.pre self.now.content) (G.post self.now.content) (H.pre self.now.term) (H.post self.now.term) }
+        requires fewer { length items.now ≤ self.now.left }
+        requires fine { FineApp (app_view app) }
+        requires ends { EndsFactor (toks items.now) }
+        ensures reads { OperandRead (put_prim (wrap_prim pairs (tree.atom (app_view app))) (toks items.now)) self.now.end result }
+        ensures shorter { IfOk result (λ p. length p.1.now ≤ length items.now) }
+    {
+        if goes_on(items) {
+            let first = bracketed(self.alloc, app, pairs)?;
+            return self.begun(first, items);
+        }
+        Ok((Operand::Either(app, pairs), items))
+    }
+
+    // A word, and what it begins.
+    fn worded(&self, text: &[u8], place: usize, items: &'a [Item<'a>]) -> Found<'a, Operand>
+        requires nests { Readers self.now.left (F.pre self.now.formula) (F.post self.now.formula) (G.pre self.now.content) (G.post self.now.content) (H.pre self.now.term) (H.post self.now.term) }
+        requires fewer { length items.now < self.now.left }
+        ensures reads { OperandRead (tok_at (word text.now) place ∷ toks items.now) self.now.end result }
+        ensures shorter { IfOk result (λ p. length p.1.now ≤ length items.now) }
+    {
+        let name = build::named(self.alloc, text, place)?;
+        let (app, rest) = self.arguments(name, items)?;
+        sealed(rest)?;
+        self.applied(app, Items::new(self.alloc), rest)
+    }
+
+    // What stands in brackets, and what it begins.
+    fn enclosed(&self, begin: usize, items: &'a [Item<'a>]) -> Found<'a, Operand>
+        requires nests { Readers self.now.left (F.pre self.now.formula) (F.post self.now.formula) (G.pre self.now.content) (G.post self.now.content) (H.pre self.now.term) (H.post self.now.term) }
+        requires fewer { length items.now < self.now.left }
+        ensures reads { OperandRead (sign t.Open begin ∷ toks items.now) self.now.end result }
+        ensures shorter { IfOk result (λ p. length p.1.now ≤ length items.now) }
+    {
+        let (inner, rest) = self.content(items)?;
+        let (place, last) = close(rest, self.end)?;
+        sealed(last)?;
+        match inner {
+            Content::Formula(formula) => {
+                let found = build::group(self.alloc, begin, formula, place)?;
+                Ok((Operand::Formula(build::prim(found), true), last))
+            }
+            Content::Term(term) => {
+                let first = build::brackets(self.alloc, begin, term, place)?;
+                self.begun(first, last)
+            }
+            Content::Either(app, mut pairs) => {
+                pairs.push(Pair {
+                    start: begin,
+                    close: place,
+                })?;
+                self.applied(app, pairs, last)
+            }
+        }
+    }
+
+    fn every(&self, place: usize, items: &'a [Item<'a>]) -> Found<'a, Operand>
+        requires nests { Readers self.now.left (F.pre self.now.formula) (F.post self.now.formula) (G.pre self.now.content) (G.post self.now.content) (H.pre self.now.term) (H.post self.now.term) }
+        requires fewer { length items.now < self.now.left }
+        ensures reads { OperandRead (sign t.Every place ∷ toks items.now) self.now.end result }
+        ensures shorter { IfOk result (λ p. length p.1.now ≤ length items.now) }
+    {
+        let (vars, colon, rest) = binder(self.alloc, items, self.end)?;
+        let (inner, last) = self.formula(rest)?;
+        let found = build::every(self.alloc, place, vars, colon, inner)?;
+        Ok((Operand::Formula(found, false), last))
+    }
+
+    fn some(&self, place: usize, items: &'a [Item<'a>]) -> Found<'a, Operand>
+        requires nests { Readers self.now.left (F.pre self.now.formula) (F.post self.now.formula) (G.pre self.now.content) (G.post self.now.content) (H.pre self.now.term) (H.post self.now.term) }
+        requires fewer { length items.now < self.now.left }
+        ensures reads { OperandRead (sign t.Some place ∷ toks items.now) self.now.end result }
+        ensures shorter { IfOk result (λ p. length p.1.now ≤ length items.now) }
+    {
+        let (count, rest) = number(items, self.end)?;
+        let (vars, colon, rest) = binder(self.alloc, rest, self.end)?;
+        let (inner, last) = self.formula(rest)?;
+        let found = build::some(self.alloc, place, count, vars, colon, inner)?;
+        Ok((Operand::Formula(found, false), last))
+    }
+
+    /// An operand without `~` in front.
+    pub fn plain(&self, items: &'a [Item<'a>]) -> Found<'a, Operand>
+        requires nests { Readers self.now.left (F.pre self.now.formula) (F.post self.now.formula) (G.pre self.now.content) (G.post self.now.content) (H.pre self.now.term) (H.post self.now.term) }
+        requires fewer { length items.now ≤ self.now.left }
+        ensures reads { NoNot (toks items.now) → OperandRead (toks items.now) self.now.end result }
+        ensures shorter { IfOk result (λ p. length p.1.now ≤ length items.now) }
+    {
+        let Some((item, rest)) = split(items) else {
+            return self.measured(items);
+        };
+        match item.terminal {
+            Terminal::Word => self.worded(item.text, item.place, rest),
+            Terminal::Open => self.enclosed(item.place, rest),
+            Terminal::Every => self.every(item.place, rest),
+            Terminal::Some => self.some(item.place, rest),
+            Terminal::Truth(value) => {
+                sealed(rest)?;
+                let found = build::prim(build::truth(value, item.place));
+                Ok((Operand::Formula(found, true), rest))
+            }
+            _ => self.measured(items),
+        }
+    }
+}
