@@ -131,6 +131,13 @@ impl ClauseList {
         self.clauses.get(i)
     }
 
+    /// The clauses in order.
+    pub fn as_slice(&self) -> &[Clause]
+        ensures { result.now ≡ self.now }
+    {
+        self.clauses.as_slice()
+    }
+
     /// Adds a clause at the end.
     pub fn push(&mut self, clause: Clause) -> Result<(), Memory>
         ensures ok { OnOk result (self.new ≡ self.old ++ clause ∷ []) }

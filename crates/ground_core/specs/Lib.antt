@@ -1,0 +1,10 @@
+pub mod ProblemFields
+pub mod NormalForms
+pub mod Solving
+pub mod Trials
+pub mod Problems
+pub mod Meaning
+pub mod More
+pub mod GateClauses
+pub mod Growth
+pub mod Laws

@@ -1,0 +1,75 @@
+-- Which valuations satisfy a ground problem.
+use Rattle.std.specs.Prelude.{◌≡◌, ℕ, ℤ, ◌+ℤ◌, Bool, true, false, List, All, IfSome, map, filter, slice_get}
+use Rattle.std.specs.List.{list_all, list_any}
+use Rattle.kb_logic.specs.declared.elements.ExtInt.{ExtInt}
+use Rattle.kb_logic.specs.declared.elements.ExtInt.TheVariants.{NegInf, Num, PosInf}
+use Rattle.kb_logic.specs.declared.syntax.AggKind.{AggKind}
+use Rattle.kb_logic.specs.declared.syntax.Cmp.TheVariants as cmp
+use Rattle.kb_logic.specs.Denotations.{Denotation, number, minus_infinity, plus_infinity, undefined, named, aggregate_value, compared}
+use Rattle.lit_core.specs.declared.literals.Lit.{Lit}
+use Rattle.lit_core.specs.Literals.{literal_value}
+use Rattle.lit_core.specs.Truth.{IsSatisfied}
+use Rattle.ground_core.specs.declared.parts.Gate.{Gate}
+use Rattle.ground_core.specs.declared.parts.Part.{Part}
+use Rattle.ground_core.specs.declared.parts.AggCon.{AggCon}
+use Rattle.ground_core.specs.declared.parts.GroundTerm.{GroundTerm}
+use Rattle.ground_core.specs.declared.parts.TermBound.{TermBound}
+use Rattle.ground_core.specs.Problems.{ProblemState}
+
+-- whether all of the literals are true, or whether any is
+abbrev pub joined : Bool → (ℕ → Bool) → List Lit → Bool
+joined true v ls = list_all (literal_value v) ls
+joined false v ls = list_any (literal_value v) ls
+
+-- a gate's output has the value that its parts have together
+abbrev pub GateHolds : (ℕ → Bool) → Gate → Type 0
+GateHolds v g = literal_value v g.out ≡ joined g.all v g.parts
+
+-- the weights of the parts whose literals are true
+abbrev pub weights_of : (ℕ → Bool) → List Part → List Denotation
+weights_of v ps = map (λ (p : Part). number p.weight) (filter (λ (p : Part). literal_value v p.lit) ps)
+
+-- their number, their sum, the least or the greatest of them
+abbrev pub parts_value : (ℕ → Bool) → AggKind → List Part → Denotation
+parts_value v kind ps = aggregate_value kind (weights_of v ps)
+
+-- the number, or infinity, as a value
+abbrev pub value_of_bound : ExtInt → Denotation
+value_of_bound NegInf = minus_infinity
+value_of_bound (Num z) = number z
+value_of_bound PosInf = plus_infinity
+
+-- a constraint's output is true exactly where the value of its parts is at least its bound
+abbrev pub SumHolds : (ℕ → Bool) → AggCon → Type 0
+SumHolds v s = literal_value v s.out ≡ compared cmp.Ge (parts_value v s.kind s.parts) (value_of_bound s.least)
+
+-- a number more, where there is a number
+abbrev pub shifted : ℤ → Denotation → Denotation
+shifted base (number z) = number (base +ℤ z)
+shifted base (named n) = named n
+shifted base minus_infinity = minus_infinity
+shifted base plus_infinity = plus_infinity
+shifted base undefined = undefined
+
+-- the value of a ground term
+abbrev pub term_value : (ℕ → Bool) → GroundTerm → Denotation
+term_value v t = shifted t.base (parts_value v t.kind t.parts)
+
+-- where a bound's output is true, its term is below the number
+abbrev pub BoundHolds : (ℕ → Bool) → List GroundTerm → TermBound → Type 0
+BoundHolds v terms b = literal_value v b.out ≡ true → IfSome (slice_get terms b.term) (λ t. compared cmp.Lt (term_value v t) (value_of_bound b.below) ≡ true)
+
+-- all that is said holds
+pub record Satisfies (p : ProblemState) (v : ℕ → Bool) : Type 0 where
+  pub gates : All (GateHolds v) p.gates
+  pub clauses : All (IsSatisfied v) p.clauses
+  pub sums : All (SumHolds v) p.sums
+  pub bounds : All (BoundHolds v p.terms) p.bounds
+
+-- every one of these literals is true
+abbrev pub MakesTrue : (ℕ → Bool) → List Lit → Type 0
+MakesTrue v ls = All (λ l. literal_value v l ≡ true) ls
+
+-- no valuation that satisfies the problem makes all of these literals true
+abbrev pub RefutesAll : ProblemState → List Lit → Type 0
+RefutesAll p ls = (v : ℕ → Bool) → Satisfies p v → MakesTrue v ls → ⊥

@@ -1,0 +1,213 @@
+ghost use Rattle.std.specs.Prelude.{◌≡◌, [], IsTrue, IfOk};
+ghost use Rattle.ground_core.specs.Problems.{AreLitsOf, IsLitOf};
+
+use crate::{
+    AtomTable, BruteForce, Budget, Gate, GroundTerm, LitList, Memory, Part, PartList, Problem,
+    Solve, Verdict, clauses_of_gate, nnf,
+};
+use kb_logic::{AggKind, ElemList, ExtInt, Formula, Literal, LiteralList, Name};
+use lit_core::{Clause, ClauseList, Lit, Var};
+use std::alloc::Global;
+use std::test::Fail;
+
+fn yes(var: u64) -> Lit {
+    Lit {
+        var: Var(var),
+        positive: true,
+    }
+}
+
+fn no(var: u64) -> Lit {
+    Lit {
+        var: Var(var),
+        positive: false,
+    }
+}
+
+/// A problem with so many ground atoms.
+fn problem_of(alloc: Global, atoms: u32) -> Result<Problem, Memory>
+    ensures { IfOk result (λ p. (p.sums ≡ []) × (p.bounds ≡ [])) }
+{
+    let mut list = LiteralList::new(alloc);
+    for symbol in 0..atoms {
+        list.push(Literal {
+            positive: true,
+            symbol,
+            args: ElemList::new(alloc),
+            value: None,
+        })?;
+    }
+    Ok(Problem::new(alloc, AtomTable::from_list(list)))
+}
+
+/// Whether the literals have variables of the problem.
+fn are_over(problem: &Problem, lits: &[Lit]) -> bool
+    ensures { IsTrue result → AreLitsOf problem.now.vars lits.now }
+{
+    let vars = problem.vars();
+    lits.iter().all(|lit| 1 <= lit.var.0 && lit.var.0 <= vars)
+}
+
+/// Whether the literal has a variable of the problem.
+fn is_over(problem: &Problem, lit: Lit) -> bool
+    ensures { IsTrue result → IsLitOf problem.now.vars lit }
+{
+    1 <= lit.var.0 && lit.var.0 <= problem.vars()
+}
+
+/// Says a clause, if it is one of the problem.
+fn say(alloc: Global, problem: &mut Problem, lits: &[Lit]) -> Result<(), Memory>
+    ensures sums { problem.new.sums ≡ problem.old.sums }
+    ensures bounds { problem.new.bounds ≡ problem.old.bounds }
+{
+    if are_over(problem, lits) {
+        problem.add_clause(Clause::from_slice(alloc, lits)?)?;
+    }
+    Ok(())
+}
+
+/// Adds a gate, if it is one of the problem.
+fn add_gate(alloc: Global, problem: &mut Problem, all: bool, lits: &[Lit]) -> Result<Lit, Memory>
+    ensures sums { problem.new.sums ≡ problem.old.sums }
+    ensures bounds { problem.new.bounds ≡ problem.old.bounds }
+{
+    if !are_over(problem, lits) {
+        return Err(Memory);
+    }
+    problem.add_gate(all, LitList::from_vec(Vec::from_slice(alloc, lits)?))
+}
+
+/// A gate of 1 and 2, whose output has this sign.
+fn gate_solver(alloc: Global, all: bool, sign: bool) -> Result<BruteForce, Memory> {
+    let mut problem = problem_of(alloc, 2)?;
+    let out = add_gate(alloc, &mut problem, all, &[yes(1), yes(2)])?;
+    say(
+        alloc,
+        &mut problem,
+        &[if sign { out } else { out.negated() }],
+    )?;
+    Ok(BruteForce::new(alloc, problem))
+}
+
+/// Whether there is a valuation, and how many literals the core has where there is none.
+fn answer(solver: &mut BruteForce, assume: &[Lit]) -> Result<Option<usize>, Fail> {
+    let mut budget = Budget {
+        limit: None,
+        spent: 0,
+    };
+    if !are_over(solver.problem(), assume) {
+        return Err(Fail::from("no variable of the problem"));
+    }
+    match solver.solve(assume, &mut budget) {
+        Ok(Verdict::Sat(_)) => Ok(None),
+        Ok(Verdict::Unsat(core)) => Ok(Some(core.len())),
+        Err(_) => Err(Fail::from("no verdict")),
+    }
+}
+
+/// The clauses of the gate 3, of 1 and 2.
+fn clauses_of_both(alloc: Global) -> Result<ClauseList, Memory> {
+    let gate = Gate {
+        out: yes(3),
+        all: true,
+        parts: LitList::from_vec(Vec::from_slice(alloc, &[yes(1), yes(2)])?),
+    };
+    clauses_of_gate(alloc, &gate)
+}
+
+#[test]
+fn a_gate_has_three_clauses(rt: HostRuntime) -> Result<(), Fail> {
+    let clauses = clauses_of_both(rt.alloc())?;
+    let list = clauses.as_slice();
+    assert_eq!(rt; list.len(), 3);
+    assert_eq!(rt; list[1].as_slice(), [no(3), yes(2)].as_slice());
+    assert_eq!(rt; list[2].as_slice(), [yes(3), no(1), no(2)].as_slice());
+    Ok(())
+}
+
+#[test]
+fn both_parts_of_a_gate_are_true(rt: HostRuntime) -> Result<(), Fail> {
+    let mut solver = gate_solver(rt.alloc(), true, true)?;
+    assert_eq!(rt; answer(&mut solver, &[yes(1)])?, None);
+    assert_eq!(rt; answer(&mut solver, &[yes(1), no(2)])?, Some(2));
+    Ok(())
+}
+
+#[test]
+fn no_part_of_a_gate_is_true(rt: HostRuntime) -> Result<(), Fail> {
+    let mut solver = gate_solver(rt.alloc(), false, false)?;
+    assert_eq!(rt; answer(&mut solver, &[no(1)])?, None);
+    assert_eq!(rt; answer(&mut solver, &[yes(2)])?, Some(1));
+    Ok(())
+}
+
+/// 3 is true exactly where 1 and 2 are equal.
+fn equality_solver(alloc: Global) -> Result<BruteForce, Memory> {
+    let mut problem = problem_of(alloc, 2)?;
+    let (a, b) = (yes(1), yes(2));
+    if is_over(&problem, a) && is_over(&problem, b) {
+        let _ = problem.add_same(alloc, a, b)?;
+    }
+    Ok(BruteForce::new(alloc, problem))
+}
+
+#[test]
+fn equal_literals_have_one_value(rt: HostRuntime) -> Result<(), Fail> {
+    let mut solver = equality_solver(rt.alloc())?;
+    assert_eq!(rt; answer(&mut solver, &[no(1), no(2), yes(3)])?, None);
+    assert_eq!(rt; answer(&mut solver, &[no(1), yes(2), yes(3)])?, Some(3));
+    Ok(())
+}
+
+/// A problem that says that 2 is true exactly where the weight 5 of 1 comes to 3, and names a term.
+fn sum_problem(alloc: Global) -> Result<Problem, Memory> {
+    let mut problem = problem_of(alloc, 1)?;
+    let lit = yes(1);
+    if is_over(&problem, lit) {
+        let mut parts = Vec::new(alloc);
+        parts.push(Part { lit, weight: 5 })?;
+        let _ = problem.add_sum(AggKind::Sum, PartList::from_vec(parts), ExtInt::Num(3))?;
+    }
+    problem.add_term(GroundTerm {
+        name: Name::new(alloc, b"cost")?,
+        kind: AggKind::Max,
+        base: 0,
+        parts: PartList::new(alloc),
+    })?;
+    Ok(problem)
+}
+
+#[test]
+fn a_sum_and_a_term_are_kept(rt: HostRuntime) -> Result<(), Fail> {
+    let problem = sum_problem(rt.alloc())?;
+    assert_eq!(rt; problem.vars(), 2);
+    assert_eq!(rt; problem.sums().len(), 1);
+    assert_eq!(rt; problem.terms().len(), 1);
+    Ok(())
+}
+
+/// `~(p & (q => ~p))`.
+fn denied(alloc: Global) -> Result<Formula, Memory> {
+    let not_p = Formula::Not(Box::new(alloc, Formula::Atom(0, Vec::new(alloc)))?);
+    let implies = Formula::Implies(
+        Box::new(alloc, Formula::Atom(1, Vec::new(alloc)))?,
+        Box::new(alloc, not_p)?,
+    );
+    let mut parts = Vec::new(alloc);
+    parts.push(Formula::Atom(0, Vec::new(alloc)))?;
+    parts.push(implies)?;
+    Ok(Formula::Not(Box::new(alloc, Formula::And(parts))?))
+}
+
+/// It is `~p | (q & p)`.
+#[test]
+fn negations_go_to_the_atoms(rt: HostRuntime) -> Result<(), Fail> {
+    let normal = nnf(rt.alloc(), &denied(rt.alloc())?)?;
+    let Formula::Or(parts) = &normal else {
+        return Err(Fail::from("no disjunction"));
+    };
+    assert_eq!(rt; parts.len(), 2);
+    assert!(rt; matches!(&parts[0], Formula::Not(_)));
+    assert!(rt; matches!(&parts[1], Formula::And(_)));
+    Ok(())
+}
