@@ -1,7 +1,7 @@
 -- Formulas of chains.
 use Rattle.std.proofs.Common.{◌≡◌, List, [], ◌∷◌, ◌++◌, refl, ap}
 use Rattle.kb_logic.specs.Trees.{FormulaTree, implication}
-use Rattle.fo_reader.specs.FirstGrammar.{grouped_right}
+use Rattle.fo_reader.specs.FirstFormulas.{grouped_right}
 
 -- the last two operands of => may be grouped first
 pub grouped_last : (f : FormulaTree) (fs : List FormulaTree) (g h : FormulaTree) → grouped_right f (fs ++ g ∷ h ∷ []) ≡ grouped_right f (fs ++ implication g h ∷ [])

@@ -6,8 +6,8 @@ use Rattle.std.specs.Option.{option_map}
 use Rattle.std.specs.Bool.{MatchBool}
 use Rattle.std.specs.Borrow.{Bor}
 use Rattle.std.specs.Str.{bytes_eq}
-use Rattle.fo_reader.specs.FirstGrammar.{place_of}
-use Rattle.fo_reader.specs.FirstFiles.{IsNamed, AreDistinct}
+use Rattle.fo_reader.specs.FirstNames.{place_of}
+use Rattle.fo_reader.specs.FirstNames.{IsNamed, AreDistinct}
 use Rattle.fo_reader.specs.FirstTables.{found, AreFirst}
 use Rattle.fo_reader.specs.FirstViews.{texts}
 

@@ -38,7 +38,7 @@ toks_lexemes [] = refl
 toks_lexemes (t ∷ ts) = ap (λ (l : List Tok). tok_of t.kind t.text.now ∷ l) (toks_lexemes ts)
 
 consistent : (f : File) → IsFirst f → IsConsistent (blocks_of f)
-consistent f h = record { distinct = h.distinct; free = h.free; theory = h.theory; structure = h.structure; apart = h.apart; entries = h.entries; once = h.once }
+consistent f h = record { declarations = h.declarations; theory = h.theory; structure = h.structure; apart = h.apart; entries = h.entries }
 
 -- the tokens ts of the text
 module _ (src : List ℕ) (ls : List Lexeme) (tokens : TokensOf src ls) (ts : List Tok) (are : Toks ls ≡ ts) where
@@ -80,7 +80,7 @@ module _ (src : List ℕ) (ls : List Lexeme) (tokens : TokensOf src ls) (ts : Li
         let f = t.0 in
         let P : BlocksOf → Type 0 = λ v. IsConsistent v in
         let h = subst P t.3 fine in
-        let first : IsFirst f = record { distinct = h.distinct; free = h.free; theory = h.theory; structure = h.structure; apart = h.apart; sentences = t.2; entries = h.entries; once = h.once } in
+        let first : IsFirst f = record { declarations = h.declarations; theory = h.theory; structure = h.structure; apart = h.apart; sentences = t.2; entries = h.entries } in
         let stand = stands f kb (place_of_theory ls) t.3 built in
         record {
           means = (f, record { lexemes = ls; tokens = tokens; spelled = are ∙ t.1; shallow = ap (λ (l : List Tok). is_shallow outermost l) are ∙ shallow; first = first; at = built.place }, stand);

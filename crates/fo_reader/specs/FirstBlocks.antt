@@ -1,63 +1,67 @@
 -- The blocks of a file, and their parts.
-use Rattle.std.specs.Prelude.{◌≡◌, ◌≢◌, ℕ, List, [], ◌∷◌, Bool, Result, Ok, Err, map, codes, ⊤}
-use Rattle.std.specs.List.{AllByRecursion}
+use Rattle.std.specs.Prelude.{◌≡◌, ◌≢◌, ℕ, List, [], ◌∷◌, Bool, false, Result, Ok, Err, map, codes, ⊤, ◌⊎◌}
 use Rattle.std.specs.Global.{Vec}
-use Rattle.std.specs.Borrow.{Bor}
 use Rattle.kb_logic.specs.Trees.{FormulaTree}
 use Rattle.kb_logic.specs.Views as views
 use Rattle.kb_logic.specs.declared.first.FirstKb.{FirstKb}
-use Rattle.fo_reader.specs.FirstTokens.{Tok, name, sign}
-use Rattle.fo_reader.specs.FirstPlaces.{names_in}
+use Rattle.fo_reader.specs.FirstTokens.{Tok, sign}
+use Rattle.fo_reader.specs.declared.first.token.Sign.TheVariants.{OpenBrace}
 use Rattle.fo_reader.specs.FirstViews.{texts}
-use Rattle.fo_reader.specs.FirstGrammar.{put_parens, put_constant}
-use Rattle.fo_reader.specs.FirstParts.{formulas_view, FormulaAt, IsMemory}
+use Rattle.fo_reader.specs.FirstGrammar.{Phrase}
+use Rattle.fo_reader.specs.FirstScopes.{Env}
+use Rattle.fo_reader.specs.FirstFormulas.{IsFormula, formula_of}
+use Rattle.fo_reader.specs.FirstParts.{IsMemory}
+use Rattle.fo_reader.specs.FirstItems.{Enclosed, Spelled, Unasked, ClosesBlock}
+use Rattle.fo_reader.specs.FirstDeclared.{declarations_view}
+use Rattle.fo_reader.specs.FirstSentences.{formulas_view}
 use Rattle.fo_reader.specs.FirstFiles as file
-use Rattle.fo_reader.specs.FirstFiles.{put_vocabulary_head, put_head, AreDistinct, IsFree, IsNamed, proposition, table_of}
-use Rattle.fo_reader.specs.declared.first.token.Sign.TheVariants.{CloseBrace, Dot, Equal}
-use Rattle.fo_reader.specs.declared.first.blocks.Entry.{Entry}
-use Rattle.fo_reader.specs.declared.first.blocks.Vocabulary.{Vocabulary}
+use Rattle.fo_reader.specs.FirstFiles.{put_declaration, put_sentence, put_value, put_entry, put_vocabulary_head, put_head, declared_by, given_by, content_of, words_of, type_names, predicates, environment, plain_type, elements, lists_of, tables_of, AreDeclarations, AreEntries, as_truth, as_rows}
+use Rattle.fo_reader.specs.declared.first.tables.Row.{Row}
+use Rattle.fo_reader.specs.declared.first.tables.Content.{Content}
+use Rattle.fo_reader.specs.declared.first.tables.Content.TheVariants as contents
+use Rattle.fo_reader.specs.declared.first.tables.Entry.{Entry}
+use Rattle.fo_reader.specs.declared.first.vocabularies.Vocabulary.{Vocabulary}
 use Rattle.fo_reader.specs.declared.first.blocks.Theory.{Theory}
 use Rattle.fo_reader.specs.declared.first.blocks.Structure.{Structure}
 use Rattle.fo_reader.specs.declared.first.blocks.Blocks.{Blocks}
 use Rattle.fo_reader.specs.declared.first.stop.Stop.{Stop}
 
--- any rest may follow
-abbrev pub Anything : List Tok → Type 0
-Anything ts = ⊤
+abbrev pub row_view : Row → List (List ℕ)
+row_view r = texts r.words.items
 
-abbrev pub names_view : Vec (Bor (List ℕ)) → List (List ℕ)
-names_view v = texts v.items
+abbrev pub rows_view : Vec Row → List (List (List ℕ))
+rows_view v = map row_view v.items
 
-abbrev pub entry_view : Entry → file.Entry
-entry_view e = record { name = e.name.now; value = e.value }
+abbrev pub content_view : Content → file.Content
+content_view (contents.Truth value) = as_truth value
+content_view (contents.Rows rows) = as_rows (rows_view rows)
 
-abbrev pub entries_view : Vec Entry → List file.Entry
-entries_view v = map entry_view v.items
+abbrev pub given_view : Entry → file.Given
+given_view e = record { name = e.name.now; content = content_view e.content }
 
--- a declaration of this name stands at the front
-abbrev pub NameAt : List Tok → List ℕ → List Tok → Type 0
-NameAt ts n rest = (parens : Bool) × (ts ≡ name n ∷ put_parens parens rest)
+abbrev pub entries_view : Vec Entry → List file.Given
+entries_view v = map given_view v.items
 
--- a formula and a dot stand at the front
-abbrev pub SentenceAt : List (List ℕ) → List Tok → FormulaTree → List Tok → Type 0
-SentenceAt names ts f rest = FormulaAt names 3 ts f (sign Dot ∷ rest)
+abbrev pub DeclarationAt : List Tok → file.Declared → List Tok → Type 0
+DeclarationAt = Spelled put_declaration Unasked declared_by
 
--- this entry stands at the front
-abbrev pub EntryAt : List Tok → file.Entry → List Tok → Type 0
-EntryAt ts e rest = ts ≡ name e.name ∷ sign Equal ∷ put_constant e.value rest
+-- a formula and a dot
+abbrev pub SentenceAt : Env → List Tok → FormulaTree → List Tok → Type 0
+SentenceAt env = Spelled put_sentence (IsFormula env 3 false) (formula_of env)
 
--- these items stand at the front, one behind the other
-abbrev pub Each : {V : Type 0} → (List Tok → V → List Tok → Type 0) → List Tok → List V → List Tok → Type 0
-Each Item ts [] rest = ts ≡ rest
-Each Item ts (v ∷ vs) rest = (mid : List Tok) × Item ts v mid × Each Item mid vs rest
+-- the rows of a table behind its opening brace
+abbrev pub TableAt : List Tok → List (List (List ℕ)) → List Tok → Type 0
+TableAt ts rows rest = (v : file.Value) × (sign OpenBrace ∷ ts ≡ put_value v rest) × (content_of v ≡ as_rows rows)
 
--- these items and then a closing brace
-abbrev pub Enclosed : {V : Type 0} → (List Tok → V → List Tok → Type 0) → List Tok → List V → List Tok → Type 0
-Enclosed Item ts vs rest = Each Item ts vs (sign CloseBrace ∷ rest)
+abbrev pub ContentAt : List Tok → file.Content → List Tok → Type 0
+ContentAt = Spelled put_value Unasked content_of
+
+abbrev pub EntryAt : List Tok → file.Given → List Tok → Type 0
+EntryAt = Spelled put_entry Unasked given_by
 
 pub record VocabularyBlock : Type 0 where
   pub name : List ℕ
-  pub names : List (List ℕ)
+  pub declared : List file.Declared
 
 pub record TheoryBlock : Type 0 where
   pub name : List ℕ
@@ -67,10 +71,10 @@ pub record TheoryBlock : Type 0 where
 pub record StructureBlock : Type 0 where
   pub name : List ℕ
   pub over : List ℕ
-  pub entries : List file.Entry
+  pub entries : List file.Given
 
 abbrev pub vocabulary_view : Vocabulary → VocabularyBlock
-vocabulary_view v = record { name = v.name.now; names = names_in v.places }
+vocabulary_view v = record { name = v.name.now; declared = declarations_view v.declared }
 
 abbrev pub theory_view : Theory → TheoryBlock
 theory_view t = record { name = t.name.now; over = t.over.now; sentences = formulas_view t.sentences }
@@ -79,13 +83,13 @@ abbrev pub structure_view : Structure → StructureBlock
 structure_view s = record { name = s.name.now; over = s.over.now; entries = entries_view s.entries }
 
 abbrev pub VocabularyAt : List Tok → VocabularyBlock → List Tok → Type 0
-VocabularyAt ts v rest = (mid : List Tok) × (ts ≡ put_vocabulary_head v.name mid) × Enclosed NameAt mid v.names rest
+VocabularyAt ts v rest = (mid : List Tok) × (ts ≡ put_vocabulary_head v.name mid) × Enclosed DeclarationAt ClosesBlock mid v.declared rest
 
-abbrev pub TheoryAt : List (List ℕ) → List Tok → TheoryBlock → List Tok → Type 0
-TheoryAt names ts t rest = (mid : List Tok) × (ts ≡ put_head (codes "theory") t.name t.over mid) × Enclosed (SentenceAt names) mid t.sentences rest
+abbrev pub TheoryAt : Env → List Tok → TheoryBlock → List Tok → Type 0
+TheoryAt env ts t rest = (mid : List Tok) × (ts ≡ put_head (codes "theory") t.name t.over mid) × Enclosed (SentenceAt env) ClosesBlock mid t.sentences rest
 
 abbrev pub StructureAt : List Tok → StructureBlock → List Tok → Type 0
-StructureAt ts s rest = (mid : List Tok) × (ts ≡ put_head (codes "structure") s.name s.over mid) × Enclosed EntryAt mid s.entries rest
+StructureAt ts s rest = (mid : List Tok) × (ts ≡ put_head (codes "structure") s.name s.over mid) × Enclosed EntryAt ClosesBlock mid s.entries rest
 
 -- all that the blocks of a file say
 pub record BlocksOf : Type 0 where
@@ -96,7 +100,7 @@ pub record BlocksOf : Type 0 where
 -- the tokens are these blocks
 abbrev pub BlocksAt : List Tok → BlocksOf → Type 0
 BlocksAt ts b =
-    (after : List Tok) × (behind : List Tok) × VocabularyAt ts b.vocabulary after × TheoryAt b.vocabulary.names after b.theory behind × StructureAt behind b.structure []
+    (after : List Tok) × (behind : List Tok) × VocabularyAt ts b.vocabulary after × TheoryAt (environment b.vocabulary.declared) after b.theory behind × StructureAt behind b.structure []
 
 abbrev pub blocks_view : Blocks → BlocksOf
 blocks_view b = record { vocabulary = vocabulary_view b.vocabulary; theory = theory_view b.theory; structure = structure_view b.structure }
@@ -116,18 +120,16 @@ pub record ReadsBlocks (ts : List Tok) (answer : Result Blocks Stop) : Type 0 wh
 
 -- names are distinct and used as declared
 pub record IsConsistent (b : BlocksOf) : Type 0 where
-  pub distinct : AreDistinct b.vocabulary.names
-  pub free : AllByRecursion IsFree b.vocabulary.names
+  pub declarations : AreDeclarations b.vocabulary.declared
   pub theory : b.theory.over ≡ b.vocabulary.name
   pub structure : b.structure.over ≡ b.vocabulary.name
   pub apart : b.structure.name ≢ b.theory.name
-  pub entries : AllByRecursion (λ e. IsNamed b.vocabulary.names e.name) b.structure.entries
-  pub once : AreDistinct (map (λ e. e.name) b.structure.entries)
+  pub entries : AreEntries b.vocabulary.declared b.structure.entries
 
 -- the knowledge base that the blocks stand for
 pub record IsBuilt (b : BlocksOf) (at : ℕ) (kb : FirstKb) : Type 0 where
-  pub vocabulary : kb.vocab ≡ record { name = b.vocabulary.name; types = []; symbols = map proposition b.vocabulary.names }
+  pub vocabulary : kb.vocab ≡ record { name = b.vocabulary.name; types = map plain_type (type_names b.vocabulary.declared); symbols = predicates b.vocabulary.declared }
   pub theory : views.theory_view kb.theory ≡ record { sentences = b.theory.sentences; definitions = [] }
-  pub domains : kb.domains ≡ []
-  pub given : kb.given ≡ map (table_of b.vocabulary.names) b.structure.entries
+  pub domains : kb.domains ≡ map elements (lists_of (type_names b.vocabulary.declared) b.structure.entries)
+  pub given : kb.given ≡ tables_of (predicates b.vocabulary.declared) b.structure.entries
   pub place : kb.place ≡ at

@@ -1,26 +1,45 @@
--- The grammar of the first profile: trees, the tokens that spell them in front of a rest, and what they stand for.
-use Rattle.std.specs.Prelude.{◌<◌, ℕ, suc, List, [], ◌∷◌, Bool, true, false, if◌then◌else◌, fold, length, codes, ⊤}
-use Rattle.std.specs.Str.{bytes_eq}
-use Rattle.kb_logic.specs.Trees.{FormulaTree, verum, falsum, atom, negation, conjunction, disjunction, implication, equivalence, formulas_of, no_terms}
+-- The grammar of formulas of the first profile: trees, and the tokens that spell them in front of a rest.
+use Rattle.std.specs.Prelude.{ℕ, List, [], ◌∷◌, Bool, true, false, Option, codes}
 use Rattle.fo_reader.specs.FirstTokens.{Tok, name, reserved, sign}
+use Rattle.fo_reader.specs.FirstLists.{put_all, put_parens}
 use Rattle.fo_reader.specs.declared.first.token.Sign.{Sign}
 use Rattle.fo_reader.specs.declared.first.token.Sign.TheVariants as signs
 use Rattle.fo_reader.specs.declared.first.joins.Join.{Join}
 use Rattle.fo_reader.specs.declared.first.joins.Join.TheVariants.{And, Or, Implies, ImpliedBy, Equivalent}
+use Rattle.fo_reader.specs.declared.first.joins.Quantifier.{Quantifier}
+use Rattle.fo_reader.specs.declared.first.joins.Quantifier.TheVariants.{Forall, Exists}
+
+-- an argument of an atom as it is written: x, x(), or one in parentheses
+pub data Argument : Type 0 where
+  plain : (text : List ℕ) (parens : Bool) → Argument
+  enclosed : (inner : Argument) → Argument
+
+-- x[T]
+pub record Variable : Type 0 where
+  pub name : List ℕ
+  pub over : List ℕ
+
+-- a variable of a list behind its first one, with or without a comma before it
+pub record NextVariable : Type 0 where
+  pub comma : Bool
+  pub variable : Variable
 
 mutual
-  -- a formula as it is written: true or false, p or p(), ~ before one, one in parentheses, operands with a connective between them
+  -- a formula as it is written: true or false, an atom with or without parentheses, ~ before a formula, one in parentheses,
+  -- operands with a connective between them, a quantifier with its variables before a formula
   pub data Phrase : Type 0 where
     constant : (value : Bool) → Phrase
-    named : (text : List ℕ) (parens : Bool) → Phrase
+    applied : (text : List ℕ) (arguments : Option (List Argument)) → Phrase
     negated : (operand : Phrase) → Phrase
     group : (inner : Phrase) → Phrase
     chain : (join : Join) (first : Phrase) (more : Phrases) → Phrase
+    quantified : (quantifier : Quantifier) (first : Variable) (others : List NextVariable) (body : Phrase) → Phrase
 
   pub data Phrases : Type 0 where
     no_more : Phrases
     further : (next : Phrase) (more : Phrases) → Phrases
 
+-- the sign of a connective
 abbrev pub sign_of : Join → Sign
 sign_of And = signs.And
 sign_of Or = signs.Or
@@ -28,28 +47,57 @@ sign_of Implies = signs.Implies
 sign_of ImpliedBy = signs.ImpliedBy
 sign_of Equivalent = signs.Equivalent
 
--- `()` or nothing
-abbrev pub put_parens : Bool → List Tok → List Tok
-put_parens true ts = sign signs.OpenParen ∷ sign signs.CloseParen ∷ ts
-put_parens false ts = ts
+-- ! and ?
+abbrev pub sign_of_quantifier : Quantifier → Sign
+sign_of_quantifier Forall = signs.Forall
+sign_of_quantifier Exists = signs.Exists
 
+-- `()` or nothing
+abbrev pub put_empty_parens : Bool → List Tok → List Tok
+put_empty_parens true ts = sign signs.OpenParen ∷ sign signs.CloseParen ∷ ts
+put_empty_parens false ts = ts
+
+-- true or false
 abbrev pub put_constant : Bool → List Tok → List Tok
 put_constant true ts = reserved (codes "true") ∷ ts
 put_constant false ts = reserved (codes "false") ∷ ts
+
+-- x, x() or one in parentheses
+abbrev pub put_argument : Argument → List Tok → List Tok
+put_argument (plain text parens) ts = name text ∷ put_empty_parens parens ts
+put_argument (enclosed a) ts = sign signs.OpenParen ∷ put_argument a (sign signs.CloseParen ∷ ts)
+
+-- x[T]
+abbrev pub put_variable : Variable → List Tok → List Tok
+put_variable v ts = name v.name ∷ sign signs.OpenBracket ∷ name v.over ∷ sign signs.CloseBracket ∷ ts
+
+-- a comma or nothing
+abbrev pub put_comma : Bool → List Tok → List Tok
+put_comma true ts = sign signs.Comma ∷ ts
+put_comma false ts = ts
+
+-- a variable behind the first one
+abbrev pub put_next_variable : NextVariable → List Tok → List Tok
+put_next_variable v ts = put_comma v.comma (put_variable v.variable ts)
+
+-- the variables of a quantifier, and a colon
+abbrev pub put_variables : Variable → List NextVariable → List Tok → List Tok
+put_variables first others ts = put_variable first (put_all put_next_variable others (sign signs.Colon ∷ ts))
 
 abbrev mutual
   -- the tokens of the formula, and then these
   pub put_phrase : Phrase → List Tok → List Tok
   put_phrase (constant value) ts = put_constant value ts
-  put_phrase (named text parens) ts = name text ∷ put_parens parens ts
+  put_phrase (applied text arguments) ts = name text ∷ put_parens put_argument arguments ts
   put_phrase (negated f) ts = sign signs.Not ∷ put_phrase f ts
   put_phrase (group f) ts = sign signs.OpenParen ∷ put_phrase f (sign signs.CloseParen ∷ ts)
-  put_phrase (chain j f more) ts = put_phrase f (put_further j more ts)
+  put_phrase (chain j f more) ts = put_phrase f (put_operands j more ts)
+  put_phrase (quantified q first others f) ts = sign (sign_of_quantifier q) ∷ put_variables first others (put_phrase f ts)
 
   -- further operands, the connective before each
-  pub put_further : Join → Phrases → List Tok → List Tok
-  put_further j no_more ts = ts
-  put_further j (further f more) ts = sign (sign_of j) ∷ put_phrase f (put_further j more ts)
+  pub put_operands : Join → Phrases → List Tok → List Tok
+  put_operands j no_more ts = ts
+  put_operands j (further f more) ts = sign (sign_of j) ∷ put_phrase f (put_operands j more ts)
 
 -- How loosely an operand of the connective may bind: a chain of & has level 1, of | level 2, of an arrow level 3, all else level 0.
 abbrev pub operand_level : Join → ℕ
@@ -59,51 +107,7 @@ operand_level Implies = 2
 operand_level ImpliedBy = 2
 operand_level Equivalent = 2
 
--- the number of the name, or that of all names where it is none of them
-abbrev pub place_of : List (List ℕ) → List ℕ → ℕ
-place_of [] text = 0
-place_of (n ∷ names) text = if bytes_eq n text then 0 else suc (place_of names text)
-
-abbrev mutual
-  -- a formula over these propositions that binds no more loosely than this level
-  pub IsFormula : List (List ℕ) → ℕ → Phrase → Type 0
-  IsFormula names level (constant value) = ⊤
-  IsFormula names level (named text parens) = place_of names text < length names
-  IsFormula names level (negated f) = IsFormula names 0 f
-  IsFormula names level (group f) = IsFormula names 3 f
-  IsFormula names level (chain j f more) = (operand_level j < level) × IsFormula names (operand_level j) f × AreFormulas names (operand_level j) more
-
-  pub AreFormulas : List (List ℕ) → ℕ → Phrases → Type 0
-  AreFormulas names level no_more = ⊤
-  AreFormulas names level (further f more) = IsFormula names level f × AreFormulas names level more
-
--- a => b => c is a => (b => c)
-abbrev pub grouped_right : FormulaTree → List FormulaTree → FormulaTree
-grouped_right f [] = f
-grouped_right f (g ∷ gs) = implication f (grouped_right g gs)
-
--- The formula of a chain. One operand is itself, & and | join all, a <= b <= c is (a <= b) <= c, and a <= b is b => a.
-abbrev pub joined : Join → FormulaTree → List FormulaTree → FormulaTree
-joined j f [] = f
-joined And f (g ∷ gs) = conjunction (formulas_of (f ∷ g ∷ gs))
-joined Or f (g ∷ gs) = disjunction (formulas_of (f ∷ g ∷ gs))
-joined Implies f (g ∷ gs) = grouped_right f (g ∷ gs)
-joined ImpliedBy f (g ∷ gs) = fold (λ right left. implication left right) f (g ∷ gs)
-joined Equivalent f (g ∷ gs) = fold equivalence f (g ∷ gs)
-
-abbrev pub constant_of : Bool → FormulaTree
-constant_of true = verum
-constant_of false = falsum
-
-abbrev mutual
-  -- what the formula stands for, where the propositions have these names
-  pub formula_of : List (List ℕ) → Phrase → FormulaTree
-  formula_of names (constant value) = constant_of value
-  formula_of names (named text parens) = atom (place_of names text) no_terms
-  formula_of names (negated f) = negation (formula_of names f)
-  formula_of names (group f) = formula_of names f
-  formula_of names (chain j f more) = joined j (formula_of names f) (formulas_in names more)
-
-  pub formulas_in : List (List ℕ) → Phrases → List FormulaTree
-  formulas_in names no_more = []
-  formulas_in names (further f more) = formula_of names f ∷ formulas_in names more
+-- whether a connective comes before further operands, or before what follows them
+abbrev pub follows : Phrases → Bool → Bool
+follows no_more followed = followed
+follows (further f more) followed = true

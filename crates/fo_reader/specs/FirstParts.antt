@@ -1,17 +1,13 @@
 -- What the readers of parts answer.
-use Rattle.std.specs.Prelude.{◌≡◌, ◌<◌, ◌≤◌, ℕ, map, List, [], ◌∷◌, Bool, Option, Some, None, Result, Ok, Err, length, ⊤}
+use Rattle.std.specs.Prelude.{◌≡◌, ◌<◌, ℕ, List, [], ◌∷◌, Bool, true, false, Option, Some, None, Result, Ok, Err, ⊤}
 use Rattle.std.specs.Borrow.{Bor}
 use Rattle.std.specs.Global.{Vec}
-use Rattle.kb_logic.specs.Trees.{FormulaTree, atom, no_terms}
-use Rattle.kb_logic.specs.Views.{formula_view}
-use Rattle.kb_logic.specs.declared.syntax.Formula.{Formula}
 use Rattle.fo_reader.specs.FirstTokens.{Tok, name, reserved, sign}
-use Rattle.fo_reader.specs.FirstViews.{toks}
-use Rattle.fo_reader.specs.FirstGrammar.{Phrase, Phrases, put_phrase, put_further, put_parens, IsFormula, AreFormulas, formula_of, formulas_in, operand_level, joined, place_of}
+use Rattle.fo_reader.specs.FirstViews.{toks, texts}
+use Rattle.fo_reader.specs.FirstGrammar.{put_empty_parens}
 use Rattle.fo_reader.specs.declared.first.token.Sign.{Sign}
 use Rattle.fo_reader.specs.declared.first.token.Sign.TheVariants as signs
 use Rattle.fo_reader.specs.declared.first.token.Token.{Token}
-use Rattle.fo_reader.specs.declared.first.joins.Join.{Join}
 use Rattle.fo_reader.specs.declared.first.stop.Stop.{Stop}
 use Rattle.fo_reader.specs.declared.first.stop.Stop.TheVariants.{Unread, Memory}
 
@@ -57,45 +53,42 @@ abbrev pub EndsFormula : ℕ → List Tok → Type 0
 EndsFormula level [] = ⊤
 EndsFormula level (t ∷ ts) = level < level_of t
 
--- a formula over the propositions of this level stands at the front
-abbrev pub FormulaAt : List (List ℕ) → ℕ → List Tok → FormulaTree → List Tok → Type 0
-FormulaAt names level tokens f rest = (p : Phrase) × (tokens ≡ put_phrase p rest) × IsFormula names level p × (f ≡ formula_of names p)
+-- any rest may follow
+abbrev pub Anything : List Tok → Type 0
+Anything ts = ⊤
 
--- a proposition stands at the front
-abbrev pub PropositionAt : List (List ℕ) → List Tok → FormulaTree → List Tok → Type 0
-PropositionAt names tokens f rest =
-    (text : List ℕ) × (parens : Bool) × (tokens ≡ name text ∷ put_parens parens rest) × (place_of names text < length names) × (f ≡ atom (place_of names text) no_terms)
+abbrev pub names_view : Vec (Bor (List ℕ)) → List (List ℕ)
+names_view v = texts v.items
 
--- further operands of a chain stand at the front
-abbrev pub FurtherAt : List (List ℕ) → Join → List Tok → List FormulaTree → List Tok → Type 0
-FurtherAt names j tokens fs rest = (more : Phrases) × (tokens ≡ put_further j more rest) × AreFormulas names (operand_level j) more × (fs ≡ formulas_in names more)
+-- the connectives
+abbrev pub joins : Sign → Bool
+joins signs.And = true
+joins signs.Or = true
+joins signs.Implies = true
+joins signs.ImpliedBy = true
+joins signs.Equivalent = true
+joins _ = false
+
+-- a connective comes first
+abbrev pub goes_on : List Tok → Bool
+goes_on [] = false
+goes_on (name text ∷ ts) = false
+goes_on (reserved text ∷ ts) = false
+goes_on (sign s ∷ ts) = joins s
+
+-- a name, and `()` or nothing
+abbrev pub NameAt : List Tok → List ℕ → List Tok → Type 0
+NameAt ts n rest = (parens : Bool) × (ts ≡ name n ∷ put_empty_parens parens rest)
 
 abbrev pub IsAfter : Option (Bor (List Token)) → List Tok → Type 0
 IsAfter (Some behind) rest = toks behind.now ≡ rest
 IsAfter None rest = ⊥
 
 abbrev pub IsBehindParens : List Tok → Option (Bor (List Token)) → Type 0
-IsBehindParens tokens (Some behind) = (parens : Bool) × (tokens ≡ put_parens parens (toks behind.now))
+IsBehindParens tokens (Some behind) = (parens : Bool) × (tokens ≡ put_empty_parens parens (toks behind.now))
 IsBehindParens tokens None = ⊤
 
 -- what stands behind `()` or nothing, and exactly that
 pub record IsAfterParens (tokens : List Tok) (answer : Option (Bor (List Token))) : Type 0 where
   pub found : IsBehindParens tokens answer
-  pub only : (parens : Bool) (rest : List Tok) → tokens ≡ put_parens parens rest → EndsFormula 0 rest → IsAfter answer rest
-
-abbrev pub formulas_view : Vec Formula → List FormulaTree
-formulas_view v = map formula_view v.items
-
--- => <= <=>
-abbrev pub IsArrow : Join → Type 0
-IsArrow j = operand_level j ≡ 2
-
--- what a chain that has begun with this formula stands for
-abbrev pub ChainAt : List (List ℕ) → Join → FormulaTree → List Tok → FormulaTree → List Tok → Type 0
-ChainAt names j first tokens f rest = (more : List FormulaTree) × FurtherAt names j tokens more rest × (f ≡ joined j first more)
-
--- the atom of the declared proposition of this name, or exactly that there is none
-abbrev pub IsAtom : List (List ℕ) → List ℕ → Result Formula Stop → Type 0
-IsAtom names text (Ok f) = (place_of names text < length names) × (formula_view f ≡ atom (place_of names text) no_terms)
-IsAtom names text (Err Unread) = length names ≤ place_of names text
-IsAtom names text (Err Memory) = ⊤
+  pub only : (parens : Bool) (rest : List Tok) → tokens ≡ put_empty_parens parens rest → EndsFormula 0 rest → IsAfter answer rest

@@ -4,7 +4,7 @@ use Rattle.std.specs.Option.{option_map}
 use Rattle.std.specs.Str.{bytes_eq}
 use Rattle.std.specs.HashMap.{HashMap, get_by}
 use Rattle.std.specs.Borrow.{Bor}
-use Rattle.fo_reader.specs.FirstGrammar.{place_of}
+use Rattle.fo_reader.specs.FirstNames.{place_of}
 
 -- the first place of the text
 abbrev pub found : List (List ℕ) → List ℕ → Option ℕ

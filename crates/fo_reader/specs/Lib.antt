@@ -1,7 +1,15 @@
 pub mod FirstTokens
 pub mod FirstViews
+pub mod FirstNames
+pub mod FirstLists
 pub mod FirstGrammar
+pub mod FirstScopes
+pub mod FirstFormulas
 pub mod FirstParts
+pub mod FirstItems
+pub mod FirstDeclared
+pub mod FirstBinders
+pub mod FirstSentences
 pub mod FirstDepth
 pub mod FirstNesting
 pub mod FirstFiles

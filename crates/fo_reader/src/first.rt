@@ -1,26 +1,39 @@
-//! Knowledge bases of the first profile: one vocabulary of propositions, one theory of sentences over them
-//! and one structure, in this order. It stands in until the whole grammar is read.
+//! Knowledge bases of the first profile: one vocabulary of types and predicates, one theory of sentences with
+//! connectives and quantifiers over typed variables, and one structure that gives each type its elements, in
+//! this order. It stands in until the whole grammar is read.
 ghost use Rattle.std.specs.Prelude.{◌≡◌};
 ghost use Rattle.fo_reader.specs.FirstFiles.{place_of_theory};
 ghost use Rattle.fo_reader.specs.FirstViews.{lexemes};
 ghost use Rattle.fo_reader.specs.FirstReads.{ReadsFirst, Answers};
 
+mod arguments;
+mod atoms;
 mod blocks;
 mod build;
+mod declarations;
 mod depth;
+mod elements;
 mod formula;
 mod joins;
+mod names;
 mod places;
 mod rules;
 mod scan;
 mod steps;
 mod stop;
+mod tables;
+#[cfg(test)]
+mod tests;
 mod token;
+mod variables;
+mod vocabularies;
+mod words;
 
 use crate::error::KbError;
 use blocks::read_blocks;
 use build::knowledge_base;
 use depth::is_shallow;
+use elements::lists;
 use kb_logic::first::FirstKb;
 use kb_text::{K, KbFault};
 use rules::is_consistent;
@@ -53,11 +66,16 @@ fn read(alloc: Global, src: &[u8]) -> Result<FirstKb, Stop>
         return Err(Stop::Unread);
     }
     let blocks = read_blocks(alloc, &all)?;
-    if !is_consistent(alloc, &blocks)? {
+    let lists = lists(
+        alloc,
+        &blocks.vocabulary.names.types,
+        &blocks.structure.entries,
+    )?;
+    if !is_consistent(alloc, &blocks, &lists)? {
         return Err(Stop::Unread);
     }
     let place = theory_place(&all);
-    Ok(knowledge_base(alloc, blocks, place)?)
+    Ok(knowledge_base(alloc, blocks, &lists, place)?)
 }
 
 /// The knowledge base of a file of the first profile.

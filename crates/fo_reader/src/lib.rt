@@ -15,8 +15,6 @@ mod raw;
 mod stops;
 mod terminal;
 mod terms;
-#[cfg(test)]
-mod tests;
 
 pub use error::KbError;
 pub use first::read_first;

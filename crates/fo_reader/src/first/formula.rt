@@ -1,92 +1,146 @@
+//! Formulas over declared names and variables in scope.
 ghost use Rattle.std.specs.Prelude.{◌≡◌, ◌<◌, ◌≤◌, suc, ◌∷◌, length, IfOk, IfSome, IfNone, List};
 ghost use Rattle.kb_logic.specs.Views.{formula_view};
 ghost use Rattle.fo_reader.specs.FirstTokens.{Tok, sign};
 ghost use Rattle.fo_reader.specs.FirstViews.{toks};
-ghost use Rattle.fo_reader.specs.FirstPlaces.{names_in};
-ghost use Rattle.fo_reader.specs.FirstGrammar.{operand_level, place_of, sign_of};
-ghost use Rattle.fo_reader.specs.FirstParts.{Reads, FormulaAt, PropositionAt, FurtherAt, ChainAt, EndsFormula, IsArrow, formulas_view, IsAtom};
+ghost use Rattle.fo_reader.specs.FirstGrammar.{operand_level, sign_of, sign_of_quantifier};
 ghost use Rattle.fo_reader.specs.declared.first.joins.Join.{Join};
+ghost use Rattle.fo_reader.specs.declared.first.joins.Quantifier.{Quantifier};
+ghost use Rattle.fo_reader.specs.FirstParts.{Reads, EndsFormula, goes_on};
+ghost use Rattle.fo_reader.specs.FirstSentences.{env_of, FormulaAt, FurtherAt, ChainAt, PlainAt, QuantifiedAt, IsArrow, formulas_view};
 
-use crate::first::joins::{Join, joined, negated};
-use crate::first::places::Places;
-use crate::first::steps::{after_name, after_parens, after_reserved, after_sign};
+use crate::first::atoms::atom;
+use crate::first::joins::{Join, Quantifier, joined, negated, quantified};
+use crate::first::names::Names;
+use crate::first::steps::{after_reserved, after_sign};
 use crate::first::stop::Stop;
 use crate::first::token::{Kind, Sign, Token};
+use crate::first::variables::{Variable, bounds, variables, within};
 use kb_logic::Formula;
 use std::alloc::Global;
 
 type Parsed<'a> = Result<(Formula, &'a [Token<'a>]), Stop>;
 
-// The atom of the proposition of this name.
-fn atom(alloc: Global, places: &Places<'_>, text: &[u8]) -> Result<Formula, Stop>
-    ensures { IsAtom (names_in places.now) text.now result }
+// Whether a connective comes first.
+fn goes_on(tokens: &[Token<'_>]) -> bool
+    ensures { result ≡ goes_on (toks tokens.now) }
 {
-    let place = places.place_of(text);
-    if place == places.names().len() {
-        return Err(Stop::Unread);
-    }
-    match u32::try_from(place) {
-        Ok(number) => Ok(Formula::Atom(number, Vec::new(alloc))),
-        Err(_) => Err(Stop::Memory),
+    match tokens.first() {
+        Some(first) => matches!(
+            first.kind,
+            Kind::Sign(Sign::And | Sign::Or | Sign::Implies | Sign::ImpliedBy | Sign::Equivalent)
+        ),
+        None => false,
     }
 }
 
-// A name, and `()` where it is there.
-fn proposition<'a>(alloc: Global, places: &Places<'_>, tokens: &'a [Token<'a>]) -> Parsed<'a>
-    ensures reads { Reads formula_view (PropositionAt (names_in places.now)) (EndsFormula 0) (toks tokens.now) result }
-    ensures shorter { IfOk result (λ x. length x.1.now < length tokens.now) }
+// The quantifier that comes first, and what follows it.
+fn quantifier<'a>(tokens: &'a [Token<'a>]) -> Option<(Quantifier, &'a [Token<'a>])>
+    ensures some { IfSome result (λ x. toks tokens.now ≡ sign (sign_of_quantifier x.0) ∷ toks x.1.now) }
+    ensures shorter { IfSome result (λ x. length x.1.now < length tokens.now) }
+    ensures none { IfNone result ((q : Quantifier) (rest : List Tok) → toks tokens.now ≡ sign (sign_of_quantifier q) ∷ rest → ⊥) }
 {
-    let Some((text, rest)) = after_name(tokens) else {
-        return Err(Stop::Unread);
-    };
-    let formula = atom(alloc, places, text)?;
-    match after_parens(rest) {
-        Some(rest) => Ok((formula, rest)),
-        None => Err(Stop::Unread),
+    if let Some(rest) = after_sign(tokens, Sign::Forall) {
+        return Some((Quantifier::Forall, rest));
     }
+    let rest = after_sign(tokens, Sign::Exists)?;
+    Some((Quantifier::Exists, rest))
 }
 
 #[cycle(formulas)]
-fn unary<'a>(alloc: Global, places: &Places<'_>, tokens: &'a [Token<'a>]) -> Parsed<'a>
-    ensures reads { Reads formula_view (FormulaAt (names_in places.now) 0) (EndsFormula 0) (toks tokens.now) result }
+fn unary<'a>(
+    alloc: Global,
+    names: &Names<'_>,
+    scope: &[Variable<'a>],
+    tokens: &'a [Token<'a>],
+) -> Parsed<'a>
+    ensures reads { Reads formula_view (FormulaAt (env_of names.now scope.now) 0) (EndsFormula 0) (toks tokens.now) result }
     ensures shorter { IfOk result (λ x. length x.1.now < length tokens.now) }
 {
     if let Some(rest) = after_sign(tokens, Sign::Not) {
-        let (inner, rest) = unary(alloc, places, rest)?;
+        let (inner, rest) = unary(alloc, names, scope, rest)?;
         return Ok((negated(alloc, inner)?, rest));
     }
     if let Some(rest) = after_sign(tokens, Sign::OpenParen) {
-        let (inner, rest) = formula(alloc, places, rest)?;
+        let (inner, rest) = formula(alloc, names, scope, rest)?;
         return match after_sign(rest, Sign::CloseParen) {
             Some(rest) => Ok((inner, rest)),
             None => Err(Stop::Unread),
         };
     }
+    if let Some((found, rest)) = quantifier(tokens) {
+        return bound(alloc, names, scope, found, rest);
+    }
+    plain(alloc, names, scope, tokens)
+}
+
+// `true`, `false` or an atom.
+fn plain<'a>(
+    alloc: Global,
+    names: &Names<'_>,
+    scope: &[Variable<'a>],
+    tokens: &'a [Token<'a>],
+) -> Parsed<'a>
+    ensures reads { Reads formula_view (PlainAt (env_of names.now scope.now)) (EndsFormula 0) (toks tokens.now) result }
+    ensures shorter { IfOk result (λ x. length x.1.now < length tokens.now) }
+{
     if let Some(rest) = after_reserved(tokens, b"true") {
         return Ok((Formula::True, rest));
     }
     if let Some(rest) = after_reserved(tokens, b"false") {
         return Ok((Formula::False, rest));
     }
-    proposition(alloc, places, tokens)
+    atom(alloc, names, scope, tokens)
+}
+
+// The variables of a quantifier and its formula, which reaches as far as it can.
+#[cycle(formulas)]
+fn bound<'a>(
+    alloc: Global,
+    names: &Names<'_>,
+    scope: &[Variable<'a>],
+    quantifier: Quantifier,
+    tokens: &'a [Token<'a>],
+) -> Parsed<'a>
+    ensures reads { Reads formula_view (QuantifiedAt (env_of names.now scope.now) quantifier) (EndsFormula 0) (toks tokens.now) result }
+    ensures shorter { IfOk result (λ x. length x.1.now < length tokens.now) }
+{
+    let (found, rest) = variables(alloc, &names.types, tokens)?;
+    let inner = within(alloc, scope, &found)?;
+    let (body, rest) = formula(alloc, names, &inner, rest)?;
+    if goes_on(rest) {
+        return Err(Stop::Unread);
+    }
+    let formula = quantified(alloc, quantifier, bounds(alloc, &found)?, body)?;
+    Ok((formula, rest))
 }
 
 #[cycle(formulas)]
-fn conjunction<'a>(alloc: Global, places: &Places<'_>, tokens: &'a [Token<'a>]) -> Parsed<'a>
-    ensures reads { Reads formula_view (FormulaAt (names_in places.now) 1) (EndsFormula 1) (toks tokens.now) result }
+fn conjunction<'a>(
+    alloc: Global,
+    names: &Names<'_>,
+    scope: &[Variable<'a>],
+    tokens: &'a [Token<'a>],
+) -> Parsed<'a>
+    ensures reads { Reads formula_view (FormulaAt (env_of names.now scope.now) 1) (EndsFormula 1) (toks tokens.now) result }
     ensures shorter { IfOk result (λ x. length x.1.now < length tokens.now) }
 {
-    let (first, rest) = unary(alloc, places, tokens)?;
-    chained(alloc, places, Join::And, first, rest)
+    let (first, rest) = unary(alloc, names, scope, tokens)?;
+    chained(alloc, names, scope, Join::And, first, rest)
 }
 
 #[cycle(formulas)]
-fn disjunction<'a>(alloc: Global, places: &Places<'_>, tokens: &'a [Token<'a>]) -> Parsed<'a>
-    ensures reads { Reads formula_view (FormulaAt (names_in places.now) 2) (EndsFormula 2) (toks tokens.now) result }
+fn disjunction<'a>(
+    alloc: Global,
+    names: &Names<'_>,
+    scope: &[Variable<'a>],
+    tokens: &'a [Token<'a>],
+) -> Parsed<'a>
+    ensures reads { Reads formula_view (FormulaAt (env_of names.now scope.now) 2) (EndsFormula 2) (toks tokens.now) result }
     ensures shorter { IfOk result (λ x. length x.1.now < length tokens.now) }
 {
-    let (first, rest) = conjunction(alloc, places, tokens)?;
-    chained(alloc, places, Join::Or, first, rest)
+    let (first, rest) = conjunction(alloc, names, scope, tokens)?;
+    chained(alloc, names, scope, Join::Or, first, rest)
 }
 
 // The arrow that comes first.
@@ -104,15 +158,20 @@ fn arrow(tokens: &[Token<'_>]) -> Option<Join>
     }
 }
 
-/// The formula at the front of the tokens, over the propositions of these names.
+/// The formula at the front of the tokens, over these names and variables.
 #[cycle(formulas)]
-pub fn formula<'a>(alloc: Global, places: &Places<'_>, tokens: &'a [Token<'a>]) -> Parsed<'a>
-    ensures reads { Reads formula_view (FormulaAt (names_in places.now) 3) (EndsFormula 3) (toks tokens.now) result }
+pub fn formula<'a>(
+    alloc: Global,
+    names: &Names<'_>,
+    scope: &[Variable<'a>],
+    tokens: &'a [Token<'a>],
+) -> Parsed<'a>
+    ensures reads { Reads formula_view (FormulaAt (env_of names.now scope.now) 3) (EndsFormula 3) (toks tokens.now) result }
     ensures shorter { IfOk result (λ x. length x.1.now < length tokens.now) }
 {
-    let (first, rest) = disjunction(alloc, places, tokens)?;
+    let (first, rest) = disjunction(alloc, names, scope, tokens)?;
     match arrow(rest) {
-        Some(join) => chained(alloc, places, join, first, rest),
+        Some(join) => chained(alloc, names, scope, join, first, rest),
         None => Ok((first, rest)),
     }
 }
@@ -121,15 +180,16 @@ pub fn formula<'a>(alloc: Global, places: &Places<'_>, tokens: &'a [Token<'a>]) 
 #[cycle(formulas)]
 fn chained<'a>(
     alloc: Global,
-    places: &Places<'_>,
+    names: &Names<'_>,
+    scope: &[Variable<'a>],
     join: Join,
     first: Formula,
     tokens: &'a [Token<'a>],
 ) -> Parsed<'a>
-    ensures reads { Reads formula_view (ChainAt (names_in places.now) join (formula_view first)) (EndsFormula (suc (operand_level join))) (toks tokens.now) result }
+    ensures reads { Reads formula_view (ChainAt (env_of names.now scope.now) join (formula_view first)) (EndsFormula (suc (operand_level join))) (toks tokens.now) result }
     ensures shorter { IfOk result (λ x. length x.1.now ≤ length tokens.now) }
 {
-    let (more, rest) = further(alloc, places, join, tokens)?;
+    let (more, rest) = further(alloc, names, scope, join, tokens)?;
     Ok((joined(alloc, join, first, more)?, rest))
 }
 
@@ -137,17 +197,20 @@ fn chained<'a>(
 #[cycle(formulas)]
 fn operand<'a>(
     alloc: Global,
-    places: &Places<'_>,
+    names: &Names<'_>,
+    scope: &[Variable<'a>],
     join: Join,
     tokens: &'a [Token<'a>],
 ) -> Parsed<'a>
-    ensures reads { Reads formula_view (FormulaAt (names_in places.now) (operand_level join)) (EndsFormula (operand_level join)) (toks tokens.now) result }
+    ensures reads { Reads formula_view (FormulaAt (env_of names.now scope.now) (operand_level join)) (EndsFormula (operand_level join)) (toks tokens.now) result }
     ensures shorter { IfOk result (λ x. length x.1.now < length tokens.now) }
 {
     match join {
-        Join::And => unary(alloc, places, tokens),
-        Join::Or => conjunction(alloc, places, tokens),
-        Join::Implies | Join::ImpliedBy | Join::Equivalent => disjunction(alloc, places, tokens),
+        Join::And => unary(alloc, names, scope, tokens),
+        Join::Or => conjunction(alloc, names, scope, tokens),
+        Join::Implies | Join::ImpliedBy | Join::Equivalent => {
+            disjunction(alloc, names, scope, tokens)
+        }
     }
 }
 
@@ -155,17 +218,18 @@ fn operand<'a>(
 #[cycle(formulas)]
 fn further<'a>(
     alloc: Global,
-    places: &Places<'_>,
+    names: &Names<'_>,
+    scope: &[Variable<'a>],
     join: Join,
     tokens: &'a [Token<'a>],
 ) -> Result<(Vec<Formula>, &'a [Token<'a>]), Stop>
-    ensures reads { Reads formulas_view (FurtherAt (names_in places.now) join) (EndsFormula (suc (operand_level join))) (toks tokens.now) result }
+    ensures reads { Reads formulas_view (FurtherAt (env_of names.now scope.now) join) (EndsFormula (suc (operand_level join))) (toks tokens.now) result }
     ensures shorter { IfOk result (λ x. length x.1.now ≤ length tokens.now) }
 {
     let mut found = Vec::new(alloc);
     let (_, mut rest) = tokens.split_at(0);
     while let Some(after) = after_sign(rest, join.sign()) {
-        let (next, behind) = operand(alloc, places, join, after)?;
+        let (next, behind) = operand(alloc, names, scope, join, after)?;
         found.push(next)?;
         rest = behind;
     }

@@ -1,10 +1,11 @@
 ghost use Rattle.std.specs.Prelude.{◌≡◌, map, fold, IfOk, ◌∷◌};
 ghost use Rattle.kb_logic.specs.Trees.{negation, implication, equivalence};
 ghost use Rattle.kb_logic.specs.Views.{formula_view};
-ghost use Rattle.fo_reader.specs.FirstGrammar.{joined, grouped_right, sign_of};
+ghost use Rattle.fo_reader.specs.FirstGrammar.{sign_of, sign_of_quantifier};
+ghost use Rattle.fo_reader.specs.FirstFormulas.{joined, grouped_right, bound_by};
 
 use crate::first::token::Sign;
-use kb_logic::{Formula, Memory};
+use kb_logic::{Bound, Formula, Memory};
 use std::alloc::Global;
 
 /// A connective between formulas.
@@ -28,6 +29,40 @@ impl Join {
             Join::ImpliedBy => Sign::ImpliedBy,
             Join::Equivalent => Sign::Equivalent,
         }
+    }
+}
+
+/// A quantifier: `!` or `?`.
+#[derive(Clone, Copy, Debug, PartialEq, Eq)]
+pub enum Quantifier {
+    Forall,
+    Exists,
+}
+
+impl Quantifier {
+    pub fn sign(self) -> Sign
+        ensures { result ≡ sign_of_quantifier self }
+    {
+        match self {
+            Quantifier::Forall => Sign::Forall,
+            Quantifier::Exists => Sign::Exists,
+        }
+    }
+}
+
+/// The formula under a quantifier of these variables.
+pub fn quantified(
+    alloc: Global,
+    quantifier: Quantifier,
+    bounds: Vec<Bound>,
+    formula: Formula,
+) -> Result<Formula, Memory>
+    ensures { IfOk result (λ f. formula_view f ≡ bound_by quantifier bounds.items (formula_view formula)) }
+{
+    let body = Box::new(alloc, formula)?;
+    match quantifier {
+        Quantifier::Forall => Ok(Formula::All(bounds, body)),
+        Quantifier::Exists => Ok(Formula::Any(bounds, body)),
     }
 }
 

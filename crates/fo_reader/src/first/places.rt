@@ -38,8 +38,8 @@ fn first_places<'a>(alloc: Global, names: &[&'a [u8]]) -> Result<HashMap<&'a [u8
 
 impl<'a> Places<'a> {
     ghost use Rattle.fo_reader.specs.FirstPlaces.{names_in};
-    ghost use Rattle.fo_reader.specs.FirstGrammar.{place_of};
-    ghost use Rattle.fo_reader.specs.FirstFiles.{AreDistinct};
+    ghost use Rattle.fo_reader.specs.FirstNames.{place_of};
+    ghost use Rattle.fo_reader.specs.FirstNames.{AreDistinct};
 
     pub fn new(alloc: Global, names: Vec<&'a [u8]>) -> Result<Places<'a>, Memory>
         ensures { IfOk result (λ p. names_in p ≡ texts names.entry.items) }

@@ -1,8 +1,9 @@
-ghost use Rattle.std.specs.Prelude.{◌≡◌, ◌<◌, ◌≤◌, ◌∷◌, ℕ, List, Bool, length, IfSome, IfNone};
+ghost use Rattle.std.specs.Prelude.{◌≡◌, ◌<◌, ◌≤◌, ◌∷◌, ℕ, List, Bool, length, IfOk, IfSome, IfNone};
 ghost use Rattle.fo_reader.specs.FirstTokens.{Tok, name, reserved, sign};
 ghost use Rattle.fo_reader.specs.FirstViews.{toks};
-ghost use Rattle.fo_reader.specs.FirstParts.{IsAfterParens};
+ghost use Rattle.fo_reader.specs.FirstParts.{IsAfterParens, Reads, NameAt, EndsFormula};
 
+use crate::first::stop::Stop;
 use crate::first::token::{Kind, Sign, Token};
 
 /// What follows this sign, where it comes first.
@@ -53,5 +54,19 @@ pub fn after_parens<'a>(tokens: &'a [Token<'a>]) -> Option<&'a [Token<'a>]>
     match after_sign(tokens, Sign::OpenParen) {
         Some(inside) => after_sign(inside, Sign::CloseParen),
         None => Some(tokens),
+    }
+}
+
+/// A name, and `()` where it is there.
+pub fn named<'a>(tokens: &'a [Token<'a>]) -> Result<(&'a [u8], &'a [Token<'a>]), Stop>
+    ensures reads { Reads (λ n. n.now) NameAt (EndsFormula 0) (toks tokens.now) result }
+    ensures shorter { IfOk result (λ x. length x.1.now < length tokens.now) }
+{
+    let Some((name, rest)) = after_name(tokens) else {
+        return Err(Stop::Unread);
+    };
+    match after_parens(rest) {
+        Some(rest) => Ok((name, rest)),
+        None => Err(Stop::Unread),
     }
 }

@@ -33,6 +33,6 @@ returns c =
     let shallow = rw c.deref.ensures.value at c.in_ok-is_shallow.ensures in
     let blocks = rw c.deref-2.ensures.value at c.in_ok-blocks.ensures in
     let fine = rw c.if-not-branch-2.false at c.in_ok-is_consistent.ensures in
-    let place : c.theory_place-place.result ≡ place_of_theory (lexemes all) = c.theory_place-place.ensures ∙ ap (λ (l : List Token). place_of_theory (lexemes l)) c.deref-3.ensures.value in
+    let place : c.theory_place-place.result ≡ place_of_theory (lexemes all) = c.theory_place-place.ensures ∙ ap (λ (l : List Token). place_of_theory (lexemes l)) c.deref-5.ensures.value in
     let Built : ℕ → Type 0 = λ k. IsBuilt (blocks_view c.in_ok-blocks.blocks) k c.in_ok-knowledge_base.field-0 in
     read_so c.args.src.now (lexemes all) c.in_ok-all.ensures (toks all) (toks_lexemes all) (blocks_view c.in_ok-blocks.blocks) blocks.only c.in_ok-knowledge_base.field-0 (sym shallow ∙ c.if-not-branch.false) blocks.found fine (subst Built place c.in_ok-knowledge_base.ensures)

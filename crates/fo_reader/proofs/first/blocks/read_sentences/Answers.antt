@@ -1,28 +1,30 @@
+use Rattle.std.proofs.Common.{[], arith}
 use Rattle.std.proofs.lemmas.Result.{err_from_is_err_and}
 use Rattle.std.proofs.lemmas.List.{map_push}
-use Rattle.fo_reader.specs.FirstPlaces.{names_in}
 use Rattle.fo_reader.specs.FirstViews.{toks}
-use Rattle.fo_reader.specs.FirstParts.{formulas_view}
-use Rattle.fo_reader.specs.FirstBlocks.{SentenceAt, Anything}
-use Rattle.fo_reader.proofs.FirstItems.{on_item, back_item, no_item, all_items}
-use Rattle.fo_reader.proofs.FirstStarts.{sentence_starts, after_any}
+use Rattle.fo_reader.specs.FirstItems.{ClosesBlock}
+use Rattle.fo_reader.specs.FirstParts.{Anything}
+use Rattle.fo_reader.specs.FirstSentences.{env_of, formulas_view}
+use Rattle.fo_reader.specs.FirstBlocks.{SentenceAt}
+use Rattle.fo_reader.proofs.FirstItems.{on_item, back_item, no_item, all_items, after_any}
+use Rattle.fo_reader.proofs.FirstStarts.{sentence_starts, one_block}
 use Rattle.fo_reader.proofs.first.blocks.read_sentences.Goals as goal
 
 pub returns-in-Some : goal.returns-in-Some
 returns-in-Some c =
     let before = c.loop-behind.invariant in
-    all_items (SentenceAt (names_in c.args.places.now)) Anything (sentence_starts (names_in c.args.places.now)) (after_any (SentenceAt (names_in c.args.places.now))) formulas_view (toks c.args.tokens.now) (toks c.loop-behind.rest.now) c.loop-behind.found c.in-Some.behind c.in-Some.ensures.some before.on before.back
+    all_items (SentenceAt (env_of c.args.names.now [])) ClosesBlock Anything (sentence_starts (env_of c.args.names.now [])) (after_any (SentenceAt (env_of c.args.names.now [])) ClosesBlock) one_block formulas_view (toks c.args.tokens.now) (toks c.loop-behind.rest.now) c.loop-behind.found c.in-Some.behind c.in-Some.ensures.some before.on before.back
 
 pub returns-in_err-next : goal.returns-in_err-next
 returns-in_err-next c =
     let p = err_from_is_err_and c.from_residual.result c.from_residual.ensures.1 in
-    rw (p.1, p.2) (no_item (SentenceAt (names_in c.args.places.now)) Anything (sentence_starts (names_in c.args.places.now)) (after_any (SentenceAt (names_in c.args.places.now))) formulas_view (toks c.args.tokens.now) (toks c.loop-behind.rest.now) _ _ c.in_default.ensures.none c.in_err-next.ensures.reads.only c.loop-behind.invariant.back)
+    rw (p.1, p.2) (no_item (SentenceAt (env_of c.args.names.now [])) ClosesBlock Anything (sentence_starts (env_of c.args.names.now [])) (after_any (SentenceAt (env_of c.args.names.now [])) ClosesBlock) formulas_view (toks c.args.tokens.now) (toks c.loop-behind.rest.now) _ _ c.in_default.ensures.none c.in_err-next.ensures.reads.only c.loop-behind.invariant.back)
 
 pub loop-behind-preserved : goal.loop-behind-preserved
 loop-behind-preserved c =
     let before = c.loop-behind.invariant in
     let next = c.in_ok-next.ensures.reads in
     rw (c.in_ok-push.ensures.items, map_push) (record {
-      on = on_item (SentenceAt (names_in c.args.places.now)) Anything (sentence_starts (names_in c.args.places.now)) (after_any (SentenceAt (names_in c.args.places.now))) (toks c.args.tokens.now) (toks c.loop-behind.rest.now) (toks c.in_ok-next.behind.now) _ _ next.found before.on;
-      back = back_item (SentenceAt (names_in c.args.places.now)) Anything (sentence_starts (names_in c.args.places.now)) (after_any (SentenceAt (names_in c.args.places.now))) (toks c.args.tokens.now) (toks c.loop-behind.rest.now) (toks c.in_ok-next.behind.now) _ _ c.in_default.ensures.none next.only before.back;
+      on = on_item (SentenceAt (env_of c.args.names.now [])) ClosesBlock Anything (sentence_starts (env_of c.args.names.now [])) (after_any (SentenceAt (env_of c.args.names.now [])) ClosesBlock) (toks c.args.tokens.now) (toks c.loop-behind.rest.now) (toks c.in_ok-next.behind.now) _ _ next.found before.on;
+      back = back_item (SentenceAt (env_of c.args.names.now [])) ClosesBlock Anything (sentence_starts (env_of c.args.names.now [])) (after_any (SentenceAt (env_of c.args.names.now [])) ClosesBlock) (toks c.args.tokens.now) (toks c.loop-behind.rest.now) (toks c.in_ok-next.behind.now) _ _ c.in_default.ensures.none next.only before.back;
     })

@@ -1,6 +1,6 @@
 use Rattle.std.proofs.Common.{◌≤◌, ◌+◌, ◌*◌, length, map}
 use Rattle.kb_logic.specs.Views.{formula_view}
-use Rattle.fo_reader.specs.FirstPlaces.{names_in}
+use Rattle.fo_reader.specs.FirstSentences.{env_of}
 use Rattle.fo_reader.specs.FirstViews.{toks}
 use Rattle.fo_reader.proofs.FirstChains.{GoesOnWith, BeginsWith}
 use Rattle.fo_reader.proofs.first.formula.+formulas.Given as goal
@@ -20,6 +20,9 @@ decreases-operand l = 5 * length l.tokens.now + 3
 abbrev pub decreases-formula : goal.decreases-formula
 decreases-formula l = 5 * length l.tokens.now + 4
 
+abbrev pub decreases-bound : goal.decreases-bound
+decreases-bound l = 5 * length l.tokens.now
+
 abbrev pub decreases-chained : goal.decreases-chained
 decreases-chained l = 5 * length l.tokens.now + 1
 
@@ -29,8 +32,8 @@ decreases-further l = 5 * length l.tokens.now
 abbrev pub invariant-further-loop-after : goal.invariant-further-loop-after
 invariant-further-loop-after l = record {
   shorter : length l.rest ≤ length l.tokens;
-  on : GoesOnWith (names_in l.places) l.join (toks l.tokens) (toks l.rest) (map formula_view l.found.items);
-  back : BeginsWith (names_in l.places) l.join (toks l.tokens) (toks l.rest) (map formula_view l.found.items);
+  on : GoesOnWith (env_of l.names l.scope) l.join (toks l.tokens) (toks l.rest) (map formula_view l.found.items);
+  back : BeginsWith (env_of l.names l.scope) l.join (toks l.tokens) (toks l.rest) (map formula_view l.found.items);
 }
 
 abbrev pub decreases-further-loop-after : goal.decreases-further-loop-after

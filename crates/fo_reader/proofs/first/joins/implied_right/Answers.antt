@@ -3,7 +3,7 @@ use Rattle.std.proofs.lemmas.List.{map-append}
 use Rattle.kb_logic.specs.Trees.{FormulaTree}
 use Rattle.kb_logic.specs.Views.{formula_view}
 use Rattle.kb_logic.specs.declared.syntax.Formula.{Formula}
-use Rattle.fo_reader.specs.FirstGrammar.{grouped_right}
+use Rattle.fo_reader.specs.FirstFormulas.{grouped_right}
 use Rattle.fo_reader.proofs.FirstJoins.{grouped_last}
 use Rattle.fo_reader.proofs.first.joins.implied_right.Goals as goal
 

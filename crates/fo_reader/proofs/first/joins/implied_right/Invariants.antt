@@ -1,6 +1,6 @@
 use Rattle.std.proofs.Common.{◌≡◌, ◌++◌, ◌∷◌, [], map, length}
 use Rattle.kb_logic.specs.Views.{formula_view}
-use Rattle.fo_reader.specs.FirstGrammar.{grouped_right}
+use Rattle.fo_reader.specs.FirstFormulas.{grouped_right}
 use Rattle.fo_reader.proofs.first.joins.implied_right.Given as goal
 
 abbrev pub invariant-loop-left : goal.invariant-loop-left

@@ -1,7 +1,7 @@
-use Rattle.std.proofs.Common.{drop}
+use Rattle.std.proofs.Common.{drop, map}
 use Rattle.std.specs.List.{AllByRecursion}
 use Rattle.fo_reader.specs.FirstViews.{texts}
-use Rattle.fo_reader.specs.FirstFiles.{IsFree}
+use Rattle.fo_reader.specs.FirstNames.{IsFree}
 use Rattle.fo_reader.proofs.first.rules.are_free.Given as goal
 
 abbrev pub invariant-loop-name : goal.invariant-loop-name

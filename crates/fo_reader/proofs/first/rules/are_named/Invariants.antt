@@ -1,12 +1,12 @@
 use Rattle.std.proofs.Common.{drop, map}
 use Rattle.std.specs.List.{AllByRecursion}
+use Rattle.fo_reader.specs.FirstViews.{texts}
 use Rattle.fo_reader.specs.FirstPlaces.{names_in}
-use Rattle.fo_reader.specs.FirstFiles.{IsNamed}
-use Rattle.fo_reader.specs.FirstBlocks.{entry_view}
+use Rattle.fo_reader.specs.FirstNames.{IsNamed}
 use Rattle.fo_reader.proofs.first.rules.are_named.Given as goal
 
-abbrev pub invariant-loop-entry : goal.invariant-loop-entry
-invariant-loop-entry l = record {
-  on : AllByRecursion (λ e. IsNamed (names_in l.places) e.name) (map entry_view (drop l.entry-index l.entries)) → AllByRecursion (λ e. IsNamed (names_in l.places) e.name) (map entry_view l.entries);
-  back : AllByRecursion (λ e. IsNamed (names_in l.places) e.name) (map entry_view l.entries) → AllByRecursion (λ e. IsNamed (names_in l.places) e.name) (map entry_view (drop l.entry-index l.entries));
+abbrev pub invariant-loop-name : goal.invariant-loop-name
+invariant-loop-name l = record {
+  on : AllByRecursion (IsNamed (names_in l.places)) (texts (drop l.name-index l.names)) → AllByRecursion (IsNamed (names_in l.places)) (texts l.names);
+  back : AllByRecursion (IsNamed (names_in l.places)) (texts l.names) → AllByRecursion (IsNamed (names_in l.places)) (texts (drop l.name-index l.names));
 }

@@ -1,16 +1,10 @@
 use Rattle.std.proofs.Common.{rules}
+use Rattle.fo_reader.specs.FirstBlocks.{blocks_view}
+use Rattle.fo_reader.proofs.FirstElements.{consistent_if}
 use Rattle.fo_reader.proofs.first.rules.is_consistent.Goals as goal
 
 pub returns : goal.returns
 returns c =
-    let once = rw c.in_ok-entries.ensures at c.if-not-are_distinct-2.ensures in
-    let listed = rw c.in_ok-names_of.ensures at once in
-    record {
-      distinct = c.if-not-are_distinct.ensures;
-      free = rw c.names.ensures at c.if-not-are_free.ensures;
-      theory = search rules;
-      structure = search rules;
-      apart = search rules;
-      entries = rw c.deref.ensures.value at c.if-not-are_named.ensures;
-      once = rw c.deref-2.ensures.value at listed;
-    }
+    let declared = rw c.if-not-branch.false at c.in_ok-are_declarations.ensures in
+    let entries = rw c.deref.ensures.value at c.are_entries.ensures in
+    consistent_if (blocks_view c.args.blocks.now) c.are_entries.result declared (search rules) (search rules) (search rules) entries

@@ -1,6 +1,6 @@
 use Rattle.fo_reader.specs.FirstPlaces.{names_in}
 use Rattle.fo_reader.specs.FirstTables.{AreFirst}
-use Rattle.fo_reader.specs.FirstFiles.{AreDistinct}
+use Rattle.fo_reader.specs.FirstNames.{AreDistinct}
 use Rattle.fo_reader.proofs.FirstNames.{told, distinct_first, first_distinct}
 use Rattle.fo_reader.proofs.first.places.Places.are_distinct.Goals as goal
 
