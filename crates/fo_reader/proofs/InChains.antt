@@ -8,18 +8,18 @@ use Rattle.fo_reader.specs.declared.terminal.Terminal.TheVariants as t
 use Rattle.fo_reader.specs.declared.raw.RawAnd.{RawAnd}
 use Rattle.fo_reader.specs.declared.raw.RawOr.{RawOr}
 use Rattle.fo_reader.specs.declared.raw.RawFormula.{RawFormula}
-use Rattle.fo_reader.specs.Terminals.{Tok, tok_at, mark, sign, toks}
+use Rattle.fo_reader.specs.Terminals.{Tok, tok_at, mark, sign}
 use Rattle.fo_reader.specs.Trees.{Formula, alone, linked, Links, last, link, Or, one, or, And, single, and, Unary, not, every, some, prim, Prim, group, truth, atom, compare}
 use Rattle.fo_reader.specs.Spelling.{put_formula, put_links, put_or, put_and, put_unary, put_prim}
 use Rattle.fo_reader.specs.Fine.{closed_unary, closed_and, closed_or, FineFormula, FineLinks, FineOr, FineAnd, FineUnary, FinePrim}
 use Rattle.fo_reader.specs.Sorts.{app_formula, app_or, app_and, app_unary, app_prim}
-use Rattle.fo_reader.specs.Machine.{Frame, need, Chain, unsettled, fresh, chained, Mode, in_formula, Sort, either, settled, connects, links_on, link_on, on, run}
+use Rattle.fo_reader.specs.Machine.{need, Chain, unsettled, fresh, chained, Mode, in_formula, Sort, either, settled, connects, links_on, link_on, on, run}
 use Rattle.fo_reader.specs.Modes.{formula_sort, mode_formula, mode_links, mode_or, mode_and, mode_unary, mode_prim, sort_formula, sort_links, sort_or, sort_and, sort_unary, sort_prim}
-use Rattle.fo_reader.specs.View.{links_of, formula_of, or_of, and_of, formula_view, or_view, and_view}
-use Rattle.fo_reader.specs.Parts.{EndsFactor, EndsPrim, NoAnd, NoOr, NoArrows, NoArrow, Connects, NoConnective, Halts, Level, unaries, ands, ors, Tight, Behind, Entry, sentence, bracket, entry, at_operand, at_unary, at_entry, at_sentence, at_bracket, Fails}
-use Rattle.fo_reader.specs.Results.{UnaryIs, AndIs, OrIs, FormulaIs, AppIs, AndRead, OrRead, ConjunctionRead, DisjunctionRead, FormulaRead, LinkedRead, wrap_prim}
+use Rattle.fo_reader.specs.View.{links_of, formula_of, or_of, and_of}
+use Rattle.fo_reader.specs.Parts.{EndsFactor, EndsPrim, NoAnd, NoOr, NoArrows, NoArrow, Connects, NoConnective, Halts, unaries, ands, ors, Tight, Behind, Entry, sentence, bracket, entry, at_operand, at_unary, at_entry, at_sentence, at_bracket}
+use Rattle.fo_reader.specs.Results.{UnaryIs, AndIs, OrIs, FormulaIs, AndRead, OrRead, ConjunctionRead, DisjunctionRead, FormulaRead, LinkedRead}
 use Rattle.fo_reader.proofs.Append.{formula-append, or-append, and-append}
-use Rattle.fo_reader.proofs.Behind.{settled_twice, connects_unary, connects_and, links_or, link_same}
+use Rattle.fo_reader.proofs.Behind.{settled_twice, connects_and, links_or, link_same}
 use Rattle.fo_reader.proofs.Runs.{run_and_sign, run_or_sign, run_arrow, Linkable, link_first}
 use Rattle.fo_reader.proofs.Only.{only_prim}
 use Rattle.fo_reader.proofs.Readings.{read_formula, read_or, read_and}

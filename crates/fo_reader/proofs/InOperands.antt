@@ -1,5 +1,5 @@
 -- Where an operand of a formula is stuck, and what it is.
-use Rattle.std.proofs.Common.{◌≡◌, ℕ, List, [], ◌∷◌, ◌++◌, Bool, true, false, Some, None, Result, Ok, Err, Bor, refl, sym, ap, ◌∙◌}
+use Rattle.std.proofs.Common.{◌≡◌, ℕ, List, [], ◌∷◌, ◌++◌, Bool, true, false, Some, None, Result, Bor, refl, sym, ap, ◌∙◌}
 use Rattle.fo_reader.specs.declared.stops.ReadError.{ReadError}
 use Rattle.fo_reader.specs.declared.stops.ReadError.TheVariants.{Memory, Stuck}
 use Rattle.fo_reader.specs.declared.kinds.Pair.{Pair}
@@ -20,7 +20,7 @@ use Rattle.fo_reader.specs.Machine as m
 use Rattle.fo_reader.specs.Machine.{Frame, need, want, done, paren, colon, vars_first, number_first, Chain, unsettled, fresh, chained, Mode, in_formula, Sort, formula, term, either, settled, ended, shuts, on, stuck, run}
 use Rattle.fo_reader.specs.Modes.{term_sort, formula_sort, mode_formula, sort_formula, mode_unary, sort_unary, mode_prim, sort_prim}
 use Rattle.fo_reader.specs.View.{formula_view, term_view, app_view}
-use Rattle.fo_reader.specs.Parts.{EndsFactor, EndsTerm, EndsPrim, NoCompare, NoNot, TermsOnly, Halts, Level, unaries, ands, ors, Tight, Behind, needed, at_factor, at_either, at_operand, at_unary, at_bracket, at_sentence, at_vars, at_number, Lacks, Fails}
+use Rattle.fo_reader.specs.Parts.{EndsFactor, EndsTerm, EndsPrim, NoCompare, NoNot, TermsOnly, Halts, unaries, Tight, Behind, needed, at_factor, at_either, at_operand, at_unary, at_bracket, at_sentence, at_vars, at_number, Lacks, Fails}
 use Rattle.fo_reader.specs.Binders.{Binder, binder, put_binder, Whole, Counted, counted, put_counted, FineCounted}
 use Rattle.fo_reader.specs.Results.{UnaryIs, FormulaIs, TermIs, AppIs, ArgumentsAre, Shut, Unsealed, OperandIs, OperandRead, ContentIs, wrap_prim, wrap_factor, nots, put_nots}
 use Rattle.fo_reader.proofs.Append.{vars-append, number-append, formula-append, prim-append, term-append, app-append}

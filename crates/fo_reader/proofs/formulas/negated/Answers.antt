@@ -1,4 +1,4 @@
-use Rattle.std.proofs.Common.{◌∷◌, [], ◌∙◌, List, ℕ, ap, sym}
+use Rattle.std.proofs.Common.{◌∙◌, List, ℕ, ap, sym}
 use Rattle.fo_reader.specs.View.{unary_view}
 use Rattle.fo_reader.specs.Results.{nots}
 use Rattle.fo_reader.proofs.InOperands.{negated_push}

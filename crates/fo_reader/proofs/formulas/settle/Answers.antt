@@ -1,7 +1,6 @@
 use Rattle.fo_reader.specs.Terminals.{toks}
-use Rattle.fo_reader.specs.View.{unary_view, term_view, app_view}
+use Rattle.fo_reader.specs.View.{term_view, app_view}
 use Rattle.fo_reader.proofs.InOperands.{app_is, term_stuck}
-use Rattle.fo_reader.proofs.InChains.{unary_here}
 use Rattle.fo_reader.proofs.formulas.settle.Goals as goal
 
 pub returns-in-Formula : goal.returns-in-Formula

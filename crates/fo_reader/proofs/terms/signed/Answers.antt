@@ -1,4 +1,4 @@
-use Rattle.std.proofs.Common.{◌∷◌, [], ◌∙◌, List, ℕ, ap, sym, arith}
+use Rattle.std.proofs.Common.{◌∙◌, List, ℕ, ap, sym}
 use Rattle.fo_reader.specs.View.{factor_view}
 use Rattle.fo_reader.specs.Results.{negatives}
 use Rattle.fo_reader.proofs.InFactors.{negatives_push}

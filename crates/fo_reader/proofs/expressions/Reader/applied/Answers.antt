@@ -1,11 +1,10 @@
-use Rattle.std.proofs.Common.{◌≡◌, false, arith, refl, sym}
-use Rattle.std.proofs.lemmas.Result.{err_from_is_err_and}
+use Rattle.std.proofs.Common.{refl}
 use Rattle.fo_reader.specs.Terminals.{toks}
 use Rattle.fo_reader.specs.Trees.{atom, value}
 use Rattle.fo_reader.specs.Spelling.{put_prim, put_factor}
-use Rattle.fo_reader.specs.View.{app_view, factor_view}
+use Rattle.fo_reader.specs.View.{app_view}
 use Rattle.fo_reader.specs.Results.{wrap_prim, wrap_factor}
-use Rattle.fo_reader.proofs.InOperands.{wrapped_put, wrap_factor_fine, operand_from}
+use Rattle.fo_reader.proofs.InOperands.{wrapped_put, operand_from}
 use Rattle.fo_reader.proofs.expressions.Reader.applied.Goals as goal
 
 pub returns-then-goes_on-clause-reads : goal.returns-then-goes_on-clause-reads

@@ -1,11 +1,10 @@
-use Rattle.std.proofs.Common.{◌∷◌, ◌++◌, ◌∙◌, [], refl, arith}
+use Rattle.std.proofs.Common.{◌∷◌}
 use Rattle.std.proofs.lemmas.Result.{err_from_is_err_and}
 use Rattle.fo_reader.specs.declared.terminal.Terminal.TheVariants as t
 use Rattle.fo_reader.specs.Terminals.{toks, sign}
-use Rattle.fo_reader.specs.Trees.{brackets, atom}
-use Rattle.fo_reader.specs.Spelling.{put_factor, put_prim}
+use Rattle.fo_reader.specs.Trees.{brackets}
+use Rattle.fo_reader.specs.Spelling.{put_factor}
 use Rattle.fo_reader.specs.View.{formula_view, term_view, app_view}
-use Rattle.fo_reader.specs.Results.{wrap_prim}
 use Rattle.fo_reader.proofs.Inside.{fails_in}
 use Rattle.fo_reader.proofs.InOperands.{in_content, unclosed_content, unsealed_content, group_is, brackets_put, wraps_put, operand_from}
 use Rattle.fo_reader.proofs.expressions.Reader.enclosed.Goals as goal

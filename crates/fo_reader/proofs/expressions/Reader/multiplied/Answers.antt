@@ -1,8 +1,7 @@
-use Rattle.std.proofs.Common.{◌∷◌, ◌∙◌, List, ap, sym, arith, map}
+use Rattle.std.proofs.Common.{◌∙◌, List, ap, arith, map}
 use Rattle.std.proofs.lemmas.Result.{err_from_is_err_and}
 use Rattle.std.proofs.lemmas.List.{map_push}
-use Rattle.fo_reader.specs.declared.terminal.Terminal.TheVariants as t
-use Rattle.fo_reader.specs.Terminals.{Tok, toks, sign}
+use Rattle.fo_reader.specs.Terminals.{Tok, toks}
 use Rattle.fo_reader.specs.Spelling.{put_product, put_factor}
 use Rattle.fo_reader.specs.View.{factor_view, product_tail_view, product_of}
 use Rattle.fo_reader.proofs.Inside.{fails_in}

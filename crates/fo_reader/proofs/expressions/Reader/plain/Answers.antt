@@ -1,7 +1,6 @@
-use Rattle.std.proofs.Common.{◌≡◌, ◌∷◌, refl}
+use Rattle.std.proofs.Common.{refl}
 use Rattle.std.proofs.lemmas.Result.{err_from_is_err_and}
-use Rattle.fo_reader.specs.declared.terminal.Terminal.TheVariants as t
-use Rattle.fo_reader.specs.Terminals.{toks, tok_at, word, sign}
+use Rattle.fo_reader.specs.Terminals.{toks}
 use Rattle.fo_reader.proofs.InOperands.{nothing_only, terms_only, operand_from, truth_is, truth_unsealed}
 use Rattle.fo_reader.proofs.expressions.Reader.plain.Goals as goal
 
