@@ -7,7 +7,7 @@ use Rattle.partial_structures.specs.declared.rows.Label.TheVariants.{Symbol, Wor
 use Rattle.partial_structures.specs.contracts.rows.LabelPartialEq.TheImpl.{ghosts as label_equality}
 use Rattle.partial_structures.specs.contracts.rows.EdgePartialEq.TheImpl.{ghosts as edge_equality}
 
-label_test : (a b : Label) → label_equality.eq a b ≡ same_label a b
+pub label_test : (a b : Label) → label_equality.eq a b ≡ same_label a b
 label_test (Symbol a) (Symbol b) = refl
 label_test (Symbol a) (Word b) = refl
 label_test (Symbol a) (Number b) = refl

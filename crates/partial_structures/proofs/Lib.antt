@@ -11,4 +11,14 @@ pub mod Labelled
 pub mod Statuses
 pub mod Views
 pub mod TestLemmas
+pub mod Distinct
+pub mod Tallies
+pub mod Structures
+pub mod Extensions
+pub mod Folds
+pub mod Connected
+pub mod Walks
+pub mod Shapes
+pub mod Soundness
+pub mod Plain
 pub mod Certain

@@ -97,7 +97,7 @@ other_label : (ws : List (List ℕ)) (x y : Elem) (l : Label) (o : Option Label)
 other_label ws x y l None is at ne = refl
 other_label ws x y l (Some k) is at ne = false_from_ne_true (same_label l k) (λ e. ne (label_injective ws y x l (at ∙ ap Some (sym (same_label_is l k e))) is))
 
-never_yes : (c : Bool) (t : Truth) → is_yes (settled c (denied t)) ≡ false
+pub never_yes : (c : Bool) (t : Truth) → is_yes (settled c (denied t)) ≡ false
 never_yes true Yes = refl
 never_yes true No = refl
 never_yes true Unknown = refl

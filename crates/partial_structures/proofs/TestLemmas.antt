@@ -1,5 +1,5 @@
 -- What the tests ask of elements before they call.
-use Rattle.std.proofs.Common.{◌≡◌, ℕ, suc, ◌<◌, List, [], ◌∷◌, map, length, get_or, Bool, true, false, ◌||◌, refl, sym, ap, ◌∙◌, arith, ◌⊎◌, inl, inr}
+use Rattle.std.proofs.Common.{◌≡◌, ℕ, suc, List, [], ◌∷◌, map, Bool, true, false, sym, ap, ◌∙◌, arith, inl, inr}
 use Rattle.std.specs.List.{list_any, Contains}
 use Rattle.std.specs.Bool.{OnTrue}
 use Rattle.std.proofs.lemmas.Bool.{or_cases, or_left, or_right, true≢false}

@@ -1,12 +1,14 @@
 -- What a partial structure knows, as its rows say it.
-use Rattle.std.proofs.Common.{◌≡◌, ℕ, suc, zero, ◌<◌, List, [], length, Bool, true, false, ◌||◌, ◌&&◌, ◌==◌, not, Some, IfSome, refl, sym, ap, ◌∙◌, filter, subst, slice_set, replicate}
-use Rattle.std.specs.List.{list_any}
+use Rattle.std.proofs.Common.{◌≡◌, ℕ, suc, zero, ◌<◌, List, [], length, Bool, true, false, ◌||◌, ◌&&◌, ◌==◌, not, Some, IfSome, refl, sym, ap, ◌∙◌, filter, subst, slice_set, replicate, cond, ◌+◌}
+use Rattle.std.specs.List.{list_any, AllByRecursion}
 use Rattle.kb_logic.specs.declared.elements.Elem.{Elem}
 use Rattle.kb_logic.specs.Models.{GroundAtom}
+use Rattle.kb_logic.specs.Structures.{IsDistinct}
 use Rattle.partial_structures.specs.KnownAtoms.{KnownAtoms, IsAtomOver, atoms_over, same_atom, is_rival, value_at, with_true, with_false, with_closed, nothing_known}
 use Rattle.partial_structures.specs.Words.{words_in, words_of}
 use Rattle.partial_structures.specs.Rows.{has_label, mark_of, MadeTrue, MadeFalse, status_of}
 use Rattle.partial_structures.specs.Flags.{is_closed}
+use Rattle.partial_structures.specs.Counts.{added_by}
 use Rattle.partial_structures.specs.Status.{is_yes, is_no, status, known_atoms}
 use Rattle.partial_structures.specs.declared.partial.Partial.TheInside.{Inside}
 use Rattle.partial_structures.specs.declared.truths.Truth.{Truth}
@@ -14,6 +16,7 @@ use Rattle.partial_structures.specs.declared.truths.Truth.TheVariants.{Yes, No, 
 use Rattle.partial_structures.proofs.Members.{Has, filter-same, filter-none}
 use Rattle.partial_structures.proofs.Listed.{atom_listed, atom_kind, is_function, listed, value_is}
 use Rattle.partial_structures.proofs.Labelled.{atom_labelled}
+use Rattle.partial_structures.proofs.Distinct.{atoms_distinct, length_more}
 use Rattle.partial_structures.proofs.Statuses.{TrueAfter, FalseAfter, ClosedAfter, true_after, false_after, flag_after, same_marks, empty_status}
 
 pub value_from : (p : Inside) (k : KnownAtoms) (a : GroundAtom) (r : Truth) → known_atoms p ≡ k → IsAtomOver k.symbols k.domains a → r ≡ status p a → r ≡ value_at k a
@@ -168,3 +171,26 @@ copied p q k view symbols domains closed words nodes =
     ∙ ap (λ w. status_of w q.rows.nodes.entries (is_closed p.closed.items b.symbol) b.symbol b.args b.value) words
     ∙ ap (λ es. status_of (words_in p.rows.words) es (is_closed p.closed.items b.symbol) b.symbol b.args b.value) nodes)
     ∙ view
+
+added : (t : Truth) → is_no t ≡ false → cond (is_yes t) 0 1 ≡ added_by t
+added Yes h = refl
+added No h = refl
+added Unknown h = refl
+
+-- the number of true atoms after one more was made true
+pub true_count : (p q : Inside) (a : GroundAtom) (t : Truth) (n : ℕ) → AllByRecursion IsDistinct p.domains → p.count ≡ length (known_atoms p).true_atoms → IsAtomOver p.symbols p.domains a
+    → known_atoms q ≡ with_true (known_atoms p) a → t ≡ status p a → is_no t ≡ false → n ≡ p.count + added_by t → n ≡ length (known_atoms q).true_atoms
+true_count p q a t n distinct counted over after is clash number =
+    let atoms = atoms_over p.symbols p.domains in
+    let here = atom_listed p.symbols p.domains a over in
+    let Q = λ (b : GroundAtom). is_yes (status p b) in
+    let lists : filter (λ b. same_atom a b || list_any (same_atom b) (known_atoms p).true_atoms) atoms ≡ filter (λ b. same_atom a b || Q b) atoms =
+    filter-same (λ b. same_atom a b || list_any (same_atom b) (known_atoms p).true_atoms) (λ b. same_atom a b || Q b) atoms (λ b m. ap (λ u. same_atom a b || u) (listed atoms Q b m)) in
+    let size : length (known_atoms q).true_atoms ≡ length (filter Q atoms) + cond (Q a) 0 1 =
+    ap (λ k. length k.true_atoms) after ∙ ap length lists ∙ length_more Q a atoms (atoms_distinct p.symbols p.domains distinct) here in
+    let one : cond (Q a) 0 1 ≡ added_by t = ap (λ u. cond (is_yes u) 0 1) (sym is) ∙ added t clash in
+    number ∙ ap (λ m. m + added_by t) counted ∙ sym (size ∙ ap (λ m. length (filter Q atoms) + m) one)
+
+-- the same number where the true atoms are the same
+pub same_count : (p q : Inside) (k : KnownAtoms) → p.count ≡ length (known_atoms p).true_atoms → known_atoms q ≡ k → k.true_atoms ≡ (known_atoms p).true_atoms → p.count ≡ length (known_atoms q).true_atoms
+same_count p q k counted view same = counted ∙ sym (ap (λ j. length j.true_atoms) view ∙ ap length same)

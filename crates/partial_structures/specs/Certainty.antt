@@ -1,9 +1,8 @@
 -- What is certain of a term or a formula where only some atoms are known: Kleene's strong three-valued logic, under the
 -- elements e that are assigned to the variables in scope, the outermost first.
-use Rattle.std.specs.Prelude.{ℕ, suc, ℤ, pos, List, [], ◌∷◌, ◌++◌, map, Bool, true, false, ◌&&◌, ◌==◌, if◌then◌else◌, Option, None, Some, option_map, is_some, slice_get}
+use Rattle.std.specs.Prelude.{ℕ, suc, ℤ, pos, List, [], ◌∷◌, ◌++◌, Bool, true, false, ◌&&◌, ◌==◌, if◌then◌else◌, Option, None, Some, option_map, is_some, slice_get}
 use Rattle.std.specs.List.{list_any}
 use Rattle.kb_logic.specs.declared.elements.Elem.{Elem}
-use Rattle.kb_logic.specs.declared.vocabularies.Bound.{Bound}
 use Rattle.kb_logic.specs.declared.vocabularies.Symbol.{Symbol}
 use Rattle.kb_logic.specs.declared.syntax.Cmp.{Cmp}
 use Rattle.kb_logic.specs.declared.syntax.Cmp.TheVariants as cmp
@@ -115,12 +114,17 @@ abbrev pub atom_certain : KnownAtoms → ℕ → Option (List Denotation) → Tr
 atom_certain k s None = truth.Unknown
 atom_certain k s (Some vs) = if arguments_typed k (slice_get k.symbols s) vs then value_of_row k s vs None else truth.No
 
+-- a value outside a function's value type is none that it has
+abbrev pub outside_value : Option Symbol → Truth
+outside_value None = truth.Unknown
+outside_value (Some s) = if is_some s.value then truth.No else truth.Unknown
+
 -- f(vs) = v: false where v is no element of the function's value type
 abbrev pub value_certain : KnownAtoms → ℕ → Option (List Denotation) → Option Denotation → Truth
 value_certain k s None v = truth.Unknown
 value_certain k s (Some vs) None = truth.Unknown
 value_certain k s (Some vs) (Some v) =
-    if arguments_typed k (slice_get k.symbols s) vs then (if result_typed k (slice_get k.symbols s) v then value_of_row k s vs (Some v) else truth.No) else truth.Unknown
+    if arguments_typed k (slice_get k.symbols s) vs then (if result_typed k (slice_get k.symbols s) v then value_of_row k s vs (Some v) else outside_value (slice_get k.symbols s)) else truth.Unknown
 
 -- a comparison of known values
 abbrev pub compared_known : Cmp → Option Denotation → Option Denotation → Truth

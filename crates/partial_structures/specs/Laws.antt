@@ -1,14 +1,16 @@
 -- What the definitions say, in the subject's own words.
-use Rattle.std.specs.Prelude.{◌≡◌, ◌↔◌, List, ◌++◌, Contains}
+use Rattle.std.specs.Prelude.{◌≡◌, ◌↔◌, List, ◌++◌, Some, Contains, IsTrue, IsFalse}
 use Rattle.kb_logic.specs.declared.elements.Elem.{Elem}
 use Rattle.kb_logic.specs.declared.vocabularies.Bound.{Bound}
 use Rattle.kb_logic.specs.declared.structures.Structure.{Structure}
-use Rattle.kb_logic.specs.Trees.{FormulaTree, universal, existential}
+use Rattle.kb_logic.specs.Trees.{TermTree, FormulaTree, universal, existential}
+use Rattle.kb_logic.specs.Denotations.{Denotation}
+use Rattle.kb_logic.specs.Meaning.{value_of, truth_of}
 use Rattle.kb_logic.specs.Structures.{choices}
 use Rattle.kb_logic.specs.Models.{GroundAtom, AtomHolds}
 use Rattle.partial_structures.specs.KnownAtoms.{KnownAtoms, value_at}
-use Rattle.partial_structures.specs.Extension.{ExtendsData}
-use Rattle.partial_structures.specs.Certainty.{certain_truth}
+use Rattle.partial_structures.specs.Extension.{ExtendsData, IsStructureOver}
+use Rattle.partial_structures.specs.Certainty.{known_value, certain_truth}
 use Rattle.partial_structures.specs.declared.truths.Truth.TheVariants as truth
 
 -- what is known of an atom is so in every structure that extends the data
@@ -28,3 +30,10 @@ SomeIsDisjunction =
     (k : KnownAtoms) (bs : List Bound) (f : FormulaTree) (e : List Elem)
     → (certain_truth k (existential bs f) e ≡ truth.Yes ↔ ((a : List Elem) × Contains (choices k.domains bs) a × (certain_truth k f (e ++ a) ≡ truth.Yes)))
     × (certain_truth k (existential bs f) e ≡ truth.No ↔ ((a : List Elem) → Contains (choices k.domains bs) a → certain_truth k f (e ++ a) ≡ truth.No))
+
+-- what is certain of a formula is so in every structure that extends the data, and a known value is the value there
+abbrev pub CertaintyIsSound : Type 0
+CertaintyIsSound =
+    (m : Structure) (k : KnownAtoms) → IsStructureOver k.symbols m → ExtendsData m k
+    → ((f : FormulaTree) (e : List Elem) → (certain_truth k f e ≡ truth.Yes → IsTrue (truth_of m f e)) × (certain_truth k f e ≡ truth.No → IsFalse (truth_of m f e)))
+    × ((t : TermTree) (e : List Elem) (v : Denotation) → known_value k t e ≡ Some v → value_of m t e ≡ v)

@@ -3,6 +3,14 @@ pub mod Words
 pub mod Rows
 pub mod Flags
 pub mod Status
+pub mod Counts
+pub mod Tally
 pub mod Extension
 pub mod Certainty
+pub mod Values
+pub mod Known
+pub mod KnownArithmetic
+pub mod Evaluation
+pub mod Sides
 pub mod Laws
+pub mod Examples

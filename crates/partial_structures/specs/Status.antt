@@ -33,8 +33,10 @@ known_atoms p = record {
   false_atoms = filter (λ a. is_no (status p a)) (atoms_over p.symbols p.domains);
 }
 
--- the domains have no element twice, each symbol has its flag, and each name of an element has its number
+-- the domains have no element twice, each symbol has its flag, each name of an element has its
+-- number, and the atoms that are certainly true are counted
 pub record IsSound (p : Inside) : Type 0 where
   pub distinct : AllByRecursion IsDistinct p.domains
   pub flags : length p.closed.items ≡ length p.symbols
   pub words : words_in p.rows.words ≡ words_of p.domains
+  pub counted : p.count ≡ length (filter (λ a. is_yes (status p a)) (atoms_over p.symbols p.domains))

@@ -6,9 +6,10 @@ ghost use Rattle.partial_structures.specs.Rows.{Grows, MadeFalse, MadeTrue, node
 
 use crate::rows::{Mark, Rows};
 use crate::truths::Truth;
-use kb_logic::{Literal, Memory};
+use kb_logic::{Elem, Literal, Memory};
 
-fn if_closed(closed: bool, known: Truth) -> Truth
+/// What is known where `closed` says that the rest is false.
+pub(crate) fn if_closed(closed: bool, known: Truth) -> Truth
     ensures { result ≡ settled closed known }
 {
     match known {
@@ -18,7 +19,8 @@ fn if_closed(closed: bool, known: Truth) -> Truth
     }
 }
 
-fn denial(known: Truth) -> Truth
+/// What a row with a value says of the value.
+pub(crate) fn denial(known: Truth) -> Truth
     ensures { result ≡ denied known }
 {
     match known {
@@ -27,24 +29,43 @@ fn denial(known: Truth) -> Truth
     }
 }
 
-/// What is known of the atom, where `closed` says that the rest of its symbol is false.
+/// What is known of a predicate's atom, where `closed` says that the rest of its symbol is false.
+pub(crate) fn predicate_status(rows: &Rows, closed: bool, symbol: u32, args: &[Elem]) -> Truth
+    ensures { result ≡ status_of (words_in rows.now.words) rows.now.nodes.entries closed symbol args.now None }
+{
+    if_closed(closed, rows.mark(rows.find(symbol, args)).known)
+}
+
+/// What is known of a function's atom, in the same way.
+pub(crate) fn function_status(
+    rows: &Rows,
+    closed: bool,
+    symbol: u32,
+    args: &[Elem],
+    value: &Elem,
+) -> Truth
+    ensures { result ≡ status_of (words_in rows.now.words) rows.now.nodes.entries closed symbol args.now (Some value.now) }
+{
+    let front = rows.find(symbol, args);
+    match rows.mark(front).value {
+        Some(label) => {
+            if rows.label(value) == Some(label) {
+                Truth::Yes
+            } else {
+                Truth::No
+            }
+        }
+        None => if_closed(closed, denial(rows.mark(rows.step(front, value)).known)),
+    }
+}
+
+/// What is known of the atom, in the same way.
 pub(crate) fn status(rows: &Rows, closed: bool, atom: &Literal) -> Truth
     ensures { result ≡ status_of (words_in rows.now.words) rows.now.nodes.entries closed atom.now.symbol atom.now.args atom.now.value }
 {
-    let front = rows.find(atom.symbol, atom.args.as_slice());
-    let mark = rows.mark(front);
     match &atom.value {
-        None => if_closed(closed, mark.known),
-        Some(value) => match mark.value {
-            Some(label) => {
-                if rows.label(value) == Some(label) {
-                    Truth::Yes
-                } else {
-                    Truth::No
-                }
-            }
-            None => if_closed(closed, denial(rows.mark(rows.step(front, value)).known)),
-        },
+        None => predicate_status(rows, closed, atom.symbol, atom.args.as_slice()),
+        Some(value) => function_status(rows, closed, atom.symbol, atom.args.as_slice(), value),
     }
 }
 

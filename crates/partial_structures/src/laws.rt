@@ -1,5 +1,7 @@
 //! What the definitions say, in the subject's own words. The functions are empty: their contracts are laws.
-ghost use Rattle.partial_structures.specs.Laws.{KnownAtomsHold, EveryIsConjunction, SomeIsDisjunction};
+ghost use Rattle.partial_structures.specs.Examples.{WorkedExamples};
+ghost use Rattle.partial_structures.specs.KnownArithmetic.{NoArithmeticFits};
+ghost use Rattle.partial_structures.specs.Laws.{KnownAtomsHold, EveryIsConjunction, SomeIsDisjunction, CertaintyIsSound};
 
 /// What is known of an atom is so in every structure that extends the data.
 pub fn known_atoms_hold()
@@ -14,4 +16,20 @@ pub fn every_is_conjunction()
 /// An existential formula is certainly true where some instance is, and certainly false where each instance is.
 pub fn some_is_disjunction()
     ensures { SomeIsDisjunction }
+{}
+
+/// What is certain of a formula is so in every structure that extends the data, and a known value is the
+/// value there.
+pub fn certainty_is_sound()
+    ensures { CertaintyIsSound }
+{}
+
+/// A formula without sums, products and aggregates meets the condition of `kleene`, whatever is known.
+pub fn no_arithmetic_fits()
+    ensures { NoArithmeticFits }
+{}
+
+/// Certain truth and known values over a few known atoms, as worked out by hand.
+pub fn worked_examples()
+    ensures { WorkedExamples }
 {}

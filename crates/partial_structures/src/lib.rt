@@ -3,16 +3,26 @@
 #![tactic(auto)]
 
 mod atoms;
+mod certainty;
+mod connectives;
 mod errors;
+mod extension;
+mod flags;
+mod known;
 pub mod laws;
+mod lookups;
 mod partial;
 mod rows;
+mod sides;
+mod spots;
 #[cfg(test)]
 mod tests;
+mod totals;
 mod truths;
+mod values;
 mod words;
 
 pub use errors::SetError;
 pub use kb_logic::Memory;
-pub use partial::Partial;
+pub use partial::{Partial, extends, kleene};
 pub use truths::Truth;

@@ -1,18 +1,26 @@
 //! Partial structures.
-ghost use Rattle.std.specs.Prelude.{◌≡◌, ◌↔◌, ◌<◌, length, IfOk, OnOk, OnErr, IsErrOf};
+ghost use Rattle.std.specs.Prelude.{◌≡◌, ◌↔◌, ◌<◌, ◌+◌, length, IfOk, IfSome, IsTrue, OnOk, OnErr, IsErrOf};
 ghost use Rattle.std.specs.List.{AllByRecursion};
 ghost use Rattle.kb_logic.specs.Structures.{IsDistinct};
+ghost use Rattle.kb_logic.specs.Views.{formula_view};
+ghost use Rattle.partial_structures.specs.Certainty.{certain_truth};
+ghost use Rattle.partial_structures.specs.KnownArithmetic.{CertaintyFits};
 ghost use Rattle.partial_structures.specs.KnownAtoms.{IsAtomOver, atom_of, nothing_known, value_at, with_closed, with_false, with_true};
-ghost use Rattle.partial_structures.specs.Flags.{is_closed};
+ghost use Rattle.partial_structures.specs.Counts.{added_by};
+ghost use Rattle.partial_structures.specs.Extension.{ExtendsData, IsStructureOver};
 ghost use Rattle.partial_structures.specs.declared.truths.Truth.TheVariants.{Yes, No};
 ghost use Rattle.partial_structures.specs.declared.errors.SetError.TheVariants.{DataClash};
 
 use crate::atoms::{make_false, make_true, status};
+use crate::certainty::certainty;
 use crate::errors::SetError;
+use crate::extension::{are_same_domains, left_over};
+use crate::flags::flag;
+use crate::known::Known;
 use crate::rows::{Mark, Rows};
 use crate::truths::Truth;
 use crate::words::Words;
-use kb_logic::{DomainList, Literal, Memory, SymbolList, Vocabulary};
+use kb_logic::{DomainList, Elem, Formula, Literal, Memory, Structure, SymbolList, Vocabulary};
 use std::alloc::Global;
 use std::marker::Model;
 
@@ -24,6 +32,8 @@ pub struct Partial {
     // For each symbol whether every atom that no row speaks of is false.
     closed: Vec<bool>,
     rows: Rows,
+    // How many atoms are certainly true.
+    count: u64,
 }
 
 impl Model for Partial {
@@ -53,6 +63,7 @@ impl Partial {
             domains,
             closed,
             rows: Rows::new(alloc, words),
+            count: 0,
         })
     }
 
@@ -66,6 +77,7 @@ impl Partial {
             domains,
             closed: Vec::from_slice(alloc, &self.closed)?,
             rows: self.rows.with_words(words)?,
+            count: self.count,
         })
     }
 
@@ -99,9 +111,15 @@ impl Partial {
     {
         match status(&self.rows, flag(&self.closed, atom.symbol), atom) {
             Truth::No => Err(SetError::DataClash),
-            _ => match make_true(&mut self.rows, atom) {
-                Ok(()) => Ok(()),
-                Err(_) => Err(SetError::Memory),
+            known => match counted(known, self.count) {
+                None => Err(SetError::Memory),
+                Some(count) => match make_true(&mut self.rows, atom) {
+                    Ok(()) => {
+                        self.count = count;
+                        Ok(())
+                    }
+                    Err(_) => Err(SetError::Memory),
+                },
             },
         }
     }
@@ -122,6 +140,38 @@ impl Partial {
         }
     }
 
+    /// As `extends`.
+    fn is_extended_by(&self, m: &Structure) -> bool
+        requires { IsStructureOver self.now.symbols m.now }
+        ensures { IsTrue result ↔ ExtendsData m.now self.now }
+    {
+        if !are_same_domains(m.domains.as_slice(), self.domains.as_slice()) {
+            return false;
+        }
+        let relations = m.relations.as_slice();
+        match left_over(&self.rows, &self.closed, false, relations, self.count) {
+            None => false,
+            Some(left) => {
+                let functions = m.functions.as_slice();
+                left_over(&self.rows, &self.closed, true, functions, left) == Some(0)
+            }
+        }
+    }
+
+    /// As `kleene`.
+    fn certainty<'a>(&'a self, f: &'a Formula, env: &'a [Elem]) -> Truth
+        requires { CertaintyFits self.now (formula_view f.now) env.now }
+        ensures { result ≡ certain_truth self.now (formula_view f.now) env.now }
+    {
+        let known = Known {
+            symbols: self.symbols.as_slice(),
+            domains: self.domains.as_slice(),
+            closed: &self.closed,
+            rows: &self.rows,
+        };
+        certainty(known, f, env)
+    }
+
     /// Makes every atom of the symbol that is unknown certainly false, which takes no memory.
     pub fn close(&mut self, symbol: u32)
         requires { symbol < length self.old.symbols }
@@ -131,12 +181,28 @@ impl Partial {
     }
 }
 
-/// Whether the rest of the symbol is false.
-fn flag(closed: &[bool], symbol: u32) -> bool
-    ensures { result ≡ is_closed closed.now symbol }
+/// How many atoms are true once one more is, of which so much is known; None where they cannot be counted.
+fn counted(known: Truth, count: u64) -> Option<u64>
+    ensures { IfSome result (λ n. n ≡ count + added_by known) }
 {
-    match closed.get(symbol as usize) {
-        Some(closed) => *closed,
-        None => false,
+    match known {
+        Truth::Yes => Some(count),
+        _ => count.checked_add(1),
     }
+}
+
+/// Whether the structure, which is one over the partial structure's symbols, extends it.
+pub fn extends(m: &Structure, s: &Partial) -> bool
+    requires { IsStructureOver s.now.symbols m.now }
+    ensures { IsTrue result ↔ ExtendsData m.now s.now }
+{
+    s.is_extended_by(m)
+}
+
+/// What is certain of the formula, whose free variables have the elements of `env`.
+pub fn kleene<'a>(s: &'a Partial, f: &'a Formula, env: &'a [Elem]) -> Truth
+    requires { CertaintyFits s.now (formula_view f.now) env.now }
+    ensures { result ≡ certain_truth s.now (formula_view f.now) env.now }
+{
+    s.certainty(f, env)
 }

@@ -3,8 +3,10 @@ ghost use Rattle.std.specs.Prelude.{◌≡◌, ◌<◌, ◌||◌, ◌++◌, ◌�
 ghost use Rattle.indexmap.specs.IndexMap.{set_value_at};
 ghost use Rattle.partial_structures.specs.Words.{words_in};
 ghost use Rattle.partial_structures.specs.Rows.{Grows, child_of, child_by, has_label, is_symbol, is_tree, label_of, mark_at, node_of};
+ghost use Rattle.partial_structures.specs.Values.{IsValueOf, value_label, value_view};
 
 use crate::truths::Truth;
+use crate::values::Value;
 use crate::words::Words;
 use indexmap::IndexMap;
 use kb_logic::{Elem, Memory};
@@ -101,6 +103,50 @@ impl Rows {
         ensures { result ≡ child_by self.now.nodes.entries node (label_of (words_in self.now.words) elem.now) }
     {
         match (node, self.label(elem)) {
+            (Some(parent), Some(label)) => self.child(parent, label),
+            _ => None,
+        }
+    }
+
+    /// The label that stands for a value.
+    pub fn value_label(&self, value: Value<'_>) -> Option<Label>
+        ensures { result ≡ value_label (words_in self.now.words) (value_view value.entry) }
+    {
+        match value {
+            Value::Named(word) => match self.words.number(word) {
+                Some(number) => Some(Label::Word(number)),
+                None => None,
+            },
+            Value::Num(n) => Some(Label::Number(n)),
+            _ => None,
+        }
+    }
+
+    /// The value that a label stands for.
+    pub fn value_of(&self, label: Label) -> Option<Value<'_>>
+        ensures { IsValueOf (words_in self.now.words) label result }
+    {
+        match label {
+            Label::Symbol(_) => None,
+            Label::Number(n) => Some(Value::Num(n)),
+            Label::Word(number) => match self.words.word(number) {
+                None => None,
+                Some(word) => {
+                    if self.words.number(word) == Some(number) {
+                        Some(Value::Named(word))
+                    } else {
+                        None
+                    }
+                }
+            },
+        }
+    }
+
+    /// The node of the row with one more value.
+    pub fn step_value(&self, node: Option<usize>, value: Value<'_>) -> Option<usize>
+        ensures { result ≡ child_by self.now.nodes.entries node (value_label (words_in self.now.words) (value_view value.entry)) }
+    {
+        match (node, self.value_label(value)) {
             (Some(parent), Some(label)) => self.child(parent, label),
             _ => None,
         }

@@ -1,5 +1,5 @@
 //! The names among the elements, each with a number.
-ghost use Rattle.std.specs.Prelude.{◌≡◌, [], IfOk, OnOk, OnErr};
+ghost use Rattle.std.specs.Prelude.{◌≡◌, [], IfOk, OnOk, OnErr, slice_get, option_map};
 ghost use Rattle.partial_structures.specs.Words.{place, words_in, words_of, with_word, with_element};
 ghost use Rattle.std.specs.Str.{bytes_eq};
 
@@ -55,5 +55,14 @@ impl Words {
         ensures { result ≡ place (bytes_eq word.now) (words_in self.now) }
     {
         self.words.get_index_of(word)
+    }
+    /// The word with this number.
+    pub fn word(&self, number: usize) -> Option<&[u8]>
+        ensures { option_map (λ w. w.now) result ≡ slice_get (words_in self.now) number }
+    {
+        match self.words.get_index(number) {
+            Some(word) => Some(word.as_slice()),
+            None => None,
+        }
     }
 }

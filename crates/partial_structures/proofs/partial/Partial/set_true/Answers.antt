@@ -1,13 +1,12 @@
 use Rattle.std.proofs.Common.{◌≡◌, ◌∙◌, refl, sym, ap, subst, All, IsTrue}
-use Rattle.partial_structures.specs.KnownAtoms.{IsAtomOver, atom_of}
+use Rattle.partial_structures.specs.KnownAtoms.{IsAtomOver, atom_of, value_at}
 use Rattle.partial_structures.specs.Words.{words_in}
 use Rattle.partial_structures.specs.Flags.{is_closed}
 use Rattle.partial_structures.specs.Rows.{has_label, status_of}
-use Rattle.partial_structures.specs.Status.{status}
+use Rattle.partial_structures.specs.Status.{status, known_atoms}
 use Rattle.partial_structures.proofs.Labelled.{args_labelled}
-use Rattle.partial_structures.proofs.Views.{value_from, not_no, kept_all, set_true_after}
+use Rattle.partial_structures.proofs.Views.{value_from, not_no, kept_all, set_true_after, true_count, same_count}
 use Rattle.partial_structures.proofs.partial.Partial.set_true.Goals as goal
-use Rattle.partial_structures.proofs.partial.Partial.set_true.Goals.{in-Ok, in-Err}
 
 pub make_true-requires : goal.make_true-requires
 make_true-requires c =
@@ -23,24 +22,69 @@ returns-in-No-clause-clash c =
     c.status.ensures ∙ ap (λ f. status_of (words_in p.rows.words) p.rows.nodes.entries f a.symbol a.args a.value) (c.flag.ensures ∙ ap (λ l. is_closed l a.symbol) c.deref.ensures.value) in
     (λ e. sym (value_from p c.args.self.now (atom_of a) c.status.result c.self.view_is c.requires is) ∙ c.in-No.is, λ e. refl)
 
-pub returns-after-make_true : goal.returns-after-make_true
-returns-after-make_true c =
+pub invariant_of-self : goal.invariant_of-self
+invariant_of-self c =
+    let p = c.self.inside in
+    let a = c.args.atom.now in
+    let q = record p { rows = c.make_true.new.rows; count = c.in-Some.count } in
+    let is : c.status.result ≡ status p (atom_of a) =
+    c.status.ensures ∙ ap (λ f. status_of (words_in p.rows.words) p.rows.nodes.entries f a.symbol a.args a.value) (c.flag.ensures ∙ ap (λ l. is_closed l a.symbol) c.deref.ensures.value) in
+    let over : IsAtomOver p.symbols p.domains (atom_of a) = subst (λ k. IsAtomOver k.symbols k.domains (atom_of a)) (sym c.self.view_is) c.requires in
+    let clash = not_no (status p (atom_of a)) c.status.result is c.in_default.not-No in
+    let after = set_true_after p q (known_atoms p) refl (record { symbols = refl; domains = refl; closed = refl; words = c.make_true.ensures.words }) (atom_of a) c.self.invariant.words over clash c.in-Ok.ensures.ok in
+    record {
+      distinct = c.self.invariant.distinct;
+      flags = c.self.invariant.flags;
+      words = ap words_in c.make_true.ensures.words ∙ c.self.invariant.words;
+      counted = true_count p q (atom_of a) c.status.result c.in-Some.count c.self.invariant.distinct c.self.invariant.counted over after is (not_no c.status.result c.status.result refl c.in_default.not-No) c.in-Some.ensures;
+    }
+
+pub invariant_of-self-in-Err : goal.invariant_of-self-in-Err
+invariant_of-self-in-Err c =
+    let p = c.self.inside in
+    let q = record p { rows = c.make_true.new.rows } in
+    let after = kept_all p q (known_atoms p) refl (record { symbols = refl; domains = refl; closed = refl; words = c.make_true.ensures.words }) c.in-Err.ensures.err in
+    record {
+      distinct = c.self.invariant.distinct;
+      flags = c.self.invariant.flags;
+      words = ap words_in c.make_true.ensures.words ∙ c.self.invariant.words;
+      counted = same_count p q (known_atoms p) c.self.invariant.counted after refl;
+    }
+
+pub returns-in-None-clause-clash : goal.returns-in-None-clause-clash
+returns-in-None-clause-clash c =
+    let p = c.self.inside in
+    let a = c.args.atom.now in
+    let is : c.status.result ≡ status p (atom_of a) =
+    c.status.ensures ∙ ap (λ f. status_of (words_in p.rows.words) p.rows.nodes.entries f a.symbol a.args a.value) (c.flag.ensures ∙ ap (λ l. is_closed l a.symbol) c.deref.ensures.value) in
+    let said : c.status.result ≡ value_at c.args.self.now (atom_of a) = value_from p c.args.self.now (atom_of a) c.status.result c.self.view_is c.requires is in
+    (λ e. absurd (let n : ⊥ = cc in n), λ v. absurd (c.in_default.not-No (said ∙ v)))
+
+pub returns-in-Ok : goal.returns-in-Ok
+returns-in-Ok c =
+    let p = c.self.inside in
+    let a = c.args.atom.now in
+    let q = record p { rows = c.make_true.new.rows; count = c.in-Some.count } in
+    let is : c.status.result ≡ status p (atom_of a) =
+    c.status.ensures ∙ ap (λ f. status_of (words_in p.rows.words) p.rows.nodes.entries f a.symbol a.args a.value) (c.flag.ensures ∙ ap (λ l. is_closed l a.symbol) c.deref.ensures.value) in
+    let said = value_from p c.args.self.now (atom_of a) c.status.result c.self.view_is c.requires is in
+    let clash = not_no (status p (atom_of a)) c.status.result is c.in_default.not-No in
+    record {
+      ok = set_true_after p q c.args.self.now c.self.view_is (record { symbols = refl; domains = refl; closed = refl; words = c.make_true.ensures.words }) (atom_of a) c.self.invariant.words c.requires clash c.in-Ok.ensures.ok;
+      clash = (λ e. absurd (let n : ⊥ = cc in n), λ v. absurd (c.in_default.not-No (said ∙ v)));
+      err = tt;
+    }
+
+pub returns-in-Err : goal.returns-in-Err
+returns-in-Err c =
     let p = c.self.inside in
     let a = c.args.atom.now in
     let q = record p { rows = c.make_true.new.rows } in
     let is : c.status.result ≡ status p (atom_of a) =
     c.status.ensures ∙ ap (λ f. status_of (words_in p.rows.words) p.rows.nodes.entries f a.symbol a.args a.value) (c.flag.ensures ∙ ap (λ l. is_closed l a.symbol) c.deref.ensures.value) in
     let said = value_from p c.args.self.now (atom_of a) c.status.result c.self.view_is c.requires is in
-    let clash = not_no (status p (atom_of a)) c.status.result is c.in_default.not-No in
-    elim c.match-make_true.branch [
-      | in-Ok w ↦ rw w.result-is (record {
-        ok = set_true_after p q c.args.self.now c.self.view_is (record { symbols = refl; domains = refl; closed = refl; words = w.in-Ok.ensures.words }) (atom_of a) c.self.invariant.words c.requires clash w.in-Ok.ensures.ok;
-        clash = (λ e. absurd (let n : ⊥ = cc in n), λ v. absurd (c.in_default.not-No (said ∙ v)));
-        err = tt;
-      })
-      | in-Err w ↦ rw w.result-is (record {
-        ok = tt;
-        clash = (λ e. absurd (let n : ⊥ = cc in n), λ v. absurd (c.in_default.not-No (said ∙ v)));
-        err = kept_all p q c.args.self.now c.self.view_is (record { symbols = refl; domains = refl; closed = refl; words = w.in-Err.ensures.words }) w.in-Err.ensures.err;
-      })
-    ]
+    record {
+      ok = tt;
+      clash = (λ e. absurd (let n : ⊥ = cc in n), λ v. absurd (c.in_default.not-No (said ∙ v)));
+      err = kept_all p q c.args.self.now c.self.view_is (record { symbols = refl; domains = refl; closed = refl; words = c.make_true.ensures.words }) c.in-Err.ensures.err;
+    }

@@ -1,0 +1,10 @@
+//! Where the walk along an application's arguments stands.
+
+/// The node of the row so far, the types of the arguments to come, and whether each argument so far was of
+/// its type.
+#[derive(Clone, Copy)]
+pub(crate) struct Place<'a> {
+    pub node: Option<usize>,
+    pub types: &'a [u32],
+    pub typed: bool,
+}

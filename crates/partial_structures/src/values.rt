@@ -1,0 +1,139 @@
+//! The values of terms.
+ghost use Rattle.std.specs.Prelude.{◌≡◌, slice_get};
+ghost use Rattle.kb_logic.specs.Denotations.{as_number, denotation_of, same_value, lower_value, compared};
+ghost use Rattle.kb_logic.specs.Environments.{env_view};
+ghost use Rattle.kb_logic.specs.Meaning.{element_value};
+ghost use Rattle.kb_logic.specs.Structures.{domain_at};
+ghost use Rattle.kb_logic.specs.Values.{total_view, count_up_to};
+ghost use Rattle.partial_structures.specs.Certainty.{stands_in};
+ghost use Rattle.partial_structures.specs.Values.{value_view};
+
+use kb_logic::environments::{Env, find};
+use kb_logic::values::{Total, domain_in};
+use kb_logic::{Cmp, Elem, ElemList};
+
+/// The value of a term. It is `Nothing` where the term is not well typed.
+#[derive(Clone, Copy)]
+pub(crate) enum Value<'a> {
+    Named(&'a [u8]),
+    Num(i64),
+    NegInf,
+    PosInf,
+    Nothing,
+}
+
+/// An element as a value.
+pub(crate) fn elem_value(elem: &Elem) -> Value<'_>
+    ensures { value_view result ≡ denotation_of elem.now }
+{
+    match elem {
+        Elem::Named(name) => Value::Named(name.text()),
+        Elem::Num(n) => Value::Num(*n),
+    }
+}
+
+fn same(a: Value<'_>, b: Value<'_>) -> bool
+    ensures { result ≡ same_value (value_view a.entry) (value_view b.entry) }
+{
+    match (a, b) {
+        (Value::Named(x), Value::Named(y)) => x == y,
+        (Value::Num(x), Value::Num(y)) => x == y,
+        (Value::NegInf, Value::NegInf) => true,
+        (Value::PosInf, Value::PosInf) => true,
+        (Value::Nothing, Value::Nothing) => true,
+        _ => false,
+    }
+}
+
+fn is_below(a: Value<'_>, b: Value<'_>) -> bool
+    ensures { result ≡ lower_value (value_view a.entry) (value_view b.entry) }
+{
+    match (a, b) {
+        (Value::Num(x), Value::Num(y)) => x < y,
+        (Value::NegInf, Value::Num(_)) => true,
+        (Value::NegInf, Value::PosInf) => true,
+        (Value::Num(_), Value::PosInf) => true,
+        _ => false,
+    }
+}
+
+/// Whether the values compare so.
+pub(crate) fn compare(cmp: Cmp, a: Value<'_>, b: Value<'_>) -> bool
+    ensures { result ≡ compared cmp (value_view a.entry) (value_view b.entry) }
+{
+    match cmp {
+        Cmp::Eq => same(a, b),
+        Cmp::Ne => !same(a, b),
+        Cmp::Lt => is_below(a, b),
+        Cmp::Gt => is_below(b, a),
+        Cmp::Le => is_below(a, b) || same(a, b),
+        Cmp::Ge => is_below(b, a) || same(a, b),
+    }
+}
+
+/// Whether the value is one of the elements.
+pub(crate) fn is_among(value: Value<'_>, domain: &[Elem]) -> bool
+    ensures { result ≡ stands_in domain.now (value_view value.entry) }
+{
+    for elem in domain {
+        if same(elem_value(elem), value) {
+            return true;
+        }
+    }
+    false
+}
+
+/// The value of the variable number `n`.
+pub(crate) fn variable_value<'a>(env: &Env<'a>, n: usize) -> Value<'a>
+    ensures { value_view result ≡ element_value (slice_get (env_view env.now) n) }
+{
+    match find(env, n) {
+        Ok(elem) => elem_value(elem),
+        Err(_) => Value::Nothing,
+    }
+}
+
+/// The element at a position of a type's domain: that of a constructed name.
+pub(crate) fn made_value(domains: &[ElemList], ty: u32, n: u32) -> Value<'_>
+    ensures { value_view result ≡ element_value (slice_get (domain_at domains.now ty) n) }
+{
+    match domain_in(domains, ty).get(n as usize) {
+        Some(elem) => elem_value(elem),
+        None => Value::Nothing,
+    }
+}
+
+/// A number of assignments. What is too large for an `i64` is above each of them.
+pub(crate) fn count_value(count: u64) -> Value<'static>
+    ensures { value_view result ≡ count_up_to count }
+{
+    if count <= i64::MAX as u64 {
+        Value::Num(count as i64)
+    } else {
+        Value::PosInf
+    }
+}
+
+/// An aggregate's value.
+pub(crate) fn total_value(total: Total) -> Value<'static>
+    ensures { value_view result ≡ total_view total }
+{
+    match total {
+        Total::Num(n) => Value::Num(n),
+        Total::NegInf => Value::NegInf,
+        Total::PosInf => Value::PosInf,
+        Total::Nothing => Value::Nothing,
+    }
+}
+
+/// What a value counts as where a number is meant.
+pub(crate) fn number(value: Value<'_>) -> Total
+    ensures { total_view result ≡ as_number (value_view value.entry) }
+{
+    match value {
+        Value::Num(n) => Total::Num(n),
+        Value::NegInf => Total::NegInf,
+        Value::PosInf => Total::PosInf,
+        _ => Total::Nothing,
+    }
+}
