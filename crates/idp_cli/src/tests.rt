@@ -1,6 +1,7 @@
 //! Runs over shelves, sources and sinks in memory.
 ghost use Rattle.std.specs.Prelude.{◌≡◌, IfOk};
 
+mod cover;
 mod paced;
 
 use crate::status::Status;
