@@ -47,7 +47,9 @@ pub struct Writing<W> {
 
 impl<W> Writing<W> {
     /// It has not failed.
-    pub fn new(inner: W) -> Writing<W> {
+    pub fn new(inner: W) -> Writing<W>
+        ensures { result.faults ≡ 0 }
+    {
         Writing { inner, faults: 0 }
     }
 }
@@ -87,7 +89,9 @@ pub struct Folder<'a, R> {
 
 impl<'a, R> Folder<'a, R> {
     /// No file has failed.
-    pub fn new(rt: &'a R) -> Folder<'a, R> {
+    pub fn new(rt: &'a R) -> Folder<'a, R>
+        ensures { result.faults ≡ 0 }
+    {
         Folder { rt, faults: 0 }
     }
 }
