@@ -1,5 +1,5 @@
-//! Reads knowledge bases: today those of the first profile, by `read_first`. The grammar of the whole language stands
-//! beside it: its raw trees with the places of their tokens, their spelling, and the law that no text is written by two.
+//! The grammar of the whole language: its raw trees with the places of their tokens, their spelling, and the law that
+//! no text is written by two.
 #![tactic(auto)]
 
 mod binders;
@@ -7,7 +7,6 @@ mod build;
 mod cursor;
 mod error;
 mod expressions;
-mod first;
 mod formulas;
 mod kinds;
 mod laws;
@@ -17,7 +16,6 @@ mod terminal;
 mod terms;
 
 pub use error::KbError;
-pub use first::read_first;
 pub use kb_text::{K, KbFault};
 pub use laws::one_formula;
 pub use raw::{

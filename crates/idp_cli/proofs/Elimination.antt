@@ -4,7 +4,7 @@ use Rattle.kb_text.specs.declared.fault.K.{K}
 use Rattle.kb_text.specs.declared.fault.K.TheVariants as cause
 use Rattle.kb_logic.specs.declared.first.FirstKb.{FirstKb}
 use Rattle.kb_logic.specs.First.{open_atom_count}
-use Rattle.fo_reader.specs.FirstReads.{IsReadAs}
+use Rattle.first_reader.specs.FirstReads.{IsReadAs}
 use Rattle.idp_cli.specs.Files.{IfTold, IsRefused, IsConsultable, line_of}
 use Rattle.idp_cli.specs.Top.{Words, Outside, IsConsult, ConsultationEnds, RunEnds}
 use Rattle.idp_cli.specs.Laws.{IsUnlessFailed, UsageLaw, CommandLaw, RefusalLaw, TakingLaw, LengthLaw, ShortLaw, DoneLaw}

@@ -9,8 +9,8 @@ use Rattle.consultant_session.specs.Replies.{IsSmallFirstKb}
 use Rattle.kb_text.specs.Refusals.{text_of}
 use Rattle.kb_text.specs.declared.fault.K.{K}
 use Rattle.kb_text.specs.declared.fault.K.TheVariants as cause
-use Rattle.fo_reader.specs.FirstFiles.{IsOfProfile}
-use Rattle.fo_reader.specs.FirstReads.{IsReadAs}
+use Rattle.first_reader.specs.FirstFiles.{IsOfProfile}
+use Rattle.first_reader.specs.FirstReads.{IsReadAs}
 use Rattle.idp_cli.specs.declared.loading.Unloaded.{Unloaded}
 use Rattle.idp_cli.specs.declared.loading.Unloaded.TheVariants as unloaded
 

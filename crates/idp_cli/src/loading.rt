@@ -5,7 +5,7 @@ ghost use Rattle.kb_io.specs.Outside.{GrewByName, KeptNumber};
 ghost use Rattle.idp_cli.specs.Files.{Loads, Takes, line_of, most_file_bytes};
 ghost use Rattle.idp_cli.specs.Reading.{ReadsFile};
 
-use fo_reader::{KbError, read_first};
+use first_reader::{KbError, read_first};
 use kb_io::{ReadError, Shelf, read_up_to};
 use kb_logic::first::{FirstKb, open_atoms};
 use kb_text::K;

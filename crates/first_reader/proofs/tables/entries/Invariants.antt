@@ -1,0 +1,16 @@
+use Rattle.std.proofs.Common.{[], ◌≤◌, length}
+use Rattle.first_reader.specs.FirstViews.{toks}
+use Rattle.first_reader.specs.FirstItems.{ClosesBlock}
+use Rattle.first_reader.specs.FirstParts.{Anything}
+use Rattle.first_reader.specs.FirstBlocks.{EntryAt, entries_view}
+use Rattle.first_reader.proofs.FirstItems.{GoesOnSo, BeginsSo}
+use Rattle.first_reader.proofs.tables.entries.Given as goal
+
+abbrev pub invariant-loop-behind : goal.invariant-loop-behind
+invariant-loop-behind l = record {
+  on : GoesOnSo EntryAt (toks l.tokens) (toks l.rest) (entries_view l.found);
+  back : BeginsSo EntryAt ClosesBlock (toks l.tokens) (toks l.rest) (entries_view l.found);
+}
+
+abbrev pub decreases-loop-behind : goal.decreases-loop-behind
+decreases-loop-behind l = length l.rest

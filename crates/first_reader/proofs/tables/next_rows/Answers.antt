@@ -1,0 +1,29 @@
+use Rattle.std.proofs.Common.{[], arith}
+use Rattle.std.proofs.lemmas.Result.{err_from_is_err_and}
+use Rattle.std.proofs.lemmas.List.{map_push}
+use Rattle.first_reader.specs.FirstViews.{toks}
+use Rattle.first_reader.specs.FirstItems.{NextRowAt, ClosesTable, EndsWords}
+use Rattle.first_reader.specs.FirstBlocks.{rows_view}
+use Rattle.first_reader.proofs.FirstItems.{on_item, back_item, no_item, all_items, after_any}
+use Rattle.first_reader.proofs.FirstStarts.{row_starts, after_rows, one_table}
+use Rattle.first_reader.proofs.tables.next_rows.Goals as goal
+
+pub returns-in-Some-clause-reads : goal.returns-in-Some-clause-reads
+returns-in-Some-clause-reads c =
+    let before = c.loop-behind.invariant in
+    all_items NextRowAt ClosesTable EndsWords row_starts after_rows one_table rows_view (toks c.args.tokens.now) (toks c.loop-behind.rest.now) c.loop-behind.found c.in-Some.behind c.in-Some.ensures.some before.on before.back
+
+pub returns-in_err-next-clause-reads : goal.returns-in_err-next-clause-reads
+returns-in_err-next-clause-reads c =
+    let p = err_from_is_err_and c.from_residual.result c.from_residual.ensures.1 in
+    rw (p.1, p.2) (no_item NextRowAt ClosesTable EndsWords row_starts after_rows rows_view (toks c.args.tokens.now) (toks c.loop-behind.rest.now) _ _ c.in_default.ensures.none c.in_err-next.ensures.reads.only c.loop-behind.invariant.back)
+
+pub loop-behind-preserved : goal.loop-behind-preserved
+loop-behind-preserved c =
+    let before = c.loop-behind.invariant in
+    let next = c.in_ok-next.ensures.reads in
+    rw (c.in_ok-push.ensures.items, map_push) (record {
+      shorter = omega (arith, c.in_ok-next.ensures.shorter, before.shorter);
+      on = on_item NextRowAt ClosesTable EndsWords row_starts after_rows (toks c.args.tokens.now) (toks c.loop-behind.rest.now) (toks c.in_ok-next.behind.now) _ _ next.found before.on;
+      back = back_item NextRowAt ClosesTable EndsWords row_starts after_rows (toks c.args.tokens.now) (toks c.loop-behind.rest.now) (toks c.in_ok-next.behind.now) _ _ c.in_default.ensures.none next.only before.back;
+    })
