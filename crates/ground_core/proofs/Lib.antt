@@ -6,3 +6,4 @@ pub mod NormalFacts
 pub mod Views
 pub mod TrialFacts
 pub mod Whole
+pub mod Sublists

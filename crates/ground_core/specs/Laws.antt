@@ -7,7 +7,7 @@ use Rattle.kb_logic.specs.Meaning.{truth_of}
 use Rattle.lit_core.specs.declared.literals.Lit.{Lit}
 use Rattle.lit_core.specs.Truth.{IsSatisfied}
 use Rattle.ground_core.specs.declared.parts.Gate.{Gate}
-use Rattle.ground_core.specs.Problems.{ProblemState, IsProblem}
+use Rattle.ground_core.specs.Problems.{ProblemState, IsProblem, AreLitsOf}
 use Rattle.ground_core.specs.Meaning.{GateHolds, Satisfies}
 use Rattle.ground_core.specs.More.{Agree, DefinesMore}
 use Rattle.ground_core.specs.GateClauses.{gate_clauses, clauses_of}
@@ -45,3 +45,7 @@ ClauseIsAdded = (p : ProblemState) (c : List Lit) (v : ℕ → Bool) → (Satisf
 -- a problem of gates and clauses alone is satisfied exactly where its clauses are
 abbrev pub ClausesSayTheProblem : Type 0
 ClausesSayTheProblem = (p : ProblemState) (v : ℕ → Bool) → p.sums ≡ [] → p.bounds ≡ [] → (All (IsSatisfied v) (clauses_of p) → Satisfies p v) × (Satisfies p v → All (IsSatisfied v) (clauses_of p))
+
+-- the clauses of a problem, with those of its gates, are over its variables
+abbrev pub ClausesAreOfTheProblem : Type 0
+ClausesAreOfTheProblem = (p : ProblemState) → IsProblem p → All (AreLitsOf p.vars) (clauses_of p)

@@ -1,5 +1,5 @@
 //! Laws of the definitions in `specs/`: each is the contract of a function that does nothing.
-ghost use Rattle.ground_core.specs.Laws.{ClausesSayTheGate, OnlyVariablesMatter, MoreInTwoSteps, MoreThanItself, NormalFormIsTrue, NormalFormIsNormal, ClauseIsAdded, ClausesSayTheProblem};
+ghost use Rattle.ground_core.specs.Laws.{ClausesSayTheGate, OnlyVariablesMatter, MoreInTwoSteps, MoreThanItself, NormalFormIsTrue, NormalFormIsNormal, ClauseIsAdded, ClausesSayTheProblem, ClausesAreOfTheProblem};
 
 /// A gate's clauses hold exactly where the gate does.
 pub fn clauses_say_the_gate()
@@ -39,4 +39,9 @@ pub fn clause_is_added()
 /// A problem of gates and clauses alone is satisfied exactly where its clauses, with those of its gates, are.
 pub fn clauses_say_the_problem()
     ensures { ClausesSayTheProblem }
+{}
+
+/// The clauses of a problem, with those of its gates, are over its variables.
+pub fn clauses_are_of_the_problem()
+    ensures { ClausesAreOfTheProblem }
 {}

@@ -18,8 +18,9 @@ pub use brute_force::BruteForce;
 pub use errors::Memory;
 pub use gate_clauses::clauses_of_gate;
 pub use laws::{
-    clause_is_added, clauses_say_the_gate, clauses_say_the_problem, more_in_two_steps,
-    more_than_itself, normal_form_is_normal, normal_form_is_true, only_variables_matter,
+    clause_is_added, clauses_are_of_the_problem, clauses_say_the_gate, clauses_say_the_problem,
+    more_in_two_steps, more_than_itself, normal_form_is_normal, normal_form_is_true,
+    only_variables_matter,
 };
 pub use normal_forms::nnf;
 pub use parts::{AggCon, Gate, GroundTerm, LitList, Part, PartList, TermBound};

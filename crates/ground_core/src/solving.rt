@@ -1,8 +1,8 @@
 //! What a solver of ground problems promises.
-ghost use Rattle.std.specs.Prelude.{◌≡◌, ℕ, ◌≤◌, List, None, IfOk, IfErr, length};
+ghost use Rattle.std.specs.Prelude.{◌≡◌, ℕ, List, None, IfOk, IfErr};
 ghost use Rattle.lit_core.specs.declared.literals.Lit.{Lit};
 ghost use Rattle.ground_core.specs.Problems.{ProblemState, AreLitsOf};
-ghost use Rattle.ground_core.specs.Solving.{Answers, Spends, HaltedAt, one_more};
+ghost use Rattle.ground_core.specs.Solving.{Answers, IsBudgetOf, Spends, Learns, HaltedAt, one_more};
 
 use crate::parts::LitList;
 use lit_core::{Lit, Values};
@@ -20,7 +20,8 @@ pub struct Budget {
 pub enum Verdict {
     /// These values, from variable 0 on, which stands for nothing, satisfy the problem and all that was assumed.
     Sat(Values),
-    /// Of what was assumed these literals are true in no valuation that satisfies the problem.
+    /// Of what was assumed these literals, in the order in which they were assumed, are true
+    /// together in no valuation that satisfies the problem.
     Unsat(LitList),
 }
 
@@ -47,12 +48,13 @@ pub trait Solve {
     /// Searches for a valuation that satisfies the problem and makes these literals true.
     fn solve(&mut self, assume: &[Lit], budget: &mut Budget) -> Result<Verdict, Halt>
         requires literals { AreLitsOf (problem self.old).vars assume.now }
+        requires budget { IsBudgetOf (learnt self.old) budget.old }
         requires unlimited { budget.old.limit ≡ None }
-        requires spent { budget.old.spent ≤ length (learnt self.old) }
         ensures verdict { IfOk result (Answers (problem self.old) assume.now) }
         ensures problem { problem self.new ≡ problem self.old }
         ensures free { free self.new ≡ free self.old }
         ensures spends { Spends (free self.old) (learnt self.old) (learnt self.new) budget.old budget.new }
+        ensures learns { Learns (problem self.old) (learnt self.old) (learnt self.new) }
         ensures searches { searches self.new ≡ one_more (searches self.old) }
         ensures halt { IfErr result (HaltedAt budget.new) };
 }
