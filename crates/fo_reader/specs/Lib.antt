@@ -10,3 +10,4 @@ pub mod View
 pub mod Parts
 pub mod Binders
 pub mod Results
+pub mod Items

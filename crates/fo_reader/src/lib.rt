@@ -8,6 +8,7 @@ mod cursor;
 mod error;
 mod expressions;
 mod formulas;
+mod items;
 mod kinds;
 mod laws;
 mod raw;
