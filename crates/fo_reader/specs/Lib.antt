@@ -11,3 +11,7 @@ pub mod Parts
 pub mod Binders
 pub mod Results
 pub mod Items
+pub mod BlockTrees
+pub mod BlockSpelling
+pub mod BlockFine
+pub mod BlockView

@@ -12,6 +12,7 @@ mod items;
 mod kinds;
 mod laws;
 mod raw;
+mod raw_blocks;
 mod stops;
 mod terminal;
 mod terms;
@@ -23,6 +24,13 @@ pub use raw::{
     RawAnd, RawAndTail, RawApp, RawFactor, RawFormula, RawInteger, RawLink, RawName, RawNumber,
     RawOpening, RawOr, RawOrTail, RawPrim, RawProduct, RawProductTail, RawSumTail, RawTermTree,
     RawTerms, RawTermsTail, RawUnary, RawVar, RawVarTail, RawVarType, RawVars,
+};
+pub use raw_blocks::{
+    RawBinder, RawBody, RawConstructed, RawDeclaration, RawDefinition, RawElement, RawElementTail,
+    RawEntry, RawHead, RawHeader, RawIsa, RawItem, RawItemTail, RawItems, RawKb, RawMark,
+    RawNameTail, RawNames, RawPositions, RawRange, RawResult, RawRow, RawRowTail, RawRows, RawRule,
+    RawSentence, RawStructure, RawSymbol, RawTable, RawTerm, RawTheory, RawTheoryItem, RawTo,
+    RawType, RawValue, RawVocabulary, Separator,
 };
 pub use stops::ReadError;
 pub use terminal::{Adding, Aggregation, Arrow, Comparison, Item, Outer, Terminal};
