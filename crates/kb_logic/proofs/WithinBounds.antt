@@ -25,20 +25,20 @@ use Rattle.kb_logic.proofs.FunctionValues.{variable_within, constructed_within, 
 use Rattle.kb_logic.proofs.Intervals.{product_within}
 use Rattle.kb_logic.proofs.Members.{in_all, from_map, from_filter}
 
-abbrev OptionIsWithin : Interval → Option ℤ → Type 0
+abbrev pub OptionIsWithin : Interval → Option ℤ → Type 0
 OptionIsWithin i None = Unit {0}
 OptionIsWithin i (Some z) = IsWithin i z
 
-number_within : (i : Interval) (o : Option ℤ) → OptionIsWithin i o → ValueIsWithin i (number_value o)
+pub number_within : (i : Interval) (o : Option ℤ) → OptionIsWithin i o → ValueIsWithin i (number_value o)
 number_within i None h = tt
 number_within i (Some z) h = h
 
-signed_within : (minus : Bool) (a i : Interval) (n z : ℤ) → IsWithin a n → IsWithin i z → IsWithin (interval_sum i (signed_interval minus a)) (z +ℤ signed_of minus n)
+pub signed_within : (minus : Bool) (a i : Interval) (n z : ℤ) → IsWithin a n → IsWithin i z → IsWithin (interval_sum i (signed_interval minus a)) (z +ℤ signed_of minus n)
 signed_within true a i n z h k = record { low = omega (arith, ints, h.high, k.low); high = omega (arith, ints, h.low, k.high) }
 signed_within false a i n z h k = record { low = omega (arith, ints, h.low, k.low); high = omega (arith, ints, h.high, k.high) }
 
 -- one operand of a sum, where y is the sum of those before it
-plus_within : (minus : Bool) (d : Denotation) (o : Option ℤ) (a i whole : Interval) (z : ℤ) → ValueIsWithin a d → IsWithin i z
+pub plus_within : (minus : Bool) (d : Denotation) (o : Option ℤ) (a i whole : Interval) (z : ℤ) → ValueIsWithin a d → IsWithin i z
     → ((y : ℤ) → IsWithin (interval_sum i (signed_interval minus a)) y → OptionIsWithin whole (option_map (λ s. y +ℤ s) o)) → OptionIsWithin whole (option_map (λ s. z +ℤ s) (summand_plus minus d o))
 plus_within minus (number n) (Some s) a i whole z h k next =
     let regroup : (z +ℤ signed_of minus n) +ℤ s ≡ z +ℤ (signed_of minus n +ℤ s) = omega (arith, ints) in
@@ -50,7 +50,7 @@ plus_within minus plus_infinity o a i whole z h k next = tt
 plus_within minus undefined o a i whole z h k next = tt
 
 -- one factor of a product, where z is the product of those before it
-times_within : (d : Denotation) (vs : List Denotation) (a i whole : Interval) (z : ℤ) → ValueIsWithin a d → IsWithin i z
+pub times_within : (d : Denotation) (vs : List Denotation) (a i whole : Interval) (z : ℤ) → ValueIsWithin a d → IsWithin i z
     → ((y : ℤ) → IsWithin (interval_product i a) y → OptionIsWithin whole (product_from y vs)) → OptionIsWithin whole (product_from z (d ∷ vs))
 times_within (number n) vs a i whole z h k next = next (z *ℤ n) (product_within i a z n k h)
 times_within (named n) vs a i whole z h k next = tt
@@ -58,10 +58,10 @@ times_within minus_infinity vs a i whole z h k next = tt
 times_within plus_infinity vs a i whole z h k next = tt
 times_within undefined vs a i whole z h k next = tt
 
-within_fits : (i : Interval) (z : ℤ) → IsSmall i → IsWithin i z → FitsSigned w64 z
+pub within_fits : (i : Interval) (z : ℤ) → IsSmall i → IsWithin i z → FitsSigned w64 z
 within_fits i z small h = omega (arith, ints, small.0, small.1, h.low, h.high)
 
-times_fits : (d : Denotation) (vs : List Denotation) (a i : Interval) (z : ℤ) → ValueIsWithin a d → IsWithin i z → IsSmall (interval_product i a)
+pub times_fits : (d : Denotation) (vs : List Denotation) (a i : Interval) (z : ℤ) → ValueIsWithin a d → IsWithin i z → IsSmall (interval_product i a)
     → ((y : ℤ) → IsWithin (interval_product i a) y → ProductFits y vs) → ProductFits z (d ∷ vs)
 times_fits (number n) vs a i z h k small next = let here = product_within i a z n k h in (within_fits (interval_product i a) (z *ℤ n) small here, next (z *ℤ n) here)
 times_fits (named n) vs a i z h k small next = tt
@@ -70,11 +70,11 @@ times_fits plus_infinity vs a i z h k small next = tt
 times_fits undefined vs a i z h k small next = tt
 
 -- what is kept as an aggregate goes over its first n values
-abbrev Kept : AggKind → Interval → ℕ → Denotation → Type 0
+abbrev pub Kept : AggKind → Interval → ℕ → Denotation → Type 0
 Kept k i n (number z) = IsWithin (aggregate_bounds k n i) z
 Kept k i n _ = Unit {0}
 
-kept_start : (k : AggKind) (i : Interval) → Kept k i 0 (start k)
+pub kept_start : (k : AggKind) (i : Interval) → Kept k i 0 (start k)
 kept_start kind.Count i = record { low = omega (arith, ints); high = omega (arith, ints) }
 kept_start kind.Sum i = record { low = omega (arith, ints); high = omega (arith, ints) }
 kept_start kind.Min i = tt
@@ -110,13 +110,13 @@ either : (P : Denotation → Type 0) (b : Bool) (x y : Denotation) → P x → P
 either P true x y h k = h
 either P false x y h k = k
 
-kept_next : (k : AggKind) (i : Interval) (n : ℕ) (a v : Denotation) → Kept k i n a → ValueIsWithin i v → Kept k i (suc n) (combined k a v)
+pub kept_next : (k : AggKind) (i : Interval) (n : ℕ) (a v : Denotation) → Kept k i n a → ValueIsWithin i v → Kept k i (suc n) (combined k a v)
 kept_next kind.Count i n a v h here = kept_count i n a h
 kept_next kind.Sum i n a v h here = kept_sum i n a v h here
 kept_next kind.Min i n a v h here = either (ValueIsWithin i) (lower_value v a) v a here h
 kept_next kind.Max i n a v h here = either (ValueIsWithin i) (lower_value a v) v a here h
 
-wider : (k : AggKind) (i : Interval) (n m : ℕ) (z : ℤ) → n ≤ m → IsWithin (aggregate_bounds k n i) z → IsWithin (aggregate_bounds k m i) z
+pub wider : (k : AggKind) (i : Interval) (n m : ℕ) (z : ℤ) → n ≤ m → IsWithin (aggregate_bounds k n i) z → IsWithin (aggregate_bounds k m i) z
 wider kind.Count i n m z h w = record { low = w.low; high = omega (arith, ints, w.high) }
 wider kind.Sum i n m z h w =
     let lows = mul-le n (below_zero i.low) m (below_zero i.low) h (omega arith) in
@@ -125,14 +125,14 @@ wider kind.Sum i n m z h w =
 wider kind.Min i n m z h w = w
 wider kind.Max i n m z h w = w
 
-kept_within : (k : AggKind) (i : Interval) (n m : ℕ) (a : Denotation) → n ≤ m → Kept k i n a → ValueIsWithin (aggregate_bounds k m i) a
+pub kept_within : (k : AggKind) (i : Interval) (n m : ℕ) (a : Denotation) → n ≤ m → Kept k i n a → ValueIsWithin (aggregate_bounds k m i) a
 kept_within k i n m (number z) h kept = wider k i n m z h kept
 kept_within k i n m (named b) h kept = tt
 kept_within k i n m minus_infinity h kept = tt
 kept_within k i n m plus_infinity h kept = tt
 kept_within k i n m undefined h kept = tt
 
-value_fits : (i : Interval) (a : Denotation) → IsSmall i → ValueIsWithin i a → NumberFits a
+pub value_fits : (i : Interval) (a : Denotation) → IsSmall i → ValueIsWithin i a → NumberFits a
 value_fits i (number z) small h = within_fits i z small h
 value_fits i (named b) small h = tt
 value_fits i minus_infinity small h = tt
@@ -147,11 +147,11 @@ fold_fits k i n m a (v ∷ vs) h small kept each =
       fold_fits k i (suc n) m (combined k a v) vs (omega arith) small next each.1,
     )
 
-fold_within : (k : AggKind) (i : Interval) (n m : ℕ) (a : Denotation) (vs : List Denotation) → n + length vs ≤ m → Kept k i n a → AllByRecursion (ValueIsWithin i) vs → ValueIsWithin (aggregate_bounds k m i) (fold (combined k) a vs)
+pub fold_within : (k : AggKind) (i : Interval) (n m : ℕ) (a : Denotation) (vs : List Denotation) → n + length vs ≤ m → Kept k i n a → AllByRecursion (ValueIsWithin i) vs → ValueIsWithin (aggregate_bounds k m i) (fold (combined k) a vs)
 fold_within k i n m a [] h kept each = kept_within k i n m a (omega arith) kept
 fold_within k i n m a (v ∷ vs) h kept each = fold_within k i (suc n) m (combined k a v) vs (omega arith) (kept_next k i n a v kept each.0) each.1
 
-as_number_within : (i : Interval) (x : Denotation) → ValueIsWithin i x → ValueIsWithin i (as_number x)
+pub as_number_within : (i : Interval) (x : Denotation) → ValueIsWithin i x → ValueIsWithin i (as_number x)
 as_number_within i (number z) h = h
 as_number_within i (named b) h = tt
 as_number_within i minus_infinity h = tt
@@ -165,27 +165,27 @@ values_within i P V all each =
 fewer_values : (P : List Elem → Bool) (V : List Elem → Denotation) (all : List (List Elem)) → length (values_where P V all) ≤ length all
 fewer_values P V all = simp (length-map, length-filter) (count_by-le-length P all)
 
-choice_types : (m : Structure) (bs : List Bound) (a : List Elem) → IsChoice m bs a → HasTypes m.domains (types_of bs) a
+pub choice_types : (m : Structure) (bs : List Bound) (a : List Elem) → IsChoice m bs a → HasTypes m.domains (types_of bs) a
 choice_types m [] [] h = tt
 choice_types m [] (x ∷ a) h = absurd h
 choice_types m (b ∷ bs) [] h = absurd h
 choice_types m (b ∷ bs) (x ∷ a) h = (h.0, choice_types m bs a h.1)
 
-types-append : (domains : List (List Elem)) (xs ys : List ℕ) (e a : List Elem) → HasTypes domains xs e → HasTypes domains ys a → HasTypes domains (xs ++ ys) (e ++ a)
+pub types-append : (domains : List (List Elem)) (xs ys : List ℕ) (e a : List Elem) → HasTypes domains xs e → HasTypes domains ys a → HasTypes domains (xs ++ ys) (e ++ a)
 types-append domains [] ys [] a h k = k
 types-append domains [] ys (x ∷ e) a h k = absurd h
 types-append domains (ty ∷ xs) ys [] a h k = absurd h
 types-append domains (ty ∷ xs) ys (x ∷ e) a h k = (h.0, types-append domains xs ys e a h.1 k)
 
-sum_alone : (i : Interval) (o : Option ℤ) → OptionIsWithin i (option_map (λ s. pos 0 +ℤ s) o) → OptionIsWithin i o
+pub sum_alone : (i : Interval) (o : Option ℤ) → OptionIsWithin i (option_map (λ s. pos 0 +ℤ s) o) → OptionIsWithin i o
 sum_alone i None h = tt
 sum_alone i (Some z) h = record { low = omega (arith, ints, h.low); high = omega (arith, ints, h.high) }
 
-some_fits : (i : Interval) (o : Option ℤ) → IsSmall i → OptionIsWithin i o → IfSome o (λ z. FitsSigned w64 z)
+pub some_fits : (i : Interval) (o : Option ℤ) → IsSmall i → OptionIsWithin i o → IfSome o (λ z. FitsSigned w64 z)
 some_fits i None small h = tt
 some_fits i (Some z) small h = within_fits i z small h
 
-last_small : (step : Interval → Interval → Interval) (i : Interval) (js : List Interval) → IsSmall i → AllByRecursion IsSmall (front_bounds step i js) → IsSmall (fold step i js)
+pub last_small : (step : Interval → Interval → Interval) (i : Interval) (js : List Interval) → IsSmall i → AllByRecursion IsSmall (front_bounds step i js) → IsSmall (fold step i js)
 last_small step i [] h each = h
 last_small step i (j ∷ js) h each = last_small step (step i j) js each.0 each.1
 
@@ -287,4 +287,4 @@ pub values_lie_within_bounds : ValuesLieWithinBounds
 values_lie_within_bounds v m is t scope e h = value_within v m is t scope e h
 
 pub small_bounds_fit : SmallBoundsFit
-small_bounds_fit v m is f small = formula_fits v m is f [] [] tt small
+small_bounds_fit v m is f scope e h small = formula_fits v m is f scope e h small

@@ -184,6 +184,9 @@ ValuesLieWithinBounds =
     (v : Vocabulary) (m : Structure) → IsStructure v m → (t : TermTree) (scope : List ℕ) (e : List Elem) → HasTypes m.domains scope e
     → ValueIsWithin (bounds_of v m.domains t scope) (value_of m t e)
 
--- so a closed formula whose terms have small bounds meets the condition of `truth`
+-- so a formula whose terms have small bounds meets the condition of `truth`, and so does each part of it under elements of the
+-- variables in scope
 abbrev pub SmallBoundsFit : Type 0
-SmallBoundsFit = (v : Vocabulary) (m : Structure) → IsStructure v m → (f : FormulaTree) → IsBounded v m.domains f [] → ArithmeticFits m f []
+SmallBoundsFit =
+    (v : Vocabulary) (m : Structure) → IsStructure v m → (f : FormulaTree) (scope : List ℕ) (e : List Elem) → HasTypes m.domains scope e
+    → IsBounded v m.domains f scope → ArithmeticFits m f e

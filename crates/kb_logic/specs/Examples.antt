@@ -1,14 +1,18 @@
 -- Worked examples of truth and value, in a structure that is small enough to work them out by hand.
-use Rattle.std.specs.Prelude.{◌≡◌, ℕ, pos, negsuc, List, [], ◌∷◌, Bool, true, false}
+use Rattle.std.specs.Prelude.{◌≡◌, ℕ, ℤ, pos, negsuc, List, [], ◌∷◌, Bool, true, false, Option, None, Some}
 use Rattle.kb_logic.specs.declared.elements.Elem.{Elem}
 use Rattle.kb_logic.specs.declared.elements.Elem.TheVariants.{Named, Num}
 use Rattle.kb_logic.specs.declared.vocabularies.Bound.{Bound}
+use Rattle.kb_logic.specs.declared.vocabularies.Symbol.{Symbol}
+use Rattle.kb_logic.specs.declared.vocabularies.Vocabulary.{Vocabulary}
 use Rattle.kb_logic.specs.declared.structures.Structure.{Structure}
 use Rattle.kb_logic.specs.declared.syntax.Cmp.TheVariants as cmp
 use Rattle.kb_logic.specs.declared.syntax.AggKind.TheVariants as kind
-use Rattle.kb_logic.specs.Trees.{TermTree, variable, integer, constructed, application, summation, product, aggregate, no_terms, more_terms, no_summands, more_summands, FormulaTree, verum, falsum, atom, comparison, negation, conjunction, disjunction, implication, equivalence, universal, existential, numbered, no_formulas, more_formulas}
+use Rattle.kb_logic.specs.Trees.{TermTree, variable, integer, constructed, application, summation, product, aggregate, no_terms, more_terms, no_summands, more_summands, FormulaTree, verum, falsum, atom, comparison, negation, conjunction, disjunction, implication, equivalence, universal, existential, numbered, no_formulas, more_formulas, RuleTree, TheoryTree}
 use Rattle.kb_logic.specs.Denotations.{Denotation, number, minus_infinity, plus_infinity, undefined}
 use Rattle.kb_logic.specs.Meaning.{value_of, truth_of}
+use Rattle.kb_logic.specs.Bounds.{Interval, bounds_of, width_of}
+use Rattle.kb_logic.specs.Weights.{atom_count, rule_occurrences, weight_of}
 
 abbrev one : Elem
 one = Num (pos 1)
@@ -116,5 +120,49 @@ Aggregates =
     × (value (aggregate kind.Max (over 0) falsum (weight x)) ≡ minus_infinity)
     × (is_true (universal (over 0) (comparison cmp.Le (aggregate kind.Count (over 0) (comparison cmp.Lt y x) (integer (pos 1))) x)) ≡ true)
 
+-- integers at the ends of 64 bits, and beside infinite values
+abbrev pub Ends : Type 0
+Ends =
+    (is_true (comparison cmp.Lt (integer (pos 9223372036854775807)) (aggregate kind.Min (over 1) verum x)) ≡ true)
+    × (is_true (comparison cmp.Lt (aggregate kind.Max (over 1) verum x) (integer (negsuc 9223372036854775807))) ≡ true)
+    × (value (summation (more_summands false (integer (pos 9223372036854775807)) (more_summands true (integer (pos 1)) no_summands))) ≡ number (pos 9223372036854775806))
+    × (value (summation (more_summands true (integer (pos 1000000000000000)) no_summands)) ≡ number (negsuc 999999999999999))
+
+abbrev symbol : Option ℕ → Symbol
+symbol value = record { name = []; args = 0 ∷ []; value = value }
+
+-- the symbols of the sample structure; weights are numbers
+abbrev words : Vocabulary
+words = record { name = []; types = []; symbols = symbol None ∷ symbol (Some 0) ∷ [] }
+
+abbrev bounds : TermTree → Interval
+bounds t = bounds_of words sample.domains t []
+
+abbrev from_to : ℤ → ℤ → Interval
+from_to low high = record { low = low; high = high }
+
+-- `small(x) <- weight(x) = 2`
+abbrev rule : RuleTree
+rule = record { vars = over 0; symbol = 0; args = x ∷ []; value = None; body = comparison cmp.Eq (weight x) (integer (pos 2)) }
+
+-- `!x: small(x).`
+abbrev theory : TheoryTree
+theory = record { sentences = universal (over 0) (small x) ∷ []; definitions = [] }
+
+-- static bounds, a width, ground atoms (3 of small and 9 of weight), the occurrences of a rule, and the weight of a theory
+abbrev pub Sizes : Type 0
+Sizes =
+    (bounds (weight (integer (pos 1))) ≡ from_to (pos 1) (pos 3))
+    × (bounds (summation (more_summands false (integer (pos 2)) (more_summands true (weight (integer (pos 1))) no_summands))) ≡ from_to (negsuc 0) (pos 1))
+    × (bounds (product (more_terms (weight (integer (pos 1))) (more_terms (integer (negsuc 1)) no_terms))) ≡ from_to (negsuc 5) (negsuc 1))
+    × (bounds (aggregate kind.Count (over 0) (small x) (integer (pos 1))) ≡ from_to (pos 0) (pos 3))
+    × (bounds (aggregate kind.Sum (over 0) (small x) (weight x)) ≡ from_to (pos 0) (pos 9))
+    × (bounds (aggregate kind.Min (over 0) (small x) (weight x)) ≡ from_to (pos 1) (pos 3))
+    × (bounds (constructed 1 0) ≡ from_to (pos 0) (pos 0))
+    × (width_of (bounds (aggregate kind.Sum (over 0) (small x) (weight x))) ≡ 9)
+    × (atom_count words sample.domains ≡ 12)
+    × (rule_occurrences words sample.domains rule ≡ 13)
+    × (weight_of words sample.domains theory [] ≡ 28)
+
 abbrev pub WorkedExamples : Type 0
-WorkedExamples = Connectives × Atoms × Quantifiers × Arithmetic × Aggregates
+WorkedExamples = Connectives × Atoms × Quantifiers × Arithmetic × Aggregates × Ends × Sizes

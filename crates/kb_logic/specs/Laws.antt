@@ -6,11 +6,12 @@ use Rattle.kb_logic.specs.declared.vocabularies.Bound.{Bound}
 use Rattle.kb_logic.specs.declared.vocabularies.Symbol.{Symbol}
 use Rattle.kb_logic.specs.declared.vocabularies.Vocabulary.{Vocabulary}
 use Rattle.kb_logic.specs.declared.syntax.Cmp.{Cmp}
+use Rattle.kb_logic.specs.declared.syntax.AggKind.{AggKind}
 use Rattle.kb_logic.specs.declared.syntax.AggKind.TheVariants as kind
 use Rattle.kb_logic.specs.declared.structures.Structure.{Structure}
 use Rattle.kb_logic.specs.Trees.{TermTree, TermTrees, aggregate, FormulaTree, atom, universal, existential, numbered}
 use Rattle.kb_logic.specs.Structures.{domain_at, IsDistinct, EachWith, IsStructure}
-use Rattle.kb_logic.specs.Denotations.{Denotation, number, plus_infinity, minus_infinity, denotation_of, compared, added, aggregate_value}
+use Rattle.kb_logic.specs.Denotations.{Denotation, number, plus_infinity, minus_infinity, denotation_of, compared, as_number, added, aggregate_value}
 use Rattle.kb_logic.specs.Meaning.{assignments, rows_of, value_of, values_of, truth_of}
 
 -- a choice of elements, one of each variable's type
@@ -38,6 +39,12 @@ abbrev pub NumberComparesCount : Type 0
 NumberComparesCount =
     (m : Structure) (c : Cmp) (n : ℤ) (bs : List Bound) (f : FormulaTree) (e : List Elem)
     → truth_of m (numbered c n bs f) e ≡ compared c (number (pos (length (filter (λ a. truth_of m f (e ++ a)) (assignments m bs))))) (number n)
+
+-- an aggregate is over the values of its weight under the assignments that make its condition true, one for each of these
+abbrev pub AggregateIsOverAssignments : Type 0
+AggregateIsOverAssignments =
+    (m : Structure) (k : AggKind) (bs : List Bound) (f : FormulaTree) (t : TermTree) (e : List Elem)
+    → value_of m (aggregate k bs f t) e ≡ aggregate_value k (map (λ a. as_number (value_of m t (e ++ a))) (filter (λ a. truth_of m f (e ++ a)) (assignments m bs)))
 
 -- a count is the number of the assignments that make its condition true
 abbrev pub CountIsLength : Type 0

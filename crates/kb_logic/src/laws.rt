@@ -2,7 +2,7 @@
 ghost use Rattle.kb_logic.specs.Arithmetic.{NoArithmeticFits};
 ghost use Rattle.kb_logic.specs.Bounds.{ValuesLieWithinBounds, SmallBoundsFit};
 ghost use Rattle.kb_logic.specs.Examples.{WorkedExamples};
-ghost use Rattle.kb_logic.specs.Laws.{EveryIsForAll, SomeIsThereIs, NumberComparesCount, AssignmentsAreChoices, AssignmentsAreDistinct, CountIsLength, SumAddsEach, LeastIsAttained, GreatestIsAttained, AtomIsMembership, AtomIsInItsTypes};
+ghost use Rattle.kb_logic.specs.Laws.{EveryIsForAll, SomeIsThereIs, NumberComparesCount, AssignmentsAreChoices, AssignmentsAreDistinct, AggregateIsOverAssignments, CountIsLength, SumAddsEach, LeastIsAttained, GreatestIsAttained, AtomIsMembership, AtomIsInItsTypes};
 
 /// A formula without sums, products and aggregates meets the condition of `truth` in every structure.
 pub fn no_arithmetic_fits()
@@ -32,6 +32,11 @@ pub fn assignments_are_choices()
 /// No assignment stands twice where no domain has an element twice.
 pub fn assignments_are_distinct()
     ensures { AssignmentsAreDistinct }
+{}
+
+/// An aggregate is over the values of its weight under the assignments that make its condition true, one for each.
+pub fn aggregate_is_over_assignments()
+    ensures { AggregateIsOverAssignments }
 {}
 
 /// A count is the number of the assignments that make its condition true.
@@ -69,8 +74,8 @@ pub fn values_lie_within_bounds()
     ensures { ValuesLieWithinBounds }
 {}
 
-/// A closed formula whose terms have static bounds from -10^15 to 10^15 meets the condition of `truth` in
-/// every structure over these domains.
+/// A formula whose terms have static bounds from -10^15 to 10^15 meets the condition of `truth` in every
+/// structure over these domains.
 pub fn small_bounds_fit()
     ensures { SmallBoundsFit }
 {}
