@@ -7,3 +7,6 @@ pub mod Views
 pub mod TrialFacts
 pub mod Whole
 pub mod Sublists
+pub mod TupleFacts
+pub mod AtomFacts
+pub mod EachAtom

@@ -1,7 +1,11 @@
 -- Laws of ground problems, which small public functions promise.
-use Rattle.std.specs.Prelude.{◌≡◌, ℕ, Bool, true, List, [], All}
+use Rattle.std.specs.Prelude.{◌≡◌, ◌↔◌, ℕ, Bool, true, List, [], All, Contains}
+use Rattle.std.specs.List.{AllByRecursion}
 use Rattle.kb_logic.specs.declared.elements.Elem.{Elem}
+use Rattle.kb_logic.specs.declared.structures.Literal.{Literal}
 use Rattle.kb_logic.specs.declared.structures.Structure.{Structure}
+use Rattle.kb_logic.specs.declared.vocabularies.Symbol.{Symbol}
+use Rattle.kb_logic.specs.Structures.{IsDistinct}
 use Rattle.kb_logic.specs.Trees.{FormulaTree}
 use Rattle.kb_logic.specs.Meaning.{truth_of}
 use Rattle.lit_core.specs.declared.literals.Lit.{Lit}
@@ -9,6 +13,7 @@ use Rattle.lit_core.specs.Truth.{IsSatisfied}
 use Rattle.ground_core.specs.declared.parts.Gate.{Gate}
 use Rattle.ground_core.specs.Problems.{ProblemState, IsProblem, AreLitsOf}
 use Rattle.ground_core.specs.Meaning.{GateHolds, Satisfies}
+use Rattle.ground_core.specs.Atoms.{ground_atoms, IsGroundAtom}
 use Rattle.ground_core.specs.More.{Agree, DefinesMore}
 use Rattle.ground_core.specs.GateClauses.{gate_clauses, clauses_of}
 use Rattle.ground_core.specs.Growth.{with_clause}
@@ -49,3 +54,8 @@ ClausesSayTheProblem = (p : ProblemState) (v : ℕ → Bool) → p.sums ≡ [] �
 -- the clauses of a problem, with those of its gates, are over its variables
 abbrev pub ClausesAreOfTheProblem : Type 0
 ClausesAreOfTheProblem = (p : ProblemState) → IsProblem p → All (AreLitsOf p.vars) (clauses_of p)
+
+-- each ground atom stands in their list, and nothing else does, each once where no domain has an element twice
+abbrev pub EachAtomStandsOnce : Type 0
+EachAtomStandsOnce =
+    (symbols : List Symbol) (domains : List (List Elem)) → ((a : Literal) → Contains (ground_atoms symbols domains) a ↔ IsGroundAtom symbols domains a) × (AllByRecursion IsDistinct domains → IsDistinct (ground_atoms symbols domains))

@@ -7,4 +7,5 @@ pub mod Meaning
 pub mod More
 pub mod GateClauses
 pub mod Growth
+pub mod Atoms
 pub mod Laws

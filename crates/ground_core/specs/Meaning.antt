@@ -1,5 +1,5 @@
 -- Which valuations satisfy a ground problem.
-use Rattle.std.specs.Prelude.{◌≡◌, ℕ, ℤ, ◌+ℤ◌, Bool, true, false, List, All, IfSome, map, filter, slice_get}
+use Rattle.std.specs.Prelude.{◌≡◌, ℕ, ◌^◌, ℤ, pos, neg_ℤ, ◌+ℤ◌, ◌≤ℤ◌, Bool, true, false, List, All, IfSome, map, filter, slice_get}
 use Rattle.std.specs.List.{list_all, list_any}
 use Rattle.kb_logic.specs.declared.elements.ExtInt.{ExtInt}
 use Rattle.kb_logic.specs.declared.elements.ExtInt.TheVariants.{NegInf, Num, PosInf}
@@ -55,6 +55,14 @@ shifted base undefined = undefined
 abbrev pub term_value : (ℕ → Bool) → GroundTerm → Denotation
 term_value v t = shifted t.base (parts_value v t.kind t.parts)
 
+-- from -10^15 to 10^15, or infinite
+abbrev pub IsInRange : Denotation → Type 0
+IsInRange (number z) = (neg_ℤ (pos (10 ^ 15)) ≤ℤ z) × (z ≤ℤ pos (10 ^ 15))
+IsInRange minus_infinity = Unit {0}
+IsInRange plus_infinity = Unit {0}
+IsInRange (named n) = ⊥
+IsInRange undefined = ⊥
+
 -- where a bound's output is true, its term is below the number
 abbrev pub BoundHolds : (ℕ → Bool) → List GroundTerm → TermBound → Type 0
 BoundHolds v terms b = literal_value v b.out ≡ true → IfSome (slice_get terms b.term) (λ t. compared cmp.Lt (term_value v t) (value_of_bound b.below) ≡ true)
@@ -73,3 +81,7 @@ MakesTrue v ls = All (λ l. literal_value v l ≡ true) ls
 -- no valuation that satisfies the problem makes all of these literals true
 abbrev pub RefutesAll : ProblemState → List Lit → Type 0
 RefutesAll p ls = (v : ℕ → Bool) → Satisfies p v → MakesTrue v ls → ⊥
+
+-- in every valuation that satisfies the problem each of its terms has a value from -10^15 to 10^15, or an infinite one
+abbrev pub HasTermsInRange : ProblemState → Type 0
+HasTermsInRange p = (v : ℕ → Bool) → Satisfies p v → All (λ t. IsInRange (term_value v t)) p.terms

@@ -1,5 +1,5 @@
 //! Laws of the definitions in `specs/`: each is the contract of a function that does nothing.
-ghost use Rattle.ground_core.specs.Laws.{ClausesSayTheGate, OnlyVariablesMatter, MoreInTwoSteps, MoreThanItself, NormalFormIsTrue, NormalFormIsNormal, ClauseIsAdded, ClausesSayTheProblem, ClausesAreOfTheProblem};
+ghost use Rattle.ground_core.specs.Laws.{ClausesSayTheGate, OnlyVariablesMatter, MoreInTwoSteps, MoreThanItself, NormalFormIsTrue, NormalFormIsNormal, ClauseIsAdded, ClausesSayTheProblem, ClausesAreOfTheProblem, EachAtomStandsOnce};
 
 /// A gate's clauses hold exactly where the gate does.
 pub fn clauses_say_the_gate()
@@ -44,4 +44,10 @@ pub fn clauses_say_the_problem()
 /// The clauses of a problem, with those of its gates, are over its variables.
 pub fn clauses_are_of_the_problem()
     ensures { ClausesAreOfTheProblem }
+{}
+
+/// Each ground atom stands in their list, and nothing else does, each once where no domain has an
+/// element twice.
+pub fn each_atom_stands_once()
+    ensures { EachAtomStandsOnce }
 {}

@@ -2,6 +2,7 @@
 //! which valuations satisfy it, and what a solver of such problems promises.
 #![tactic(auto)]
 
+mod atoms;
 mod brute_force;
 mod errors;
 mod evaluation;
@@ -19,8 +20,8 @@ pub use errors::Memory;
 pub use gate_clauses::clauses_of_gate;
 pub use laws::{
     clause_is_added, clauses_are_of_the_problem, clauses_say_the_gate, clauses_say_the_problem,
-    more_in_two_steps, more_than_itself, normal_form_is_normal, normal_form_is_true,
-    only_variables_matter,
+    each_atom_stands_once, more_in_two_steps, more_than_itself, normal_form_is_normal,
+    normal_form_is_true, only_variables_matter,
 };
 pub use normal_forms::nnf;
 pub use parts::{AggCon, Gate, GroundTerm, LitList, Part, PartList, TermBound};

@@ -1,12 +1,14 @@
 //! Ground problems, and how they grow.
-ghost use Rattle.std.specs.Prelude.{◌≡◌, [], ◌∷◌, ◌++◌, List, length, take, slice_get, IfOk, OnErr, OnOk};
+ghost use Rattle.std.specs.Prelude.{◌≡◌, ◌≤◌, ◌^◌, [], ◌∷◌, ◌++◌, List, length, take, slice_get, IfOk, OnErr, OnOk};
 ghost use Rattle.std.specs.Option.{option_copied};
+ghost use Rattle.ground_core.specs.Atoms.{ground_atoms};
 ghost use Rattle.ground_core.specs.Problems.{IsProblem, IsLitOf, AreLitsOf, ArePartsOf, IsTermOf};
 ghost use Rattle.ground_core.specs.Growth.{empty_problem, next_lit, with_clause, with_gate, with_sum, with_term, with_same, clauses_of_same, AddsGate, AddsSum, AddsSame};
 
+use crate::atoms::all_atoms;
 use crate::errors::Memory;
 use crate::parts::{AggCon, Gate, GroundTerm, LitList, PartList, TermBound};
-use kb_logic::{AggKind, ExtInt, ListOf, Literal, LiteralList};
+use kb_logic::{AggKind, ElemList, ExtInt, ListOf, Literal, LiteralList, Symbol};
 use lit_core::{Clause, ClauseList, Lit, Var};
 use std::alloc::Global;
 use std::marker::Model;
@@ -27,6 +29,20 @@ impl Model for AtomTable {
 }
 
 impl AtomTable {
+    /// The ground atoms over these symbols and domains: the symbols as declared, the tuples of arguments
+    /// of each in domain order, then the values in domain order. What it takes is linear in the atoms.
+    pub fn over(
+        alloc: Global,
+        symbols: &[Symbol],
+        domains: &[ElemList],
+    ) -> Result<AtomTable, Memory>
+        requires few { length symbols.now ≤ 2 ^ 32 }
+        ensures { IfOk result (λ table. table ≡ ground_atoms symbols.now domains.now) }
+    {
+        let atoms = all_atoms(alloc, symbols, domains)?;
+        Ok(AtomTable { atoms })
+    }
+
     /// The table of these atoms.
     pub fn from_list(atoms: LiteralList) -> AtomTable
         ensures { result ≡ atoms }
@@ -169,7 +185,8 @@ impl Problem {
         }
     }
 
-    /// A new variable that is true exactly where all of the parts are, or where any is.
+    /// A new variable that is true exactly where all of the parts are, or where any is. A variable
+    /// past 64 bits is want of memory, here and in the two calls below that add one.
     pub fn add_gate(&mut self, all: bool, parts: LitList) -> Result<Lit, Memory>
         requires { AreLitsOf self.old.vars parts }
         ensures adds { IfOk result (λ out. AddsGate self.old self.new all parts out) }

@@ -5,7 +5,9 @@ use crate::{
     AtomTable, BruteForce, Budget, Gate, GroundTerm, LitList, Memory, Part, PartList, Problem,
     Solve, Verdict, clauses_of_gate, nnf,
 };
-use kb_logic::{AggKind, ElemList, ExtInt, Formula, Literal, LiteralList, Name};
+use kb_logic::{
+    AggKind, Elem, ElemList, ExtInt, Formula, Literal, LiteralList, Name, NumberList, Symbol,
+};
 use lit_core::{Clause, ClauseList, Lit, Var};
 use std::alloc::Global;
 use std::test::Fail;
@@ -209,5 +211,64 @@ fn negations_go_to_the_atoms(rt: HostRuntime) -> Result<(), Fail> {
     assert_eq!(rt; parts.len(), 2);
     assert!(rt; matches!(&parts[0], Formula::Not(_)));
     assert!(rt; matches!(&parts[1], Formula::And(_)));
+    Ok(())
+}
+
+fn number_of(elem: &Elem) -> i64 {
+    match elem {
+        Elem::Num(n) => *n,
+        Elem::Named(_) => -1,
+    }
+}
+
+/// The atom's symbol, arguments and value as digits.
+fn digits_of(atom: &Literal) -> i64 {
+    let mut digits = i64::from(atom.symbol);
+    for arg in atom.args.as_slice() {
+        digits = digits.wrapping_mul(10).wrapping_add(number_of(arg));
+    }
+    match &atom.value {
+        Some(value) => digits.wrapping_mul(10).wrapping_add(number_of(value)),
+        None => digits,
+    }
+}
+
+/// Whether these are the atoms, as digits.
+fn are_atoms(table: &AtomTable, digits: &[i64]) -> bool {
+    for place in 0..digits.len() {
+        match table.get(place) {
+            Some(atom) if digits_of(atom) == digits[place] => {}
+            _ => return false,
+        }
+    }
+    table.len() == digits.len()
+}
+
+fn pair(alloc: Global, first: i64) -> Result<ElemList, Memory> {
+    let mut elems = ElemList::new(alloc);
+    elems.push(Elem::Num(first))?;
+    elems.push(Elem::Num(first.wrapping_add(1)))?;
+    Ok(elems)
+}
+
+fn symbol(alloc: Global, args: &[u32], value: Option<u32>) -> Result<Symbol, Memory> {
+    Ok(Symbol {
+        name: Name::new(alloc, b"s")?,
+        args: NumberList::from_vec(Vec::from_slice(alloc, args)?),
+        value,
+    })
+}
+
+/// The atoms of a predicate P over two types, and of a function f of the first to the second.
+fn table_of_two(alloc: Global) -> Result<AtomTable, Memory> {
+    let symbols = [symbol(alloc, &[0, 1], None)?, symbol(alloc, &[0], Some(1))?];
+    let domains = [pair(alloc, 1)?, pair(alloc, 7)?];
+    AtomTable::over(alloc, &symbols, &domains)
+}
+
+#[test]
+fn atoms_stand_in_domain_order(rt: HostRuntime) -> Result<(), Fail> {
+    let table = table_of_two(rt.alloc())?;
+    assert!(rt; are_atoms(&table, &[17, 18, 27, 28, 117, 118, 127, 128]));
     Ok(())
 }
