@@ -1,0 +1,5 @@
+pub mod Potential
+pub mod Standing
+pub mod Joined
+pub mod Pushed
+pub mod Known

@@ -1,0 +1,20 @@
+-- What is said by two problems together.
+use Rattle.std.specs.Prelude.{◌≡◌, ◌≤◌, List, [], ◌++◌, ◌⊎◌}
+use Rattle.ground_core.specs.Problems.{ProblemState}
+
+-- what both problems say, of the variables of the second
+abbrev pub joined_problem : ProblemState → ProblemState → ProblemState
+joined_problem p q = record {
+  atoms = p.atoms ++ q.atoms;
+  vars = q.vars;
+  gates = p.gates ++ q.gates;
+  clauses = p.clauses ++ q.clauses;
+  sums = p.sums ++ q.sums;
+  terms = p.terms ++ q.terms;
+  bounds = p.bounds ++ q.bounds;
+}
+
+-- the second problem has all variables of the first, and it names no atoms and terms, or the first has no variables and names none
+pub record CanJoin (p q : ProblemState) : Type 0 where
+  pub vars : p.vars ≤ q.vars
+  pub names : ((q.atoms ≡ []) × (q.terms ≡ [])) ⊎ ((p.atoms ≡ []) × (p.terms ≡ []))

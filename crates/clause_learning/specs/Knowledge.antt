@@ -1,0 +1,33 @@
+-- What a solver holds of its problem.
+use Rattle.std.specs.Prelude.{◌≡◌, ℕ, ◌≤◌, Bool, Option, Some, None, List, [], ◌∷◌, length, take, slice_get, All, Contains, ◌⊎◌}
+use Rattle.std.specs.List.{AllZip}
+use Rattle.lit_core.specs.declared.literals.Lit.{Lit}
+use Rattle.lit_core.specs.Truth.{IsSatisfied}
+use Rattle.clause_store.specs.StoreState.{IsEachOnceOf}
+use Rattle.ground_core.specs.Problems.{ProblemState, AreLitsOf}
+use Rattle.ground_core.specs.Meaning.{Satisfies}
+use Rattle.ground_core.specs.GateClauses.{clauses_of}
+
+-- the clause with this number has the literals of c, each once
+abbrev pub IsHeldAs : List (Option (List Lit)) → ℕ → List Lit → Type 0
+IsHeldAs clauses id c = (k : List Lit) × (slice_get clauses id ≡ Some (Some k)) × IsEachOnceOf c k
+
+-- the held clauses are the problem's and the learnt ones, which have these numbers, and all follow from the problem
+pub record Knows (p : ProblemState) (learnt : List (List Lit)) (ids : List ℕ) (clauses : List (Option (List Lit))) : Type 0 where
+  pub implied : (v : ℕ → Bool) → Satisfies p v → (id : ℕ) (k : List Lit) → slice_get clauses id ≡ Some (Some k) → IsSatisfied v k
+  pub within : (id : ℕ) (k : List Lit) → slice_get clauses id ≡ Some (Some k) → AreLitsOf p.vars k
+  pub from : (id : ℕ) (k : List Lit) → slice_get clauses id ≡ Some (Some k) → Contains ids id ⊎ ((c : List Lit) × Contains (clauses_of p) c × IsEachOnceOf c k)
+  pub problem : All (λ c. (id : ℕ) × IsHeldAs clauses id c × (Contains ids id → ⊥)) (clauses_of p)
+  pub learnt_held : AllZip (IsHeldAs clauses) ids learnt
+
+-- clauses were added, and these are all of them, each with every literal once
+pub record Pushes (old new : List (Option (List Lit))) (cs : List (List Lit)) : Type 0 where
+  pub front : old ≡ take (length old) new
+  pub held : All (λ c. (id : ℕ) × (length old ≤ id) × IsHeldAs new id c) cs
+  pub from : (id : ℕ) (k : List Lit) → length old ≤ id → slice_get new id ≡ Some (Some k) → (c : List Lit) × Contains cs c × IsEachOnceOf c k
+
+-- the clauses from a number on were removed
+pub record RemovesFrom (first : ℕ) (old new : List (Option (List Lit))) : Type 0 where
+  pub size : length new ≡ length old
+  pub front : take first new ≡ take first old
+  pub none : (id : ℕ) (k : List Lit) → first ≤ id → slice_get new id ≡ Some (Some k) → ⊥

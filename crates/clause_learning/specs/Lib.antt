@@ -1,0 +1,5 @@
+pub mod Potential
+pub mod Knowledge
+pub mod Joining
+pub mod SolverState
+pub mod KeptFields
