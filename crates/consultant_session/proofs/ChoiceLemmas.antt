@@ -1,5 +1,5 @@
 -- What commands do to the choices.
-use Rattle.std.proofs.Common.{◌≡◌, List, [], ◌∷◌, ◌++◌, refl, sym, ◌∙◌, subst, Bool, true, false, cond, not, Option, None, inl, inr}
+use Rattle.std.proofs.Common.{◌≡◌, List, [], ◌∷◌, ◌++◌, refl, sym, ◌∙◌, subst, Bool, true, false, cond, not, Option, None, Some, inl, inr}
 use Rattle.std.specs.Bool.{Decides}
 use Rattle.std.specs.List.{list_any, filter, Contains}
 use Rattle.std.proofs.lemmas.Bool.{false≢true}
@@ -12,8 +12,8 @@ use Rattle.kb_logic.proofs.Members.{member_cases, from_filter, none_in, distinct
 use Rattle.consult_text.specs.declared.commands.Command.TheVariants as command
 use Rattle.consult_text.specs.declared.refusals.F.{F}
 use Rattle.consult_text.specs.declared.refusals.F.TheVariants as refusal
-use Rattle.consultant_session.specs.States.{State, same_literal, is_chosen, is_known, refused_where, carried_out, unless_refused, state_after}
-use Rattle.consultant_session.specs.Laws.{SameLiteralIsEquality, ChosenIsMembership, WithoutRemovesOne, ChoicesStayDistinct, OppositeChoicesHaveNoModel, opposite}
+use Rattle.consultant_session.specs.States.{State, same_literal, is_chosen, is_known, refused_where, command_refusal, carried_out, unless_refused, state_after}
+use Rattle.consultant_session.specs.Laws.{SameLiteralIsEquality, ChosenIsMembership, WithoutRemovesOne, ChoicesStayDistinct, BudgetStays, OppositeChoicesHaveNoModel, opposite}
 use Rattle.consultant_session.specs.Replies.{HoldsIn}
 use Rattle.consultant_session.proofs.MemberLemmas.{all_at, contains_filter, filter_contains}
 use Rattle.consultant_session.proofs.LiteralLemmas.{same_literal_decides, opposites_clash}
@@ -71,6 +71,17 @@ choices_stay_distinct kb s command.Reset distinct = tt
 choices_stay_distinct kb s command.Choices distinct = distinct
 choices_stay_distinct kb s command.Model distinct = distinct
 
+stays_where_kept : (refused : Option F) (s t : State) → t.budget ≡ s.budget → (unless_refused refused s t).budget ≡ s.budget
+stays_where_kept None s t kept = kept
+stays_where_kept (Some f) s t kept = refl
+
+pub budget_stays : BudgetStays
+budget_stays kb s (command.Assert l) = stays_where_kept (command_refusal kb s (command.Assert l)) s (carried_out s (command.Assert l)) refl
+budget_stays kb s (command.Retract l) = stays_where_kept (command_refusal kb s (command.Retract l)) s (carried_out s (command.Retract l)) refl
+budget_stays kb s command.Reset = refl
+budget_stays kb s command.Choices = refl
+budget_stays kb s command.Model = refl
+
 pub opposite_choices_have_no_model : OppositeChoicesHaveNoModel
 opposite_choices_have_no_model kb s l m chosen opposite_chosen model =
-    opposites_clash m l (all_at (HoldsIn m) s.choices l model.choices chosen) (all_at (HoldsIn m) s.choices (opposite l) model.choices opposite_chosen)
+    opposites_clash m l (all_at (HoldsIn m) s.choices l model.chosen chosen) (all_at (HoldsIn m) s.choices (opposite l) model.chosen opposite_chosen)

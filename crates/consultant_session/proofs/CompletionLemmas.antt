@@ -19,7 +19,7 @@ use Rattle.consultant_session.specs.declared.atoms.Atom.{Atom}
 use Rattle.consultant_session.specs.Filling.{with_row, without_row, with_tables, Completes, Slot, begun_table, atom_at, atoms_from, IsFilled}
 use Rattle.consultant_session.specs.Begun.{slots_of}
 use Rattle.consultant_session.specs.Completion.{accepts, holds, ArePlaced}
-use Rattle.consultant_session.specs.Replies.{ModelOfState}
+use Rattle.consultant_session.specs.Replies.{ModelUnder}
 use Rattle.consultant_session.proofs.ApartLemmas.{all_append, all_map, all_always}
 use Rattle.consultant_session.proofs.FillingLemmas.{completes_filled, filled_completes}
 use Rattle.consultant_session.proofs.LiteralLemmas.{choices_hold}
@@ -122,7 +122,7 @@ true_all m (f ∷ sentences) all = and_from (truth_of m (formula_view f) []) (li
 -- what completes the tables and makes the choices and the sentences true is a model with these choices
 pub completion_is_model : (kb : FirstKb) (choices : List Literal) (begun after : Structure) (atoms : List Atom) → IsFirstKb kb → begun.domains ≡ kb.domains → begun.functions ≡ []
     → begun.relations ≡ map begun_table (slots_of kb) → atoms ≡ atoms_from 0 (slots_of kb)
-    → Completes begun.relations atoms after.relations → after ≡ with_tables begun after.relations → accepts kb choices after ≡ true → ModelOfState kb (record { choices = choices }) after
+    → Completes begun.relations atoms after.relations → after ≡ with_tables begun after.relations → accepts kb choices after ≡ true → ModelUnder kb choices after
 completion_is_model kb choices begun after atoms first same_domains no_tables tables_are atoms_are completes changed accepted =
     let from_start : Completes (map begun_table (slots_of kb)) (atoms_from 0 (slots_of kb)) after.relations =
     subst (λ (l : List Atom). Completes (map begun_table (slots_of kb)) l after.relations) atoms_are
@@ -141,12 +141,12 @@ completion_is_model kb choices begun after atoms first same_domains no_tables ta
         definitions = subst (λ (l : List Definition). AllByRecursion (ModelOfDefinition kb.vocab after) (map definition_view l)) (sym first.definitions) tt;
       };
     } in
-    record { model = model; choices = (choices_hold after choices).0 parts.0 }
+    record { model = model; chosen = (choices_hold after choices).0 parts.0 }
 
 -- if no completion makes them true, there is no such model
 pub no_completion_no_model : (kb : FirstKb) (choices : List Literal) (begun : Structure) (atoms : List Atom) → IsFirstKb kb → begun.domains ≡ kb.domains → begun.functions ≡ []
     → begun.relations ≡ map begun_table (slots_of kb) → atoms ≡ atoms_from 0 (slots_of kb)
-    → ((tables : List Table) → Completes begun.relations atoms tables → accepts kb choices (with_tables begun tables) ≡ false) → (m : Structure) → ModelOfState kb (record { choices = choices }) m → ⊥
+    → ((tables : List Table) → Completes begun.relations atoms tables → accepts kb choices (with_tables begun tables) ≡ false) → (m : Structure) → ModelUnder kb choices m → ⊥
 no_completion_no_model kb choices begun atoms first same_domains no_tables tables_are atoms_are none m is =
     let model : ModelOfFirst kb m = is.model in
     let completes : Completes (map begun_table (slots_of kb)) (atoms_from 0 (slots_of kb)) m.relations =
@@ -158,7 +158,7 @@ no_completion_no_model kb choices begun atoms first same_domains no_tables table
     structure_is m begun.domains begun.functions (same_domains ∙ sym model.domains) (no_tables ∙ sym (no_function_tables kb m first model.structure)) in
     false≢true (sym (none m.relations from_begun) ∙ (ap (accepts kb choices) same
     ∙ and_from (list_all (holds m) choices) (list_all (λ f. truth_of m (formula_view f) []) kb.theory.sentences)
-    ((choices_hold m choices).1 is.choices) (true_all m kb.theory.sentences model.theory.sentences)))
+    ((choices_hold m choices).1 is.chosen) (true_all m kb.theory.sentences model.theory.sentences)))
   where
     structure_is : (m : Structure) (domains : List (List Elem)) (functions : List Table) → domains ≡ m.domains → functions ≡ m.functions
         → record { domains = domains; relations = m.relations; functions = functions } ≡ m

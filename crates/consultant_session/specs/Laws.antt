@@ -24,6 +24,10 @@ WithoutRemovesOne = (l c : Literal) (choices : List Literal) → Contains (witho
 abbrev pub ChoicesStayDistinct : Type 0
 ChoicesStayDistinct = (kb : FirstKb) (s : State) (c : Command) → IsDistinct s.choices → IsDistinct (state_after kb s c).choices
 
+-- no command changes the budget
+abbrev pub BudgetStays : Type 0
+BudgetStays = (kb : FirstKb) (s : State) (c : Command) → (state_after kb s c).budget ≡ s.budget
+
 abbrev pub opposite : Literal → Literal
 opposite l = record l { positive = not l.positive }
 

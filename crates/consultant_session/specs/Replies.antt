@@ -1,5 +1,5 @@
 -- Which reply to a command is right.
-use Rattle.std.specs.Prelude.{◌≡◌, ◌≤◌, ◌^◌, ◌++◌, [], ◌∷◌, length, Contains, Bool, true, false, Option, Some, None, ⊤}
+use Rattle.std.specs.Prelude.{◌≡◌, ◌≤◌, ◌^◌, ◌++◌, List, [], ◌∷◌, length, Contains, Bool, true, false, Option, Some, None, ⊤}
 use Rattle.std.specs.List.{AllByRecursion}
 use Rattle.kb_logic.specs.declared.elements.Elem.{Elem}
 use Rattle.kb_logic.specs.declared.structures.Structure.{Structure}
@@ -27,10 +27,14 @@ HoldsWithSign false A = A → ⊥
 abbrev pub HoldsIn : Structure → Literal → Type 0
 HoldsIn m l = HoldsWithSign l.positive (HoldsAtom m l l.value)
 
--- m is a model that extends the data and makes every choice true
-pub record ModelOfState (kb : FirstKb) (s : State) (m : Structure) : Type 0 where
+-- m is a model that extends the data and makes these choices true
+pub record ModelUnder (kb : FirstKb) (choices : List Literal) (m : Structure) : Type 0 where
   pub model : ModelOfFirst kb m
-  pub choices : AllByRecursion (HoldsIn m) s.choices
+  pub chosen : AllByRecursion (HoldsIn m) choices
+
+-- m is a model that extends the data and makes every choice of the state true
+abbrev pub ModelOfState : FirstKb → State → Structure → Type 0
+ModelOfState kb s m = ModelUnder kb s.choices m
 
 -- the reply to a command that is not refused
 abbrev pub RightAnswer : FirstKb → State → Command → Reply → Type 0

@@ -9,4 +9,4 @@ kb_of s = s.kb
 
 -- the state that its commands left
 abbrev pub state_of : Session → State
-state_of s = record { choices = s.choices }
+state_of s = record { choices = s.choices; budget = s.budget }

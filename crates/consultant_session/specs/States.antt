@@ -1,5 +1,5 @@
--- The state of a session: the choices, and what each command does to them.
-use Rattle.std.specs.Prelude.{List, [], ◌∷◌, ◌++◌, Bool, true, false, ◌&&◌, ◌==◌, not, filter, Option, Some, None}
+-- The state of a session: the choices and the budget, and what each command does to them.
+use Rattle.std.specs.Prelude.{ℕ, List, [], ◌∷◌, ◌++◌, Bool, true, false, ◌&&◌, ◌==◌, not, filter, Option, Some, None}
 use Rattle.std.specs.List.{list_any}
 use Rattle.kb_logic.specs.declared.elements.Elem.{Elem}
 use Rattle.kb_logic.specs.declared.structures.Literal.{Literal}
@@ -11,13 +11,14 @@ use Rattle.consult_text.specs.declared.refusals.F.{F}
 use Rattle.consult_text.specs.declared.refusals.F.TheVariants as refusal
 use Rattle.consultant_session.specs.DomainOrder.{same_elem, same_row}
 
--- what a session's replies depend on, beside the knowledge base
+-- what a session's replies depend on, beside the knowledge base: the choices, and how many conflicts a command may meet, without a limit where there is no number
 pub record State : Type 0 where
   pub choices : List Literal
+  pub budget : Option ℕ
 
--- a session begins without choices
+-- a session begins without choices and with a budget of 100,000
 abbrev pub first_state : State
-first_state = record { choices = [] }
+first_state = record { choices = []; budget = Some 100000 }
 
 abbrev pub same_sign : Bool → Bool → Bool
 same_sign true b = b
@@ -60,9 +61,9 @@ without l choices = filter (λ c. not (same_literal l c)) choices
 
 -- what a command that is not refused does
 abbrev pub carried_out : State → Command → State
-carried_out s (command.Assert l) = record { choices = s.choices ++ l ∷ [] }
-carried_out s (command.Retract l) = record { choices = without l s.choices }
-carried_out s command.Reset = first_state
+carried_out s (command.Assert l) = record s { choices = s.choices ++ l ∷ [] }
+carried_out s (command.Retract l) = record s { choices = without l s.choices }
+carried_out s command.Reset = record s { choices = [] }
 carried_out s command.Choices = s
 carried_out s command.Model = s
 

@@ -7,7 +7,7 @@ ghost use Rattle.kb_logic.specs.Meaning.{truth_of};
 ghost use Rattle.kb_logic.specs.Arithmetic.{ArithmeticFits};
 ghost use Rattle.kb_logic.specs.First.{IsFirstKb};
 ghost use Rattle.consultant_session.specs.Filling.{with_row, without_row, with_tables};
-ghost use Rattle.consultant_session.specs.Replies.{ModelOfState};
+ghost use Rattle.consultant_session.specs.Replies.{ModelUnder};
 ghost use Rattle.consultant_session.specs.Completion.{accepts, holds, ArePlaced, Settles};
 
 use crate::atoms::Atom;
@@ -27,7 +27,7 @@ pub(crate) fn find_model(
 ) -> Result<Option<Structure>, Memory>
     requires first { IsFirstKb kb.now }
     requires numbered { length kb.now.vocab.symbols ≤ 2 ^ 32 }
-    ensures { IfOk result (λ found. MatchOption found ((m : Structure) → ModelOfState kb.now (record { choices = choices.now }) m → ⊥) (λ m. ModelOfState kb.now (record { choices = choices.now }) m)) }
+    ensures { IfOk result (λ found. MatchOption found ((m : Structure) → ModelUnder kb.now choices.now m → ⊥) (λ m. ModelUnder kb.now choices.now m)) }
 {
     let (tables, atoms) = begin(alloc, kb)?;
     let mut m = Structure {

@@ -1,5 +1,5 @@
 //! What the definitions of states say, in the subject's own words. The functions are empty: their contracts are laws.
-ghost use Rattle.consultant_session.specs.Laws.{SameLiteralIsEquality, ChosenIsMembership, WithoutRemovesOne, ChoicesStayDistinct, OppositeChoicesHaveNoModel};
+ghost use Rattle.consultant_session.specs.Laws.{SameLiteralIsEquality, ChosenIsMembership, WithoutRemovesOne, ChoicesStayDistinct, BudgetStays, OppositeChoicesHaveNoModel};
 
 /// The test of two literals tells exactly whether they are equal.
 pub fn same_literal_is_equality()
@@ -19,6 +19,11 @@ pub fn without_removes_one()
 /// No command makes a literal a choice twice.
 pub fn choices_stay_distinct()
     ensures { ChoicesStayDistinct }
+{}
+
+/// No command changes the budget.
+pub fn budget_stays()
+    ensures { BudgetStays }
 {}
 
 /// There is no model where a literal and its opposite are choices.

@@ -14,12 +14,15 @@ use kb_logic::{Literal, LiteralList, Memory};
 use std::alloc::Global;
 use std::mem;
 
+const FIRST_BUDGET: u64 = 100_000;
+
 /// A session over a knowledge base.
 #[derive(Drop)]
 pub struct Session {
     alloc: Global,
     kb: FirstKb,
     choices: LiteralList,
+    budget: Option<u64>,
 }
 
 impl Session {
@@ -32,6 +35,7 @@ impl Session {
             alloc,
             kb,
             choices: LiteralList::new(alloc),
+            budget: Some(FIRST_BUDGET),
         })
     }
 
@@ -49,7 +53,14 @@ impl Session {
         &self.choices
     }
 
-    /// The reply to the command. After want of memory the choices are as before.
+    /// How many conflicts a command may meet; without a limit where there is no number.
+    pub fn budget(&self) -> Option<u64>
+        ensures { result ≡ (state_of self.now).budget }
+    {
+        self.budget
+    }
+
+    /// The reply to the command. After want of memory the choices and the budget are as before.
     pub fn step(&mut self, command: &Command) -> Result<Reply, Memory>
         requires { IsSmallFirstKb (kb_of self.old) }
         ensures right { IfOk result (λ reply. RightReply (kb_of self.old) (state_of self.old) command.now reply) }
