@@ -11,3 +11,8 @@ pub mod InTerms
 pub mod InFactors
 pub mod InOperands
 pub mod InChains
+pub mod Formats
+pub mod BlockFormats
+pub mod StructureFormats
+pub mod FormulaFormats
+pub mod TheoryFormats

@@ -15,3 +15,4 @@ pub mod BlockTrees
 pub mod BlockSpelling
 pub mod BlockFine
 pub mod BlockView
+pub mod BlockParts

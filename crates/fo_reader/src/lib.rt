@@ -3,6 +3,7 @@
 #![tactic(auto)]
 
 mod binders;
+mod block_laws;
 mod build;
 mod cursor;
 mod error;
@@ -17,6 +18,7 @@ mod stops;
 mod terminal;
 mod terms;
 
+pub use block_laws::{one_file, one_item};
 pub use error::KbError;
 pub use kb_text::{K, KbFault};
 pub use laws::one_formula;

@@ -1,0 +1,23 @@
+//! Laws of the grammar of files.
+ghost use Rattle.std.specs.Prelude.{◌≡◌, List, []};
+ghost use Rattle.fo_reader.specs.Terminals.{Tok};
+ghost use Rattle.fo_reader.specs.Binders.{Whole};
+ghost use Rattle.fo_reader.specs.BlockTrees.{Block, Declaration, TheoryItem, Rule, Entry};
+ghost use Rattle.fo_reader.specs.BlockSpelling.{put_block, put_declaration, put_theory_item, put_rule, put_entry};
+ghost use Rattle.fo_reader.specs.BlockFine.{IsFile, FineBlock, FineTheoryItem, FineRule};
+ghost use Rattle.fo_reader.specs.BlockParts.{Anything, EndsDeclaration, OneAtAPlace};
+
+/// No text is written by two files.
+pub fn one_file()
+    ensures { (ts : List Tok) (f g : List Block) → IsFile ts f → IsFile ts g → f ≡ g }
+{}
+
+/// What begins at a place is a whole item there or none: no block, declaration, sentence, definition, rule or entry is
+/// the front of a longer one, so that the longest is the only one.
+pub fn one_item()
+    ensures blocks { OneAtAPlace put_block FineBlock Anything }
+    ensures declarations { OneAtAPlace put_declaration Whole EndsDeclaration }
+    ensures theory_items { OneAtAPlace put_theory_item FineTheoryItem Anything }
+    ensures rules { OneAtAPlace put_rule FineRule Anything }
+    ensures entries { OneAtAPlace put_entry Whole Anything }
+{}
