@@ -20,5 +20,10 @@ pub mod Connected
 pub mod Walks
 pub mod Shapes
 pub mod Soundness
+pub mod Monotony
+pub mod Totality
+pub mod KnownBounds
+pub mod Consistent
 pub mod Plain
 pub mod Certain
+pub mod ElementLemmas

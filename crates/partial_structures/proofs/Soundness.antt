@@ -135,7 +135,7 @@ module _ {X : Type 0} (P : X → Truth) (T : X → Bool) (sound : (x : X) → So
 
 -- ---- values
 
-same_refl : (v : Denotation) → same_value v v ≡ true
+pub same_refl : (v : Denotation) → same_value v v ≡ true
 same_refl (named q) = element_itself (Named q)
 same_refl (number z) = element_itself (Num z)
 same_refl minus_infinity = refl
@@ -145,16 +145,16 @@ same_refl undefined = refl
 same_other : (u v : Denotation) → (u ≡ v → ⊥) → same_value u v ≡ false
 same_other u v ne = false_from_ne_true (same_value u v) (λ e. ne (same_is u v e))
 
-same_sym : (u v : Denotation) → same_value u v ≡ same_value v u
+pub same_sym : (u v : Denotation) → same_value u v ≡ same_value v u
 same_sym u v = elim (cases_Bool (same_value v u)) [
   | inl e ↦ ap (λ w. same_value u w) (same_is v u e) ∙ same_refl u ∙ sym e
   | inr e ↦ same_other u v (λ f. true≢false (sym (ap (λ w. same_value w u) (sym f) ∙ same_refl u) ∙ e)) ∙ sym e
 ]
 
-denotes : (x y : Elem) → denotation_of x ≡ denotation_of y → x ≡ y
+pub denotes : (x y : Elem) → denotation_of x ≡ denotation_of y → x ≡ y
 denotes x y e = same_element x y (ap (λ d. same_value d (denotation_of y)) e ∙ same_refl (denotation_of y))
 
-rows_same : (xs ys : List Elem) → map denotation_of xs ≡ map denotation_of ys → xs ≡ ys
+pub rows_same : (xs ys : List Elem) → map denotation_of xs ≡ map denotation_of ys → xs ≡ ys
 rows_same xs ys e = row_is xs ys (ap (same_row xs) (sym e) ∙ row_itself xs)
 
 no_element : (x : Elem) → denotation_of x ≡ undefined → ⊥
@@ -319,7 +319,7 @@ module _ (m : Structure) (k : KnownAtoms) (v : Vocabulary) (symbols : v.symbols 
   applied_sound s (Some us) vs h = subst (λ ws. KnownIs (option_map denotation_of (given_value s us k.true_atoms)) (applied (rows_of s m.functions) ws)) (sym h) (given_by_one s us (given_value s us k.true_atoms) refl)
 
   -- the row of a function at arguments of its types
-  row_at : (s : ℕ) (d : Symbol) (ty : ℕ) (xs : List Elem) → slice_get k.symbols s ≡ Some d → d.value ≡ Some ty → Contains (tuples_of k.domains d.args) xs
+  pub row_at : (s : ℕ) (d : Symbol) (ty : ℕ) (xs : List Elem) → slice_get k.symbols s ≡ Some d → d.value ≡ Some ty → Contains (tuples_of k.domains d.args) xs
       → (y : Elem) × Contains (domain_at k.domains ty) y × Contains (rows_of s m.functions) (xs ++ y ∷ [])
   row_at s d ty xs at value tuple =
       let here : Has (functions_of v) (s, d) = function_has v s d ty (declared_at s (Some d) at) value in
@@ -420,7 +420,7 @@ module _ (m : Structure) (k : KnownAtoms) (v : Vocabulary) (symbols : v.symbols 
   number_sound c z (Some i) n h = sound_if (compared c (number (pos i)) (number z)) (compared c (number (pos n)) (number z)) (ap (λ j. compared c (number (pos j)) (number z)) h)
 
   mutual
-    value_sound : (t : TermTree) (e : List Elem) → KnownIs (known_value k t e) (value_of m t e)
+    pub value_sound : (t : TermTree) (e : List Elem) → KnownIs (known_value k t e) (value_of m t e)
     value_sound (variable n) e = refl
     value_sound (integer z) e = refl
     value_sound (constructed ty n) e = ap (λ ds. element_value (slice_get (domain_at ds ty) n)) extends.domains
@@ -435,7 +435,7 @@ module _ (m : Structure) (k : KnownAtoms) (v : Vocabulary) (symbols : v.symbols 
         (sound_weights (λ a. certain_truth k f (e ++ a)) (λ a. truth_of m f (e ++ a)) (λ a. formula_sound f (e ++ a)) (λ a. option_map as_number (known_value k t (e ++ a))) (λ a. as_number (value_of m t (e ++ a)))
         (λ a. known_map as_number (known_value k t (e ++ a)) (value_of m t (e ++ a)) (value_sound t (e ++ a))) (choices m.domains bs)))
 
-    values_sound : (ts : TermTrees) (e : List Elem) → KnownIs (known_values k ts e) (values_of m ts e)
+    pub values_sound : (ts : TermTrees) (e : List Elem) → KnownIs (known_values k ts e) (values_of m ts e)
     values_sound no_terms e = refl
     values_sound (more_terms t ts) e = cons_sound (known_value k t e) (value_of m t e) (known_values k ts e) (values_of m ts e) (value_sound t e) (values_sound ts e)
 
@@ -452,7 +452,7 @@ module _ (m : Structure) (k : KnownAtoms) (v : Vocabulary) (symbols : v.symbols 
     equation_sound (product ts) p w e h = tt
     equation_sound (aggregate kind bs f t) p w e h = tt
 
-    formula_sound : (f : FormulaTree) (e : List Elem) → Sound (certain_truth k f e) (truth_of m f e)
+    pub formula_sound : (f : FormulaTree) (e : List Elem) → Sound (certain_truth k f e) (truth_of m f e)
     formula_sound verum e = refl
     formula_sound falsum e = refl
     formula_sound (atom s ts) e = atom_sound s ts e (known_values k ts e) (values_sound ts e)

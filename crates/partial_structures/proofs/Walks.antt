@@ -147,7 +147,7 @@ spot_whole s node (Some d) vs = whole_typed s (first_spot node (Some d)) d.args 
 pub whole_is : (s : Known) (symbol : ℕ) (vs : List Denotation) → is_whole (spot_of s symbol vs) ≡ arguments_typed (known_in s) (slice_get s.symbols.now symbol) vs
 whole_is s symbol vs = spot_whole s (node_of (words_in s.rows.now.words) s.rows.now.nodes.entries symbol []) (slice_get s.symbols.now symbol) vs
 
-label_same : (ws : List (List ℕ)) (x : Elem) → value_label ws (denotation_of x) ≡ label_of ws x
+pub label_same : (ws : List (List ℕ)) (x : Elem) → value_label ws (denotation_of x) ≡ label_of ws x
 label_same ws (Named q) = refl
 label_same ws (Num z) = refl
 
@@ -369,7 +369,7 @@ gives_given s symbol vs v typed t yes_ =
     (kept_has (λ b. is_yes (status_in s b)) (atoms_over s.symbols.now s.domains.now) a (atom_listed s.symbols.now s.domains.now a (value_over s symbol vs v d t)) (ap is_yes status)) refl d.values refl
 
 -- the status Yes of a value at a spot says which label stands there
-yes_label : (o l : Option Label) (t : Truth) → value_status o l t ≡ Yes → is_yes t ≡ false → (k : Label) × (o ≡ Some k) × (l ≡ Some k)
+pub yes_label : (o l : Option Label) (t : Truth) → value_status o l t ≡ Yes → is_yes t ≡ false → (k : Label) × (o ≡ Some k) × (l ≡ Some k)
 yes_label None l t h n = absurd (true≢false (sym (ap is_yes h) ∙ n))
 yes_label (Some k) None t h n = cc
 yes_label (Some k) (Some j) t h n = (k, refl, ap Some (sym (same_label_is k j (yes_if_true (same_label k j) h))))

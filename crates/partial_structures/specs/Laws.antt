@@ -1,7 +1,8 @@
 -- What the definitions say, in the subject's own words.
-use Rattle.std.specs.Prelude.{◌≡◌, ◌↔◌, List, ◌++◌, Some, Contains, IsTrue, IsFalse}
+use Rattle.std.specs.Prelude.{◌≡◌, ◌↔◌, ℕ, List, ◌++◌, Some, Contains, IsTrue, IsFalse}
 use Rattle.kb_logic.specs.declared.elements.Elem.{Elem}
 use Rattle.kb_logic.specs.declared.vocabularies.Bound.{Bound}
+use Rattle.kb_logic.specs.declared.vocabularies.Vocabulary.{Vocabulary}
 use Rattle.kb_logic.specs.declared.structures.Structure.{Structure}
 use Rattle.kb_logic.specs.Trees.{TermTree, FormulaTree, universal, existential}
 use Rattle.kb_logic.specs.Denotations.{Denotation}
@@ -10,7 +11,10 @@ use Rattle.kb_logic.specs.Structures.{choices}
 use Rattle.kb_logic.specs.Models.{GroundAtom, AtomHolds}
 use Rattle.partial_structures.specs.KnownAtoms.{KnownAtoms, value_at}
 use Rattle.partial_structures.specs.Extension.{ExtendsData, IsStructureOver}
-use Rattle.partial_structures.specs.Certainty.{known_value, certain_truth}
+use Rattle.kb_logic.specs.Bounds.{HasTypes, IsBounded}
+use Rattle.partial_structures.specs.Certainty.{truth_if, known_value, certain_truth}
+use Rattle.partial_structures.specs.Consistency.{IsConsistent, KnowsMore, KnowsAll, AppliesWell, IsWellApplied}
+use Rattle.partial_structures.specs.KnownArithmetic.{CertaintyFits}
 use Rattle.partial_structures.specs.declared.truths.Truth.TheVariants as truth
 
 -- what is known of an atom is so in every structure that extends the data
@@ -37,3 +41,23 @@ CertaintyIsSound =
     (m : Structure) (k : KnownAtoms) → IsStructureOver k.symbols m → ExtendsData m k
     → ((f : FormulaTree) (e : List Elem) → (certain_truth k f e ≡ truth.Yes → IsTrue (truth_of m f e)) × (certain_truth k f e ≡ truth.No → IsFalse (truth_of m f e)))
     × ((t : TermTree) (e : List Elem) (v : Denotation) → known_value k t e ≡ Some v → value_of m t e ≡ v)
+
+-- what is certain of a formula stays so where more is known, and so does a known value
+abbrev pub CertaintyIsMonotone : Type 0
+CertaintyIsMonotone =
+    (k j : KnownAtoms) → IsConsistent j → KnowsMore k j
+    → ((f : FormulaTree) (e : List Elem) → (certain_truth k f e ≡ truth.Yes → certain_truth j f e ≡ truth.Yes) × (certain_truth k f e ≡ truth.No → certain_truth j f e ≡ truth.No))
+    × ((t : TermTree) (e : List Elem) (v : Denotation) → known_value k t e ≡ Some v → known_value j t e ≡ Some v)
+
+-- where no atom is unknown, what is certain is the truth in a structure that extends the data, and each value is known
+abbrev pub CertaintyIsTruth : Type 0
+CertaintyIsTruth =
+    (m : Structure) (k : KnownAtoms) → IsStructureOver k.symbols m → ExtendsData m k → KnowsAll k
+    → ((f : FormulaTree) (e : List Elem) → IsWellApplied k.symbols m f e → certain_truth k f e ≡ truth_if (truth_of m f e))
+    × ((t : TermTree) (e : List Elem) → AppliesWell k.symbols m t e → known_value k t e ≡ Some (value_of m t e))
+
+-- a formula whose terms have small static bounds meets the condition of `kleene`, under elements of the variables in scope
+abbrev pub SmallBoundsFit : Type 0
+SmallBoundsFit =
+    (v : Vocabulary) (k : KnownAtoms) → v.symbols ≡ k.symbols → IsConsistent k → (f : FormulaTree) (scope : List ℕ) (e : List Elem) → HasTypes k.domains scope e
+    → IsBounded v k.domains f scope → CertaintyFits k f e

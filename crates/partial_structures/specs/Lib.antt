@@ -7,7 +7,9 @@ pub mod Counts
 pub mod Tally
 pub mod Extension
 pub mod Certainty
+pub mod Consistency
 pub mod Values
+pub mod Elements
 pub mod Known
 pub mod KnownArithmetic
 pub mod Evaluation

@@ -7,6 +7,7 @@ use Rattle.std.specs.List.{AllByRecursion}
 use Rattle.kb_logic.specs.Structures.{IsDistinct}
 use Rattle.partial_structures.specs.Rows.{status_of}
 use Rattle.partial_structures.specs.Flags.{is_closed}
+use Rattle.partial_structures.specs.Elements.{HasElements}
 use Rattle.partial_structures.specs.declared.truths.Truth.{Truth}
 use Rattle.partial_structures.specs.declared.truths.Truth.TheVariants as truth
 use Rattle.partial_structures.specs.declared.partial.Partial.TheInside.{Inside}
@@ -33,10 +34,11 @@ known_atoms p = record {
   false_atoms = filter (λ a. is_no (status p a)) (atoms_over p.symbols p.domains);
 }
 
--- the domains have no element twice, each symbol has its flag, each name of an element has its
--- number, and the atoms that are certainly true are counted
+-- the domains have no element twice, each symbol has its flag, each name of an element has its number, the table has the
+-- elements of each type, and the atoms that are certainly true are counted
 pub record IsSound (p : Inside) : Type 0 where
   pub distinct : AllByRecursion IsDistinct p.domains
   pub flags : length p.closed.items ≡ length p.symbols
   pub words : words_in p.rows.words ≡ words_of p.domains
+  pub elements : HasElements (words_in p.rows.words) p.domains p.elements.table.keys
   pub counted : p.count ≡ length (filter (λ a. is_yes (status p a)) (atoms_over p.symbols p.domains))

@@ -1,7 +1,7 @@
 //! What the definitions say, in the subject's own words. The functions are empty: their contracts are laws.
 ghost use Rattle.partial_structures.specs.Examples.{WorkedExamples};
 ghost use Rattle.partial_structures.specs.KnownArithmetic.{NoArithmeticFits};
-ghost use Rattle.partial_structures.specs.Laws.{KnownAtomsHold, EveryIsConjunction, SomeIsDisjunction, CertaintyIsSound};
+ghost use Rattle.partial_structures.specs.Laws.{KnownAtomsHold, EveryIsConjunction, SomeIsDisjunction, CertaintyIsSound, CertaintyIsMonotone, CertaintyIsTruth, SmallBoundsFit};
 
 /// What is known of an atom is so in every structure that extends the data.
 pub fn known_atoms_hold()
@@ -22,6 +22,21 @@ pub fn some_is_disjunction()
 /// value there.
 pub fn certainty_is_sound()
     ensures { CertaintyIsSound }
+{}
+
+/// What is certain of a formula stays so where more is known, and so does a known value.
+pub fn certainty_is_monotone()
+    ensures { CertaintyIsMonotone }
+{}
+
+/// Where no atom is unknown, what is certain of a formula is its truth, and the value of each term is known.
+pub fn certainty_is_truth()
+    ensures { CertaintyIsTruth }
+{}
+
+/// A formula whose terms have static bounds from -10^15 to 10^15 meets the condition of `kleene`.
+pub fn small_bounds_fit()
+    ensures { SmallBoundsFit }
 {}
 
 /// A formula without sums, products and aggregates meets the condition of `kleene`, whatever is known.

@@ -5,6 +5,7 @@
 mod atoms;
 mod certainty;
 mod connectives;
+mod elements;
 mod errors;
 mod extension;
 mod flags;

@@ -1,11 +1,9 @@
-//! What is known of the atoms of an application.
-//!
-//! The elements of a type are sought one after another; a table of them, hashed by type, would take each
-//! argument in constant time.
+//! What is known of the atoms of an application, in a few hash steps an argument.
 ghost use Rattle.std.specs.Prelude.{◌≡◌, List, Some, slice_get};
 ghost use Rattle.std.specs.Option.{option_map};
 ghost use Rattle.kb_logic.specs.Denotations.{Denotation};
-ghost use Rattle.partial_structures.specs.Certainty.{applied_known, atom_certain, value_certain, result_typed, outside_value};
+ghost use Rattle.kb_logic.specs.Structures.{domain_at};
+ghost use Rattle.partial_structures.specs.Certainty.{applied_known, atom_certain, value_certain, result_typed, outside_value, stands_in};
 ghost use Rattle.partial_structures.specs.Values.{value_view};
 ghost use Rattle.partial_structures.specs.Known.{known_in, place_view, start_of, stepped, spot_of, is_whole, is_function_of};
 
@@ -14,8 +12,14 @@ use crate::flags::flag;
 use crate::known::Known;
 use crate::spots::Place;
 use crate::truths::Truth;
-use crate::values::{Value, is_among};
-use kb_logic::values::domain_in;
+use crate::values::Value;
+
+/// Whether the value is an element of the type.
+fn is_element(s: Known<'_>, ty: u32, value: Value<'_>) -> bool
+    ensures { result ≡ stands_in (domain_at s.entry.domains.now ty) (value_view value.entry) }
+{
+    s.elements.contains(ty, s.rows.value_label(value))
+}
 
 /// Before the first argument.
 pub(crate) fn start<'a>(s: Known<'a>, symbol: u32) -> Place<'a>
@@ -45,7 +49,7 @@ pub(crate) fn next<'a>(s: Known<'a>, place: Place<'a>, value: Value<'_>) -> Plac
         Some((ty, types)) => Place {
             node,
             types,
-            typed: is_among(value, domain_in(s.domains, *ty)) && place.typed,
+            typed: is_element(s, *ty, value) && place.typed,
         },
         None => Place {
             node,
@@ -69,7 +73,7 @@ fn is_result(s: Known<'_>, symbol: u32, value: Value<'_>) -> bool
         None => false,
         Some(declared) => match declared.value {
             None => false,
-            Some(ty) => is_among(value, domain_in(s.domains, ty)),
+            Some(ty) => is_element(s, ty, value),
         },
     }
 }

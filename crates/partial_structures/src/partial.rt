@@ -6,6 +6,7 @@ ghost use Rattle.kb_logic.specs.Views.{formula_view};
 ghost use Rattle.partial_structures.specs.Certainty.{certain_truth};
 ghost use Rattle.partial_structures.specs.KnownArithmetic.{CertaintyFits};
 ghost use Rattle.partial_structures.specs.KnownAtoms.{IsAtomOver, atom_of, nothing_known, value_at, with_closed, with_false, with_true};
+ghost use Rattle.partial_structures.specs.Consistency.{IsConsistent};
 ghost use Rattle.partial_structures.specs.Counts.{added_by};
 ghost use Rattle.partial_structures.specs.Extension.{ExtendsData, IsStructureOver};
 ghost use Rattle.partial_structures.specs.declared.truths.Truth.TheVariants.{Yes, No};
@@ -13,6 +14,7 @@ ghost use Rattle.partial_structures.specs.declared.errors.SetError.TheVariants.{
 
 use crate::atoms::{make_false, make_true, status};
 use crate::certainty::certainty;
+use crate::elements::Elements;
 use crate::errors::SetError;
 use crate::extension::{are_same_domains, left_over};
 use crate::flags::flag;
@@ -32,6 +34,7 @@ pub struct Partial {
     // For each symbol whether every atom that no row speaks of is false.
     closed: Vec<bool>,
     rows: Rows,
+    elements: Elements,
     // How many atoms are certainly true.
     count: u64,
 }
@@ -58,11 +61,14 @@ impl Partial {
         let words = Words::of(alloc, &domains)?;
         let symbols = vocab.symbols.copy(alloc)?;
         let closed = vec![in alloc; false; symbols.len()]?;
+        let rows = Rows::new(alloc, words);
+        let elements = Elements::of(alloc, &rows, domains.as_slice())?;
         Ok(Partial {
             symbols,
             domains,
             closed,
-            rows: Rows::new(alloc, words),
+            rows,
+            elements,
             count: 0,
         })
     }
@@ -72,11 +78,14 @@ impl Partial {
     {
         let domains = self.domains.copy(alloc)?;
         let words = Words::of(alloc, &domains)?;
+        let rows = self.rows.with_words(words)?;
+        let elements = Elements::of(alloc, &rows, domains.as_slice())?;
         Ok(Partial {
             symbols: self.symbols.copy(alloc)?,
             domains,
             closed: Vec::from_slice(alloc, &self.closed)?,
-            rows: self.rows.with_words(words)?,
+            rows,
+            elements,
             count: self.count,
         })
     }
@@ -92,6 +101,15 @@ impl Partial {
         ensures distinct { AllByRecursion IsDistinct self.now.domains }
     {
         &self.domains
+    }
+
+    /// What is known is consistent: no function has two values at the same arguments, and no atom is both
+    /// true and false. It does nothing.
+    pub fn consistency(&self)
+        ensures { IsConsistent self.now }
+    {
+        // Its parts are looked at, so that what it keeps is known here.
+        let _count = self.count;
     }
 
     /// What is known of an atom over the domains, whether the literal affirms or denies it.
@@ -168,6 +186,7 @@ impl Partial {
             domains: self.domains.as_slice(),
             closed: &self.closed,
             rows: &self.rows,
+            elements: &self.elements,
         };
         certainty(known, f, env)
     }

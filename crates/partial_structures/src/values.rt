@@ -5,7 +5,6 @@ ghost use Rattle.kb_logic.specs.Environments.{env_view};
 ghost use Rattle.kb_logic.specs.Meaning.{element_value};
 ghost use Rattle.kb_logic.specs.Structures.{domain_at};
 ghost use Rattle.kb_logic.specs.Values.{total_view, count_up_to};
-ghost use Rattle.partial_structures.specs.Certainty.{stands_in};
 ghost use Rattle.partial_structures.specs.Values.{value_view};
 
 use kb_logic::environments::{Env, find};
@@ -69,18 +68,6 @@ pub(crate) fn compare(cmp: Cmp, a: Value<'_>, b: Value<'_>) -> bool
         Cmp::Le => is_below(a, b) || same(a, b),
         Cmp::Ge => is_below(b, a) || same(a, b),
     }
-}
-
-/// Whether the value is one of the elements.
-pub(crate) fn is_among(value: Value<'_>, domain: &[Elem]) -> bool
-    ensures { result ≡ stands_in domain.now (value_view value.entry) }
-{
-    for elem in domain {
-        if same(elem_value(elem), value) {
-            return true;
-        }
-    }
-    false
 }
 
 /// The value of the variable number `n`.

@@ -21,6 +21,7 @@ invariant_of-self c =
       distinct = c.self.invariant.distinct;
       flags = length-set p.closed.items c.args.symbol true ∙ c.self.invariant.flags;
       words = c.self.invariant.words;
+      elements = c.self.invariant.elements;
       counted = same_count p q (with_closed (known_atoms p) c.args.symbol) c.self.invariant.counted
           (closed_after p q (known_atoms p) c.args.symbol refl refl refl refl refl (omega (arith, same, c.self.invariant.flags, c.requires))) refl;
     }
