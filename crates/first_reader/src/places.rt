@@ -4,20 +4,20 @@ ghost use Rattle.first_reader.specs.FirstViews.{texts};
 ghost use Rattle.first_reader.specs.FirstTables.{Covers, AreFirst, said};
 ghost use Rattle.std.specs.Str.{bytes_eq};
 
+use indexmap::IndexMap;
 use kb_logic::Memory;
 use std::alloc::Global;
-use std::collections::HashMap;
 
 /// Names in order.
 #[derive(Drop)]
 pub struct Places<'a> {
     names: Vec<&'a [u8]>,
-    map: HashMap<&'a [u8], usize>,
+    map: IndexMap<&'a [u8], usize>,
     ghost covers: { Covers map (texts names.items) },
 }
 
 // A name that is there already keeps its place.
-fn note<'a>(map: &mut HashMap<&'a [u8], usize>, name: &'a [u8], place: usize) -> Result<(), Memory>
+fn note<'a>(map: &mut IndexMap<&'a [u8], usize>, name: &'a [u8], place: usize) -> Result<(), Memory>
     ensures { OnOk result ((text : List ℕ) → said map.new text ≡ (if bytes_eq name.now text then Some (unwrap_or (said map.old text) place) else said map.old text)) }
 {
     if !map.contains_key(name) {
@@ -26,10 +26,10 @@ fn note<'a>(map: &mut HashMap<&'a [u8], usize>, name: &'a [u8], place: usize) ->
     Ok(())
 }
 
-fn first_places<'a>(alloc: Global, names: &[&'a [u8]]) -> Result<HashMap<&'a [u8], usize>, Memory>
+fn first_places<'a>(alloc: Global, names: &[&'a [u8]]) -> Result<IndexMap<&'a [u8], usize>, Memory>
     ensures { IfOk result (λ map. Covers map (texts names.now)) }
 {
-    let mut map = HashMap::new(alloc);
+    let mut map = IndexMap::new(alloc);
     for (place, name) in names.iter().enumerate() {
         note(&mut map, name, place)?;
     }
