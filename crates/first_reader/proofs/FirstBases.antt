@@ -32,10 +32,10 @@ eq_text : (n : List ℕ) → bytes_eq n n ≡ true
 eq_text n = (bytes_eq-Decides n n).1 refl
 
 -- a name of the rest is a name of the whole
-named_later : (m : List ℕ) (ns : List (List ℕ)) (text : List ℕ) → IsNamed ns text → IsNamed (m ∷ ns) text
+pub named_later : (m : List ℕ) (ns : List (List ℕ)) (text : List ℕ) → IsNamed ns text → IsNamed (m ∷ ns) text
 named_later m ns text is = elim (cases_Bool (bytes_eq m text)) [ inl hit ↦ rw hit (omega arith) | inr miss ↦ rw miss (omega (arith, is)) ]
 
-named_first : (n : List ℕ) (ns : List (List ℕ)) → IsNamed (n ∷ ns) n
+pub named_first : (n : List ℕ) (ns : List (List ℕ)) → IsNamed (n ∷ ns) n
 named_first n ns = rw (eq_text n) (omega arith)
 
 -- a name is the first one or one of the rest
@@ -62,10 +62,10 @@ type_declared (a_type n ∷ ds) text is = elim (named_cases n (type_names ds) te
 ]
 type_declared (a_symbol n types ∷ ds) text is = named_later n (map name_of ds) text (type_declared ds text is)
 
-abbrev Symbols : List (List ℕ) → List Declared → List (List ℕ)
+abbrev pub Symbols : List (List ℕ) → List Declared → List (List ℕ)
 Symbols names ds = symbol_names (flat_map (predicate_of names) ds)
 
-symbol_declared : (names : List (List ℕ)) (ds : List Declared) (text : List ℕ) → IsNamed (Symbols names ds) text → IsNamed (map name_of ds) text
+pub symbol_declared : (names : List (List ℕ)) (ds : List Declared) (text : List ℕ) → IsNamed (Symbols names ds) text → IsNamed (map name_of ds) text
 symbol_declared names [] text is = is
 symbol_declared names (a_type n ∷ ds) text is = named_later n (map name_of ds) text (symbol_declared names ds text is)
 symbol_declared names (a_symbol n types ∷ ds) text is = elim (named_cases n (Symbols names ds) text is) [

@@ -21,3 +21,4 @@ pub mod FirstTops
 pub mod FirstTyped
 pub mod FirstBases
 pub mod FirstDepths
+pub mod FirstWordNames

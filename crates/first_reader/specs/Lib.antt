@@ -15,5 +15,6 @@ pub mod FirstNesting
 pub mod FirstFiles
 pub mod FirstBlocks
 pub mod FirstReads
+pub mod FirstWordNames
 pub mod FirstTables
 pub mod FirstPlaces

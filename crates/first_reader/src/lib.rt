@@ -18,6 +18,7 @@ mod elements;
 mod error;
 mod formula;
 mod joins;
+pub mod laws;
 mod names;
 mod places;
 mod rules;
