@@ -6,3 +6,4 @@ mod Ending
 mod Replying
 mod Consulting
 mod Elimination
+mod OneAnswer

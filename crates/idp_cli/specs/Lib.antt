@@ -7,4 +7,5 @@ pub mod Turns
 pub mod Top
 pub mod Printing
 pub mod Laws
+pub mod OneAnswer
 pub mod Codes

@@ -1,5 +1,9 @@
-//! Laws on how a run ends.
+//! Laws on how a run ends, and on what it prints. The functions do nothing else: their contracts are laws.
 ghost use Rattle.idp_cli.specs.Laws.{UsageLaw, CommandLaw, RefusalLaw, TakingLaw, LengthLaw, ShortLaw, DoneLaw};
+ghost use Rattle.idp_cli.specs.OneAnswer.{OneAnswerLaw, ChoicesLaw};
+
+use consult_text::{commands_are_over_the_base, no_two_replies_have_one_text, one_meaning};
+use first_reader::laws::names_are_words;
 
 /// Usage, a refusal, ScriptTooLong and Done come exactly where they should, unless a device failed or memory was wanting.
 pub fn statuses_come_where_they_should()
@@ -11,3 +15,15 @@ pub fn statuses_come_where_they_should()
     ensures short { ShortLaw }
     ensures done { DoneLaw }
 {}
+
+/// The printed bytes determine what was answered: over the knowledge base of a file, two right answers to a line that have one text are
+/// one reply. The choices in force, which an answer may list, are always literals over it.
+pub fn printed_bytes_determine_the_replies()
+    ensures one { OneAnswerLaw }
+    ensures choices { ChoicesLaw }
+{
+    names_are_words();
+    one_meaning();
+    commands_are_over_the_base();
+    no_two_replies_have_one_text();
+}

@@ -13,7 +13,7 @@ mod top;
 
 use edge::{Folder, Reading, Writing};
 use kb_io::NullSink;
-use laws::statuses_come_where_they_should;
+use laws::{printed_bytes_determine_the_replies, statuses_come_where_they_should};
 use status::Status;
 use std::alloc::AllocError;
 use std::env;
@@ -33,6 +33,7 @@ fn words_of(rt: &HostRuntime) -> Result<Vec<String>, AllocError> {
 
 fn main(rt: HostRuntime) -> ExitCode {
     statuses_come_where_they_should();
+    printed_bytes_determine_the_replies();
     let status = match words_of(&rt) {
         Ok(words) => run(
             rt.alloc(),

@@ -1,0 +1,116 @@
+-- The printed bytes determine what was answered.
+use Rattle.std.proofs.Common.{◌≡◌, ℕ, ◌<◌, ◌≤◌, List, [], ◌∷◌, ◌++◌, refl, sym, ap, subst, Bool, true, false, cond, not, filter, length, arith, Option, Some, None, Ok, Err}
+use Rattle.std.specs.List.{AllByRecursion}
+use Rattle.kb_io.specs.Lines.{longest_line}
+use Rattle.kb_logic.specs.declared.elements.Elem.{Elem}
+use Rattle.kb_logic.specs.declared.elements.Elem.TheVariants.{Named, Num}
+use Rattle.kb_logic.specs.declared.structures.Literal.{Literal}
+use Rattle.kb_logic.specs.declared.first.FirstKb.{FirstKb}
+use Rattle.first_reader.specs.FirstWordNames.{IsWordElem, HasWords, NamesAreWords}
+use Rattle.consult_text.specs.declared.commands.Command.{Command}
+use Rattle.consult_text.specs.declared.commands.Command.TheVariants as command
+use Rattle.consult_text.specs.declared.refusals.F.{F}
+use Rattle.consult_text.specs.declared.replies.Reply.{Reply}
+use Rattle.consult_text.specs.declared.replies.Reply.TheVariants as reply
+use Rattle.consult_text.specs.Lines.{IsCommandOver}
+use Rattle.consult_text.specs.Literals.{IsLiteralOver}
+use Rattle.consult_text.specs.Laws.{Meaning, Means, HasOneMeaning, CommandsAreOverTheBase}
+use Rattle.consult_text.specs.OneText.{CanBeWritten, HasWordNames, IsReplyOver, NoTwoRepliesHaveOneText}
+use Rattle.consultant_session.specs.States.{State, first_state, same_literal, command_refusal, carried_out, unless_refused}
+use Rattle.consultant_session.specs.Replies.{RightAnswer, RightUnless}
+use Rattle.idp_cli.specs.Files.{IsConsultable}
+use Rattle.idp_cli.specs.Turns.{reply_of}
+use Rattle.idp_cli.specs.Consultation.{Said, nothing, too_long, refused, replied, IsRightAnswer, state_left, said_text, Consultation}
+use Rattle.idp_cli.specs.OneAnswer.{AreChoicesOver, OneAnswerLaw, ChoicesLaw}
+
+written_elems : (xs : List Elem) → AllByRecursion IsWordElem xs → AllByRecursion CanBeWritten xs
+written_elems [] all = tt
+written_elems (Named w ∷ xs) all = (all.0, written_elems xs all.1)
+written_elems (Num n ∷ xs) all = absurd all.0
+
+written_lists : (xss : List (List Elem)) → AllByRecursion (AllByRecursion IsWordElem) xss → AllByRecursion (AllByRecursion CanBeWritten) xss
+written_lists [] all = tt
+written_lists (xs ∷ xss) all = (written_elems xs all.0, written_lists xss all.1)
+
+word_names : (kb : FirstKb) → HasWords kb → HasWordNames kb
+word_names kb has = record { words = has.symbols; apart = has.apart; elements = written_lists kb.domains has.elements }
+
+-- a right reply is one over the knowledge base
+answer_over : (kb : FirstKb) (s : State) (c : Command) (r : Reply) → AreChoicesOver kb s → RightAnswer kb s c r → IsReplyOver kb r
+answer_over kb s (command.Assert l) r over is = let P : Reply → Type 0 = λ r. IsReplyOver kb r in subst P (sym is) tt
+answer_over kb s (command.Retract l) r over is = let P : Reply → Type 0 = λ r. IsReplyOver kb r in subst P (sym is) tt
+answer_over kb s command.Reset r over is = let P : Reply → Type 0 = λ r. IsReplyOver kb r in subst P (sym is) tt
+answer_over kb s command.Choices r over is = let P : Reply → Type 0 = λ r. IsReplyOver kb r in subst P (sym is) over
+answer_over kb s command.Model reply.Fine over is = absurd is
+answer_over kb s command.Model (reply.Refused f) over is = absurd is
+answer_over kb s command.Model (reply.Choices ls) over is = absurd is
+answer_over kb s command.Model (reply.Model m) over is = (is.model.structure, is.model.domains)
+answer_over kb s command.Model reply.Inconsistent over is = tt
+
+reply_over : (f : Option F) (kb : FirstKb) (s : State) (c : Command) (r : Reply) → AreChoicesOver kb s → RightUnless f kb s c r → IsReplyOver kb r
+reply_over None kb s c r over is = answer_over kb s c r over is
+reply_over (Some f) kb s c r over is = let P : Reply → Type 0 = λ r. IsReplyOver kb r in subst P (sym is) tt
+
+module _ (words : NamesAreWords) (meanings : (kb : FirstKb) (line : List ℕ) → HasOneMeaning kb line) (texts : NoTwoRepliesHaveOneText) where
+  pub one_answer : OneAnswerLaw
+  one_answer bytes kb s line a b file over right right' same = go a b right right' same
+    where
+      one : (x y : Meaning) → Means kb line x → Means kb line y → x ≡ y
+      one = meanings kb line
+
+      go : (a b : Said) → IsRightAnswer kb s line a → IsRightAnswer kb s line b → said_text kb.vocab a ≡ said_text kb.vocab b → reply_of a ≡ reply_of b
+      go nothing nothing right right' same = refl
+      go nothing too_long right right' same = absurd (omega (arith, right.0, right'))
+      go nothing (refused f) right right' same = absurd (let clash : ⊥ = cc (one (Ok None) (Err f) right.1 right'.1) in clash)
+      go nothing (replied c r) right right' same = absurd (let clash : ⊥ = cc (one (Ok None) (Ok (Some c)) right.1 right'.1) in clash)
+      go too_long nothing right right' same = absurd (omega (arith, right, right'.0))
+      go too_long too_long right right' same = refl
+      go too_long (refused f) right right' same = absurd (omega (arith, right, right'.0))
+      go too_long (replied c r) right right' same = absurd (omega (arith, right, right'.0))
+      go (refused f) nothing right right' same = absurd (let clash : ⊥ = cc (one (Err f) (Ok None) right.1 right'.1) in clash)
+      go (refused f) too_long right right' same = absurd (omega (arith, right.0, right'))
+      go (refused f) (refused g) right right' same = let is : f ≡ g = cc (one (Err f) (Err g) right.1 right'.1) in ap (λ (h : F). Some (reply.Refused h)) is
+      go (refused f) (replied c r) right right' same = absurd (let clash : ⊥ = cc (one (Err f) (Ok (Some c)) right.1 right'.1) in clash)
+      go (replied c r) nothing right right' same = absurd (let clash : ⊥ = cc (one (Ok (Some c)) (Ok None) right.1 right'.1) in clash)
+      go (replied c r) too_long right right' same = absurd (omega (arith, right.0, right'))
+      go (replied c r) (refused f) right right' same = absurd (let clash : ⊥ = cc (one (Ok (Some c)) (Err f) right.1 right'.1) in clash)
+      go (replied c r) (replied d q) right right' same =
+          ap (λ (r : Reply). Some r) (texts kb file.read.first (word_names kb (words bytes kb file.read)) r q
+          (reply_over (command_refusal kb s c) kb s c r over right.2) (reply_over (command_refusal kb s d) kb s d q over right'.2) same)
+
+all_append : {T : Type 0} (W : T → Type 0) (xs ys : List T) → AllByRecursion W xs → AllByRecursion W ys → AllByRecursion W (xs ++ ys)
+all_append W [] ys front back = back
+all_append W (x ∷ xs) ys front back = (front.0, all_append W xs ys front.1 back)
+
+all_filter : {T : Type 0} (W : T → Type 0) (passes : T → Bool) (xs : List T) → AllByRecursion W xs → AllByRecursion W (filter passes xs)
+all_filter W passes [] all = tt
+all_filter {T} W passes (x ∷ xs) all =
+    elim (passes x) as (λ (b : Bool). AllByRecursion W (cond b (x ∷ filter passes xs) (filter passes xs)))
+    [ true ↦ (all.0, all_filter W passes xs all.1) | false ↦ all_filter W passes xs all.1 ]
+
+carried_over : (kb : FirstKb) (s : State) (c : Command) → AreChoicesOver kb s → IsCommandOver kb c → AreChoicesOver kb (carried_out s c)
+carried_over kb s (command.Assert l) over is = all_append (IsLiteralOver kb) s.choices (l ∷ []) over (is, tt)
+carried_over kb s (command.Retract l) over is = all_filter (IsLiteralOver kb) (λ c. not (same_literal l c)) s.choices over
+carried_over kb s command.Reset over is = tt
+carried_over kb s command.Choices over is = over
+carried_over kb s command.Model over is = over
+
+unless_over : (kb : FirstKb) (f : Option F) (s t : State) → AreChoicesOver kb s → AreChoicesOver kb t → AreChoicesOver kb (unless_refused f s t)
+unless_over kb None s t before after = after
+unless_over kb (Some f) s t before after = before
+
+module _ (commands : CommandsAreOverTheBase) where
+  left_over : (kb : FirstKb) (s : State) (line : List ℕ) (said : Said) → AreChoicesOver kb s → IsRightAnswer kb s line said → AreChoicesOver kb (state_left kb s said)
+  left_over kb s line nothing over right = over
+  left_over kb s line too_long over right = over
+  left_over kb s line (refused f) over right = over
+  left_over kb s line (replied c r) over right = unless_over kb (command_refusal kb s c) s (carried_out s c) over (carried_over kb s c over (commands kb line c right.1))
+
+  consulted_over : (kb : FirstKb) (s : State) (lines : List (List ℕ)) (said : List Said) (t : State) → AreChoicesOver kb s → Consultation kb s lines said t → AreChoicesOver kb t
+  consulted_over kb s [] [] t over is = let P : State → Type 0 = λ t. AreChoicesOver kb t in subst P (sym is) over
+  consulted_over kb s [] (a ∷ said) t over is = absurd is
+  consulted_over kb s (line ∷ lines) [] t over is = absurd is
+  consulted_over kb s (line ∷ lines) (a ∷ said) t over is = consulted_over kb (state_left kb s a) lines said t (left_over kb s line a over is.0) is.1
+
+  pub choices_over : ChoicesLaw
+  choices_over kb lines said t is = consulted_over kb first_state lines said t tt is

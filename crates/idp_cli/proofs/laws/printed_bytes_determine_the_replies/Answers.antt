@@ -1,0 +1,8 @@
+use Rattle.idp_cli.proofs.OneAnswer.{one_answer, choices_over}
+use Rattle.idp_cli.proofs.laws.printed_bytes_determine_the_replies.Goals as goal
+
+pub returns : goal.returns
+returns c = record {
+  one = one_answer c.names_are_words.ensures c.one_meaning.ensures c.no_two_replies_have_one_text.ensures;
+  choices = choices_over c.commands_are_over_the_base.ensures;
+}
