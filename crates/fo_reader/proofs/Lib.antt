@@ -16,3 +16,4 @@ pub mod BlockFormats
 pub mod StructureFormats
 pub mod FormulaFormats
 pub mod TheoryFormats
+pub mod EarliestLaws

@@ -16,3 +16,13 @@ pub mod BlockSpelling
 pub mod BlockFine
 pub mod BlockView
 pub mod BlockParts
+pub mod Earliest
+pub mod Scopes
+pub mod Files
+pub mod NamedTrees
+pub mod Names
+pub mod Uses
+pub mod NamesStage
+pub mod Numbering
+pub mod FileView
+pub mod BlocksStage
