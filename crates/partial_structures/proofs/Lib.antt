@@ -27,3 +27,4 @@ pub mod Consistent
 pub mod Plain
 pub mod Certain
 pub mod ElementLemmas
+pub mod Worked

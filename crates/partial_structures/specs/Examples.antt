@@ -4,12 +4,14 @@ use Rattle.kb_logic.specs.declared.elements.Elem.{Elem}
 use Rattle.kb_logic.specs.declared.elements.Elem.TheVariants.{Named, Num}
 use Rattle.kb_logic.specs.declared.vocabularies.Bound.{Bound}
 use Rattle.kb_logic.specs.declared.vocabularies.Symbol.{Symbol}
+use Rattle.kb_logic.specs.declared.structures.Structure.{Structure}
 use Rattle.kb_logic.specs.declared.syntax.Cmp.TheVariants as cmp
 use Rattle.kb_logic.specs.declared.syntax.AggKind.TheVariants as kind
 use Rattle.kb_logic.specs.Trees.{TermTree, variable, integer, constructed, application, summation, product, aggregate, no_terms, more_terms, no_summands, more_summands, FormulaTree, verum, falsum, atom, comparison, negation, conjunction, disjunction, implication, equivalence, universal, existential, numbered, no_formulas, more_formulas}
 use Rattle.kb_logic.specs.Denotations.{Denotation, named, number, plus_infinity}
 use Rattle.kb_logic.specs.Models.{GroundAtom}
-use Rattle.partial_structures.specs.KnownAtoms.{KnownAtoms}
+use Rattle.partial_structures.specs.KnownAtoms.{KnownAtoms, value_at}
+use Rattle.partial_structures.specs.Extension.{ExtendsData}
 use Rattle.partial_structures.specs.Certainty.{known_value, certain_truth}
 use Rattle.partial_structures.specs.declared.truths.Truth.{Truth}
 use Rattle.partial_structures.specs.declared.truths.Truth.TheVariants.{Yes, No, Unknown}
@@ -163,5 +165,35 @@ Terms =
     × (value (aggregate kind.Min (over 2) verum x) ≡ Some plus_infinity)
     × (certain (universal (over 0) (comparison cmp.Eq (aggregate kind.Count (over 0) (comparison cmp.Eq (color y) is_red) (integer (pos 1))) (integer (pos 1)))) ≡ Yes)
 
+-- what is known of atoms: a function's other values are false with its value
+abbrev pub Values : Type 0
+Values =
+    (value_at sample (holds 0 (b ∷ f ∷ []) None) ≡ Yes)
+    × (value_at sample (holds 0 (f ∷ f ∷ []) None) ≡ Unknown)
+    × (value_at sample (holds 1 (b ∷ []) (Some green)) ≡ No)
+    × (value_at sample (holds 1 (f ∷ []) (Some green)) ≡ Unknown)
+
+-- a structure with these borders and these colors at b and f
+abbrev with : List (List Elem) → Elem → Elem → Structure
+with borders at_b' at_f' = record {
+  domains = sample.domains;
+  relations = record { symbol = 0; rows = borders } ∷ record { symbol = 2; rows = [] ∷ [] } ∷ [];
+  functions =
+      record { symbol = 1; rows = (b ∷ at_b' ∷ []) ∷ (f ∷ at_f' ∷ []) ∷ [] }
+      ∷ record { symbol = 3; rows = (b ∷ Num (pos 2) ∷ []) ∷ (f ∷ Num (pos 1) ∷ []) ∷ [] }
+      ∷ record { symbol = 4; rows = (b ∷ []) ∷ [] }
+      ∷ [];
+}
+
+-- a structure extends the data with what is unknown either way, and not where it lacks a true atom or has a false one
+abbrev pub Extensions : Type 0
+Extensions =
+    ExtendsData (with ((b ∷ f ∷ []) ∷ []) red green) sample
+    × ExtendsData (with ((b ∷ b ∷ []) ∷ (b ∷ f ∷ []) ∷ []) red green) sample
+    × (ExtendsData (with ((b ∷ b ∷ []) ∷ []) red green) sample → ⊥)
+    × (ExtendsData (with ((b ∷ f ∷ []) ∷ (f ∷ b ∷ []) ∷ []) red green) sample → ⊥)
+    × (ExtendsData (with ((b ∷ f ∷ []) ∷ []) green green) sample → ⊥)
+    × (ExtendsData (with ((b ∷ f ∷ []) ∷ []) red red) sample → ⊥)
+
 abbrev pub WorkedExamples : Type 0
-WorkedExamples = Atoms × Connectives × Comparisons × Quantifiers × Terms
+WorkedExamples = Atoms × Connectives × Comparisons × Quantifiers × Terms × Values × Extensions

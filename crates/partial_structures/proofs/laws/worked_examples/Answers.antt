@@ -1,4 +1,5 @@
 use Rattle.std.proofs.Common.{refl}
+use Rattle.partial_structures.proofs.Worked.{extensions}
 use Rattle.partial_structures.proofs.laws.worked_examples.Goals as goal
 
 pub returns : goal.returns
@@ -8,4 +9,6 @@ returns c = (
   (refl, refl, refl, refl, refl, refl, refl, refl, refl, refl, refl),
   (refl, refl, refl, refl, refl, refl, refl, refl, refl, refl, refl),
   (refl, refl, refl, refl, refl, refl, refl, refl, refl, refl),
+  (refl, refl, refl, refl),
+  extensions,
 )
