@@ -9,8 +9,9 @@ use Rattle.fo_reader.specs.Terminals.{Symbol, Tok, tok_at, word}
 use Rattle.fo_reader.specs.Trees.{Name, name}
 use Rattle.fo_reader.specs.BlockTrees.{Names, names, Positions, positions, Declaration, type_of, constructed, symbol, Vocabulary, vocabulary}
 use Rattle.fo_reader.specs.BlockSpelling.{put_names, put_positions, from, put_separated, put_declaration, put_vocabulary}
-use Rattle.fo_reader.specs.BlockParts.{next, Anything, No, Is, AWord, EndsDeclaration}
-use Rattle.fo_reader.proofs.Formats.{Format, Law, Into, Apart, sign_format, sign_law, name_format, name_law, then, then_law, option, Optional, option_law, each, Several, each_law, either, Alternatives, either_law, Same, same_law, whole_each, whole_option, behind, behind_law, optional_behind, several_behind}
+use Rattle.fo_reader.specs.BlockParts.{next, Anything, No, Is, AWord, EndsDeclaration, EndsArguments}
+use Rattle.fo_reader.proofs.Formats.{Format, Into, Apart, sign_format, name_format}
+use Rattle.fo_reader.proofs.Plain.{Law, sign_law, name_law, then, then_law, option, Optional, option_law, each, Several, each_law, either, Alternatives, either_law, Same, same_law, behind, behind_law, optional_behind, several_behind}
 
 pub word_no : (s : Option Symbol) → AWord s → (t : Terminal) → No t s
 word_no s w t e = subst AWord e w
@@ -29,9 +30,6 @@ names_parts = then name_format name_tails
 abbrev pub names_format : Format Names
 names_format = record { put = put_names; Fine = λ x. Unit {0}; First = AWord; Next = No t.Comma }
 
-names_fine : (x : Name × List (ℕ × Name)) → names_parts.Fine x
-names_fine x = (tt, whole_each (λ y. (tt, tt)) x.1)
-
 abbrev names_to : Names → Name × List (ℕ × Name)
 names_to (names n ns) = (n, ns)
 
@@ -48,14 +46,15 @@ names_same = record {
   there = names_there;
   written = names_written;
   back = λ b ts. refl;
-  fine = λ a h. names_fine (names_to a);
-  fine_back = λ b h. tt;
   ends = λ s h. h;
   begins = λ s h. h;
 }
 
+pub names_parts_law : Law names_parts
+names_parts_law = then_law name_law (each_law name_tails_several) (λ s h. tt)
+
 pub names_law : Law names_format
-names_law = same_law names_same (then_law name_law (each_law name_tails_several) (λ s h. tt))
+names_law = same_law names_same names_parts_law
 
 -- behind the opening bracket
 abbrev pub inner_positions : Format (Option Names × ℕ)
@@ -86,8 +85,6 @@ positions_same = record {
   there = positions_there;
   written = positions_written;
   back = λ b ts. refl;
-  fine = λ a h. (tt, (whole_option (λ y. tt) (positions_to a).1.0, tt));
-  fine_back = λ b h. tt;
   ends = λ s h. h;
   begins = λ s h. h;
 }
@@ -95,34 +92,34 @@ positions_same = record {
 pub positions_law : Law positions_format
 positions_law = same_law positions_same (behind_law t.Open inner_positions_law)
 
--- neither arguments nor a result come
-abbrev pub EndsSymbol : Option Symbol → Type 0
-EndsSymbol s = No t.Open s × No t.Colon s
-
 abbrev pub result_format : Format (Option (ℕ × Name))
-result_format = option (behind t.Colon name_format) EndsSymbol
+result_format = option (behind t.Colon name_format) EndsDeclaration
 
-pub result_optional : Optional (behind t.Colon name_format) EndsSymbol
-result_optional = optional_behind t.Colon name_law (λ s h. tt) (λ s h. h.1)
+colon_apart : Into EndsDeclaration (No t.Colon)
+colon_apart s (inl e) f = cc
+colon_apart s (inr (inl e)) f = cc
+colon_apart s (inr (inr w)) f = word_no s w t.Colon f
+
+pub result_optional : Optional (behind t.Colon name_format) EndsDeclaration
+result_optional = optional_behind t.Colon name_law (λ s h. tt) colon_apart
 
 abbrev pub arguments_format : Format (Option Positions)
-arguments_format = option positions_format (No t.Open)
+arguments_format = option positions_format EndsArguments
 
-pub arguments_optional : Optional positions_format (No t.Open)
-arguments_optional = record { law = positions_law; ends = λ s h. tt; apart = λ s h e. h e }
+arguments_apart : Apart EndsArguments (Is t.Open)
+arguments_apart s (inl e) f = cc
+arguments_apart s (inr (inl e)) f = cc
+arguments_apart s (inr (inr (inl e))) f = cc
+arguments_apart s (inr (inr (inr w))) f = word_no s w t.Open f
 
-result_into : Into (λ s. Is t.Colon s ⊎ EndsSymbol s) (No t.Open)
-result_into s (inl e) f = cc
-result_into s (inr h) f = h.0 f
+pub arguments_optional : Optional positions_format EndsArguments
+arguments_optional = record { law = positions_law; ends = λ s h. tt; apart = arguments_apart }
 
 abbrev pub symbol_tail : Format (Option Positions × Option (ℕ × Name))
 symbol_tail = then arguments_format result_format
 
-pub symbol_tail_into : Into result_format.First arguments_format.Next
-symbol_tail_into = result_into
-
 pub symbol_tail_law : Law symbol_tail
-symbol_tail_law = then_law (option_law arguments_optional) (option_law result_optional) result_into
+symbol_tail_law = then_law (option_law arguments_optional) (option_law result_optional) (λ s h. h)
 
 abbrev pub symbol_parts : Format (Name × (Option Positions × Option (ℕ × Name)))
 symbol_parts = then name_format symbol_tail
@@ -136,11 +133,14 @@ from_format = record { put = λ p ts. tok_at (word from) p ∷ ts; Fine = λ p. 
 
 pub from_law : Law from_format
 from_law = record {
-  some = 0;
-  some_fine = tt;
-  appends = λ a x y. refl;
-  first = λ a ts h n. refl;
-  only = λ a b m n h k z w e. (cc, cc);
+  law = record {
+    some = 0;
+    some_fine = tt;
+    appends = λ a x y. refl;
+    first = λ a ts h n. refl;
+    only = λ a b m n h k z w e. (cc, cc);
+  };
+  total = λ a. tt;
 }
 
 -- a further name of a constructed type
@@ -165,11 +165,14 @@ separated_only (sep.Semicolon, p, name w q) (sep.Semicolon, i, name v j) m n e =
 
 pub separated_law : Law separated_format
 separated_law = record {
-  some = (sep.Comma, 0, name [] 0);
-  some_fine = tt;
-  appends = separated_appends;
-  first = λ a ts h n. separated_first a ts;
-  only = λ a b m n h k z w e. separated_only a b m n e;
+  law = record {
+    some = (sep.Comma, 0, name [] 0);
+    some_fine = tt;
+    appends = separated_appends;
+    first = λ a ts h n. separated_first a ts;
+    only = λ a b m n h k z w e. separated_only a b m n e;
+  };
+  total = λ a. tt;
 }
 
 separated_apart : Apart (Is t.CloseBrace) Separates
@@ -219,24 +222,27 @@ construction = behind (t.Outer o.Constructed) from_names
 pub construction_law : Law construction
 construction_law = behind_law (t.Outer o.Constructed) from_names_law
 
--- neither isa nor constructed comes
-abbrev pub EndsType : Option Symbol → Type 0
-EndsType s = No (t.Outer o.Isa) s × No (t.Outer o.Constructed) s
-
 abbrev pub isa_format : Format (Option (ℕ × Name))
-isa_format = option (behind (t.Outer o.Isa) name_format) EndsType
+isa_format = option (behind (t.Outer o.Isa) name_format) EndsDeclaration
 
-pub isa_optional : Optional (behind (t.Outer o.Isa) name_format) EndsType
-isa_optional = optional_behind (t.Outer o.Isa) name_law (λ s h. tt) (λ s h. h.0)
+isa_apart : Into EndsDeclaration (No (t.Outer o.Isa))
+isa_apart s (inl e) f = cc
+isa_apart s (inr (inl e)) f = cc
+isa_apart s (inr (inr w)) f = word_no s w (t.Outer o.Isa) f
+
+pub isa_optional : Optional (behind (t.Outer o.Isa) name_format) EndsDeclaration
+isa_optional = optional_behind (t.Outer o.Isa) name_law (λ s h. tt) isa_apart
 
 abbrev pub type_tail : Format (Construction ⊎ Option (ℕ × Name))
-type_tail = either construction isa_format EndsType
+type_tail = either construction isa_format EndsDeclaration
 
-type_apart : Apart (Is (t.Outer o.Constructed)) (λ s. Is (t.Outer o.Isa) s ⊎ EndsType s)
+type_apart : Apart (Is (t.Outer o.Constructed)) (λ s. Is (t.Outer o.Isa) s ⊎ EndsDeclaration s)
 type_apart s e (inl f) = cc
-type_apart s e (inr h) = h.1 e
+type_apart s e (inr (inl f)) = cc
+type_apart s e (inr (inr (inl f))) = cc
+type_apart s e (inr (inr (inr w))) = word_no s w (t.Outer o.Constructed) e
 
-pub type_alternatives : Alternatives construction isa_format EndsType
+pub type_alternatives : Alternatives construction isa_format EndsDeclaration
 type_alternatives = record { left = construction_law; right = option_law isa_optional; apart = type_apart; ends_left = λ s h. tt; ends_right = λ s h. h }
 
 pub type_tail_law : Law type_tail
@@ -254,16 +260,6 @@ type_parts = behind (t.Outer o.Type) named_type
 pub type_parts_law : Law type_parts
 type_parts_law = behind_law (t.Outer o.Type) named_type_law
 
-pub ends_type : Into EndsDeclaration EndsType
-ends_type s (inl e) = ((λ (f : Is (t.Outer o.Isa) s). cc), (λ (f : Is (t.Outer o.Constructed) s). cc))
-ends_type s (inr (inl e)) = ((λ (f : Is (t.Outer o.Isa) s). cc), (λ (f : Is (t.Outer o.Constructed) s). cc))
-ends_type s (inr (inr w)) = (word_no s w (t.Outer o.Isa), word_no s w (t.Outer o.Constructed))
-
-pub ends_symbol : Into EndsDeclaration EndsSymbol
-ends_symbol s (inl e) = ((λ (f : Is t.Open s). cc), (λ (f : Is t.Colon s). cc))
-ends_symbol s (inr (inl e)) = ((λ (f : Is t.Open s). cc), (λ (f : Is t.Colon s). cc))
-ends_symbol s (inr (inr w)) = (word_no s w t.Open, word_no s w t.Colon)
-
 abbrev pub SymbolParts : Type 0
 SymbolParts = Name × (Option Positions × Option (ℕ × Name))
 
@@ -274,7 +270,7 @@ abbrev pub declaration_parts : Format (TypeParts ⊎ SymbolParts)
 declaration_parts = either type_parts symbol_parts EndsDeclaration
 
 pub declaration_alternatives : Alternatives type_parts symbol_parts EndsDeclaration
-declaration_alternatives = record { left = type_parts_law; right = symbol_parts_law; apart = λ s e w. word_no s w (t.Outer o.Type) e; ends_left = ends_type; ends_right = ends_symbol }
+declaration_alternatives = record { left = type_parts_law; right = symbol_parts_law; apart = λ s e w. word_no s w (t.Outer o.Type) e; ends_left = λ s h. h; ends_right = λ s h. h }
 
 abbrev pub BeginsDeclaration : Option Symbol → Type 0
 BeginsDeclaration s = Is (t.Outer o.Type) s ⊎ AWord s
@@ -307,11 +303,6 @@ declaration_back (inl (p, (n, inr i))) ts = refl
 declaration_back (inl (p, (n, inl (c, (f, (b, (m, (ms, e)))))))) ts = refl
 declaration_back (inr (n, (ps, r))) ts = refl
 
-declaration_fine : (x : TypeParts ⊎ SymbolParts) → declaration_parts.Fine x
-declaration_fine (inl (p, (n, inr i))) = (tt, (tt, whole_option (λ y. (tt, tt)) i))
-declaration_fine (inl (p, (n, inl (c, (f, (b, (m, (ms, e)))))))) = (tt, (tt, (tt, (tt, (tt, (tt, (whole_each (λ y. tt) ms, tt)))))))
-declaration_fine (inr (n, (ps, r))) = (tt, (whole_option (λ y. tt) ps, whole_option (λ y. (tt, tt)) r))
-
 pub declaration_same : Same declaration_format declaration_parts
 declaration_same = record {
   to = declaration_to;
@@ -319,14 +310,15 @@ declaration_same = record {
   there = declaration_there;
   written = declaration_written;
   back = declaration_back;
-  fine = λ a h. declaration_fine (declaration_to a);
-  fine_back = λ b h. tt;
   ends = λ s h. h;
   begins = λ s h. h;
 }
 
+pub declaration_parts_law : Law declaration_parts
+declaration_parts_law = either_law declaration_alternatives
+
 pub declaration_law : Law declaration_format
-declaration_law = same_law declaration_same (either_law declaration_alternatives)
+declaration_law = same_law declaration_same declaration_parts_law
 
 declaration_apart : Apart (Is t.CloseBrace) BeginsDeclaration
 declaration_apart s e (inl f) = cc
@@ -378,8 +370,6 @@ vocabulary_same = record {
   there = vocabulary_there;
   written = vocabulary_written;
   back = λ b ts. refl;
-  fine = λ a h. (tt, (tt, (tt, (whole_each (λ y. tt) (vocabulary_to a).1.1.1.0, tt))));
-  fine_back = λ b h. tt;
   ends = λ s h. h;
   begins = λ s h. h;
 }

@@ -260,6 +260,15 @@ each_in {A} {F} {N} o xs fine_xs ts us rest is may never h = record {
       (xs ++ v.0 ∷ [], v.1, push_fine F xs v.0 fine_xs v.2, sym (each_appends o.law xs h.front v.1) ∙ ap (put_each F.put xs) v.3 ∙ sym (push_put F xs v.0 after));
 }
 
+-- stuck in the first item
+pub each_here : {A : Type 0} {F : Format A} {N : Option Symbol → Type 0} → Several F N → (ts rest : List Tok) → (N (next ts) → ⊥) → Here F ts rest → Here (each F N) ts rest
+each_here o ts rest never h = record {
+  front = h.front;
+  split = h.split;
+  dead = each_dead o ts rest never h;
+  viable = λ after. let v = h.viable after in (v.0 ∷ [], v.1, (v.2, tt), v.3);
+}
+
 -- one item more
 pub each_step : {A : Type 0} (F : Format A) (xs : List A) (a : A) (ts us last : List Tok) → ts ≡ put_each F.put xs us → us ≡ F.put a last → ts ≡ put_each F.put (xs ++ a ∷ []) last
 each_step F xs a ts us last is e = is ∙ ap (put_each F.put xs) e ∙ sym (push_put F xs a last)

@@ -12,6 +12,9 @@ pub mod InFactors
 pub mod InOperands
 pub mod InChains
 pub mod Formats
+pub mod Plain
+pub mod BlockReadings
+pub mod InVocabulary
 pub mod BlockFormats
 pub mod StructureFormats
 pub mod FormulaFormats

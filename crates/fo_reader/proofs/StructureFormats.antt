@@ -8,10 +8,11 @@ use Rattle.fo_reader.specs.declared.terminal.Comparison.TheVariants as cmp
 use Rattle.fo_reader.specs.Terminals.{Symbol, Tok, mark, word, sign}
 use Rattle.fo_reader.specs.Trees.{Name, name}
 use Rattle.fo_reader.specs.BlockTrees.{Header, header, Element, named, number, below_zero, RowItem, item, RowItems, items, Row, plain, bracketed, only, Rows, rows, Value, truth_value, element_value, table, Mark, closed_mark, open_mark, Entry, entry, Structure, structure}
-use Rattle.fo_reader.specs.BlockSpelling.{put_option, put_each, put_behind, put_sign, put_header, put_element, put_item, put_items, put_row, put_rows, put_value, put_equal, put_entry, put_structure}
-use Rattle.fo_reader.specs.BlockFine.{FineEach}
-use Rattle.fo_reader.specs.BlockParts.{next, Anything, No, Is, AWord}
-use Rattle.fo_reader.proofs.Formats.{Format, Law, Into, Apart, sign_format, sign_law, name_format, name_law, then, then_law, option, Optional, option_law, each, Several, each_law, either, Alternatives, either_law, Same, same_law, narrowed, narrowed_law, whole_each, whole_option, behind, behind_law, optional_behind, several_behind}
+use Rattle.fo_reader.specs.BlockSpelling.{put_option, put_each, put_sign, put_header, put_element, put_item, put_items, put_row, put_rows, put_value, put_equal, put_entry, put_structure}
+use Rattle.fo_reader.specs.BlockReads.{put_row_tails}
+use Rattle.fo_reader.specs.BlockParts.{next, Anything, No, Is, AWord, EndsRow, EndsItems, EndsItem}
+use Rattle.fo_reader.proofs.Formats.{Format, Into, Apart, sign_format, name_format, narrowed}
+use Rattle.fo_reader.proofs.Plain.{Law, sign_law, name_law, then, then_law, option, Optional, option_law, each, Several, each_law, either, Alternatives, either_law, Same, same_law, narrowed_law, behind, behind_law, optional_behind, several_behind}
 use Rattle.fo_reader.proofs.BlockFormats.{word_no}
 
 -- ---- elements
@@ -49,26 +50,36 @@ element_only (below_zero p i r) (below_zero q j s) m n e = (cc, cc)
 
 pub element_law : Law element_format
 element_law = record {
-  some = named (name [] 0);
-  some_fine = tt;
-  appends = element_appends;
-  first = λ a ts h n. element_first a ts;
-  only = λ a b m n h k z w e. element_only a b m n e;
+  law = record {
+    some = named (name [] 0);
+    some_fine = tt;
+    appends = element_appends;
+    first = λ a ts h n. element_first a ts;
+    only = λ a b m n h k z w e. element_only a b m n e;
+  };
+  total = λ a. tt;
 }
 
 -- ---- items
 
 abbrev pub range_format : Format (Option (ℕ × Element))
-range_format = option (behind (t.Outer o.Range) element_format) (No (t.Outer o.Range))
+range_format = option (behind (t.Outer o.Range) element_format) EndsItem
 
-pub range_optional : Optional (behind (t.Outer o.Range) element_format) (No (t.Outer o.Range))
-range_optional = optional_behind (t.Outer o.Range) element_law (λ s h. tt) (λ s h. h)
+range_apart : Into EndsItem (No (t.Outer o.Range))
+range_apart s (inl e) f = cc
+range_apart s (inr (inl e)) f = cc
+range_apart s (inr (inr (inl e))) f = cc
+range_apart s (inr (inr (inr (inl e)))) f = cc
+range_apart s (inr (inr (inr (inr e)))) f = cc
+
+pub range_optional : Optional (behind (t.Outer o.Range) element_format) EndsItem
+range_optional = optional_behind (t.Outer o.Range) element_law (λ s h. tt) range_apart
 
 abbrev pub item_parts : Format (Element × Option (ℕ × Element))
 item_parts = then element_format range_format
 
 abbrev pub item_format : Format RowItem
-item_format = record { put = put_item; Fine = λ x. Unit {0}; First = BeginsElement; Next = No (t.Outer o.Range) }
+item_format = record { put = put_item; Fine = λ x. Unit {0}; First = BeginsElement; Next = EndsItem }
 
 abbrev item_to : RowItem → Element × Option (ℕ × Element)
 item_to (item e r) = (e, r)
@@ -86,37 +97,30 @@ item_same = record {
   there = item_there;
   written = item_written;
   back = λ b ts. refl;
-  fine = λ a h. (tt, whole_option (λ y. (tt, tt)) (item_to a).1);
-  fine_back = λ b h. tt;
   ends = λ s h. h;
   begins = λ s h. h;
 }
 
+pub item_parts_law : Law item_parts
+item_parts_law = then_law element_law (option_law range_optional) (λ s h. tt)
+
 pub item_law : Law item_format
-item_law = same_law item_same (then_law element_law (option_law range_optional) (λ s h. tt))
-
--- neither a comma nor a range comes
-abbrev pub EndsItems : Option Symbol → Type 0
-EndsItems s = No t.Comma s × No (t.Outer o.Range) s
-
-comma_no_range : No (t.Outer o.Range) (Some (mark t.Comma))
-comma_no_range e = cc
+item_law = same_law item_same item_parts_law
 
 abbrev pub item_tails : Format (List (ℕ × RowItem))
 item_tails = each (behind t.Comma item_format) EndsItems
 
-pub item_tails_several : Several (behind t.Comma item_format) EndsItems
-item_tails_several = several_behind t.Comma item_law (λ s h. h.1) (λ s h. h.0) comma_no_range
+items_no_comma : Into EndsItems (No t.Comma)
+items_no_comma s (inl e) f = cc
+items_no_comma s (inr (inl e)) f = cc
+items_no_comma s (inr (inr (inl e))) f = cc
+items_no_comma s (inr (inr (inr e))) f = cc
 
-tails_into : Into (λ s. Is t.Comma s ⊎ EndsItems s) (No (t.Outer o.Range))
-tails_into s (inl e) f = cc
-tails_into s (inr h) f = h.1 f
+pub item_tails_several : Several (behind t.Comma item_format) EndsItems
+item_tails_several = several_behind t.Comma item_law (λ s h. inr h) items_no_comma (inl refl)
 
 abbrev pub items_parts : Format (RowItem × List (ℕ × RowItem))
 items_parts = then item_format item_tails
-
-pub items_into : Into item_tails.First item_format.Next
-items_into = tails_into
 
 abbrev pub items_format : Format RowItems
 items_format = record { put = put_items; Fine = λ x. Unit {0}; First = BeginsElement; Next = EndsItems }
@@ -137,20 +141,17 @@ items_same = record {
   there = items_there;
   written = items_written;
   back = λ b ts. refl;
-  fine = λ a h. (tt, whole_each (λ y. (tt, tt)) (items_to a).1);
-  fine_back = λ b h. tt;
   ends = λ s h. h;
   begins = λ s h. h;
 }
 
+pub items_parts_law : Law items_parts
+items_parts_law = then_law item_law (each_law item_tails_several) (λ s h. h)
+
 pub items_law : Law items_format
-items_law = same_law items_same (then_law item_law (each_law item_tails_several) tails_into)
+items_law = same_law items_same items_parts_law
 
 -- ---- rows
-
--- what may come behind a row
-abbrev pub EndsRow : Option Symbol → Type 0
-EndsRow s = Is (t.Outer o.Semicolon) s ⊎ Is t.CloseBrace s
 
 abbrev pub to_format : Format (ℕ × Element)
 to_format = behind (t.Outer o.To) element_format
@@ -162,22 +163,11 @@ row_no : (s : Option Symbol) → EndsRow s → No (t.Outer o.To) s
 row_no s (inl e) f = cc
 row_no s (inr e) f = cc
 
-pub row_ends_items : Into EndsRow EndsItems
-row_ends_items s (inl e) = ((λ (f : Is t.Comma s). cc), (λ (f : Is (t.Outer o.Range) s). cc))
-row_ends_items s (inr e) = ((λ (f : Is t.Comma s). cc), (λ (f : Is (t.Outer o.Range) s). cc))
-
 abbrev pub arrow_format : Format (Option (ℕ × Element))
 arrow_format = option to_format EndsRow
 
 pub arrow_optional : Optional to_format EndsRow
 arrow_optional = optional_behind (t.Outer o.To) element_law (λ s h. tt) row_no
-
-arrow_into_items : Into (λ s. Is (t.Outer o.To) s ⊎ EndsRow s) EndsItems
-arrow_into_items s (inl e) = ((λ (f : Is t.Comma s). cc), (λ (f : Is (t.Outer o.Range) s). cc))
-arrow_into_items s (inr h) = row_ends_items s h
-
-pub arrow_into : Into arrow_format.First EndsItems
-arrow_into = arrow_into_items
 
 abbrev pub Arrowed : Type 0
 Arrowed = Option (ℕ × Element)
@@ -186,7 +176,7 @@ abbrev pub plain_parts : Format (RowItems × Arrowed)
 plain_parts = then items_format arrow_format
 
 pub plain_law : Law plain_parts
-plain_law = then_law items_law (option_law arrow_optional) arrow_into_items
+plain_law = then_law items_law (option_law arrow_optional) (λ s h. inr h)
 
 -- behind the items of a row in brackets
 abbrev pub closed_arrow : Format (ℕ × Arrowed)
@@ -195,17 +185,11 @@ closed_arrow = behind t.Close arrow_format
 pub closed_arrow_law : Law closed_arrow
 closed_arrow_law = behind_law t.Close (option_law arrow_optional)
 
-close_ends_items : Into (Is t.Close) EndsItems
-close_ends_items s e = ((λ (f : Is t.Comma s). cc), (λ (f : Is (t.Outer o.Range) s). cc))
-
-pub close_into : Into (Is t.Close) EndsItems
-close_into = close_ends_items
-
 abbrev pub inner_row : Format (RowItems × (ℕ × Arrowed))
 inner_row = then items_format closed_arrow
 
 pub inner_row_law : Law inner_row
-inner_row_law = then_law items_law closed_arrow_law close_ends_items
+inner_row_law = then_law items_law closed_arrow_law (λ s h. inl h)
 
 abbrev pub bracketed_parts : Format (ℕ × (RowItems × (ℕ × Arrowed)))
 bracketed_parts = behind t.Open inner_row
@@ -275,11 +259,6 @@ row_back (inl (is, r)) ts = refl
 row_back (inr (inl (p, (is, (q, r))))) ts = refl
 row_back (inr (inr r)) ts = refl
 
-row_fine : (x : RowParts) → row_parts.Fine x
-row_fine (inl (is, r)) = (tt, whole_option (λ y. (tt, tt)) r)
-row_fine (inr (inl (p, (is, (q, r))))) = (tt, (tt, (tt, whole_option (λ y. (tt, tt)) r)))
-row_fine (inr (inr r)) = (tt, tt)
-
 pub row_same : Same row_format row_parts
 row_same = record {
   to = row_to;
@@ -287,14 +266,15 @@ row_same = record {
   there = row_there;
   written = row_written;
   back = row_back;
-  fine = λ a h. row_fine (row_to a);
-  fine_back = λ b h. tt;
   ends = λ s h. h;
   begins = λ s h. h;
 }
 
+pub row_parts_law : Law row_parts
+row_parts_law = either_law row_alternatives
+
 pub row_law : Law row_format
-row_law = same_law row_same (either_law row_alternatives)
+row_law = same_law row_same row_parts_law
 
 -- ---- rows between semicolons: each semicolon has a row behind it, but the last one may stand alone
 
@@ -321,9 +301,6 @@ row_tails_several = several_behind (t.Outer o.Semicolon) (option_law row_optiona
 abbrev pub RowTails : Type 0
 RowTails = List (ℕ × Row) × Option ℕ
 
-abbrev pub put_row_tails : RowTails → List Tok → List Tok
-put_row_tails x ts = put_each (put_behind (t.Outer o.Semicolon) put_row) x.0 (put_option (put_sign (t.Outer o.Semicolon)) x.1 ts)
-
 abbrev pub with_row : ℕ × Row → ℕ × Option Row
 with_row x = (x.0, Some x.1)
 
@@ -342,9 +319,6 @@ lone_written (Some p) ts = refl
 pub tails_written : (xs : List (ℕ × Row)) (l : Option ℕ) (ts : List Tok) → put_row_tails (xs, l) ts ≡ put_each row_tail.put (tails_to xs l) ts
 tails_written [] l ts = lone_written l ts
 tails_written (x ∷ xs) l ts = ap (λ (us : List Tok). sign (t.Outer o.Semicolon) x.0 ∷ put_row x.1 us) (tails_written xs l ts)
-
-pub tails_fine : (zs : List (ℕ × Option Row)) → FineEach row_tail.Fine zs
-tails_fine zs = whole_each (λ z. (tt, whole_option (λ y. tt) z.1)) zs
 
 abbrev pub head_place : List (ℕ × Option Row) → ℕ
 head_place [] = 0
@@ -378,7 +352,7 @@ abbrev pub row_tails : Format RowTails
 row_tails = record { put = put_row_tails; Fine = λ x. Unit {0}; First = EndsRow; Next = Is t.CloseBrace }
 
 tails_appends : (a : RowTails) (x y : List Tok) → put_row_tails a (x ++ y) ≡ put_row_tails a x ++ y
-tails_appends (rs, l) x y = tails_written rs l (x ++ y) ∙ (each_law row_tails_several).appends (tails_to rs l) x y ∙ ap (λ (ts : List Tok). ts ++ y) (sym (tails_written rs l x))
+tails_appends (rs, l) x y = tails_written rs l (x ++ y) ∙ (each_law row_tails_several).law.appends (tails_to rs l) x y ∙ ap (λ (ts : List Tok). ts ++ y) (sym (tails_written rs l x))
 
 tails_first : (a : RowTails) (ts : List Tok) → Is t.CloseBrace (next ts) → EndsRow (next (put_row_tails a ts))
 tails_first ([], None) ts n = inr n
@@ -387,17 +361,20 @@ tails_first (x ∷ xs, l) ts n = inl refl
 
 tails_law_only : (a b : RowTails) (m n : List Tok) → Is t.CloseBrace (next m) → Is t.CloseBrace (next n) → put_row_tails a m ≡ put_row_tails b n → (a ≡ b) × (m ≡ n)
 tails_law_only (xs, l) (ys, k) m n z w e =
-    let r = (each_law row_tails_several).only (tails_to xs l) (tails_to ys k) m n (tails_fine (tails_to xs l)) (tails_fine (tails_to ys k)) z w (sym (tails_written xs l m) ∙ e ∙ tails_written ys k n) in
+    let r = (each_law row_tails_several).law.only (tails_to xs l) (tails_to ys k) m n tt tt z w (sym (tails_written xs l m) ∙ e ∙ tails_written ys k n) in
     let f = tails_only xs ys l k r.0 in
     (ap₂ (λ (a : List (ℕ × Row)) (b : Option ℕ). (a, b)) f.0 f.1, r.1)
 
 pub row_tails_law : Law row_tails
 row_tails_law = record {
-  some = ([], None);
-  some_fine = tt;
-  appends = tails_appends;
-  first = λ a ts h n. tails_first a ts n;
-  only = λ a b m n h k z w e. tails_law_only a b m n z w e;
+  law = record {
+    some = ([], None);
+    some_fine = tt;
+    appends = tails_appends;
+    first = λ a ts h n. tails_first a ts n;
+    only = λ a b m n h k z w e. tails_law_only a b m n z w e;
+  };
+  total = λ a. tt;
 }
 
 abbrev pub rows_parts : Format (Row × RowTails)
@@ -422,14 +399,15 @@ rows_same = record {
   there = rows_there;
   written = rows_written;
   back = λ b ts. refl;
-  fine = λ a h. (tt, tt);
-  fine_back = λ b h. tt;
   ends = λ s h. h;
   begins = λ s h. h;
 }
 
+pub rows_parts_law : Law rows_parts
+rows_parts_law = then_law row_law row_tails_law (λ s h. h)
+
 pub rows_law : Law rows_format
-rows_law = same_law rows_same (then_law row_law row_tails_law (λ s h. h))
+rows_law = same_law rows_same rows_parts_law
 
 -- ---- values
 
@@ -464,11 +442,14 @@ truth_only (a, p) (b, q) m n e =
 
 pub truth_law : Law truth_format
 truth_law = record {
-  some = (true, 0);
-  some_fine = tt;
-  appends = λ a x y. refl;
-  first = λ a ts h n. tt;
-  only = λ a b m n h k z w e. truth_only a b m n e;
+  law = record {
+    some = (true, 0);
+    some_fine = tt;
+    appends = λ a x y. refl;
+    first = λ a ts h n. tt;
+    only = λ a b m n h k z w e. truth_only a b m n e;
+  };
+  total = λ a. tt;
 }
 
 element_no_brace : Apart BeginsElement (Is t.OpenBrace)
@@ -527,11 +508,6 @@ value_back (inl (b, p)) ts = refl
 value_back (inr (inl e)) ts = refl
 value_back (inr (inr (b, (rs, e)))) ts = refl
 
-value_fine : (x : ValueParts) → value_parts.Fine x
-value_fine (inl (b, p)) = tt
-value_fine (inr (inl e)) = tt
-value_fine (inr (inr (b, (rs, e)))) = (tt, (whole_option (λ y. tt) rs, tt))
-
 pub value_same : Same value_format value_parts
 value_same = record {
   to = value_to;
@@ -539,14 +515,15 @@ value_same = record {
   there = value_there;
   written = value_written;
   back = value_back;
-  fine = λ a h. value_fine (value_to a);
-  fine_back = λ b h. tt;
   ends = λ s h. h;
   begins = λ s h. h;
 }
 
+pub value_parts_law : Law value_parts
+value_parts_law = either_law value_alternatives
+
 pub value_law : Law value_format
-value_law = same_law value_same (either_law value_alternatives)
+value_law = same_law value_same value_parts_law
 
 -- ---- marks
 
@@ -626,11 +603,6 @@ equal_back (inl p) ts = refl
 equal_back (inr (a, (n, inl (b, p)))) ts = refl
 equal_back (inr (a, (n, inr p))) ts = refl
 
-equal_fine : (x : EqualParts) → equal_parts.Fine x
-equal_fine (inl p) = tt
-equal_fine (inr (a, (n, inl (b, p)))) = (tt, (tt, (tt, tt)))
-equal_fine (inr (a, (n, inr p))) = (tt, (tt, tt))
-
 pub equal_same : Same equal_format equal_parts
 equal_same = record {
   to = equal_to;
@@ -638,14 +610,15 @@ equal_same = record {
   there = equal_there;
   written = equal_written;
   back = equal_back;
-  fine = λ a h. equal_fine (equal_to a);
-  fine_back = λ b h. tt;
   ends = λ s h. h;
   begins = λ s h. h;
 }
 
+pub equal_parts_law : Law equal_parts
+equal_parts_law = either_law equal_alternatives
+
 pub equal_law : Law equal_format
-equal_law = same_law equal_same (either_law equal_alternatives)
+equal_law = same_law equal_same equal_parts_law
 
 -- ---- entries
 
@@ -677,14 +650,15 @@ entry_same = record {
   there = entry_there;
   written = entry_written;
   back = λ b ts. refl;
-  fine = λ a h. (tt, (tt, tt));
-  fine_back = λ b h. tt;
   ends = λ s h. h;
   begins = λ s h. h;
 }
 
+pub entry_parts_law : Law entry_parts
+entry_parts_law = then_law name_law given_value_law (λ s h. tt)
+
 pub entry_law : Law entry_format
-entry_law = same_law entry_same (then_law name_law given_value_law (λ s h. tt))
+entry_law = same_law entry_same entry_parts_law
 
 pub entries_several : Several entry_format (Is t.CloseBrace)
 entries_several = record { law = entry_law; ends = λ s h. tt; apart = λ s e w. word_no s w t.CloseBrace e; follows = λ s h. tt }
@@ -740,14 +714,15 @@ header_same w = record {
   there = header_there;
   written = header_written w;
   back = λ b ts. refl;
-  fine = λ a h. (tt, (tt, (tt, (tt, tt))));
-  fine_back = λ b h. tt;
   ends = λ s h. h;
   begins = λ s h. h;
 }
 
+pub header_parts_law : (w : Outer) → Law (header_parts w)
+header_parts_law w = behind_law (t.Outer w) named_header_law
+
 pub header_law : (w : Outer) → Law (header_format w)
-header_law w = same_law (header_same w) (behind_law (t.Outer w) named_header_law)
+header_law w = same_law (header_same w) (header_parts_law w)
 
 -- ---- structures
 
@@ -773,11 +748,12 @@ structure_same = record {
   there = structure_there;
   written = structure_written;
   back = λ b ts. refl;
-  fine = λ a h. (tt, (whole_each (λ y. tt) (structure_to a).1.0, tt));
-  fine_back = λ b h. tt;
   ends = λ s h. h;
   begins = λ s h. h;
 }
 
+pub structure_parts_law : Law structure_parts
+structure_parts_law = then_law (header_law o.Structure) closed_entries_law (λ s h. tt)
+
 pub structure_law : Law structure_format
-structure_law = same_law structure_same (then_law (header_law o.Structure) closed_entries_law (λ s h. tt))
+structure_law = same_law structure_same structure_parts_law

@@ -352,7 +352,7 @@ theory_same = record {
 }
 
 pub theory_law : Law theory_format
-theory_law = same_law theory_same (then_law (header_law o.Theory) closed_items_law (λ s h. tt))
+theory_law = same_law theory_same (then_law (header_law o.Theory).law closed_items_law (λ s h. tt))
 
 -- ---- terms
 
@@ -416,7 +416,7 @@ term_block_same = record {
 }
 
 pub term_block_law : Law term_block_format
-term_block_law = same_law term_block_same (then_law (header_law o.Term) inner_term_law (λ s h. tt))
+term_block_law = same_law term_block_same (then_law (header_law o.Term).law inner_term_law (λ s h. tt))
 
 -- ---- the file
 
@@ -437,7 +437,7 @@ structure_apart s e (inl f) = cc
 structure_apart s e (inr f) = cc
 
 pub structure_alternatives : Alternatives structure_format values_or_procedures Anything
-structure_alternatives = record { left = structure_law; right = either_law value_alternatives; apart = structure_apart; ends_left = λ s h. h; ends_right = λ s h. h }
+structure_alternatives = record { left = structure_law.law; right = either_law value_alternatives; apart = structure_apart; ends_left = λ s h. h; ends_right = λ s h. h }
 
 abbrev pub theories_or_others : Format (Theory ⊎ (Structure ⊎ (TermBlock ⊎ ℕ)))
 theories_or_others = either theory_format structures_or_others Anything
@@ -463,7 +463,7 @@ vocabulary_apart s e (inr (inr (inl f))) = cc
 vocabulary_apart s e (inr (inr (inr f))) = cc
 
 pub block_alternatives : Alternatives vocabulary_format theories_or_others Anything
-block_alternatives = record { left = vocabulary_law; right = either_law theory_alternatives; apart = vocabulary_apart; ends_left = λ s h. h; ends_right = λ s h. h }
+block_alternatives = record { left = vocabulary_law.law; right = either_law theory_alternatives; apart = vocabulary_apart; ends_left = λ s h. h; ends_right = λ s h. h }
 
 abbrev pub BeginsBlock : Option Symbol → Type 0
 BeginsBlock s = Is (t.Outer o.Vocabulary) s ⊎ (Is (t.Outer o.Theory) s ⊎ (Is (t.Outer o.Structure) s ⊎ (Is (t.Outer o.Term) s ⊎ Is (t.Outer o.Procedure) s)))

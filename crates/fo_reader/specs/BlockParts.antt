@@ -27,6 +27,19 @@ No t s = s ≡ Some (mark t) → ⊥
 abbrev pub Is : Terminal → Option Symbol → Type 0
 Is t s = s ≡ Some (mark t)
 
+-- a sign that blocks have outside their formulas and terms
+abbrev pub IsSign : Terminal → Type 0
+IsSign t.Comma = Unit {0}
+IsSign t.Colon = Unit {0}
+IsSign t.Open = Unit {0}
+IsSign t.Close = Unit {0}
+IsSign t.OpenBrace = Unit {0}
+IsSign t.CloseBrace = Unit {0}
+IsSign t.Every = Unit {0}
+IsSign (t.Compare c) = Unit {0}
+IsSign (t.Outer w) = Unit {0}
+IsSign _ = ⊥
+
 -- a word comes
 abbrev pub AWord : Option Symbol → Type 0
 AWord (Some (word w)) = Unit {0}
@@ -35,6 +48,31 @@ AWord _ = ⊥
 -- what may come behind a declaration: another one, or the closing brace
 abbrev pub EndsDeclaration : Option Symbol → Type 0
 EndsDeclaration s = Is t.CloseBrace s ⊎ (Is (t.Outer o.Type) s ⊎ AWord s)
+
+-- what may come behind the arguments of a symbol: its result, or what comes behind its declaration
+abbrev pub EndsArguments : Option Symbol → Type 0
+EndsArguments s = Is t.Colon s ⊎ EndsDeclaration s
+
+-- neither a comma nor a semicolon comes
+abbrev pub NoSeparator : Option Symbol → Type 0
+NoSeparator s = No t.Comma s × No (t.Outer o.Semicolon) s
+
+-- neither true nor false comes
+abbrev pub NoTruth : Option Symbol → Type 0
+NoTruth (Some (mark (t.Truth b))) = ⊥
+NoTruth _ = Unit {0}
+
+-- what may come behind a row: a semicolon or the closing brace
+abbrev pub EndsRow : Option Symbol → Type 0
+EndsRow s = Is (t.Outer o.Semicolon) s ⊎ Is t.CloseBrace s
+
+-- what may come behind the items of a row: a bracket, an arrow, or what comes behind a row
+abbrev pub EndsItems : Option Symbol → Type 0
+EndsItems s = Is t.Close s ⊎ (Is (t.Outer o.To) s ⊎ EndsRow s)
+
+-- what may come behind an item: a comma, or what comes behind all
+abbrev pub EndsItem : Option Symbol → Type 0
+EndsItem s = Is t.Comma s ⊎ EndsItems s
 
 -- No A is a front of another one, if what comes behind it is as Next says: the longest at a place is the only one there.
 abbrev pub OneAtAPlace : {A : Type 0} → (A → List Tok → List Tok) → (A → Type 0) → (Option Symbol → Type 0) → Type 0
@@ -55,3 +93,18 @@ StuckAt put Fine Next ts len (Stuck place) = (rest : List Tok) × StuckIn put Fi
 abbrev pub PartRead : {R A : Type 0} → (R → A) → (A → List Tok → List Tok) → (A → Type 0) → (Option Symbol → Type 0) → List Tok → ℕ → Result (R × Bor (List Item)) ReadError → Type 0
 PartRead view put Fine Next ts len (Ok p) = (ts ≡ put (view p.0) (toks p.1.now)) × Fine (view p.0) × Next (next (toks p.1.now))
 PartRead view put Fine Next ts len (Err e) = StuckAt put Fine Next ts len e
+
+-- refused, since what comes is not as P says
+abbrev pub Absent : (Option Symbol → Type 0) → List Tok → ℕ → ReadError → Type 0
+Absent P ts len Memory = Unit {0}
+Absent P ts len (Stuck place) = (P (next ts) → ⊥) × (place ≡ place_of ts len)
+
+-- what comes is as P says, or it is refused
+abbrev pub EndsAs : (Option Symbol → Type 0) → List Tok → ℕ → Result (Unit {0}) ReadError → Type 0
+EndsAs P ts len (Ok u) = P (next ts)
+EndsAs P ts len (Err e) = Absent P ts len e
+
+-- a token that P allows, and those behind it; or it is refused
+abbrev pub TokenRead : {R A : Type 0} → (R → A) → (A → List Tok → List Tok) → (Option Symbol → Type 0) → List Tok → ℕ → Result (R × Bor (List Item)) ReadError → Type 0
+TokenRead view put P ts len (Ok p) = ts ≡ put (view p.0) (toks p.1.now)
+TokenRead view put P ts len (Err e) = Absent P ts len e

@@ -1,5 +1,5 @@
 -- The raw trees of blocks as trees of the grammar.
-use Rattle.std.specs.Prelude.{◌≡◌, ℕ, List, [], ◌∷◌, map, Option, Some, None}
+use Rattle.std.specs.Prelude.{◌≡◌, ℕ, List, map, Option, Some, None}
 use Rattle.std.specs.Option.{option_map}
 use Rattle.std.specs.List.{filter_map}
 use Rattle.fo_reader.specs.declared.raw_blocks.Separator.{Separator}
@@ -41,7 +41,7 @@ use Rattle.fo_reader.specs.declared.raw_blocks.RawElement.{RawElement}
 use Rattle.fo_reader.specs.declared.raw_blocks.RawElement.TheVariants as element
 use Rattle.fo_reader.specs.Trees.{Name, Formula}
 use Rattle.fo_reader.specs.View.{name_view, vars_view, formula_view, app_view, term_view}
-use Rattle.fo_reader.specs.BlockTrees.{Names, names, Positions, positions, Declaration, type_of, constructed, symbol, Vocabulary, vocabulary, Header, header, Binding, binding, Head, atom_head, value_head, Rule, rule, TheoryItem, sentence, definition, Theory, theory, TermBlock, term_block, Element, named, number, below_zero, RowItem, item, RowItems, items, Row, plain, bracketed, only, Rows, rows, Value, truth_value, element_value, table, Mark, closed_mark, open_mark, Entry, entry, Structure, structure, Block, vocabulary_block, theory_block, structure_block, value_block, procedure}
+use Rattle.fo_reader.specs.BlockTrees.{Names, names, Positions, positions, Declaration, type_of, constructed, symbol, Vocabulary, vocabulary, Header, header, Binding, binding, Head, atom_head, value_head, Rule, rule, TheoryItem, sentence, definition, Theory, theory, TermBlock, term_block, Element, named, number, below_zero, RowItem, item, RowItems, items, Row, plain, bracketed, only, Rows, rows, Value, truth_value, element_value, table, Mark, closed_mark, open_mark, Entry, entry, Structure, structure, Block, vocabulary_block, theory_block, structure_block, value_block}
 
 -- ---- vocabularies
 

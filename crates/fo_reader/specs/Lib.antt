@@ -26,3 +26,4 @@ pub mod NamesStage
 pub mod Numbering
 pub mod FileView
 pub mod BlocksStage
+pub mod BlockReads

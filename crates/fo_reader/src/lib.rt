@@ -3,6 +3,7 @@
 #![tactic(auto)]
 
 mod binders;
+mod block_cursor;
 mod block_laws;
 mod build;
 mod cursor;
@@ -17,6 +18,7 @@ mod raw_blocks;
 mod stops;
 mod terminal;
 mod terms;
+mod vocabulary;
 
 pub use block_laws::{one_file, one_item};
 pub use error::KbError;
