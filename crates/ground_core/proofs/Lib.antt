@@ -10,3 +10,4 @@ pub mod Sublists
 pub mod TupleFacts
 pub mod AtomFacts
 pub mod EachAtom
+pub mod RangeFacts

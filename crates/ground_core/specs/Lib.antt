@@ -8,4 +8,5 @@ pub mod More
 pub mod GateClauses
 pub mod Growth
 pub mod Atoms
+pub mod Ranges
 pub mod Laws

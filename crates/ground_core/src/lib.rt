@@ -11,6 +11,7 @@ mod laws;
 mod normal_forms;
 mod parts;
 mod problems;
+mod ranges;
 mod solving;
 #[cfg(test)]
 mod tests;
@@ -26,4 +27,5 @@ pub use laws::{
 pub use normal_forms::nnf;
 pub use parts::{AggCon, Gate, GroundTerm, LitList, Part, PartList, TermBound};
 pub use problems::{AtomTable, Problem};
+pub use ranges::has_small_terms;
 pub use solving::{Budget, Halt, Solve, Verdict};

@@ -3,7 +3,7 @@ ghost use Rattle.ground_core.specs.Problems.{AreLitsOf, IsLitOf};
 
 use crate::{
     AtomTable, BruteForce, Budget, Gate, GroundTerm, LitList, Memory, Part, PartList, Problem,
-    Solve, Verdict, clauses_of_gate, nnf,
+    Solve, Verdict, clauses_of_gate, has_small_terms, nnf,
 };
 use kb_logic::{
     AggKind, Elem, ElemList, ExtInt, Formula, Literal, LiteralList, Name, NumberList, Symbol,
@@ -185,6 +185,7 @@ fn a_sum_and_a_term_are_kept(rt: HostRuntime) -> Result<(), Fail> {
     assert_eq!(rt; problem.vars(), 2);
     assert_eq!(rt; problem.sums().len(), 1);
     assert_eq!(rt; problem.terms().len(), 1);
+    assert!(rt; has_small_terms(&problem));
     Ok(())
 }
 
