@@ -1,16 +1,14 @@
 -- How what a solver holds changes.
-use Rattle.std.proofs.Common.{◌≡◌, ℕ, suc, zero, ◌+◌, ◌<◌, ◌≤◌, Bool, Option, Some, None, List, [], ◌∷◌, ◌++◌, length, take, slice_get, get_or, refl, sym, ap, ◌∙◌, subst, ◌⊎◌, inl, inr, ⊎_elim, arith, All, Contains}
+use Rattle.std.proofs.Common.{◌≡◌, ℕ, suc, zero, ◌<◌, ◌≤◌, Bool, Option, Some, List, [], ◌∷◌, ◌++◌, length, take, slice_get, get_or, refl, sym, subst, ◌⊎◌, inl, inr, ⊎_elim, arith, All, Contains}
 use Rattle.std.specs.List.{AllZip}
-use Rattle.std.proofs.lemmas.Bool.{cases_lt, cases_eq}
-use Rattle.std.proofs.lemmas.List.{take_all, length_push}
-use Rattle.std.proofs.lemmas.List.Elements.{All-nil, All-append, All-push, All-weaker, All-contains, Contains-append_left, Contains-append_right, Contains-push, Contains-push_cases, All-head, All-tail}
+use Rattle.std.proofs.lemmas.Bool.{cases_lt}
+use Rattle.std.proofs.lemmas.List.Elements.{All-weaker, All-contains, Contains-append_left, Contains-push, Contains-push_cases}
 use Rattle.std.proofs.lemmas.Option.{slice_get_within, same_Some}
 use Rattle.lit_core.specs.declared.literals.Lit.{Lit}
 use Rattle.lit_core.specs.Truth.{IsSatisfied}
 use Rattle.lit_core.proofs.LiteralFacts.{Contains-cons_cases, nothing_in_none}
 use Rattle.clause_store.specs.StoreState.{IsEachOnceOf}
-use Rattle.clause_store.proofs.ListFacts.{slice_get-push_old, slice_get-push_new, slice_get-push_cases}
-use Rattle.clause_store.proofs.PropagateFacts.{front-le}
+use Rattle.clause_store.proofs.ListFacts.{slice_get-push_new, slice_get-push_cases}
 use Rattle.ground_core.specs.Problems.{ProblemState, IsProblem, IsLitOf, AreLitsOf}
 use Rattle.ground_core.specs.Meaning.{Satisfies}
 use Rattle.ground_core.specs.Solving.{Entails}
@@ -19,7 +17,7 @@ use Rattle.ground_core.proofs.Whole.{clauses-satisfied, clauses-within}
 use Rattle.clause_learning.specs.Joining.{joined_problem, CanJoin}
 use Rattle.clause_learning.specs.Knowledge.{IsHeldAs, Knows, Pushes}
 use Rattle.clause_learning.proofs.Joined.{lits-wider, joined-first, joined-second, joined-all, joined-has-first, joined-has-second}
-use Rattle.clause_learning.proofs.Pushed.{front-at, front-back, front-push, held-later}
+use Rattle.clause_learning.proofs.Pushed.{front-back, front-push, held-later}
 
 -- the same literals have the same truth
 pub once-satisfied : (v : ℕ → Bool) (c k : List Lit) → IsEachOnceOf c k → IsSatisfied v c → IsSatisfied v k

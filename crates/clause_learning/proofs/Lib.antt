@@ -3,3 +3,16 @@ pub mod Standing
 pub mod Joined
 pub mod Pushed
 pub mod Known
+pub mod TrailChange
+pub mod Roots
+pub mod SearchFacts
+pub mod LearnFacts
+pub mod CoreFacts
+pub mod LevelFacts
+pub mod DecideFacts
+pub mod LearntFacts
+pub mod AnswerFacts
+pub mod TurnFacts
+pub mod SolveFacts
+pub mod GrowFacts
+pub mod SolverFacts

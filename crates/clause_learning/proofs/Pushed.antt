@@ -1,8 +1,8 @@
 -- Clauses that were pushed, and removed again.
-use Rattle.std.proofs.Common.{◌≡◌, ℕ, suc, zero, ◌+◌, ◌<◌, ◌≤◌, Option, Some, None, List, [], ◌∷◌, ◌++◌, length, take, set, slice_get, get_or, flat_map, refl, sym, ap, ◌∙◌, subst, ◌⊎◌, inl, inr, ⊎_elim, arith, All, Contains}
+use Rattle.std.proofs.Common.{◌≡◌, ℕ, suc, zero, ◌+◌, ◌<◌, ◌≤◌, Option, Some, None, List, [], ◌∷◌, ◌++◌, length, take, set, slice_get, get_or, flat_map, refl, sym, ap, ◌∙◌, subst, ⊎_elim, arith, All}
 use Rattle.std.proofs.lemmas.Bool.{cases_lt, cases_eq}
-use Rattle.std.proofs.lemmas.List.{take_all, take-take, take-append-le, length_push, length-set, take-set-le, take_more, append-nil}
-use Rattle.std.proofs.lemmas.List.Elements.{All-nil, All-append, All-push, All-weaker, All-contains, Contains-append_left, Contains-append_right, Contains-push, All-get_or}
+use Rattle.std.proofs.lemmas.List.{take_all, take-take, take-append-le, length-set, take-set-le, take_more, append-nil}
+use Rattle.std.proofs.lemmas.List.Elements.{All-nil, All-append, All-push, All-weaker, Contains-append_left, Contains-append_right, Contains-push}
 use Rattle.std.proofs.lemmas.Option.{slice_get_within, same_Some, get_or_from_slice_get}
 use Rattle.std.proofs.lemmas.List.Concat.{flat_map-append}
 use Rattle.lit_core.specs.declared.literals.Lit.{Lit}
@@ -10,7 +10,7 @@ use Rattle.clause_store.specs.TrailState.{TrailState}
 use Rattle.clause_store.specs.declared.trails.Step.{Step}
 use Rattle.clause_store.specs.TrailLaws.{IsFixed}
 use Rattle.clause_store.specs.StoreState.{IsEachOnceOf}
-use Rattle.clause_store.proofs.ListFacts.{slice_get-push_old, slice_get-push_new, slice_get-push_cases, slice_get-take-below, slice_get-set_cases, slice_get-set_same}
+use Rattle.clause_store.proofs.ListFacts.{slice_get-push_new, slice_get-push_cases, slice_get-take-below, slice_get-set_cases, slice_get-set_same}
 use Rattle.clause_store.proofs.PropagateFacts.{front-le}
 use Rattle.ground_core.specs.declared.parts.Gate.{Gate}
 use Rattle.ground_core.specs.GateClauses.{gate_clauses}

@@ -1,7 +1,6 @@
 -- How conflicts, decisions and what follows change how far a search has come.
-use Rattle.std.proofs.Common.{◌≡◌, ℕ, suc, zero, ◌+◌, ◌*◌, ◌^◌, ◌<◌, ◌≤◌, Bool, true, false, List, [], ◌∷◌, ◌++◌, length, length-append, refl, sym, ⊎_elim, inl, inr, arith}
+use Rattle.std.proofs.Common.{◌≡◌, ℕ, suc, zero, ◌+◌, ◌-◌, ◌*◌, ◌^◌, ◌<◌, ◌≤◌, Bool, true, false, List, [], ◌∷◌, ◌++◌, length, length-append, refl, ap, ⊎_elim, arith}
 use Rattle.std.proofs.Math.Nat.{pow-suc}
-use Rattle.std.proofs.lemmas.Nat.{pow_pos}
 use Rattle.clause_learning.specs.Potential.{potential, progress, Ahead, Behind, Stands}
 use Rattle.clause_learning.proofs.Potential.{passes, passes-more, follows, fewer, fewer-row, grows, progress-bounded, progress-append}
 
@@ -110,3 +109,15 @@ stands-fewer v p c goal h = ⊎_elim (λ (a : Ahead v p c goal). fewer v p a.roo
 -- the progress has a bound
 pub ahead-bounded : (v : ℕ) (p : List Bool) (c goal : ℕ) → Ahead v p c goal → progress v p ≤ 3 ^ v
 ahead-bounded v p c goal a = let b : progress v p + 3 ^ a.room ≤ 3 ^ v = progress-bounded v p a.room a.fits in omega (arith, b)
+
+-- what has gone further leaves less to go
+pub further-smaller : (v w : ℕ) (bs cs : List Bool) (c : ℕ) → w ≡ v → Ahead w cs c (progress v bs + 1) → 3 ^ w - progress w cs < 3 ^ v - progress v bs
+further-smaller v w bs cs c same a =
+    let g : progress v bs + 1 ≤ progress w cs = a.gone in
+    let b : progress w cs ≤ 3 ^ w = ahead-bounded w cs c (progress v bs + 1) a in
+    let e : 3 ^ w ≡ 3 ^ v = ap (λ (n : ℕ). 3 ^ n) same in
+    omega (arith, g, b, e)
+
+-- the progress itself is a goal
+pub goal-itself : (v : ℕ) (bs : List Bool) (c : ℕ) → Ahead v bs c 0 → Ahead v bs c (progress v bs)
+goal-itself v bs c a = record { room = a.room; fits = a.fits; paid = a.paid; gone = omega arith }

@@ -1,5 +1,5 @@
 -- What is said by two problems together.
-use Rattle.std.specs.Prelude.{◌≡◌, ◌≤◌, List, [], ◌++◌, ◌⊎◌}
+use Rattle.std.specs.Prelude.{◌≡◌, ◌≤◌, [], ◌++◌, ◌⊎◌}
 use Rattle.ground_core.specs.Problems.{ProblemState}
 
 -- what both problems say, of the variables of the second

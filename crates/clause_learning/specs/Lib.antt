@@ -3,3 +3,7 @@ pub mod Knowledge
 pub mod Joining
 pub mod SolverState
 pub mod KeptFields
+pub mod Searching
+pub mod Cores
+pub mod Resting
+pub mod SolverFields

@@ -1,5 +1,5 @@
 -- A solver as its callers see it.
-use Rattle.std.specs.Prelude.{◌≡◌, ℕ, ◌≤◌, ◌<◌, ◌+◌, ◌^◌, Bool, Some, List, [], ◌++◌, length, take, slice_get, All, Contains, ◌⊎◌}
+use Rattle.std.specs.Prelude.{◌≡◌, ℕ, ◌≤◌, ◌<◌, ◌^◌, Bool, Some, List, [], ◌++◌, take, slice_get, All, Contains, ◌⊎◌}
 use Rattle.lit_core.specs.declared.literals.Lit.{Lit}
 use Rattle.lit_core.specs.Truth.{IsSatisfied}
 use Rattle.lit_core.specs.Freshness.{FreshAgainst}

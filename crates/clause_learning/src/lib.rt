@@ -2,5 +2,14 @@
 //! and keeps them.
 #![tactic(auto)]
 
+mod choices;
+mod cores;
+mod engine;
+mod growing;
 mod kept;
+mod levels;
 mod pushing;
+mod searching;
+mod solver;
+
+pub use solver::Solver;

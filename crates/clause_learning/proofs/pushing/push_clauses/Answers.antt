@@ -1,4 +1,4 @@
-use Rattle.std.proofs.Common.{◌≡◌, ◌∷◌, [], ◌++◌, Some, Option, List, length, take, sym, ap, ◌∙◌, subst, rules}
+use Rattle.std.proofs.Common.{◌≡◌, ◌∷◌, [], ◌++◌, Some, Option, List, take, ap, ◌∙◌, subst, rules}
 use Rattle.lit_core.specs.declared.literals.Lit.{Lit}
 use Rattle.clause_store.specs.StoreState.{StoreState, IsEachOnceOf}
 use Rattle.clause_learning.specs.Knowledge.{Pushes}

@@ -1,4 +1,4 @@
-use Rattle.std.proofs.Common.{◌≡◌, take, []}
+use Rattle.std.proofs.Common.{◌≡◌, take}
 use Rattle.clause_store.specs.StoreState.{IsStore}
 use Rattle.clause_learning.specs.Knowledge.{Pushes}
 use Rattle.clause_learning.proofs.pushing.push_clauses.Given as goal

@@ -1,10 +1,10 @@
-use Rattle.std.proofs.Common.{◌≡◌, ◌<◌, ◌++◌, ℕ, List, All, length, take, sym, ap, ◌∙◌, subst, rules, flat_map, get_or}
+use Rattle.std.proofs.Common.{◌≡◌, ◌<◌, List, All, length, take, sym, ◌∙◌, subst, rules, flat_map, get_or}
 use Rattle.lit_core.specs.declared.literals.Lit.{Lit}
 use Rattle.clause_store.specs.TrailState.{TrailState}
 use Rattle.ground_core.specs.declared.parts.Gate.{Gate}
 use Rattle.ground_core.specs.GateClauses.{gate_clauses}
 use Rattle.clause_learning.specs.Knowledge.{Pushes}
-use Rattle.clause_learning.proofs.Pushed.{pushes-append, flat-next, gate-among, front-trans}
+use Rattle.clause_learning.proofs.Pushed.{pushes-append, flat-next, gate-among}
 use Rattle.clause_learning.proofs.pushing.push_gates.Goals as goal
 
 pub push_clauses-requires-clause-in_range : goal.push_clauses-requires-clause-in_range

@@ -1,11 +1,11 @@
-use Rattle.std.proofs.Common.{◌≡◌, ◌<◌, ◌++◌, ℕ, List, All, length, take, sym, ap, ◌∙◌, subst, arith, flat_map}
+use Rattle.std.proofs.Common.{◌≡◌, ◌<◌, ℕ, List, All, length, subst, arith, flat_map}
 use Rattle.std.proofs.lemmas.List.Elements.{All-weaker}
 use Rattle.std.proofs.lemmas.Result.{on_ok_weaker}
 use Rattle.lit_core.specs.declared.literals.Lit.{Lit}
 use Rattle.ground_core.specs.Problems.{AreLitsOf, IsLitOf}
 use Rattle.ground_core.specs.GateClauses.{gate_clauses, clauses_of}
 use Rattle.ground_core.proofs.Whole.{clauses-within}
-use Rattle.ground_core.proofs.Fronts.{All-front, All-back}
+use Rattle.ground_core.proofs.Fronts.{All-front}
 use Rattle.clause_learning.specs.Knowledge.{Pushes}
 use Rattle.clause_learning.proofs.Pushed.{pushes-append}
 use Rattle.clause_learning.proofs.pushing.push_problem.Goals as goal

@@ -1,6 +1,6 @@
-use Rattle.std.proofs.Common.{◌≡◌, List, length, take, sym, ap, ◌∙◌, subst, arith}
+use Rattle.std.proofs.Common.{ap, ◌∙◌, arith}
 use Rattle.clause_store.specs.StoreState.{StoreState}
-use Rattle.clause_learning.proofs.Pushed.{RemovesBetween, removes-one, removes-all}
+use Rattle.clause_learning.proofs.Pushed.{removes-one, removes-all}
 use Rattle.clause_learning.proofs.pushing.remove_from.Goals as goal
 
 pub loop-id-preserved : goal.loop-id-preserved

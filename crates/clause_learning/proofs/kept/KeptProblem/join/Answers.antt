@@ -1,4 +1,4 @@
-use Rattle.std.proofs.Common.{◌≡◌, [], ◌++◌, ap, sym, ◌∙◌, refl, subst}
+use Rattle.std.proofs.Common.{◌≡◌, ◌++◌, sym, refl, subst}
 use Rattle.ground_core.specs.Problems.{ProblemState, IsProblem}
 use Rattle.clause_learning.specs.Joining.{joined_problem, CanJoin}
 use Rattle.clause_learning.specs.KeptFields.{state_of}

@@ -1,0 +1,78 @@
+//! How what is searched grows.
+ghost use Rattle.std.specs.Prelude.{◌≡◌, ◌<◌, [], length, IfOk, OnOk, OnErr};
+ghost use Rattle.ground_core.specs.Problems.{IsProblem};
+ghost use Rattle.clause_learning.specs.Joining.{CanJoin};
+ghost use Rattle.clause_learning.specs.Resting.{Grows, IsHalfDone, IsNew, IsResting, Stays};
+
+use crate::choices::Choices;
+use crate::engine::Engine;
+use crate::kept::KeptProblem;
+use crate::pushing::{push_problem, remove_from};
+use clause_store::Store;
+use ground_core::{Memory, Problem};
+use lit_core::ClauseList;
+use std::alloc::Global;
+
+impl Engine {
+    /// No variables, and nothing said.
+    pub fn new(alloc: Global) -> Result<Engine, Memory>
+        ensures resting { IfOk result IsResting }
+        ensures empty { IfOk result IsNew }
+    {
+        let mut store = Store::new(alloc)?;
+        store.reserve_vars(1)?;
+        Ok(Engine {
+            alloc,
+            problem: KeptProblem::new(alloc),
+            store,
+            learnt: ClauseList::new(alloc),
+            ids: Vec::new(alloc),
+            choices: Choices::new(),
+            searches: 0,
+            known: 0,
+            conflicts: 0,
+            root_conflicts: 0,
+            assumed: 0,
+        })
+    }
+
+    /// Holds the clauses of another problem, and keeps what it says.
+    fn hold(&mut self, more: &Problem) -> Result<(), Memory>
+        requires resting { IsResting self.old }
+        requires can { CanJoin self.old.problem more.now }
+        requires sums { more.now.sums ≡ [] }
+        requires bounds { more.now.bounds ≡ [] }
+        requires laws { IsProblem more.now }
+        requires sized { more.now.vars < length self.old.store.trail.values }
+        ensures resting { OnOk result (IsResting self.new) }
+        ensures ok { OnOk result (Grows self.old more.now self.new) }
+        ensures err { OnErr result (IsHalfDone self.old self.new) }
+    {
+        push_problem(self.alloc, &mut self.store, more)?;
+        self.problem.join(self.alloc, more)
+    }
+
+    /// Says all that another problem says, too.
+    pub fn add_problem(&mut self, more: &Problem) -> Result<(), Memory>
+        requires resting { IsResting self.old }
+        requires can { CanJoin self.old.problem more.now }
+        requires sums { more.now.sums ≡ [] }
+        requires bounds { more.now.bounds ≡ [] }
+        ensures resting { IsResting self.new }
+        ensures ok { OnOk result (Grows self.old more.now self.new) }
+        ensures err { OnErr result (Stays self.old self.new) }
+    {
+        let Some(count) = more.vars().checked_add(1) else {
+            return Err(Memory);
+        };
+        self.store.reserve_vars(count)?;
+        let first = self.store.len();
+        match self.hold(more) {
+            Ok(()) => Ok(()),
+            Err(error) => {
+                remove_from(&mut self.store, first);
+                Err(error)
+            }
+        }
+    }
+}
