@@ -14,10 +14,10 @@ use Rattle.ground_core.specs.Problems.{ProblemState, IsProblem}
 use Rattle.clause_learning.specs.declared.engine.Engine.{Engine}
 use Rattle.clause_learning.specs.Joining.{CanJoin, joined_problem}
 use Rattle.ground_core.specs.GateClauses.{clauses_of}
-use Rattle.clause_learning.specs.Knowledge.{IsHeldAs, Knows, Pushes, RemovesFrom}
+use Rattle.clause_learning.specs.Knowledge.{IsHeldAs, Knows, Pushes, RemovesAll, RemovesFrom}
 use Rattle.clause_learning.specs.Resting.{IsResting, held_of}
 use Rattle.clause_learning.proofs.Joined.{joined-laws, joined-sums, joined-bounds}
-use Rattle.clause_learning.proofs.Known.{known-added}
+use Rattle.clause_learning.proofs.Known.{known-added, known-forgets}
 
 slice_get-drop : {X : Type 0} (n : ℕ) (xs : List X) (k : ℕ) (x : X) → slice_get (drop n xs) k ≡ Some x → slice_get xs (n + k) ≡ Some x
 slice_get-drop n xs k x e =
@@ -123,6 +123,24 @@ resting-back e f mid h front removed steps store sized problem learnt ids confli
         sized = rw problem sized;
       };
       cleared = steps;
+      fewer = rw (problem, conflicts) h.fewer;
+      once = rw root h.once;
+    }
+
+-- what was learnt was removed
+pub resting-forgets : (e f : Engine) → IsResting e → RemovesAll e.ids.items e.store.clauses f.store.clauses → f.store.trail ≡ e.store.trail → IsStore f.store → f.problem ≡ e.problem → f.learnt ≡ [] → f.ids.items ≡ [] → f.conflicts ≡ e.conflicts → f.root_conflicts ≡ e.root_conflicts → IsResting f
+resting-forgets e f h removed trail store problem learnt ids conflicts root =
+    let knows : Knows e.problem [] [] f.store.clauses = known-forgets e.problem e.learnt e.ids.items e.store.clauses f.store.clauses h.engine.knows removed.back removed.there removed.gone in
+    record {
+      engine = record {
+        problem = rw problem h.engine.problem;
+        sums = rw problem h.engine.sums;
+        bounds = rw problem h.engine.bounds;
+        knows = rw (problem, learnt, ids) knows;
+        store = store;
+        sized = rw (problem, trail) h.engine.sized;
+      };
+      cleared = ap (λ (t : TrailState). t.steps) trail ∙ h.cleared;
       fewer = rw (problem, conflicts) h.fewer;
       once = rw root h.once;
     }

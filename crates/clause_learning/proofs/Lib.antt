@@ -16,3 +16,4 @@ pub mod TurnFacts
 pub mod SolveFacts
 pub mod GrowFacts
 pub mod SolverFacts
+pub mod Removed

@@ -31,3 +31,10 @@ pub record RemovesFrom (first : ℕ) (old new : List (Option (List Lit))) : Type
   pub size : length new ≡ length old
   pub front : take first new ≡ take first old
   pub none : (id : ℕ) (k : List Lit) → first ≤ id → slice_get new id ≡ Some (Some k) → ⊥
+
+-- the clauses with these numbers were removed, and no others
+pub record RemovesAll (ids : List ℕ) (old new : List (Option (List Lit))) : Type 0 where
+  pub size : length new ≡ length old
+  pub back : (id : ℕ) (k : List Lit) → slice_get new id ≡ Some (Some k) → slice_get old id ≡ Some (Some k)
+  pub there : (id : ℕ) (k : List Lit) → slice_get old id ≡ Some (Some k) → (Contains ids id → ⊥) → slice_get new id ≡ Some (Some k)
+  pub gone : (id : ℕ) (k : List Lit) → Contains ids id → slice_get new id ≡ Some (Some k) → ⊥

@@ -7,7 +7,7 @@ ghost use Rattle.clause_learning.specs.Resting.{Grows, IsHalfDone, IsNew, IsRest
 use crate::choices::Choices;
 use crate::engine::Engine;
 use crate::kept::KeptProblem;
-use crate::pushing::{push_problem, remove_from};
+use crate::pushing::{push_problem, remove_all, remove_from};
 use clause_store::Store;
 use ground_core::{Memory, Problem};
 use lit_core::ClauseList;
@@ -74,5 +74,20 @@ impl Engine {
                 Err(error)
             }
         }
+    }
+
+    /// Gives up what was learnt.
+    pub fn forget(&mut self)
+        requires resting { IsResting self.old }
+        ensures resting { IsResting self.new }
+        ensures problem { self.new.problem ≡ self.old.problem }
+        ensures learnt { self.new.learnt ≡ [] }
+        ensures searches { self.new.searches ≡ self.old.searches }
+        ensures conflicts { self.new.conflicts ≡ self.old.conflicts }
+        ensures root_conflicts { self.new.root_conflicts ≡ self.old.root_conflicts }
+    {
+        remove_all(&mut self.store, &self.ids);
+        self.ids.clear();
+        self.learnt.truncate(0);
     }
 }

@@ -2,7 +2,7 @@
 ghost use Rattle.std.specs.Prelude.{◌≡◌, ◌≤◌, ◌<◌, [], length, flat_map, take, All, OnOk};
 ghost use Rattle.clause_store.specs.StoreState.{IsStore};
 ghost use Rattle.ground_core.specs.GateClauses.{clauses_of, gate_clauses};
-ghost use Rattle.clause_learning.specs.Knowledge.{Pushes, RemovesFrom};
+ghost use Rattle.clause_learning.specs.Knowledge.{Pushes, RemovesAll, RemovesFrom};
 
 use clause_store::Store;
 use ground_core::{Gate, Memory, Problem, clauses_of_gate};
@@ -66,5 +66,19 @@ pub fn remove_from(store: &mut Store, first: usize)
 {
     for id in first..store.len() {
         store.remove(id as u64);
+    }
+}
+
+/// Removes the clauses with these numbers.
+pub fn remove_all(store: &mut Store, ids: &[u64])
+    requires laws { IsStore store.old }
+    requires cleared { store.old.trail.steps ≡ [] }
+    requires within { All (λ id. id < length store.old.clauses) ids.now }
+    ensures trail { store.new.trail ≡ store.old.trail }
+    ensures removed { RemovesAll ids.now store.old.clauses store.new.clauses }
+    ensures laws { IsStore store.new }
+{
+    for id in ids {
+        store.remove(*id);
     }
 }

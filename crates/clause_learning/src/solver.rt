@@ -3,7 +3,7 @@ ghost use Rattle.std.specs.Prelude.{◌≡◌, ◌≤◌, ◌<◌, ◌+◌, None
 ghost use Rattle.ground_core.specs.Problems.{AreLitsOf};
 ghost use Rattle.ground_core.specs.Solving.{Answers, HaltedAt, IsBudgetOf, Learns, Spends, one_more};
 ghost use Rattle.clause_learning.specs.Joining.{CanJoin};
-ghost use Rattle.clause_learning.specs.SolverState.{AddsProblem, IsSolver, LearnsFresh, empty_solver};
+ghost use Rattle.clause_learning.specs.SolverState.{AddsProblem, Forgets, IsSolver, LearnsFresh, empty_solver};
 
 use crate::engine::Engine;
 use ground_core::{Budget, Halt, Memory, Problem, Solve, Verdict};
@@ -86,6 +86,14 @@ impl Solver {
         ensures laws { IsSolver self.now }
     {
         self.engine.root_conflicts
+    }
+
+    /// Gives up what was learnt.
+    pub fn forget(&mut self)
+        ensures forgotten { Forgets self.old self.new }
+        ensures laws { IsSolver self.new }
+    {
+        self.engine.forget();
     }
 }
 
