@@ -243,7 +243,7 @@ pub push_fine : {A : Type 0} (F : Format A) → (xs : List A) (a : A) → FineEa
 push_fine F [] a h k = (k, tt)
 push_fine F (x ∷ xs) a h k = (h.0, push_fine F xs a h.1 k)
 
-push_put : {A : Type 0} (F : Format A) → (xs : List A) (a : A) (ts : List Tok) → put_each F.put (xs ++ a ∷ []) ts ≡ put_each F.put xs (F.put a ts)
+pub push_put : {A : Type 0} (F : Format A) → (xs : List A) (a : A) (ts : List Tok) → put_each F.put (xs ++ a ∷ []) ts ≡ put_each F.put xs (F.put a ts)
 push_put F [] a ts = refl
 push_put F (x ∷ xs) a ts = ap (F.put x) (push_put F xs a ts)
 

@@ -16,6 +16,7 @@ mod laws;
 mod raw;
 mod raw_blocks;
 mod stops;
+mod structure;
 mod terminal;
 mod terms;
 mod vocabulary;
