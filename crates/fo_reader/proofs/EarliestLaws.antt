@@ -178,7 +178,7 @@ pub nothing_noted : {Use : Type 0} (test : Use → K → Bool) (place : Use → 
     → fold (noted_at test place causes) None us ≡ None → (q : KbFault) → IsRowOf test place causes us q → ⊥
 nothing_noted test place causes us e q h =
     let none : flat_map (listed_at test place causes) us ≡ [] =
-        nothing_left (flat_map (listed_at test place causes) us) (sym (noted_all-is test place causes us None) ∙ e) in
+    nothing_left (flat_map (listed_at test place causes) us) (sym (noted_all-is test place causes us None) ∙ e) in
     contains_nothing q (subst (λ (rs : List KbFault). Contains rs q) none (listed test place causes us q h))
 
 -- what was noted is the earliest refusal

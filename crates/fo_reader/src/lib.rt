@@ -5,6 +5,8 @@
 mod binders;
 mod block_cursor;
 mod block_laws;
+#[cfg(test)]
+mod block_tests;
 mod build;
 mod cursor;
 mod error;
