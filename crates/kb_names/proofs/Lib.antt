@@ -1,0 +1,7 @@
+pub mod Bindings
+pub mod Listed
+pub mod Groups
+pub mod Chains
+pub mod Declared
+pub mod ChainEnds
+pub mod Rows

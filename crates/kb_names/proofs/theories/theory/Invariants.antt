@@ -1,0 +1,15 @@
+use Rattle.std.proofs.Common.{◌≡◌, take, fold, map}
+use Rattle.std.specs.List.{flat_map}
+use Rattle.fo_reader.specs.FileView.{part_in}
+use Rattle.fo_reader.specs.NamesStage.{name_noted}
+use Rattle.fo_reader.specs.Numbering.{sentences_in}
+use Rattle.fo_reader.specs.Uses.{uses_in_part}
+use Rattle.kb_names.specs.Meanings.{names_in}
+use Rattle.kb_names.specs.NamedViews.{formula_view}
+use Rattle.kb_names.proofs.theories.theory.Given as goal
+
+abbrev pub invariant-loop-raw : goal.invariant-loop-raw
+invariant-loop-raw l = record {
+  sentences : map formula_view l.sentences.items ≡ flat_map (sentences_in (names_in l.table)) (map part_in (take l.raw-index l.items));
+  noted : l.earliest.first ≡ fold (name_noted (names_in l.table)) l.initial.earliest.first (flat_map uses_in_part (map part_in (take l.raw-index l.items)));
+}

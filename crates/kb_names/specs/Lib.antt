@@ -1,0 +1,6 @@
+pub mod Meanings
+pub mod Levels
+pub mod NamedViews
+pub mod Tails
+pub mod FileViews
+pub mod Examples
