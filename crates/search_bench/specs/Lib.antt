@@ -1,0 +1,5 @@
+pub mod Answering
+pub mod Cuts
+pub mod Dimacs
+pub mod Refusals
+pub mod Verdicts

@@ -1,0 +1,17 @@
+//! The solver that is measured.
+ghost use Rattle.std.specs.Prelude.{◌≡◌, [], IfOk};
+
+use clause_learning::Solver;
+use ground_core::{Memory, Problem};
+use std::alloc::Global;
+
+/// A solver of the problem. Which one is measured is said here alone.
+pub fn solver_of(alloc: Global, problem: Problem) -> Result<Solver, Memory>
+    requires sums { problem.sums ≡ [] }
+    requires bounds { problem.bounds ≡ [] }
+    ensures { IfOk result (λ solver. solver.problem ≡ problem) }
+{
+    let mut solver = Solver::new(alloc)?;
+    solver.add_problem(&problem)?;
+    Ok(solver)
+}
