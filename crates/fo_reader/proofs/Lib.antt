@@ -11,6 +11,7 @@ pub mod InTerms
 pub mod InFactors
 pub mod InOperands
 pub mod InChains
+pub mod OneReading
 pub mod Formats
 pub mod Plain
 pub mod BlockReadings

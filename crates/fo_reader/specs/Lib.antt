@@ -11,6 +11,7 @@ pub mod Parts
 pub mod Binders
 pub mod Results
 pub mod Items
+pub mod Whole
 pub mod BlockTrees
 pub mod BlockSpelling
 pub mod BlockFine

@@ -26,7 +26,7 @@ mod vocabulary;
 pub use block_laws::{one_file, one_item};
 pub use error::KbError;
 pub use kb_text::{K, KbFault};
-pub use laws::one_formula;
+pub use laws::{one_formula, one_formula_reading, one_term, one_term_reading};
 pub use raw::{
     RawAnd, RawAndTail, RawApp, RawFactor, RawFormula, RawInteger, RawLink, RawName, RawNumber,
     RawOpening, RawOr, RawOrTail, RawPrim, RawProduct, RawProductTail, RawSumTail, RawTermTree,
