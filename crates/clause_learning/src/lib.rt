@@ -11,5 +11,7 @@ mod levels;
 mod pushing;
 mod searching;
 mod solver;
+#[cfg(test)]
+mod tests;
 
 pub use solver::Solver;
