@@ -6,6 +6,8 @@ use Rattle.kb_text.specs.Depth.{outermost}
 use Rattle.kb_text.specs.Tokens.{TokensFrom}
 use Rattle.fo_reader.specs.declared.error.KbError.{KbError}
 use Rattle.fo_reader.specs.declared.error.KbError.TheVariants as errors
+use Rattle.fo_reader.specs.declared.stops.ReadError.{ReadError}
+use Rattle.fo_reader.specs.declared.stops.ReadError.TheVariants.{Memory, Stuck}
 use Rattle.fo_reader.specs.Terminals.{Tok, place_of}
 use Rattle.fo_reader.specs.Texts.{ParsesTo, FirstStuck}
 use Rattle.fo_reader.specs.Items.{IsTokens}
@@ -28,3 +30,14 @@ abbrev pub Answers : {R A : Type 0} → (R → A) → (A → List Tok → List T
 Answers view put Fine src (Ok r) = Reads put Fine src (Ok (view r))
 Answers view put Fine src (Err errors.Memory) = Unit {0}
 Answers view put Fine src (Err (errors.Refused f)) = Reads put Fine src (Err f)
+
+-- the same of a text whose tokens are found
+abbrev pub Parses : {R A : Type 0} → (R → A) → (A → List Tok → List Tok) → (A → Type 0) → List Tok → ℕ → Result R KbError → Type 0
+Parses view put Fine ts len (Ok r) = ParsesTo put Fine ts (view r)
+Parses view put Fine ts len (Err errors.Memory) = Unit {0}
+Parses view put Fine ts len (Err (errors.Refused f)) = IsStuck put Fine ts len f
+
+-- a reader that stands still refuses the text there
+abbrev pub refusal_of : ReadError → KbError
+refusal_of Memory = errors.Memory
+refusal_of (Stuck place) = errors.Refused (record { cause = Syntax; place = place })

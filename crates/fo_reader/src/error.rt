@@ -1,4 +1,8 @@
-use kb_text::KbFault;
+ghost use Rattle.std.specs.Prelude.{◌≡◌};
+ghost use Rattle.fo_reader.specs.Whole.{refusal_of};
+
+use crate::stops::ReadError;
+use kb_text::{K, KbFault};
 use thiserror::Error;
 
 /// Why a knowledge base was not read.
@@ -8,4 +12,18 @@ pub enum KbError {
     Refused(KbFault),
     #[error("out of memory")]
     Memory,
+}
+
+impl From<ReadError> for KbError {
+    ghost from_gives = { λ e k. k ≡ refusal_of e };
+
+    fn from(e: ReadError) -> KbError {
+        match e {
+            ReadError::Memory => KbError::Memory,
+            ReadError::Stuck(place) => KbError::Refused(KbFault {
+                cause: K::Syntax,
+                place,
+            }),
+        }
+    }
 }

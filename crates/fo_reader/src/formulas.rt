@@ -12,14 +12,20 @@ ghost use Rattle.fo_reader.specs.declared.terminal.Terminal.TheVariants as t;
 
 use crate::binders::{binder, number};
 use crate::build;
-use crate::cursor::{after_compare, close, goes_on, place_at, sealed, split};
+use crate::cursor::{
+    after_and, after_arrow, after_compare, after_not, after_or, after_same, close, connects,
+    goes_on, place_at, sealed, split, start,
+};
 use crate::expressions::{Found, Reader};
 use crate::kinds::{Content, Operand, Pair};
-use crate::raw::{RawApp, RawFactor, RawFormula, RawPrim, RawTermTree, RawUnary};
+use crate::raw::{RawAnd, RawApp, RawFactor, RawFormula, RawOr, RawPrim, RawTermTree, RawUnary};
 use crate::stops::ReadError;
 use crate::terminal::{Item, Terminal};
 use sqlite_items::Items;
 use std::alloc::{AllocError, Global};
+
+/// What was read, whether no quantified formula stands at its end, and the tokens behind it.
+type Chained<'a, T> = Result<(T, bool, &'a [Item<'a>]), ReadError>;
 
 // The formula that is this operand alone.
 fn only(alloc: Global, prim: RawPrim) -> RawFormula
@@ -63,12 +69,8 @@ fn bracketed(alloc: Global, app: RawApp, pairs: Items<Pair>) -> Result<RawFactor
     Ok(found)
 }
 
-/// The operand behind these signs, the outermost first.
-pub fn negated(
-    alloc: Global,
-    mut signs: Items<usize>,
-    first: RawUnary,
-) -> Result<RawUnary, AllocError>
+// The operand behind these signs, the outermost first.
+fn negated(alloc: Global, mut signs: Items<usize>, first: RawUnary) -> Result<RawUnary, AllocError>
     ensures { IfOk result (λ u. unary_view u ≡ nots signs (unary_view first)) }
 {
     let mut found = first;
@@ -78,8 +80,8 @@ pub fn negated(
     Ok(found)
 }
 
-/// An operand of a connective, which is no term.
-pub fn settle(
+// An operand of a connective, which is no term.
+fn settle(
     alloc: Global,
     found: Operand,
     rest: &[Item<'_>],
@@ -224,8 +226,8 @@ impl<
         Ok((Operand::Formula(found, false), last))
     }
 
-    /// An operand without `~` in front.
-    pub fn plain(&self, items: &'a [Item<'a>]) -> Found<'a, Operand>
+    // An operand without `~` in front.
+    fn plain(&self, items: &'a [Item<'a>]) -> Found<'a, Operand>
         requires nests { Readers self.now.left (F.pre self.now.formula) (F.post self.now.formula) (G.pre self.now.content) (G.post self.now.content) (H.pre self.now.term) (H.post self.now.term) }
         requires fewer { length items.now ≤ self.now.left }
         ensures reads { NoNot (toks items.now) → OperandRead (toks items.now) self.now.end result }
@@ -245,6 +247,159 @@ impl<
                 Ok((Operand::Formula(found, true), rest))
             }
             _ => self.measured(items),
+        }
+    }
+
+    // An operand of whatever sort, with the signs in front of it.
+    fn operand(&self, items: &'a [Item<'a>]) -> Found<'a, Operand>
+        requires nests { Readers self.now.left (F.pre self.now.formula) (F.post self.now.formula) (G.pre self.now.content) (G.post self.now.content) (H.pre self.now.term) (H.post self.now.term) }
+        requires fewer { length items.now ≤ self.now.left }
+        ensures reads { OperandRead (toks items.now) self.now.end result }
+        ensures shorter { IfOk result (λ p. length p.1.now ≤ length items.now) }
+    {
+        let (_count, mut rest) = start(items);
+        let mut signs = Items::new(self.alloc);
+        while let Some((place, after)) = after_not(rest) {
+            signs.push(place)?;
+            rest = after;
+        }
+        let (found, last) = self.plain(rest)?;
+        if signs.is_empty() {
+            return Ok((found, last));
+        }
+        let (inner, closed) = settle(self.alloc, found, last, self.end)?;
+        let whole = negated(self.alloc, signs, inner)?;
+        Ok((Operand::Formula(whole, closed), last))
+    }
+
+    // An operand of a connective, and whether no quantified formula stands at its end.
+    fn unary(&self, items: &'a [Item<'a>]) -> Chained<'a, RawUnary>
+        requires nests { Readers self.now.left (F.pre self.now.formula) (F.post self.now.formula) (G.pre self.now.content) (G.post self.now.content) (H.pre self.now.term) (H.post self.now.term) }
+        requires fewer { length items.now ≤ self.now.left }
+        ensures reads { UnaryRead (toks items.now) self.now.end result }
+        ensures shorter { IfOk result (λ p. length p.2.now ≤ length items.now) }
+    {
+        let (found, last) = self.operand(items)?;
+        let (inner, closed) = settle(self.alloc, found, last, self.end)?;
+        Ok((inner, closed, last))
+    }
+
+    // The chain of `&` that has begun with this operand.
+    fn ands(&self, first: RawUnary, ends: bool, items: &'a [Item<'a>]) -> Chained<'a, RawAnd>
+        requires nests { Readers self.now.left (F.pre self.now.formula) (F.post self.now.formula) (G.pre self.now.content) (G.post self.now.content) (H.pre self.now.term) (H.post self.now.term) }
+        requires fewer { length items.now ≤ self.now.left }
+        ensures reads { UnaryIs (put_unary (unary_view first) (toks items.now)) (unary_view first) ends (toks items.now) → AndRead (put_unary (unary_view first) (toks items.now)) self.now.end result }
+        ensures kind { IfOk result (λ p. app_and (and_view p.0) ≡ true → app_unary (unary_view first) ≡ true) }
+        ensures shorter { IfOk result (λ p. length p.2.now ≤ length items.now) }
+    {
+        let (_count, mut rest) = start(items);
+        let mut closed = ends;
+        let mut more = Items::new(self.alloc);
+        while let Some((place, after)) = after_and(closed, rest) {
+            let (operand, still, after) = self.unary(after)?;
+            more.push(build::and_tail(place, operand))?;
+            closed = still;
+            rest = after;
+        }
+        Ok((build::and(first, more), closed, rest))
+    }
+
+    // An operand of `|`.
+    fn conjunction(&self, items: &'a [Item<'a>]) -> Chained<'a, RawAnd>
+        requires nests { Readers self.now.left (F.pre self.now.formula) (F.post self.now.formula) (G.pre self.now.content) (G.post self.now.content) (H.pre self.now.term) (H.post self.now.term) }
+        requires fewer { length items.now ≤ self.now.left }
+        ensures reads { ConjunctionRead (toks items.now) self.now.end result }
+        ensures shorter { IfOk result (λ p. length p.2.now ≤ length items.now) }
+    {
+        let (first, closed, rest) = self.unary(items)?;
+        self.ands(first, closed, rest)
+    }
+
+    // The chain of `|` that has begun with this operand.
+    fn ors(&self, first: RawUnary, ends: bool, items: &'a [Item<'a>]) -> Chained<'a, RawOr>
+        requires nests { Readers self.now.left (F.pre self.now.formula) (F.post self.now.formula) (G.pre self.now.content) (G.post self.now.content) (H.pre self.now.term) (H.post self.now.term) }
+        requires fewer { length items.now ≤ self.now.left }
+        ensures reads { UnaryIs (put_unary (unary_view first) (toks items.now)) (unary_view first) ends (toks items.now) → OrRead (put_unary (unary_view first) (toks items.now)) self.now.end result }
+        ensures kind { IfOk result (λ p. app_or (or_view p.0) ≡ true → app_unary (unary_view first) ≡ true) }
+        ensures shorter { IfOk result (λ p. length p.2.now ≤ length items.now) }
+    {
+        let (and, mut closed, mut rest) = self.ands(first, ends, items)?;
+        let mut more = Items::new(self.alloc);
+        while let Some((place, after)) = after_or(closed, rest) {
+            let (operand, still, after) = self.conjunction(after)?;
+            more.push(build::or_tail(place, operand))?;
+            closed = still;
+            rest = after;
+        }
+        Ok((build::or(and, more), closed, rest))
+    }
+
+    // An operand of an arrow.
+    fn disjunction(&self, items: &'a [Item<'a>]) -> Chained<'a, RawOr>
+        requires nests { Readers self.now.left (F.pre self.now.formula) (F.post self.now.formula) (G.pre self.now.content) (G.post self.now.content) (H.pre self.now.term) (H.post self.now.term) }
+        requires fewer { length items.now ≤ self.now.left }
+        ensures reads { DisjunctionRead (toks items.now) self.now.end result }
+        ensures shorter { IfOk result (λ p. length p.2.now ≤ length items.now) }
+    {
+        let (first, closed, rest) = self.unary(items)?;
+        self.ors(first, closed, rest)
+    }
+
+    // The formula that has begun with this operand.
+    fn linked(&self, first: RawUnary, ends: bool, items: &'a [Item<'a>]) -> Found<'a, RawFormula>
+        requires nests { Readers self.now.left (F.pre self.now.formula) (F.post self.now.formula) (G.pre self.now.content) (G.post self.now.content) (H.pre self.now.term) (H.post self.now.term) }
+        requires fewer { length items.now ≤ self.now.left }
+        ensures reads { UnaryIs (put_unary (unary_view first) (toks items.now)) (unary_view first) ends (toks items.now) → LinkedRead (put_unary (unary_view first) (toks items.now)) self.now.end result }
+        ensures kind { IfOk result (λ p. app_formula (formula_view p.0) ≡ true → app_unary (unary_view first) ≡ true) }
+        ensures shorter { IfOk result (λ p. length p.1.now ≤ length items.now) }
+    {
+        let (or, mut closed, mut rest) = self.ors(first, ends, items)?;
+        let Some((arrow, _place, _after)) = after_arrow(closed, rest) else {
+            return Ok((build::alone(or), rest));
+        };
+        let mut more = Items::new(self.alloc);
+        while let Some((place, after)) = after_same(arrow, closed, rest) {
+            let (operand, still, after) = self.disjunction(after)?;
+            more.push(build::link(place, operand))?;
+            closed = still;
+            rest = after;
+        }
+        Ok((build::linked(arrow, or, more), rest))
+    }
+
+    /// A formula.
+    pub fn whole_formula(&self, items: &'a [Item<'a>]) -> Found<'a, RawFormula>
+        requires nests { Readers self.now.left (F.pre self.now.formula) (F.post self.now.formula) (G.pre self.now.content) (G.post self.now.content) (H.pre self.now.term) (H.post self.now.term) }
+        requires fewer { length items.now ≤ self.now.left }
+        ensures reads { FormulaRead (toks items.now) self.now.end result }
+        ensures shorter { IfOk result (λ p. length p.1.now ≤ length items.now) }
+    {
+        let (first, closed, rest) = self.unary(items)?;
+        self.linked(first, closed, rest)
+    }
+
+    /// What stands in brackets: a formula, a term, or what may be both.
+    pub fn whole_content(&self, items: &'a [Item<'a>]) -> Found<'a, Content>
+        requires nests { Readers self.now.left (F.pre self.now.formula) (F.post self.now.formula) (G.pre self.now.content) (G.post self.now.content) (H.pre self.now.term) (H.post self.now.term) }
+        requires fewer { length items.now ≤ self.now.left }
+        ensures reads { ContentRead (toks items.now) self.now.end result }
+        ensures shorter { IfOk result (λ p. length p.1.now ≤ length items.now) }
+    {
+        let (found, rest) = self.operand(items)?;
+        match found {
+            Operand::Term(term) => Ok((Content::Term(term), rest)),
+            Operand::Formula(first, closed) => {
+                let (formula, last) = self.linked(first, closed, rest)?;
+                Ok((Content::Formula(formula), last))
+            }
+            Operand::Either(app, pairs) => {
+                if !connects(rest) {
+                    return Ok((Content::Either(app, pairs), rest));
+                }
+                let first = build::prim(wrapped(self.alloc, app, pairs)?);
+                let (formula, last) = self.linked(first, true, rest)?;
+                Ok((Content::Formula(formula), last))
+            }
         }
     }
 }

@@ -15,6 +15,7 @@ mod formulas;
 mod items;
 mod kinds;
 mod laws;
+mod nested;
 mod raw;
 mod raw_blocks;
 mod stops;
@@ -22,6 +23,7 @@ mod structure;
 mod terminal;
 mod terms;
 mod vocabulary;
+mod whole;
 
 pub use block_laws::{one_file, one_item};
 pub use error::KbError;
@@ -41,3 +43,4 @@ pub use raw_blocks::{
 };
 pub use stops::ReadError;
 pub use terminal::{Adding, Aggregation, Arrow, Comparison, Item, Outer, Terminal};
+pub use whole::{read_formula, read_term};
