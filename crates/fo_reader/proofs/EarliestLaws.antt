@@ -1,5 +1,5 @@
 -- What was noted use by use is the earliest refusal of a stage.
-use Rattle.std.proofs.Common.{◌≡◌, ◌<◌, ◌==◌, ℕ, Bool, true, false, ◌||◌, ◌&&◌, nat_lt, IsTrue, List, [], ◌∷◌, ◌++◌, Option, None, Some, if◌then◌else◌, fold, refl, ap, sym, ◌∙◌, arith, ◌⊎◌, inl, inr, Contains, subst}
+use Rattle.std.proofs.Common.{◌≡◌, ◌<◌, ◌==◌, ℕ, Bool, true, false, ◌||◌, ◌&&◌, nat_lt, IsTrue, List, [], ◌∷◌, Option, None, Some, if◌then◌else◌, fold, refl, ap, sym, ◌∙◌, arith, ◌⊎◌, inl, inr, Contains, subst}
 use Rattle.std.specs.List.{flat_map}
 use Rattle.std.proofs.lemmas.Grind.{fold-append}
 use Rattle.std.proofs.lemmas.Bool.Decides.{nat_tests}

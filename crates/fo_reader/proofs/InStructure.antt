@@ -1,7 +1,7 @@
 -- Where the parts of a structure are stuck.
-use Rattle.std.proofs.Common.{◌≡◌, ℕ, List, [], ◌∷◌, ◌++◌, Option, Some, None, ◌⊎◌, inl, inr, refl, sym, ap, subst, ◌∙◌}
+use Rattle.std.proofs.Common.{◌≡◌, ℕ, List, [], ◌∷◌, ◌++◌, Option, Some, None, inl, inr, refl, sym, ap, subst, ◌∙◌}
 use Rattle.fo_reader.specs.declared.stops.ReadError.{ReadError}
-use Rattle.fo_reader.specs.declared.stops.ReadError.TheVariants.{Memory, Stuck}
+use Rattle.fo_reader.specs.declared.stops.ReadError.TheVariants.{Stuck}
 use Rattle.fo_reader.specs.declared.terminal.Terminal.TheVariants as t
 use Rattle.fo_reader.specs.declared.terminal.Outer.{Outer}
 use Rattle.fo_reader.specs.declared.terminal.Outer.TheVariants as o
@@ -17,10 +17,10 @@ use Rattle.fo_reader.specs.BlockTrees.{Header, Element, named, number, below_zer
 use Rattle.fo_reader.specs.BlockSpelling.{put_option, put_each, put_behind, put_header, put_element, put_item, put_items, put_to, put_row, put_value, put_entry, put_structure}
 use Rattle.fo_reader.specs.BlockParts.{next, No, Is, AWord, Anything, NoTruth, EndsItem, EndsItems, EndsRow, StuckAt, Absent}
 use Rattle.fo_reader.specs.BlockReads.{put_marked, put_row_tails}
-use Rattle.fo_reader.proofs.Formats.{Here, at_same, sign_format, name_format, same_next, comes_too, each_cut, each_next, push_put, whole_each}
-use Rattle.fo_reader.proofs.Plain.{Law, fully, not_first, sign_law, name_law, then_first, then_second, option_law, option_in, option_ends, each_law, each_in, each_here, either_law, either_left, either_right, same_in, narrowed_in, stuck_behind, behind, behind_law, behind_in}
+use Rattle.fo_reader.proofs.Formats.{Here, at_same, same_next, comes_too, each_cut, each_next, push_put, whole_each}
+use Rattle.fo_reader.proofs.Plain.{fully, not_first, sign_law, name_law, then_first, then_second, option_law, option_in, option_ends, each_law, each_in, either_law, either_left, either_right, same_in, narrowed_in, stuck_behind, behind, behind_in}
 use Rattle.fo_reader.proofs.BlockReadings.{absent_at, neither}
-use Rattle.fo_reader.proofs.StructureFormats.{BeginsElement, element_format, element_law, range_format, range_optional, item_format, item_parts_law, item_same, item_law, item_tails, item_tails_several, items_format, items_parts_law, items_same, items_law, to_format, to_law, arrow_format, arrow_optional, plain_law, closed_arrow_law, inner_row, inner_row_law, bracketed_law, only_format, only_law, other_rows, other_alternatives, row_format, row_parts_law, row_same, row_alternatives, row_law, row_tail, row_optional, row_tails_several, row_tails, row_tails_law, tails_to, tails_written, with_row, rows_format, rows_parts_law, rows_same, rows_law, rows_optional, inner_table, inner_table_law, ATruth, other_value_alternatives, value_format, value_parts_law, value_alternatives, value_same, value_law, closing_format, closing_alternatives, named_mark, named_mark_law, equal_format, equal_parts_law, equal_alternatives, equal_same, equal_law, given_value, given_value_law, entry_format, entry_parts_law, entry_same, entry_law, entries_format, entries_several, closed_entries_law, of_vocabulary_law, colon_of, colon_of_law, named_header, named_header_law, header_format, header_parts_law, header_same, header_law, structure_format, structure_parts_law, structure_same}
+use Rattle.fo_reader.proofs.StructureFormats.{BeginsElement, element_format, element_law, range_format, range_optional, item_format, item_parts_law, item_same, item_law, item_tails, item_tails_several, items_format, items_parts_law, items_same, items_law, to_law, arrow_format, arrow_optional, closed_arrow_law, inner_row, inner_row_law, only_format, other_alternatives, row_format, row_parts_law, row_same, row_alternatives, row_law, row_tail, row_tails_several, row_tails, row_tails_law, tails_to, tails_written, rows_format, rows_parts_law, rows_same, rows_optional, inner_table_law, ATruth, other_value_alternatives, value_format, value_parts_law, value_alternatives, value_same, value_law, closing_alternatives, named_mark, named_mark_law, equal_format, equal_parts_law, equal_alternatives, equal_same, equal_law, given_value_law, entry_format, entry_parts_law, entry_same, entry_law, entries_format, entries_several, closed_entries_law, of_vocabulary_law, colon_of, colon_of_law, named_header, named_header_law, header_format, header_parts_law, header_same, header_law, structure_format, structure_parts_law, structure_same}
 
 -- ---- how a block begins
 

@@ -6,19 +6,19 @@ use Rattle.kb_text.specs.declared.fault.KbFault.{KbFault}
 use Rattle.fo_reader.specs.declared.terminal.Terminal.TheVariants as t
 use Rattle.fo_reader.specs.declared.stops.ReadError.{ReadError}
 use Rattle.fo_reader.specs.declared.stops.ReadError.TheVariants.{Memory, Stuck}
-use Rattle.fo_reader.specs.Terminals.{Symbol, Tok, tok_at, mark, word, place_of}
+use Rattle.fo_reader.specs.Terminals.{Symbol, Tok, tok_at, mark, word}
 use Rattle.fo_reader.specs.Trees.{Formula, Term}
 use Rattle.fo_reader.specs.Spelling.{put_formula, put_term}
 use Rattle.fo_reader.specs.Fine.{FineFormula, FineTerm}
 use Rattle.fo_reader.specs.Texts.{SameHead, ParsesTo, FirstStuck}
-use Rattle.fo_reader.specs.Machine.{Frame, need, want, done, named, fresh, Mode, in_term, Sort, term, formula, State, on, stuck, whole, run, finish, ends_at, ended, step, advance, goes_on, shut, shuts, behind_operand}
+use Rattle.fo_reader.specs.Machine.{Frame, need, want, done, named, fresh, Mode, in_term, Sort, term, on, stuck, whole, run, finish, ends_at, ended, step, advance, goes_on, shut, shuts, behind_operand}
 use Rattle.fo_reader.specs.Modes.{mode_formula, sort_formula}
-use Rattle.fo_reader.specs.Parts.{Broken, Fails, EndsTerm, Halts, at_sentence, at_factor}
+use Rattle.fo_reader.specs.Parts.{Fails, EndsTerm, at_sentence, at_factor}
 use Rattle.fo_reader.specs.Results.{FormulaIs, TermIs}
 use Rattle.fo_reader.specs.declared.error.KbError.{KbError}
 use Rattle.fo_reader.specs.declared.error.KbError.TheVariants as errors
 use Rattle.fo_reader.specs.Items.{IsTokens, ItemsOf}
-use Rattle.fo_reader.specs.Whole.{IsStuck, Reads, parsed, unscanned, ungrammatical, Answers, Parses, refusal_of}
+use Rattle.fo_reader.specs.Whole.{IsStuck, parsed, unscanned, ungrammatical, Answers, Parses, refusal_of}
 use Rattle.fo_reader.proofs.Append.{formula-append, term-append}
 use Rattle.fo_reader.proofs.Behind.{ends_formula}
 use Rattle.fo_reader.proofs.InTerms.{term_no_args}

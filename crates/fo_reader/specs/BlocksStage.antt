@@ -1,5 +1,5 @@
 -- The stage of blocks: which blocks a file may have, and which theory and structure are chosen.
-use Rattle.std.specs.Prelude.{ℕ, ◌≡◌, ◌+◌, Bool, true, false, not, ◌&&◌, IsTrue, nat_lt, is_some, is_none, List, [], ◌∷◌, ◌++◌, length, map, Option, None, Some, position, if◌then◌else◌, unwrap_or, Contains}
+use Rattle.std.specs.Prelude.{ℕ, ◌≡◌, ◌+◌, Bool, true, false, not, ◌&&◌, IsTrue, nat_lt, is_none, List, [], ◌∷◌, ◌++◌, length, map, Option, None, Some, position, Contains}
 use Rattle.std.specs.List.{flat_map, list_any}
 use Rattle.std.specs.Str.{bytes_eq}
 use Rattle.kb_text.specs.declared.fault.K.{K}
@@ -9,7 +9,7 @@ use Rattle.fo_reader.specs.Earliest.{refusal, noted_at}
 use Rattle.fo_reader.specs.Trees.{Name}
 use Rattle.fo_reader.specs.Scopes.{Text}
 use Rattle.fo_reader.specs.Names.{text_of, place_of_name}
-use Rattle.fo_reader.specs.Files.{Header, VocabularyBlock, TheoryBlock, TermBlock, File}
+use Rattle.fo_reader.specs.Files.{Header, VocabularyBlock, File}
 
 pub data BlockUse : Type 0 where
   -- a header's second word, where the vocabulary has this name, if there is one

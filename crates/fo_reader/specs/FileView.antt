@@ -1,5 +1,5 @@
 -- What the stages of blocks and names look at in a raw file.
-use Rattle.std.specs.Prelude.{ℕ, List, [], ◌∷◌, map, Option, Some, None}
+use Rattle.std.specs.Prelude.{List, [], ◌∷◌, map, Option, Some, None}
 use Rattle.std.specs.Option.{option_map}
 use Rattle.fo_reader.specs.declared.raw_blocks.RawKb.{RawKb}
 use Rattle.fo_reader.specs.declared.raw_blocks.RawVocabulary.{RawVocabulary}

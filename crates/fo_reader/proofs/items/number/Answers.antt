@@ -1,7 +1,6 @@
-use Rattle.std.proofs.Common.{◌≡◌, ◌≤◌, ◌<◌, ◌+◌, ◌*◌, ◌-◌, ◌^◌, arith}
+use Rattle.std.proofs.Common.{◌+◌, ◌*◌, ◌-◌, arith}
 use Rattle.std.proofs.lemmas.List.Sums.{fold_more}
 use Rattle.kb_text.specs.Pieces.{IsPiece, IntText}
-use Rattle.kb_text.specs.Tokens.{decimal}
 use Rattle.kb_text.proofs.Numbers.{digit_at, decimal_front}
 use Rattle.fo_reader.proofs.items.number.Goals as goal
 

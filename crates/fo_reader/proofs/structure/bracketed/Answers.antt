@@ -1,6 +1,5 @@
-use Rattle.std.proofs.Common.{◌≡◌, ◌∷◌, ◌∙◌, ap, arith, inr, List, map}
 use Rattle.std.proofs.lemmas.Result.{err_from_is_err_and}
-use Rattle.fo_reader.specs.Terminals.{Tok, toks, sign}
+use Rattle.fo_reader.specs.Terminals.{toks}
 use Rattle.fo_reader.specs.BlockView.{items_view}
 use Rattle.fo_reader.proofs.InStructure.{bracketed_items, bracketed_close, bracketed_arrow}
 use Rattle.fo_reader.proofs.structure.bracketed.Goals as goal

@@ -1,7 +1,7 @@
-use Rattle.std.proofs.Common.{◌≡◌, ◌∷◌, ◌∙◌, ap, arith, inr, List, map}
+use Rattle.std.proofs.Common.{arith}
 use Rattle.std.proofs.lemmas.Result.{err_from_is_err_and}
 use Rattle.std.proofs.lemmas.List.{map_push}
-use Rattle.fo_reader.specs.Terminals.{Tok, toks, sign}
+use Rattle.fo_reader.specs.Terminals.{toks}
 use Rattle.fo_reader.proofs.Formats.{each_step}
 use Rattle.fo_reader.proofs.StructureFormats.{entry_format}
 use Rattle.fo_reader.proofs.InStructure.{in_entries}

@@ -1,6 +1,4 @@
 use Rattle.std.proofs.Common.{◌≡◌, ◌≤◌, length, map}
-use Rattle.fo_reader.specs.declared.terminal.Terminal.TheVariants as t
-use Rattle.fo_reader.specs.declared.terminal.Outer.TheVariants as o
 use Rattle.fo_reader.specs.Terminals.{toks}
 use Rattle.fo_reader.specs.BlockSpelling.{put_each, put_entry}
 use Rattle.fo_reader.specs.BlockView.{entry_view}

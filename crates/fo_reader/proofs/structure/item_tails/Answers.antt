@@ -1,4 +1,4 @@
-use Rattle.std.proofs.Common.{◌≡◌, ◌∷◌, ◌∙◌, ap, arith, inr, List, map}
+use Rattle.std.proofs.Common.{◌∷◌, ◌∙◌, ap, arith, List}
 use Rattle.std.proofs.lemmas.Result.{err_from_is_err_and}
 use Rattle.std.proofs.lemmas.List.{map_push}
 use Rattle.fo_reader.specs.declared.terminal.Terminal.TheVariants as t

@@ -1,6 +1,5 @@
 use Rattle.std.proofs.Common.{◌≡◌, ◌≤◌, length, map}
 use Rattle.fo_reader.specs.declared.terminal.Terminal.TheVariants as t
-use Rattle.fo_reader.specs.declared.terminal.Outer.TheVariants as o
 use Rattle.fo_reader.specs.Terminals.{toks}
 use Rattle.fo_reader.specs.BlockSpelling.{put_each, put_behind, put_item}
 use Rattle.fo_reader.specs.BlockView.{item_tail_view}

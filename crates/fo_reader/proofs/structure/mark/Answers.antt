@@ -1,6 +1,5 @@
-use Rattle.std.proofs.Common.{◌≡◌, ◌∷◌, ◌∙◌, ap, arith, inr, List, map}
 use Rattle.std.proofs.lemmas.Result.{err_from_is_err_and}
-use Rattle.fo_reader.specs.Terminals.{Tok, toks, sign}
+use Rattle.fo_reader.specs.Terminals.{toks}
 use Rattle.fo_reader.specs.View.{name_view}
 use Rattle.fo_reader.proofs.InStructure.{no_mark_name, no_mark_close, no_mark_equal}
 use Rattle.fo_reader.proofs.structure.mark.Goals as goal

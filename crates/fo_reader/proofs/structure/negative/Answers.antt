@@ -1,7 +1,7 @@
-use Rattle.std.proofs.Common.{◌≡◌, ◌∷◌, refl}
+use Rattle.std.proofs.Common.{◌∷◌, refl}
 use Rattle.fo_reader.specs.declared.terminal.Terminal.TheVariants as t
 use Rattle.fo_reader.specs.declared.terminal.Adding.TheVariants.{Minus}
-use Rattle.fo_reader.specs.Terminals.{Tok, toks, sign}
+use Rattle.fo_reader.specs.Terminals.{toks, sign}
 use Rattle.fo_reader.proofs.InStructure.{no_number}
 use Rattle.fo_reader.proofs.structure.negative.Goals as goal
 

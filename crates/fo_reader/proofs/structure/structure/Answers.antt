@@ -1,8 +1,8 @@
-use Rattle.std.proofs.Common.{◌≡◌, ◌∷◌, ◌∙◌, ap, arith, inr, List, map}
+use Rattle.std.proofs.Common.{◌∷◌}
 use Rattle.std.proofs.lemmas.Result.{err_from_is_err_and}
 use Rattle.fo_reader.specs.declared.terminal.Terminal.TheVariants as t
 use Rattle.fo_reader.specs.declared.terminal.Outer.TheVariants as o
-use Rattle.fo_reader.specs.Terminals.{Tok, toks, sign}
+use Rattle.fo_reader.specs.Terminals.{toks, sign}
 use Rattle.fo_reader.specs.BlockView.{header_view}
 use Rattle.fo_reader.specs.BlockSpelling.{put_structure}
 use Rattle.fo_reader.proofs.InVocabulary.{closes_there}

@@ -1,6 +1,5 @@
-use Rattle.std.proofs.Common.{◌≡◌, ◌∷◌, ◌∙◌, ap, arith, inr, List, map}
 use Rattle.std.proofs.lemmas.Result.{err_from_is_err_and}
-use Rattle.fo_reader.specs.Terminals.{Tok, toks, sign}
+use Rattle.fo_reader.specs.Terminals.{toks}
 use Rattle.fo_reader.specs.BlockView.{row_view}
 use Rattle.fo_reader.specs.BlockSpelling.{put_value}
 use Rattle.fo_reader.proofs.InVocabulary.{closes_there}

@@ -1,10 +1,10 @@
-use Rattle.std.proofs.Common.{◌≡◌, [], arith, map}
+use Rattle.std.proofs.Common.{arith, map}
 use Rattle.std.proofs.lemmas.Result.{err_from_is_err_and}
 use Rattle.std.proofs.lemmas.List.{map_push}
 use Rattle.fo_reader.specs.Terminals.{toks}
 use Rattle.fo_reader.specs.Spelling.{put_unary}
 use Rattle.fo_reader.specs.Machine.{fresh, unsettled}
-use Rattle.fo_reader.specs.View.{unary_view, or_view, link_view, formula_of}
+use Rattle.fo_reader.specs.View.{unary_view, or_view, link_view}
 use Rattle.fo_reader.proofs.Inside.{fails_in}
 use Rattle.fo_reader.proofs.InChains.{first_or, alone_is, links_first, links_more, linked_is, in_links, formula_kind, not_nil}
 use Rattle.fo_reader.proofs.expressions.Reader.linked.Goals as goal

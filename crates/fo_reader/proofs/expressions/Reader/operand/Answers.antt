@@ -1,4 +1,4 @@
-use Rattle.std.proofs.Common.{◌≡◌, ◌∷◌, ◌∙◌, [], ℕ, List, refl, ap, sym, arith}
+use Rattle.std.proofs.Common.{◌∙◌, List, ap, sym, arith}
 use Rattle.std.proofs.lemmas.Result.{err_from_is_err_and}
 use Rattle.fo_reader.specs.Terminals.{Tok, toks}
 use Rattle.fo_reader.specs.View.{unary_view}
