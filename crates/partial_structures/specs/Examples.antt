@@ -1,5 +1,5 @@
 -- Worked examples of certain truth, over known atoms that are few enough to work them out by hand.
-use Rattle.std.specs.Prelude.{◌≡◌, ℕ, pos, List, [], ◌∷◌, true, false, Option, None, Some}
+use Rattle.std.specs.Prelude.{◌≡◌, ℕ, pos, negsuc, List, [], ◌∷◌, true, false, Option, None, Some}
 use Rattle.kb_logic.specs.declared.elements.Elem.{Elem}
 use Rattle.kb_logic.specs.declared.elements.Elem.TheVariants.{Named, Num}
 use Rattle.kb_logic.specs.declared.vocabularies.Bound.{Bound}
@@ -195,5 +195,13 @@ Extensions =
     × (ExtendsData (with ((b ∷ f ∷ []) ∷ []) green green) sample → ⊥)
     × (ExtendsData (with ((b ∷ f ∷ []) ∷ []) red red) sample → ⊥)
 
+-- arithmetic at its bounds, at the end of 64 bits, and beside an infinite value
+abbrev pub Ends : Type 0
+Ends =
+    (value (product (more_terms (integer (pos 500000000000000)) (more_terms (size at_b) no_terms))) ≡ Some (number (pos 1000000000000000)))
+    × (value (summation (more_summands true (integer (pos 1000000000000000)) (more_summands false (size at_b) no_summands))) ≡ Some (number (negsuc 999999999999997)))
+    × (certain (comparison cmp.Lt (integer (pos 9223372036854775807)) (aggregate kind.Min (over 2) verum x)) ≡ Yes)
+    × (certain (comparison cmp.Lt (integer (negsuc 999999999999999)) (size at_f)) ≡ Unknown)
+
 abbrev pub WorkedExamples : Type 0
-WorkedExamples = Atoms × Connectives × Comparisons × Quantifiers × Terms × Values × Extensions
+WorkedExamples = Atoms × Connectives × Comparisons × Quantifiers × Terms × Values × Extensions × Ends

@@ -11,4 +11,5 @@ returns c = (
   (refl, refl, refl, refl, refl, refl, refl, refl, refl, refl),
   (refl, refl, refl, refl),
   extensions,
+  (refl, refl, refl, refl),
 )
