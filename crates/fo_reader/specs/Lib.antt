@@ -28,3 +28,4 @@ pub mod Numbering
 pub mod FileView
 pub mod BlocksStage
 pub mod BlockReads
+pub mod Below

@@ -1,3 +1,7 @@
+pub mod Forest
+pub mod Ranks
+pub mod Climbs
+pub mod NamedTypes
 pub mod Bindings
 pub mod Listed
 pub mod Groups

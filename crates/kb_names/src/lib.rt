@@ -3,9 +3,11 @@
 
 mod arrows;
 mod binders;
+mod cycles;
 mod declarations;
 mod earliest;
 mod formulas;
+mod isa_laws;
 mod laws;
 mod named;
 mod nodes;
@@ -17,6 +19,7 @@ mod uses;
 mod words;
 
 pub use earliest::Earliest;
+pub use isa_laws::{cycles_come_back, isa_has_a_rank, isa_is_a_forest, named_types_have_no_cycle};
 pub use laws::{noted_is_earliest, worked_examples};
 pub use named::{
     NamedFormula, NamedKb, NamedNode, NamedSigned, NamedTerm, NamedTermBlock, NamedTheory, NamedVar,
