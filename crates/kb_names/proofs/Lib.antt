@@ -1,3 +1,5 @@
+pub mod Headers
+pub mod BlockRows
 pub mod Forest
 pub mod Ranks
 pub mod Climbs

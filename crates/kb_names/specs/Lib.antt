@@ -1,3 +1,4 @@
+pub mod Choices
 pub mod Meanings
 pub mod Levels
 pub mod NamedViews

@@ -3,6 +3,7 @@
 
 mod arrows;
 mod binders;
+mod blocks;
 mod cycles;
 mod declarations;
 mod earliest;
@@ -11,6 +12,7 @@ mod isa_laws;
 mod laws;
 mod named;
 mod nodes;
+mod picking;
 mod positions;
 mod scopes;
 mod tables;
@@ -24,3 +26,4 @@ pub use laws::{noted_is_earliest, worked_examples};
 pub use named::{
     NamedFormula, NamedKb, NamedNode, NamedSigned, NamedTerm, NamedTermBlock, NamedTheory, NamedVar,
 };
+pub use picking::{Picked, pick};
