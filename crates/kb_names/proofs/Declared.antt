@@ -28,7 +28,7 @@ declared_names-next t s (constructed_type n ns) ds =
 declared_names-next t s (symbol n args to) ds = rw (add-zero t) refl
 
 -- one name of an element more
-front : {X : Type 0} (xs : List X) (i : ℕ) (x : X) → i < length xs → x ≡ get_or xs i x → drop i xs ≡ x ∷ drop (i + 1) xs
+pub front : {X : Type 0} (xs : List X) (i : ℕ) (x : X) → i < length xs → x ≡ get_or xs i x → drop i xs ≡ x ∷ drop (i + 1) xs
 front xs i x lt is = rw (add-one i, drop-cons xs i x, ← is) refl
 
 pub next_made : (ty i : ℕ) (ns after whole : Names) (more : List RawElementTail) (x : RawElementTail)

@@ -11,3 +11,4 @@ pub mod Chains
 pub mod Declared
 pub mod ChainEnds
 pub mod Rows
+pub mod PerDeclaration

@@ -4,4 +4,5 @@ pub mod Levels
 pub mod NamedViews
 pub mod Tails
 pub mod FileViews
+pub mod Failures
 pub mod Examples

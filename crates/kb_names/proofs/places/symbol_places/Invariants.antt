@@ -1,0 +1,8 @@
+use Rattle.std.proofs.Common.{◌≡◌, ◌++◌, drop, map}
+use Rattle.fo_reader.specs.FileView.{declaration_in}
+use Rattle.fo_reader.specs.Numbering.{symbol_places}
+use Rattle.kb_names.proofs.places.symbol_places.Given as goal
+
+abbrev pub invariant-loop-raw : goal.invariant-loop-raw
+invariant-loop-raw l =
+    l.places ++ symbol_places (map declaration_in (drop l.raw-index l.declarations)) ≡ symbol_places (map declaration_in l.declarations)
