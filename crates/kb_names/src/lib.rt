@@ -3,6 +3,8 @@
 
 mod arrows;
 mod binders;
+#[cfg(test)]
+mod block_tests;
 mod blocks;
 mod cycles;
 mod declarations;
