@@ -1,3 +1,4 @@
+pub mod StageExamples
 pub mod Choices
 pub mod Meanings
 pub mod Levels

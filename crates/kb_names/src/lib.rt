@@ -19,6 +19,7 @@ mod picking;
 mod places;
 mod positions;
 mod scopes;
+mod stage_examples;
 mod tables;
 mod theories;
 mod uses;
@@ -34,3 +35,4 @@ pub use named::{
     NamedFormula, NamedKb, NamedNode, NamedSigned, NamedTerm, NamedTermBlock, NamedTheory, NamedVar,
 };
 pub use picking::{Picked, pick};
+pub use stage_examples::{below_worked_out, blocks_worked_out};
