@@ -1,5 +1,5 @@
 -- Worked examples of the stage of blocks, and of types below one another.
-use Rattle.std.specs.Prelude.{◌≡◌, true, false, List, [], ◌∷◌, Option, None, Some, codes}
+use Rattle.std.specs.Prelude.{◌≡◌, true, false, List, [], ◌∷◌, None, Some, codes}
 use Rattle.fo_reader.specs.Below.{Parents, is_below}
 use Rattle.fo_reader.specs.BlocksStage.{over, called, one_of, wanted, is_unknown, is_redeclared, is_choiceless, chosen, one_unless_named}
 use Rattle.fo_reader.specs.Trees.{Name, name}
