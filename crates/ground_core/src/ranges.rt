@@ -1,5 +1,5 @@
 //! A test that the values of a problem's terms stay in range.
-ghost use Rattle.std.specs.Prelude.{◌≡◌, IsTrue, All};
+ghost use Rattle.std.specs.Prelude.{◌≡◌, ◌↔◌, IsTrue, All};
 ghost use Rattle.ground_core.specs.Meaning.{HasTermsInRange};
 ghost use Rattle.ground_core.specs.Ranges.{part_size, IsSmall};
 
@@ -22,7 +22,7 @@ fn size_of_part(kind: AggKind, part: &Part) -> u64
 
 /// Whether the base and all parts together stay within the greatest value.
 fn is_small(term: &GroundTerm) -> bool
-    ensures { IsTrue result → IsSmall term.now }
+    ensures { IsTrue result ↔ IsSmall term.now }
 {
     let Some(mut room) = GREATEST.checked_sub(term.base.unsigned_abs()) else {
         return false;
@@ -37,7 +37,7 @@ fn is_small(term: &GroundTerm) -> bool
 }
 
 fn are_small(terms: &[GroundTerm]) -> bool
-    ensures { IsTrue result → All IsSmall terms.now }
+    ensures { IsTrue result ↔ All IsSmall terms.now }
 {
     for term in terms {
         if !is_small(term) {
@@ -50,7 +50,8 @@ fn are_small(terms: &[GroundTerm]) -> bool
 /// Whether the terms are so small that no valuation takes them out of range. A problem that fails
 /// this test may still have its terms in range.
 pub fn has_small_terms(problem: &Problem) -> bool
-    ensures { IsTrue result → HasTermsInRange problem.now }
+    ensures small { IsTrue result ↔ All IsSmall problem.now.terms }
+    ensures in_range { IsTrue result → HasTermsInRange problem.now }
 {
     are_small(problem.terms())
 }
