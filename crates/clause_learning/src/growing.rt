@@ -27,7 +27,7 @@ impl Engine {
             store,
             learnt: ClauseList::new(alloc),
             ids: Vec::new(alloc),
-            choices: Choices::new(),
+            choices: Choices::new(alloc),
             searches: 0,
             known: 0,
             conflicts: 0,
@@ -65,10 +65,15 @@ impl Engine {
         let Some(count) = more.vars().checked_add(1) else {
             return Err(Memory);
         };
+        self.choices.signs.reserve(count as usize)?;
         self.store.reserve_vars(count)?;
+        let known = self.problem.clause_count();
         let first = self.store.len();
         match self.hold(more) {
-            Ok(()) => Ok(()),
+            Ok(()) => {
+                self.choices.signs.note_choices(&self.problem, known);
+                Ok(())
+            }
             Err(error) => {
                 remove_from(&mut self.store, first);
                 Err(error)

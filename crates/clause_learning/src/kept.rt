@@ -1,12 +1,12 @@
 //! The problem that a solver keeps.
-ghost use Rattle.std.specs.Prelude.{◌≡◌, ◌≤◌, ◌+◌, ◌++◌, [], IfOk, OnOk, OnErr, vec_len, vec_capacity};
+ghost use Rattle.std.specs.Prelude.{◌≡◌, ◌≤◌, ◌+◌, ◌++◌, [], length, slice_index_or, IfOk, OnOk, OnErr, vec_len, vec_capacity};
 ghost use Rattle.ground_core.specs.Problems.{IsProblem};
 ghost use Rattle.ground_core.specs.Growth.{empty_problem};
 ghost use Rattle.clause_learning.specs.Joining.{CanJoin, joined_problem};
 
 use ground_core::{AtomTable, Gate, GroundTerm, Memory, Problem};
 use kb_logic::{ListOf, Literal};
-use lit_core::Clause;
+use lit_core::{Clause, Lit};
 use std::alloc::Global;
 use std::marker::Model;
 
@@ -130,6 +130,30 @@ impl KeptProblem {
         ensures bounds { self.now.bounds ≡ [] }
     {
         self.vars
+    }
+
+    /// How many ground atoms there are.
+    pub fn atom_count(&self) -> u64
+        ensures { result ≡ length self.now.atoms }
+    {
+        self.atoms.len() as u64
+    }
+
+    /// How many clauses there are beside those of the gates.
+    pub fn clause_count(&self) -> usize
+        ensures { result ≡ length self.now.clauses }
+    {
+        self.clauses.len()
+    }
+
+    /// The clause at a place, and no literals past the end.
+    pub fn clause(&self, place: usize) -> &[Lit]
+        ensures { result.now ≡ slice_index_or self.now.clauses place [] }
+    {
+        match self.clauses.get(place) {
+            Some(clause) => clause.as_slice(),
+            None => &[],
+        }
     }
 
     /// Says all that another problem says, too.

@@ -10,6 +10,7 @@ mod kept;
 mod levels;
 mod pushing;
 mod searching;
+mod signs;
 mod solver;
 #[cfg(test)]
 mod tests;

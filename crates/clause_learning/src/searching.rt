@@ -93,13 +93,18 @@ impl Engine {
         // So the sum below fits.
         let _count = self.store.assignment().len();
         let end = self.problem.vars() + 1;
-        match self.choices.next_decision(&self.store, end) {
+        let salt = self.searches.wrapping_add(self.conflicts / 32);
+        match self
+            .choices
+            .next_decision(&self.problem, &self.store, end, salt)
+        {
             Some(lit) => {
                 self.store.assign(lit, None);
                 Ok(None)
             }
             None => {
                 let values = values_of(self.alloc, self.store.assignment(), end)?;
+                self.choices.signs.note_answer(&values);
                 Ok(Some(Verdict::Sat(values)))
             }
         }
@@ -184,6 +189,7 @@ impl Engine {
         self.conflicts = 0;
         self.root_conflicts = 0;
         self.assumed = 0;
+        self.choices.begin();
         let verdict = self.search(assume);
         self.store.clear();
         verdict

@@ -50,7 +50,7 @@ module _ (c : goal.After-assign) where
 
   within : IsLitOf old.problem.vars c.in-Some.lit
   within =
-      let w = c.in-Some.ensures in
+      let w = c.in-Some.ensures.found in
       let high : c.in-Some.lit.var.0 < c.vars-end.result + 1 = w.1 in
       let vars : c.vars-end.result ≡ old.problem.vars = c.vars-end.ensures.value in
       (w.0, omega (arith, high, vars))

@@ -1,8 +1,8 @@
 use Rattle.std.proofs.Common.{◌≡◌, ℕ, ◌+◌, ◌-◌, ◌^◌, min, length, subst, refl, ◌∙◌, arith}
 use Rattle.clause_learning.specs.Searching.{IsLevelOf}
 use Rattle.clause_learning.specs.declared.engine.Engine.{Engine}
-use Rattle.clause_learning.proofs.TrailChange.{cut-assumed}
-use Rattle.clause_learning.proofs.SearchFacts.{Moves, root-gives, conflict-still, current-still, lesson-search, lesson-assumed, lesson-gives}
+use Rattle.clause_learning.proofs.TrailChange.{cut-assumed, cut-orderly}
+use Rattle.clause_learning.proofs.SearchFacts.{Moves, search-moves, root-gives, conflict-still, current-still, lesson-search, lesson-assumed, lesson-gives}
 use Rattle.clause_learning.proofs.engine.Engine.learn_from.Goals as goal
 
 pub returns-then-level-eq0-clause-lesson : goal.returns-then-level-eq0-clause-lesson
@@ -15,6 +15,25 @@ analyse-requires-clause-conflict c = conflict-still c.args.self.now.store c.back
 
 pub analyse-requires-clause-current : goal.analyse-requires-clause-current
 analyse-requires-clause-current c = current-still c.args.self.now.store c.back_to.new.self c.args.conflict c.conflict_level-level.result c.back_to.ensures.trail c.back_to.ensures.clauses c.back_to.ensures.laws c.conflict_level-level.ensures c.if-level-eq0.false
+
+pub returns-in_err-analysis-clause-search : goal.returns-in_err-analysis-clause-search
+returns-in_err-analysis-clause-search c =
+    let e : Engine = c.args.self.now in
+    let f : Engine = record {
+      alloc = e.alloc;
+      problem = e.problem;
+      store = c.back_to.new.self;
+      learnt = e.learnt;
+      ids = e.ids;
+      choices = c.takes_back.new.self;
+      searches = e.searches;
+      known = e.known;
+      conflicts = e.conflicts;
+      root_conflicts = e.root_conflicts;
+      assumed = 0;
+    } in
+    let moves : Moves e f = record { problem = refl; learnt = refl; ids = refl; known = refl; searches = refl; clauses = c.back_to.ensures.clauses; size = c.back_to.ensures.trail.size } in
+    search-moves e f moves c.back_to.ensures.laws (cut-orderly c.conflict_level-level.result e.store.trail c.back_to.new.self.trail c.back_to.ensures.trail e.problem.vars c.requires.search.orderly) (omega arith) c.requires.search.fewer c.requires.search.once c.requires.search
 
 pub returns-in_err-analysis-clause-decisions : goal.returns-in_err-analysis-clause-decisions
 returns-in_err-analysis-clause-decisions c = cut-assumed c.conflict_level-level.result c.args.self.now.store.trail c.back_to.new.self.trail c.back_to.ensures.trail
