@@ -4,7 +4,7 @@ ghost use Rattle.ground_core.specs.Problems.{AreLitsOf};
 use crate::Solver;
 use ground_core::{AtomTable, BruteForce, Budget, Memory, Problem, Solve, Verdict};
 use kb_logic::{ElemList, Literal, LiteralList};
-use lit_core::{Clause, Lit, Var};
+use lit_core::{Clause, Lit, Values, Var};
 use std::alloc::Global;
 use std::test::Fail;
 
@@ -244,5 +244,59 @@ fn count_alike(alloc: Global) -> Result<(u64, u64), Memory> {
 fn answers_as_brute_force_does(rt: HostRuntime) -> Result<(), Fail> {
     let (same, sat) = count_alike(rt.alloc())?;
     assert!(rt; same == 20 && 0 < sat && sat < 20);
+    Ok(())
+}
+
+/// A one at the place of each of four atoms that is true.
+fn digits(values: &Values) -> u64 {
+    let mut sum = 0u64;
+    for var in 1..5u64 {
+        let lit = Lit {
+            var: Var(var),
+            positive: true,
+        };
+        let here = var < values.len() as u64 && values.holds(lit);
+        sum = sum.saturating_mul(10).saturating_add(here as u64);
+    }
+    sum
+}
+
+/// The digits of the next answer.
+fn next_digits(solver: &mut Solver) -> u64 {
+    let mut budget = Budget {
+        limit: None,
+        spent: 0,
+    };
+    match solver.solve(&[], &mut budget) {
+        Ok(Verdict::Sat(values)) => digits(&values),
+        _ => 0,
+    }
+}
+
+/// The sum of the digits of eight answers, in each of which one of four atoms is true.
+fn eight_answers(alloc: Global) -> Result<u64, Memory> {
+    let clauses = [
+        [yes(1), yes(2), yes(3), yes(4)],
+        [no(1), no(2), no(1), no(2)],
+        [no(1), no(3), no(1), no(3)],
+        [no(1), no(4), no(1), no(4)],
+        [no(2), no(3), no(2), no(3)],
+        [no(2), no(4), no(2), no(4)],
+        [no(3), no(4), no(3), no(4)],
+    ];
+    let problem = said(alloc, 4, &clauses)?;
+    let mut solver = solver_of(alloc, problem)?;
+    let mut sum = 0u64;
+    for _ in 0..8 {
+        sum = sum.saturating_add(next_digits(&mut solver));
+    }
+    Ok(sum)
+}
+
+/// What was seen least is tried first, so that each atom has its turn.
+#[test]
+fn answers_take_turns(rt: HostRuntime) -> Result<(), Fail> {
+    let sum = eight_answers(rt.alloc())?;
+    assert!(rt; sum == 2222);
     Ok(())
 }
