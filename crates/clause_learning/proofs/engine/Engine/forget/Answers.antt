@@ -1,4 +1,4 @@
-use Rattle.std.proofs.Common.{◌≡◌, ◌<◌, [], ℕ, List, length, refl, sym, ap, ◌∙◌, subst, All, Contains}
+use Rattle.std.proofs.Common.{◌<◌, ℕ, List, length, refl, subst, All, Contains}
 use Rattle.std.proofs.lemmas.List.Elements.{All-weaker, All-contains_itself}
 use Rattle.clause_learning.specs.declared.engine.Engine.{Engine}
 use Rattle.clause_learning.specs.Knowledge.{RemovesAll}
