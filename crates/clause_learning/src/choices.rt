@@ -1,5 +1,6 @@
 //! What the search decides next.
-ghost use Rattle.std.specs.Prelude.{◌≡◌, ◌≤◌, ◌<◌, ◌+◌, None, length, IfSome, MatchOption, slice_index_or};
+ghost use Rattle.std.specs.Prelude.{◌≡◌, ℕ, ◌≤◌, ◌<◌, ◌+◌, ◌⊎◌, Some, None, length, IfSome, MatchOption, slice_get, slice_index_or};
+ghost use Rattle.clause_store.specs.declared.trails.Step.{Step};
 ghost use Rattle.lit_core.specs.Literals.{value_in};
 ghost use Rattle.clause_store.specs.StoreState.{IsStore};
 ghost use Rattle.ground_core.specs.Problems.{IsLitOf};
@@ -114,6 +115,7 @@ impl Choices {
     pub fn takes_back(&mut self, store: &Store, level: u64)
         ensures lower { self.new.least ≤ self.old.least }
         ensures taken { AreTakenFrom store.now.trail.steps level self.new.least }
+        ensures reached { (self.new.least ≡ self.old.least) ⊎ ((k : ℕ) × (t : Step) × (slice_get store.now.trail.steps k ≡ Some t) × (level < t.level) × (self.new.least ≡ t.lit.var.0)) }
     {
         self.signs.takes_back();
         for place in (0..store.trail().len()).rev() {
