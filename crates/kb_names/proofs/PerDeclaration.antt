@@ -9,9 +9,9 @@ use Rattle.fo_reader.specs.declared.raw_blocks.RawDeclaration.{RawDeclaration}
 use Rattle.fo_reader.specs.FileView.{declaration_in}
 use Rattle.fo_reader.specs.Trees.{Name}
 use Rattle.fo_reader.specs.Files.{Declaration, type_under, constructed_type, symbol}
-use Rattle.fo_reader.specs.Names.{Names, place_of_name}
+use Rattle.fo_reader.specs.Names.{Names}
 use Rattle.fo_reader.specs.Numbering.{types_in, symbols_in, type_places, symbol_places}
-use Rattle.fo_reader.specs.Uses.{Use, counted, position, parent_uses, position_uses, uses_in_declarations, parents_in, type_names}
+use Rattle.fo_reader.specs.Uses.{Use, counted, position, parent_uses, position_uses, uses_in_declarations, parents_in}
 use Rattle.kb_names.specs.Tails.{type_count, symbol_count}
 use Rattle.kb_names.proofs.Declared.{front}
 
@@ -104,12 +104,6 @@ symbol_noted N start a b c d u v us ws e f g h = h ∙ rw (g, f, e) (sym (fold-a
 
 pub alone : (N : Option KbFault → Use → Option KbFault) (start after : Option KbFault) (us : List Use) → after ≡ fold N start us → after ≡ fold N start (us ++ [])
 alone N start after us e = e ∙ ap (fold N start) (sym (append-nil us))
-
-pub type_places-are : (ds : List Declaration) → map place_of_name (type_names ds) ≡ type_places ds
-type_places-are [] = refl
-type_places-are (type_under n p ∷ ds) = ap (λ (ps : List ℕ). place_of_name n ∷ ps) (type_places-are ds)
-type_places-are (constructed_type n ns ∷ ds) = ap (λ (ps : List ℕ). place_of_name n ∷ ps) (type_places-are ds)
-type_places-are (symbol n args to ∷ ds) = type_places-are ds
 
 -- ---- a whole file
 

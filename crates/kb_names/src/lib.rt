@@ -21,6 +21,8 @@ mod positions;
 mod scopes;
 mod stage_examples;
 mod tables;
+#[cfg(test)]
+mod tests;
 mod theories;
 mod uses;
 mod vocabularies;
