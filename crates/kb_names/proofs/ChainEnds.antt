@@ -9,10 +9,10 @@ use Rattle.fo_reader.specs.declared.terminal.Adding.{Adding}
 use Rattle.fo_reader.specs.declared.terminal.Arrow.{Arrow}
 use Rattle.fo_reader.specs.declared.terminal.Arrow.TheVariants as arrow
 use Rattle.fo_reader.specs.Trees as raw
-use Rattle.fo_reader.specs.View.{links_of, formula_of, or_of, and_of, term_of, product_of}
+use Rattle.fo_reader.specs.View.{formula_of, or_of, and_of, term_of, product_of}
 use Rattle.fo_reader.specs.Scopes.{Text}
 use Rattle.fo_reader.specs.Names.{Names}
-use Rattle.fo_reader.specs.Uses.{Use, uses_in, uses_in_or, uses_in_links}
+use Rattle.fo_reader.specs.Uses.{Use, uses_in, uses_in_or}
 use Rattle.fo_reader.specs.NamedTrees as tree
 use Rattle.fo_reader.specs.Numbering.{grouped, named_formula, named_or, named_and, named_unary, named_term, named_product, named_factor, is_minus}
 use Rattle.kb_names.specs.NamedViews.{formula_view}

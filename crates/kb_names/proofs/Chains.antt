@@ -1,22 +1,17 @@
 -- Chains of the grammar as lists.
-use Rattle.std.proofs.Common.{◌≡◌, ℕ, ◌+◌, Bool, false, List, [], ◌∷◌, ◌++◌, length, Option, None, Some, fold, refl, ap, ◌∙◌, sym, map, append-nil, append_assoc, drop, add-one}
+use Rattle.std.proofs.Common.{◌≡◌, ℕ, ◌+◌, List, [], ◌∷◌, ◌++◌, length, Option, None, Some, fold, refl, ap, ◌∙◌, sym, map, append-nil, append_assoc, drop, add-one}
 use Rattle.std.specs.List.{flat_map}
 use Rattle.std.proofs.lemmas.Grind.{fold-append}
 use Rattle.std.proofs.Math.Seq.{drop-append_seam, drop-length}
 use Rattle.fo_reader.specs.Trees as raw
-use Rattle.fo_reader.specs.View.{links_of, or_of, and_of, term_of, product_of, terms_of, vars_of, vars_more, var_tail_view, link_view, or_tail_view, and_tail_view, sum_tail_view, product_tail_view, terms_tail_view}
+use Rattle.fo_reader.specs.View.{links_of, or_of, and_of, term_of, product_of, terms_of, vars_of, vars_more, var_tail_view}
 use Rattle.fo_reader.specs.declared.raw.RawVarTail.{RawVarTail}
-use Rattle.fo_reader.specs.declared.raw.RawLink.{RawLink}
-use Rattle.fo_reader.specs.declared.raw.RawOrTail.{RawOrTail}
-use Rattle.fo_reader.specs.declared.raw.RawAndTail.{RawAndTail}
-use Rattle.fo_reader.specs.declared.raw.RawSumTail.{RawSumTail}
-use Rattle.fo_reader.specs.declared.raw.RawProductTail.{RawProductTail}
 use Rattle.fo_reader.specs.declared.terminal.Adding.{Adding}
 use Rattle.fo_reader.specs.Scopes.{Text}
 use Rattle.fo_reader.specs.Names.{Names}
 use Rattle.fo_reader.specs.NamesStage.{name_noted}
 use Rattle.kb_text.specs.declared.fault.KbFault.{KbFault}
-use Rattle.fo_reader.specs.Uses.{Use, bound, position_uses, uses_of_vars, var_name, var_text, var_type, within, terms_count, vars_in, uses_in, uses_in_links, uses_in_or, uses_in_and, uses_in_unary, uses_in_term, uses_in_product, uses_in_factor, uses_in_terms}
+use Rattle.fo_reader.specs.Uses.{Use, bound, position_uses, uses_of_vars, var_name, var_text, var_type, within, terms_count, vars_in, uses_in_links, uses_in_or, uses_in_and, uses_in_unary, uses_in_term, uses_in_product, uses_in_factor, uses_in_terms}
 use Rattle.fo_reader.specs.NamedTrees as named
 use Rattle.fo_reader.specs.Numbering.{named_links, named_or, disjuncts, named_and, conjuncts, named_unary, named_term, summands, named_product, factors, named_factor, named_terms, is_minus}
 use Rattle.kb_names.specs.Tails.{tail_var}

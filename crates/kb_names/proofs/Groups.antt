@@ -1,5 +1,5 @@
 -- Chains of arrows.
-use Rattle.std.proofs.Common.{◌≡◌, ◌≤◌, ◌<◌, List, [], ◌∷◌, ◌++◌, length, refl, ap, ◌∙◌, sym, map, append_assoc}
+use Rattle.std.proofs.Common.{◌≡◌, List, [], ◌∷◌, ◌++◌, length, refl, ap, ◌∙◌, sym, map}
 use Rattle.std.proofs.lemmas.List.{map-append}
 use Rattle.fo_reader.specs.NamedTrees as tree
 use Rattle.fo_reader.specs.Numbering.{implies}

@@ -7,7 +7,6 @@ use Rattle.kb_logic.specs.declared.vocabularies.Symbol.{Symbol}
 use Rattle.kb_text.specs.declared.fault.KbFault.{KbFault}
 use Rattle.fo_reader.specs.declared.raw_blocks.RawDeclaration.{RawDeclaration}
 use Rattle.fo_reader.specs.FileView.{declaration_in}
-use Rattle.fo_reader.specs.Trees.{Name}
 use Rattle.fo_reader.specs.Files.{Declaration, type_under, constructed_type, symbol}
 use Rattle.fo_reader.specs.Names.{Names}
 use Rattle.fo_reader.specs.Numbering.{types_in, symbols_in, type_places, symbol_places}

@@ -1,9 +1,9 @@
 -- The rows of the stage of names, by constructors and by causes.
-use Rattle.std.proofs.Common.{◌≡◌, IsTrue, false, List, [], ◌∷◌, Option, None, Some, fold, refl, Contains}
+use Rattle.std.proofs.Common.{◌≡◌, IsTrue, false, List, [], ◌∷◌, None, Some, fold, refl, Contains}
 use Rattle.kb_text.specs.declared.fault.K.{K}
 use Rattle.kb_text.specs.declared.fault.K.TheVariants as k
 use Rattle.kb_text.specs.declared.fault.KbFault.{KbFault}
-use Rattle.fo_reader.specs.Earliest.{refusal, IsEarliest, IsRowOf, row}
+use Rattle.fo_reader.specs.Earliest.{IsEarliest, IsRowOf, row}
 use Rattle.fo_reader.specs.Names.{Names}
 use Rattle.fo_reader.specs.Uses.{Use, place_of_use}
 use Rattle.fo_reader.specs.NamesStage.{Refuses, unknown_name, redeclared, wrong_arity, unsupported, too_large, is_refused, name_causes, name_noted}

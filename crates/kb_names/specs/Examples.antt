@@ -1,5 +1,5 @@
 -- Worked examples of the stage of names.
-use Rattle.std.specs.Prelude.{◌≡◌, ℕ, true, false, List, [], ◌∷◌, Option, None, Some, codes}
+use Rattle.std.specs.Prelude.{◌≡◌, ℕ, true, false, List, [], ◌∷◌, None, Some, codes}
 use Rattle.kb_logic.specs.declared.vocabularies.Parent.TheVariants as parent
 use Rattle.fo_reader.specs.declared.terminal.Arrow.TheVariants as arrow
 use Rattle.fo_reader.specs.Trees as raw

@@ -1,5 +1,5 @@
 -- A table as the names that it lists.
-use Rattle.std.specs.Prelude.{ℕ, List, map}
+use Rattle.std.specs.Prelude.{map}
 use Rattle.fo_reader.specs.Names as names
 use Rattle.fo_reader.specs.Names.{Names}
 use Rattle.kb_names.specs.declared.tables.Meaning.{Meaning}

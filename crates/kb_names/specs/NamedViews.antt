@@ -1,5 +1,5 @@
 -- The tree that a named term or formula is.
-use Rattle.std.specs.Prelude.{ℕ, Bool, map}
+use Rattle.std.specs.Prelude.{Bool, map}
 use Rattle.fo_reader.specs.NamedTrees as tree
 use Rattle.fo_reader.specs.NamedTrees.{terms_of, summands_of, formulas_of}
 use Rattle.kb_names.specs.declared.named.NamedVar.{NamedVar}

@@ -1,4 +1,4 @@
-use Rattle.std.proofs.Common.{◌≡◌, ◌∙◌, List, ap, fold, map, take}
+use Rattle.std.proofs.Common.{◌≡◌, ◌∙◌, List, ap, map, take}
 use Rattle.std.specs.List.{flat_map}
 use Rattle.fo_reader.specs.declared.raw_blocks.RawVocabulary.{RawVocabulary}
 use Rattle.fo_reader.specs.FileView.{declaration_in, term_in, theory_in, vocabulary_in}

@@ -1,4 +1,4 @@
-use Rattle.std.proofs.Common.{◌≡◌, ◌∙◌, None, Option, fold, map, sym}
+use Rattle.std.proofs.Common.{◌≡◌, ◌∙◌, None, fold, map, sym}
 use Rattle.fo_reader.specs.FileView.{file_in, vocabulary_in}
 use Rattle.fo_reader.specs.Names.{names_of}
 use Rattle.fo_reader.specs.NamesStage.{declarations_of, name_noted, uses_of_file}
