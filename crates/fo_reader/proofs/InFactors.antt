@@ -69,12 +69,12 @@ pub done_open : (m : Mode) (k : Sort) (σ : List Frame) (p : ℕ) (ts : List Tok
 done_open m k σ p ts = ap (λ (x : Option (List Frame)). run (advance x (sign t.Open p ∷ ts)) ts) (shut_open σ (ended m k))
 
 count_run : (o : Mode) (p b : ℕ) (vs : Vars) (c : ℕ) (f : Formula) (e : ℕ) → FineFormula f → (σ : List Frame) (ts : List Tok) → run (on (want o ∷ σ)) (put_factor (count p b vs c f e) ts) ≡ run (on (done o term ∷ σ)) ts
-count_run o p b vs c f e h σ ts = run_vars vs c (close_brace o ∷ σ) (put_formula f (sign t.CloseBrace e ∷ ts)) ∙ read_formula fresh tt f h (close_brace o ∷ σ) (sign t.CloseBrace e ∷ ts) tt
+count_run o p b vs c f e h σ ts = run_vars vs c (need fresh ∷ close_brace o ∷ σ) (put_formula f (sign t.CloseBrace e ∷ ts)) ∙ read_formula fresh tt f h (close_brace o ∷ σ) (sign t.CloseBrace e ∷ ts) tt
     ∙ run_shut t.CloseBrace (mode_formula fresh f) (sort_formula f) formula refl (ends_formula fresh tt f) (close_brace o ∷ σ) e ts
 
 fold_run : (o : Mode) (a : Aggregation) (p b : ℕ) (vs : Vars) (c : ℕ) (f : Formula) (d : ℕ) (x : Term) (e : ℕ) → FineFormula f → FineTerm x → (σ : List Frame) (ts : List Tok)
     → run (on (want o ∷ σ)) (put_factor (aggregate a p b vs c f d x e) ts) ≡ run (on (done o term ∷ σ)) ts
-fold_run o a p b vs c f d x e h k σ ts = run_vars vs c (fold_colon o ∷ σ) (put_formula f (sign t.Colon d ∷ put_term x (sign t.CloseBrace e ∷ ts)))
+fold_run o a p b vs c f d x e h k σ ts = run_vars vs c (need fresh ∷ fold_colon o ∷ σ) (put_formula f (sign t.Colon d ∷ put_term x (sign t.CloseBrace e ∷ ts)))
     ∙ read_formula fresh tt f h (fold_colon o ∷ σ) (sign t.Colon d ∷ put_term x (sign t.CloseBrace e ∷ ts)) tt
     ∙ run_shut t.Colon (mode_formula fresh f) (sort_formula f) formula refl (ends_formula fresh tt f) (fold_colon o ∷ σ) d (put_term x (sign t.CloseBrace e ∷ ts))
     ∙ want_term in_term x k (close_brace o ∷ σ) (sign t.CloseBrace e ∷ ts) tt
@@ -154,14 +154,14 @@ in_count_opening p us = record {
   before = λ x. sign t.Count p ∷ x;
   appends = λ x y. refl;
   split = refl;
-  enters = λ m σ. (tt, close_brace m ∷ σ, refl);
+  enters = λ m σ. (tt, need fresh ∷ close_brace m ∷ σ, refl);
   wraps = λ after. (put_formula (alone (one (single (prim (truth true 0))))) (sign t.CloseBrace 0 ∷ after), λ a h. in_count_opening_wraps p after a);
 }
 
 opening-append : (o : Opening) (x y : List Tok) → put_opening o (x ++ y) ≡ put_opening o x ++ y
 opening-append (opening b vs c) x y = ap (λ (v : List Tok). sign t.OpenBrace b ∷ v) (vars-append vs (sign t.Colon c ∷ x) y)
 
-opening_run : (o : Opening) (σ : List Frame) (ts : List Tok) → run (on (brace ∷ vars_first ∷ colon ∷ σ)) (put_opening o ts) ≡ run (on (need fresh ∷ σ)) ts
+opening_run : (o : Opening) (σ : List Frame) (ts : List Tok) → run (on (brace ∷ vars_first ∷ colon ∷ σ)) (put_opening o ts) ≡ run (on σ) ts
 opening_run (opening b vs c) σ ts = run_vars vs c σ ts
 
 pub in_count_formula : (p : ℕ) (o : Opening) (items us : List Tok) → items ≡ put_opening o us → Context at_sentence put_formula FineFormula at_factor put_factor FineFactor (sign t.Count p ∷ items) us
@@ -169,7 +169,7 @@ in_count_formula p o items us is = record {
   before = λ x. sign t.Count p ∷ put_opening o x;
   appends = λ x y. ap (λ (v : List Tok). sign t.Count p ∷ v) (opening-append o x y);
   split = ap (λ (v : List Tok). sign t.Count p ∷ v) is;
-  enters = λ m σ. (tt, close_brace m ∷ σ, ap (λ (v : List Tok). run (on (brace ∷ vars_first ∷ colon ∷ close_brace m ∷ σ)) v) is ∙ opening_run o (close_brace m ∷ σ) us);
+  enters = λ m σ. (tt, close_brace m ∷ σ, ap (λ (v : List Tok). run (on (brace ∷ vars_first ∷ colon ∷ need fresh ∷ close_brace m ∷ σ)) v) is ∙ opening_run o (need fresh ∷ close_brace m ∷ σ) us);
   wraps = λ after. (sign t.CloseBrace 0 ∷ after, λ a h. closed o a h);
 }
   where
@@ -198,8 +198,8 @@ pub unclosed_count : (p : ℕ) (o : Opening) (f : Formula) (items us rest : List
 unclosed_count p o f items us rest len e is found h = lacks_fails at_factor put_factor FineFactor t.CloseBrace (sign t.Count p ∷ items) rest len e (λ (x : List Tok). sign t.Count p ∷ put_opening o (put_formula f x))
     (λ x y. ap (λ (v : List Tok). sign t.Count p ∷ v) (ap (λ (v : List Tok). put_opening o v) (formula-append f x y) ∙ opening-append o (put_formula f x) y))
     (ap (λ (v : List Tok). sign t.Count p ∷ v) (is ∙ ap (λ (v : List Tok). put_opening o v) found.spelled))
-    (λ l m σ. ap (λ (v : List Tok). run (on (brace ∷ vars_first ∷ colon ∷ close_brace m ∷ σ)) v) (is ∙ ap (λ (v : List Tok). put_opening o v) found.spelled)
-    ∙ opening_run o (close_brace m ∷ σ) (put_formula f rest) ∙ read_formula fresh tt f found.fine (close_brace m ∷ σ) rest found.no_args
+    (λ l m σ. ap (λ (v : List Tok). run (on (brace ∷ vars_first ∷ colon ∷ need fresh ∷ close_brace m ∷ σ)) v) (is ∙ ap (λ (v : List Tok). put_opening o v) found.spelled)
+    ∙ opening_run o (need fresh ∷ close_brace m ∷ σ) (put_formula f rest) ∙ read_formula fresh tt f found.fine (close_brace m ∷ σ) rest found.no_args
     ∙ halted t.CloseBrace (mode_formula fresh f) (sort_formula f) formula (close_brace m ∷ σ) rest found.halts (ends_formula fresh tt f) refl (brace_shuts m σ formula) l)
     (λ after. closed o after) h
   where
@@ -211,7 +211,7 @@ in_fold_opening k p us = record {
   before = λ x. sign (t.Aggregate k) p ∷ x;
   appends = λ x y. refl;
   split = refl;
-  enters = λ m σ. (tt, fold_colon m ∷ σ, refl);
+  enters = λ m σ. (tt, need fresh ∷ fold_colon m ∷ σ, refl);
   wraps = λ after. (put_formula (alone (one (single (prim (truth true 0))))) (sign t.Colon 0 ∷ put_term (product (factor (integer 0 0))) (sign t.CloseBrace 0 ∷ after)), λ a h. closed after a);
 }
   where
@@ -224,7 +224,7 @@ in_fold_formula k p o items us is = record {
   before = λ x. sign (t.Aggregate k) p ∷ put_opening o x;
   appends = λ x y. ap (λ (v : List Tok). sign (t.Aggregate k) p ∷ v) (opening-append o x y);
   split = ap (λ (v : List Tok). sign (t.Aggregate k) p ∷ v) is;
-  enters = λ m σ. (tt, fold_colon m ∷ σ, ap (λ (v : List Tok). run (on (brace ∷ vars_first ∷ colon ∷ fold_colon m ∷ σ)) v) is ∙ opening_run o (fold_colon m ∷ σ) us);
+  enters = λ m σ. (tt, fold_colon m ∷ σ, ap (λ (v : List Tok). run (on (brace ∷ vars_first ∷ colon ∷ need fresh ∷ fold_colon m ∷ σ)) v) is ∙ opening_run o (need fresh ∷ fold_colon m ∷ σ) us);
   wraps = λ after. (sign t.Colon 0 ∷ put_term (product (factor (integer 0 0))) (sign t.CloseBrace 0 ∷ after), λ a h. closed after o a h);
 }
   where
@@ -235,8 +235,8 @@ in_fold_formula k p o items us is = record {
 -- the way to the place behind the formula
 to_colon : (k : Aggregation) (p : ℕ) (o : Opening) (f : Formula) (items us rest : List Tok) → items ≡ put_opening o us → FormulaIs us fresh f rest → (m : Mode) (σ : List Frame)
     → run (on (want m ∷ σ)) (sign (t.Aggregate k) p ∷ items) ≡ run (on (done (mode_formula fresh f) (sort_formula f) ∷ fold_colon m ∷ σ)) rest
-to_colon k p o f items us rest is found m σ = ap (λ (v : List Tok). run (on (brace ∷ vars_first ∷ colon ∷ fold_colon m ∷ σ)) v) (is ∙ ap (λ (v : List Tok). put_opening o v) found.spelled)
-    ∙ opening_run o (fold_colon m ∷ σ) (put_formula f rest) ∙ read_formula fresh tt f found.fine (fold_colon m ∷ σ) rest found.no_args
+to_colon k p o f items us rest is found m σ = ap (λ (v : List Tok). run (on (brace ∷ vars_first ∷ colon ∷ need fresh ∷ fold_colon m ∷ σ)) v) (is ∙ ap (λ (v : List Tok). put_opening o v) found.spelled)
+    ∙ opening_run o (need fresh ∷ fold_colon m ∷ σ) (put_formula f rest) ∙ read_formula fresh tt f found.fine (fold_colon m ∷ σ) rest found.no_args
 
 fold-append : (k : Aggregation) (p : ℕ) (o : Opening) (f : Formula) (x y : List Tok) → sign (t.Aggregate k) p ∷ put_opening o (put_formula f (x ++ y)) ≡ (sign (t.Aggregate k) p ∷ put_opening o (put_formula f x)) ++ y
 fold-append k p o f x y = ap (λ (v : List Tok). sign (t.Aggregate k) p ∷ v) (ap (λ (v : List Tok). put_opening o v) (formula-append f x y) ∙ opening-append o (put_formula f x) y)

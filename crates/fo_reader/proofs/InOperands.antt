@@ -394,7 +394,7 @@ in_every_vars p us = record {
   before = λ x. sign t.Every p ∷ x;
   appends = λ x y. refl;
   split = refl;
-  enters = λ c σ. (tt, σ, refl);
+  enters = λ c σ. (tt, need fresh ∷ σ, refl);
   wraps = λ after. (put_formula (alone (one (single (prim (truth true 0))))) after, λ a h. closed after a);
 }
   where
@@ -406,7 +406,7 @@ in_every_formula p vs q items us is = record {
   before = λ x. sign t.Every p ∷ put_vars vs (sign t.Colon q ∷ x);
   appends = λ x y. ap (λ (v : List Tok). sign t.Every p ∷ v) (vars-append vs (sign t.Colon q ∷ x) y);
   split = ap (λ (v : List Tok). sign t.Every p ∷ v) is;
-  enters = λ c σ. (tt, σ, ap (λ (v : List Tok). run (on (vars_first ∷ colon ∷ σ)) v) is ∙ run_vars vs q σ us);
+  enters = λ c σ. (tt, σ, ap (λ (v : List Tok). run (on (vars_first ∷ colon ∷ need fresh ∷ σ)) v) is ∙ run_vars vs q (need fresh ∷ σ) us);
   wraps = λ after. (after, λ a h. (every p vs q a, h, refl));
 }
 
@@ -426,7 +426,7 @@ in_some_number p us = record {
   before = λ x. sign t.Some p ∷ x;
   appends = λ x y. refl;
   split = refl;
-  enters = λ c σ. (tt, σ, refl);
+  enters = λ c σ. (tt, need fresh ∷ σ, refl);
   wraps = λ after. (put_formula (alone (one (single (prim (truth true 0))))) after, λ a h. closed after a h);
 }
   where
@@ -439,7 +439,7 @@ in_some_vars p n items us is fine runs = record {
   before = λ x. sign t.Some p ∷ put_number n x;
   appends = λ x y. ap (λ (v : List Tok). sign t.Some p ∷ v) (number-append n x y);
   split = ap (λ (v : List Tok). sign t.Some p ∷ v) is;
-  enters = λ c σ. (tt, σ, runs (colon ∷ σ));
+  enters = λ c σ. (tt, need fresh ∷ σ, runs (colon ∷ need fresh ∷ σ));
   wraps = λ after. (put_formula (alone (one (single (prim (truth true 0))))) after, λ a h. closed after a);
 }
   where
@@ -452,7 +452,7 @@ in_some_formula p n vs q items rest us is fine runs next = record {
   before = λ x. sign t.Some p ∷ put_number n (put_vars vs (sign t.Colon q ∷ x));
   appends = λ x y. ap (λ (v : List Tok). sign t.Some p ∷ v) (ap (λ (v : List Tok). put_number n v) (vars-append vs (sign t.Colon q ∷ x) y) ∙ number-append n (put_vars vs (sign t.Colon q ∷ x)) y);
   split = ap (λ (v : List Tok). sign t.Some p ∷ v) (is ∙ ap (λ (v : List Tok). put_number n v) next);
-  enters = λ c σ. (tt, σ, runs (colon ∷ σ) ∙ ap (λ (v : List Tok). run (on (vars_first ∷ colon ∷ σ)) v) next ∙ run_vars vs q σ us);
+  enters = λ c σ. (tt, σ, runs (colon ∷ need fresh ∷ σ) ∙ ap (λ (v : List Tok). run (on (vars_first ∷ colon ∷ need fresh ∷ σ)) v) next ∙ run_vars vs q (need fresh ∷ σ) us);
   wraps = λ after. (after, λ a h. (some p n vs q a, (fine, h), refl));
 }
 

@@ -41,8 +41,8 @@ mutual
 
   pub read_unary : (c : Chain) (u : Unary) → FineUnary u → (σ : List Frame) (ts : List Tok) → EndsFactor ts → run (on (need c ∷ σ)) (put_unary u ts) ≡ run (on (done (mode_unary c u) (sort_unary u) ∷ σ)) ts
   read_unary c (not p u) h σ ts z = read_unary (settled c) u h σ ts z
-  read_unary c (every p vs q f) h σ ts z = run_vars vs q σ (put_formula f ts) ∙ read_formula fresh tt f h σ ts z
-  read_unary c (some p n vs q f) h σ ts z = run_number n h.0 vs (colon ∷ σ) (sign t.Colon q ∷ put_formula f ts) ∙ run_vars vs q σ (put_formula f ts) ∙ read_formula fresh tt f h.1 σ ts z
+  read_unary c (every p vs q f) h σ ts z = run_vars vs q (need fresh ∷ σ) (put_formula f ts) ∙ read_formula fresh tt f h σ ts z
+  read_unary c (some p n vs q f) h σ ts z = run_number n h.0 vs (colon ∷ need fresh ∷ σ) (sign t.Colon q ∷ put_formula f ts) ∙ run_vars vs q (need fresh ∷ σ) (put_formula f ts) ∙ read_formula fresh tt f h.1 σ ts z
   read_unary c (prim x) h σ ts z = read_prim c x h σ ts z
 
   pub read_prim : (c : Chain) (x : Prim) → FinePrim x → (σ : List Frame) (ts : List Tok) → EndsFactor ts → run (on (need c ∷ σ)) (put_prim x ts) ≡ run (on (done (mode_prim c x) (sort_prim x) ∷ σ)) ts
@@ -69,9 +69,9 @@ mutual
   need_factor c (value a) h σ ts z = need_app c a h σ ts z
   need_factor c (brackets p x q) h σ ts z = need_term unsettled x h (paren (in_formula c) ∷ σ) (sign t.Close q ∷ ts) tt
   need_factor c (negative p x) h σ ts z = want_factor (in_formula c) x h σ ts z
-  need_factor c (count p b vs d f e) h σ ts z = run_vars vs d (close_brace (in_formula c) ∷ σ) (put_formula f (sign t.CloseBrace e ∷ ts)) ∙ read_formula fresh tt f h (close_brace (in_formula c) ∷ σ) (sign t.CloseBrace e ∷ ts) tt ∙ run_shut t.CloseBrace (mode_formula fresh f) (sort_formula f) formula refl (ends_formula fresh tt f) (close_brace (in_formula c) ∷ σ) e ts
+  need_factor c (count p b vs d f e) h σ ts z = run_vars vs d (need fresh ∷ close_brace (in_formula c) ∷ σ) (put_formula f (sign t.CloseBrace e ∷ ts)) ∙ read_formula fresh tt f h (close_brace (in_formula c) ∷ σ) (sign t.CloseBrace e ∷ ts) tt ∙ run_shut t.CloseBrace (mode_formula fresh f) (sort_formula f) formula refl (ends_formula fresh tt f) (close_brace (in_formula c) ∷ σ) e ts
   need_factor c (aggregate a p b vs d f i x e) h σ ts z =
-      run_vars vs d (fold_colon (in_formula c) ∷ σ) (put_formula f (sign t.Colon i ∷ put_term x (sign t.CloseBrace e ∷ ts))) ∙ read_formula fresh tt f h.0 (fold_colon (in_formula c) ∷ σ) (sign t.Colon i ∷ put_term x (sign t.CloseBrace e ∷ ts)) tt
+      run_vars vs d (need fresh ∷ fold_colon (in_formula c) ∷ σ) (put_formula f (sign t.Colon i ∷ put_term x (sign t.CloseBrace e ∷ ts))) ∙ read_formula fresh tt f h.0 (fold_colon (in_formula c) ∷ σ) (sign t.Colon i ∷ put_term x (sign t.CloseBrace e ∷ ts)) tt
       ∙ run_shut t.Colon (mode_formula fresh f) (sort_formula f) formula refl (ends_formula fresh tt f) (fold_colon (in_formula c) ∷ σ) i (put_term x (sign t.CloseBrace e ∷ ts)) ∙ want_term in_term x h.1 (close_brace (in_formula c) ∷ σ) (sign t.CloseBrace e ∷ ts) tt
 
   -- where only a term may stand
@@ -88,9 +88,9 @@ mutual
   want_factor o (value a) h σ ts z = want_app o a h σ ts z
   want_factor o (brackets p x q) h σ ts z = want_term in_term x h (paren o ∷ σ) (sign t.Close q ∷ ts) tt
   want_factor o (negative p x) h σ ts z = want_factor o x h σ ts z
-  want_factor o (count p b vs d f e) h σ ts z = run_vars vs d (close_brace o ∷ σ) (put_formula f (sign t.CloseBrace e ∷ ts)) ∙ read_formula fresh tt f h (close_brace o ∷ σ) (sign t.CloseBrace e ∷ ts) tt ∙ run_shut t.CloseBrace (mode_formula fresh f) (sort_formula f) formula refl (ends_formula fresh tt f) (close_brace o ∷ σ) e ts
+  want_factor o (count p b vs d f e) h σ ts z = run_vars vs d (need fresh ∷ close_brace o ∷ σ) (put_formula f (sign t.CloseBrace e ∷ ts)) ∙ read_formula fresh tt f h (close_brace o ∷ σ) (sign t.CloseBrace e ∷ ts) tt ∙ run_shut t.CloseBrace (mode_formula fresh f) (sort_formula f) formula refl (ends_formula fresh tt f) (close_brace o ∷ σ) e ts
   want_factor o (aggregate a p b vs d f i x e) h σ ts z =
-      run_vars vs d (fold_colon o ∷ σ) (put_formula f (sign t.Colon i ∷ put_term x (sign t.CloseBrace e ∷ ts))) ∙ read_formula fresh tt f h.0 (fold_colon o ∷ σ) (sign t.Colon i ∷ put_term x (sign t.CloseBrace e ∷ ts)) tt
+      run_vars vs d (need fresh ∷ fold_colon o ∷ σ) (put_formula f (sign t.Colon i ∷ put_term x (sign t.CloseBrace e ∷ ts))) ∙ read_formula fresh tt f h.0 (fold_colon o ∷ σ) (sign t.Colon i ∷ put_term x (sign t.CloseBrace e ∷ ts)) tt
       ∙ run_shut t.Colon (mode_formula fresh f) (sort_formula f) formula refl (ends_formula fresh tt f) (fold_colon o ∷ σ) i (put_term x (sign t.CloseBrace e ∷ ts)) ∙ want_term in_term x h.1 (close_brace o ∷ σ) (sign t.CloseBrace e ∷ ts) tt
 
   pub want_app : (o : Mode) (a : App) → FineApp a → (σ : List Frame) (ts : List Tok) → EndsFactor ts → run (on (want o ∷ σ)) (put_app a ts) ≡ run (on (done o term ∷ σ)) ts

@@ -41,7 +41,7 @@ number_any (beside (typed (name w p) q type r) vs) σ ts = refl
 number_any (comma (untyped (name w p)) s vs) σ ts = refl
 number_any (comma (typed (name w p) q type r) s vs) σ ts = refl
 
-pub run_vars : (vs : Vars) (q : ℕ) (σ : List Frame) (ts : List Tok) → run (on (vars_first ∷ colon ∷ σ)) (put_vars vs (sign t.Colon q ∷ ts)) ≡ run (on (need fresh ∷ σ)) ts
+pub run_vars : (vs : Vars) (q : ℕ) (σ : List Frame) (ts : List Tok) → run (on (vars_first ∷ colon ∷ σ)) (put_vars vs (sign t.Colon q ∷ ts)) ≡ run (on σ) ts
 run_vars (var (untyped (name w p))) q σ ts = refl
 run_vars (var (typed (name w p) i (name x j) k)) q σ ts = refl
 run_vars (beside (untyped (name w p)) vs) q σ ts = beside_on vs (colon ∷ σ) (sign t.Colon q ∷ ts) ∙ run_vars vs q σ ts

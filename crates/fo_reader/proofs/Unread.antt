@@ -39,7 +39,7 @@ left_step : (o : Option (List Frame)) (x : Tok) (ts r : List Tok) → ((σ : Lis
 left_step None x ts r left e = let same : x ∷ ts ≡ r = cc in rw (sym same) (omega arith)
 left_step (Some σ) x ts r left e = omega (arith, left σ e)
 
-left_on : (σ : List Frame) (ts r : List Tok) → run (on σ) ts ≡ stuck r → length r ≤ length ts
+pub left_on : (σ : List Frame) (ts r : List Tok) → run (on σ) ts ≡ stuck r → length r ≤ length ts
 left_on σ [] r e = finish_left σ r e
 left_on σ (tok_at s p ∷ ts) r e = left_step (step σ s) (tok_at s p) ts r (λ τ h. left_on τ ts r h) e
 
@@ -62,7 +62,7 @@ unread_step : (o : Option (List Frame)) (x : Tok) (front rest more : List Tok) �
 unread_step None x front rest more left e h = cc
 unread_step (Some σ) x front rest more left e h = left σ e h
 
-unread : (σ : List Frame) (front rest more : List Tok) → SameHead rest more → run (on σ) (front ++ rest) ≡ stuck rest → run (on σ) (front ++ more) ≡ whole → ⊥
+pub unread : (σ : List Frame) (front rest more : List Tok) → SameHead rest more → run (on σ) (front ++ rest) ≡ stuck rest → run (on σ) (front ++ more) ≡ whole → ⊥
 unread σ [] rest more s e h = at_head σ rest more s e h
 unread σ (tok_at a p ∷ front) rest more s e h = unread_step (step σ a) (tok_at a p) front rest more (λ τ x y. unread τ front rest more s x y) e h
 

@@ -1,6 +1,7 @@
 -- The texts of the grammar token by token: what has been read is kept on a stack.
 use Rattle.std.specs.Prelude.{List, [], ◌∷◌, Option, Some, None}
 use Rattle.fo_reader.specs.declared.terminal.Terminal.TheVariants as t
+use Rattle.fo_reader.specs.declared.terminal.Outer.TheVariants as o
 use Rattle.fo_reader.specs.declared.terminal.Arrow.{Arrow}
 use Rattle.fo_reader.specs.declared.terminal.Arrow.TheVariants as arrow
 use Rattle.fo_reader.specs.declared.terminal.Adding.TheVariants.{Minus}
@@ -48,14 +49,17 @@ pub data Frame : Type 0 where
   type_close : Frame
   number_first : Frame
   number_last : Frame
+  -- a sentence's full stop, and whatever comes behind it or behind a term
+  dot : Frame
+  beyond : Frame
 
 abbrev pub settled : Chain → Chain
 settled unsettled = fresh
 settled c = c
 
 abbrev pub begin_aggregate : Symbol → Mode → List Frame → Option (List Frame)
-begin_aggregate (mark t.Count) m σ = Some (brace ∷ vars_first ∷ colon ∷ close_brace m ∷ σ)
-begin_aggregate (mark (t.Aggregate a)) m σ = Some (brace ∷ vars_first ∷ colon ∷ fold_colon m ∷ σ)
+begin_aggregate (mark t.Count) m σ = Some (brace ∷ vars_first ∷ colon ∷ need fresh ∷ close_brace m ∷ σ)
+begin_aggregate (mark (t.Aggregate a)) m σ = Some (brace ∷ vars_first ∷ colon ∷ need fresh ∷ fold_colon m ∷ σ)
 begin_aggregate s m σ = None
 
 abbrev pub begin_factor : Symbol → Mode → List Frame → Option (List Frame)
@@ -69,8 +73,8 @@ abbrev pub begin_operand : Symbol → Chain → List Frame → Option (List Fram
 begin_operand (word w) c σ = Some (named (in_formula c) either ∷ σ)
 begin_operand (mark (t.Truth b)) c σ = Some (done (in_formula c) formula ∷ σ)
 begin_operand (mark t.Not) c σ = Some (need (settled c) ∷ σ)
-begin_operand (mark t.Every) c σ = Some (vars_first ∷ colon ∷ σ)
-begin_operand (mark t.Some) c σ = Some (number_first ∷ colon ∷ σ)
+begin_operand (mark t.Every) c σ = Some (vars_first ∷ colon ∷ need fresh ∷ σ)
+begin_operand (mark t.Some) c σ = Some (number_first ∷ colon ∷ need fresh ∷ σ)
 begin_operand (mark t.Open) c σ = Some (need unsettled ∷ paren (in_formula c) ∷ σ)
 begin_operand s c σ = begin_factor s (in_formula c) σ
 
@@ -120,12 +124,19 @@ ended (in_formula unsettled) k = Some k
 ended (in_formula c) term = None
 ended (in_formula c) k = Some formula
 
+abbrev pub full_stop : Symbol → List Frame → Option (List Frame)
+full_stop (mark (t.Outer o.Dot)) σ = Some (beyond ∷ σ)
+full_stop s σ = None
+
 abbrev pub shuts : Symbol → List Frame → Sort → Option (List Frame)
+shuts (mark t.Open) σ k = None
 shuts (mark t.Close) (paren m ∷ σ) k = Some (done m k ∷ σ)
 shuts (mark t.Close) (args m r ∷ σ) k = Some (done m r ∷ σ)
 shuts (mark t.Comma) (args m r ∷ σ) k = Some (want in_term ∷ args m r ∷ σ)
 shuts (mark t.CloseBrace) (close_brace m ∷ σ) k = Some (done m term ∷ σ)
 shuts (mark t.Colon) (fold_colon m ∷ σ) k = Some (want in_term ∷ close_brace m ∷ σ)
+shuts s (dot ∷ σ) k = full_stop s σ
+shuts s (beyond ∷ σ) k = Some (beyond ∷ σ)
 shuts s σ k = None
 
 abbrev pub shut : Symbol → List Frame → Option Sort → Option (List Frame)
@@ -150,7 +161,7 @@ after_open s m k σ = begin_factor s in_term (args m k ∷ σ)
 abbrev pub after_vars : Symbol → List Frame → Option (List Frame)
 after_vars (mark t.Comma) σ = Some (vars_first ∷ σ)
 after_vars (word w) σ = Some (vars_on ∷ σ)
-after_vars (mark t.Colon) (colon ∷ σ) = Some (need fresh ∷ σ)
+after_vars (mark t.Colon) (colon ∷ σ) = Some σ
 after_vars s σ = None
 
 abbrev pub after_var : Symbol → List Frame → Option (List Frame)
@@ -185,6 +196,7 @@ step (vars_first ∷ σ) s = begin_vars s σ
 step (vars_on ∷ σ) s = after_var s σ
 step (vars_end ∷ σ) s = after_vars s σ
 step (number_first ∷ σ) s = begin_number s σ
+step (beyond ∷ σ) s = Some (beyond ∷ σ)
 step (f ∷ σ) s = expects f s σ
 
 -- on the way, or stuck in front of these tokens, or at the end of a text
@@ -200,6 +212,7 @@ ends_at (Some k) = whole
 abbrev pub finish : List Frame → State
 finish (done m k ∷ []) = ends_at (ended m k)
 finish (named m k ∷ []) = ends_at (ended m k)
+finish (beyond ∷ σ) = whole
 finish σ = stuck []
 
 abbrev pub advance : Option (List Frame) → List Tok → State
