@@ -420,6 +420,13 @@ stuck_behind {A} {F} {N} l ends a fine_a ts us is may never = record {
   viable = λ after. (a, after, fine_a, sym (l.appends a [] after));
 }
 
+narrow_optional : {A : Type 0} {F : Format A} {N : Option Symbol → Type 0} → Optional F N → Optional (narrowed F N) N
+narrow_optional o = record { law = narrowed_law o.law o.ends; ends = λ s h. h; apart = o.apart }
+
+-- it was read where it may be left out, and what comes may not come behind it
+pub option_ends : {A : Type 0} {F : Format A} {N : Option Symbol → Type 0} → Optional F N → (a : A) → F.Fine a → (ts us : List Tok) → ts ≡ F.put a us → F.Next (next us) → (N (next us) → ⊥) → (N (next ts) → ⊥) → Here (option F N) ts us
+option_ends o a fine_a ts us is may never first = option_in (narrow_optional o) ts us first (stuck_behind o.law o.ends a fine_a ts us is may never)
+
 -- ---- parts of which all trees are right
 
 pub whole_each : {A : Type 0} {Fine : A → Type 0} → ((a : A) → Fine a) → (xs : List A) → FineEach Fine xs
@@ -441,6 +448,9 @@ behind t F = then (sign_format t) F
 
 pub behind_law : {A : Type 0} {F : Format A} (t : Terminal) → Law F → Law (behind t F)
 behind_law t l = then_law (sign_law t) l (λ s h. tt)
+
+pub behind_in : {A : Type 0} {F : Format A} (t : Terminal) → Law F → (p : ℕ) (ts us rest : List Tok) → ts ≡ put_sign t p us → Here F us rest → Here (behind t F) ts rest
+behind_in t l p ts us rest is h = then_second (sign_law t) l (λ s k. tt) p tt ts us rest is tt h
 
 pub optional_behind : {A : Type 0} {F : Format A} {N : Option Symbol → Type 0} (t : Terminal) → Law F → Into N F.Next → Into N (No t) → Optional (behind t F) N
 optional_behind t l ends apart = record { law = behind_law t l; ends = ends; apart = apart }

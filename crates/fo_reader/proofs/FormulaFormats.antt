@@ -8,6 +8,7 @@ use Rattle.fo_reader.specs.Spelling.{put_vars, put_formula, put_links, put_or, p
 use Rattle.fo_reader.specs.Fine.{FineFormula, FineTerm, FineApp}
 use Rattle.fo_reader.specs.Parts.{EndsFactor, EndsTerm}
 use Rattle.fo_reader.specs.BlockParts.{next, Anything, Is, AWord}
+use Rattle.fo_reader.specs.TheoryReads.{EndsApp, EndsSum}
 use Rattle.fo_reader.proofs.Append.{vars-append, formula-append, term-append, app-append}
 use Rattle.fo_reader.proofs.Ends.{EndsVars, EndsFormula, all_stop_formula}
 use Rattle.fo_reader.proofs.Only.{only_vars, only_formula, only_term, only_app}
@@ -45,11 +46,6 @@ vars_law = record {
 
 -- ---- applications
 
--- no arguments come
-abbrev pub EndsApp : Option Symbol → Type 0
-EndsApp (Some (mark t.Open)) = ⊥
-EndsApp _ = Unit {0}
-
 pub app_ended : (ts : List Tok) → EndsApp (next ts) → EndsFactor ts
 app_ended [] h = tt
 app_ended (tok_at (mark t.Open) p ∷ ts) h = h
@@ -78,13 +74,6 @@ app_law = record {
 }
 
 -- ---- terms
-
--- neither arguments nor an operator come
-abbrev pub EndsSum : Option Symbol → Type 0
-EndsSum (Some (mark t.Open)) = ⊥
-EndsSum (Some (mark t.Times)) = ⊥
-EndsSum (Some (mark (t.Add s))) = ⊥
-EndsSum _ = Unit {0}
 
 pub term_ended : (ts : List Tok) → EndsSum (next ts) → EndsTerm ts
 term_ended [] h = tt

@@ -23,3 +23,5 @@ pub mod StructureFormats
 pub mod FormulaFormats
 pub mod TheoryFormats
 pub mod EarliestLaws
+pub mod Beyond
+pub mod InTheory

@@ -9,10 +9,12 @@ use Rattle.fo_reader.specs.BlockTrees.{Vocabulary, Header, Binding, binding, Hea
 use Rattle.fo_reader.specs.BlockSpelling.{put_binding, put_head, put_rule, put_theory_item, put_theory, put_term_block, put_block}
 use Rattle.fo_reader.specs.BlockFine.{FineHead, FineBody, FineRule, FineTheoryItem, FineTheory, FineTermBlock, FineBlock}
 use Rattle.fo_reader.specs.BlockParts.{Anything, No, Is, AWord}
-use Rattle.fo_reader.proofs.Formats.{Format, Law, Into, Apart, sign_format, sign_law, then, then_law, option, Optional, option_law, each, Several, each_law, either, Alternatives, either_law, Same, same_law, whole_each, whole_option, behind, behind_law, optional_behind}
+use Rattle.fo_reader.specs.TheoryReads.{EndsApp, EndsSum, EndsHead}
+use Rattle.fo_reader.proofs.Formats.{Format, Law, Into, Apart, sign_format, sign_law, then, then_law, option, Optional, option_law, each, Several, each_law, either, Alternatives, either_law, Same, same_law, behind, behind_law, optional_behind}
+use Rattle.fo_reader.proofs.Plain as plain
 use Rattle.fo_reader.proofs.BlockFormats.{word_no, vocabulary_format, vocabulary_law}
 use Rattle.fo_reader.proofs.StructureFormats.{header_format, header_law, structure_format, structure_law}
-use Rattle.fo_reader.proofs.FormulaFormats.{vars_format, vars_law, EndsApp, app_format, app_law, EndsSum, term_format, term_law, BeginsFormula, formula_format, formula_law}
+use Rattle.fo_reader.proofs.FormulaFormats.{vars_format, vars_law, app_format, app_law, term_format, term_law, BeginsFormula, formula_format, formula_law}
 
 -- ---- rules
 
@@ -50,12 +52,11 @@ binding_same = record {
 pub binding_law : Law binding_format
 binding_law = same_law binding_same (behind_law t.Every bound_vars_law)
 
-pub bindings_several : Several binding_format AWord
-bindings_several = record { law = binding_law; ends = λ s h. tt; apart = λ s w e. word_no s w t.Every e; follows = λ s h. tt }
+pub every_binding_law : plain.Law binding_format
+every_binding_law = record { law = binding_law; total = λ a. tt }
 
--- what may come behind a head: its body, or the end of the rule
-abbrev pub EndsHead : Option Symbol → Type 0
-EndsHead s = Is (t.Outer o.If) s ⊎ Is (t.Outer o.Dot) s
+pub bindings_several : plain.Several binding_format AWord
+bindings_several = record { law = every_binding_law; ends = λ s h. tt; apart = λ s w e. word_no s w t.Every e; follows = λ s h. tt }
 
 head_no_equal : Into EndsHead (No (t.Compare cmp.Equal))
 head_no_equal s (inl e) f = cc
@@ -138,8 +139,8 @@ dot_apart s e h = subst BeginsFormula e h
 pub inner_body_optional : Optional formula_format (Is (t.Outer o.Dot))
 inner_body_optional = record { law = formula_law; ends = λ s h. h; apart = dot_apart }
 
-abbrev pub body_format : Format (Option (ℕ × Option Formula))
-body_format = option (behind (t.Outer o.If) inner_body) (Is (t.Outer o.Dot))
+abbrev pub body_parts : Format (Option (ℕ × Option Formula))
+body_parts = option (behind (t.Outer o.If) inner_body) (Is (t.Outer o.Dot))
 
 dot_no_if : Into (Is (t.Outer o.Dot)) (No (t.Outer o.If))
 dot_no_if s e f = cc
@@ -147,11 +148,40 @@ dot_no_if s e f = cc
 pub body_optional : Optional (behind (t.Outer o.If) inner_body) (Is (t.Outer o.Dot))
 body_optional = optional_behind (t.Outer o.If) (option_law inner_body_optional) (λ s h. h) dot_no_if
 
+abbrev pub body_format : Format (Option (ℕ × Option Formula))
+body_format = record body_parts { Fine = FineBody }
+
+body_fine : (b : Option (ℕ × Option Formula)) → FineBody b → body_parts.Fine b
+body_fine None h = tt
+body_fine (Some (p, None)) h = (tt, tt)
+body_fine (Some (p, Some f)) h = (tt, h)
+
+body_fine_back : (b : Option (ℕ × Option Formula)) → body_parts.Fine b → FineBody b
+body_fine_back None h = tt
+body_fine_back (Some (p, None)) h = tt
+body_fine_back (Some (p, Some f)) h = h.1
+
+pub body_same : Same body_format body_parts
+body_same = record {
+  to = λ a. a;
+  from = λ b. b;
+  there = λ a. refl;
+  written = λ a ts. refl;
+  back = λ b ts. refl;
+  fine = body_fine;
+  fine_back = body_fine_back;
+  ends = λ s h. h;
+  begins = λ s h. h;
+}
+
+pub body_law : Law body_format
+body_law = same_law body_same (option_law body_optional)
+
 abbrev pub ended_body : Format (Option (ℕ × Option Formula) × ℕ)
 ended_body = then body_format (sign_format (t.Outer o.Dot))
 
 pub ended_body_law : Law ended_body
-ended_body_law = then_law (option_law body_optional) (sign_law (t.Outer o.Dot)) (λ s h. h)
+ended_body_law = then_law body_law (sign_law (t.Outer o.Dot)) (λ s h. h)
 
 abbrev pub RuleParts : Type 0
 RuleParts = List Binding × (Head × (Option (ℕ × Option Formula) × ℕ))
@@ -163,13 +193,13 @@ pub headed_law : Law headed
 headed_law = then_law head_law ended_body_law (λ s h. h)
 
 abbrev pub bindings_format : Format (List Binding)
-bindings_format = each binding_format AWord
+bindings_format = plain.each binding_format AWord
 
 abbrev pub rule_parts : Format RuleParts
 rule_parts = then bindings_format headed
 
 pub rule_parts_law : Law rule_parts
-rule_parts_law = then_law (each_law bindings_several) headed_law (λ s h. h)
+rule_parts_law = then_law (plain.each_law bindings_several).law headed_law (λ s h. h)
 
 abbrev pub BeginsRule : Option Symbol → Type 0
 BeginsRule s = Is t.Every s ⊎ AWord s
@@ -186,21 +216,11 @@ rule_there (rule bs h b d) = refl
 rule_written : (a : Rule) (ts : List Tok) → put_rule a ts ≡ rule_parts.put (rule_to a) ts
 rule_written (rule bs h b d) ts = refl
 
-body_fine : (b : Option (ℕ × Option Formula)) → FineBody b → body_format.Fine b
-body_fine None h = tt
-body_fine (Some (p, None)) h = (tt, tt)
-body_fine (Some (p, Some f)) h = (tt, h)
-
-body_fine_back : (b : Option (ℕ × Option Formula)) → body_format.Fine b → FineBody b
-body_fine_back None h = tt
-body_fine_back (Some (p, None)) h = tt
-body_fine_back (Some (p, Some f)) h = h.1
-
 rule_fine : (a : Rule) → FineRule a → rule_parts.Fine (rule_to a)
-rule_fine (rule bs h b d) k = (whole_each (λ y. tt) bs, (k.0, (body_fine b k.1, tt)))
+rule_fine (rule bs h b d) k = (tt, (k.0, (k.1, tt)))
 
 rule_fine_back : (b : RuleParts) → rule_parts.Fine b → FineRule (rule b.0 b.1.0 b.1.1.0 b.1.1.1)
-rule_fine_back b h = (h.1.0, body_fine_back b.1.1.0 h.1.1.0)
+rule_fine_back b h = (h.1.0, h.1.1.0)
 
 pub rule_same : Same rule_format rule_parts
 rule_same = record {
@@ -357,19 +377,19 @@ theory_law = same_law theory_same (then_law (header_law o.Theory).law closed_ite
 -- ---- terms
 
 abbrev pub stop_format : Format (Option ℕ)
-stop_format = option (sign_format (t.Outer o.Dot)) (Is t.CloseBrace)
+stop_format = plain.option (sign_format (t.Outer o.Dot)) (Is t.CloseBrace)
 
 brace_no_dot : Into (Is t.CloseBrace) (No (t.Outer o.Dot))
 brace_no_dot s e f = cc
 
-pub stop_optional : Optional (sign_format (t.Outer o.Dot)) (Is t.CloseBrace)
-stop_optional = record { law = sign_law (t.Outer o.Dot); ends = λ s h. tt; apart = brace_no_dot }
+pub stop_optional : plain.Optional (sign_format (t.Outer o.Dot)) (Is t.CloseBrace)
+stop_optional = record { law = plain.sign_law (t.Outer o.Dot); ends = λ s h. tt; apart = brace_no_dot }
 
 abbrev pub closed_stop : Format (Option ℕ × ℕ)
 closed_stop = then stop_format (sign_format t.CloseBrace)
 
 pub closed_stop_law : Law closed_stop
-closed_stop_law = then_law (option_law stop_optional) (sign_law t.CloseBrace) (λ s h. h)
+closed_stop_law = then_law (plain.option_law stop_optional).law (sign_law t.CloseBrace) (λ s h. h)
 
 stop_ends_sum : Into (λ s. Is (t.Outer o.Dot) s ⊎ Is t.CloseBrace s) EndsSum
 stop_ends_sum s (inl e) = subst EndsSum (sym e) tt
@@ -400,7 +420,7 @@ term_block_written : (a : TermBlock) (ts : List Tok) → put_term_block a ts ≡
 term_block_written (term_block h x d e) ts = refl
 
 term_block_fine : (a : TermBlock) → FineTermBlock a → term_block_parts.Fine (term_block_to a)
-term_block_fine (term_block h x d e) k = (tt, (k, (whole_option (λ y. tt) d, tt)))
+term_block_fine (term_block h x d e) k = (tt, (k, (tt, tt)))
 
 pub term_block_same : Same term_block_format term_block_parts
 term_block_same = record {

@@ -29,3 +29,4 @@ pub mod FileView
 pub mod BlocksStage
 pub mod BlockReads
 pub mod Below
+pub mod TheoryReads

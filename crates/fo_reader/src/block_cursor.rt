@@ -4,6 +4,7 @@ ghost use Rattle.fo_reader.specs.Terminals.{toks};
 ghost use Rattle.fo_reader.specs.Terminals as terminals;
 ghost use Rattle.fo_reader.specs.BlockParts.{next, No, Is, IsSign, EndsAs, EndsDeclaration, EndsArguments, EndsItem, EndsRow};
 ghost use Rattle.fo_reader.specs.BlockReads.{SignRead, WordRead};
+ghost use Rattle.fo_reader.specs.TheoryReads.{EndsHead};
 ghost use Rattle.fo_reader.specs.declared.terminal.Terminal.TheVariants as t;
 
 use crate::binders::word;
@@ -106,6 +107,19 @@ pub fn arguments_end(items: &[Item<'_>], end: usize) -> Result<(), ReadError>
     match skip(Terminal::Colon, items) {
         Some((_place, _rest)) => Ok(()),
         None => declaration_ends(items, end),
+    }
+}
+
+/// A head has to end here.
+pub fn head_ends(items: &[Item<'_>], end: usize) -> Result<(), ReadError>
+    ensures { EndsAs EndsHead (toks items.now) end result }
+{
+    let Some((item, _rest)) = split(items) else {
+        return Err(ReadError::Stuck(end));
+    };
+    match item.terminal {
+        Terminal::Outer(Outer::If) | Terminal::Outer(Outer::Dot) => Ok(()),
+        _ => Err(ReadError::Stuck(item.place)),
     }
 }
 

@@ -4,6 +4,7 @@
 
 mod binders;
 mod block_cursor;
+mod block_formulas;
 mod block_laws;
 #[cfg(test)]
 mod block_tests;
@@ -22,6 +23,7 @@ mod stops;
 mod structure;
 mod terminal;
 mod terms;
+mod theory;
 mod vocabulary;
 mod whole;
 

@@ -28,7 +28,7 @@ pub fn formula<'a>(alloc: Global, items: &'a [Item<'a>], end: usize) -> Found<'a
 
 /// What may stand in brackets.
 #[cycle(nested)]
-fn content<'a>(alloc: Global, items: &'a [Item<'a>], end: usize) -> Found<'a, Content>
+pub fn content<'a>(alloc: Global, items: &'a [Item<'a>], end: usize) -> Found<'a, Content>
     ensures reads { ContentRead (toks items.now) end result }
     ensures shorter { IfOk result (λ p. length p.1.now ≤ length items.now) }
 {
