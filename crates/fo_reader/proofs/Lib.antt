@@ -12,6 +12,7 @@ pub mod InFactors
 pub mod InOperands
 pub mod InChains
 pub mod OneReading
+pub mod InFile
 pub mod Unread
 pub mod Formats
 pub mod Plain

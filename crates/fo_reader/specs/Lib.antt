@@ -26,6 +26,7 @@ pub mod Uses
 pub mod NamesStage
 pub mod Numbering
 pub mod FileView
+pub mod FileReads
 pub mod BlocksStage
 pub mod BlockReads
 pub mod Below

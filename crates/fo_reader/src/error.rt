@@ -1,8 +1,10 @@
 ghost use Rattle.std.specs.Prelude.{◌≡◌};
 ghost use Rattle.fo_reader.specs.Whole.{refusal_of};
+ghost use Rattle.fo_reader.specs.declared.error.KbError.TheVariants.{Memory};
 
 use crate::stops::ReadError;
 use kb_text::{K, KbFault};
+use std::alloc::AllocError;
 use thiserror::Error;
 
 /// Why a knowledge base was not read.
@@ -25,5 +27,13 @@ impl From<ReadError> for KbError {
                 place,
             }),
         }
+    }
+}
+
+impl From<AllocError> for KbError {
+    ghost from_gives = { λ _ e. e ≡ Memory };
+
+    fn from(_e: AllocError) -> KbError {
+        KbError::Memory
     }
 }

@@ -12,6 +12,7 @@ mod build;
 mod cursor;
 mod error;
 mod expressions;
+mod file;
 mod formulas;
 mod items;
 mod kinds;
@@ -27,8 +28,9 @@ mod theory;
 mod vocabulary;
 mod whole;
 
-pub use block_laws::{one_file, one_item};
+pub use block_laws::{one_file, one_file_reading, one_item};
 pub use error::KbError;
+pub use file::read_kb;
 pub use kb_text::{K, KbFault};
 pub use laws::{one_formula, one_formula_reading, one_term, one_term_reading};
 pub use raw::{
