@@ -13,6 +13,8 @@ mod cursor;
 mod error;
 mod expressions;
 mod file;
+#[cfg(test)]
+mod file_tests;
 mod formulas;
 mod items;
 mod kinds;
