@@ -29,6 +29,8 @@ mod terms;
 mod theory;
 mod vocabulary;
 mod whole;
+#[cfg(test)]
+mod whole_tests;
 
 pub use block_laws::{one_file, one_file_reading, one_item};
 pub use error::KbError;
