@@ -31,3 +31,7 @@ pub mod BlocksStage
 pub mod BlockReads
 pub mod Below
 pub mod TheoryReads
+pub mod Kinship
+pub mod Typing
+pub mod TypedTrees
+pub mod TypesStage
