@@ -32,6 +32,7 @@ pub mod BlockReads
 pub mod Below
 pub mod TheoryReads
 pub mod Kinship
+pub mod Demands
 pub mod Typing
 pub mod TypedTrees
 pub mod TypesStage

@@ -1,80 +1,138 @@
 -- The tree with the types of its variables. Where a variable has none, its type is 0.
-use Rattle.std.specs.Prelude.{ℕ, pos, Bool, true, false, List, [], ◌∷◌, ◌++◌, length, map, Option, unwrap_or}
+use Rattle.std.specs.Prelude.{ℕ, pos, ◌^◌, Bool, true, false, List, [], ◌∷◌, ◌++◌, map}
 use Rattle.std.specs.List.{flat_map}
 use Rattle.kb_logic.specs.declared.vocabularies.Vocabulary.{Vocabulary}
 use Rattle.kb_logic.specs.declared.vocabularies.Bound.{Bound}
 use Rattle.kb_logic.specs.Trees.{TermTree, TermTrees, SummandTrees, FormulaTree, FormulaTrees, TheoryTree}
 use Rattle.kb_logic.specs.Trees as tree
-use Rattle.fo_reader.specs.Scopes.{Text}
+use Rattle.fo_reader.specs.Demands.{Finding, nothing, found, torn, Part, demand, scope, Parts, no_parts, more_parts, parts_of, formula_parts, term_parts, number_demand, later_types}
 use Rattle.fo_reader.specs.NamedTrees.{NamedVar, NamedTerm, at, NamedNode, variable, integer, constructed, application, summation, product, aggregate, NamedTerms, no_terms, more_terms, NamedSummands, no_summands, more_summands, NamedFormula, truth, atom, comparison, negation, conjunction, disjunction, implication, equivalence, universal, existential, numbered, NamedFormulas, no_formulas, more_formulas}
-use Rattle.fo_reader.specs.Numbering.{NamedTheoryTree, NamedTermTree, NamedFile}
-use Rattle.fo_reader.specs.Typing.{placed_scope, given_types, places_within, places_in_both, sides_within, sides_in_both}
+use Rattle.fo_reader.specs.Numbering.{NamedTheoryTree, NamedTermTree, NamedFile, within_count}
+use Rattle.fo_reader.specs.Scopes.{Text}
+use Rattle.fo_reader.specs.Typing.{all_settled}
 
-abbrev pub typed_var : NamedVar → Option ℕ → Bound
-typed_var x t = record { name = x.name; ty = unwrap_or t 0 }
+-- ---- the types of all variables, in the order in which they are bound in the text
 
-abbrev pub typed_vars : List NamedVar → List (Option ℕ) → List Bound
-typed_vars [] ts = []
-typed_vars (x ∷ xs) [] = []
-typed_vars (x ∷ xs) (t ∷ ts) = typed_var x t ∷ typed_vars xs ts
+abbrev pub chosen : Finding → ℕ
+chosen nothing = 0
+chosen (found t) = t
+chosen torn = 0
+
+abbrev mutual
+  pub types_at : Part → List ℕ
+  types_at (demand d) = []
+  types_at (scope bs ps) = map (λ b. chosen b.finding) bs ++ types_among ps
+
+  pub types_among : Parts → List ℕ
+  types_among no_parts = []
+  types_among (more_parts p ps) = types_at p ++ types_among ps
+
+abbrev pub sentence_settled : Vocabulary → NamedFormula → Parts
+sentence_settled v f = all_settled v.types (parts_of (formula_parts v.symbols f))
+
+-- the term of a term block has to be a number
+abbrev pub block_settled : Vocabulary → NamedTerm → Parts
+block_settled v t = all_settled v.types (parts_of (number_demand v.symbols t ∷ term_parts v.symbols t))
+
+-- ---- trees whose variables take their types from the front of such a list, and what is left of it behind them
+
+-- an integer past 64 bits is refused with the tokens, and counts as 0
+abbrev pub integer_of : ℕ → ℕ
+integer_of i = within_count (2 ^ 63) i
 
 abbrev pub truth_tree : Bool → FormulaTree
 truth_tree true = tree.verum
 truth_tree false = tree.falsum
 
--- the types of variables that stand in front of a formula, and in front of an aggregate's formula and weight
-abbrev pub types_within : Vocabulary → List (Option ℕ) → List NamedVar → NamedFormula → List (Option ℕ)
-types_within v placed xs f =
-    given_types v (length placed) xs (places_within v f) (sides_within v (placed_scope v placed xs (places_within v f)) f)
+abbrev pub first_type : List ℕ → ℕ
+first_type [] = 0
+first_type (t ∷ ts) = t
 
-abbrev pub types_in_both : Vocabulary → List (Option ℕ) → List NamedVar → NamedFormula → NamedTerm → List (Option ℕ)
-types_in_both v placed xs f w =
-    given_types v (length placed) xs (places_in_both v f w) (sides_in_both v (placed_scope v placed xs (places_in_both v f w)) f w)
+abbrev pub typed_vars : List ℕ → List NamedVar → List Bound
+typed_vars ts [] = []
+typed_vars ts (x ∷ xs) = record { name = x.name; ty = first_type ts } ∷ typed_vars (later_types ts) xs
 
--- a formula under variables that have these types, as they are written or by places
+abbrev pub left_vars : List ℕ → List NamedVar → List ℕ
+left_vars ts [] = ts
+left_vars ts (x ∷ xs) = left_vars (later_types ts) xs
+
 abbrev mutual
-  pub typed_formula : Vocabulary → List (Option ℕ) → NamedFormula → FormulaTree
-  typed_formula v placed (truth b) = truth_tree b
-  typed_formula v placed (atom s ts) = tree.atom s (typed_terms v placed ts)
-  typed_formula v placed (comparison c x y) = tree.comparison c (typed_term v placed x) (typed_term v placed y)
-  typed_formula v placed (negation f) = tree.negation (typed_formula v placed f)
-  typed_formula v placed (conjunction fs) = tree.conjunction (typed_formulas v placed fs)
-  typed_formula v placed (disjunction fs) = tree.disjunction (typed_formulas v placed fs)
-  typed_formula v placed (implication f g) = tree.implication (typed_formula v placed f) (typed_formula v placed g)
-  typed_formula v placed (equivalence f g) = tree.equivalence (typed_formula v placed f) (typed_formula v placed g)
-  typed_formula v placed (universal xs f) =
-      tree.universal (typed_vars xs (types_within v placed xs f)) (typed_formula v (placed_scope v placed xs (places_within v f)) f)
-  typed_formula v placed (existential xs f) =
-      tree.existential (typed_vars xs (types_within v placed xs f)) (typed_formula v (placed_scope v placed xs (places_within v f)) f)
-  typed_formula v placed (numbered c k xs f) =
-      tree.numbered c (pos k) (typed_vars xs (types_within v placed xs f)) (typed_formula v (placed_scope v placed xs (places_within v f)) f)
+  pub left_formula : List ℕ → NamedFormula → List ℕ
+  left_formula ts (truth b) = ts
+  left_formula ts (atom s us) = left_terms ts us
+  left_formula ts (comparison c x y) = left_term (left_term ts x) y
+  left_formula ts (negation f) = left_formula ts f
+  left_formula ts (conjunction fs) = left_formulas ts fs
+  left_formula ts (disjunction fs) = left_formulas ts fs
+  left_formula ts (implication f g) = left_formula (left_formula ts f) g
+  left_formula ts (equivalence f g) = left_formula (left_formula ts f) g
+  left_formula ts (universal xs f) = left_formula (left_vars ts xs) f
+  left_formula ts (existential xs f) = left_formula (left_vars ts xs) f
+  left_formula ts (numbered c n xs f) = left_formula (left_vars ts xs) f
 
-  pub typed_formulas : Vocabulary → List (Option ℕ) → NamedFormulas → FormulaTrees
-  typed_formulas v placed no_formulas = tree.no_formulas
-  typed_formulas v placed (more_formulas f fs) = tree.more_formulas (typed_formula v placed f) (typed_formulas v placed fs)
+  pub left_formulas : List ℕ → NamedFormulas → List ℕ
+  left_formulas ts no_formulas = ts
+  left_formulas ts (more_formulas f fs) = left_formulas (left_formula ts f) fs
 
-  pub typed_term : Vocabulary → List (Option ℕ) → NamedTerm → TermTree
-  typed_term v placed (at p x) = typed_node v placed x
+  pub left_term : List ℕ → NamedTerm → List ℕ
+  left_term ts (at p x) = left_node ts x
 
-  pub typed_node : Vocabulary → List (Option ℕ) → NamedNode → TermTree
-  typed_node v placed (variable n) = tree.variable n
-  typed_node v placed (integer i) = tree.integer (pos i)
-  typed_node v placed (constructed t i) = tree.constructed t i
-  typed_node v placed (application s ts) = tree.application s (typed_terms v placed ts)
-  typed_node v placed (summation ss) = tree.summation (typed_summands v placed ss)
-  typed_node v placed (product ts) = tree.product (typed_terms v placed ts)
-  typed_node v placed (aggregate k xs f w) =
-      tree.aggregate k (typed_vars xs (types_in_both v placed xs f w))
-      (typed_formula v (placed_scope v placed xs (places_in_both v f w)) f)
-      (typed_term v (placed_scope v placed xs (places_in_both v f w)) w)
+  pub left_node : List ℕ → NamedNode → List ℕ
+  left_node ts (variable n) = ts
+  left_node ts (integer i) = ts
+  left_node ts (constructed t i) = ts
+  left_node ts (application s us) = left_terms ts us
+  left_node ts (summation ss) = left_summands ts ss
+  left_node ts (product us) = left_terms ts us
+  left_node ts (aggregate how xs f w) = left_term (left_formula (left_vars ts xs) f) w
 
-  pub typed_terms : Vocabulary → List (Option ℕ) → NamedTerms → TermTrees
-  typed_terms v placed no_terms = tree.no_terms
-  typed_terms v placed (more_terms t ts) = tree.more_terms (typed_term v placed t) (typed_terms v placed ts)
+  pub left_terms : List ℕ → NamedTerms → List ℕ
+  left_terms ts no_terms = ts
+  left_terms ts (more_terms u us) = left_terms (left_term ts u) us
 
-  pub typed_summands : Vocabulary → List (Option ℕ) → NamedSummands → SummandTrees
-  typed_summands v placed no_summands = tree.no_summands
-  typed_summands v placed (more_summands m t ss) = tree.more_summands m (typed_term v placed t) (typed_summands v placed ss)
+  pub left_summands : List ℕ → NamedSummands → List ℕ
+  left_summands ts no_summands = ts
+  left_summands ts (more_summands m u ss) = left_summands (left_term ts u) ss
+
+abbrev mutual
+  pub typed_formula : List ℕ → NamedFormula → FormulaTree
+  typed_formula ts (truth b) = truth_tree b
+  typed_formula ts (atom s us) = tree.atom s (typed_terms ts us)
+  typed_formula ts (comparison c x y) = tree.comparison c (typed_term ts x) (typed_term (left_term ts x) y)
+  typed_formula ts (negation f) = tree.negation (typed_formula ts f)
+  typed_formula ts (conjunction fs) = tree.conjunction (typed_formulas ts fs)
+  typed_formula ts (disjunction fs) = tree.disjunction (typed_formulas ts fs)
+  typed_formula ts (implication f g) = tree.implication (typed_formula ts f) (typed_formula (left_formula ts f) g)
+  typed_formula ts (equivalence f g) = tree.equivalence (typed_formula ts f) (typed_formula (left_formula ts f) g)
+  typed_formula ts (universal xs f) = tree.universal (typed_vars ts xs) (typed_formula (left_vars ts xs) f)
+  typed_formula ts (existential xs f) = tree.existential (typed_vars ts xs) (typed_formula (left_vars ts xs) f)
+  typed_formula ts (numbered c n xs f) =
+      tree.numbered c (pos (integer_of n)) (typed_vars ts xs) (typed_formula (left_vars ts xs) f)
+
+  pub typed_formulas : List ℕ → NamedFormulas → FormulaTrees
+  typed_formulas ts no_formulas = tree.no_formulas
+  typed_formulas ts (more_formulas f fs) = tree.more_formulas (typed_formula ts f) (typed_formulas (left_formula ts f) fs)
+
+  pub typed_term : List ℕ → NamedTerm → TermTree
+  typed_term ts (at p x) = typed_node ts x
+
+  pub typed_node : List ℕ → NamedNode → TermTree
+  typed_node ts (variable n) = tree.variable n
+  typed_node ts (integer i) = tree.integer (pos (integer_of i))
+  typed_node ts (constructed t i) = tree.constructed t i
+  typed_node ts (application s us) = tree.application s (typed_terms ts us)
+  typed_node ts (summation ss) = tree.summation (typed_summands ts ss)
+  typed_node ts (product us) = tree.product (typed_terms ts us)
+  typed_node ts (aggregate how xs f w) =
+      tree.aggregate how (typed_vars ts xs) (typed_formula (left_vars ts xs) f) (typed_term (left_formula (left_vars ts xs) f) w)
+
+  pub typed_terms : List ℕ → NamedTerms → TermTrees
+  typed_terms ts no_terms = tree.no_terms
+  typed_terms ts (more_terms u us) = tree.more_terms (typed_term ts u) (typed_terms (left_term ts u) us)
+
+  pub typed_summands : List ℕ → NamedSummands → SummandTrees
+  typed_summands ts no_summands = tree.no_summands
+  typed_summands ts (more_summands m u ss) = tree.more_summands m (typed_term ts u) (typed_summands (left_term ts u) ss)
 
 -- ---- where each term of a formula begins, in the order of the tree, a term before its parts
 
@@ -141,12 +199,15 @@ pub record TypedFile : Type 0 where
   pub terms : List TypedTermTree
   pub places : PlacesTree
 
+abbrev pub typed_sentence : Vocabulary → NamedFormula → FormulaTree
+typed_sentence v f = typed_formula (types_among (sentence_settled v f)) f
+
 -- definitions are refused as yet
 abbrev pub typed_theory : Vocabulary → NamedTheoryTree → TypedTheoryTree
-typed_theory v t = record { name = t.name; theory = record { sentences = map (typed_formula v []) t.sentences; definitions = [] } }
+typed_theory v t = record { name = t.name; theory = record { sentences = map (typed_sentence v) t.sentences; definitions = [] } }
 
 abbrev pub typed_block : Vocabulary → NamedTermTree → TypedTermTree
-typed_block v t = record { name = t.name; term = typed_term v [] t.term }
+typed_block v t = record { name = t.name; term = typed_term (types_among (block_settled v t.term)) t.term }
 
 abbrev pub places_of_file : NamedFile → PlacesTree
 places_of_file f = record {
