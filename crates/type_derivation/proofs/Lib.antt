@@ -1,0 +1,9 @@
+mod Integers
+mod Least
+mod Listed
+mod LocalTrees
+mod Seen
+mod Settled
+mod TreeSteps
+mod TypeRows
+mod WaysUp

@@ -1,0 +1,15 @@
+use Rattle.std.proofs.Common.{◌≡◌, ◌++◌, [], fold, map, take}
+use Rattle.std.specs.List.{flat_map}
+use Rattle.fo_reader.specs.TypedTrees as typed
+use Rattle.fo_reader.specs.TypesStage as stage
+use Rattle.fo_reader.specs.TypesStage.{type_noted}
+use Rattle.kb_names.specs.FileViews as named_view
+use Rattle.type_derivation.specs.TypedViews.{named_theory_view}
+use Rattle.type_derivation.proofs.files.theories.Given as goal
+
+abbrev pub invariant-loop-item : goal.invariant-loop-item
+invariant-loop-item l = record {
+  theories : map named_theory_view l.theories.items ≡ map (typed.typed_theory l.vocab) (map named_view.theory_view (take l.item-index l.named));
+  terms : l.terms.items ≡ l.initial.terms.items ++ map (λ t. flat_map typed.terms_begin t.sentences) (map named_view.theory_view (take l.item-index l.named));
+  noted : l.earliest.first ≡ fold (type_noted l.vocab.types) l.initial.earliest.first (flat_map (λ t. flat_map (λ f. stage.uses_among [] (typed.sentence_settled l.vocab f)) t.sentences) (map named_view.theory_view (take l.item-index l.named)));
+}

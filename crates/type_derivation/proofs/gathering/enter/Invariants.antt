@@ -1,0 +1,11 @@
+use Rattle.std.proofs.Common.{◌≡◌, ◌++◌, map, replicate, take}
+use Rattle.fo_reader.specs.Demands as said
+use Rattle.fo_reader.specs.Typing as typing
+use Rattle.type_derivation.specs.PartViews.{binding_view, finding_view}
+use Rattle.type_derivation.proofs.gathering.enter.Given as goal
+
+abbrev pub invariant-loop-binding : goal.invariant-loop-binding
+invariant-loop-binding l = record {
+  scope : l.scope.items ≡ typing.within l.initial.scope.items (map binding_view (take l.binding-index l.bindings));
+  findings : map finding_view l.findings.items ≡ map finding_view l.initial.findings.items ++ replicate l.binding-index said.nothing;
+}

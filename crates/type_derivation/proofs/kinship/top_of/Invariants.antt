@@ -1,0 +1,7 @@
+use Rattle.std.proofs.Common.{◌≡◌, ◌+◌, ℕ, length}
+use Rattle.fo_reader.specs.Below.{type_parents}
+use Rattle.fo_reader.specs.Kinship as kin
+use Rattle.type_derivation.proofs.kinship.top_of.Given as goal
+
+abbrev pub invariant-loop-step : goal.invariant-loop-step
+invariant-loop-step l = (m : ℕ) → m + l._step ≡ length l.types → kin.climbed m (type_parents l.types) l.at ≡ kin.top_of l.types l.ty

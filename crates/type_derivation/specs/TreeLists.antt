@@ -1,0 +1,15 @@
+-- Trees in front of further trees.
+use Rattle.std.specs.Prelude.{Bool, List, [], ◌∷◌}
+use Rattle.kb_logic.specs.Trees.{TermTree, TermTrees, more_terms, SummandTrees, more_summands, FormulaTree, FormulaTrees, more_formulas}
+
+abbrev pub then_formulas : List FormulaTree → FormulaTrees → FormulaTrees
+then_formulas [] rest = rest
+then_formulas (f ∷ fs) rest = more_formulas f (then_formulas fs rest)
+
+abbrev pub then_terms : List TermTree → TermTrees → TermTrees
+then_terms [] rest = rest
+then_terms (t ∷ ts) rest = more_terms t (then_terms ts rest)
+
+abbrev pub then_summands : List (Bool × TermTree) → SummandTrees → SummandTrees
+then_summands [] rest = rest
+then_summands (s ∷ ss) rest = more_summands s.0 s.1 (then_summands ss rest)

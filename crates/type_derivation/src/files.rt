@@ -1,0 +1,239 @@
+//! A knowledge base with the types of its variables, or the earliest refusal.
+ghost use Rattle.std.specs.Prelude.{◌≡◌, ◌++◌, ◌∷◌, [], fold, map, OnOk, IfOk, IfErr};
+ghost use Rattle.std.specs.List.{flat_map};
+ghost use Rattle.kb_logic.specs.Views as view;
+ghost use Rattle.fo_reader.specs.Below.{HasNoCycle, type_parents};
+ghost use Rattle.fo_reader.specs.TypedTrees as typed;
+ghost use Rattle.fo_reader.specs.TypesStage as stage;
+ghost use Rattle.fo_reader.specs.TypesStage.{type_noted, IsTyped};
+ghost use Rattle.fo_reader.specs.Typing.{all_settled};
+ghost use Rattle.kb_names.specs.FileViews as named_view;
+ghost use Rattle.kb_names.specs.FileViews.{kb_view};
+ghost use Rattle.kb_names.specs.NamedViews.{formula_view, term_view};
+ghost use Rattle.type_derivation.specs.Failures.{FailsWith};
+ghost use Rattle.type_derivation.specs.PartViews.{parts_view};
+ghost use Rattle.type_derivation.specs.TypedViews.{named_term_view, named_theory_view, typed_view};
+
+use crate::demands::Part;
+use crate::gathering::settle_all;
+use crate::kinds::demand_number;
+use crate::noting::note_parts;
+use crate::remaining::Remaining;
+use crate::typed::{Named, Places, TypedKb};
+use crate::{listing, trees};
+use fo_reader::KbError;
+use kb_logic::{Formula, ListOf, Memory, Term, Theory, TypeDecl, Vocabulary};
+use kb_names::{Earliest, NamedFormula, NamedKb, NamedTerm, NamedTermBlock, NamedTheory};
+use sqlite_items::Items;
+use std::alloc::Global;
+
+/// The types of all variables in these parts, and what is refused of them.
+fn types_of(
+    alloc: Global,
+    types: &[TypeDecl],
+    listed: &[Part],
+    earliest: &mut Earliest,
+) -> Result<Remaining, Memory>
+    requires acyclic { HasNoCycle (type_parents types.now) }
+    ensures types { IfOk result (λ r. r ≡ typed.types_among (all_settled types.now (parts_view listed.now))) }
+    ensures noted { OnOk result (earliest.new.first ≡ fold (type_noted types.now) earliest.old.first (stage.uses_among [] (all_settled types.now (parts_view listed.now)))) }
+{
+    let parts = settle_all(alloc, types, listed)?;
+    let mut scope = Vec::new(alloc);
+    let mut chosen = Vec::new(alloc);
+    note_parts(types, &mut scope, &parts, &mut chosen, earliest)?;
+    Ok(Remaining::new(chosen))
+}
+
+fn sentence(
+    alloc: Global,
+    vocab: &Vocabulary,
+    named: &NamedFormula,
+    places: &mut Vec<usize>,
+    earliest: &mut Earliest,
+) -> Result<Formula, Memory>
+    requires acyclic { HasNoCycle (type_parents vocab.now.types) }
+    ensures tree { IfOk result (λ f. view.formula_view f ≡ typed.typed_sentence vocab.now (formula_view named.now)) }
+    ensures places { OnOk result (places.new.items ≡ places.old.items ++ typed.terms_begin (formula_view named.now)) }
+    ensures noted { OnOk result (earliest.new.first ≡ fold (type_noted vocab.now.types) earliest.old.first (stage.uses_among [] (typed.sentence_settled vocab.now (formula_view named.now)))) }
+{
+    let mut listed = Vec::new(alloc);
+    listing::formula(alloc, vocab.symbols.as_slice(), named, &mut listed)?;
+    let mut types = types_of(alloc, vocab.types.as_slice(), &listed, earliest)?;
+    trees::formula(alloc, &mut types, named, places)
+}
+
+fn block_term(
+    alloc: Global,
+    vocab: &Vocabulary,
+    named: &NamedTerm,
+    places: &mut Vec<usize>,
+    earliest: &mut Earliest,
+) -> Result<Term, Memory>
+    requires acyclic { HasNoCycle (type_parents vocab.now.types) }
+    ensures tree { IfOk result (λ t. view.term_view t ≡ typed.typed_term (typed.types_among (typed.block_settled vocab.now (term_view named.now))) (term_view named.now)) }
+    ensures places { OnOk result (places.new.items ≡ places.old.items ++ typed.term_begins (term_view named.now)) }
+    ensures noted { OnOk result (earliest.new.first ≡ fold (type_noted vocab.now.types) earliest.old.first (stage.uses_among [] (typed.block_settled vocab.now (term_view named.now)))) }
+{
+    let mut listed = Vec::new(alloc);
+    demand_number(vocab.symbols.as_slice(), named, &mut listed)?;
+    listing::term(alloc, vocab.symbols.as_slice(), named, &mut listed)?;
+    let mut types = types_of(alloc, vocab.types.as_slice(), &listed, earliest)?;
+    trees::term(alloc, &mut types, named, places)
+}
+
+fn theory(
+    alloc: Global,
+    vocab: &Vocabulary,
+    named: &NamedTheory,
+    terms: &mut Vec<Items<usize>>,
+    earliest: &mut Earliest,
+) -> Result<Named<Theory>, Memory>
+    requires acyclic { HasNoCycle (type_parents vocab.now.types) }
+    ensures theory { IfOk result (λ t. named_theory_view t ≡ typed.typed_theory vocab.now (named_view.theory_view named.now)) }
+    ensures terms { OnOk result (terms.new.items ≡ terms.old.items ++ flat_map typed.terms_begin (map formula_view named.now.sentences) ∷ []) }
+    ensures noted { OnOk result (earliest.new.first ≡ fold (type_noted vocab.now.types) earliest.old.first (flat_map (λ f. stage.uses_among [] (typed.sentence_settled vocab.now f)) (map formula_view named.now.sentences))) }
+{
+    let mut sentences = Vec::new(alloc);
+    let mut places = Vec::new(alloc);
+    let listed = named.sentences.as_slice();
+    for item in listed {
+        sentences.push(sentence(alloc, vocab, item, &mut places, earliest)?)?;
+    }
+    terms.push(Items::from_vec(places))?;
+    Ok(Named {
+        name: named.name.copy(alloc)?,
+        value: Theory {
+            sentences: ListOf::from_vec(sentences),
+            definitions: ListOf::new(alloc),
+        },
+    })
+}
+
+fn block(
+    alloc: Global,
+    vocab: &Vocabulary,
+    named: &NamedTermBlock,
+    terms: &mut Vec<Items<usize>>,
+    earliest: &mut Earliest,
+) -> Result<Named<Term>, Memory>
+    requires acyclic { HasNoCycle (type_parents vocab.now.types) }
+    ensures block { IfOk result (λ t. named_term_view t ≡ typed.typed_block vocab.now (named_view.block_view named.now)) }
+    ensures terms { OnOk result (terms.new.items ≡ terms.old.items ++ typed.term_begins (term_view named.now.term) ∷ []) }
+    ensures noted { OnOk result (earliest.new.first ≡ fold (type_noted vocab.now.types) earliest.old.first (stage.uses_among [] (typed.block_settled vocab.now (term_view named.now.term)))) }
+{
+    let mut places = Vec::new(alloc);
+    let term = block_term(alloc, vocab, &named.term, &mut places, earliest)?;
+    terms.push(Items::from_vec(places))?;
+    Ok(Named {
+        name: named.name.copy(alloc)?,
+        value: term,
+    })
+}
+
+fn theories(
+    alloc: Global,
+    vocab: &Vocabulary,
+    named: &[NamedTheory],
+    terms: &mut Vec<Items<usize>>,
+    earliest: &mut Earliest,
+) -> Result<Vec<Named<Theory>>, Memory>
+    requires acyclic { HasNoCycle (type_parents vocab.now.types) }
+    ensures theories { IfOk result (λ ts. map named_theory_view ts.items ≡ map (typed.typed_theory vocab.now) (map named_view.theory_view named.now)) }
+    ensures terms { OnOk result (terms.new.items ≡ terms.old.items ++ map (λ t. flat_map typed.terms_begin t.sentences) (map named_view.theory_view named.now)) }
+    ensures noted { OnOk result (earliest.new.first ≡ fold (type_noted vocab.now.types) earliest.old.first (flat_map (λ t. flat_map (λ f. stage.uses_among [] (typed.sentence_settled vocab.now f)) t.sentences) (map named_view.theory_view named.now))) }
+{
+    let mut theories = Vec::new(alloc);
+    for item in named {
+        theories.push(theory(alloc, vocab, item, terms, earliest)?)?;
+    }
+    Ok(theories)
+}
+
+fn blocks(
+    alloc: Global,
+    vocab: &Vocabulary,
+    named: &[NamedTermBlock],
+    terms: &mut Vec<Items<usize>>,
+    earliest: &mut Earliest,
+) -> Result<Vec<Named<Term>>, Memory>
+    requires acyclic { HasNoCycle (type_parents vocab.now.types) }
+    ensures blocks { IfOk result (λ ts. map named_term_view ts.items ≡ map (typed.typed_block vocab.now) (map named_view.block_view named.now)) }
+    ensures terms { OnOk result (terms.new.items ≡ terms.old.items ++ map (λ t. typed.term_begins t.term) (map named_view.block_view named.now)) }
+    ensures noted { OnOk result (earliest.new.first ≡ fold (type_noted vocab.now.types) earliest.old.first (flat_map (λ t. stage.uses_among [] (typed.block_settled vocab.now t.term)) (map named_view.block_view named.now))) }
+{
+    let mut blocks = Vec::new(alloc);
+    for item in named {
+        blocks.push(block(alloc, vocab, item, terms, earliest)?)?;
+    }
+    Ok(blocks)
+}
+
+fn first_words(alloc: Global, theories: &[NamedTheory]) -> Result<Items<usize>, Memory>
+    ensures { IfOk result (λ ps. ps ≡ map (λ t. t.place) (map named_view.theory_view theories.now)) }
+{
+    let mut places = Vec::new(alloc);
+    for theory in theories {
+        places.push(theory.place)?;
+    }
+    Ok(Items::from_vec(places))
+}
+
+fn derived(alloc: Global, named: NamedKb, earliest: &mut Earliest) -> Result<TypedKb, Memory>
+    requires acyclic { HasNoCycle (type_parents named.vocab.types) }
+    ensures tree { IfOk result (λ kb. typed_view kb ≡ typed.typed_file (kb_view named)) }
+    ensures noted { OnOk result (earliest.new.first ≡ fold (type_noted named.vocab.types) earliest.old.first (stage.type_uses_of_file (kb_view named))) }
+{
+    let NamedKb {
+        vocab,
+        theories: named_theories,
+        terms: named_terms,
+        type_places,
+        symbol_places,
+    } = named;
+    let mut theory_terms = Vec::new(alloc);
+    let mut block_terms = Vec::new(alloc);
+    let theories = theories(
+        alloc,
+        &vocab,
+        named_theories.as_slice(),
+        &mut theory_terms,
+        earliest,
+    )?;
+    let terms = blocks(
+        alloc,
+        &vocab,
+        named_terms.as_slice(),
+        &mut block_terms,
+        earliest,
+    )?;
+    let first_words = first_words(alloc, named_theories.as_slice())?;
+    Ok(TypedKb {
+        vocab,
+        theories: Items::from_vec(theories),
+        terms: Items::from_vec(terms),
+        places: Places {
+            types: type_places,
+            symbols: symbol_places,
+            theories: first_words,
+            theory_terms: Items::from_vec(theory_terms),
+            block_terms: Items::from_vec(block_terms),
+        },
+    })
+}
+
+/// The file with the types of its variables, or the earliest refusal of the types in it.
+pub fn derive(alloc: Global, named: NamedKb) -> Result<TypedKb, KbError>
+    requires acyclic { HasNoCycle (type_parents named.vocab.types) }
+    ensures ok { IfOk result (λ kb. IsTyped (kb_view named) (typed_view kb)) }
+    ensures err { IfErr result (FailsWith (kb_view named)) }
+{
+    let mut earliest = Earliest::new();
+    match derived(alloc, named, &mut earliest) {
+        Ok(kb) => match earliest.first {
+            None => Ok(kb),
+            Some(fault) => Err(KbError::Refused(fault)),
+        },
+        Err(_) => Err(KbError::Memory),
+    }
+}

@@ -1,0 +1,198 @@
+//! Trees with the types of their variables.
+ghost use Rattle.std.specs.Prelude.{◌≡◌, ◌++◌, pos, map, IfOk, OnOk};
+ghost use Rattle.kb_logic.specs.Trees as tree;
+ghost use Rattle.kb_logic.specs.Views as view;
+ghost use Rattle.fo_reader.specs.NamedTrees as named_tree;
+ghost use Rattle.fo_reader.specs.TypedTrees as typed;
+ghost use Rattle.kb_names.specs.NamedViews.{formula_view, signed_view, term_view, var_view};
+
+use crate::remaining::Remaining;
+use kb_logic::{Bound, Formula, Memory, Signed, Term};
+use kb_names::{NamedFormula, NamedNode, NamedSigned, NamedTerm, NamedVar};
+use std::alloc::Global;
+
+/// An integer of the language, which has 64 bits with its sign.
+fn integer(value: u64) -> i64
+    ensures { result ≡ pos (typed.integer_of value) }
+{
+    if value < 9_223_372_036_854_775_808 {
+        value as i64
+    } else {
+        0
+    }
+}
+
+fn truth(value: bool) -> Formula
+    ensures { view.formula_view result ≡ typed.truth_tree value }
+{
+    if value { Formula::True } else { Formula::False }
+}
+
+fn signed(minus: bool, term: Term) -> Signed
+    ensures { view.signed_view result ≡ (minus, view.term_view term) }
+{
+    Signed { minus, term }
+}
+
+fn bound_vars(alloc: Global, types: &mut Remaining, vars: &[NamedVar]) -> Result<Vec<Bound>, Memory>
+    ensures bounds { IfOk result (λ bs. bs.items ≡ typed.typed_vars types.old (map var_view vars.now)) }
+    ensures types { OnOk result (types.new ≡ typed.left_vars types.old (map var_view vars.now)) }
+{
+    let mut bounds = Vec::new(alloc);
+    for var in vars {
+        let ty = types.next();
+        bounds.push(Bound {
+            name: var.name.copy(alloc)?,
+            ty,
+        })?;
+    }
+    Ok(bounds)
+}
+
+/// A formula whose variables take their types from the front of the list. The places of its terms are added.
+#[cycle(trees)]
+pub fn formula(
+    alloc: Global,
+    types: &mut Remaining,
+    named: &NamedFormula,
+    places: &mut Vec<usize>,
+) -> Result<Formula, Memory>
+    ensures tree { IfOk result (λ f. view.formula_view f ≡ typed.typed_formula types.old (formula_view named.now)) }
+    ensures types { OnOk result (types.new ≡ typed.left_formula types.old (formula_view named.now)) }
+    ensures places { OnOk result (places.new.items ≡ places.old.items ++ typed.terms_begin (formula_view named.now)) }
+{
+    match named {
+        NamedFormula::Truth(value) => Ok(truth(*value)),
+        NamedFormula::Atom(symbol, args) => {
+            let args = terms(alloc, types, args, places)?;
+            Ok(Formula::Atom(*symbol, args))
+        }
+        NamedFormula::Compare(cmp, left, right) => {
+            let left = term(alloc, types, left, places)?;
+            let right = term(alloc, types, right, places)?;
+            Ok(Formula::Compare(*cmp, left, right))
+        }
+        NamedFormula::Not(inner) => {
+            let inner = formula(alloc, types, inner, places)?;
+            Ok(Formula::Not(Box::new(alloc, inner)?))
+        }
+        NamedFormula::And(operands) => {
+            Ok(Formula::And(formulas(alloc, types, operands, places)?))
+        }
+        NamedFormula::Or(operands) => { Ok(Formula::Or(formulas(alloc, types, operands, places)?)) }
+        NamedFormula::Implies(left, right) => {
+            let left = formula(alloc, types, left, places)?;
+            let right = formula(alloc, types, right, places)?;
+            Ok(Formula::Implies(Box::new(alloc, left)?, Box::new(alloc, right)?))
+        }
+        NamedFormula::Iff(left, right) => {
+            let left = formula(alloc, types, left, places)?;
+            let right = formula(alloc, types, right, places)?;
+            Ok(Formula::Iff(Box::new(alloc, left)?, Box::new(alloc, right)?))
+        }
+        NamedFormula::All(vars, inner) => {
+            let bounds = bound_vars(alloc, types, vars.as_slice())?;
+            let inner = formula(alloc, types, inner, places)?;
+            Ok(Formula::All(bounds, Box::new(alloc, inner)?))
+        }
+        NamedFormula::Any(vars, inner) => {
+            let bounds = bound_vars(alloc, types, vars.as_slice())?;
+            let inner = formula(alloc, types, inner, places)?;
+            Ok(Formula::Any(bounds, Box::new(alloc, inner)?))
+        }
+        NamedFormula::Number(cmp, count, vars, inner) => {
+            let bounds = bound_vars(alloc, types, vars.as_slice())?;
+            let inner = formula(alloc, types, inner, places)?;
+            Ok(Formula::Number(*cmp, integer(*count), bounds, Box::new(alloc, inner)?))
+        }
+    }
+}
+
+#[cycle(trees)]
+fn formulas(
+    alloc: Global,
+    types: &mut Remaining,
+    named: &[NamedFormula],
+    places: &mut Vec<usize>,
+) -> Result<Vec<Formula>, Memory>
+    ensures trees { IfOk result (λ fs. tree.formulas_of (map view.formula_view fs.items) ≡ typed.typed_formulas types.old (named_tree.formulas_of (map formula_view named.now))) }
+    ensures types { OnOk result (types.new ≡ typed.left_formulas types.old (named_tree.formulas_of (map formula_view named.now))) }
+    ensures places { OnOk result (places.new.items ≡ places.old.items ++ typed.formulas_begin (named_tree.formulas_of (map formula_view named.now))) }
+{
+    let mut operands = Vec::new(alloc);
+    for operand in named {
+        operands.push(formula(alloc, types, operand, places)?)?;
+    }
+    Ok(operands)
+}
+
+/// A term whose variables take their types from the front of the list. Its places are added.
+#[cycle(trees)]
+pub fn term(
+    alloc: Global,
+    types: &mut Remaining,
+    named: &NamedTerm,
+    places: &mut Vec<usize>,
+) -> Result<Term, Memory>
+    ensures tree { IfOk result (λ t. view.term_view t ≡ typed.typed_term types.old (term_view named.now)) }
+    ensures types { OnOk result (types.new ≡ typed.left_term types.old (term_view named.now)) }
+    ensures places { OnOk result (places.new.items ≡ places.old.items ++ typed.term_begins (term_view named.now)) }
+{
+    places.push(named.place)?;
+    match &named.node {
+        NamedNode::Var(n) => Ok(Term::Var(*n)),
+        NamedNode::Int(value) => Ok(Term::Int(integer(*value))),
+        NamedNode::Made(ty, position) => Ok(Term::Made(*ty, *position)),
+        NamedNode::Apply(function, args) => {
+            Ok(Term::Apply(*function, terms(alloc, types, args, places)?))
+        }
+        NamedNode::Sum(operands) => Ok(Term::Sum(summands(alloc, types, operands, places)?)),
+        NamedNode::Product(operands) => {
+            Ok(Term::Product(terms(alloc, types, operands, places)?))
+        }
+        NamedNode::Agg(how, vars, condition, weight) => {
+            let bounds = bound_vars(alloc, types, vars.as_slice())?;
+            let condition = formula(alloc, types, condition, places)?;
+            let weight = term(alloc, types, weight, places)?;
+            let condition = Box::new(alloc, condition)?;
+            Ok(Term::Agg(*how, bounds, condition, Box::new(alloc, weight)?))
+        }
+    }
+}
+
+#[cycle(trees)]
+fn terms(
+    alloc: Global,
+    types: &mut Remaining,
+    named: &[NamedTerm],
+    places: &mut Vec<usize>,
+) -> Result<Vec<Term>, Memory>
+    ensures trees { IfOk result (λ ts. tree.terms_of (map view.term_view ts.items) ≡ typed.typed_terms types.old (named_tree.terms_of (map term_view named.now))) }
+    ensures types { OnOk result (types.new ≡ typed.left_terms types.old (named_tree.terms_of (map term_view named.now))) }
+    ensures places { OnOk result (places.new.items ≡ places.old.items ++ typed.each_begins (named_tree.terms_of (map term_view named.now))) }
+{
+    let mut operands = Vec::new(alloc);
+    for operand in named {
+        operands.push(term(alloc, types, operand, places)?)?;
+    }
+    Ok(operands)
+}
+
+#[cycle(trees)]
+fn summands(
+    alloc: Global,
+    types: &mut Remaining,
+    named: &[NamedSigned],
+    places: &mut Vec<usize>,
+) -> Result<Vec<Signed>, Memory>
+    ensures trees { IfOk result (λ ss. tree.summands_of (map view.signed_view ss.items) ≡ typed.typed_summands types.old (named_tree.summands_of (map signed_view named.now))) }
+    ensures types { OnOk result (types.new ≡ typed.left_summands types.old (named_tree.summands_of (map signed_view named.now))) }
+    ensures places { OnOk result (places.new.items ≡ places.old.items ++ typed.summands_begin (named_tree.summands_of (map signed_view named.now))) }
+{
+    let mut operands = Vec::new(alloc);
+    for operand in named {
+        let term = term(alloc, types, &operand.term, places)?;
+        operands.push(signed(operand.minus, term))?;
+    }
+    Ok(operands)
+}
