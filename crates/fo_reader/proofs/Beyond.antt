@@ -1,5 +1,5 @@
 -- Where a formula, a term, an application or variables are stuck in a block, whatever comes behind them.
-use Rattle.std.proofs.Common.{◌≡◌, ℕ, ◌≤◌, List, [], ◌∷◌, ◌++◌, append-nil, length, Option, Some, None, ◌⊎◌, inl, inr, Result, Ok, Err, refl, sym, ap, ap₂, subst, ◌∙◌, arith}
+use Rattle.std.proofs.Common.{◌≡◌, ℕ, List, [], ◌∷◌, ◌++◌, append-nil, Some, None, ◌⊎◌, inl, inr, Result, Ok, Err, refl, sym, ap, ap₂, subst, ◌∙◌, arith}
 use Rattle.std.specs.Borrow.{Bor}
 use Rattle.fo_reader.specs.declared.stops.ReadError.{ReadError}
 use Rattle.fo_reader.specs.declared.stops.ReadError.TheVariants.{Memory, Stuck}
@@ -7,17 +7,17 @@ use Rattle.fo_reader.specs.declared.terminal.Terminal.TheVariants as t
 use Rattle.fo_reader.specs.declared.terminal.Outer.TheVariants as o
 use Rattle.fo_reader.specs.declared.terminal.Item.{Item}
 use Rattle.fo_reader.specs.declared.raw.RawTermTree.{RawTermTree}
-use Rattle.fo_reader.specs.Terminals.{Symbol, Tok, tok_at, toks, mark, word, sign, place_of}
-use Rattle.fo_reader.specs.Trees.{Vars, Formula, Term, App, constant, empty, apply}
-use Rattle.fo_reader.specs.Spelling.{put_vars, put_formula, put_term, put_app}
+use Rattle.fo_reader.specs.Terminals.{Symbol, Tok, tok_at, toks, mark, word, sign}
+use Rattle.fo_reader.specs.Trees.{Vars, Formula, App}
+use Rattle.fo_reader.specs.Spelling.{put_formula, put_term, put_app}
 use Rattle.fo_reader.specs.Fine.{FineFormula, FineTerm, FineApp}
 use Rattle.fo_reader.specs.Texts.{SameHead}
-use Rattle.fo_reader.specs.Machine.{Frame, need, want, done, vars_first, colon, dot, beyond, fresh, Mode, in_term, Sort, term, formula, State, on, stuck, whole, run, shuts}
+use Rattle.fo_reader.specs.Machine.{Frame, need, want, done, vars_first, colon, dot, beyond, fresh, in_term, Sort, term, formula, on, stuck, whole, run, shuts}
 use Rattle.fo_reader.specs.Modes.{mode_formula, sort_formula}
 use Rattle.fo_reader.specs.Parts.{Broken, Fails, EndsFactor, EndsTerm, wanted, at_sentence, at_factor, at_either, at_vars}
 use Rattle.fo_reader.specs.Results.{FormulaIs, TermRead, ArgumentsAre, Unsealed}
 use Rattle.fo_reader.specs.Binders.{Binder, binder, put_binder, Whole}
-use Rattle.fo_reader.specs.BlockParts.{next, Is, Anything, StuckAt}
+use Rattle.fo_reader.specs.BlockParts.{next, Is, StuckAt}
 use Rattle.fo_reader.specs.TheoryReads.{EndsApp, EndsSum, InnerTermRead}
 use Rattle.fo_reader.proofs.Append.{formula-append, app-append}
 use Rattle.fo_reader.proofs.Only.{only_app}

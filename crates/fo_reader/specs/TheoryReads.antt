@@ -1,5 +1,5 @@
 -- What the readers of the parts of theories and of terms in blocks answer.
-use Rattle.std.specs.Prelude.{ℕ, List, map, Option, Some, None, ◌⊎◌, Result}
+use Rattle.std.specs.Prelude.{ℕ, List, map, Option, Some, ◌⊎◌, Result}
 use Rattle.std.specs.Option.{option_map}
 use Rattle.std.specs.Borrow.{Bor}
 use Rattle.fo_reader.specs.declared.stops.ReadError.{ReadError}
