@@ -3,6 +3,7 @@ use crate::error::KbError;
 use crate::items::items;
 use crate::stops::ReadError;
 use crate::structure::structure;
+use crate::theory::{term_block, theory};
 use crate::vocabulary::vocabulary;
 use std::alloc::{AllocError, Global};
 use std::test::Fail;
@@ -35,6 +36,28 @@ fn of_structure(alloc: Global, src: &[u8]) -> Result<usize, ReadError> {
         return Err(ReadError::Stuck(0));
     };
     let (_block, last) = structure(alloc, first.place, rest, src.len())?;
+    Ok(last.len())
+}
+
+fn of_theory(alloc: Global, src: &[u8]) -> Result<usize, ReadError> {
+    let Ok(found) = items(alloc, src) else {
+        return Err(ReadError::Memory);
+    };
+    let Some((first, rest)) = found.split_first() else {
+        return Err(ReadError::Stuck(0));
+    };
+    let (_block, last) = theory(alloc, first.place, rest, src.len())?;
+    Ok(last.len())
+}
+
+fn of_term(alloc: Global, src: &[u8]) -> Result<usize, ReadError> {
+    let Ok(found) = items(alloc, src) else {
+        return Err(ReadError::Memory);
+    };
+    let Some((first, rest)) = found.split_first() else {
+        return Err(ReadError::Stuck(0));
+    };
+    let (_block, last) = term_block(alloc, first.place, rest, src.len())?;
     Ok(last.len())
 }
 
@@ -106,6 +129,84 @@ fn structures_are_read_or_stuck_here(rt: HostRuntime) -> Result<(), Fail> {
     ];
     for (src, wanted) in table {
         let found = shown(rt.alloc(), of_structure(rt.alloc(), src))?;
+        assert!(rt; found.as_str() == wanted);
+    }
+    Ok(())
+}
+
+#[test]
+fn theories_are_read_or_stuck_here(rt: HostRuntime) -> Result<(), Fail> {
+    let table: [(&[u8], &str); 12] = [
+        (b"theory T : V { }", "read, 0 left"),
+        (b"theory T : V { p. !x: p(x) => q(x). } x", "read, 1 left"),
+        (b"theory T : V { { p <- q & o. } { } }", "read, 0 left"),
+        (
+            b"theory T : V { { p. q <- . !x y: f(x) = y + 1 <- p(x). } }",
+            "read, 0 left",
+        ),
+        (
+            b"theory T : V { { !x: !y: p(x) <- !z: q(z) => p(z). } p. }",
+            "read, 0 left",
+        ),
+        (
+            b"theory T : V { { !x: p(x) <- q(x). f(x) = 3 <- . } }",
+            "read, 0 left",
+        ),
+        (b"theory T : V { p }", "stuck at 17"),
+        (b"theory T : V { p. . }", "stuck at 18"),
+        (b"theory T : V { c + 1. }", "stuck at 20"),
+        (b"theory T V { }", "stuck at 9"),
+        (b"theory T : V { { p. }", "stuck at 21"),
+        (b"theory T : V { { p. }. }", "stuck at 21"),
+    ];
+    for (src, wanted) in table {
+        let found = shown(rt.alloc(), of_theory(rt.alloc(), src))?;
+        assert!(rt; found.as_str() == wanted);
+    }
+    Ok(())
+}
+
+#[test]
+fn rules_are_stuck_here(rt: HostRuntime) -> Result<(), Fail> {
+    let table: [(&[u8], &str); 12] = [
+        (b"theory T : V { { p.", "stuck at 19"),
+        (b"theory T : V { { p <- q }", "stuck at 24"),
+        (b"theory T : V { { p <- . . } }", "stuck at 24"),
+        (b"theory T : V { { 3 <- q. } }", "stuck at 17"),
+        (b"theory T : V { { (p) <- q. } }", "stuck at 17"),
+        (b"theory T : V { { p & q <- o. } }", "stuck at 19"),
+        (b"theory T : V { { p(x)(y). } }", "stuck at 21"),
+        (b"theory T : V { { f(x) = <- q. } }", "stuck at 24"),
+        (b"theory T : V { { f(x) = 3 < 4 <- q. } }", "stuck at 26"),
+        (b"theory T : V { { !x p(x). } }", "stuck at 21"),
+        (b"theory T : V { { !: p. } }", "stuck at 18"),
+        (b"theory T : V { { ?x: p(x). } }", "stuck at 17"),
+    ];
+    for (src, wanted) in table {
+        let found = shown(rt.alloc(), of_theory(rt.alloc(), src))?;
+        assert!(rt; found.as_str() == wanted);
+    }
+    Ok(())
+}
+
+#[test]
+fn terms_are_read_or_stuck_here(rt: HostRuntime) -> Result<(), Fail> {
+    let table: [(&[u8], &str); 12] = [
+        (b"term c : V { 3 }", "read, 0 left"),
+        (b"term c : V { sum{x : p(x) : f(x)} . } x", "read, 1 left"),
+        (b"term c : V { 3 . . }", "stuck at 17"),
+        (b"term c : V { }", "stuck at 13"),
+        (b"term c : V { x < 3 }", "stuck at 15"),
+        (b"term c : V { f(x)(y) }", "stuck at 17"),
+        (b"term c : V { x y }", "stuck at 15"),
+        (b"term c : V { - }", "stuck at 15"),
+        (b"term c : V { (x }", "stuck at 16"),
+        (b"term c : V { x", "stuck at 14"),
+        (b"term c : V { x .", "stuck at 16"),
+        (b"term c V { x }", "stuck at 7"),
+    ];
+    for (src, wanted) in table {
+        let found = shown(rt.alloc(), of_term(rt.alloc(), src))?;
         assert!(rt; found.as_str() == wanted);
     }
     Ok(())
