@@ -12,6 +12,8 @@ mod laws;
 mod listing;
 mod noting;
 mod remaining;
+#[cfg(test)]
+mod stage_tests;
 mod trees;
 mod typed;
 
