@@ -1,13 +1,10 @@
 -- Where a formula, a term, an application or variables are stuck in a block, whatever comes behind them.
-use Rattle.std.proofs.Common.{◌≡◌, ℕ, List, [], ◌∷◌, ◌++◌, append-nil, Some, None, ◌⊎◌, inl, inr, Result, Ok, Err, refl, sym, ap, ap₂, subst, ◌∙◌, arith}
-use Rattle.std.specs.Borrow.{Bor}
+use Rattle.std.proofs.Common.{◌≡◌, ℕ, List, [], ◌∷◌, ◌++◌, append-nil, Some, None, ◌⊎◌, inl, inr, refl, sym, ap, ap₂, subst, ◌∙◌, arith}
 use Rattle.fo_reader.specs.declared.stops.ReadError.{ReadError}
 use Rattle.fo_reader.specs.declared.stops.ReadError.TheVariants.{Memory, Stuck}
 use Rattle.fo_reader.specs.declared.terminal.Terminal.TheVariants as t
 use Rattle.fo_reader.specs.declared.terminal.Outer.TheVariants as o
-use Rattle.fo_reader.specs.declared.terminal.Item.{Item}
-use Rattle.fo_reader.specs.declared.raw.RawTermTree.{RawTermTree}
-use Rattle.fo_reader.specs.Terminals.{Symbol, Tok, tok_at, toks, mark, word, sign}
+use Rattle.fo_reader.specs.Terminals.{Symbol, Tok, tok_at, mark, word, sign}
 use Rattle.fo_reader.specs.Trees.{Vars, Formula, App}
 use Rattle.fo_reader.specs.Spelling.{put_formula, put_term, put_app}
 use Rattle.fo_reader.specs.Fine.{FineFormula, FineTerm, FineApp}
@@ -15,10 +12,10 @@ use Rattle.fo_reader.specs.Texts.{SameHead}
 use Rattle.fo_reader.specs.Machine.{Frame, need, want, done, vars_first, colon, dot, beyond, fresh, in_term, Sort, term, formula, on, stuck, whole, run, shuts}
 use Rattle.fo_reader.specs.Modes.{mode_formula, sort_formula}
 use Rattle.fo_reader.specs.Parts.{Broken, Fails, EndsFactor, EndsTerm, wanted, at_sentence, at_factor, at_either, at_vars}
-use Rattle.fo_reader.specs.Results.{FormulaIs, TermRead, ArgumentsAre, Unsealed}
+use Rattle.fo_reader.specs.Results.{FormulaIs, ArgumentsAre, Unsealed}
 use Rattle.fo_reader.specs.Binders.{Binder, binder, put_binder, Whole}
 use Rattle.fo_reader.specs.BlockParts.{next, Is, StuckAt}
-use Rattle.fo_reader.specs.TheoryReads.{EndsApp, EndsSum, InnerTermRead}
+use Rattle.fo_reader.specs.TheoryReads.{EndsApp, EndsSum}
 use Rattle.fo_reader.proofs.Append.{formula-append, app-append}
 use Rattle.fo_reader.proofs.Only.{only_app}
 use Rattle.fo_reader.proofs.Behind.{ends_formula}
@@ -28,7 +25,7 @@ use Rattle.fo_reader.proofs.InTerms.{term_no_args}
 use Rattle.fo_reader.proofs.InFactors.{halted, app_shut}
 use Rattle.fo_reader.proofs.Unread.{unread, left_on}
 use Rattle.fo_reader.proofs.Formats.{Format, Here, same_next}
-use Rattle.fo_reader.proofs.FormulaFormats.{app_format, app_ended, term_format, term_ended, ended_term, formula_format}
+use Rattle.fo_reader.proofs.FormulaFormats.{app_format, app_ended, term_format, term_ended, formula_format}
 use Rattle.fo_reader.proofs.TheoryFormats.{bound_vars}
 
 stays : (σ : List Frame) (ts : List Tok) → run (on (beyond ∷ σ)) ts ≡ whole
@@ -74,10 +71,6 @@ term_here ts rest b = here_by term_format ts b.front rest b.split
 pub term_fails : (ts : List Tok) (len : ℕ) (e : ReadError) → Fails at_factor put_term FineTerm ts len e → StuckAt put_term FineTerm EndsSum ts len e
 term_fails ts len Memory h = tt
 term_fails ts len (Stuck place) h = (h.0, term_here ts h.0 h.1, h.2)
-
-pub term_part : (ts : List Tok) (len : ℕ) (r : Result (RawTermTree × Bor (List Item)) ReadError) → TermRead ts len r → InnerTermRead ts len r
-term_part ts len (Ok p) h = (h.spelled, h.fine, ended_term (toks p.1.now) h.ends)
-term_part ts len (Err e) h = term_fails ts len e h
 
 -- ---- formulas with a full stop behind them
 

@@ -10,8 +10,8 @@ use crate::cursor::{after_square, close_square, colon, split};
 use crate::raw::{RawInteger, RawName, RawNumber, RawVar, RawVarTail, RawVarType, RawVars};
 use crate::stops::ReadError;
 use crate::terminal::{Comparison, Item, Terminal};
-use sqlite_items::Items;
-use std::alloc::Global;
+use sqlite_items::{Boxed, Items};
+use std::alloc::{AllocError, Global};
 
 /// A word that is not reserved.
 pub fn word<'a>(
@@ -73,10 +73,14 @@ fn tail(comma: Option<usize>, var: RawVar) -> RawVarTail
     RawVarTail { comma, var }
 }
 
-fn listed(first: RawVar, more: Items<RawVarTail>) -> RawVars
-    ensures { vars_view result ≡ vars_of (var_view first) (map var_tail_view more) }
+fn listed(
+    alloc: Global,
+    first: RawVar,
+    more: Items<RawVarTail>,
+) -> Result<Boxed<RawVars>, AllocError>
+    ensures { IfOk result (λ vars. vars_view vars ≡ vars_of (var_view first) (map var_tail_view more)) }
 {
-    RawVars { first, more }
+    Boxed::new(alloc, RawVars { first, more })
 }
 
 // Where the next variable begins, if one comes, with the comma in front of it.
@@ -98,7 +102,7 @@ pub fn binder<'a>(
     alloc: Global,
     items: &'a [Item<'a>],
     end: usize,
-) -> Result<(RawVars, usize, &'a [Item<'a>]), ReadError>
+) -> Result<(Boxed<RawVars>, usize, &'a [Item<'a>]), ReadError>
     ensures reads { BinderRead (toks items.now) end result }
     ensures shorter { IfOk result (λ p. length p.2.now < length items.now) }
 {
@@ -110,7 +114,8 @@ pub fn binder<'a>(
         rest = after;
     }
     let (place, last) = colon(rest, end)?;
-    Ok((listed(first, more), place, last))
+    let vars = listed(alloc, first, more)?;
+    Ok((vars, place, last))
 }
 
 fn integer<'a>(items: &'a [Item<'a>], end: usize) -> Result<(u64, usize, &'a [Item<'a>]), ReadError>

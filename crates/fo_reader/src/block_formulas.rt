@@ -27,7 +27,7 @@ pub fn application<'a>(alloc: Global, items: &'a [Item<'a>], end: usize) -> Foun
     };
     let (app, last) = reader.arguments(name, rest)?;
     sealed(last)?;
-    Ok((app, last))
+    Ok((app.into_inner(), last))
 }
 
 /// A term.
@@ -35,7 +35,8 @@ pub fn inner_term<'a>(alloc: Global, items: &'a [Item<'a>], end: usize) -> Found
     ensures reads { InnerTermRead (toks items.now) end result }
     ensures shorter { IfOk result (λ p. length p.1.now ≤ length items.now) }
 {
-    term(alloc, items, end)
+    let (found, rest) = term(alloc, items, end)?;
+    Ok((found.into_inner(), rest))
 }
 
 /// A formula, with its full stop ahead.
@@ -45,5 +46,5 @@ pub fn statement<'a>(alloc: Global, items: &'a [Item<'a>], end: usize) -> Found<
 {
     let (found, rest) = formula(alloc, items, end)?;
     let (_dot, _last) = sign(Terminal::Outer(Outer::Dot), rest, end)?;
-    Ok((found, rest))
+    Ok((found.into_inner(), rest))
 }

@@ -8,6 +8,7 @@ use crate::kinds::Content;
 use crate::raw::{RawFormula, RawTermTree};
 use crate::stops::ReadError;
 use crate::terminal::Item;
+use sqlite_items::Boxed;
 use std::alloc::Global;
 
 /// What was read, and the tokens behind it.
@@ -26,12 +27,12 @@ pub struct Reader<F, G, H> {
 
 impl<
     'a,
-    F: Fn(Global, &'a [Item<'a>], usize) -> Found<'a, RawFormula>,
+    F: Fn(Global, &'a [Item<'a>], usize) -> Found<'a, Boxed<RawFormula>>,
     G: Fn(Global, &'a [Item<'a>], usize) -> Found<'a, Content>,
-    H: Fn(Global, &'a [Item<'a>], usize) -> Found<'a, RawTermTree>,
+    H: Fn(Global, &'a [Item<'a>], usize) -> Found<'a, Boxed<RawTermTree>>,
 > Reader<F, G, H> {
     /// The formula that nests here.
-    pub fn formula(&self, items: &'a [Item<'a>]) -> Found<'a, RawFormula>
+    pub fn formula(&self, items: &'a [Item<'a>]) -> Found<'a, Boxed<RawFormula>>
         requires nests { Readers self.now.left (F.pre self.now.formula) (F.post self.now.formula) (G.pre self.now.content) (G.post self.now.content) (H.pre self.now.term) (H.post self.now.term) }
         requires fewer { length items.now < self.now.left }
         ensures reads { FormulaRead (toks items.now) self.now.end result }
@@ -51,7 +52,7 @@ impl<
     }
 
     /// The term that nests here.
-    pub fn term(&self, items: &'a [Item<'a>]) -> Found<'a, RawTermTree>
+    pub fn term(&self, items: &'a [Item<'a>]) -> Found<'a, Boxed<RawTermTree>>
         requires nests { Readers self.now.left (F.pre self.now.formula) (F.post self.now.formula) (G.pre self.now.content) (G.post self.now.content) (H.pre self.now.term) (H.post self.now.term) }
         requires fewer { length items.now < self.now.left }
         ensures reads { TermRead (toks items.now) self.now.end result }

@@ -21,56 +21,69 @@ use crate::kinds::{Content, Operand, Pair};
 use crate::raw::{RawAnd, RawApp, RawFactor, RawFormula, RawOr, RawPrim, RawTermTree, RawUnary};
 use crate::stops::ReadError;
 use crate::terminal::{Item, Terminal};
-use sqlite_items::Items;
+use sqlite_items::{Boxed, Items};
 use std::alloc::{AllocError, Global};
 
 /// What was read, whether no quantified formula stands at its end, and the tokens behind it.
 type Chained<'a, T> = Result<(T, bool, &'a [Item<'a>]), ReadError>;
 
 // The formula that is this operand alone.
-fn only(alloc: Global, prim: RawPrim) -> RawFormula
-    ensures { formula_view result ≡ tree.alone (tree.one (tree.single (tree.prim (prim_view prim)))) }
+fn only(alloc: Global, prim: RawPrim) -> Result<Boxed<RawFormula>, AllocError>
+    ensures { IfOk result (λ f. formula_view f ≡ tree.alone (tree.one (tree.single (tree.prim (prim_view prim))))) }
 {
-    let and = build::and(build::prim(prim), Items::new(alloc));
-    build::alone(build::or(and, Items::new(alloc)))
+    let unary = build::prim(alloc, prim)?;
+    let and = build::and(alloc, unary.into_inner(), Items::new(alloc))?;
+    let or = build::or(alloc, and.into_inner(), Items::new(alloc))?;
+    build::alone(alloc, or.into_inner())
 }
 
 // The term that is this factor alone.
-fn sole(alloc: Global, factor: RawFactor) -> RawTermTree
-    ensures { term_view result ≡ tree.product (tree.factor (factor_view factor)) }
+fn sole(alloc: Global, factor: Boxed<RawFactor>) -> Result<Boxed<RawTermTree>, AllocError>
+    ensures { IfOk result (λ x. term_view x ≡ tree.product (tree.factor (factor_view factor))) }
 {
-    build::term(build::product(factor, Items::new(alloc)), Items::new(alloc))
+    let product = build::product(alloc, factor.into_inner(), Items::new(alloc))?;
+    build::term(alloc, product.into_inner(), Items::new(alloc))
 }
 
 // The application in these brackets, as a formula.
-fn wrapped(alloc: Global, app: RawApp, pairs: Items<Pair>) -> Result<RawPrim, AllocError>
+fn wrapped(alloc: Global, app: Boxed<RawApp>, pairs: Items<Pair>) -> Result<RawPrim, AllocError>
     ensures { IfOk result (λ x. prim_view x ≡ wrap_prim pairs (tree.atom (app_view app))) }
 {
     let mut found = build::atom(app);
     let mut rest = pairs.as_slice();
     while let Some((pair, after)) = rest.split_first() {
-        found = build::group(alloc, pair.start, only(alloc, found), pair.close)?;
+        let inner = only(alloc, found)?;
+        found = build::group(pair.start, inner, pair.close);
         rest = after;
     }
     Ok(found)
 }
 
 // The application in these brackets, as a term.
-fn bracketed(alloc: Global, app: RawApp, pairs: Items<Pair>) -> Result<RawFactor, AllocError>
+fn bracketed(
+    alloc: Global,
+    app: Boxed<RawApp>,
+    pairs: Items<Pair>,
+) -> Result<Boxed<RawFactor>, AllocError>
     ensures same { IfOk result (λ x. factor_view x ≡ wrap_factor pairs (tree.value (app_view app))) }
     ensures fine { IfOk result (λ x. FineApp (app_view app) → FineFactor (factor_view x)) }
 {
-    let mut found = build::value(app);
+    let mut found = build::value(alloc, app)?;
     let mut rest = pairs.as_slice();
     while let Some((pair, after)) = rest.split_first() {
-        found = build::brackets(alloc, pair.start, sole(alloc, found), pair.close)?;
+        let inner = sole(alloc, found)?;
+        found = build::brackets(alloc, pair.start, inner, pair.close)?;
         rest = after;
     }
     Ok(found)
 }
 
 // The operand behind these signs, the outermost first.
-fn negated(alloc: Global, mut signs: Items<usize>, first: RawUnary) -> Result<RawUnary, AllocError>
+fn negated(
+    alloc: Global,
+    mut signs: Items<usize>,
+    first: Boxed<RawUnary>,
+) -> Result<Boxed<RawUnary>, AllocError>
     ensures { IfOk result (λ u. unary_view u ≡ nots signs (unary_view first)) }
 {
     let mut found = first;
@@ -86,24 +99,28 @@ fn settle(
     found: Operand,
     rest: &[Item<'_>],
     end: usize,
-) -> Result<(RawUnary, bool), ReadError>
+) -> Result<(Boxed<RawUnary>, bool), ReadError>
     ensures reads { (ts : List Tok) → OperandIs ts found (toks rest.now) → SettledRead ts (toks rest.now) end result }
 {
     match found {
         Operand::Formula(unary, closed) => Ok((unary, closed)),
-        Operand::Either(app, pairs) => Ok((build::prim(wrapped(alloc, app, pairs)?), true)),
+        Operand::Either(app, pairs) => {
+            let inside = wrapped(alloc, app, pairs)?;
+            let unary = build::prim(alloc, inside)?;
+            Ok((unary, true))
+        }
         Operand::Term(_term) => Err(ReadError::Stuck(place_at(rest, end))),
     }
 }
 
 impl<
     'a,
-    F: Fn(Global, &'a [Item<'a>], usize) -> Found<'a, RawFormula>,
+    F: Fn(Global, &'a [Item<'a>], usize) -> Found<'a, Boxed<RawFormula>>,
     G: Fn(Global, &'a [Item<'a>], usize) -> Found<'a, Content>,
-    H: Fn(Global, &'a [Item<'a>], usize) -> Found<'a, RawTermTree>,
+    H: Fn(Global, &'a [Item<'a>], usize) -> Found<'a, Boxed<RawTermTree>>,
 > Reader<F, G, H> {
     // A term in the place of an operand, or the comparison that it begins.
-    fn compared(&self, term: RawTermTree, items: &'a [Item<'a>]) -> Found<'a, Operand>
+    fn compared(&self, term: Boxed<RawTermTree>, items: &'a [Item<'a>]) -> Found<'a, Operand>
         requires nests { Readers self.now.left (F.pre self.now.formula) (F.post self.now.formula) (G.pre self.now.content) (G.post self.now.content) (H.pre self.now.term) (H.post self.now.term) }
         requires fewer { length items.now ≤ self.now.left }
         requires fine { FineTerm (term_view term) }
@@ -115,12 +132,12 @@ impl<
             return Ok((Operand::Term(term), items));
         };
         let (right, last) = self.whole_term(rest)?;
-        let found = build::prim(build::compare(term, sign, place, right));
+        let found = build::prim(self.alloc, build::compare(term, sign, place, right))?;
         Ok((Operand::Formula(found, true), last))
     }
 
     // The operand that has begun with this factor.
-    fn begun(&self, first: RawFactor, items: &'a [Item<'a>]) -> Found<'a, Operand>
+    fn begun(&self, first: Boxed<RawFactor>, items: &'a [Item<'a>]) -> Found<'a, Operand>
         requires nests { Readers self.now.left (F.pre self.now.formula) (F.post self.now.formula) (G.pre self.now.content) (G.post self.now.content) (H.pre self.now.term) (H.post self.now.term) }
         requires fewer { length items.now ≤ self.now.left }
         requires fine { FineFactor (factor_view first) }
@@ -144,7 +161,12 @@ impl<
     }
 
     // An application in these brackets, or what it begins.
-    fn applied(&self, app: RawApp, pairs: Items<Pair>, items: &'a [Item<'a>]) -> Found<'a, Operand>
+    fn applied(
+        &self,
+        app: Boxed<RawApp>,
+        pairs: Items<Pair>,
+        items: &'a [Item<'a>],
+    ) -> Found<'a, Operand>
         requires nests { Readers self.now.left (F.pre self.now.formula) (F.post self.now.formula) (G.pre self.now.content) (G.post self.now.content) (H.pre self.now.term) (H.post self.now.term) }
         requires fewer { length items.now ≤ self.now.left }
         requires fine { FineApp (app_view app) }
@@ -184,8 +206,8 @@ impl<
         sealed(last)?;
         match inner {
             Content::Formula(formula) => {
-                let found = build::group(self.alloc, begin, formula, place)?;
-                Ok((Operand::Formula(build::prim(found), true), last))
+                let found = build::prim(self.alloc, build::group(begin, formula, place))?;
+                Ok((Operand::Formula(found, true), last))
             }
             Content::Term(term) => {
                 let first = build::brackets(self.alloc, begin, term, place)?;
@@ -243,7 +265,7 @@ impl<
             Terminal::Some => self.some(item.place, rest),
             Terminal::Truth(value) => {
                 sealed(rest)?;
-                let found = build::prim(build::truth(value, item.place));
+                let found = build::prim(self.alloc, build::truth(value, item.place))?;
                 Ok((Operand::Formula(found, true), rest))
             }
             _ => self.measured(items),
@@ -273,7 +295,7 @@ impl<
     }
 
     // An operand of a connective, and whether no quantified formula stands at its end.
-    fn unary(&self, items: &'a [Item<'a>]) -> Chained<'a, RawUnary>
+    fn unary(&self, items: &'a [Item<'a>]) -> Chained<'a, Boxed<RawUnary>>
         requires nests { Readers self.now.left (F.pre self.now.formula) (F.post self.now.formula) (G.pre self.now.content) (G.post self.now.content) (H.pre self.now.term) (H.post self.now.term) }
         requires fewer { length items.now ≤ self.now.left }
         ensures reads { UnaryRead (toks items.now) self.now.end result }
@@ -285,7 +307,12 @@ impl<
     }
 
     // The chain of `&` that has begun with this operand.
-    fn ands(&self, first: RawUnary, ends: bool, items: &'a [Item<'a>]) -> Chained<'a, RawAnd>
+    fn ands(
+        &self,
+        first: Boxed<RawUnary>,
+        ends: bool,
+        items: &'a [Item<'a>],
+    ) -> Chained<'a, Boxed<RawAnd>>
         requires nests { Readers self.now.left (F.pre self.now.formula) (F.post self.now.formula) (G.pre self.now.content) (G.post self.now.content) (H.pre self.now.term) (H.post self.now.term) }
         requires fewer { length items.now ≤ self.now.left }
         ensures reads { UnaryIs (put_unary (unary_view first) (toks items.now)) (unary_view first) ends (toks items.now) → AndRead (put_unary (unary_view first) (toks items.now)) self.now.end result }
@@ -293,6 +320,7 @@ impl<
         ensures shorter { IfOk result (λ p. length p.2.now ≤ length items.now) }
     {
         let (_count, mut rest) = start(items);
+        let first = first.into_inner();
         let mut closed = ends;
         let mut more = Items::new(self.alloc);
         while let Some((place, after)) = after_and(closed, rest) {
@@ -301,11 +329,12 @@ impl<
             closed = still;
             rest = after;
         }
-        Ok((build::and(first, more), closed, rest))
+        let chain = build::and(self.alloc, first, more)?;
+        Ok((chain, closed, rest))
     }
 
     // An operand of `|`.
-    fn conjunction(&self, items: &'a [Item<'a>]) -> Chained<'a, RawAnd>
+    fn conjunction(&self, items: &'a [Item<'a>]) -> Chained<'a, Boxed<RawAnd>>
         requires nests { Readers self.now.left (F.pre self.now.formula) (F.post self.now.formula) (G.pre self.now.content) (G.post self.now.content) (H.pre self.now.term) (H.post self.now.term) }
         requires fewer { length items.now ≤ self.now.left }
         ensures reads { ConjunctionRead (toks items.now) self.now.end result }
@@ -316,7 +345,12 @@ impl<
     }
 
     // The chain of `|` that has begun with this operand.
-    fn ors(&self, first: RawUnary, ends: bool, items: &'a [Item<'a>]) -> Chained<'a, RawOr>
+    fn ors(
+        &self,
+        first: Boxed<RawUnary>,
+        ends: bool,
+        items: &'a [Item<'a>],
+    ) -> Chained<'a, Boxed<RawOr>>
         requires nests { Readers self.now.left (F.pre self.now.formula) (F.post self.now.formula) (G.pre self.now.content) (G.post self.now.content) (H.pre self.now.term) (H.post self.now.term) }
         requires fewer { length items.now ≤ self.now.left }
         ensures reads { UnaryIs (put_unary (unary_view first) (toks items.now)) (unary_view first) ends (toks items.now) → OrRead (put_unary (unary_view first) (toks items.now)) self.now.end result }
@@ -324,6 +358,7 @@ impl<
         ensures shorter { IfOk result (λ p. length p.2.now ≤ length items.now) }
     {
         let (and, mut closed, mut rest) = self.ands(first, ends, items)?;
+        let and = and.into_inner();
         let mut more = Items::new(self.alloc);
         while let Some((place, after)) = after_or(closed, rest) {
             let (operand, still, after) = self.conjunction(after)?;
@@ -331,11 +366,12 @@ impl<
             closed = still;
             rest = after;
         }
-        Ok((build::or(and, more), closed, rest))
+        let chain = build::or(self.alloc, and, more)?;
+        Ok((chain, closed, rest))
     }
 
     // An operand of an arrow.
-    fn disjunction(&self, items: &'a [Item<'a>]) -> Chained<'a, RawOr>
+    fn disjunction(&self, items: &'a [Item<'a>]) -> Chained<'a, Boxed<RawOr>>
         requires nests { Readers self.now.left (F.pre self.now.formula) (F.post self.now.formula) (G.pre self.now.content) (G.post self.now.content) (H.pre self.now.term) (H.post self.now.term) }
         requires fewer { length items.now ≤ self.now.left }
         ensures reads { DisjunctionRead (toks items.now) self.now.end result }
@@ -346,7 +382,12 @@ impl<
     }
 
     // The formula that has begun with this operand.
-    fn linked(&self, first: RawUnary, ends: bool, items: &'a [Item<'a>]) -> Found<'a, RawFormula>
+    fn linked(
+        &self,
+        first: Boxed<RawUnary>,
+        ends: bool,
+        items: &'a [Item<'a>],
+    ) -> Found<'a, Boxed<RawFormula>>
         requires nests { Readers self.now.left (F.pre self.now.formula) (F.post self.now.formula) (G.pre self.now.content) (G.post self.now.content) (H.pre self.now.term) (H.post self.now.term) }
         requires fewer { length items.now ≤ self.now.left }
         ensures reads { UnaryIs (put_unary (unary_view first) (toks items.now)) (unary_view first) ends (toks items.now) → LinkedRead (put_unary (unary_view first) (toks items.now)) self.now.end result }
@@ -354,8 +395,10 @@ impl<
         ensures shorter { IfOk result (λ p. length p.1.now ≤ length items.now) }
     {
         let (or, mut closed, mut rest) = self.ors(first, ends, items)?;
+        let or = or.into_inner();
         let Some((arrow, _place, _after)) = after_arrow(closed, rest) else {
-            return Ok((build::alone(or), rest));
+            let lone = build::alone(self.alloc, or)?;
+            return Ok((lone, rest));
         };
         let mut more = Items::new(self.alloc);
         while let Some((place, after)) = after_same(arrow, closed, rest) {
@@ -364,11 +407,12 @@ impl<
             closed = still;
             rest = after;
         }
-        Ok((build::linked(arrow, or, more), rest))
+        let chain = build::linked(self.alloc, arrow, or, more)?;
+        Ok((chain, rest))
     }
 
     /// A formula.
-    pub fn whole_formula(&self, items: &'a [Item<'a>]) -> Found<'a, RawFormula>
+    pub fn whole_formula(&self, items: &'a [Item<'a>]) -> Found<'a, Boxed<RawFormula>>
         requires nests { Readers self.now.left (F.pre self.now.formula) (F.post self.now.formula) (G.pre self.now.content) (G.post self.now.content) (H.pre self.now.term) (H.post self.now.term) }
         requires fewer { length items.now ≤ self.now.left }
         ensures reads { FormulaRead (toks items.now) self.now.end result }
@@ -396,7 +440,8 @@ impl<
                 if !connects(rest) {
                     return Ok((Content::Either(app, pairs), rest));
                 }
-                let first = build::prim(wrapped(self.alloc, app, pairs)?);
+                let inside = wrapped(self.alloc, app, pairs)?;
+                let first = build::prim(self.alloc, inside)?;
                 let (formula, last) = self.linked(first, true, rest)?;
                 Ok((Content::Formula(formula), last))
             }

@@ -1,6 +1,6 @@
 //! What an operand turns out to be.
 use crate::raw::{RawApp, RawFormula, RawTermTree, RawUnary};
-use sqlite_items::Items;
+use sqlite_items::{Boxed, Items};
 
 /// The places of two brackets.
 #[derive(Clone, Copy, Debug)]
@@ -13,16 +13,16 @@ pub struct Pair {
 #[derive(Drop)]
 pub enum Operand {
     /// And whether no quantified formula stands at its end.
-    Formula(RawUnary, bool),
-    Term(RawTermTree),
+    Formula(Boxed<RawUnary>, bool),
+    Term(Boxed<RawTermTree>),
     /// An application in so many brackets, the innermost first: a formula as well as a term.
-    Either(RawApp, Items<Pair>),
+    Either(Boxed<RawApp>, Items<Pair>),
 }
 
 /// What stands in brackets.
 #[derive(Drop)]
 pub enum Content {
-    Formula(RawFormula),
-    Term(RawTermTree),
-    Either(RawApp, Items<Pair>),
+    Formula(Boxed<RawFormula>),
+    Term(Boxed<RawTermTree>),
+    Either(Boxed<RawApp>, Items<Pair>),
 }

@@ -7,11 +7,12 @@ use crate::expressions::{Found, Reader};
 use crate::kinds::Content;
 use crate::raw::{RawFormula, RawTermTree};
 use crate::terminal::Item;
+use sqlite_items::Boxed;
 use std::alloc::Global;
 
 /// A formula at the front of the tokens; the text ends at the place `end`.
 #[cycle(nested)]
-pub fn formula<'a>(alloc: Global, items: &'a [Item<'a>], end: usize) -> Found<'a, RawFormula>
+pub fn formula<'a>(alloc: Global, items: &'a [Item<'a>], end: usize) -> Found<'a, Boxed<RawFormula>>
     ensures reads { FormulaRead (toks items.now) end result }
     ensures shorter { IfOk result (λ p. length p.1.now ≤ length items.now) }
 {
@@ -45,7 +46,7 @@ pub fn content<'a>(alloc: Global, items: &'a [Item<'a>], end: usize) -> Found<'a
 
 /// A term at the front of the tokens; the text ends at the place `end`.
 #[cycle(nested)]
-pub fn term<'a>(alloc: Global, items: &'a [Item<'a>], end: usize) -> Found<'a, RawTermTree>
+pub fn term<'a>(alloc: Global, items: &'a [Item<'a>], end: usize) -> Found<'a, Boxed<RawTermTree>>
     ensures reads { TermRead (toks items.now) end result }
     ensures shorter { IfOk result (λ p. length p.1.now ≤ length items.now) }
 {

@@ -102,8 +102,8 @@ pub struct RawAndTail {
 #[derive(Drop)]
 pub enum RawUnary {
     Not(usize, Boxed<RawUnary>),
-    Every(usize, RawVars, usize, Boxed<RawFormula>),
-    Some(usize, RawNumber, RawVars, usize, Boxed<RawFormula>),
+    Every(usize, Boxed<RawVars>, usize, Boxed<RawFormula>),
+    Some(usize, RawNumber, Boxed<RawVars>, usize, Boxed<RawFormula>),
     Prim(RawPrim),
 }
 
@@ -113,7 +113,7 @@ pub enum RawPrim {
     Group(usize, Boxed<RawFormula>, usize),
     Truth(bool, usize),
     Atom(RawApp),
-    Compare(RawTermTree, Comparison, usize, RawTermTree),
+    Compare(Boxed<RawTermTree>, Comparison, usize, Boxed<RawTermTree>),
 }
 
 #[cycle(raw)]
@@ -161,7 +161,7 @@ pub enum RawFactor {
 pub struct RawOpening {
     pub place: usize,
     pub brace: usize,
-    pub vars: RawVars,
+    pub vars: Boxed<RawVars>,
     pub colon: usize,
 }
 

@@ -1,6 +1,6 @@
 //! The raw trees of the blocks of a file, with the place of each token.
 use crate::raw::{RawApp, RawFormula, RawInteger, RawName, RawTermTree, RawVars};
-use sqlite_items::Items;
+use sqlite_items::{Boxed, Items};
 
 /// The blocks of a file by kind, each kind in order; procedures are left out.
 #[derive(Drop)]
@@ -164,7 +164,7 @@ pub struct RawRule {
 #[derive(Drop)]
 pub struct RawBinder {
     pub place: usize,
-    pub vars: RawVars,
+    pub vars: Boxed<RawVars>,
     pub colon: usize,
 }
 

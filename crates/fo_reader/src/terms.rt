@@ -19,7 +19,7 @@ use crate::kinds::Content;
 use crate::raw::{RawApp, RawFactor, RawFormula, RawName, RawOpening, RawProduct, RawTermTree};
 use crate::stops::ReadError;
 use crate::terminal::{Aggregation, Item, Terminal};
-use sqlite_items::Items;
+use sqlite_items::{Boxed, Items};
 use std::alloc::{AllocError, Global};
 
 // How an aggregate begins, behind its word or `#`.
@@ -44,7 +44,11 @@ fn opening<'a>(
 }
 
 // The factor behind these signs, the outermost first.
-fn signed(alloc: Global, mut signs: Items<usize>, first: RawFactor) -> Result<RawFactor, AllocError>
+fn signed(
+    alloc: Global,
+    mut signs: Items<usize>,
+    first: Boxed<RawFactor>,
+) -> Result<Boxed<RawFactor>, AllocError>
     ensures { IfOk result (λ x. factor_view x ≡ negatives signs (factor_view first)) }
 {
     let mut found = first;
@@ -56,24 +60,25 @@ fn signed(alloc: Global, mut signs: Items<usize>, first: RawFactor) -> Result<Ra
 
 impl<
     'a,
-    F: Fn(Global, &'a [Item<'a>], usize) -> Found<'a, RawFormula>,
+    F: Fn(Global, &'a [Item<'a>], usize) -> Found<'a, Boxed<RawFormula>>,
     G: Fn(Global, &'a [Item<'a>], usize) -> Found<'a, Content>,
-    H: Fn(Global, &'a [Item<'a>], usize) -> Found<'a, RawTermTree>,
+    H: Fn(Global, &'a [Item<'a>], usize) -> Found<'a, Boxed<RawTermTree>>,
 > Reader<F, G, H> {
     /// The arguments behind a word, if it has any.
-    pub fn arguments(&self, name: RawName, items: &'a [Item<'a>]) -> Found<'a, RawApp>
+    pub fn arguments(&self, name: RawName, items: &'a [Item<'a>]) -> Found<'a, Boxed<RawApp>>
         requires nests { Readers self.now.left (F.pre self.now.formula) (F.post self.now.formula) (G.pre self.now.content) (G.post self.now.content) (H.pre self.now.term) (H.post self.now.term) }
         requires fewer { length items.now < self.now.left }
         ensures reads { ArgumentsRead (put_name (name_view name) (toks items.now)) self.now.end result }
         ensures shorter { IfOk result (λ p. length p.1.now ≤ length items.now) }
     {
         let Some((begin, rest)) = after_open(items) else {
-            return Ok((build::constant(name), items));
+            return Ok((build::constant(self.alloc, name)?, items));
         };
         if let Some((place, last)) = after_close(rest) {
-            return Ok((build::empty(name, begin, place), last));
+            return Ok((build::empty(self.alloc, name, begin, place)?, last));
         }
         let (first, mut rest) = self.term(rest)?;
+        let first = first.into_inner();
         let mut more = Items::new(self.alloc);
         while let Some((place, after)) = after_comma(rest) {
             let (operand, after) = self.term(after)?;
@@ -85,7 +90,7 @@ impl<
         Ok((build::apply(self.alloc, name, begin, terms, place)?, last))
     }
 
-    fn brackets(&self, begin: usize, items: &'a [Item<'a>]) -> Found<'a, RawFactor>
+    fn brackets(&self, begin: usize, items: &'a [Item<'a>]) -> Found<'a, Boxed<RawFactor>>
         requires nests { Readers self.now.left (F.pre self.now.formula) (F.post self.now.formula) (G.pre self.now.content) (G.post self.now.content) (H.pre self.now.term) (H.post self.now.term) }
         requires fewer { length items.now < self.now.left }
         ensures reads { UnsignedRead (sign t.Open begin ∷ toks items.now) self.now.end result }
@@ -96,7 +101,7 @@ impl<
         Ok((build::brackets(self.alloc, begin, inner, place)?, last))
     }
 
-    fn count(&self, place: usize, items: &'a [Item<'a>]) -> Found<'a, RawFactor>
+    fn count(&self, place: usize, items: &'a [Item<'a>]) -> Found<'a, Boxed<RawFactor>>
         requires nests { Readers self.now.left (F.pre self.now.formula) (F.post self.now.formula) (G.pre self.now.content) (G.post self.now.content) (H.pre self.now.term) (H.post self.now.term) }
         requires fewer { length items.now < self.now.left }
         ensures reads { UnsignedRead (sign t.Count place ∷ toks items.now) self.now.end result }
@@ -113,7 +118,7 @@ impl<
         how: Aggregation,
         place: usize,
         items: &'a [Item<'a>],
-    ) -> Found<'a, RawFactor>
+    ) -> Found<'a, Boxed<RawFactor>>
         requires nests { Readers self.now.left (F.pre self.now.formula) (F.post self.now.formula) (G.pre self.now.content) (G.post self.now.content) (H.pre self.now.term) (H.post self.now.term) }
         requires fewer { length items.now < self.now.left }
         ensures reads { UnsignedRead (sign (t.Aggregate how) place ∷ toks items.now) self.now.end result }
@@ -128,7 +133,7 @@ impl<
         Ok((found, last))
     }
 
-    fn unsigned(&self, items: &'a [Item<'a>]) -> Found<'a, RawFactor>
+    fn unsigned(&self, items: &'a [Item<'a>]) -> Found<'a, Boxed<RawFactor>>
         requires nests { Readers self.now.left (F.pre self.now.formula) (F.post self.now.formula) (G.pre self.now.content) (G.post self.now.content) (H.pre self.now.term) (H.post self.now.term) }
         requires fewer { length items.now ≤ self.now.left }
         requires unsigned { NoMinus (toks items.now) }
@@ -139,11 +144,13 @@ impl<
             return Err(ReadError::Stuck(self.end));
         };
         match item.terminal {
-            Terminal::Integer(number) => Ok((build::integer(number, item.place), rest)),
+            Terminal::Integer(number) => {
+                Ok((build::integer(self.alloc, number, item.place)?, rest))
+            }
             Terminal::Word => {
                 let name = build::named(self.alloc, item.text, item.place)?;
                 let (app, last) = self.arguments(name, rest)?;
-                Ok((build::value(app), last))
+                Ok((build::value(self.alloc, app)?, last))
             }
             Terminal::Open => self.brackets(item.place, rest),
             Terminal::Count => self.count(item.place, rest),
@@ -153,7 +160,7 @@ impl<
     }
 
     /// A factor.
-    pub fn factor(&self, items: &'a [Item<'a>]) -> Found<'a, RawFactor>
+    pub fn factor(&self, items: &'a [Item<'a>]) -> Found<'a, Boxed<RawFactor>>
         requires nests { Readers self.now.left (F.pre self.now.formula) (F.post self.now.formula) (G.pre self.now.content) (G.post self.now.content) (H.pre self.now.term) (H.post self.now.term) }
         requires fewer { length items.now ≤ self.now.left }
         ensures reads { FactorRead (toks items.now) self.now.end result }
@@ -170,7 +177,11 @@ impl<
         Ok((signed(self.alloc, signs, found)?, last))
     }
 
-    fn multiplied(&self, first: RawFactor, items: &'a [Item<'a>]) -> Found<'a, RawProduct>
+    fn multiplied(
+        &self,
+        first: Boxed<RawFactor>,
+        items: &'a [Item<'a>],
+    ) -> Found<'a, Boxed<RawProduct>>
         requires nests { Readers self.now.left (F.pre self.now.formula) (F.post self.now.formula) (G.pre self.now.content) (G.post self.now.content) (H.pre self.now.term) (H.post self.now.term) }
         requires fewer { length items.now ≤ self.now.left }
         requires fine { FineFactor (factor_view first) }
@@ -179,17 +190,23 @@ impl<
         ensures shorter { IfOk result (λ p. length p.1.now ≤ length items.now) }
     {
         let (_count, mut rest) = start(items);
+        let first = first.into_inner();
         let mut more = Items::new(self.alloc);
         while let Some((place, after)) = after_times(rest) {
             let (operand, after) = self.factor(after)?;
             more.push(build::product_tail(place, operand))?;
             rest = after;
         }
-        Ok((build::product(first, more), rest))
+        let chain = build::product(self.alloc, first, more)?;
+        Ok((chain, rest))
     }
 
     /// The term that has begun with this factor.
-    pub fn summed(&self, first: RawFactor, items: &'a [Item<'a>]) -> Found<'a, RawTermTree>
+    pub fn summed(
+        &self,
+        first: Boxed<RawFactor>,
+        items: &'a [Item<'a>],
+    ) -> Found<'a, Boxed<RawTermTree>>
         requires nests { Readers self.now.left (F.pre self.now.formula) (F.post self.now.formula) (G.pre self.now.content) (G.post self.now.content) (H.pre self.now.term) (H.post self.now.term) }
         requires fewer { length items.now ≤ self.now.left }
         requires fine { FineFactor (factor_view first) }
@@ -198,6 +215,7 @@ impl<
         ensures shorter { IfOk result (λ p. length p.1.now ≤ length items.now) }
     {
         let (product, mut rest) = self.multiplied(first, items)?;
+        let product = product.into_inner();
         let mut more = Items::new(self.alloc);
         while let Some((sign, place, after)) = after_add(rest) {
             let (factor, after) = self.factor(after)?;
@@ -205,11 +223,12 @@ impl<
             more.push(build::sum_tail(sign, place, operand))?;
             rest = after;
         }
-        Ok((build::term(product, more), rest))
+        let chain = build::term(self.alloc, product, more)?;
+        Ok((chain, rest))
     }
 
     /// A term.
-    pub fn whole_term(&self, items: &'a [Item<'a>]) -> Found<'a, RawTermTree>
+    pub fn whole_term(&self, items: &'a [Item<'a>]) -> Found<'a, Boxed<RawTermTree>>
         requires nests { Readers self.now.left (F.pre self.now.formula) (F.post self.now.formula) (G.pre self.now.content) (G.post self.now.content) (H.pre self.now.term) (H.post self.now.term) }
         requires fewer { length items.now ≤ self.now.left }
         ensures reads { TermRead (toks items.now) self.now.end result }

@@ -19,7 +19,7 @@ fn only_formula<'a>(alloc: Global, items: &'a [Item<'a>], end: usize) -> Result<
 {
     let (found, rest) = formula(alloc, items, end)?;
     let Some((item, _after)) = split(rest) else {
-        return Ok(found);
+        return Ok(found.into_inner());
     };
     Err(KbError::from(ReadError::Stuck(item.place)))
 }
@@ -29,7 +29,7 @@ fn only_term<'a>(alloc: Global, items: &'a [Item<'a>], end: usize) -> Result<Raw
 {
     let (found, rest) = term(alloc, items, end)?;
     let Some((extra, _after)) = split(rest) else {
-        return Ok(found);
+        return Ok(found.into_inner());
     };
     Err(KbError::from(ReadError::Stuck(extra.place)))
 }

@@ -123,7 +123,7 @@ fn unary<'a>(
         }
         RawUnary::Every(_, vars, _, inner) => {
             let outer = scope.len();
-            let vars = binders(alloc, table, scope, vars, earliest)?;
+            let vars = binders(alloc, table, scope, vars.get(), earliest)?;
             let inner = formula(alloc, table, scope, inner.get(), earliest)?;
             scope.leave(outer)?;
             Ok(NamedFormula::All(vars, Box::new(alloc, inner)?))
@@ -131,7 +131,7 @@ fn unary<'a>(
         RawUnary::Some(place, number, vars, _, inner) => {
             note_number(number, *place, earliest);
             let outer = scope.len();
-            let vars = binders(alloc, table, scope, vars, earliest)?;
+            let vars = binders(alloc, table, scope, vars.get(), earliest)?;
             let inner = formula(alloc, table, scope, inner.get(), earliest)?;
             scope.leave(outer)?;
             quantified(alloc, number, vars, inner)
@@ -161,8 +161,8 @@ fn prim<'a>(
             Ok(NamedFormula::Atom(predicate, args))
         }
         RawPrim::Compare(left, sign, _, right) => {
-            let left = term(alloc, table, scope, left, earliest)?;
-            let right = term(alloc, table, scope, right, earliest)?;
+            let left = term(alloc, table, scope, left.get(), earliest)?;
+            let right = term(alloc, table, scope, right.get(), earliest)?;
             Ok(NamedFormula::Compare(comparison_of(*sign), left, right))
         }
     }
@@ -272,7 +272,7 @@ fn factor<'a>(
             let place = opening.place;
             note_aggregate(place, earliest);
             let outer = scope.len();
-            let vars = binders(alloc, table, scope, &opening.vars, earliest)?;
+            let vars = binders(alloc, table, scope, opening.vars.get(), earliest)?;
             let condition = formula(alloc, table, scope, condition.get(), earliest)?;
             scope.leave(outer)?;
             let one = NamedTerm {
@@ -289,7 +289,7 @@ fn factor<'a>(
             let place = opening.place;
             note_aggregate(place, earliest);
             let outer = scope.len();
-            let vars = binders(alloc, table, scope, &opening.vars, earliest)?;
+            let vars = binders(alloc, table, scope, opening.vars.get(), earliest)?;
             let condition = formula(alloc, table, scope, condition.get(), earliest)?;
             let weight = term(alloc, table, scope, weight.get(), earliest)?;
             scope.leave(outer)?;

@@ -33,4 +33,4 @@ returns-in_err-place-clause-reads c =
 pub returns-clause-reads : goal.returns-clause-reads
 returns-clause-reads c =
     let l = c.loop-comma.invariant in
-    rw c.listed.ensures (binder_whole _ _ _ _ _ _ l.so_far c.in_ok-place.ensures.ok)
+    rw c.in_ok-vars.ensures (binder_whole _ _ _ _ _ _ l.so_far c.in_ok-place.ensures.ok)

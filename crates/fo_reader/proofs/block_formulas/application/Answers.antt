@@ -26,4 +26,4 @@ returns-in_err-sealed-clause-reads c =
 pub returns-clause-reads : goal.returns-clause-reads
 returns-clause-reads c =
     let found = arguments_from (toks c.args.items.now) (put_name (name_view c.in_ok-name.name) (toks c.in_ok-name.rest.now)) (app_view c.in_ok-app.app) (toks c.in_ok-app.last.now) c.in_ok-name.ensures.reads c.in_ok-app.ensures.reads in
-    (found.spelled, found.fine, ended_app (toks c.in_ok-app.last.now) c.in_ok-sealed.ensures.ok)
+    rw c.into_inner.ensures (found.spelled, found.fine, ended_app (toks c.in_ok-app.last.now) c.in_ok-sealed.ensures.ok)

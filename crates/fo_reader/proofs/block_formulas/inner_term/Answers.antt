@@ -1,6 +1,9 @@
+use Rattle.std.proofs.lemmas.Result.{err_from_is_err_and}
 use Rattle.fo_reader.specs.Terminals.{toks}
-use Rattle.fo_reader.proofs.Beyond.{term_part}
+use Rattle.fo_reader.proofs.Beyond.{term_fails}
 use Rattle.fo_reader.proofs.block_formulas.inner_term.Goals as goal
 
-pub returns-clause-reads : goal.returns-clause-reads
-returns-clause-reads c = term_part (toks c.args.items.now) c.args.end c.term.result c.term.ensures.reads
+pub returns-in_err-found-clause-reads : goal.returns-in_err-found-clause-reads
+returns-in_err-found-clause-reads c =
+    let p = err_from_is_err_and c.from_residual.result c.from_residual.ensures.1 in
+    rw (p.1, p.2) (term_fails (toks c.args.items.now) c.args.end c.in_err-found.field-0.0 c.in_err-found.ensures.reads)

@@ -20,4 +20,4 @@ returns-in_err-_dot-clause-reads c =
 pub returns-clause-reads : goal.returns-clause-reads
 returns-clause-reads c =
     let read = c.in_ok-found.ensures.reads in
-    (read.spelled, read.fine, ap next c.in_ok-_dot.ensures.reads)
+    rw c.into_inner.ensures (read.spelled, read.fine, ap next c.in_ok-_dot.ensures.reads)

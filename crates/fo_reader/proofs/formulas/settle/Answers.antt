@@ -6,8 +6,8 @@ use Rattle.fo_reader.proofs.formulas.settle.Goals as goal
 pub returns-in-Formula : goal.returns-in-Formula
 returns-in-Formula c = record { reads = λ ts h. (rw c.in-Formula.is at h).0 }
 
-pub returns-in_ok-wrapped-in-Either : goal.returns-in_ok-wrapped-in-Either
-returns-in_ok-wrapped-in-Either c = record { reads = λ ts h. rw (c.prim.ensures, c.in_ok-wrapped-in-Either.ensures) (app_is ts (app_view c.in-Either.app) c.in-Either.pairs (toks c.args.rest.now) (rw c.in-Either.is at h)) }
+pub returns-in_ok-unary-in-Either : goal.returns-in_ok-unary-in-Either
+returns-in_ok-unary-in-Either c = record { reads = λ ts h. rw (c.in_ok-unary-in-Either.ensures, c.in_ok-inside-in-Either.ensures) (app_is ts (app_view c.in-Either.app) c.in-Either.pairs (toks c.args.rest.now) (rw c.in-Either.is at h)) }
 
 pub returns-in-Term : goal.returns-in-Term
 returns-in-Term c = record {

@@ -14,7 +14,7 @@ returns-in_err-found c =
 pub returns-in_default : goal.returns-in_default
 returns-in_default c =
     let read = c.in_ok-found.ensures.reads in
-    (read.spelled ∙ ap (λ (v : List Tok). put_formula (formula_view c.in_ok-found.found) v) c.in_default.ensures.none, read.fine)
+    rw c.into_inner.ensures (read.spelled ∙ ap (λ (v : List Tok). put_formula (formula_view c.in_ok-found.found) v) c.in_default.ensures.none, read.fine)
 
 pub returns : goal.returns
 returns c = rw c.from.ensures (formula_over (toks c.args.items.now) (formula_view c.in_ok-found.found) _ _ _ (toks c.in_ok-found.rest.now) c.args.end _ c.in_ok-found.ensures.reads c.in-Some.ensures.some refl)

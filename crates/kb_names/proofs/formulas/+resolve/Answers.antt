@@ -102,8 +102,8 @@ factor-returns-in_ok-new-in-Count-clause-noted t c =
     let seen : view.factor_view c.args.raw.now ≡ raw.count c.in-Count.opening.place c.in-Count.opening.brace (view.vars_view c.in-Count.opening.vars) c.in-Count.opening.colon (view.formula_view c.in-Count.condition) c.in-Count.field-2 =
     rw c.in-Count.is (search (rules, the_lemmas)) in
     rw seen
-    (count_noted (name_noted (names_in c.args.table.now)) _ _ _ _ (an_aggregate c.in-Count.opening.place) (uses_of_vars [] (vars_in (view.vars_view c.in-Count.opening.vars))) (uses_in (within c.args.scope.now (view.vars_view c.in-Count.opening.vars)) (view.formula_view c.in-Count.condition))
-    (c.note_aggregate.ensures (names_in c.args.table.now)) c.in_ok-vars-in-Count.ensures.noted (rw (← c.get-in-Count.ensures, ← c.in_ok-vars-in-Count.ensures.scope) c.in_ok-condition-in-Count.ensures.noted))
+    (count_noted (name_noted (names_in c.args.table.now)) c.args.earliest.now.first c.note_aggregate.new.earliest.first c.binders.new.earliest.first c.formula.new.earliest.first (an_aggregate c.in-Count.opening.place) (uses_of_vars [] (vars_in (view.vars_view c.in-Count.opening.vars))) (uses_in (within c.args.scope.now (view.vars_view c.in-Count.opening.vars)) (view.formula_view c.in-Count.condition))
+    (c.note_aggregate.ensures (names_in c.args.table.now)) (rw (← c.get-in-Count.ensures) c.in_ok-vars-in-Count.ensures.noted) (rw (← c.get-in-Count.ensures, ← c.get-in-Count-2.ensures, ← c.in_ok-vars-in-Count.ensures.scope) c.in_ok-condition-in-Count.ensures.noted))
 
 pub factor-returns-in_ok-new-in-Aggregate-clause-noted : goal.factor-returns-in_ok-new-in-Aggregate-clause-noted
 factor-returns-in_ok-new-in-Aggregate-clause-noted t c =
@@ -111,9 +111,9 @@ factor-returns-in_ok-new-in-Aggregate-clause-noted t c =
     rw c.in-Aggregate.is (search (rules, the_lemmas)) in
     rw seen
     (aggregate_noted (name_noted (names_in c.args.table.now)) c.args.earliest.now.first c.note_aggregate-in-Aggregate.new.earliest.first c.binders-in-Aggregate.new.earliest.first c.formula-in-Aggregate.new.earliest.first c.term-in-Aggregate.new.earliest.first (an_aggregate c.in-Aggregate.opening.place) (uses_of_vars [] (vars_in (view.vars_view c.in-Aggregate.opening.vars))) (uses_in (within c.args.scope.now (view.vars_view c.in-Aggregate.opening.vars)) (view.formula_view c.in-Aggregate.condition)) (uses_in_term (within c.args.scope.now (view.vars_view c.in-Aggregate.opening.vars)) (view.term_view c.in-Aggregate.weight))
-    (c.note_aggregate-in-Aggregate.ensures (names_in c.args.table.now)) c.in_ok-vars-in-Aggregate.ensures.noted
-    (rw (← c.get-in-Aggregate.ensures, ← c.in_ok-vars-in-Aggregate.ensures.scope) c.in_ok-condition-in-Aggregate.ensures.noted)
-    (rw (← c.get-in-Aggregate-2.ensures, ← c.in_ok-vars-in-Aggregate.ensures.scope, ← c.in_ok-condition-in-Aggregate.ensures.scope) c.in_ok-weight-in-Aggregate.ensures.noted))
+    (c.note_aggregate-in-Aggregate.ensures (names_in c.args.table.now)) (rw (← c.get-in-Aggregate.ensures) c.in_ok-vars-in-Aggregate.ensures.noted)
+    (rw (← c.get-in-Aggregate.ensures, ← c.get-in-Aggregate-2.ensures, ← c.in_ok-vars-in-Aggregate.ensures.scope) c.in_ok-condition-in-Aggregate.ensures.noted)
+    (rw (← c.get-in-Aggregate.ensures, ← c.get-in-Aggregate-3.ensures, ← c.in_ok-vars-in-Aggregate.ensures.scope, ← c.in_ok-condition-in-Aggregate.ensures.scope) c.in_ok-weight-in-Aggregate.ensures.noted))
 
 pub arguments-returns-clause-trees : goal.arguments-returns-clause-trees
 arguments-returns-clause-trees t c =

@@ -1,4 +1,4 @@
-use Rattle.std.proofs.Common.{refl, arith, map}
+use Rattle.std.proofs.Common.{arith, map}
 use Rattle.std.proofs.lemmas.Result.{err_from_is_err_and}
 use Rattle.std.proofs.lemmas.List.{map_push}
 use Rattle.fo_reader.specs.Terminals.{toks}
@@ -12,7 +12,7 @@ pub loop-place-init : goal.loop-place-init
 loop-place-init g c = record {
   shorter = rw c.start-count.ensures.same (omega arith);
   so_far = rw (c.start-count.ensures.same, c.new-more.ensures) (λ first. ands_first _ _ _ _ first);
-  same = refl;
+  same = c.into_inner-first.ensures;
 }
 
 pub returns-in_err-operand-clause-reads : goal.returns-in_err-operand-clause-reads
@@ -30,7 +30,7 @@ loop-place-preserved g c =
     }
 
 pub returns-clause-reads : goal.returns-clause-reads
-returns-clause-reads g c = rw (c.and.ensures, c.loop-place.invariant.same) (λ first. ands_are _ _ _ _ (c.loop-place.invariant.so_far first) c.in_default.ensures.none)
+returns-clause-reads g c = rw (c.in_ok-chain.ensures, c.loop-place.invariant.same) (λ first. ands_are _ _ _ _ (c.loop-place.invariant.so_far first) c.in_default.ensures.none)
 
 pub returns-clause-kind : goal.returns-clause-kind
-returns-clause-kind g c = rw (c.and.ensures, c.loop-place.invariant.same) (λ h. and_kind (unary_view c.args.first) (map and_tail_view c.loop-place.more) h)
+returns-clause-kind g c = rw (c.in_ok-chain.ensures, c.loop-place.invariant.same) (λ h. and_kind (unary_view c.args.first) (map and_tail_view c.loop-place.more) h)

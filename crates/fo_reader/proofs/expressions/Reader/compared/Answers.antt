@@ -18,4 +18,4 @@ returns-in_err-right-clause-reads g c =
 
 pub returns-clause-reads : goal.returns-clause-reads
 returns-clause-reads g c =
-    rw (c.prim-found.ensures, c.compare.ensures) (λ alone. (comparison_is (term_view c.args.term) c.in-Some.sign c.in-Some.place (term_view c.in_ok-right.right) (toks c.args.items.now) (toks c.in-Some.rest.now) (toks c.in_ok-right.last.now) c.in-Some.ensures.some c.requires.fine c.in_ok-right.ensures.reads, refl))
+    rw (c.in_ok-found.ensures, c.compare.ensures) (λ alone. (comparison_is (term_view c.args.term) c.in-Some.sign c.in-Some.place (term_view c.in_ok-right.right) (toks c.args.items.now) (toks c.in-Some.rest.now) (toks c.in_ok-right.last.now) c.in-Some.ensures.some c.requires.fine c.in_ok-right.ensures.reads, refl))

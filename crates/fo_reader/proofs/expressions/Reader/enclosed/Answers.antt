@@ -28,7 +28,7 @@ pub returns-in_ok-found-in-Formula-clause-reads : goal.returns-in_ok-found-in-Fo
 returns-in_ok-found-in-Formula-clause-reads g c =
     let read = c.in_ok-inner.ensures.reads in
     let found = rw c.in-Formula.is at read in
-    rw (c.prim.ensures, c.in_ok-found-in-Formula.ensures) (group_is c.args.begin c.in_ok-place.place (formula_view c.in-Formula.formula) (toks c.args.items.now) (toks c.in_ok-inner.rest.now) (toks c.in_ok-place.last.now) found.0 found.1 c.in_ok-place.ensures.ok c.in_ok-sealed.ensures.ok, found.1)
+    rw (c.in_ok-found-in-Formula.ensures, c.group.ensures) (group_is c.args.begin c.in_ok-place.place (formula_view c.in-Formula.formula) (toks c.args.items.now) (toks c.in_ok-inner.rest.now) (toks c.in_ok-place.last.now) found.0 found.1 c.in_ok-place.ensures.ok c.in_ok-sealed.ensures.ok, found.1)
 
 pub returns-in_ok-first-in-Term-clause-reads : goal.returns-in_ok-first-in-Term-clause-reads
 returns-in_ok-first-in-Term-clause-reads g c =

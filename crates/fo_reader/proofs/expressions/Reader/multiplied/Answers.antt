@@ -31,4 +31,4 @@ loop-place-preserved g c =
 pub returns-clause-reads : goal.returns-clause-reads
 returns-clause-reads g c =
     let l = c.loop-place.invariant in
-    rw (c.product.ensures, l.same) (record { spelled = l.so_far; fine = l.fine; ends = l.ends; no_times = c.in_default.ensures.none })
+    rw (c.in_ok-chain.ensures, l.same) (record { spelled = l.so_far; fine = l.fine; ends = l.ends; no_times = c.in_default.ensures.none })

@@ -16,13 +16,13 @@ returns-in_err-and-clause-reads g c =
 pub loop-place-init : goal.loop-place-init
 loop-place-init g c = record {
   shorter = c.in_ok-and.ensures.shorter;
-  so_far = rw c.new-more.ensures (λ first. ors_first _ _ _ _ (c.in_ok-and.ensures.reads first));
+  so_far = rw (c.new-more.ensures, c.into_inner-and.ensures) (λ first. ors_first _ _ _ _ (c.in_ok-and.ensures.reads first));
 }
 
 pub returns-in_err-operand-clause-reads : goal.returns-in_err-operand-clause-reads
 returns-in_err-operand-clause-reads g c =
     let p = err_from_is_err_and c.from_residual-in_err-operand.result c.from_residual-in_err-operand.ensures.1 in
-    rw (p.1, p.2) (λ first. fails_in c.args.self.now.end c.in_err-operand.field-0.0 (in_ors (put_unary (unary_view c.args.first) (toks c.args.items.now)) (or_of (and_view c.in_ok-and.and) (map or_tail_view c.loop-place.more)) c.loop-place.closed (toks c.loop-place.rest.now) c.in-Some.place (toks c.in-Some.after.now) (c.loop-place.invariant.so_far first) c.in-Some.ensures.closed c.in-Some.ensures.some) c.in_err-operand.ensures.reads)
+    rw (p.1, p.2) (λ first. fails_in c.args.self.now.end c.in_err-operand.field-0.0 (in_ors (put_unary (unary_view c.args.first) (toks c.args.items.now)) (or_of (and_view c.into_inner-and.result) (map or_tail_view c.loop-place.more)) c.loop-place.closed (toks c.loop-place.rest.now) c.in-Some.place (toks c.in-Some.after.now) (c.loop-place.invariant.so_far first) c.in-Some.ensures.closed c.in-Some.ensures.some) c.in_err-operand.ensures.reads)
 
 pub loop-place-preserved : goal.loop-place-preserved
 loop-place-preserved g c =
@@ -33,7 +33,7 @@ loop-place-preserved g c =
     }
 
 pub returns-clause-reads : goal.returns-clause-reads
-returns-clause-reads g c = rw c.or.ensures (λ first. ors_are _ _ _ _ (c.loop-place.invariant.so_far first) c.in_default.ensures.none)
+returns-clause-reads g c = rw c.in_ok-chain.ensures (λ first. ors_are _ _ _ _ (c.loop-place.invariant.so_far first) c.in_default.ensures.none)
 
 pub returns-clause-kind : goal.returns-clause-kind
-returns-clause-kind g c = rw c.or.ensures (λ h. c.in_ok-and.ensures.kind (or_kind (and_view c.in_ok-and.and) (map or_tail_view c.loop-place.more) h))
+returns-clause-kind g c = rw (c.in_ok-chain.ensures, c.into_inner-and.ensures) (λ h. c.in_ok-and.ensures.kind (or_kind (and_view c.in_ok-and.and) (map or_tail_view c.loop-place.more) h))

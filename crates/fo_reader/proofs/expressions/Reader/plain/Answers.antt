@@ -16,10 +16,10 @@ returns-in_err-sealed-in-Truth-clause-reads g c =
     let p = err_from_is_err_and c.from_residual.result c.from_residual.ensures.1 in
     rw (p.1, p.2) (λ plain. truth_unsealed c.in-Truth.value c.in-Some.item.place (toks c.args.items.now) (toks c.in-Some.rest.now) c.args.self.now.end c.in_err-sealed-in-Truth.field-0.0 (rw c.in-Truth.is at some) c.in_err-sealed-in-Truth.ensures.err)
 
-pub returns-in_ok-sealed-in-Truth-clause-reads : goal.returns-in_ok-sealed-in-Truth-clause-reads
-returns-in_ok-sealed-in-Truth-clause-reads g c =
+pub returns-in_ok-found-in-Truth-clause-reads : goal.returns-in_ok-found-in-Truth-clause-reads
+returns-in_ok-found-in-Truth-clause-reads g c =
     let some = c.in-Some.ensures.some in
-    rw (c.prim-found.ensures, c.truth.ensures) (λ plain. (truth_is c.in-Truth.value c.in-Some.item.place (toks c.args.items.now) (toks c.in-Some.rest.now) (rw c.in-Truth.is at some) c.in_ok-sealed-in-Truth.ensures.ok, refl))
+    rw (c.in_ok-found-in-Truth.ensures, c.truth.ensures) (λ plain. (truth_is c.in-Truth.value c.in-Some.item.place (toks c.args.items.now) (toks c.in-Some.rest.now) (rw c.in-Truth.is at some) c.in_ok-sealed-in-Truth.ensures.ok, refl))
 
 pub returns-in-Word-clause-reads : goal.returns-in-Word-clause-reads
 returns-in-Word-clause-reads g c = λ plain. let some = c.in-Some.ensures.some in operand_from (toks c.args.items.now) _ c.args.self.now.end c.worded.result (rw c.in-Word.is at some) c.worded.ensures.reads

@@ -17,7 +17,7 @@ pub returns-in_err-factor-clause-reads : goal.returns-in_err-factor-clause-reads
 returns-in_err-factor-clause-reads g c =
     let p = err_from_is_err_and c.from_residual-in_err-factor.result c.from_residual-in_err-factor.ensures.1 in
     let l = c.loop-sign.invariant in
-    let x = term_of (product_view c.in_ok-product.product) (map sum_tail_view c.loop-sign.more) in
+    let x = term_of (product_view c.into_inner-product.result) (map sum_tail_view c.loop-sign.more) in
     rw (p.1, p.2) (fails_in c.args.self.now.end c.in_err-factor.field-0.0
     (in_sum x c.in-Some.sign c.in-Some.place (put_factor (factor_view c.args.first) (toks c.args.items.now)) (toks c.in-Some.after.now) (l.so_far ∙ ap (λ (v : List Tok). put_term x v) c.in-Some.ensures.some) l.fine) c.in_err-factor.ensures.reads)
 
@@ -25,7 +25,7 @@ pub returns-in_err-operand-clause-reads : goal.returns-in_err-operand-clause-rea
 returns-in_err-operand-clause-reads g c =
     let p = err_from_is_err_and c.from_residual-in_err-operand.result c.from_residual-in_err-operand.ensures.1 in
     let l = c.loop-sign.invariant in
-    let x = term_of (product_view c.in_ok-product.product) (map sum_tail_view c.loop-sign.more) in
+    let x = term_of (product_view c.into_inner-product.result) (map sum_tail_view c.loop-sign.more) in
     rw (p.1, p.2) (fails_in c.args.self.now.end c.in_err-operand.field-0.0
     (in_summand x c.in-Some.sign c.in-Some.place (factor_view c.in_ok-factor.factor) (put_factor (factor_view c.args.first) (toks c.args.items.now)) (toks c.in-Some.after.now) (toks c.in_ok-factor.after.now)
     (l.so_far ∙ ap (λ (v : List Tok). put_term x v) c.in-Some.ensures.some) c.in_ok-factor.ensures.reads.spelled l.fine) c.in_err-operand.ensures.reads)
@@ -45,4 +45,4 @@ loop-sign-preserved g c =
 pub returns-clause-reads : goal.returns-clause-reads
 returns-clause-reads g c =
     let l = c.loop-sign.invariant in
-    rw c.term.ensures (record { spelled = l.so_far; fine = l.fine; ends = sum_ends (toks c.loop-sign.rest.now) l.ends l.no_times c.in_default.ensures.none })
+    rw c.in_ok-chain.ensures (record { spelled = l.so_far; fine = l.fine; ends = sum_ends (toks c.loop-sign.rest.now) l.ends l.no_times c.in_default.ensures.none })

@@ -48,7 +48,7 @@ returns-in_err-formula-in-Either-clause-reads g c =
     let read = c.in_ok-found.ensures.reads in
     let found = rw c.in-Either.is at read in
     let linked = c.in_err-formula-in-Either.ensures.reads in
-    let after = rw (c.prim-first.ensures, c.in_ok-wrapped-in-Either.ensures) at linked in
+    let after = rw (c.in_ok-first-in-Either.ensures, c.in_ok-inside-in-Either.ensures) at linked in
     rw (p.1, p.2) (fails_in c.args.self.now.end c.in_err-formula-in-Either.field-0.0 (bracket_of (toks c.args.items.now) (put_unary x (toks c.in_ok-found.rest.now)) found.spelled) (after (unary_here (toks c.args.items.now) x true (toks c.in_ok-found.rest.now) (app_is (toks c.args.items.now) (app_view c.in-Either.app) c.in-Either.pairs (toks c.in_ok-found.rest.now) found))))
 
 pub returns-in_ok-formula-in-Either-clause-reads : goal.returns-in_ok-formula-in-Either-clause-reads
@@ -57,7 +57,7 @@ returns-in_ok-formula-in-Either-clause-reads g c =
     let read = c.in_ok-found.ensures.reads in
     let found = rw c.in-Either.is at read in
     let linked = c.in_ok-formula-in-Either.ensures.reads in
-    let after = rw (c.prim-first.ensures, c.in_ok-wrapped-in-Either.ensures) at linked in
+    let after = rw (c.in_ok-first-in-Either.ensures, c.in_ok-inside-in-Either.ensures) at linked in
     let here = unary_here (toks c.args.items.now) (prim x) true (toks c.in_ok-found.rest.now) (app_is (toks c.args.items.now) (app_view c.in-Either.app) c.in-Either.pairs (toks c.in_ok-found.rest.now) found) in
     let whole = formula_from (toks c.args.items.now) (put_unary (prim x) (toks c.in_ok-found.rest.now)) unsettled (formula_view c.in_ok-formula-in-Either.formula) (toks c.in_ok-formula-in-Either.last.now) found.spelled (after here).1 in
     (whole, chain_no_app (formula_view c.in_ok-formula-in-Either.formula) x (toks c.args.items.now) (toks c.in_ok-found.rest.now) (toks c.in_ok-formula-in-Either.last.now) found.spelled (wrap_prim_fine c.in-Either.pairs (atom (app_view c.in-Either.app)) found.fine) found.ends (c.connects.ensures.yes c.if-not-connects.false) whole)
