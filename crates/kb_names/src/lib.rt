@@ -9,6 +9,8 @@ mod blocks;
 mod cycles;
 mod declarations;
 mod earliest;
+#[cfg(test)]
+mod file_tests;
 mod files;
 mod formulas;
 mod isa_laws;
