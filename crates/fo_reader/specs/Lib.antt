@@ -35,4 +35,6 @@ pub mod Kinship
 pub mod Demands
 pub mod Typing
 pub mod TypedTrees
+pub mod TermPlaces
+pub mod TypedFiles
 pub mod TypesStage

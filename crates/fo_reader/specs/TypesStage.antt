@@ -5,12 +5,14 @@ use Rattle.kb_text.specs.declared.fault.K.{K}
 use Rattle.kb_text.specs.declared.fault.K.TheVariants as k
 use Rattle.kb_text.specs.declared.fault.KbFault.{KbFault}
 use Rattle.kb_logic.specs.declared.vocabularies.TypeDecl.{TypeDecl}
+use Rattle.kb_logic.specs.declared.vocabularies.Vocabulary.{Vocabulary}
 use Rattle.fo_reader.specs.Earliest.{refusal, noted_at}
 use Rattle.fo_reader.specs.Kinship.{is_number_type, are_akin, is_under}
-use Rattle.fo_reader.specs.Demands.{TermType, whole, declared, untyped, Demand, a_number, sides, predicate_argument, function_argument, Finding, nothing, found, torn, Binding, Part, demand, scope, Parts, no_parts, more_parts}
+use Rattle.fo_reader.specs.Demands.{TermType, whole, declared, untyped, Demand, a_number, sides, predicate_argument, function_argument, Finding, nothing, found, torn, Binding, Part, demand, scope, Parts, no_parts, more_parts, parts_of, formula_parts, term_parts, number_demand}
+use Rattle.fo_reader.specs.NamedTrees.{NamedTerm, NamedFormula}
 use Rattle.fo_reader.specs.Numbering.{NamedTheoryTree, NamedTermTree, NamedFile}
-use Rattle.fo_reader.specs.Typing.{type_in, within}
-use Rattle.fo_reader.specs.TypedTrees.{sentence_settled, block_settled, TypedFile, typed_file}
+use Rattle.fo_reader.specs.TypedFiles.{TypedFile, typed_file}
+use Rattle.fo_reader.specs.Typing.{type_in, within, all_settled}
 
 -- a variable where it is bound, with all that is found; or a demand, where the variables in scope have these types
 pub data TypeUse : Type 0 where
@@ -84,6 +86,14 @@ abbrev mutual
   uses_among types_in_scope (more_parts p ps) = uses_at types_in_scope p ++ uses_among types_in_scope ps
 
 -- ---- a file
+
+-- what a sentence demands, with all that is found of its variables' types
+abbrev pub sentence_settled : Vocabulary → NamedFormula → Parts
+sentence_settled v f = all_settled v.types (parts_of (formula_parts v.symbols f))
+
+-- and the term of a term block, which has to be a number
+abbrev pub block_settled : Vocabulary → NamedTerm → Parts
+block_settled v t = all_settled v.types (parts_of (number_demand v.symbols t ∷ term_parts v.symbols t))
 
 abbrev pub theory_type_uses : NamedFile → NamedTheoryTree → List TypeUse
 theory_type_uses f t = flat_map (λ s. uses_among [] (sentence_settled f.vocabulary s)) t.sentences

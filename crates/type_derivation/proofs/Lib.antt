@@ -1,7 +1,7 @@
+mod InOrder
 mod Integers
 mod Least
 mod Listed
-mod LocalTrees
 mod Seen
 mod Settled
 mod TreeSteps

@@ -3,7 +3,8 @@ use Rattle.std.proofs.Common.{◌≡◌, ◌≤◌, ◌<◌, ℕ, ◌+◌, Bool,
 use Rattle.std.proofs.lemmas.Grind.{common_steps}
 use Rattle.kb_logic.specs.Trees as tree
 use Rattle.fo_reader.specs.NamedTrees.{NamedTerm, terms_of, summands_of, NamedFormula, formulas_of}
-use Rattle.fo_reader.specs.TypedTrees as typed
+use Rattle.fo_reader.specs.TermPlaces.{each_begins, formulas_begin, summands_begin, term_begins, terms_begin}
+use Rattle.type_derivation.specs.ListedTrees as listed
 use Rattle.type_derivation.specs.TreeLists.{then_formulas, then_terms, then_summands}
 
 -- ---- the rest of a list
@@ -26,27 +27,27 @@ formulas-none [] = refl
 formulas-none (f ∷ fs) = ap (tree.more_formulas f) (formulas-none fs)
 
 pub formulas_next : (ts later : List ℕ) (whole : List NamedFormula) (f : NamedFormula) (fs : List NamedFormula) (done done2 : List tree.FormulaTree) (new : tree.FormulaTree) (total : tree.FormulaTrees)
-    → whole ≡ f ∷ fs → then_formulas done (typed.typed_formulas ts (formulas_of whole)) ≡ total → new ≡ typed.typed_formula ts f → later ≡ typed.left_formula ts f
-    → done2 ≡ done ++ new ∷ [] → then_formulas done2 (typed.typed_formulas later (formulas_of fs)) ≡ total
+    → whole ≡ f ∷ fs → then_formulas done (listed.listed_formulas ts (formulas_of whole)) ≡ total → new ≡ listed.listed_formula ts f → later ≡ listed.left_formula ts f
+    → done2 ≡ done ++ new ∷ [] → then_formulas done2 (listed.listed_formulas later (formulas_of fs)) ≡ total
 formulas_next ts later whole f fs done done2 new total e so_far n l p =
-    rw (p, l, n) (formulas-push done (typed.typed_formula ts f) (typed.typed_formulas (typed.left_formula ts f) (formulas_of fs)))
-    ∙ subst (λ (gs : List NamedFormula). then_formulas done (typed.typed_formulas ts (formulas_of gs)) ≡ total) e so_far
+    rw (p, l, n) (formulas-push done (listed.listed_formula ts f) (listed.listed_formulas (listed.left_formula ts f) (formulas_of fs)))
+    ∙ subst (λ (gs : List NamedFormula). then_formulas done (listed.listed_formulas ts (formulas_of gs)) ≡ total) e so_far
 
 pub formulas_left : (ts later : List ℕ) (whole : List NamedFormula) (f : NamedFormula) (fs : List NamedFormula) (total : List ℕ)
-    → whole ≡ f ∷ fs → typed.left_formulas ts (formulas_of whole) ≡ total → later ≡ typed.left_formula ts f → typed.left_formulas later (formulas_of fs) ≡ total
-formulas_left ts later whole f fs total e so_far l = rw l (subst (λ (gs : List NamedFormula). typed.left_formulas ts (formulas_of gs) ≡ total) e so_far)
+    → whole ≡ f ∷ fs → listed.left_formulas ts (formulas_of whole) ≡ total → later ≡ listed.left_formula ts f → listed.left_formulas later (formulas_of fs) ≡ total
+formulas_left ts later whole f fs total e so_far l = rw l (subst (λ (gs : List NamedFormula). listed.left_formulas ts (formulas_of gs) ≡ total) e so_far)
 
 pub formulas_begun : (places more : List ℕ) (whole : List NamedFormula) (f : NamedFormula) (fs : List NamedFormula) (total : List ℕ)
-    → whole ≡ f ∷ fs → places ++ typed.formulas_begin (formulas_of whole) ≡ total → more ≡ places ++ typed.terms_begin f
-    → more ++ typed.formulas_begin (formulas_of fs) ≡ total
+    → whole ≡ f ∷ fs → places ++ formulas_begin (formulas_of whole) ≡ total → more ≡ places ++ terms_begin f
+    → more ++ formulas_begin (formulas_of fs) ≡ total
 formulas_begun places more whole f fs total e so_far m =
-    ap (λ (ps : List ℕ). ps ++ typed.formulas_begin (formulas_of fs)) m ∙ append_assoc places (typed.terms_begin f) (typed.formulas_begin (formulas_of fs))
-    ∙ subst (λ (gs : List NamedFormula). places ++ typed.formulas_begin (formulas_of gs) ≡ total) e so_far
+    ap (λ (ps : List ℕ). ps ++ formulas_begin (formulas_of fs)) m ∙ append_assoc places (terms_begin f) (formulas_begin (formulas_of fs))
+    ∙ subst (λ (gs : List NamedFormula). places ++ formulas_begin (formulas_of gs) ≡ total) e so_far
 
 pub formulas_done : (ts : List ℕ) (rest : List NamedFormula) (done : List tree.FormulaTree) (total : tree.FormulaTrees) → rest ≡ []
-    → then_formulas done (typed.typed_formulas ts (formulas_of rest)) ≡ total → tree.formulas_of done ≡ total
+    → then_formulas done (listed.listed_formulas ts (formulas_of rest)) ≡ total → tree.formulas_of done ≡ total
 formulas_done ts rest done total none e =
-    sym (formulas-none done) ∙ subst (λ (gs : List NamedFormula). then_formulas done (typed.typed_formulas ts (formulas_of gs)) ≡ total) none e
+    sym (formulas-none done) ∙ subst (λ (gs : List NamedFormula). then_formulas done (listed.listed_formulas ts (formulas_of gs)) ≡ total) none e
 
 -- ---- terms
 
@@ -59,27 +60,27 @@ terms-none [] = refl
 terms-none (u ∷ us) = ap (tree.more_terms u) (terms-none us)
 
 pub terms_next : (ts later : List ℕ) (whole : List NamedTerm) (u : NamedTerm) (us : List NamedTerm) (done done2 : List tree.TermTree) (new : tree.TermTree) (total : tree.TermTrees)
-    → whole ≡ u ∷ us → then_terms done (typed.typed_terms ts (terms_of whole)) ≡ total → new ≡ typed.typed_term ts u → later ≡ typed.left_term ts u
-    → done2 ≡ done ++ new ∷ [] → then_terms done2 (typed.typed_terms later (terms_of us)) ≡ total
+    → whole ≡ u ∷ us → then_terms done (listed.listed_terms ts (terms_of whole)) ≡ total → new ≡ listed.listed_term ts u → later ≡ listed.left_term ts u
+    → done2 ≡ done ++ new ∷ [] → then_terms done2 (listed.listed_terms later (terms_of us)) ≡ total
 terms_next ts later whole u us done done2 new total e so_far n l p =
-    rw (p, l, n) (terms-push done (typed.typed_term ts u) (typed.typed_terms (typed.left_term ts u) (terms_of us)))
-    ∙ subst (λ (vs : List NamedTerm). then_terms done (typed.typed_terms ts (terms_of vs)) ≡ total) e so_far
+    rw (p, l, n) (terms-push done (listed.listed_term ts u) (listed.listed_terms (listed.left_term ts u) (terms_of us)))
+    ∙ subst (λ (vs : List NamedTerm). then_terms done (listed.listed_terms ts (terms_of vs)) ≡ total) e so_far
 
 pub terms_left : (ts later : List ℕ) (whole : List NamedTerm) (u : NamedTerm) (us : List NamedTerm) (total : List ℕ)
-    → whole ≡ u ∷ us → typed.left_terms ts (terms_of whole) ≡ total → later ≡ typed.left_term ts u → typed.left_terms later (terms_of us) ≡ total
-terms_left ts later whole u us total e so_far l = rw l (subst (λ (vs : List NamedTerm). typed.left_terms ts (terms_of vs) ≡ total) e so_far)
+    → whole ≡ u ∷ us → listed.left_terms ts (terms_of whole) ≡ total → later ≡ listed.left_term ts u → listed.left_terms later (terms_of us) ≡ total
+terms_left ts later whole u us total e so_far l = rw l (subst (λ (vs : List NamedTerm). listed.left_terms ts (terms_of vs) ≡ total) e so_far)
 
 pub terms_begun : (places more : List ℕ) (whole : List NamedTerm) (u : NamedTerm) (us : List NamedTerm) (total : List ℕ)
-    → whole ≡ u ∷ us → places ++ typed.each_begins (terms_of whole) ≡ total → more ≡ places ++ typed.term_begins u
-    → more ++ typed.each_begins (terms_of us) ≡ total
+    → whole ≡ u ∷ us → places ++ each_begins (terms_of whole) ≡ total → more ≡ places ++ term_begins u
+    → more ++ each_begins (terms_of us) ≡ total
 terms_begun places more whole u us total e so_far m =
-    ap (λ (ps : List ℕ). ps ++ typed.each_begins (terms_of us)) m ∙ append_assoc places (typed.term_begins u) (typed.each_begins (terms_of us))
-    ∙ subst (λ (vs : List NamedTerm). places ++ typed.each_begins (terms_of vs) ≡ total) e so_far
+    ap (λ (ps : List ℕ). ps ++ each_begins (terms_of us)) m ∙ append_assoc places (term_begins u) (each_begins (terms_of us))
+    ∙ subst (λ (vs : List NamedTerm). places ++ each_begins (terms_of vs) ≡ total) e so_far
 
 pub terms_done : (ts : List ℕ) (rest : List NamedTerm) (done : List tree.TermTree) (total : tree.TermTrees) → rest ≡ []
-    → then_terms done (typed.typed_terms ts (terms_of rest)) ≡ total → tree.terms_of done ≡ total
+    → then_terms done (listed.listed_terms ts (terms_of rest)) ≡ total → tree.terms_of done ≡ total
 terms_done ts rest done total none e =
-    sym (terms-none done) ∙ subst (λ (vs : List NamedTerm). then_terms done (typed.typed_terms ts (terms_of vs)) ≡ total) none e
+    sym (terms-none done) ∙ subst (λ (vs : List NamedTerm). then_terms done (listed.listed_terms ts (terms_of vs)) ≡ total) none e
 
 -- ---- operands of sums
 
@@ -93,24 +94,24 @@ summands-none [] = refl
 summands-none (s ∷ ss) = ap (tree.more_summands s.0 s.1) (summands-none ss)
 
 pub summands_next : (ts later : List ℕ) (whole : List (Bool × NamedTerm)) (s : Bool × NamedTerm) (ss : List (Bool × NamedTerm)) (done done2 : List (Bool × tree.TermTree)) (new : tree.TermTree) (total : tree.SummandTrees)
-    → whole ≡ s ∷ ss → then_summands done (typed.typed_summands ts (summands_of whole)) ≡ total → new ≡ typed.typed_term ts s.1 → later ≡ typed.left_term ts s.1
-    → done2 ≡ done ++ (s.0, new) ∷ [] → then_summands done2 (typed.typed_summands later (summands_of ss)) ≡ total
+    → whole ≡ s ∷ ss → then_summands done (listed.listed_summands ts (summands_of whole)) ≡ total → new ≡ listed.listed_term ts s.1 → later ≡ listed.left_term ts s.1
+    → done2 ≡ done ++ (s.0, new) ∷ [] → then_summands done2 (listed.listed_summands later (summands_of ss)) ≡ total
 summands_next ts later whole s ss done done2 new total e so_far n l p =
-    rw (p, l, n) (summands-push done (s.0, typed.typed_term ts s.1) (typed.typed_summands (typed.left_term ts s.1) (summands_of ss)))
-    ∙ subst (λ (rs : List (Bool × NamedTerm)). then_summands done (typed.typed_summands ts (summands_of rs)) ≡ total) e so_far
+    rw (p, l, n) (summands-push done (s.0, listed.listed_term ts s.1) (listed.listed_summands (listed.left_term ts s.1) (summands_of ss)))
+    ∙ subst (λ (rs : List (Bool × NamedTerm)). then_summands done (listed.listed_summands ts (summands_of rs)) ≡ total) e so_far
 
 pub summands_left : (ts later : List ℕ) (whole : List (Bool × NamedTerm)) (s : Bool × NamedTerm) (ss : List (Bool × NamedTerm)) (total : List ℕ)
-    → whole ≡ s ∷ ss → typed.left_summands ts (summands_of whole) ≡ total → later ≡ typed.left_term ts s.1 → typed.left_summands later (summands_of ss) ≡ total
-summands_left ts later whole s ss total e so_far l = rw l (subst (λ (rs : List (Bool × NamedTerm)). typed.left_summands ts (summands_of rs) ≡ total) e so_far)
+    → whole ≡ s ∷ ss → listed.left_summands ts (summands_of whole) ≡ total → later ≡ listed.left_term ts s.1 → listed.left_summands later (summands_of ss) ≡ total
+summands_left ts later whole s ss total e so_far l = rw l (subst (λ (rs : List (Bool × NamedTerm)). listed.left_summands ts (summands_of rs) ≡ total) e so_far)
 
 pub summands_begun : (places more : List ℕ) (whole : List (Bool × NamedTerm)) (s : Bool × NamedTerm) (ss : List (Bool × NamedTerm)) (total : List ℕ)
-    → whole ≡ s ∷ ss → places ++ typed.summands_begin (summands_of whole) ≡ total → more ≡ places ++ typed.term_begins s.1
-    → more ++ typed.summands_begin (summands_of ss) ≡ total
+    → whole ≡ s ∷ ss → places ++ summands_begin (summands_of whole) ≡ total → more ≡ places ++ term_begins s.1
+    → more ++ summands_begin (summands_of ss) ≡ total
 summands_begun places more whole s ss total e so_far m =
-    ap (λ (ps : List ℕ). ps ++ typed.summands_begin (summands_of ss)) m ∙ append_assoc places (typed.term_begins s.1) (typed.summands_begin (summands_of ss))
-    ∙ subst (λ (rs : List (Bool × NamedTerm)). places ++ typed.summands_begin (summands_of rs) ≡ total) e so_far
+    ap (λ (ps : List ℕ). ps ++ summands_begin (summands_of ss)) m ∙ append_assoc places (term_begins s.1) (summands_begin (summands_of ss))
+    ∙ subst (λ (rs : List (Bool × NamedTerm)). places ++ summands_begin (summands_of rs) ≡ total) e so_far
 
 pub summands_done : (ts : List ℕ) (rest : List (Bool × NamedTerm)) (done : List (Bool × tree.TermTree)) (total : tree.SummandTrees) → rest ≡ []
-    → then_summands done (typed.typed_summands ts (summands_of rest)) ≡ total → tree.summands_of done ≡ total
+    → then_summands done (listed.listed_summands ts (summands_of rest)) ≡ total → tree.summands_of done ≡ total
 summands_done ts rest done total none e =
-    sym (summands-none done) ∙ subst (λ (rs : List (Bool × NamedTerm)). then_summands done (typed.typed_summands ts (summands_of rs)) ≡ total) none e
+    sym (summands-none done) ∙ subst (λ (rs : List (Bool × NamedTerm)). then_summands done (listed.listed_summands ts (summands_of rs)) ≡ total) none e

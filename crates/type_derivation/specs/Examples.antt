@@ -1,21 +1,24 @@
 -- Worked examples of the stage of types.
-use Rattle.std.specs.Prelude.{◌≡◌, ℕ, true, false, List, [], ◌∷◌, map, Option, None, Some, fold, codes}
+use Rattle.std.specs.Prelude.{◌≡◌, ℕ, pos, true, false, List, [], ◌∷◌, map, Option, None, Some, fold, codes}
 use Rattle.kb_logic.specs.declared.syntax.AggKind.TheVariants as kind
 use Rattle.kb_logic.specs.declared.syntax.Cmp.TheVariants as cmp
+use Rattle.kb_logic.specs.declared.vocabularies.Bound.{Bound}
 use Rattle.kb_logic.specs.declared.vocabularies.Vocabulary.{Vocabulary}
 use Rattle.kb_logic.specs.declared.vocabularies.TypeDecl.{TypeDecl}
 use Rattle.kb_logic.specs.declared.vocabularies.Symbol.{Symbol}
 use Rattle.kb_logic.specs.declared.vocabularies.Parent.{Parent}
 use Rattle.kb_logic.specs.declared.vocabularies.Parent.TheVariants as parent
 use Rattle.kb_logic.specs.Trees as typed
+use Rattle.kb_logic.specs.Trees.{TermTree, FormulaTree}
 use Rattle.kb_text.specs.declared.fault.K.TheVariants as k
 use Rattle.kb_text.specs.declared.fault.KbFault.{KbFault}
 use Rattle.fo_reader.specs.Demands.{Finding, nothing, found, torn, Binding, demand, scope, Parts, no_parts, more_parts}
 use Rattle.fo_reader.specs.Earliest.{refusal}
 use Rattle.fo_reader.specs.Kinship.{is_under, is_number_type, are_akin}
 use Rattle.fo_reader.specs.NamedTrees.{NamedVar, NamedTerm, at, variable, integer, application, summation, aggregate, terms_of, summands_of, NamedFormula, truth, atom, comparison, conjunction, universal, existential, formulas_of}
-use Rattle.fo_reader.specs.TypedTrees.{sentence_settled, block_settled, types_among, typed_sentence, term_begins}
-use Rattle.fo_reader.specs.TypesStage.{uses_among, type_noted}
+use Rattle.fo_reader.specs.TermPlaces.{term_begins}
+use Rattle.fo_reader.specs.TypedTrees.{typed_sentence, typed_block_term}
+use Rattle.fo_reader.specs.TypesStage.{sentence_settled, block_settled, uses_among, type_noted}
 
 abbrev pub a_type : Parent → TypeDecl
 a_type above = record { name = codes "T"; parent = above; made = [] }
@@ -97,7 +100,55 @@ both a b = conjunction (formulas_of (a ∷ b ∷ []))
 abbrev pub equal : NamedTerm → NamedTerm → NamedFormula
 equal = comparison cmp.Eq
 
+-- sum{x : condition : weight}
+abbrev pub total : NamedFormula → NamedTerm → NamedTerm
+total condition weight = at 9 (aggregate kind.Sum (bound 1 ∷ []) condition weight)
+
+-- ---- the same with types
+
+abbrev pub of_type : ℕ → List Bound
+of_type t = record { name = codes "x"; ty = t } ∷ []
+
+abbrev pub each_of : ℕ → FormulaTree → FormulaTree
+each_of t = typed.universal (of_type t)
+
+abbrev pub some_of : ℕ → FormulaTree → FormulaTree
+some_of t = typed.existential (of_type t)
+
+abbrev pub total_of : ℕ → FormulaTree → TermTree → TermTree
+total_of t = typed.aggregate kind.Sum (of_type t)
+
+abbrev pub typed_x : TermTree
+typed_x = typed.variable 0
+
+abbrev pub typed_y : TermTree
+typed_y = typed.variable 1
+
+abbrev pub typed_c : TermTree
+typed_c = typed.application 4 typed.no_terms
+
+abbrev pub typed_f : TermTree → TermTree
+typed_f t = typed.application 3 (typed.terms_of (t ∷ []))
+
+abbrev pub typed_P : TermTree → FormulaTree
+typed_P t = typed.atom 0 (typed.terms_of (t ∷ []))
+
+abbrev pub typed_Q : TermTree → FormulaTree
+typed_Q t = typed.atom 1 (typed.terms_of (t ∷ []))
+
+abbrev pub typed_R : TermTree → FormulaTree
+typed_R t = typed.atom 2 (typed.terms_of (t ∷ []))
+
+abbrev pub typed_both : FormulaTree → FormulaTree → FormulaTree
+typed_both a b = typed.conjunction (typed.formulas_of (a ∷ b ∷ []))
+
+abbrev pub typed_equal : TermTree → TermTree → FormulaTree
+typed_equal = typed.comparison cmp.Eq
+
 -- ---- what is asked of them
+
+abbrev pub tree_of : NamedFormula → FormulaTree
+tree_of = typed_sentence vocabulary
 
 abbrev pub findings_of : List Binding → List Finding
 findings_of = map (λ b. b.finding)
@@ -110,9 +161,6 @@ first_findings (more_parts (scope bs inner) ps) = findings_of bs
 -- what is found of the variables of the outermost list
 abbrev pub found_of : NamedFormula → List Finding
 found_of s = first_findings (sentence_settled vocabulary s)
-
-abbrev pub types_of : NamedFormula → List ℕ
-types_of s = types_among (sentence_settled vocabulary s)
 
 -- the earliest refusal of a sentence, and of a term block's term
 abbrev pub refused : NamedFormula → Option KbFault
@@ -156,7 +204,11 @@ pub record TypesAreWorkedOut : Type 0 where
   pub by_no_variable : found_of (each_two (equal x y)) ≡ nothing ∷ nothing ∷ []
   pub sides_give_none : found_of (each_two (both (equal x y) (equal y c))) ≡ nothing ∷ found 3 ∷ []
   -- !x: ?y: Q(y) & x = y
-  pub by_an_inner_variable : types_of (each (some_y (both (Q y) (equal x y)))) ≡ 1 ∷ 1 ∷ []
+  pub by_an_inner_variable : tree_of (each (some_y (both (Q y) (equal x y)))) ≡ each_of 1 (some_of 1 (typed_both (typed_Q typed_y) (typed_equal typed_x typed_y)))
+  -- !x: R(x) & ?y: y = x
+  pub by_an_outer_variable : tree_of (each (both (R x) (some_y (equal y x)))) ≡ each_of 2 (typed_both (typed_R typed_x) (some_of 2 (typed_equal typed_y typed_x)))
+  -- !x: ?y: y = c & x = y, where x has only a variable that has its type by a side, and so the type 0
+  pub by_no_inner_variable : tree_of (each (some_y (both (equal y c) (equal x y)))) ≡ each_of 0 (some_of 3 (typed_both (typed_equal typed_y typed_c) (typed_equal typed_x typed_y)))
   -- !x y: x = y & P(y) & R(y)
   pub torn_gives_none : found_of (each_two (both (equal x y) (both (P y) (R y)))) ≡ nothing ∷ torn ∷ []
   pub torn_refused : refused (each_two (both (equal x y) (both (P y) (R y)))) ≡ Some (refusal k.Untyped 1)
@@ -164,9 +216,10 @@ pub record TypesAreWorkedOut : Type 0 where
   pub whole_argument : found_of (each (P (f x))) ≡ found 0 ∷ []
   pub part_of_argument : found_of (each (P (sum x (number 1)))) ≡ nothing ∷ []
   -- (!x: P(x)) & (!x: R(x)): another variable with the same number
-  pub each_in_its_scope : types_of (both (each (P x)) (each (R x))) ≡ 0 ∷ 2 ∷ []
-  -- sum{x : true : f(x)}
-  pub by_a_weight : types_of (equal (number 1) (at 9 (aggregate kind.Sum (bound 1 ∷ []) (truth true) (f x)))) ≡ 0 ∷ []
+  pub each_in_its_scope : tree_of (both (each (P x)) (each (R x))) ≡ typed_both (each_of 0 (typed_P typed_x)) (each_of 2 (typed_R typed_x))
+  -- 1 = sum{x : true : f(x)}, and sum{x : Q(x) : f(x)} as a term block's term
+  pub by_a_weight : tree_of (equal (number 1) (total (truth true) (f x))) ≡ typed_equal (typed.integer (pos 1)) (total_of 0 typed.verum (typed_f typed_x))
+  pub in_a_block : typed_block_term vocabulary (total (Q x) (f x)) ≡ total_of 1 (typed_Q typed_x) (typed_f typed_x)
   -- integers as arguments of a function
   pub an_integer : refused_term (f (number 3)) ≡ None
   pub minus_an_integer : refused_term (f (minus (number 3))) ≡ None
@@ -191,7 +244,4 @@ pub record TypesAreWorkedOut : Type 0 where
   -- the places of f(2+1) and its parts
   pub places : term_begins (f (sum (number 2) (number 1))) ≡ 15 ∷ 14 ∷ 12 ∷ 12 ∷ []
   -- !x: P(x) & Q(x) with the variable's type
-  pub tree :
-      typed_sentence vocabulary (each (both (P x) (Q x)))
-      ≡ typed.universal (record { name = codes "x"; ty = 1 } ∷ [])
-      (typed.conjunction (typed.formulas_of (typed.atom 0 (typed.terms_of (typed.variable 0 ∷ [])) ∷ typed.atom 1 (typed.terms_of (typed.variable 0 ∷ [])) ∷ [])))
+  pub tree : tree_of (each (both (P x) (Q x))) ≡ each_of 1 (typed_both (typed_P typed_x) (typed_Q typed_x))

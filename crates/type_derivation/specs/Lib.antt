@@ -5,4 +5,4 @@ pub mod Gathering
 pub mod TreeLists
 pub mod TypedViews
 pub mod Failures
-pub mod Locally
+pub mod ListedTrees

@@ -3,7 +3,9 @@ ghost use Rattle.std.specs.Prelude.{◌≡◌, ◌++◌, ◌∷◌, [], fold, ma
 ghost use Rattle.std.specs.List.{flat_map};
 ghost use Rattle.kb_logic.specs.Views as view;
 ghost use Rattle.fo_reader.specs.Below.{HasNoCycle, type_parents};
-ghost use Rattle.fo_reader.specs.TypedTrees as typed;
+ghost use Rattle.fo_reader.specs.TermPlaces.{term_begins, terms_begin};
+ghost use Rattle.fo_reader.specs.TypedFiles.{typed_block, typed_file, typed_theory};
+ghost use Rattle.fo_reader.specs.TypedTrees.{typed_block_term, typed_sentence};
 ghost use Rattle.fo_reader.specs.TypesStage as stage;
 ghost use Rattle.fo_reader.specs.TypesStage.{type_noted, IsTyped};
 ghost use Rattle.fo_reader.specs.Typing.{all_settled};
@@ -11,6 +13,7 @@ ghost use Rattle.kb_names.specs.FileViews as named_view;
 ghost use Rattle.kb_names.specs.FileViews.{kb_view};
 ghost use Rattle.kb_names.specs.NamedViews.{formula_view, term_view};
 ghost use Rattle.type_derivation.specs.Failures.{FailsWith};
+ghost use Rattle.type_derivation.specs.ListedTrees.{types_among};
 ghost use Rattle.type_derivation.specs.PartViews.{parts_view};
 ghost use Rattle.type_derivation.specs.TypedViews.{named_term_view, named_theory_view, typed_view};
 
@@ -35,7 +38,7 @@ fn types_of(
     earliest: &mut Earliest,
 ) -> Result<Remaining, Memory>
     requires acyclic { HasNoCycle (type_parents types.now) }
-    ensures types { IfOk result (λ r. r ≡ typed.types_among (all_settled types.now (parts_view listed.now))) }
+    ensures types { IfOk result (λ r. r ≡ types_among (all_settled types.now (parts_view listed.now))) }
     ensures noted { OnOk result (earliest.new.first ≡ fold (type_noted types.now) earliest.old.first (stage.uses_among [] (all_settled types.now (parts_view listed.now)))) }
 {
     let parts = settle_all(alloc, types, listed)?;
@@ -53,9 +56,9 @@ fn sentence(
     earliest: &mut Earliest,
 ) -> Result<Formula, Memory>
     requires acyclic { HasNoCycle (type_parents vocab.now.types) }
-    ensures tree { IfOk result (λ f. view.formula_view f ≡ typed.typed_sentence vocab.now (formula_view named.now)) }
-    ensures places { OnOk result (places.new.items ≡ places.old.items ++ typed.terms_begin (formula_view named.now)) }
-    ensures noted { OnOk result (earliest.new.first ≡ fold (type_noted vocab.now.types) earliest.old.first (stage.uses_among [] (typed.sentence_settled vocab.now (formula_view named.now)))) }
+    ensures tree { IfOk result (λ f. view.formula_view f ≡ typed_sentence vocab.now (formula_view named.now)) }
+    ensures places { OnOk result (places.new.items ≡ places.old.items ++ terms_begin (formula_view named.now)) }
+    ensures noted { OnOk result (earliest.new.first ≡ fold (type_noted vocab.now.types) earliest.old.first (stage.uses_among [] (stage.sentence_settled vocab.now (formula_view named.now)))) }
 {
     let mut listed = Vec::new(alloc);
     listing::formula(alloc, vocab.symbols.as_slice(), named, &mut listed)?;
@@ -71,9 +74,9 @@ fn block_term(
     earliest: &mut Earliest,
 ) -> Result<Term, Memory>
     requires acyclic { HasNoCycle (type_parents vocab.now.types) }
-    ensures tree { IfOk result (λ t. view.term_view t ≡ typed.typed_term (typed.types_among (typed.block_settled vocab.now (term_view named.now))) (term_view named.now)) }
-    ensures places { OnOk result (places.new.items ≡ places.old.items ++ typed.term_begins (term_view named.now)) }
-    ensures noted { OnOk result (earliest.new.first ≡ fold (type_noted vocab.now.types) earliest.old.first (stage.uses_among [] (typed.block_settled vocab.now (term_view named.now)))) }
+    ensures tree { IfOk result (λ t. view.term_view t ≡ typed_block_term vocab.now (term_view named.now)) }
+    ensures places { OnOk result (places.new.items ≡ places.old.items ++ term_begins (term_view named.now)) }
+    ensures noted { OnOk result (earliest.new.first ≡ fold (type_noted vocab.now.types) earliest.old.first (stage.uses_among [] (stage.block_settled vocab.now (term_view named.now)))) }
 {
     let mut listed = Vec::new(alloc);
     demand_number(vocab.symbols.as_slice(), named, &mut listed)?;
@@ -90,9 +93,9 @@ fn theory(
     earliest: &mut Earliest,
 ) -> Result<Named<Theory>, Memory>
     requires acyclic { HasNoCycle (type_parents vocab.now.types) }
-    ensures theory { IfOk result (λ t. named_theory_view t ≡ typed.typed_theory vocab.now (named_view.theory_view named.now)) }
-    ensures terms { OnOk result (terms.new.items ≡ terms.old.items ++ flat_map typed.terms_begin (map formula_view named.now.sentences) ∷ []) }
-    ensures noted { OnOk result (earliest.new.first ≡ fold (type_noted vocab.now.types) earliest.old.first (flat_map (λ f. stage.uses_among [] (typed.sentence_settled vocab.now f)) (map formula_view named.now.sentences))) }
+    ensures theory { IfOk result (λ t. named_theory_view t ≡ typed_theory vocab.now (named_view.theory_view named.now)) }
+    ensures terms { OnOk result (terms.new.items ≡ terms.old.items ++ flat_map terms_begin (map formula_view named.now.sentences) ∷ []) }
+    ensures noted { OnOk result (earliest.new.first ≡ fold (type_noted vocab.now.types) earliest.old.first (flat_map (λ f. stage.uses_among [] (stage.sentence_settled vocab.now f)) (map formula_view named.now.sentences))) }
 {
     let mut sentences = Vec::new(alloc);
     let mut places = Vec::new(alloc);
@@ -118,9 +121,9 @@ fn block(
     earliest: &mut Earliest,
 ) -> Result<Named<Term>, Memory>
     requires acyclic { HasNoCycle (type_parents vocab.now.types) }
-    ensures block { IfOk result (λ t. named_term_view t ≡ typed.typed_block vocab.now (named_view.block_view named.now)) }
-    ensures terms { OnOk result (terms.new.items ≡ terms.old.items ++ typed.term_begins (term_view named.now.term) ∷ []) }
-    ensures noted { OnOk result (earliest.new.first ≡ fold (type_noted vocab.now.types) earliest.old.first (stage.uses_among [] (typed.block_settled vocab.now (term_view named.now.term)))) }
+    ensures block { IfOk result (λ t. named_term_view t ≡ typed_block vocab.now (named_view.block_view named.now)) }
+    ensures terms { OnOk result (terms.new.items ≡ terms.old.items ++ term_begins (term_view named.now.term) ∷ []) }
+    ensures noted { OnOk result (earliest.new.first ≡ fold (type_noted vocab.now.types) earliest.old.first (stage.uses_among [] (stage.block_settled vocab.now (term_view named.now.term)))) }
 {
     let mut places = Vec::new(alloc);
     let term = block_term(alloc, vocab, &named.term, &mut places, earliest)?;
@@ -139,9 +142,9 @@ fn theories(
     earliest: &mut Earliest,
 ) -> Result<Vec<Named<Theory>>, Memory>
     requires acyclic { HasNoCycle (type_parents vocab.now.types) }
-    ensures theories { IfOk result (λ ts. map named_theory_view ts.items ≡ map (typed.typed_theory vocab.now) (map named_view.theory_view named.now)) }
-    ensures terms { OnOk result (terms.new.items ≡ terms.old.items ++ map (λ t. flat_map typed.terms_begin t.sentences) (map named_view.theory_view named.now)) }
-    ensures noted { OnOk result (earliest.new.first ≡ fold (type_noted vocab.now.types) earliest.old.first (flat_map (λ t. flat_map (λ f. stage.uses_among [] (typed.sentence_settled vocab.now f)) t.sentences) (map named_view.theory_view named.now))) }
+    ensures theories { IfOk result (λ ts. map named_theory_view ts.items ≡ map (typed_theory vocab.now) (map named_view.theory_view named.now)) }
+    ensures terms { OnOk result (terms.new.items ≡ terms.old.items ++ map (λ t. flat_map terms_begin t.sentences) (map named_view.theory_view named.now)) }
+    ensures noted { OnOk result (earliest.new.first ≡ fold (type_noted vocab.now.types) earliest.old.first (flat_map (λ t. flat_map (λ f. stage.uses_among [] (stage.sentence_settled vocab.now f)) t.sentences) (map named_view.theory_view named.now))) }
 {
     let mut theories = Vec::new(alloc);
     for item in named {
@@ -158,9 +161,9 @@ fn blocks(
     earliest: &mut Earliest,
 ) -> Result<Vec<Named<Term>>, Memory>
     requires acyclic { HasNoCycle (type_parents vocab.now.types) }
-    ensures blocks { IfOk result (λ ts. map named_term_view ts.items ≡ map (typed.typed_block vocab.now) (map named_view.block_view named.now)) }
-    ensures terms { OnOk result (terms.new.items ≡ terms.old.items ++ map (λ t. typed.term_begins t.term) (map named_view.block_view named.now)) }
-    ensures noted { OnOk result (earliest.new.first ≡ fold (type_noted vocab.now.types) earliest.old.first (flat_map (λ t. stage.uses_among [] (typed.block_settled vocab.now t.term)) (map named_view.block_view named.now))) }
+    ensures blocks { IfOk result (λ ts. map named_term_view ts.items ≡ map (typed_block vocab.now) (map named_view.block_view named.now)) }
+    ensures terms { OnOk result (terms.new.items ≡ terms.old.items ++ map (λ t. term_begins t.term) (map named_view.block_view named.now)) }
+    ensures noted { OnOk result (earliest.new.first ≡ fold (type_noted vocab.now.types) earliest.old.first (flat_map (λ t. stage.uses_among [] (stage.block_settled vocab.now t.term)) (map named_view.block_view named.now))) }
 {
     let mut blocks = Vec::new(alloc);
     for item in named {
@@ -181,7 +184,7 @@ fn first_words(alloc: Global, theories: &[NamedTheory]) -> Result<Items<usize>, 
 
 fn derived(alloc: Global, named: NamedKb, earliest: &mut Earliest) -> Result<TypedKb, Memory>
     requires acyclic { HasNoCycle (type_parents named.vocab.types) }
-    ensures tree { IfOk result (λ kb. typed_view kb ≡ typed.typed_file (kb_view named)) }
+    ensures tree { IfOk result (λ kb. typed_view kb ≡ typed_file (kb_view named)) }
     ensures noted { OnOk result (earliest.new.first ≡ fold (type_noted named.vocab.types) earliest.old.first (stage.type_uses_of_file (kb_view named))) }
 {
     let NamedKb {

@@ -18,5 +18,5 @@ mod trees;
 mod typed;
 
 pub use files::derive;
-pub use laws::{types_are_local, worked_examples};
+pub use laws::{types_are_in_order, worked_examples};
 pub use typed::{Named, Places, TypedKb};

@@ -1,9 +1,10 @@
 //! The refusals of the stage of types, where all is found that is found of variables' types.
 ghost use Rattle.std.specs.Prelude.{◌≡◌, ◌++◌, fold, map, OnOk};
-ghost use Rattle.fo_reader.specs.TypedTrees.{chosen, types_at, types_among};
+ghost use Rattle.fo_reader.specs.TypedTrees.{chosen};
 ghost use Rattle.fo_reader.specs.TypesStage as stage;
 ghost use Rattle.fo_reader.specs.TypesStage.{type_noted};
 ghost use Rattle.fo_reader.specs.Typing as typing;
+ghost use Rattle.type_derivation.specs.ListedTrees.{types_among, types_at};
 ghost use Rattle.type_derivation.specs.PartViews.{binding_view, demand_view, finding_view, part_view, parts_view, type_view};
 
 use crate::demands::{Binding, Demand, Finding, Part, TermType};

@@ -3,8 +3,10 @@ ghost use Rattle.std.specs.Prelude.{◌≡◌, ◌++◌, pos, map, IfOk, OnOk};
 ghost use Rattle.kb_logic.specs.Trees as tree;
 ghost use Rattle.kb_logic.specs.Views as view;
 ghost use Rattle.fo_reader.specs.NamedTrees as named_tree;
+ghost use Rattle.fo_reader.specs.TermPlaces.{each_begins, formulas_begin, summands_begin, term_begins, terms_begin};
 ghost use Rattle.fo_reader.specs.TypedTrees as typed;
 ghost use Rattle.kb_names.specs.NamedViews.{formula_view, signed_view, term_view, var_view};
+ghost use Rattle.type_derivation.specs.ListedTrees as listed;
 
 use crate::remaining::Remaining;
 use kb_logic::{Bound, Formula, Memory, Signed, Term};
@@ -35,8 +37,8 @@ fn signed(minus: bool, term: Term) -> Signed
 }
 
 fn bound_vars(alloc: Global, types: &mut Remaining, vars: &[NamedVar]) -> Result<Vec<Bound>, Memory>
-    ensures bounds { IfOk result (λ bs. bs.items ≡ typed.typed_vars types.old (map var_view vars.now)) }
-    ensures types { OnOk result (types.new ≡ typed.left_vars types.old (map var_view vars.now)) }
+    ensures bounds { IfOk result (λ bs. bs.items ≡ listed.listed_vars types.old (map var_view vars.now)) }
+    ensures types { OnOk result (types.new ≡ listed.left_vars types.old (map var_view vars.now)) }
 {
     let mut bounds = Vec::new(alloc);
     for var in vars {
@@ -57,9 +59,9 @@ pub fn formula(
     named: &NamedFormula,
     places: &mut Vec<usize>,
 ) -> Result<Formula, Memory>
-    ensures tree { IfOk result (λ f. view.formula_view f ≡ typed.typed_formula types.old (formula_view named.now)) }
-    ensures types { OnOk result (types.new ≡ typed.left_formula types.old (formula_view named.now)) }
-    ensures places { OnOk result (places.new.items ≡ places.old.items ++ typed.terms_begin (formula_view named.now)) }
+    ensures tree { IfOk result (λ f. view.formula_view f ≡ listed.listed_formula types.old (formula_view named.now)) }
+    ensures types { OnOk result (types.new ≡ listed.left_formula types.old (formula_view named.now)) }
+    ensures places { OnOk result (places.new.items ≡ places.old.items ++ terms_begin (formula_view named.now)) }
 {
     match named {
         NamedFormula::Truth(value) => Ok(truth(*value)),
@@ -115,9 +117,9 @@ fn formulas(
     named: &[NamedFormula],
     places: &mut Vec<usize>,
 ) -> Result<Vec<Formula>, Memory>
-    ensures trees { IfOk result (λ fs. tree.formulas_of (map view.formula_view fs.items) ≡ typed.typed_formulas types.old (named_tree.formulas_of (map formula_view named.now))) }
-    ensures types { OnOk result (types.new ≡ typed.left_formulas types.old (named_tree.formulas_of (map formula_view named.now))) }
-    ensures places { OnOk result (places.new.items ≡ places.old.items ++ typed.formulas_begin (named_tree.formulas_of (map formula_view named.now))) }
+    ensures trees { IfOk result (λ fs. tree.formulas_of (map view.formula_view fs.items) ≡ listed.listed_formulas types.old (named_tree.formulas_of (map formula_view named.now))) }
+    ensures types { OnOk result (types.new ≡ listed.left_formulas types.old (named_tree.formulas_of (map formula_view named.now))) }
+    ensures places { OnOk result (places.new.items ≡ places.old.items ++ formulas_begin (named_tree.formulas_of (map formula_view named.now))) }
 {
     let mut operands = Vec::new(alloc);
     for operand in named {
@@ -134,9 +136,9 @@ pub fn term(
     named: &NamedTerm,
     places: &mut Vec<usize>,
 ) -> Result<Term, Memory>
-    ensures tree { IfOk result (λ t. view.term_view t ≡ typed.typed_term types.old (term_view named.now)) }
-    ensures types { OnOk result (types.new ≡ typed.left_term types.old (term_view named.now)) }
-    ensures places { OnOk result (places.new.items ≡ places.old.items ++ typed.term_begins (term_view named.now)) }
+    ensures tree { IfOk result (λ t. view.term_view t ≡ listed.listed_term types.old (term_view named.now)) }
+    ensures types { OnOk result (types.new ≡ listed.left_term types.old (term_view named.now)) }
+    ensures places { OnOk result (places.new.items ≡ places.old.items ++ term_begins (term_view named.now)) }
 {
     places.push(named.place)?;
     match &named.node {
@@ -167,9 +169,9 @@ fn terms(
     named: &[NamedTerm],
     places: &mut Vec<usize>,
 ) -> Result<Vec<Term>, Memory>
-    ensures trees { IfOk result (λ ts. tree.terms_of (map view.term_view ts.items) ≡ typed.typed_terms types.old (named_tree.terms_of (map term_view named.now))) }
-    ensures types { OnOk result (types.new ≡ typed.left_terms types.old (named_tree.terms_of (map term_view named.now))) }
-    ensures places { OnOk result (places.new.items ≡ places.old.items ++ typed.each_begins (named_tree.terms_of (map term_view named.now))) }
+    ensures trees { IfOk result (λ ts. tree.terms_of (map view.term_view ts.items) ≡ listed.listed_terms types.old (named_tree.terms_of (map term_view named.now))) }
+    ensures types { OnOk result (types.new ≡ listed.left_terms types.old (named_tree.terms_of (map term_view named.now))) }
+    ensures places { OnOk result (places.new.items ≡ places.old.items ++ each_begins (named_tree.terms_of (map term_view named.now))) }
 {
     let mut operands = Vec::new(alloc);
     for operand in named {
@@ -185,9 +187,9 @@ fn summands(
     named: &[NamedSigned],
     places: &mut Vec<usize>,
 ) -> Result<Vec<Signed>, Memory>
-    ensures trees { IfOk result (λ ss. tree.summands_of (map view.signed_view ss.items) ≡ typed.typed_summands types.old (named_tree.summands_of (map signed_view named.now))) }
-    ensures types { OnOk result (types.new ≡ typed.left_summands types.old (named_tree.summands_of (map signed_view named.now))) }
-    ensures places { OnOk result (places.new.items ≡ places.old.items ++ typed.summands_begin (named_tree.summands_of (map signed_view named.now))) }
+    ensures trees { IfOk result (λ ss. tree.summands_of (map view.signed_view ss.items) ≡ listed.listed_summands types.old (named_tree.summands_of (map signed_view named.now))) }
+    ensures types { OnOk result (types.new ≡ listed.left_summands types.old (named_tree.summands_of (map signed_view named.now))) }
+    ensures places { OnOk result (places.new.items ≡ places.old.items ++ summands_begin (named_tree.summands_of (map signed_view named.now))) }
 {
     let mut operands = Vec::new(alloc);
     for operand in named {

@@ -2,7 +2,8 @@ use Rattle.std.proofs.Common.{◌≡◌, ◌++◌, ◌∷◌, [], arith, map}
 use Rattle.std.specs.List.{flat_map}
 use Rattle.std.proofs.lemmas.Grind.{common_steps}
 use Rattle.fo_reader.specs.Numbering.{NamedTheoryTree}
-use Rattle.fo_reader.specs.TypedTrees as typed
+use Rattle.fo_reader.specs.TermPlaces.{terms_begin}
+use Rattle.fo_reader.specs.TypedFiles.{typed_theory}
 use Rattle.fo_reader.specs.TypesStage as stage
 use Rattle.fo_reader.specs.TypesStage.{type_noted}
 use Rattle.kb_names.specs.FileViews as named_view
@@ -14,11 +15,11 @@ pub loop-item-preserved : goal.loop-item-preserved
 loop-item-preserved c =
     let pushed : map named_theory_view c.push.new.self.items ≡ map named_theory_view c.loop-item.theories.items ++ named_theory_view c.in_ok-theory.field-0 ∷ [] = grind (arith, common_steps) in
     record {
-      theories = made_next named_view.theory_view c.args.named.now c.loop-item.item-index c.item-item.result c.loop-item-test.true c.item-item.is (typed.typed_theory c.args.vocab.now)
+      theories = made_next named_view.theory_view c.args.named.now c.loop-item.item-index c.item-item.result c.loop-item-test.true c.item-item.is (typed_theory c.args.vocab.now)
           (map named_theory_view c.loop-item.theories.items) (map named_theory_view c.push.new.self.items) (named_theory_view c.in_ok-theory.field-0) c.loop-item.invariant.theories c.in_ok-theory.ensures.theory pushed;
-      terms = listed_next named_view.theory_view c.args.named.now c.loop-item.item-index c.item-item.result c.loop-item-test.true c.item-item.is (λ (t : NamedTheoryTree). flat_map typed.terms_begin t.sentences)
+      terms = listed_next named_view.theory_view c.args.named.now c.loop-item.item-index c.item-item.result c.loop-item-test.true c.item-item.is (λ (t : NamedTheoryTree). flat_map terms_begin t.sentences)
           c.args.terms.now.items c.loop-item.terms.items c.theory.new.terms.items c.loop-item.invariant.terms c.in_ok-theory.ensures.terms;
       noted = noted_next named_view.theory_view c.args.named.now c.loop-item.item-index c.item-item.result c.loop-item-test.true c.item-item.is (type_noted c.args.vocab.now.types)
-          (λ (t : NamedTheoryTree). flat_map (λ f. stage.uses_among [] (typed.sentence_settled c.args.vocab.now f)) t.sentences)
+          (λ (t : NamedTheoryTree). flat_map (λ f. stage.uses_among [] (stage.sentence_settled c.args.vocab.now f)) t.sentences)
           c.args.earliest.now.first c.loop-item.earliest.first c.theory.new.earliest.first c.loop-item.invariant.noted c.in_ok-theory.ensures.noted;
     }

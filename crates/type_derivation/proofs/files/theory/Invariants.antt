@@ -1,7 +1,8 @@
 use Rattle.std.proofs.Common.{◌≡◌, [], fold, map, take}
 use Rattle.std.specs.List.{flat_map}
 use Rattle.kb_logic.specs.Views as view
-use Rattle.fo_reader.specs.TypedTrees as typed
+use Rattle.fo_reader.specs.TermPlaces.{terms_begin}
+use Rattle.fo_reader.specs.TypedTrees.{typed_sentence}
 use Rattle.fo_reader.specs.TypesStage as stage
 use Rattle.fo_reader.specs.TypesStage.{type_noted}
 use Rattle.kb_names.specs.NamedViews.{formula_view}
@@ -9,7 +10,7 @@ use Rattle.type_derivation.proofs.files.theory.Given as goal
 
 abbrev pub invariant-loop-item : goal.invariant-loop-item
 invariant-loop-item l = record {
-  sentences : map view.formula_view l.sentences.items ≡ map (typed.typed_sentence l.vocab) (map formula_view (take l.item-index l.listed));
-  places : l.places.items ≡ flat_map typed.terms_begin (map formula_view (take l.item-index l.listed));
-  noted : l.earliest.first ≡ fold (type_noted l.vocab.types) l.initial.earliest.first (flat_map (λ f. stage.uses_among [] (typed.sentence_settled l.vocab f)) (map formula_view (take l.item-index l.listed)));
+  sentences : map view.formula_view l.sentences.items ≡ map (typed_sentence l.vocab) (map formula_view (take l.item-index l.listed));
+  places : l.places.items ≡ flat_map terms_begin (map formula_view (take l.item-index l.listed));
+  noted : l.earliest.first ≡ fold (type_noted l.vocab.types) l.initial.earliest.first (flat_map (λ f. stage.uses_among [] (stage.sentence_settled l.vocab f)) (map formula_view (take l.item-index l.listed)));
 }

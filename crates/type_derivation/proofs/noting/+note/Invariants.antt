@@ -1,7 +1,7 @@
 use Rattle.std.proofs.Common.{◌≡◌, ◌++◌, drop, fold}
-use Rattle.fo_reader.specs.TypedTrees.{types_among}
 use Rattle.fo_reader.specs.TypesStage as stage
 use Rattle.fo_reader.specs.TypesStage.{type_noted}
+use Rattle.type_derivation.specs.ListedTrees.{types_among}
 use Rattle.type_derivation.specs.PartViews.{parts_view}
 use Rattle.type_derivation.proofs.noting.+note.Given as goal
 
