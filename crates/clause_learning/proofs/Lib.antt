@@ -17,3 +17,4 @@ pub mod SolveFacts
 pub mod GrowFacts
 pub mod SolverFacts
 pub mod Removed
+pub mod SignFacts

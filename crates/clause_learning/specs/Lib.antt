@@ -7,3 +7,4 @@ pub mod Searching
 pub mod Cores
 pub mod Resting
 pub mod SolverFields
+pub mod Signs
