@@ -92,14 +92,9 @@ linked_uses s a o (x ∷ xs) = ap (λ (us : List Use). uses_in_or s o ++ us) (us
 
 -- ---- aggregates
 
-pub count_noted : (N : Option KbFault → Use → Option KbFault) (start a b c : Option KbFault) (u : Use) (vs us : List Use)
+pub opened_noted : (N : Option KbFault → Use → Option KbFault) (start a b c : Option KbFault) (u : Use) (vs us : List Use)
     → a ≡ N start u → b ≡ fold N a vs → c ≡ fold N b us → c ≡ fold N start (u ∷ (vs ++ us))
-count_noted N start a b c u vs us e f g = g ∙ rw (f, e) (sym (fold-append N (N start u) vs us))
-
-pub aggregate_noted : (N : Option KbFault → Use → Option KbFault) (start a b c d : Option KbFault) (u : Use) (vs us ws : List Use)
-    → a ≡ N start u → b ≡ fold N a vs → c ≡ fold N b us → d ≡ fold N c ws → d ≡ fold N start (u ∷ (vs ++ (us ++ ws)))
-aggregate_noted N start a b c d u vs us ws e f g h =
-    h ∙ rw (g, f, e) (sym (fold-append N (N start u) vs (us ++ ws) ∙ fold-append N (fold N (N start u) vs) us ws))
+opened_noted N start a b c u vs us e f g = g ∙ rw (f, e) (sym (fold-append N (N start u) vs us))
 
 -- ---- a plain fact at either result
 

@@ -1,30 +1,31 @@
 //! Formulas and terms with numbers for words.
-ghost use Rattle.std.specs.Prelude.{◌≡◌, fold, map, IfOk, OnOk};
+ghost use Rattle.std.specs.Prelude.{◌≡◌, [], ◌∷◌, ◌++◌, fold, map, IfOk, OnOk};
 ghost use Rattle.fo_reader.specs.NamesStage.{name_noted};
 ghost use Rattle.fo_reader.specs.NamedTrees.{terms_of};
 ghost use Rattle.fo_reader.specs.Numbering as numbers;
 ghost use Rattle.fo_reader.specs.Uses as use_of;
 ghost use Rattle.fo_reader.specs.View as seen;
 ghost use Rattle.kb_names.specs.Meanings.{names_in};
-ghost use Rattle.kb_names.specs.NamedViews.{formula_view, term_view};
+ghost use Rattle.kb_names.specs.NamedViews.{formula_view, term_view, var_view};
 
 use crate::arrows::grouped;
 use crate::binders::binders;
 use crate::earliest::Earliest;
-use crate::named::{NamedFormula, NamedNode, NamedSigned, NamedTerm};
-use crate::nodes::{all_of, any_of, multiplied, place_of, signed, summed};
+use crate::named::{NamedFormula, NamedNode, NamedSigned, NamedTerm, NamedVar};
+use crate::nodes::{all_of, any_of, multiplied, place_of, placed, signed, summed};
 use crate::scopes::Scope;
 use crate::tables::Table;
 use crate::uses::{formula_word, term_word};
 use crate::words::{
-    app_count, app_name, application, comparison_of, kind_of, note_aggregate, note_number,
-    quantified,
+    aggregated, app_count, app_name, application, comparison_of, kind_of, note_aggregate,
+    note_number, quantified,
 };
 use fo_reader::{
-    Adding, RawAnd, RawApp, RawFactor, RawFormula, RawOr, RawPrim, RawProduct, RawTermTree,
-    RawUnary,
+    Adding, RawAnd, RawApp, RawFactor, RawFormula, RawOpening, RawOr, RawPrim, RawProduct,
+    RawTermTree, RawUnary,
 };
 use kb_logic::{AggKind, Memory};
+use sqlite_items::Items;
 use std::alloc::Global;
 
 /// A formula with numbers for words.
@@ -236,25 +237,16 @@ fn factor<'a>(
     ensures noted { OnOk result (earliest.new.first ≡ fold (name_noted (names_in table.now)) earliest.old.first (use_of.uses_in_factor scope.old (seen.factor_view raw.now))) }
 {
     match raw {
-        RawFactor::Integer(integer) => Ok(NamedTerm {
-            place: integer.place,
-            node: NamedNode::Int(integer.value),
-        }),
+        RawFactor::Integer(integer) => { Ok(placed(integer.place, NamedNode::Int(integer.value))) }
         RawFactor::Value(app) => {
             let name = app_name(app);
             let meaning = term_word(table, scope, name, app_count(app), earliest);
             let args = arguments(alloc, table, scope, app, earliest)?;
-            Ok(NamedTerm {
-                place: name.place,
-                node: application(meaning, args),
-            })
+            Ok(placed(name.place, application(meaning, args)))
         }
         RawFactor::Brackets(place, inner, _) => {
             let inner = term(alloc, table, scope, inner.get(), earliest)?;
-            Ok(NamedTerm {
-                place: *place,
-                node: inner.node,
-            })
+            Ok(placed(*place, inner.node))
         }
         RawFactor::Negative(place, inner) => {
             let inner = factor(alloc, table, scope, inner.get(), earliest)?;
@@ -263,43 +255,44 @@ fn factor<'a>(
                 minus: true,
                 term: inner,
             })?;
-            Ok(NamedTerm {
-                place: *place,
-                node: NamedNode::Sum(operands),
-            })
+            Ok(summed(*place, operands))
         }
-        RawFactor::Count(opening, condition, _) => {
-            let place = opening.place;
-            note_aggregate(place, earliest);
+        RawFactor::Count(opening, inner, _) => {
             let outer = scope.len();
-            let vars = binders(alloc, table, scope, opening.vars.get(), earliest)?;
-            let condition = formula(alloc, table, scope, condition.get(), earliest)?;
+            let (vars, inner) = opened(alloc, table, scope, opening, inner.get(), earliest)?;
             scope.leave(outer)?;
-            let one = NamedTerm {
-                place,
-                node: NamedNode::Int(1),
-            };
-            let condition = Box::new(alloc, condition)?;
-            Ok(NamedTerm {
-                place,
-                node: NamedNode::Agg(AggKind::Count, vars, condition, Box::new(alloc, one)?),
-            })
+            let one = placed(opening.place, NamedNode::Int(1));
+            aggregated(alloc, opening.place, AggKind::Count, vars, inner, one)
         }
-        RawFactor::Aggregate(how, opening, condition, _, weight, _) => {
-            let place = opening.place;
-            note_aggregate(place, earliest);
+        RawFactor::Aggregate(how, opening, inner, _, weight, _) => {
             let outer = scope.len();
-            let vars = binders(alloc, table, scope, opening.vars.get(), earliest)?;
-            let condition = formula(alloc, table, scope, condition.get(), earliest)?;
+            let (vars, inner) = opened(alloc, table, scope, opening, inner.get(), earliest)?;
             let weight = term(alloc, table, scope, weight.get(), earliest)?;
             scope.leave(outer)?;
-            let condition = Box::new(alloc, condition)?;
-            Ok(NamedTerm {
-                place,
-                node: NamedNode::Agg(kind_of(*how), vars, condition, Box::new(alloc, weight)?),
-            })
+            aggregated(alloc, opening.place, kind_of(*how), vars, inner, weight)
         }
     }
+}
+
+/// What an aggregate ranges over: its variables, which are in scope from then on, and its condition.
+#[cycle(resolve)]
+fn opened<'a>(
+    alloc: Global,
+    table: &Table<'a>,
+    scope: &mut Scope<'a>,
+    opening: &'a RawOpening,
+    condition: &'a RawFormula,
+    earliest: &mut Earliest,
+) -> Result<(Items<NamedVar>, NamedFormula), Memory>
+    ensures vars { IfOk result (λ o. map var_view o.0 ≡ numbers.named_vars (names_in table.now) (seen.vars_view opening.now.vars)) }
+    ensures condition { IfOk result (λ o. formula_view o.1 ≡ numbers.named_formula (names_in table.now) (use_of.within scope.old (seen.vars_view opening.now.vars)) (seen.formula_view condition.now)) }
+    ensures scope { OnOk result (scope.new ≡ use_of.within scope.old (seen.vars_view opening.now.vars)) }
+    ensures noted { OnOk result (earliest.new.first ≡ fold (name_noted (names_in table.now)) earliest.old.first (use_of.an_aggregate opening.now.place ∷ (use_of.uses_of_vars [] (use_of.vars_in (seen.vars_view opening.now.vars)) ++ use_of.uses_in (use_of.within scope.old (seen.vars_view opening.now.vars)) (seen.formula_view condition.now)))) }
+{
+    note_aggregate(opening.place, earliest);
+    let vars = binders(alloc, table, scope, opening.vars.get(), earliest)?;
+    let condition = formula(alloc, table, scope, condition, earliest)?;
+    Ok((vars, condition))
 }
 
 #[cycle(resolve)]

@@ -1,7 +1,7 @@
-//! Chains of operands as one node.
+//! Nodes at their places, and chains of operands as one node.
 ghost use Rattle.std.specs.Prelude.{◌≡◌, map};
 ghost use Rattle.fo_reader.specs.NamedTrees as tree;
-ghost use Rattle.kb_names.specs.NamedViews.{formula_view, signed_view, term_view};
+ghost use Rattle.kb_names.specs.NamedViews.{formula_view, node_view, signed_view, term_view};
 
 use crate::named::{NamedFormula, NamedNode, NamedSigned, NamedTerm};
 
@@ -21,6 +21,12 @@ pub fn signed(minus: bool, term: NamedTerm) -> NamedSigned
     ensures { signed_view result ≡ (minus, term_view term) }
 {
     NamedSigned { minus, term }
+}
+
+pub fn placed(place: usize, node: NamedNode) -> NamedTerm
+    ensures { term_view result ≡ tree.at place (node_view node) }
+{
+    NamedTerm { place, node }
 }
 
 pub fn summed(place: usize, operands: Vec<NamedSigned>) -> NamedTerm

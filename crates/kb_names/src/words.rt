@@ -1,7 +1,7 @@
 //! What single tokens and nodes become.
 ghost use Rattle.std.specs.Prelude.{◌≡◌, IfOk, fold, map};
 ghost use Rattle.fo_reader.specs.NamesStage.{name_noted};
-ghost use Rattle.fo_reader.specs.NamedTrees.{terms_of};
+ghost use Rattle.fo_reader.specs.NamedTrees.{aggregate, at, terms_of};
 ghost use Rattle.fo_reader.specs.Names.{Names};
 ghost use Rattle.fo_reader.specs.Numbering as numbers;
 ghost use Rattle.fo_reader.specs.Uses as use_of;
@@ -133,4 +133,22 @@ pub fn quantified(
             inner,
         )),
     }
+}
+
+/// An aggregate over these variables.
+pub fn aggregated(
+    alloc: Global,
+    place: usize,
+    kind: AggKind,
+    vars: Items<NamedVar>,
+    condition: NamedFormula,
+    weight: NamedTerm,
+) -> Result<NamedTerm, Memory>
+    ensures { IfOk result (λ t. term_view t ≡ at place (aggregate kind (map var_view vars) (formula_view condition) (term_view weight))) }
+{
+    let condition = Box::new(alloc, condition)?;
+    Ok(NamedTerm {
+        place,
+        node: NamedNode::Agg(kind, vars, condition, Box::new(alloc, weight)?),
+    })
 }

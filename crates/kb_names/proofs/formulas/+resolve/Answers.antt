@@ -15,7 +15,7 @@ use Rattle.fo_reader.specs.Uses.{an_aggregate, uses_in, uses_in_or, uses_in_and,
 use Rattle.kb_names.specs.Meanings.{names_in}
 use Rattle.kb_names.specs.NamedViews.{formula_view, term_view, signed_view}
 use Rattle.kb_names.proofs.Chains.{uses_in_or-is, uses_in_and-is, uses_in_term-is, uses_in_product-is, uses_in_terms-is, named_terms-is}
-use Rattle.kb_names.proofs.ChainEnds.{pushed, pushed_all, noted_all, or_tree, and_tree, sum_tree, product_tree, linked_tree, linked_uses, count_noted, aggregate_noted, always_on_ok, same_grouped}
+use Rattle.kb_names.proofs.ChainEnds.{pushed, pushed_all, noted_all, or_tree, and_tree, sum_tree, product_tree, linked_tree, linked_uses, opened_noted, always_on_ok, same_grouped}
 use Rattle.kb_names.proofs.formulas.+resolve.Goals as goal
 use Rattle.fo_reader.specs.NamedTrees as tree
 
@@ -97,23 +97,11 @@ product-returns-clause-noted t c =
     rw (seen, uses_in_product-is)
     (noted_all (name_noted (names_in c.args.table.now)) (λ (x : ℕ × raw.Factor). uses_in_factor c.args.scope.now x.1) view.product_tail_view c.args.earliest.now.first _ _ (uses_in_factor c.args.scope.now (view.factor_view (out-RawProduct c.args.raw.now).first)) _ _ _ c.in_ok-first.ensures.noted c.loop-tail.invariant.noted ended more)
 
-pub factor-returns-in_ok-new-in-Count-clause-noted : goal.factor-returns-in_ok-new-in-Count-clause-noted
-factor-returns-in_ok-new-in-Count-clause-noted t c =
-    let seen : view.factor_view c.args.raw.now ≡ raw.count c.in-Count.opening.place c.in-Count.opening.brace (view.vars_view c.in-Count.opening.vars) c.in-Count.opening.colon (view.formula_view c.in-Count.condition) c.in-Count.field-2 =
-    rw c.in-Count.is (search (rules, the_lemmas)) in
-    rw seen
-    (count_noted (name_noted (names_in c.args.table.now)) c.args.earliest.now.first c.note_aggregate.new.earliest.first c.binders.new.earliest.first c.formula.new.earliest.first (an_aggregate c.in-Count.opening.place) (uses_of_vars [] (vars_in (view.vars_view c.in-Count.opening.vars))) (uses_in (within c.args.scope.now (view.vars_view c.in-Count.opening.vars)) (view.formula_view c.in-Count.condition))
-    (c.note_aggregate.ensures (names_in c.args.table.now)) (rw (← c.get-in-Count.ensures) c.in_ok-vars-in-Count.ensures.noted) (rw (← c.get-in-Count.ensures, ← c.get-in-Count-2.ensures, ← c.in_ok-vars-in-Count.ensures.scope) c.in_ok-condition-in-Count.ensures.noted))
-
-pub factor-returns-in_ok-new-in-Aggregate-clause-noted : goal.factor-returns-in_ok-new-in-Aggregate-clause-noted
-factor-returns-in_ok-new-in-Aggregate-clause-noted t c =
-    let seen : view.factor_view c.args.raw.now ≡ raw.aggregate c.in-Aggregate.how c.in-Aggregate.opening.place c.in-Aggregate.opening.brace (view.vars_view c.in-Aggregate.opening.vars) c.in-Aggregate.opening.colon (view.formula_view c.in-Aggregate.condition) c.in-Aggregate.field-3 (view.term_view c.in-Aggregate.weight) c.in-Aggregate.field-5 =
-    rw c.in-Aggregate.is (search (rules, the_lemmas)) in
-    rw seen
-    (aggregate_noted (name_noted (names_in c.args.table.now)) c.args.earliest.now.first c.note_aggregate-in-Aggregate.new.earliest.first c.binders-in-Aggregate.new.earliest.first c.formula-in-Aggregate.new.earliest.first c.term-in-Aggregate.new.earliest.first (an_aggregate c.in-Aggregate.opening.place) (uses_of_vars [] (vars_in (view.vars_view c.in-Aggregate.opening.vars))) (uses_in (within c.args.scope.now (view.vars_view c.in-Aggregate.opening.vars)) (view.formula_view c.in-Aggregate.condition)) (uses_in_term (within c.args.scope.now (view.vars_view c.in-Aggregate.opening.vars)) (view.term_view c.in-Aggregate.weight))
-    (c.note_aggregate-in-Aggregate.ensures (names_in c.args.table.now)) (rw (← c.get-in-Aggregate.ensures) c.in_ok-vars-in-Aggregate.ensures.noted)
-    (rw (← c.get-in-Aggregate.ensures, ← c.get-in-Aggregate-2.ensures, ← c.in_ok-vars-in-Aggregate.ensures.scope) c.in_ok-condition-in-Aggregate.ensures.noted)
-    (rw (← c.get-in-Aggregate.ensures, ← c.get-in-Aggregate-3.ensures, ← c.in_ok-vars-in-Aggregate.ensures.scope, ← c.in_ok-condition-in-Aggregate.ensures.scope) c.in_ok-weight-in-Aggregate.ensures.noted))
+pub opened-returns-clause-noted : goal.opened-returns-clause-noted
+opened-returns-clause-noted t c =
+    opened_noted (name_noted (names_in c.args.table.now)) c.args.earliest.now.first c.note_aggregate.new.earliest.first c.binders.new.earliest.first c.formula.new.earliest.first (an_aggregate c.args.opening.now.place) (uses_of_vars [] (vars_in (view.vars_view c.args.opening.now.vars))) (uses_in (within c.args.scope.now (view.vars_view c.args.opening.now.vars)) (view.formula_view c.args.condition.now))
+    (c.note_aggregate.ensures (names_in c.args.table.now)) (rw (← c.get.ensures) c.in_ok-vars.ensures.noted)
+    (rw (← c.get.ensures, ← c.in_ok-vars.ensures.scope) c.in_ok-condition.ensures.noted)
 
 pub arguments-returns-clause-trees : goal.arguments-returns-clause-trees
 arguments-returns-clause-trees t c =
