@@ -66,8 +66,7 @@ pub fn formula(
     match named {
         NamedFormula::Truth(value) => Ok(truth(*value)),
         NamedFormula::Atom(symbol, args) => {
-            let args = terms(alloc, types, args, places)?;
-            Ok(Formula::Atom(*symbol, args))
+            Ok(Formula::Atom(*symbol, terms(alloc, types, args, places)?))
         }
         NamedFormula::Compare(cmp, left, right) => {
             let left = term(alloc, types, left, places)?;
@@ -78,10 +77,8 @@ pub fn formula(
             let inner = formula(alloc, types, inner, places)?;
             Ok(Formula::Not(Box::new(alloc, inner)?))
         }
-        NamedFormula::And(operands) => {
-            Ok(Formula::And(formulas(alloc, types, operands, places)?))
-        }
-        NamedFormula::Or(operands) => { Ok(Formula::Or(formulas(alloc, types, operands, places)?)) }
+        NamedFormula::And(operands) => Ok(Formula::And(formulas(alloc, types, operands, places)?)),
+        NamedFormula::Or(operands) => Ok(Formula::Or(formulas(alloc, types, operands, places)?)),
         NamedFormula::Implies(left, right) => {
             let left = formula(alloc, types, left, places)?;
             let right = formula(alloc, types, right, places)?;
@@ -93,21 +90,37 @@ pub fn formula(
             Ok(Formula::Iff(Box::new(alloc, left)?, Box::new(alloc, right)?))
         }
         NamedFormula::All(vars, inner) => {
-            let bounds = bound_vars(alloc, types, vars.as_slice())?;
-            let inner = formula(alloc, types, inner, places)?;
-            Ok(Formula::All(bounds, Box::new(alloc, inner)?))
+            let (bounds, inner) = quantified(alloc, types, vars.as_slice(), inner, places)?;
+            Ok(Formula::All(bounds, inner))
         }
         NamedFormula::Any(vars, inner) => {
-            let bounds = bound_vars(alloc, types, vars.as_slice())?;
-            let inner = formula(alloc, types, inner, places)?;
-            Ok(Formula::Any(bounds, Box::new(alloc, inner)?))
+            let (bounds, inner) = quantified(alloc, types, vars.as_slice(), inner, places)?;
+            Ok(Formula::Any(bounds, inner))
         }
         NamedFormula::Number(cmp, count, vars, inner) => {
-            let bounds = bound_vars(alloc, types, vars.as_slice())?;
-            let inner = formula(alloc, types, inner, places)?;
-            Ok(Formula::Number(*cmp, integer(*count), bounds, Box::new(alloc, inner)?))
+            let (bounds, inner) = quantified(alloc, types, vars.as_slice(), inner, places)?;
+            Ok(Formula::Number(*cmp, integer(*count), bounds, inner))
         }
     }
+}
+
+/// The variables of a quantifier, and the formula that they are bound in.
+#[cycle(trees)]
+fn quantified(
+    alloc: Global,
+    types: &mut Remaining,
+    vars: &[NamedVar],
+    inner: &NamedFormula,
+    places: &mut Vec<usize>,
+) -> Result<(Vec<Bound>, Box<Formula>), Memory>
+    ensures bounds { IfOk result (λ q. q.0.items ≡ listed.listed_vars types.old (map var_view vars.now)) }
+    ensures tree { IfOk result (λ q. view.formula_view q.1.value ≡ listed.listed_formula (listed.left_vars types.old (map var_view vars.now)) (formula_view inner.now)) }
+    ensures types { OnOk result (types.new ≡ listed.left_formula (listed.left_vars types.old (map var_view vars.now)) (formula_view inner.now)) }
+    ensures places { OnOk result (places.new.items ≡ places.old.items ++ terms_begin (formula_view inner.now)) }
+{
+    let bounds = bound_vars(alloc, types, vars)?;
+    let inner = formula(alloc, types, inner, places)?;
+    Ok((bounds, Box::new(alloc, inner)?))
 }
 
 #[cycle(trees)]
