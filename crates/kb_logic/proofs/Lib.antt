@@ -9,6 +9,7 @@ pub mod FunctionValues
 pub mod Intervals
 pub mod Loops
 pub mod Members
+pub mod NoAssignments
 pub mod Pairs
 pub mod Sums
 pub mod Tuples
