@@ -6,8 +6,8 @@ use Rattle.memchr.specs.Find.{FindsNeedle}
 pub record IsCutAt (marker text before after : List ℕ) : Type 0 where
   pub len : ℕ
   pub found : FindsNeedle text marker 0 (Some len)
-  pub before : before ≡ take len text
-  pub after : after ≡ drop (length marker) (drop len text)
+  pub is_before : before ≡ take len text
+  pub is_after : after ≡ drop (length marker) (drop len text)
 
 abbrev pub section : List ℕ
 section = codes "\n--\n"

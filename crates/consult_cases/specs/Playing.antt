@@ -16,11 +16,11 @@ kb = codes "kb"
 pub record Leaves (words : Words) (file script : List ℕ) (status : Status) (text : List ℕ) : Type 0 where
   pub before : Outside
   pub now : Outside
-  pub file : before.files kb ≡ Some file
-  pub script : before.script ≡ Some script
+  pub is_file : before.files kb ≡ Some file
+  pub is_script : before.script ≡ Some script
   pub empty : before.out ≡ Some []
   pub ends : RunEnds status words before now
-  pub text : now.out ≡ Some text
+  pub left : now.out ≡ Some text
 
 abbrev pub status_text : Status → List ℕ
 status_text status = codes "status " ++ (decimal (code_of status) ++ codes "\n")

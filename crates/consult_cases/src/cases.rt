@@ -1,5 +1,5 @@
 //! Texts that are cut at markers, and the sections of a case.
-ghost use Rattle.std.specs.Prelude.{None, IfSome, MatchOption};
+ghost use Rattle.std.specs.Prelude.{None, ◌<◌, length, IfSome, MatchOption};
 ghost use Rattle.memchr.specs.Find.{FindsNeedle};
 ghost use Rattle.consult_cases.specs.Cases.{IsCutAt, IsCase};
 
@@ -20,7 +20,9 @@ pub struct Case<'a> {
 
 /// The text before the first marker, and the text after it.
 pub fn cut_at<'a>(text: &'a [u8], marker: &[u8]) -> Option<(&'a [u8], &'a [u8])>
-    ensures { MatchOption result (FindsNeedle text.now marker.now 0 None) (λ parts. IsCutAt marker.now text.now parts.0.now parts.1.now) }
+    ensures cut { MatchOption result (FindsNeedle text.now marker.now 0 None)
+        (λ parts. IsCutAt marker.now text.now parts.0.now parts.1.now) }
+    ensures shorter { 0 < length marker.now → IfSome result (λ parts. length parts.1.now < length text.now) }
 {
     let len = memmem::find(text, marker)?;
     let (before, rest) = text.split_at(len);

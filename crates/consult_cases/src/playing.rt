@@ -20,11 +20,7 @@ fn source_of(alloc: Global, bytes: &[u8], pieces: &[usize]) -> Result<MemSource,
     ensures left { IfOk result (λ source. source.left ≡ bytes.now) }
     ensures faults { IfOk result (λ source. source.faults ≡ 0) }
 {
-    Ok(MemSource::new(
-        bytes.to_vec(alloc)?,
-        Vec::new(alloc),
-        pieces.to_vec(alloc)?,
-    ))
+    Ok(MemSource::new(bytes.to_vec(alloc)?, Vec::new(alloc), pieces.to_vec(alloc)?))
 }
 
 /// Runs by the words over a shelf with the one file `kb`. Each device hands its bytes over in pieces of these sizes.

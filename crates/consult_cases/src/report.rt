@@ -30,20 +30,32 @@ fn add_outcome(alloc: Global, lines: &mut Vec<u8>, outcome: &Outcome) -> Result<
     lines.extend_from_slice(line.as_bytes())
 }
 
-/// Plays a case and adds what it left. A head that begins with `bytes` hands all bytes over one by one.
+/// The pieces in which the devices hand over their bytes: `whole` or `bytes`, which hands them over one by one.
+fn pieces_of(how: &str) -> Option<&'static [usize]> {
+    match how {
+        "whole" => Some(&[]),
+        "bytes" => Some(&SINGLES),
+        _ => None,
+    }
+}
+
+/// Plays a case and adds what it left.
 fn add_case(alloc: Global, lines: &mut Vec<u8>, text: &[u8]) -> Option<()>
     ensures { IfSome result (λ _. Adds IsPlayed text.now lines.old.items lines.new.items) }
 {
     let case = case_of(text)?;
-    let head = words_of(alloc, case.head).ok()?;
-    let (how, words) = head.split_first()?;
-    let pieces: &[usize] = match how.as_str() {
-        "whole" => &[],
-        "bytes" => &SINGLES,
-        _ => return None,
+    let Ok(head) = words_of(alloc, case.head) else {
+        return None;
     };
-    let outcome = play(alloc, words, &case, pieces).ok()?;
-    add_outcome(alloc, lines, &outcome).ok()
+    let (how, words) = head.split_first()?;
+    let pieces = pieces_of(how.as_str())?;
+    let Ok(outcome) = play(alloc, words, &case, pieces) else {
+        return None;
+    };
+    if add_outcome(alloc, lines, &outcome).is_err() {
+        return None;
+    }
+    Some(())
 }
 
 /// What the cases left, one after another; nothing where a text is no case, or memory ran out.

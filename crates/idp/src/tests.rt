@@ -6,6 +6,7 @@ use std::env::{Env, FillError};
 use std::test::Fail;
 
 /// The arguments of a process, its name among them.
+#[derive(Drop)]
 struct Arguments<'a> {
     words: &'a [&'a [u8]],
 }

@@ -7,7 +7,7 @@ use Rattle.std.specs.declared.alloc.Global.{Global}
 use Rattle.kb_io.specs.Outside.{Rose, GrewByName, KeptNames}
 use Rattle.kb_io.specs.ReadWrite.{AppendsPrefix}
 use Rattle.kb_logic.specs.declared.first.FirstKb.{FirstKb}
-use Rattle.idp_cli.specs.Files.{IfTold, IsConsultable, IsRefused, refusal_text}
+use Rattle.idp_cli.specs.Files.{IfObservable, IsConsultable, IsRefused, refusal_text}
 use Rattle.idp_cli.specs.Answering.{AnswersScript}
 use Rattle.kb_text.specs.declared.fault.K.{K}
 use Rattle.idp_cli.specs.declared.status.Status.{Status}
@@ -44,20 +44,20 @@ pub record IsFaultless (before now : Outside) : Type 0 where
 -- the lines of the commands were answered by the knowledge base of the file, where both are told
 abbrev pub AnswersByFile : Status → List ℕ → Outside → Outside → Type 0
 AnswersByFile s file before now =
-    IfTold (before.files file) (λ bytes. (kb : FirstKb) × IsConsultable bytes kb × IfTold before.script (λ script. AnswersScript s kb script now.script before.out now.out))
+    IfObservable (before.files file) (λ bytes. (kb : FirstKb) × IsConsultable bytes kb × IfObservable before.script (λ script. AnswersScript s kb script now.script before.out now.out))
 
 -- What each status says of a consultation about this file. Before the commands are answered no byte of them is taken.
 abbrev pub ConsultationEnds : Status → List ℕ → Outside → Outside → Type 0
 ConsultationEnds status.Done file before now = IsFaultless before now × IsAtEnd now.script × AnswersByFile status.Done file before now
 ConsultationEnds (status.KbRefused k line) file before now =
-    IsFaultless before now × (now.script ≡ before.script) × IfTold (before.files file) (IsRefused k line) × Appends before.out now.out (refusal_text k line)
+    IsFaultless before now × (now.script ≡ before.script) × IfObservable (before.files file) (IsRefused k line) × Appends before.out now.out (refusal_text k line)
 ConsultationEnds status.Usage file before now = ⊥
 ConsultationEnds status.ReadFault file before now =
     (Rose before.shelf_faults now.shelf_faults × (now.script ≡ before.script) × (now.out ≡ before.out))
     ⊎ (Rose before.script_faults now.script_faults × AnswersByFile status.ReadFault file before now)
 ConsultationEnds status.WriteFault file before now =
     Rose before.out_faults now.out_faults
-    × (((now.script ≡ before.script) × ((k : K) × (line : ℕ) × IfTold (before.files file) (IsRefused k line) × AppendsPrefix before.out now.out (refusal_text k line)))
+    × (((now.script ≡ before.script) × ((k : K) × (line : ℕ) × IfObservable (before.files file) (IsRefused k line) × AppendsPrefix before.out now.out (refusal_text k line)))
     ⊎ AnswersByFile status.WriteFault file before now)
 ConsultationEnds status.Memory file before now = ((now.script ≡ before.script) × (now.out ≡ before.out)) ⊎ AnswersByFile status.Memory file before now
 ConsultationEnds status.ScriptTooLong file before now = IsFaultless before now × AnswersByFile status.ScriptTooLong file before now

@@ -1,12 +1,11 @@
 //! The knowledge base of a file.
 ghost use Rattle.std.specs.Prelude.{◌≡◌, ◌+◌, ◌<◌, ◌≤◌, length, take};
-ghost use Rattle.kb_io.specs.Lines.{newlines};
 ghost use Rattle.kb_io.specs.Outside.{GrewByName, KeptNumber};
 ghost use Rattle.idp_cli.specs.Files.{Loads, Takes, line_of, most_file_bytes};
 ghost use Rattle.idp_cli.specs.Reading.{ReadsFile};
 
 use first_reader::{KbError, read_first};
-use kb_io::{ReadError, Shelf, read_up_to};
+use kb_io::{ReadError, Shelf, newlines_in, read_up_to};
 use kb_logic::first::{FirstKb, open_atoms};
 use kb_text::K;
 use std::alloc::Global;
@@ -42,12 +41,6 @@ fn read_file<H: Shelf>(
     let bytes = read_up_to(alloc, &mut source, limit);
     shelf.close(source);
     bytes
-}
-
-fn newlines_in(bytes: &[u8]) -> usize
-    ensures { result ≡ newlines bytes.now }
-{
-    bytes.iter().filter(|byte| **byte == b'\n').count()
 }
 
 /// The line of a place in the bytes.

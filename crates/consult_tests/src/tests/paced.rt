@@ -76,7 +76,13 @@ fn each_reply_is_flushed_before_the_next_line(rt: HostRuntime) -> Result<(), Fai
         flushes: flushes.clone()?,
     };
     let words = words(&rt, CONSULT)?;
-    let mut shelf = shelf(&rt, &Plan { file: COVER, ..PLAN })?;
+    let mut shelf = shelf(
+        &rt,
+        &Plan {
+            file: COVER,
+            ..PLAN
+        },
+    )?;
     let mut log = sink(&rt, &PLAN)?;
     let status = run(
         rt.alloc(),

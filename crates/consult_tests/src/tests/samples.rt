@@ -20,7 +20,12 @@ pub(super) fn domains(alloc: Global) -> Result<DomainList, Memory> {
     Ok(DomainList::from_vec(all))
 }
 
-pub(super) fn symbol(alloc: Global, name: &[u8], args: &[u32], value: Option<u32>) -> Result<Symbol, Memory> {
+pub(super) fn symbol(
+    alloc: Global,
+    name: &[u8],
+    args: &[u32],
+    value: Option<u32>,
+) -> Result<Symbol, Memory> {
     Ok(Symbol {
         name: Name::new(alloc, name)?,
         args: NumberList::from_vec(Vec::from_slice(alloc, args)?),

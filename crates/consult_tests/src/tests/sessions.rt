@@ -1,5 +1,5 @@
 //! A session by itself.
-ghost use Rattle.std.specs.Prelude.{◌≤◌, IfOk, IfSome};
+ghost use Rattle.std.specs.Prelude.{IfSome};
 ghost use Rattle.consultant_session.specs.Replies.{IsSmallFirstKb};
 ghost use Rattle.consultant_session.specs.Sessions.{kb_of};
 
@@ -15,13 +15,19 @@ theory T : V { !x[N]: P(x) | Q(x).  !x[N]: ~(P(x) & Q(x)). }
 structure S : V { N = {a; b}  P = {a} }
 ";
 
-/// The knowledge base of the file, where its unknown atoms are this many.
-fn small_base(alloc: Global, count: u32) -> Option<FirstKb>
-    requires { count ≤ 20 }
+const MOST_SYMBOLS: usize = 4_294_967_296;
+
+/// The knowledge base of the file.
+fn small_base(alloc: Global) -> Option<FirstKb>
     ensures { IfSome result (λ kb. IsSmallFirstKb kb) }
 {
-    let kb = read_first(alloc, COVER).ok()?;
-    if kb.vocab.symbols.len() > 4_294_967_296 || open_atoms(&kb) != count {
+    let Ok(kb) = read_first(alloc, COVER) else {
+        return None;
+    };
+    if kb.vocab.symbols.len() > MOST_SYMBOLS {
+        return None;
+    }
+    if open_atoms(&kb) > 20 {
         return None;
     }
     Some(kb)
@@ -31,7 +37,7 @@ fn small_base(alloc: Global, count: u32) -> Option<FirstKb>
 fn session(alloc: Global) -> Option<Session>
     ensures { IfSome result (λ session. IsSmallFirstKb (kb_of session)) }
 {
-    Session::open(alloc, small_base(alloc, 2)?).ok()
+    Session::open(alloc, small_base(alloc)?).ok()
 }
 
 /// Whether the line's command is carried out.
@@ -66,6 +72,7 @@ fn a_session_finds_its_model_again(rt: HostRuntime) -> Result<(), Fail> {
         return Ok(());
     };
     assert_eq!(rt; session.kb().place, 36);
+    assert_eq!(rt; open_atoms(session.kb()), 2);
     assert!(rt; matches!(session.step(&Command::Model)?, Reply::Model(_)));
     assert!(rt; matches!(session.step(&Command::Model)?, Reply::Model(_)));
     Ok(())
