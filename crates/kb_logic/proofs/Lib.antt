@@ -4,6 +4,7 @@ pub mod Assignments
 pub mod Atoms
 pub mod Choices
 pub mod Counts
+pub mod Derived
 pub mod Digits
 pub mod DistinctAtoms
 pub mod DomainsOf

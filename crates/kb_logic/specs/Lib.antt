@@ -10,6 +10,7 @@ pub mod Bounds
 pub mod Weights
 pub mod Laws
 pub mod Models
+pub mod Derivations
 pub mod KnownAtoms
 pub mod Bases
 pub mod Domains

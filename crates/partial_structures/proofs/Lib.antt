@@ -26,3 +26,4 @@ pub mod Plain
 pub mod Certain
 pub mod ElementLemmas
 pub mod Worked
+pub mod Total

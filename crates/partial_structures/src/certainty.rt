@@ -28,7 +28,7 @@ use kb_logic::values::{Total, Value, compare, count_value, made_value, number, t
 use kb_logic::{AggKind, Bound, Elem, Formula, Signed, Term, totals};
 
 #[cycle(certain)]
-fn known<'a>(s: Known<'a>, term: &'a Term, env: &'a Env<'a>) -> Option<Value<'a>>
+pub(crate) fn known<'a>(s: Known<'a>, term: &'a Term, env: &'a Env<'a>) -> Option<Value<'a>>
     requires { ValueFits (known_in s) (term_view term.now) (env_view env.now) }
     ensures { option_map value_view result ≡ known_value (known_in s.entry) (term_view term.now) (env_view env.now) }
 {

@@ -22,5 +22,5 @@ mod words;
 
 pub use errors::SetError;
 pub use kb_logic::Memory;
-pub use partial::{Partial, extends, kleene};
+pub use partial::{Partial, extends, kleene, known_term};
 pub use truths::Truth;

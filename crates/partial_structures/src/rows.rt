@@ -14,7 +14,7 @@ use kb_logic::{Elem, Memory};
 use std::alloc::Global;
 
 /// What leads from one node to the next: a symbol from the root, then elements.
-#[derive(Clone, Copy, PartialEq, Eq, Hash, Debug)]
+#[derive(Clone, Copy, PartialEq, Eq, Hash)]
 pub(crate) enum Label {
     Symbol(u32),
     Word(usize),
@@ -22,7 +22,7 @@ pub(crate) enum Label {
 }
 
 /// The way to a node from the node before it.
-#[derive(Clone, Copy, PartialEq, Eq, Hash, Debug)]
+#[derive(Clone, Copy, PartialEq, Eq, Hash)]
 pub(crate) struct Edge {
     pub parent: usize,
     pub label: Label,

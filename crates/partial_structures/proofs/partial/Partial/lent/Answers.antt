@@ -2,10 +2,10 @@ use Rattle.std.proofs.Common.{subst, sym}
 use Rattle.partial_structures.specs.Elements.{TellsElements}
 use Rattle.partial_structures.specs.Words.{words_in}
 use Rattle.partial_structures.proofs.ElementLemmas.{tells_elements}
-use Rattle.partial_structures.proofs.partial.Partial.certainty.Goals as goal
+use Rattle.partial_structures.proofs.partial.Partial.lent.Goals as goal
 
-pub invariant_of-known : goal.invariant_of-known
-invariant_of-known c =
+pub invariant_of-result : goal.invariant_of-result
+invariant_of-result c =
     let p = c.self.inside in
     let ws = words_in p.rows.words in
     let table = p.elements.table.keys in
