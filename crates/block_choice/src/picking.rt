@@ -101,15 +101,25 @@ fn choose_blocks(
     Picked { theory, structure }
 }
 
+/// The bytes of the name that is given.
+fn bytes_in(name: Option<&str>) -> Option<&[u8]>
+    ensures { word_given result ≡ word_given name.entry }
+{
+    match name {
+        Some(name) => Some(name.as_bytes()),
+        None => None,
+    }
+}
+
 /// The theory and the structure of these names, or the only ones where none is named; else the earliest refusal of the
 /// stage of blocks: a header that names another vocabulary than the first one, a second block of one name, or not
 /// exactly one vocabulary, theory or structure where no name chooses. Takes no memory.
-pub fn pick(raw: &RawKb, theory: Option<&[u8]>, structure: Option<&[u8]>) -> Result<Picked, KbFault>
+pub fn pick(raw: &RawKb, theory: Option<&str>, structure: Option<&str>) -> Result<Picked, KbFault>
     ensures ok { IfOk result (λ p. IsPicked (file_in raw.now) (word_given theory.entry) (word_given structure.entry) p.theory p.structure) }
     ensures err { IfErr result (λ r. IsEarliest (BlocksRefuse (block_uses (file_in raw.now) (word_given theory.entry) (word_given structure.entry))) r) }
 {
     let mut earliest = Earliest::new();
-    let picked = choose_blocks(raw, theory, structure, &mut earliest);
+    let picked = choose_blocks(raw, bytes_in(theory), bytes_in(structure), &mut earliest);
     match earliest.first {
         None => Ok(picked),
         Some(fault) => Err(fault),

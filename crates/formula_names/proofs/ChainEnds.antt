@@ -12,7 +12,7 @@ use Rattle.fo_syntax.specs.Trees as raw
 use Rattle.fo_syntax.specs.View.{formula_of, or_of, and_of, term_of, product_of}
 use Rattle.reading_stages.specs.Scopes.{Text}
 use Rattle.reading_stages.specs.Names.{Names}
-use Rattle.reading_stages.specs.Uses.{Use, uses_in, uses_in_or}
+use Rattle.reading_stages.specs.Uses.{Context, Use, uses_in, uses_in_or}
 use Rattle.reading_stages.specs.NamedTrees as tree
 use Rattle.reading_stages.specs.Numbering.{grouped, named_formula, named_or, named_and, named_unary, named_term, named_product, named_factor, is_minus}
 use Rattle.reading_stages.specs.NamedViews.{formula_view}
@@ -85,7 +85,7 @@ pub linked_tree : (n : Names) (s : List Text) (a : Arrow) (o : raw.Or) (xs : Lis
 linked_tree n s a o [] = grouped_alone a (named_or n s o)
 linked_tree n s a o (x ∷ xs) = ap (grouped a (named_or n s o)) (named_links-is n s x.1 xs)
 
-pub linked_uses : (s : List Text) (a : Arrow) (o : raw.Or) (xs : List (ℕ × raw.Or))
+pub linked_uses : (s : Context) (a : Arrow) (o : raw.Or) (xs : List (ℕ × raw.Or))
     → uses_in s (formula_of a o xs) ≡ uses_in_or s o ++ flat_map (λ (x : ℕ × raw.Or). uses_in_or s x.1) xs
 linked_uses s a o [] = sym (append-nil (uses_in_or s o))
 linked_uses s a o (x ∷ xs) = ap (λ (us : List Use). uses_in_or s o ++ us) (uses_in_links-is s x.1 xs)

@@ -11,7 +11,7 @@ use Rattle.reading_stages.specs.Scopes.{Text}
 use Rattle.reading_stages.specs.Names.{Names}
 use Rattle.reading_stages.specs.NamesStage.{name_noted}
 use Rattle.kb_text.specs.declared.fault.KbFault.{KbFault}
-use Rattle.reading_stages.specs.Uses.{Use, bound, position_uses, uses_of_vars, var_name, var_text, var_type, within, terms_count, vars_in, uses_in_links, uses_in_or, uses_in_and, uses_in_unary, uses_in_term, uses_in_product, uses_in_factor, uses_in_terms}
+use Rattle.reading_stages.specs.Uses.{Context, Use, bound, position_uses, uses_of_vars, var_name, var_text, var_type, within, terms_count, vars_in, uses_in_links, uses_in_or, uses_in_and, uses_in_unary, uses_in_term, uses_in_product, uses_in_factor, uses_in_terms}
 use Rattle.reading_stages.specs.NamedTrees as named
 use Rattle.reading_stages.specs.Numbering.{named_links, named_or, disjuncts, named_and, conjuncts, named_unary, named_term, summands, named_product, factors, named_factor, named_terms, is_minus}
 use Rattle.formula_names.specs.Tails.{tail_var}
@@ -32,27 +32,27 @@ vars_in-is v (x ∷ xs) = more_in v x.comma (vars_of (tail_var x) (map var_tail_
 
 -- ---- uses
 
-pub uses_in_links-is : (s : List Text) (o : raw.Or) (xs : List (ℕ × raw.Or)) → uses_in_links s (links_of o xs) ≡ uses_in_or s o ++ flat_map (λ (x : ℕ × raw.Or). uses_in_or s x.1) xs
+pub uses_in_links-is : (s : Context) (o : raw.Or) (xs : List (ℕ × raw.Or)) → uses_in_links s (links_of o xs) ≡ uses_in_or s o ++ flat_map (λ (x : ℕ × raw.Or). uses_in_or s x.1) xs
 uses_in_links-is s o [] = sym (append-nil (uses_in_or s o))
 uses_in_links-is s o (x ∷ xs) = ap (λ (us : List Use). uses_in_or s o ++ us) (uses_in_links-is s x.1 xs)
 
-pub uses_in_or-is : (s : List Text) (a : raw.And) (xs : List (ℕ × raw.And)) → uses_in_or s (or_of a xs) ≡ uses_in_and s a ++ flat_map (λ (x : ℕ × raw.And). uses_in_and s x.1) xs
+pub uses_in_or-is : (s : Context) (a : raw.And) (xs : List (ℕ × raw.And)) → uses_in_or s (or_of a xs) ≡ uses_in_and s a ++ flat_map (λ (x : ℕ × raw.And). uses_in_and s x.1) xs
 uses_in_or-is s a [] = sym (append-nil (uses_in_and s a))
 uses_in_or-is s a (x ∷ xs) = ap (λ (us : List Use). uses_in_and s a ++ us) (uses_in_or-is s x.1 xs)
 
-pub uses_in_and-is : (s : List Text) (u : raw.Unary) (xs : List (ℕ × raw.Unary)) → uses_in_and s (and_of u xs) ≡ uses_in_unary s u ++ flat_map (λ (x : ℕ × raw.Unary). uses_in_unary s x.1) xs
+pub uses_in_and-is : (s : Context) (u : raw.Unary) (xs : List (ℕ × raw.Unary)) → uses_in_and s (and_of u xs) ≡ uses_in_unary s u ++ flat_map (λ (x : ℕ × raw.Unary). uses_in_unary s x.1) xs
 uses_in_and-is s u [] = sym (append-nil (uses_in_unary s u))
 uses_in_and-is s u (x ∷ xs) = ap (λ (us : List Use). uses_in_unary s u ++ us) (uses_in_and-is s x.1 xs)
 
-pub uses_in_term-is : (s : List Text) (p : raw.Product) (xs : List (Adding × ℕ × raw.Product)) → uses_in_term s (term_of p xs) ≡ uses_in_product s p ++ flat_map (λ (x : Adding × ℕ × raw.Product). uses_in_product s x.2) xs
+pub uses_in_term-is : (s : Context) (p : raw.Product) (xs : List (Adding × ℕ × raw.Product)) → uses_in_term s (term_of p xs) ≡ uses_in_product s p ++ flat_map (λ (x : Adding × ℕ × raw.Product). uses_in_product s x.2) xs
 uses_in_term-is s p [] = sym (append-nil (uses_in_product s p))
 uses_in_term-is s p (x ∷ xs) = ap (λ (us : List Use). uses_in_product s p ++ us) (uses_in_term-is s x.2 xs)
 
-pub uses_in_product-is : (s : List Text) (f : raw.Factor) (xs : List (ℕ × raw.Factor)) → uses_in_product s (product_of f xs) ≡ uses_in_factor s f ++ flat_map (λ (x : ℕ × raw.Factor). uses_in_factor s x.1) xs
+pub uses_in_product-is : (s : Context) (f : raw.Factor) (xs : List (ℕ × raw.Factor)) → uses_in_product s (product_of f xs) ≡ uses_in_factor s f ++ flat_map (λ (x : ℕ × raw.Factor). uses_in_factor s x.1) xs
 uses_in_product-is s f [] = sym (append-nil (uses_in_factor s f))
 uses_in_product-is s f (x ∷ xs) = ap (λ (us : List Use). uses_in_factor s f ++ us) (uses_in_product-is s x.1 xs)
 
-pub uses_in_terms-is : (s : List Text) (t : raw.Term) (xs : List (ℕ × raw.Term)) → uses_in_terms s (terms_of t xs) ≡ uses_in_term s t ++ flat_map (λ (x : ℕ × raw.Term). uses_in_term s x.1) xs
+pub uses_in_terms-is : (s : Context) (t : raw.Term) (xs : List (ℕ × raw.Term)) → uses_in_terms s (terms_of t xs) ≡ uses_in_term s t ++ flat_map (λ (x : ℕ × raw.Term). uses_in_term s x.1) xs
 uses_in_terms-is s t [] = sym (append-nil (uses_in_term s t))
 uses_in_terms-is s t (x ∷ xs) = ap (λ (us : List Use). uses_in_term s t ++ us) (uses_in_terms-is s x.1 xs)
 

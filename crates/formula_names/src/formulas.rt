@@ -38,7 +38,7 @@ pub fn formula<'a>(
 ) -> Result<NamedFormula, Memory>
     ensures tree { IfOk result (λ f. formula_view f ≡ numbers.named_formula (names_in table.now) scope.old (seen.formula_view raw.now)) }
     ensures scope { OnOk result (scope.new ≡ scope.old) }
-    ensures noted { OnOk result (earliest.new.first ≡ fold (name_noted (names_in table.now)) earliest.old.first (use_of.uses_in scope.old (seen.formula_view raw.now))) }
+    ensures noted { OnOk result (earliest.new.first ≡ fold (name_noted (names_in table.now)) earliest.old.first (use_of.uses_in (use_of.in_scope scope.old) (seen.formula_view raw.now))) }
 {
     match raw {
         RawFormula::Alone(or) => disjunction(alloc, table, scope, or, earliest),
@@ -64,7 +64,7 @@ fn disjunction<'a>(
 ) -> Result<NamedFormula, Memory>
     ensures tree { IfOk result (λ f. formula_view f ≡ numbers.named_or (names_in table.now) scope.old (seen.or_view raw.now)) }
     ensures scope { OnOk result (scope.new ≡ scope.old) }
-    ensures noted { OnOk result (earliest.new.first ≡ fold (name_noted (names_in table.now)) earliest.old.first (use_of.uses_in_or scope.old (seen.or_view raw.now))) }
+    ensures noted { OnOk result (earliest.new.first ≡ fold (name_noted (names_in table.now)) earliest.old.first (use_of.uses_in_or (use_of.in_scope scope.old) (seen.or_view raw.now))) }
 {
     let first = conjunction(alloc, table, scope, &raw.first, earliest)?;
     let more = raw.more.as_slice();
@@ -89,7 +89,7 @@ fn conjunction<'a>(
 ) -> Result<NamedFormula, Memory>
     ensures tree { IfOk result (λ f. formula_view f ≡ numbers.named_and (names_in table.now) scope.old (seen.and_view raw.now)) }
     ensures scope { OnOk result (scope.new ≡ scope.old) }
-    ensures noted { OnOk result (earliest.new.first ≡ fold (name_noted (names_in table.now)) earliest.old.first (use_of.uses_in_and scope.old (seen.and_view raw.now))) }
+    ensures noted { OnOk result (earliest.new.first ≡ fold (name_noted (names_in table.now)) earliest.old.first (use_of.uses_in_and (use_of.in_scope scope.old) (seen.and_view raw.now))) }
 {
     let first = unary(alloc, table, scope, &raw.first, earliest)?;
     let more = raw.more.as_slice();
@@ -114,7 +114,7 @@ fn unary<'a>(
 ) -> Result<NamedFormula, Memory>
     ensures tree { IfOk result (λ f. formula_view f ≡ numbers.named_unary (names_in table.now) scope.old (seen.unary_view raw.now)) }
     ensures scope { OnOk result (scope.new ≡ scope.old) }
-    ensures noted { OnOk result (earliest.new.first ≡ fold (name_noted (names_in table.now)) earliest.old.first (use_of.uses_in_unary scope.old (seen.unary_view raw.now))) }
+    ensures noted { OnOk result (earliest.new.first ≡ fold (name_noted (names_in table.now)) earliest.old.first (use_of.uses_in_unary (use_of.in_scope scope.old) (seen.unary_view raw.now))) }
 {
     match raw {
         RawUnary::Not(_, inner) => {
@@ -150,7 +150,7 @@ fn prim<'a>(
 ) -> Result<NamedFormula, Memory>
     ensures tree { IfOk result (λ f. formula_view f ≡ numbers.named_prim (names_in table.now) scope.old (seen.prim_view raw.now)) }
     ensures scope { OnOk result (scope.new ≡ scope.old) }
-    ensures noted { OnOk result (earliest.new.first ≡ fold (name_noted (names_in table.now)) earliest.old.first (use_of.uses_in_prim scope.old (seen.prim_view raw.now))) }
+    ensures noted { OnOk result (earliest.new.first ≡ fold (name_noted (names_in table.now)) earliest.old.first (use_of.uses_in_prim (use_of.in_scope scope.old) (seen.prim_view raw.now))) }
 {
     match raw {
         RawPrim::Group(_, inner, _) => formula(alloc, table, scope, inner.get(), earliest),
@@ -179,7 +179,7 @@ pub fn term<'a>(
 ) -> Result<NamedTerm, Memory>
     ensures tree { IfOk result (λ t. term_view t ≡ numbers.named_term (names_in table.now) scope.old (seen.term_view raw.now)) }
     ensures scope { OnOk result (scope.new ≡ scope.old) }
-    ensures noted { OnOk result (earliest.new.first ≡ fold (name_noted (names_in table.now)) earliest.old.first (use_of.uses_in_term scope.old (seen.term_view raw.now))) }
+    ensures noted { OnOk result (earliest.new.first ≡ fold (name_noted (names_in table.now)) earliest.old.first (use_of.uses_in_term (use_of.in_scope scope.old) (seen.term_view raw.now))) }
 {
     let first = product(alloc, table, scope, &raw.first, earliest)?;
     let more = raw.more.as_slice();
@@ -207,7 +207,7 @@ fn product<'a>(
 ) -> Result<NamedTerm, Memory>
     ensures tree { IfOk result (λ t. term_view t ≡ numbers.named_product (names_in table.now) scope.old (seen.product_view raw.now)) }
     ensures scope { OnOk result (scope.new ≡ scope.old) }
-    ensures noted { OnOk result (earliest.new.first ≡ fold (name_noted (names_in table.now)) earliest.old.first (use_of.uses_in_product scope.old (seen.product_view raw.now))) }
+    ensures noted { OnOk result (earliest.new.first ≡ fold (name_noted (names_in table.now)) earliest.old.first (use_of.uses_in_product (use_of.in_scope scope.old) (seen.product_view raw.now))) }
 {
     let first = factor(alloc, table, scope, &raw.first, earliest)?;
     let more = raw.more.as_slice();
@@ -233,7 +233,7 @@ fn factor<'a>(
 ) -> Result<NamedTerm, Memory>
     ensures tree { IfOk result (λ t. term_view t ≡ numbers.named_factor (names_in table.now) scope.old (seen.factor_view raw.now)) }
     ensures scope { OnOk result (scope.new ≡ scope.old) }
-    ensures noted { OnOk result (earliest.new.first ≡ fold (name_noted (names_in table.now)) earliest.old.first (use_of.uses_in_factor scope.old (seen.factor_view raw.now))) }
+    ensures noted { OnOk result (earliest.new.first ≡ fold (name_noted (names_in table.now)) earliest.old.first (use_of.uses_in_factor (use_of.in_scope scope.old) (seen.factor_view raw.now))) }
 {
     match raw {
         RawFactor::Integer(integer) => { Ok(placed(integer.place, NamedNode::Int(integer.value))) }
@@ -286,7 +286,7 @@ fn opened<'a>(
     ensures vars { IfOk result (λ o. map var_view o.0 ≡ numbers.named_vars (names_in table.now) (seen.vars_view opening.now.vars)) }
     ensures condition { IfOk result (λ o. formula_view o.1 ≡ numbers.named_formula (names_in table.now) (use_of.within scope.old (seen.vars_view opening.now.vars)) (seen.formula_view condition.now)) }
     ensures scope { OnOk result (scope.new ≡ use_of.within scope.old (seen.vars_view opening.now.vars)) }
-    ensures noted { OnOk result (earliest.new.first ≡ fold (name_noted (names_in table.now)) earliest.old.first (use_of.an_aggregate opening.now.place ∷ (use_of.uses_of_vars [] (use_of.vars_in (seen.vars_view opening.now.vars)) ++ use_of.uses_in (use_of.within scope.old (seen.vars_view opening.now.vars)) (seen.formula_view condition.now)))) }
+    ensures noted { OnOk result (earliest.new.first ≡ fold (name_noted (names_in table.now)) earliest.old.first (use_of.an_aggregate opening.now.place ∷ (use_of.uses_of_vars [] (use_of.vars_in (seen.vars_view opening.now.vars)) ++ use_of.uses_in (use_of.in_scope (use_of.within scope.old (seen.vars_view opening.now.vars))) (seen.formula_view condition.now)))) }
 {
     note_aggregate(opening.place, earliest);
     let vars = binders(alloc, table, scope, opening.vars.get(), earliest)?;
@@ -304,7 +304,7 @@ fn arguments<'a>(
 ) -> Result<Vec<NamedTerm>, Memory>
     ensures trees { IfOk result (λ ts. terms_of (map term_view ts.items) ≡ numbers.named_arguments (names_in table.now) scope.old (seen.app_view raw.now)) }
     ensures scope { OnOk result (scope.new ≡ scope.old) }
-    ensures noted { OnOk result (earliest.new.first ≡ fold (name_noted (names_in table.now)) earliest.old.first (use_of.uses_in_arguments scope.old (seen.app_view raw.now))) }
+    ensures noted { OnOk result (earliest.new.first ≡ fold (name_noted (names_in table.now)) earliest.old.first (use_of.uses_in_arguments (use_of.in_scope scope.old) (seen.app_view raw.now))) }
 {
     let mut args = Vec::new(alloc);
     let RawApp::Apply(_, _, terms, _) = raw else {

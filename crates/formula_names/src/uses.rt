@@ -233,7 +233,7 @@ pub fn position<'a>(table: &Table<'a>, word: &'a RawName, earliest: &mut Earlies
     type_number(meaning)
 }
 
-/// The word behind `isa`: what it means.
+/// The word after `isa`: what it means.
 pub fn parent<'a>(table: &Table<'a>, word: &'a RawName, earliest: &mut Earliest) -> Meaning
     ensures meaning { meaning_view result ≡ meaning_of (names_in table.now) word.now.text }
     ensures noted { earliest.new.first ≡ name_noted (names_in table.now) earliest.old.first (use_of.parent (name_view word.now)) }

@@ -35,7 +35,7 @@ fn terms_count(terms: &RawTerms) -> usize
     terms.more.as_slice().len() + 1
 }
 
-/// How many arguments stand behind the word.
+/// How many arguments follow the word.
 pub fn app_count(app: &RawApp) -> usize
     ensures { result ≡ use_of.app_count (raw.app_view app.now) }
 {

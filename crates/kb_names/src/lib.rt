@@ -9,7 +9,6 @@ mod theories;
 mod vocabularies;
 
 pub use block_choice::{Picked, pick};
-pub use cycles::note_cycles;
 pub use files::resolve;
 pub use reading_stages::{
     Earliest, NamedFormula, NamedKb, NamedNode, NamedSigned, NamedTerm, NamedTermBlock,

@@ -27,7 +27,7 @@ fn type_in(meaning: Meaning) -> Option<usize>
     }
 }
 
-/// The type behind `isa`, where it is one of the vocabulary.
+/// The type after `isa`, where it is one of the vocabulary.
 fn parent_type<'a>(table: &Table<'a>, isa: &'a Option<RawIsa>) -> Option<usize>
     ensures { result ≡ use_of.parent_type (names_in table.now) (option_map isa_name isa.now) }
 {

@@ -36,7 +36,7 @@ fn note_count(greatest: usize, count: usize, word: &RawName, earliest: &mut Earl
     earliest.note_if(count > greatest, K::TooLarge, word.place);
 }
 
-/// Notes a declaration that stands behind as many others as there may be.
+/// Notes a declaration that follows as many others as there may be.
 fn note_next(greatest: usize, before: usize, word: &RawName, earliest: &mut Earliest)
     ensures { (names : Names) → earliest.new.first ≡ name_noted names earliest.old.first (use_of.counted greatest (before + 1) (name_view word.now)) }
 {

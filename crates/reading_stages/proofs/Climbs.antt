@@ -25,7 +25,7 @@ map-take f zero xs = refl
 map-take f (suc n) [] = refl
 map-take f (suc n) (x ∷ xs) = ap (λ (ys : List _). f x ∷ ys) (map-take f n xs)
 
--- the name behind the first i ones, and its place
+-- the name after the first i ones, and its place
 name_at : (ts : List Name) (i : ℕ) → i < length ts → (n : Name) × (drop i ts ≡ n ∷ drop (suc i) ts) × (place_of_name n ≡ get_or (map place_of_name ts) i 0)
 name_at [] i lt = absurd (omega arith)
 name_at (t ∷ ts) zero lt = (t, refl, refl)
@@ -48,7 +48,7 @@ climb_on names ps i b o next whole ts places are lt begins noted h =
 
 -- ---- the walk up that looks for a cycle
 
--- one step of the walk, where so many steps are left behind it
+-- one step of the walk, where so many steps are left after it
 module _ (ps : List (Option ℕ)) (t a i steps : ℕ) (whole : Bool)
     (so_far : (m : ℕ) → m + i ≡ steps → comes_back m ps t a ≡ whole) (left : i < steps) where
   turn : (r : Option ℕ) → ((test : ℕ → Bool) → stepped (slice_get ps a) test ≡ stepped (Some r) test) → (k : ℕ) → k + suc i ≡ steps

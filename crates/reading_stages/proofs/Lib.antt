@@ -7,3 +7,4 @@ pub mod Climbs
 pub mod NamedTypes
 pub mod Groups
 pub mod Rows
+pub mod OneFile

@@ -130,7 +130,7 @@ block_causes = k.UnknownName ∷ k.Redeclared ∷ k.BlockChoice ∷ []
 abbrev pub block_noted : Option KbFault → BlockUse → Option KbFault
 block_noted = noted_at is_refused place_of_block block_causes
 
--- what the stage of blocks answers where it refuses nothing
+-- what the stage of blocks returns where it refuses nothing
 pub record IsPicked (f : File) (theory structure : Option Text) (picked_theory picked_structure : ℕ) : Type 0 where
   pub accepted : (q : KbFault) → BlocksRefuse (block_uses f theory structure) q → ⊥
   pub one_vocabulary : length f.vocabularies ≡ 1

@@ -21,3 +21,4 @@ pub mod NamedViews
 pub mod FileViews
 pub mod Failures
 pub mod Examples
+pub mod FileTrees

@@ -277,7 +277,7 @@ named_file name ds theories terms = record {
   symbol_places = symbol_places ds;
 }
 
--- what the stage of names answers where it refuses nothing
+-- what the stage of names returns where it refuses nothing
 pub record IsNamed (f : File) (answer : NamedFile) : Type 0 where
   pub accepted : (q : KbFault) → NamesRefuse f q → ⊥
   pub tree : answer ≡ named_file (vocabulary_name f.vocabularies) (declarations_of f.vocabularies) f.theories f.terms

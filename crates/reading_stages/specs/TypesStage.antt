@@ -1,4 +1,4 @@
--- The stage of types: what it refuses, and what it answers where it refuses nothing.
+-- The stage of types: what it refuses, and what it returns where it refuses nothing.
 use Rattle.std.specs.Prelude.{ℕ, ◌≡◌, Bool, true, false, not, ◌&&◌, IsTrue, List, [], ◌∷◌, ◌++◌, map, Option, Contains}
 use Rattle.std.specs.List.{flat_map}
 use Rattle.kb_text.specs.declared.fault.K.{K}
@@ -135,7 +135,7 @@ type_causes = k.TypeClash ∷ k.Untyped ∷ []
 abbrev pub type_noted : List TypeDecl → Option KbFault → TypeUse → Option KbFault
 type_noted types = noted_at (is_type_refused types) place_of_type_use type_causes
 
--- what the stage of types answers where it refuses nothing
+-- what the stage of types returns where it refuses nothing
 pub record IsTyped (f : NamedFile) (answer : TypedFile) : Type 0 where
   pub accepted : (q : KbFault) → TypesRefuse f q → ⊥
   pub tree : answer ≡ typed_file f

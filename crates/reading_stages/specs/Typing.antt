@@ -81,7 +81,7 @@ type_found nothing = None
 type_found (found t) = Some t
 type_found torn = None
 
--- the types in scope behind a list of variables
+-- the types in scope after a list of variables
 abbrev pub within : List (Option ℕ) → List Binding → List (Option ℕ)
 within types_in_scope bs = types_in_scope ++ map (λ b. type_found b.finding) bs
 

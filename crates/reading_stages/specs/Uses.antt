@@ -13,7 +13,7 @@ pub data Use : Type 0 where
   counted : ℕ → ℕ → Name → Use
   -- the name of the type with this number, where the types have these parents
   climbs : List (Option ℕ) → ℕ → Name → Use
-  -- the word behind `isa`
+  -- the word after `isa`
   parent : Name → Use
   -- the type of an argument, a value or a variable
   position : Name → Use
@@ -121,9 +121,20 @@ uses_of_vars before [] = []
 uses_of_vars before (v ∷ vs) =
     (bound before (var_name v) ∷ position_uses (var_type v)) ++ uses_of_vars (before ++ var_text v ∷ []) vs
 
--- the variables in scope behind a list of variables
+-- the variables in scope after a list of variables
 abbrev pub within : List Text → Vars → List Text
 within scope vs = scope ++ map var_text (vars_in vs)
+
+-- what is known where a formula or a term stands: the variables in scope, the outermost first
+pub record Context : Type 0 where
+  pub scope : List Text
+
+abbrev pub in_scope : List Text → Context
+in_scope names = record { scope = names }
+
+-- where these variables are bound too
+abbrev pub inside : Context → Vars → Context
+inside c vs = record { scope = within c.scope vs }
 
 -- ---- formulas and terms
 
@@ -147,69 +158,69 @@ number_uses place (exactly n p) = a_number_quantifier place ∷ []
 number_uses place (compared c p n q) = a_number_quantifier place ∷ []
 
 abbrev mutual
-  pub uses_in : List Text → Formula → List Use
-  uses_in scope (alone o) = uses_in_or scope o
-  uses_in scope (linked arrow o p ls) = uses_in_or scope o ++ uses_in_links scope ls
+  pub uses_in : Context → Formula → List Use
+  uses_in c (alone o) = uses_in_or c o
+  uses_in c (linked arrow o p ls) = uses_in_or c o ++ uses_in_links c ls
 
-  pub uses_in_links : List Text → Links → List Use
-  uses_in_links scope (last o) = uses_in_or scope o
-  uses_in_links scope (link o p ls) = uses_in_or scope o ++ uses_in_links scope ls
+  pub uses_in_links : Context → Links → List Use
+  uses_in_links c (last o) = uses_in_or c o
+  uses_in_links c (link o p ls) = uses_in_or c o ++ uses_in_links c ls
 
-  pub uses_in_or : List Text → Or → List Use
-  uses_in_or scope (one a) = uses_in_and scope a
-  uses_in_or scope (or a p o) = uses_in_and scope a ++ uses_in_or scope o
+  pub uses_in_or : Context → Or → List Use
+  uses_in_or c (one a) = uses_in_and c a
+  uses_in_or c (or a p o) = uses_in_and c a ++ uses_in_or c o
 
-  pub uses_in_and : List Text → And → List Use
-  uses_in_and scope (single u) = uses_in_unary scope u
-  uses_in_and scope (and u p a) = uses_in_unary scope u ++ uses_in_and scope a
+  pub uses_in_and : Context → And → List Use
+  uses_in_and c (single u) = uses_in_unary c u
+  uses_in_and c (and u p a) = uses_in_unary c u ++ uses_in_and c a
 
-  pub uses_in_unary : List Text → Unary → List Use
-  uses_in_unary scope (not p u) = uses_in_unary scope u
-  uses_in_unary scope (every p vs q f) = uses_of_vars [] (vars_in vs) ++ uses_in (within scope vs) f
-  uses_in_unary scope (some p n vs q f) = number_uses p n ++ (uses_of_vars [] (vars_in vs) ++ uses_in (within scope vs) f)
-  uses_in_unary scope (prim x) = uses_in_prim scope x
+  pub uses_in_unary : Context → Unary → List Use
+  uses_in_unary c (not p u) = uses_in_unary c u
+  uses_in_unary c (every p vs q f) = uses_of_vars [] (vars_in vs) ++ uses_in (inside c vs) f
+  uses_in_unary c (some p n vs q f) = number_uses p n ++ (uses_of_vars [] (vars_in vs) ++ uses_in (inside c vs) f)
+  uses_in_unary c (prim x) = uses_in_prim c x
 
-  pub uses_in_prim : List Text → Prim → List Use
-  uses_in_prim scope (group p f q) = uses_in scope f
-  uses_in_prim scope (truth b p) = []
-  uses_in_prim scope (atom a) = formula_word scope (app_name a) (app_count a) ∷ uses_in_arguments scope a
-  uses_in_prim scope (compare x c p y) = uses_in_term scope x ++ uses_in_term scope y
+  pub uses_in_prim : Context → Prim → List Use
+  uses_in_prim c (group p f q) = uses_in c f
+  uses_in_prim c (truth b p) = []
+  uses_in_prim c (atom a) = formula_word c.scope (app_name a) (app_count a) ∷ uses_in_arguments c a
+  uses_in_prim c (compare x k p y) = uses_in_term c x ++ uses_in_term c y
 
-  pub uses_in_term : List Text → Term → List Use
-  uses_in_term scope (product p) = uses_in_product scope p
-  uses_in_term scope (sum p a q t) = uses_in_product scope p ++ uses_in_term scope t
+  pub uses_in_term : Context → Term → List Use
+  uses_in_term c (product p) = uses_in_product c p
+  uses_in_term c (sum p a q t) = uses_in_product c p ++ uses_in_term c t
 
-  pub uses_in_product : List Text → Product → List Use
-  uses_in_product scope (factor f) = uses_in_factor scope f
-  uses_in_product scope (times f p q) = uses_in_factor scope f ++ uses_in_product scope q
+  pub uses_in_product : Context → Product → List Use
+  uses_in_product c (factor f) = uses_in_factor c f
+  uses_in_product c (times f p q) = uses_in_factor c f ++ uses_in_product c q
 
-  pub uses_in_factor : List Text → Factor → List Use
-  uses_in_factor scope (integer n p) = []
-  uses_in_factor scope (value a) = term_word scope (app_name a) (app_count a) ∷ uses_in_arguments scope a
-  uses_in_factor scope (brackets p t q) = uses_in_term scope t
-  uses_in_factor scope (negative p f) = uses_in_factor scope f
-  uses_in_factor scope (count p b vs q f r) =
-      an_aggregate p ∷ (uses_of_vars [] (vars_in vs) ++ uses_in (within scope vs) f)
-  uses_in_factor scope (aggregate how p b vs q f r t e) =
-      an_aggregate p ∷ (uses_of_vars [] (vars_in vs) ++ (uses_in (within scope vs) f ++ uses_in_term (within scope vs) t))
+  pub uses_in_factor : Context → Factor → List Use
+  uses_in_factor c (integer n p) = []
+  uses_in_factor c (value a) = term_word c.scope (app_name a) (app_count a) ∷ uses_in_arguments c a
+  uses_in_factor c (brackets p t q) = uses_in_term c t
+  uses_in_factor c (negative p f) = uses_in_factor c f
+  uses_in_factor c (count p b vs q f r) =
+      an_aggregate p ∷ (uses_of_vars [] (vars_in vs) ++ uses_in (inside c vs) f)
+  uses_in_factor c (aggregate how p b vs q f r t e) =
+      an_aggregate p ∷ (uses_of_vars [] (vars_in vs) ++ (uses_in (inside c vs) f ++ uses_in_term (inside c vs) t))
 
-  pub uses_in_arguments : List Text → App → List Use
-  uses_in_arguments scope (constant n) = []
-  uses_in_arguments scope (empty n p q) = []
-  uses_in_arguments scope (apply n p ts q) = uses_in_terms scope ts
+  pub uses_in_arguments : Context → App → List Use
+  uses_in_arguments c (constant n) = []
+  uses_in_arguments c (empty n p q) = []
+  uses_in_arguments c (apply n p ts q) = uses_in_terms c ts
 
-  pub uses_in_terms : List Text → Terms → List Use
-  uses_in_terms scope (final t) = uses_in_term scope t
-  uses_in_terms scope (then t p ts) = uses_in_term scope t ++ uses_in_terms scope ts
+  pub uses_in_terms : Context → Terms → List Use
+  uses_in_terms c (final t) = uses_in_term c t
+  uses_in_terms c (then t p ts) = uses_in_term c t ++ uses_in_terms c ts
 
 -- ---- a file
 
 abbrev pub uses_in_part : Part → List Use
-uses_in_part (sentence f) = uses_in [] f
+uses_in_part (sentence f) = uses_in (in_scope []) f
 uses_in_part (definition place) = a_definition place ∷ []
 
 abbrev pub uses_in_theory : TheoryBlock → List Use
 uses_in_theory t = flat_map uses_in_part t.parts
 
 abbrev pub uses_in_block : TermBlock → List Use
-uses_in_block t = uses_in_term [] t.term
+uses_in_block t = uses_in_term (in_scope []) t.term

@@ -1,4 +1,6 @@
 //! Terms and formulas with numbers for words. Variables need not have their types yet.
+ghost use Rattle.reading_stages.specs.Below.{HasNoCycle, type_parents};
+
 use kb_logic::{AggKind, Cmp, Name, Vocabulary};
 use sqlite_items::Items;
 
@@ -71,7 +73,8 @@ pub struct NamedTermBlock {
     pub term: NamedTerm,
 }
 
-/// A knowledge base with numbers for words, and the places of the names of its types and symbols.
+/// A knowledge base with numbers for words, and the places of the names of its types and symbols. No type of it comes
+/// back to itself by `isa`.
 #[derive(Drop)]
 pub struct NamedKb {
     pub vocab: Vocabulary,
@@ -79,4 +82,5 @@ pub struct NamedKb {
     pub terms: Items<NamedTermBlock>,
     pub type_places: Items<usize>,
     pub symbol_places: Items<usize>,
+    ghost acyclic: { HasNoCycle (type_parents vocab.types) },
 }

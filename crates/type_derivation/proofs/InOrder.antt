@@ -112,7 +112,7 @@ module _ (v : Vocabulary) where
       ap (λ (ts : List ℕ). ts ++ rest) (append-nil (found (within around placed) (length around + length (map binding_of xs))) ∙ both)
       ∙ append_assoc (types_here around xs ps) (found_in (inside v.types around xs ps) ps) rest
 
-  -- what is left behind the variables
+  -- what is left after the variables
   scope_left : (around : List (Option ℕ)) (xs : List NamedVar) (ps : List Part) (rest : List ℕ)
       → left_vars (found_in around (scope (map binding_of xs) (parts_of ps) ∷ []) ++ rest) xs ≡ found_in (inside v.types around xs ps) ps ++ rest
   scope_left around xs ps rest =
@@ -125,7 +125,7 @@ module _ (v : Vocabulary) where
       ap (λ (ts : List ℕ). listed_vars ts xs) (split_scope around xs ps rest)
       ∙ front_vars v.types (inside v.types around xs ps) (parts_of ps) (length around) xs (found_in (inside v.types around xs ps) ps ++ rest)
 
-  -- ---- what is left behind a tree
+  -- ---- what is left after a tree
 
   mutual
     left-formula : (around : List (Option ℕ)) (f : NamedFormula) (rest : List ℕ) → left_formula (found_in around (formula_parts v.symbols f) ++ rest) f ≡ rest

@@ -1,5 +1,5 @@
 -- The types of all variables in the order in which they are bound in the text, and trees whose variables take theirs from
--- the front of such a list. Derivation works by these trees; they are the typed ones.
+-- the start of such a list. Derivation works by these trees; they are the typed ones.
 use Rattle.std.specs.Prelude.{ℕ, ◌≡◌, pos, List, [], ◌∷◌, ◌++◌, map}
 use Rattle.kb_logic.specs.declared.vocabularies.Vocabulary.{Vocabulary}
 use Rattle.kb_logic.specs.declared.vocabularies.Bound.{Bound}
@@ -20,22 +20,22 @@ abbrev mutual
   types_among no_parts = []
   types_among (more_parts p ps) = types_at p ++ types_among ps
 
--- the type at the front
+-- the type at the start
 abbrev pub first_type : List ℕ → ℕ
 first_type [] = 0
 first_type (t ∷ ts) = t
 
--- variables with the types at the front
+-- variables with the types at the start
 abbrev pub listed_vars : List ℕ → List NamedVar → List Bound
 listed_vars ts [] = []
 listed_vars ts (x ∷ xs) = record { name = x.name; ty = first_type ts } ∷ listed_vars (later_types ts) xs
 
--- what is left behind variables
+-- what is left after variables
 abbrev pub left_vars : List ℕ → List NamedVar → List ℕ
 left_vars ts [] = ts
 left_vars ts (x ∷ xs) = left_vars (later_types ts) xs
 
--- what is left behind a tree
+-- what is left after a tree
 abbrev mutual
   pub left_formula : List ℕ → NamedFormula → List ℕ
   left_formula ts (truth b) = ts
@@ -74,7 +74,7 @@ abbrev mutual
   left_summands ts no_summands = ts
   left_summands ts (more_summands m u ss) = left_summands (left_term ts u) ss
 
--- trees whose variables have the types at the front
+-- trees whose variables have the types at the start
 abbrev mutual
   pub listed_formula : List ℕ → NamedFormula → FormulaTree
   listed_formula ts (truth b) = truth_tree b

@@ -183,7 +183,6 @@ fn first_words(alloc: Global, theories: &[NamedTheory]) -> Result<Items<usize>, 
 }
 
 fn derived(alloc: Global, named: NamedKb, earliest: &mut Earliest) -> Result<TypedKb, Memory>
-    requires acyclic { HasNoCycle (type_parents named.vocab.types) }
     ensures tree { IfOk result (λ kb. typed_view kb ≡ typed_file (kb_view named)) }
     ensures noted { OnOk result (earliest.new.first ≡ fold (type_noted named.vocab.types) earliest.old.first (stage.type_uses_of_file (kb_view named))) }
 {
@@ -227,7 +226,6 @@ fn derived(alloc: Global, named: NamedKb, earliest: &mut Earliest) -> Result<Typ
 
 /// The file with the types of its variables, or the earliest refusal of the types in it.
 pub fn derive(alloc: Global, named: NamedKb) -> Result<TypedKb, KbError>
-    requires acyclic { HasNoCycle (type_parents named.vocab.types) }
     ensures ok { IfOk result (λ kb. IsTyped (kb_view named) (typed_view kb)) }
     ensures err { IfErr result (FailsWith (kb_view named)) }
 {

@@ -51,7 +51,7 @@ fn bound_vars(alloc: Global, types: &mut Remaining, vars: &[NamedVar]) -> Result
     Ok(bounds)
 }
 
-/// A formula whose variables take their types from the front of the list. The places of its terms are added.
+/// A formula whose variables take their types from the start of the list. The places of its terms are added.
 #[cycle(trees)]
 pub fn formula(
     alloc: Global,
@@ -141,7 +141,7 @@ fn formulas(
     Ok(operands)
 }
 
-/// A term whose variables take their types from the front of the list. Its places are added.
+/// A term whose variables take their types from the start of the list. Its places are added.
 #[cycle(trees)]
 pub fn term(
     alloc: Global,

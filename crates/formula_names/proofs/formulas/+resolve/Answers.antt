@@ -11,7 +11,7 @@ use Rattle.fo_syntax.specs.declared.raw.RawProduct.{out-RawProduct}
 use Rattle.fo_syntax.specs.declared.raw.RawTerms.{out-RawTerms}
 use Rattle.reading_stages.specs.NamesStage.{name_noted}
 use Rattle.reading_stages.specs.Numbering.{grouped, named_formula, named_or, named_and, named_unary, named_product, named_factor, named_term, is_minus}
-use Rattle.reading_stages.specs.Uses.{an_aggregate, uses_in, uses_in_or, uses_in_and, uses_in_unary, uses_in_product, uses_in_factor, uses_in_term, uses_of_vars, vars_in, within}
+use Rattle.reading_stages.specs.Uses.{an_aggregate, in_scope, uses_in, uses_in_or, uses_in_and, uses_in_unary, uses_in_product, uses_in_factor, uses_in_term, uses_of_vars, vars_in, within}
 use Rattle.formula_names.specs.Meanings.{names_in}
 use Rattle.reading_stages.specs.NamedViews.{formula_view, term_view, signed_view}
 use Rattle.formula_names.proofs.Chains.{uses_in_or-is, uses_in_and-is, uses_in_term-is, uses_in_product-is, uses_in_terms-is, named_terms-is}
@@ -36,7 +36,7 @@ disjunction-returns-clause-noted t c =
     let more : c.as_slice-more.result.now ≡ (out-RawOr c.args.raw.now).more = c.as_slice-more.ensures in
     let ended : length c.as_slice-more.result.now ≤ c.loop-tail.tail-index = c.loop-tail-test.false in
     rw (seen, uses_in_or-is)
-    (noted_all (name_noted (names_in c.args.table.now)) (λ (x : ℕ × raw.And). uses_in_and c.args.scope.now x.1) view.or_tail_view c.args.earliest.now.first _ _ (uses_in_and c.args.scope.now (view.and_view (out-RawOr c.args.raw.now).first)) _ _ _ c.in_ok-first.ensures.noted c.loop-tail.invariant.noted ended more)
+    (noted_all (name_noted (names_in c.args.table.now)) (λ (x : ℕ × raw.And). uses_in_and (in_scope c.args.scope.now) x.1) view.or_tail_view c.args.earliest.now.first _ _ (uses_in_and (in_scope c.args.scope.now) (view.and_view (out-RawOr c.args.raw.now).first)) _ _ _ c.in_ok-first.ensures.noted c.loop-tail.invariant.noted ended more)
 
 pub conjunction-returns-clause-tree : goal.conjunction-returns-clause-tree
 conjunction-returns-clause-tree t c =
@@ -55,7 +55,7 @@ conjunction-returns-clause-noted t c =
     let more : c.as_slice-more.result.now ≡ (out-RawAnd c.args.raw.now).more = c.as_slice-more.ensures in
     let ended : length c.as_slice-more.result.now ≤ c.loop-tail.tail-index = c.loop-tail-test.false in
     rw (seen, uses_in_and-is)
-    (noted_all (name_noted (names_in c.args.table.now)) (λ (x : ℕ × raw.Unary). uses_in_unary c.args.scope.now x.1) view.and_tail_view c.args.earliest.now.first _ _ (uses_in_unary c.args.scope.now (view.unary_view (out-RawAnd c.args.raw.now).first)) _ _ _ c.in_ok-first.ensures.noted c.loop-tail.invariant.noted ended more)
+    (noted_all (name_noted (names_in c.args.table.now)) (λ (x : ℕ × raw.Unary). uses_in_unary (in_scope c.args.scope.now) x.1) view.and_tail_view c.args.earliest.now.first _ _ (uses_in_unary (in_scope c.args.scope.now) (view.unary_view (out-RawAnd c.args.raw.now).first)) _ _ _ c.in_ok-first.ensures.noted c.loop-tail.invariant.noted ended more)
 
 pub term-returns-clause-tree : goal.term-returns-clause-tree
 term-returns-clause-tree t c =
@@ -75,7 +75,7 @@ term-returns-clause-noted t c =
     let more : c.as_slice-more.result.now ≡ (out-RawTermTree c.args.raw.now).more = c.as_slice-more.ensures in
     let ended : length c.as_slice-more.result.now ≤ c.loop-tail.tail-index = c.loop-tail-test.false in
     rw (seen, uses_in_term-is)
-    (noted_all (name_noted (names_in c.args.table.now)) (λ (x : Adding × ℕ × raw.Product). uses_in_product c.args.scope.now x.2) view.sum_tail_view c.args.earliest.now.first _ _ (uses_in_product c.args.scope.now (view.product_view (out-RawTermTree c.args.raw.now).first)) _ _ _ c.in_ok-first.ensures.noted c.loop-tail.invariant.noted ended more)
+    (noted_all (name_noted (names_in c.args.table.now)) (λ (x : Adding × ℕ × raw.Product). uses_in_product (in_scope c.args.scope.now) x.2) view.sum_tail_view c.args.earliest.now.first _ _ (uses_in_product (in_scope c.args.scope.now) (view.product_view (out-RawTermTree c.args.raw.now).first)) _ _ _ c.in_ok-first.ensures.noted c.loop-tail.invariant.noted ended more)
 
 pub product-returns-clause-tree : goal.product-returns-clause-tree
 product-returns-clause-tree t c =
@@ -95,11 +95,11 @@ product-returns-clause-noted t c =
     let more : c.as_slice-more.result.now ≡ (out-RawProduct c.args.raw.now).more = c.as_slice-more.ensures in
     let ended : length c.as_slice-more.result.now ≤ c.loop-tail.tail-index = c.loop-tail-test.false in
     rw (seen, uses_in_product-is)
-    (noted_all (name_noted (names_in c.args.table.now)) (λ (x : ℕ × raw.Factor). uses_in_factor c.args.scope.now x.1) view.product_tail_view c.args.earliest.now.first _ _ (uses_in_factor c.args.scope.now (view.factor_view (out-RawProduct c.args.raw.now).first)) _ _ _ c.in_ok-first.ensures.noted c.loop-tail.invariant.noted ended more)
+    (noted_all (name_noted (names_in c.args.table.now)) (λ (x : ℕ × raw.Factor). uses_in_factor (in_scope c.args.scope.now) x.1) view.product_tail_view c.args.earliest.now.first _ _ (uses_in_factor (in_scope c.args.scope.now) (view.factor_view (out-RawProduct c.args.raw.now).first)) _ _ _ c.in_ok-first.ensures.noted c.loop-tail.invariant.noted ended more)
 
 pub opened-returns-clause-noted : goal.opened-returns-clause-noted
 opened-returns-clause-noted t c =
-    opened_noted (name_noted (names_in c.args.table.now)) c.args.earliest.now.first c.note_aggregate.new.earliest.first c.binders.new.earliest.first c.formula.new.earliest.first (an_aggregate c.args.opening.now.place) (uses_of_vars [] (vars_in (view.vars_view c.args.opening.now.vars))) (uses_in (within c.args.scope.now (view.vars_view c.args.opening.now.vars)) (view.formula_view c.args.condition.now))
+    opened_noted (name_noted (names_in c.args.table.now)) c.args.earliest.now.first c.note_aggregate.new.earliest.first c.binders.new.earliest.first c.formula.new.earliest.first (an_aggregate c.args.opening.now.place) (uses_of_vars [] (vars_in (view.vars_view c.args.opening.now.vars))) (uses_in (in_scope (within c.args.scope.now (view.vars_view c.args.opening.now.vars))) (view.formula_view c.args.condition.now))
     (c.note_aggregate.ensures (names_in c.args.table.now)) (rw (← c.get.ensures) c.in_ok-vars.ensures.noted)
     (rw (← c.get.ensures, ← c.in_ok-vars.ensures.scope) c.in_ok-condition.ensures.noted)
 
@@ -117,7 +117,7 @@ arguments-returns-clause-noted t c =
     let seen : view.app_view c.args.raw.now ≡ raw.apply (view.name_view c.in-Apply.field-0) c.in-Apply.field-1 (view.terms_view c.in-Apply.terms) c.in-Apply.field-3 = rw c.in-Apply.is (search (rules, the_lemmas)) in
     let terms : view.terms_view c.in-Apply.terms ≡ view.terms_of (view.term_view (out-RawTerms c.get-terms.result.now).first) (map view.terms_tail_view (out-RawTerms c.get-terms.result.now).more) = rw (← c.get-terms.ensures) (search (rules, the_lemmas)) in
     rw (seen, terms, uses_in_terms-is)
-    (noted_all (name_noted (names_in c.args.table.now)) (λ (x : ℕ × raw.Term). uses_in_term c.args.scope.now x.1) view.terms_tail_view c.args.earliest.now.first _ _ (uses_in_term c.args.scope.now (view.term_view (out-RawTerms c.get-terms.result.now).first)) _ _ _ c.in_ok-term.ensures.noted c.loop-tail.invariant.noted c.loop-tail-test.false c.as_slice-more.ensures)
+    (noted_all (name_noted (names_in c.args.table.now)) (λ (x : ℕ × raw.Term). uses_in_term (in_scope c.args.scope.now) x.1) view.terms_tail_view c.args.earliest.now.first _ _ (uses_in_term (in_scope c.args.scope.now) (view.term_view (out-RawTerms c.get-terms.result.now).first)) _ _ _ c.in_ok-term.ensures.noted c.loop-tail.invariant.noted c.loop-tail-test.false c.as_slice-more.ensures)
 
 pub formula-returns-after-loop-link-clause-tree : goal.formula-returns-after-loop-link-clause-tree
 formula-returns-after-loop-link-clause-tree t c =
@@ -134,4 +134,4 @@ formula-returns-after-loop-link-clause-noted t c =
     let seen : view.formula_view c.args.raw.now ≡ view.formula_of c.in-Linked.arrow (view.or_view c.in-Linked.first) (map view.link_view c.in-Linked.links) = rw c.in-Linked.is (search (rules, the_lemmas)) in
     always_on_ok c.grouped.result _
     (rw (seen, linked_uses)
-    (noted_all (name_noted (names_in c.args.table.now)) (λ (x : ℕ × raw.Or). uses_in_or c.args.scope.now x.1) view.link_view c.args.earliest.now.first _ _ (uses_in_or c.args.scope.now (view.or_view c.in-Linked.first)) _ _ _ c.in_ok-first-in-Linked.ensures.noted c.loop-link.invariant.noted c.loop-link-test.false c.as_slice-links.ensures))
+    (noted_all (name_noted (names_in c.args.table.now)) (λ (x : ℕ × raw.Or). uses_in_or (in_scope c.args.scope.now) x.1) view.link_view c.args.earliest.now.first _ _ (uses_in_or (in_scope c.args.scope.now) (view.or_view c.in-Linked.first)) _ _ _ c.in_ok-first-in-Linked.ensures.noted c.loop-link.invariant.noted c.loop-link-test.false c.as_slice-links.ensures))
