@@ -7,6 +7,7 @@ pub mod Values
 pub mod Environments
 pub mod Arithmetic
 pub mod Bounds
+pub mod Typing
 pub mod Weights
 pub mod Laws
 pub mod Models

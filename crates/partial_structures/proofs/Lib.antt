@@ -27,3 +27,4 @@ pub mod Certain
 pub mod ElementLemmas
 pub mod Worked
 pub mod Total
+pub mod Typed

@@ -61,7 +61,7 @@ module _ (v : Vocabulary) (m : Structure) (is : IsStructure v m) where
   over : (a : GroundAtom) → AtomHolds m a → IsAtomOver v.symbols m.domains a
   over a h = (listed_holds v m is a (holds_listed v m is a h)).0
 
-  extends_itself : ExtendsData m (known_of v.symbols m)
+  pub extends_itself : ExtendsData m (known_of v.symbols m)
   extends_itself = record {
     domains = refl;
     true_atoms = in_all (AtomHolds m) (known_of v.symbols m).true_atoms (λ a at. true_holds m a (known_true a at));

@@ -6,9 +6,11 @@ use Rattle.kb_logic.specs.declared.vocabularies.Bound.{Bound}
 use Rattle.kb_logic.specs.declared.vocabularies.Vocabulary.{Vocabulary}
 use Rattle.kb_logic.specs.declared.structures.Structure.{Structure}
 use Rattle.kb_logic.specs.Trees.{TermTree, FormulaTree, universal, existential}
-use Rattle.kb_logic.specs.Denotations.{Denotation}
+use Rattle.kb_logic.specs.Denotations.{Denotation, denotation_of}
 use Rattle.kb_logic.specs.Meaning.{value_of, truth_of}
-use Rattle.kb_logic.specs.Structures.{choices, IsStructure}
+use Rattle.kb_logic.specs.Structures.{choices, domain_at, IsStructure}
+use Rattle.kb_logic.specs.Domains.{AreDomainsOf}
+use Rattle.kb_logic.specs.Typing.{IsTypedOver, TermIsTypedOver, element_of, sort_of}
 use Rattle.kb_logic.specs.KnownAtoms.{known_of}
 use Rattle.kb_logic.specs.Models.{GroundAtom, AtomHolds}
 use Rattle.partial_structures.specs.KnownAtoms.{KnownAtoms, IsAtomOver, value_at}
@@ -80,3 +82,12 @@ abbrev pub ExtendsIsKnowsMore : Type 0
 ExtendsIsKnowsMore =
     (v : Vocabulary) (m : Structure) → IsStructure v m → (k : KnownAtoms) → k.symbols ≡ v.symbols → AllByRecursion (IsAtomOver k.symbols k.domains) k.false_atoms
     → ExtendsData m k ↔ KnowsMore k (known_of v.symbols m)
+
+-- over domains as the vocabulary asks for them, what is well typed applies each function within its types, and a term of a type
+-- has an element of the type as its value
+abbrev pub TypedIsWellApplied : Type 0
+TypedIsWellApplied =
+    (v : Vocabulary) (m : Structure) → IsStructure v m → AreDomainsOf v m.domains → (scope : List ℕ) (e : List Elem) → HasTypes m.domains scope e
+    → ((f : FormulaTree) → IsTypedOver v m.domains f scope → IsWellApplied v.symbols m f e)
+    × ((t : TermTree) → TermIsTypedOver v m.domains t scope → AppliesWell v.symbols m t e)
+    × ((t : TermTree) (ty : ℕ) → TermIsTypedOver v m.domains t scope → sort_of v t scope ≡ Some (element_of ty) → (x : Elem) × Contains (domain_at m.domains ty) x × (value_of m t e ≡ denotation_of x))

@@ -1,7 +1,7 @@
 //! What the definitions say, in the subject's own words. The functions are empty: their contracts are laws.
 ghost use Rattle.partial_structures.specs.Examples.{WorkedExamples};
 ghost use Rattle.partial_structures.specs.KnownArithmetic.{NoArithmeticFits};
-ghost use Rattle.partial_structures.specs.Laws.{KnownAtomsHold, EveryIsConjunction, SomeIsDisjunction, CertaintyIsSound, CertaintyIsMonotone, CertaintyIsTruth, ExtendsIsKnowsMore, SmallBoundsFit, SmallTermsFit, StructuresKnowAll};
+ghost use Rattle.partial_structures.specs.Laws.{KnownAtomsHold, EveryIsConjunction, SomeIsDisjunction, CertaintyIsSound, CertaintyIsMonotone, CertaintyIsTruth, ExtendsIsKnowsMore, SmallBoundsFit, SmallTermsFit, StructuresKnowAll, TypedIsWellApplied};
 
 /// What is known of an atom is so in every structure that extends the data.
 pub fn known_atoms_hold()
@@ -59,4 +59,10 @@ pub fn small_terms_fit()
 pub fn structures_know_all()
     ensures all { StructuresKnowAll }
     ensures more { ExtendsIsKnowsMore }
+{}
+
+/// Over domains as the vocabulary asks for them, what is well typed applies each function within its types, and a
+/// term of a type has an element of the type as its value.
+pub fn typed_is_well_applied()
+    ensures { TypedIsWellApplied }
 {}
