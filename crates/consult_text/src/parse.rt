@@ -5,7 +5,7 @@ ghost use Rattle.std.specs.Str.{bytes_eq};
 ghost use Rattle.kb_text.specs.Tokens.{lexeme_of, is_word_of};
 ghost use Rattle.consult_text.specs.Written.{word, sign, reserved_words};
 ghost use Rattle.consult_text.specs.Lines.{tok_of};
-ghost use Rattle.consult_text.specs.Cuts.{toks, Behind, CutsName, CutsDigits, CutsElem, CutsFurther, CutsArgs, HasNoArgs, CutsHead, HasNoHead, CutsEquality, CutsLiteral, CutsNegated, CutsPositive, CutsShort, CutsCommand, literal_view, head_literal, dot, elem_views};
+ghost use Rattle.consult_text.specs.Parse.{toks, Behind, ParsesName, ParsesDigits, ParsesElem, ParsesFurther, ParsesArgs, HasNoArgs, ParsesHead, HasNoHead, ParsesEquality, ParsesLiteral, ParsesNegated, ParsesPositive, ParsesShort, ParsesCommand, literal_view, head_literal, dot, elem_views};
 
 use crate::written::{CommandText, ElemText, Head, LiteralText};
 use kb_logic::Memory;
@@ -84,8 +84,8 @@ fn behind_word<'a, 'b>(text: &[u8], tokens: &'b [Token<'a>]) -> Option<&'b [Toke
     }
 }
 
-fn cut_name<'a, 'b>(tokens: &'b [Token<'a>]) -> Option<(&'a [u8], &'b [Token<'a>])>
-    ensures cut { CutsName (toks tokens.now) result }
+fn parse_name<'a, 'b>(tokens: &'b [Token<'a>]) -> Option<(&'a [u8], &'b [Token<'a>])>
+    ensures cut { ParsesName (toks tokens.now) result }
     ensures shorter { IfSome result (λ p. length p.1.now < length tokens.now) }
 {
     let (first, rest) = tokens.split_first()?;
@@ -101,8 +101,8 @@ fn cut_name<'a, 'b>(tokens: &'b [Token<'a>]) -> Option<(&'a [u8], &'b [Token<'a>
     }
 }
 
-fn cut_digits<'a, 'b>(tokens: &'b [Token<'a>]) -> Option<(&'a [u8], &'b [Token<'a>])>
-    ensures cut { CutsDigits (toks tokens.now) result }
+fn parse_digits<'a, 'b>(tokens: &'b [Token<'a>]) -> Option<(&'a [u8], &'b [Token<'a>])>
+    ensures cut { ParsesDigits (toks tokens.now) result }
     ensures shorter { IfSome result (λ p. length p.1.now < length tokens.now) }
 {
     let (first, rest) = tokens.split_first()?;
@@ -112,31 +112,31 @@ fn cut_digits<'a, 'b>(tokens: &'b [Token<'a>]) -> Option<(&'a [u8], &'b [Token<'
     }
 }
 
-fn cut_elem<'a, 'b>(tokens: &'b [Token<'a>]) -> Option<(ElemText<'a>, &'b [Token<'a>])>
-    ensures cut { CutsElem (toks tokens.now) result }
+fn parse_elem<'a, 'b>(tokens: &'b [Token<'a>]) -> Option<(ElemText<'a>, &'b [Token<'a>])>
+    ensures cut { ParsesElem (toks tokens.now) result }
     ensures shorter { IfSome result (λ p. length p.1.now < length tokens.now) }
 {
-    if let Some((name, rest)) = cut_name(tokens) {
+    if let Some((name, rest)) = parse_name(tokens) {
         return Some((ElemText::Name(name), rest));
     }
     match behind_sign(b"-", tokens) {
         Some(behind) => {
-            let (digits, rest) = cut_digits(behind)?;
+            let (digits, rest) = parse_digits(behind)?;
             Some((ElemText::Integer(true, digits), rest))
         }
         None => {
-            let (digits, rest) = cut_digits(tokens)?;
+            let (digits, rest) = parse_digits(tokens)?;
             Some((ElemText::Integer(false, digits), rest))
         }
     }
 }
 
 /// Adds the elements up to the closing parenthesis, each of which a comma comes before.
-fn cut_further<'a, 'b>(
+fn parse_further<'a, 'b>(
     args: &mut Vec<ElemText<'a>>,
     tokens: &'b [Token<'a>],
 ) -> Result<Option<&'b [Token<'a>]>, Memory>
-    ensures { IfOk result (λ found. CutsFurther args.old.items args.new.items (toks tokens.now) found) }
+    ensures { IfOk result (λ found. ParsesFurther args.old.items args.new.items (toks tokens.now) found) }
 {
     let (_, mut rest) = tokens.split_at(0);
     loop {
@@ -146,7 +146,7 @@ fn cut_further<'a, 'b>(
         let Some(behind) = behind_sign(b",", rest) else {
             return Ok(None);
         };
-        let Some((elem, behind)) = cut_elem(behind) else {
+        let Some((elem, behind)) = parse_elem(behind) else {
             return Ok(None);
         };
         args.push(elem)?;
@@ -155,37 +155,37 @@ fn cut_further<'a, 'b>(
 }
 
 /// The arguments in parentheses, or none where no parenthesis opens.
-fn cut_args<'a, 'b>(
+fn parse_args<'a, 'b>(
     alloc: Global,
     tokens: &'b [Token<'a>],
 ) -> Result<Option<(Vec<ElemText<'a>>, &'b [Token<'a>])>, Memory>
-    ensures { IfOk result (λ found. MatchOption found (HasNoArgs (toks tokens.now)) (λ p. CutsArgs (toks tokens.now) (elem_views p.0.items) (toks p.1.now))) }
+    ensures { IfOk result (λ found. MatchOption found (HasNoArgs (toks tokens.now)) (λ p. ParsesArgs (toks tokens.now) (elem_views p.0.items) (toks p.1.now))) }
 {
     let mut args = Vec::new(alloc);
     let Some(behind) = behind_sign(b"(", tokens) else {
         return Ok(Some((args, tokens)));
     };
-    let Some((first, behind)) = cut_elem(behind) else {
+    let Some((first, behind)) = parse_elem(behind) else {
         return Ok(None);
     };
     args.push(first)?;
-    match cut_further(&mut args, behind)? {
+    match parse_further(&mut args, behind)? {
         Some(rest) => Ok(Some((args, rest))),
         None => Ok(None),
     }
 }
 
 /// A name and its arguments, as an atom that is true.
-fn cut_head<'a, 'b>(
+fn parse_head<'a, 'b>(
     alloc: Global,
     tokens: &'b [Token<'a>],
 ) -> Result<Option<(Head<'a>, &'b [Token<'a>])>, Memory>
-    ensures { IfOk result (λ found. MatchOption found (HasNoHead (toks tokens.now)) (λ p. CutsHead (toks tokens.now) p.0.name.now (elem_views p.0.args.items) (toks p.1.now))) }
+    ensures { IfOk result (λ found. MatchOption found (HasNoHead (toks tokens.now)) (λ p. ParsesHead (toks tokens.now) p.0.name.now (elem_views p.0.args.items) (toks p.1.now))) }
 {
-    let Some((name, behind)) = cut_name(tokens) else {
+    let Some((name, behind)) = parse_name(tokens) else {
         return Ok(None);
     };
-    match cut_args(alloc, behind)? {
+    match parse_args(alloc, behind)? {
         Some((args, rest)) => Ok(Some((Head { name, args }, rest))),
         None => Ok(None),
     }
@@ -200,8 +200,8 @@ fn is_dot(tokens: &[Token<'_>]) -> bool
     }
 }
 
-fn cut_equality<'a, 'b>(tokens: &'b [Token<'a>]) -> Option<(bool, &'b [Token<'a>])>
-    ensures { CutsEquality (toks tokens.now) result }
+fn parse_equality<'a, 'b>(tokens: &'b [Token<'a>]) -> Option<(bool, &'b [Token<'a>])>
+    ensures { ParsesEquality (toks tokens.now) result }
 {
     match behind_sign(b"=", tokens) {
         Some(rest) => Some((true, rest)),
@@ -224,10 +224,10 @@ fn make_literal<'a>(positive: bool, head: Head<'a>, value: Option<ElemText<'a>>)
 }
 
 /// An atom behind its `~`.
-fn cut_negated<'a>(alloc: Global, tokens: &[Token<'a>]) -> Result<Option<LiteralText<'a>>, Memory>
-    ensures { IfOk result (λ found. CutsNegated (toks tokens.now) found) }
+fn parse_negated<'a>(alloc: Global, tokens: &[Token<'a>]) -> Result<Option<LiteralText<'a>>, Memory>
+    ensures { IfOk result (λ found. ParsesNegated (toks tokens.now) found) }
 {
-    let Some((head, rest)) = cut_head(alloc, tokens)? else {
+    let Some((head, rest)) = parse_head(alloc, tokens)? else {
         return Ok(None);
     };
     if is_dot(rest) {
@@ -238,19 +238,22 @@ fn cut_negated<'a>(alloc: Global, tokens: &[Token<'a>]) -> Result<Option<Literal
 }
 
 /// A literal without `~` before it.
-fn cut_positive<'a>(alloc: Global, tokens: &[Token<'a>]) -> Result<Option<LiteralText<'a>>, Memory>
-    ensures { IfOk result (λ found. CutsPositive (toks tokens.now) found) }
+fn parse_positive<'a>(
+    alloc: Global,
+    tokens: &[Token<'a>],
+) -> Result<Option<LiteralText<'a>>, Memory>
+    ensures { IfOk result (λ found. ParsesPositive (toks tokens.now) found) }
 {
-    let Some((head, rest)) = cut_head(alloc, tokens)? else {
+    let Some((head, rest)) = parse_head(alloc, tokens)? else {
         return Ok(None);
     };
     if is_dot(rest) {
         return Ok(Some(make_literal(true, head, None)));
     }
-    let Some((positive, behind)) = cut_equality(rest) else {
+    let Some((positive, behind)) = parse_equality(rest) else {
         return Ok(None);
     };
-    let Some((value, rest)) = cut_elem(behind) else {
+    let Some((value, rest)) = parse_elem(behind) else {
         return Ok(None);
     };
     if is_dot(rest) {
@@ -260,12 +263,12 @@ fn cut_positive<'a>(alloc: Global, tokens: &[Token<'a>]) -> Result<Option<Litera
     }
 }
 
-fn cut_literal<'a>(alloc: Global, tokens: &[Token<'a>]) -> Result<Option<LiteralText<'a>>, Memory>
-    ensures { IfOk result (λ found. CutsLiteral (toks tokens.now) found) }
+fn parse_literal<'a>(alloc: Global, tokens: &[Token<'a>]) -> Result<Option<LiteralText<'a>>, Memory>
+    ensures { IfOk result (λ found. ParsesLiteral (toks tokens.now) found) }
 {
     match behind_sign(b"~", tokens) {
-        Some(behind) => cut_negated(alloc, behind),
-        None => cut_positive(alloc, tokens),
+        Some(behind) => parse_negated(alloc, behind),
+        None => parse_positive(alloc, tokens),
     }
 }
 
@@ -279,30 +282,30 @@ fn is_command_of(text: &[u8], tokens: &[Token<'_>]) -> bool
 }
 
 /// The command that the tokens are.
-pub fn cut_command<'a>(
+pub fn parse_command<'a>(
     alloc: Global,
     tokens: &[Token<'a>],
 ) -> Result<Option<CommandText<'a>>, Memory>
-    ensures { IfOk result (λ found. CutsCommand (toks tokens.now) found) }
+    ensures { IfOk result (λ found. ParsesCommand (toks tokens.now) found) }
 {
     if let Some(behind) = behind_word(b"assert", tokens) {
-        return match cut_literal(alloc, behind)? {
+        return match parse_literal(alloc, behind)? {
             Some(literal) => Ok(Some(CommandText::Assert(literal))),
             None => Ok(None),
         };
     }
     if let Some(behind) = behind_word(b"retract", tokens) {
-        return match cut_literal(alloc, behind)? {
+        return match parse_literal(alloc, behind)? {
             Some(literal) => Ok(Some(CommandText::Retract(literal))),
             None => Ok(None),
         };
     }
-    Ok(cut_short(tokens))
+    Ok(parse_short(tokens))
 }
 
 /// A command without a literal.
-fn cut_short<'a>(tokens: &[Token<'_>]) -> Option<CommandText<'a>>
-    ensures { CutsShort (toks tokens.now) result }
+fn parse_short<'a>(tokens: &[Token<'_>]) -> Option<CommandText<'a>>
+    ensures { ParsesShort (toks tokens.now) result }
 {
     if is_command_of(b"reset", tokens) {
         Some(CommandText::Reset)

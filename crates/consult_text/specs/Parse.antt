@@ -44,27 +44,27 @@ Behind t ts None = (rest : List Tok) → ts ≢ t ∷ rest
 Behind t ts (Some rest) = ts ≡ t ∷ toks rest.now
 
 -- a name
-abbrev pub CutsName : List Tok → Option (Bor (List ℕ) × Bor (List Token)) → Type 0
-CutsName ts None = (text : List ℕ) (rest : List Tok) → IsName text → ts ≢ word text ∷ rest
-CutsName ts (Some p) = (ts ≡ word p.0.now ∷ toks p.1.now) × IsName p.0.now
+abbrev pub ParsesName : List Tok → Option (Bor (List ℕ) × Bor (List Token)) → Type 0
+ParsesName ts None = (text : List ℕ) (rest : List Tok) → IsName text → ts ≢ word text ∷ rest
+ParsesName ts (Some p) = (ts ≡ word p.0.now ∷ toks p.1.now) × IsName p.0.now
 
 -- the digits of an integer
-abbrev pub CutsDigits : List Tok → Option (Bor (List ℕ) × Bor (List Token)) → Type 0
-CutsDigits ts None = (text : List ℕ) (rest : List Tok) → ts ≢ digits text ∷ rest
-CutsDigits ts (Some p) = ts ≡ digits p.0.now ∷ toks p.1.now
+abbrev pub ParsesDigits : List Tok → Option (Bor (List ℕ) × Bor (List Token)) → Type 0
+ParsesDigits ts None = (text : List ℕ) (rest : List Tok) → ts ≢ digits text ∷ rest
+ParsesDigits ts (Some p) = ts ≡ digits p.0.now ∷ toks p.1.now
 
 -- an element
-abbrev pub CutsElem : List Tok → Option (ElemText × Bor (List Token)) → Type 0
-CutsElem ts None = (e : WrittenElem) (rest : List Tok) → HasName e → ts ≢ put_elem e rest
-CutsElem ts (Some p) = (ts ≡ put_elem (elem_view p.0) (toks p.1.now)) × HasName (elem_view p.0)
+abbrev pub ParsesElem : List Tok → Option (ElemText × Bor (List Token)) → Type 0
+ParsesElem ts None = (e : WrittenElem) (rest : List Tok) → HasName e → ts ≢ put_elem e rest
+ParsesElem ts (Some p) = (ts ≡ put_elem (elem_view p.0) (toks p.1.now)) × HasName (elem_view p.0)
 
 abbrev pub close : List Tok → List Tok
 close ts = sign (codes ")") ∷ ts
 
 -- further elements and the closing parenthesis; they are added to those before
-abbrev pub CutsFurther : List ElemText → List ElemText → List Tok → Option (Bor (List Token)) → Type 0
-CutsFurther before now ts None = (es : List WrittenElem) (rest : List Tok) → AllByRecursion HasName es → ts ≢ put_further es (close rest)
-CutsFurther before now ts (Some rest) =
+abbrev pub ParsesFurther : List ElemText → List ElemText → List Tok → Option (Bor (List Token)) → Type 0
+ParsesFurther before now ts None = (es : List WrittenElem) (rest : List Tok) → AllByRecursion HasName es → ts ≢ put_further es (close rest)
+ParsesFurther before now ts (Some rest) =
     (es : List WrittenElem) × (elem_views now ≡ elem_views before ++ es) × (ts ≡ put_further es (close (toks rest.now))) × AllByRecursion HasName es
 
 -- no opening parenthesis comes first
@@ -72,16 +72,16 @@ abbrev pub IsClosed : List Tok → Type 0
 IsClosed ts = (rest : List Tok) → ts ≢ sign (codes "(") ∷ rest
 
 -- arguments, and what is behind them wherever no opening parenthesis is
-abbrev pub CutsArgs : List Tok → List WrittenElem → List Tok → Type 0
-CutsArgs ts es rest =
+abbrev pub ParsesArgs : List Tok → List WrittenElem → List Tok → Type 0
+ParsesArgs ts es rest =
     (ts ≡ put_args es rest) × AllByRecursion HasName es × ((es' : List WrittenElem) (rest' : List Tok) → IsClosed rest' → ts ≡ put_args es' rest' → rest' ≡ rest)
 
 abbrev pub HasNoArgs : List Tok → Type 0
 HasNoArgs ts = (es : List WrittenElem) (rest : List Tok) → AllByRecursion HasName es → IsClosed rest → ts ≢ put_args es rest
 
 -- a name with arguments, and what is behind them wherever no opening parenthesis is
-abbrev pub CutsHead : List Tok → List ℕ → List WrittenElem → List Tok → Type 0
-CutsHead ts name es rest =
+abbrev pub ParsesHead : List Tok → List ℕ → List WrittenElem → List Tok → Type 0
+ParsesHead ts name es rest =
     (ts ≡ word name ∷ put_args es rest) × IsName name × AllByRecursion HasName es × ((name' : List ℕ) (es' : List WrittenElem) (rest' : List Tok) → IsClosed rest' → ts ≡ word name' ∷ put_args es' rest' → rest' ≡ rest)
 
 abbrev pub HasNoHead : List Tok → Type 0
@@ -96,31 +96,31 @@ abbrev pub dot : List Tok
 dot = sign (codes ".") ∷ []
 
 -- the sign between a function's term and its value
-abbrev pub CutsEquality : List Tok → Option (Bool × Bor (List Token)) → Type 0
-CutsEquality ts None = (positive : Bool) (rest : List Tok) → ts ≢ sign (equals positive) ∷ rest
-CutsEquality ts (Some p) = ts ≡ sign (equals p.0) ∷ toks p.1.now
+abbrev pub ParsesEquality : List Tok → Option (Bool × Bor (List Token)) → Type 0
+ParsesEquality ts None = (positive : Bool) (rest : List Tok) → ts ≢ sign (equals positive) ∷ rest
+ParsesEquality ts (Some p) = ts ≡ sign (equals p.0) ∷ toks p.1.now
 
 -- the tokens behind the sign of an atom that is false
-abbrev pub CutsNegated : List Tok → Option LiteralText → Type 0
-CutsNegated ts None = (name : List ℕ) (es : List WrittenElem) → IsName name → AllByRecursion HasName es → ts ≢ word name ∷ put_args es dot
-CutsNegated ts (Some l) = (sign (codes "~") ∷ ts ≡ put_literal (literal_view l) dot) × HasNames (literal_view l)
+abbrev pub ParsesNegated : List Tok → Option LiteralText → Type 0
+ParsesNegated ts None = (name : List ℕ) (es : List WrittenElem) → IsName name → AllByRecursion HasName es → ts ≢ word name ∷ put_args es dot
+ParsesNegated ts (Some l) = (sign (codes "~") ∷ ts ≡ put_literal (literal_view l) dot) × HasNames (literal_view l)
 
 -- the tokens of a literal with no `~` before it
-abbrev pub CutsPositive : List Tok → Option LiteralText → Type 0
-CutsPositive ts None = ((name : List ℕ) (es : List WrittenElem) → IsName name → AllByRecursion HasName es → ts ≢ word name ∷ put_args es dot) × ((positive : Bool) (name : List ℕ) (es : List WrittenElem) (e : WrittenElem) → IsName name → AllByRecursion HasName es → HasName e → ts ≢ word name ∷ put_args es (sign (equals positive) ∷ put_elem e dot))
-CutsPositive ts (Some l) = (ts ≡ put_literal (literal_view l) dot) × HasNames (literal_view l)
+abbrev pub ParsesPositive : List Tok → Option LiteralText → Type 0
+ParsesPositive ts None = ((name : List ℕ) (es : List WrittenElem) → IsName name → AllByRecursion HasName es → ts ≢ word name ∷ put_args es dot) × ((positive : Bool) (name : List ℕ) (es : List WrittenElem) (e : WrittenElem) → IsName name → AllByRecursion HasName es → HasName e → ts ≢ word name ∷ put_args es (sign (equals positive) ∷ put_elem e dot))
+ParsesPositive ts (Some l) = (ts ≡ put_literal (literal_view l) dot) × HasNames (literal_view l)
 
 -- the tokens are those of a literal and the dot
-abbrev pub CutsLiteral : List Tok → Option LiteralText → Type 0
-CutsLiteral ts None = (l : WrittenLiteral) → HasNames l → ts ≢ put_literal l dot
-CutsLiteral ts (Some l) = (ts ≡ put_literal (literal_view l) dot) × HasNames (literal_view l)
+abbrev pub ParsesLiteral : List Tok → Option LiteralText → Type 0
+ParsesLiteral ts None = (l : WrittenLiteral) → HasNames l → ts ≢ put_literal l dot
+ParsesLiteral ts (Some l) = (ts ≡ put_literal (literal_view l) dot) × HasNames (literal_view l)
 
 -- the tokens are those of a command without a literal
-abbrev pub CutsShort : List Tok → Option CommandText → Type 0
-CutsShort ts None = (ts ≢ word (codes "reset") ∷ dot) × (ts ≢ word (codes "choices") ∷ dot) × (ts ≢ word (codes "model") ∷ dot)
-CutsShort ts (Some c) = (ts ≡ put_command (command_view c)) × IsNamedWell (command_view c)
+abbrev pub ParsesShort : List Tok → Option CommandText → Type 0
+ParsesShort ts None = (ts ≢ word (codes "reset") ∷ dot) × (ts ≢ word (codes "choices") ∷ dot) × (ts ≢ word (codes "model") ∷ dot)
+ParsesShort ts (Some c) = (ts ≡ put_command (command_view c)) × IsNamedWell (command_view c)
 
 -- the tokens are those of a command
-abbrev pub CutsCommand : List Tok → Option CommandText → Type 0
-CutsCommand ts None = (w : WrittenCommand) → IsNamedWell w → ts ≢ put_command w
-CutsCommand ts (Some c) = (ts ≡ put_command (command_view c)) × IsNamedWell (command_view c)
+abbrev pub ParsesCommand : List Tok → Option CommandText → Type 0
+ParsesCommand ts None = (w : WrittenCommand) → IsNamedWell w → ts ≢ put_command w
+ParsesCommand ts (Some c) = (ts ≡ put_command (command_view c)) × IsNamedWell (command_view c)
