@@ -11,16 +11,17 @@ use Rattle.consult_cases.specs.Cases.{IsCutAt, IsCase}
 abbrev pub kb : List ℕ
 kb = codes "kb"
 
--- A run by these words, over a shelf whose file `kb` has these bytes, and with these commands, ended in this status and left
+-- A run by these words, over a shelf whose file `kb` has these bytes, and with these commands, ended in this status
+-- and left
 -- this text in an output that held nothing.
 pub record Leaves (words : Words) (file script : List ℕ) (status : Status) (text : List ℕ) : Type 0 where
   pub before : Outside
   pub now : Outside
   pub is_file : before.files kb ≡ Some file
-  pub is_script : before.script ≡ Some script
-  pub empty : before.out ≡ Some []
+  pub is_script : before.streams.script ≡ Some script
+  pub empty : before.streams.out ≡ Some []
   pub ends : RunEnds status words before now
-  pub left : now.out ≡ Some text
+  pub left : now.streams.out ≡ Some text
 
 abbrev pub status_text : Status → List ℕ
 status_text status = codes "status " ++ (decimal (code_of status) ++ codes "\n")
@@ -33,7 +34,8 @@ outcome_text status text = text ++ status_text status
 abbrev pub IsPlayed : List ℕ → List ℕ → Type 0
 IsPlayed text printed =
     (head : List ℕ) × (file : List ℕ) × (script : List ℕ) × IsCase text head file script
-    × ((words : Words) × (status : Status) × (left : List ℕ) × Leaves words file script status left × (printed ≡ outcome_text status left))
+    × ((words : Words) × (status : Status) × (left : List ℕ) × Leaves words file script status left ×
+    (printed ≡ outcome_text status left))
 
 abbrev pub marker : List ℕ
 marker = codes "\n====\n"
@@ -45,4 +47,5 @@ Adds IsOne text old new = (piece : List ℕ) × IsOne text piece × (new ≡ old
 -- what is printed of all cases
 pub data IsReport : List ℕ → List ℕ → Type 0 where
   last : {texts printed : List ℕ} → FindsNeedle texts marker 0 None → IsPlayed texts printed → IsReport texts printed
-  next : {texts printed more : List ℕ} (text rest : List ℕ) → IsCutAt marker texts text rest → IsPlayed text printed → IsReport rest more → IsReport texts (printed ++ more)
+  next : {texts printed more : List ℕ} (text rest : List ℕ) → IsCutAt marker texts text rest
+      → IsPlayed text printed → IsReport rest more → IsReport texts (printed ++ more)

@@ -30,7 +30,8 @@ pub fn play(
     case: &Case<'_>,
     pieces: &[usize],
 ) -> Result<Outcome, AllocError>
-    ensures { IfOk result (λ outcome. Leaves words.now case.now.file.now case.now.script.now outcome.status outcome.text.items) }
+    ensures { IfOk result
+        (λ outcome. Leaves words.now case.now.file.now case.now.script.now outcome.status outcome.text.items) }
 {
     let file = MemFile {
         name: String::from_str(alloc, "kb")?,

@@ -23,7 +23,8 @@ fn status_line(alloc: Global, status: Status) -> Result<String, AllocError>
 
 /// Adds the replies and the status.
 fn add_outcome(alloc: Global, lines: &mut Vec<u8>, outcome: &Outcome) -> Result<(), AllocError>
-    ensures { OnOk result (lines.new.items ≡ lines.old.items ++ outcome_text outcome.now.status outcome.now.text.items) }
+    ensures { OnOk result
+        (lines.new.items ≡ lines.old.items ++ outcome_text outcome.now.status outcome.now.text.items) }
 {
     lines.extend_from_slice(&outcome.text)?;
     let line = status_line(alloc, outcome.status)?;

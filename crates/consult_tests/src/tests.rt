@@ -1,6 +1,7 @@
 //! What no clause says and no case of consult_cases can show.
 
 mod command_lines;
+mod copies;
 mod devices;
 mod faults;
 mod files;

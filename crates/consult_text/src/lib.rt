@@ -4,10 +4,10 @@
 #![tactic(auto)]
 
 mod commands;
-mod cuts;
 mod laws;
 mod lines;
 mod lookup;
+mod parse;
 mod refusals;
 mod replies;
 mod texts;

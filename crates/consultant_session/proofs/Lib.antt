@@ -10,3 +10,5 @@ pub mod FitsLemmas
 pub mod CompletionLemmas
 pub mod LiteralLemmas
 pub mod ChoiceLemmas
+pub mod KnownLemmas
+pub mod ModelLemmas

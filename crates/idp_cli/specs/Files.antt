@@ -5,7 +5,7 @@ use Rattle.kb_io.specs.Lines.{newlines}
 use Rattle.kb_io.specs.Outside.{Rose}
 use Rattle.kb_logic.specs.declared.first.FirstKb.{FirstKb}
 use Rattle.kb_logic.specs.First.{open_atom_count}
-use Rattle.consultant_session.specs.Replies.{IsSmallFirstKb}
+use Rattle.consultant_session.specs.Sessions.{IsSmallFirstKb}
 use Rattle.kb_text.specs.Refusals.{text_of}
 use Rattle.kb_text.specs.declared.fault.K.{K}
 use Rattle.kb_text.specs.declared.fault.K.TheVariants as cause
@@ -38,7 +38,8 @@ abbrev pub IsRefused : K → ℕ → List ℕ → Type 0
 IsRefused cause.TooLong line bytes = (most_file_bytes < length bytes) × (line ≡ line_of most_file_bytes bytes)
 IsRefused cause.Unsupported line bytes = (length bytes ≤ most_file_bytes) × (line ≡ 1) × (IsOfProfile bytes → ⊥)
 IsRefused cause.TooLarge line bytes =
-    (length bytes ≤ most_file_bytes) × ((kb : FirstKb) × IsReadAs bytes kb × (20 < open_atom_count kb) × (line ≡ line_of kb.place bytes))
+    (length bytes ≤ most_file_bytes) × ((kb : FirstKb) × IsReadAs bytes kb × (20 < open_atom_count kb) ×
+    (line ≡ line_of kb.place bytes))
 IsRefused _ line bytes = ⊥
 
 -- the line that says so

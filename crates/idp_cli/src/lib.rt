@@ -6,7 +6,6 @@ pub mod laws;
 mod load;
 mod runs;
 mod status;
-mod stops;
 
 pub use runs::run;
 pub use status::Status;

@@ -12,8 +12,6 @@ use std::alloc::Global;
 
 const MOST_FILE_BYTES: usize = 4_194_304;
 
-const MOST_SYMBOLS: usize = 4_294_967_296;
-
 /// Why a file gives no knowledge base.
 #[derive(Clone, Copy)]
 pub enum LoadError {
@@ -62,10 +60,6 @@ fn knowledge_base(alloc: Global, bytes: &[u8]) -> Result<FirstKb, LoadError>
         Err(KbError::Memory) => return Err(LoadError::Memory),
         Err(KbError::Refused(_)) => return Err(LoadError::Refused(K::Unsupported, 1)),
     };
-    // No file of the allowed length declares so many symbols.
-    if kb.vocab.symbols.len() > MOST_SYMBOLS {
-        return Err(LoadError::Memory);
-    }
     if open_atoms(&kb) > 20 {
         return Err(LoadError::Refused(K::TooLarge, line_at(bytes, kb.place)));
     }

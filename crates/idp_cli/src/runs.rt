@@ -5,10 +5,11 @@ ghost use Rattle.std.specs.String.{string_bytes};
 ghost use Rattle.kb_io.specs.Outside.{HasCause, GrewByName, KeptNumber};
 ghost use Rattle.kb_io.specs.ReadWrite.{AppendsPrefix};
 ghost use Rattle.idp_cli.specs.Files.{refusal_text};
-ghost use Rattle.idp_cli.specs.Runs.{IsConsult, IsUsage, is_option, RunEnds, ConsultationEnds, AsksForFile, Outside};
-ghost use Rattle.idp_cli.specs.Answering.{OpensAndAnswers};
+ghost use Rattle.idp_cli.specs.Runs.{IsConsult, IsUsage, is_option, outside, RunEnds, ConsultationEnds, AsksForFile};
+ghost use Rattle.idp_cli.specs.Answering.{streams, OpensAndAnswers};
 ghost use Rattle.idp_cli.specs.Printing.{PrintsRefusal};
-ghost use Rattle.consultant_session.specs.Replies.{IsSmallFirstKb};
+ghost use Rattle.kb_logic.specs.First.{base_of_first};
+ghost use Rattle.consultant_session.specs.Sessions.{IsSmallFirstKb};
 
 use crate::consultation::{Consultant, say};
 use crate::load::{LoadError, load};
@@ -59,7 +60,8 @@ fn refuse<W: Sink>(alloc: Global, out: &mut W, k: K, line: u64) -> Status
     }
 }
 
-/// Answers the commands by the knowledge base. Their first byte is taken after all memory that a line takes is at hand.
+/// Answers the commands by the knowledge base. Their first byte is taken once all memory that reading lines takes is
+/// at hand.
 fn answer_commands<C: Source, W: Sink>(
     alloc: Global,
     kb: FirstKb,
@@ -67,16 +69,16 @@ fn answer_commands<C: Source, W: Sink>(
     out: &mut W,
 ) -> Status
     requires { IsSmallFirstKb kb }
-    ensures { OpensAndAnswers result kb
-        (record { script = C.left commands.old; out = W.holds out.old; script_faults = C.faults commands.old; out_faults = W.faults out.old })
-        (record { script = C.left commands.new; out = W.holds out.new; script_faults = C.faults commands.new; out_faults = W.faults out.new }) }
+    ensures { OpensAndAnswers result (base_of_first kb)
+        (streams (C.left commands.old) (C.faults commands.old) (W.holds out.old) (W.faults out.old))
+        (streams (C.left commands.new) (C.faults commands.new) (W.holds out.new) (W.faults out.new)) }
 {
     let Ok(mut consultant) = Consultant::open(alloc, kb) else {
         return Status::Memory;
     };
     match consultant.answer_all(commands, out) {
         Ok(()) => Status::Done,
-        Err(stop) => stop.status(),
+        Err(status) => status,
     }
 }
 
@@ -89,8 +91,10 @@ fn consult<H: Shelf, C: Source, W: Sink>(
     out: &mut W,
 ) -> Status
     ensures ends { ConsultationEnds result name.now
-        (record { files = H.file shelf.old; script = C.left commands.old; out = W.holds out.old; shelf_faults = H.faults shelf.old; script_faults = C.faults commands.old; out_faults = W.faults out.old })
-        (record { files = H.file shelf.new; script = C.left commands.new; out = W.holds out.new; shelf_faults = H.faults shelf.new; script_faults = C.faults commands.new; out_faults = W.faults out.new }) }
+        (outside (H.file shelf.old) (H.faults shelf.old)
+        (streams (C.left commands.old) (C.faults commands.old) (W.holds out.old) (W.faults out.old)))
+        (outside (H.file shelf.new) (H.faults shelf.new)
+        (streams (C.left commands.new) (C.faults commands.new) (W.holds out.new) (W.faults out.new))) }
     ensures asked { GrewByName (H.asked shelf.old) (H.asked shelf.new) name.now }
     ensures closed { KeptNumber (H.open_sources shelf.old) (H.open_sources shelf.new) }
 {
@@ -103,7 +107,7 @@ fn consult<H: Shelf, C: Source, W: Sink>(
     answer_commands(alloc, kb, commands, out)
 }
 
-/// Does what the words say, and answers how that ended.
+/// Does what the words say, and returns how that ended.
 pub fn run<H: Shelf, C: Source, W: Sink, L: Sink>(
     alloc: Global,
     words: &[String],
@@ -113,8 +117,10 @@ pub fn run<H: Shelf, C: Source, W: Sink, L: Sink>(
     log: &mut L,
 ) -> Status
     ensures ends { RunEnds result words.now
-        (record { files = H.file shelf.old; script = C.left commands.old; out = W.holds out.old; shelf_faults = H.faults shelf.old; script_faults = C.faults commands.old; out_faults = W.faults out.old })
-        (record { files = H.file shelf.new; script = C.left commands.new; out = W.holds out.new; shelf_faults = H.faults shelf.new; script_faults = C.faults commands.new; out_faults = W.faults out.new }) }
+        (outside (H.file shelf.old) (H.faults shelf.old)
+        (streams (C.left commands.old) (C.faults commands.old) (W.holds out.old) (W.faults out.old)))
+        (outside (H.file shelf.new) (H.faults shelf.new)
+        (streams (C.left commands.new) (C.faults commands.new) (W.holds out.new) (W.faults out.new))) }
     ensures asked { AsksForFile words.now (H.asked shelf.old) (H.asked shelf.new) }
     ensures closed { KeptNumber (H.open_sources shelf.old) (H.open_sources shelf.new) }
     ensures log { log.new ≡ log.old }

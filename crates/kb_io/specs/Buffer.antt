@@ -17,7 +17,7 @@ begun_at Complete bytes = []
 abbrev pub begun : LineBuffer → List ℕ
 begun line = begun_at line.stage line.bytes.items
 
--- the line answered last
+-- the line returned last
 abbrev pub answered_at : Stage → List ℕ → List ℕ
 answered_at Partial bytes = []
 answered_at Overlong bytes = []

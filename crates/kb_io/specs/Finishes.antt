@@ -12,13 +12,13 @@ use Rattle.kb_io.specs.declared.lines.LineError.TheVariants.{Fault, TooLong}
 use Rattle.kb_io.specs.declared.line_buffer.LineBuffer.{LineBuffer}
 use Rattle.kb_io.specs.declared.line_buffer.Buffer.{Buffer}
 
--- the line under way is answered
+-- the line under way is returned
 abbrev pub Finishes : Next → LineBuffer → LineBuffer → Type 0
 Finishes Line old new = (begun new ≡ []) × (answered new ≡ begun old) × (length (begun old) ≤ longest_line)
 Finishes LongLine old new = (begun new ≡ []) × (answered new ≡ []) × IsLong (begun old)
 Finishes End old new = ⊥
 
--- the line under way is answered where it is not empty
+-- the line under way is returned where it is not empty
 abbrev pub FinishesLast : Next → LineBuffer → LineBuffer → Type 0
 FinishesLast Line old new = Finishes Line old new × (0 < length (begun old))
 FinishesLast LongLine old new = Finishes LongLine old new

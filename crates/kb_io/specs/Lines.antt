@@ -17,7 +17,7 @@ abbrev pub command_lines : List ℕ → List (List ℕ)
 command_lines [] = []
 command_lines (byte ∷ bytes) = if byte == 10 then [] ∷ command_lines bytes else onto_first byte (command_lines bytes)
 
--- each line, and a newline behind it
+-- each line, and a newline after it
 abbrev pub ended : List (List ℕ) → List ℕ
 ended [] = []
 ended (line ∷ lines) = line ++ 10 ∷ ended lines

@@ -1,4 +1,4 @@
--- What sources and sinks in memory do, by what they were told.
+-- What sources and sinks in memory do, by their script.
 use Rattle.std.specs.Prelude.{◌≡◌, ℕ, ◌+◌, ◌-◌, ◌^◌, min, max, List, length, Bool, true, ◌==◌, Option, Some, None, Result, IfOk, slice_get}
 use Rattle.std.specs.List.{list_any}
 use Rattle.std.specs.Result.{is_err, IsErr}
@@ -42,7 +42,7 @@ pub record ReadsAsScripted {E : Type 0} (old new : SourceState) (result : Result
   pub failing : new.failing ≡ old.failing
   pub pieces : new.pieces ≡ old.pieces
 
--- a write fails where its number is listed, or for want of memory, and else takes as many bytes as its piece says
+-- a write fails where its number is listed, or where memory runs out, and else takes as many bytes as its piece says
 pub record WritesAsScripted {E : Type 0} (old new : SinkState) (result : Result ℕ E) (room : ℕ) : Type 0 where
   pub fails : is_listed old.failing_writes old.writes ≡ true → IsErr result
   pub takes : IfOk result (λ n. n ≡ piece (slice_get old.pieces old.writes) room)

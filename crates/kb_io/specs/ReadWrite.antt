@@ -20,6 +20,6 @@ abbrev pub ReadUpTo : Result (Vec ℕ Global) ReadError → ℕ → Option (List
 ReadUpTo (Ok bytes) limit old new before now = Consumes old new bytes.items × IsAtEnd new × (length bytes.items ≤ limit) × (now ≡ before)
 ReadUpTo (Err e) limit old new before now = Stopped e limit old new before now
 
--- a front of these bytes was appended
+-- a prefix of these bytes was appended
 abbrev pub AppendsPrefix : Option (List ℕ) → Option (List ℕ) → List ℕ → Type 0
 AppendsPrefix old new bytes = (front : List ℕ) × (rest : List ℕ) × (bytes ≡ front ++ rest) × Appends old new front

@@ -1,3 +1,4 @@
+//! The bytes of a source between two lines: the line under way, and the rest of the last chunk that was read.
 ghost use Rattle.std.specs.Prelude.{◌≡◌, ◌+◌, ◌-◌, ◌<◌, ◌≤◌, [], ◌∷◌, ◌++◌, List, ℕ, true, false, IfOk, MatchOption, MatchResult, length, take, drop};
 ghost use Rattle.std.specs.Io.KnownBytes.{Consumes, Keeps, IsAtEnd};
 ghost use Rattle.kb_io.specs.Outside.{HasCause};
@@ -18,13 +19,13 @@ const CHUNK: usize = 65_536;
 pub(crate) enum Stage {
     /// The bytes are its beginning.
     Partial,
-    /// It is too long, and its bytes were let go.
+    /// It is too long, and its bytes were given up.
     Overlong,
-    /// The bytes are a line that was answered.
+    /// The bytes are a line that was returned.
     Complete,
 }
 
-/// The line under way, or the one answered last.
+/// The line under way, or the one returned last.
 #[derive(Drop)]
 pub(crate) struct LineBuffer {
     bytes: Vec<u8>,
@@ -68,7 +69,7 @@ impl LineBuffer {
         }
     }
 
-    // Answers the line under way.
+    // Returns the line under way.
     fn finish(&mut self) -> Next
         requires sound { IsSoundLine self.old }
         requires under_way { IsUnderWay self.old }
@@ -101,7 +102,7 @@ impl LineBuffer {
         }
     }
 
-    // Answers the line under way where nothing follows it.
+    // Returns the line under way where nothing follows it.
     fn finish_last(&mut self) -> Next
         requires sound { IsSoundLine self.old }
         requires under_way { IsUnderWay self.old }
@@ -116,9 +117,10 @@ impl LineBuffer {
     }
 }
 
-// The place of the first newline.
+// The offset of the first newline.
 fn newline_in(bytes: &[u8]) -> Option<usize>
-    ensures { MatchOption result (newlines bytes.now ≡ 0) (λ i. (i < length bytes.now) × (newlines (take i bytes.now) ≡ 0) × (drop i bytes.now ≡ 10 ∷ drop (i + 1) bytes.now)) }
+    ensures { MatchOption result (newlines bytes.now ≡ 0) (λ i. (i < length bytes.now) × (newlines
+        (take i bytes.now) ≡ 0) × (drop i bytes.now ≡ 10 ∷ drop (i + 1) bytes.now)) }
 {
     for (i, byte) in bytes.iter().enumerate() {
         if *byte == b'\n' {
@@ -128,12 +130,13 @@ fn newline_in(bytes: &[u8]) -> Option<usize>
     None
 }
 
-// Reads to the front of the chunk.
+// Reads to the beginning of the chunk.
 fn fill<S: Source>(src: &mut S, chunk: &mut [u8], room: usize) -> Result<usize, Failed>
     requires within { room ≤ length chunk.old }
     requires some { 0 < room }
     ensures bound { IfOk result (λ n. n ≤ room) }
-    ensures bytes { MatchResult result (λ n. Consumes (S.left src.old) (S.left src.new) (take n chunk.new) × (n ≡ 0 → IsAtEnd (S.left src.new))) (λ _. Keeps (S.left src.old) (S.left src.new)) }
+    ensures bytes { MatchResult result (λ n. Consumes (S.left src.old) (S.left src.new) (take n chunk.new) × (n ≡ 0
+        → IsAtEnd (S.left src.new))) (λ _. Keeps (S.left src.old) (S.left src.new)) }
     ensures cause { HasCause (S.faults src.old) (S.faults src.new) result }
 {
     src.read(&mut chunk[..room])
@@ -155,7 +158,8 @@ impl Buffer {
     ghost use Rattle.kb_io.specs.Pending.{NextLine, most_bytes};
 
     pub(crate) fn new(alloc: Global) -> Result<Buffer, AllocError>
-        ensures { IfOk result (λ buffer. IsSound buffer × (pending buffer ≡ record { taken = 0; ahead = []; line = [] })) }
+        ensures { IfOk result (λ buffer. IsSound buffer ×
+            (pending buffer ≡ record { taken = 0; ahead = []; line = [] })) }
     {
         Ok(Buffer {
             line: LineBuffer {
@@ -178,7 +182,7 @@ impl Buffer {
         }
     }
 
-    // Moves what is unread to the line under way, up to the first newline, and answers the line that ends there.
+    // Moves what is unread to the line under way, up to the first newline, and returns the line that ends there.
     fn cut(&mut self) -> Option<Next>
         requires { IsSound self.old }
         ensures sound { IsSound self.new }
@@ -207,7 +211,8 @@ impl Buffer {
         requires empty { self.old.at ≡ self.old.end }
         ensures sound { IsSound self.new }
         ensures line { self.new.line ≡ self.old.line }
-        ensures answer { Refills result self.old self.new (S.left src.old) (S.left src.new) (S.faults src.old) (S.faults src.new) }
+        ensures answer { Refills result self.old self.new (S.left src.old) (S.left src.new) (S.faults src.old)
+            (S.faults src.new) }
     {
         if self.taken >= MOST_BYTES {
             return self.probe(src);
@@ -227,7 +232,8 @@ impl Buffer {
         requires full { most_bytes ≤ self.old.taken }
         ensures sound { IsSound self.new }
         ensures line { self.new.line ≡ self.old.line }
-        ensures answer { Refills result self.old self.new (S.left src.old) (S.left src.new) (S.faults src.old) (S.faults src.new) }
+        ensures answer { Refills result self.old self.new (S.left src.old) (S.left src.new) (S.faults src.old)
+            (S.faults src.new) }
     {
         if self.taken > MOST_BYTES {
             return Err(LineError::TooLong);
@@ -244,7 +250,8 @@ impl Buffer {
     pub(crate) fn next<S: Source>(&mut self, src: &mut S) -> Result<Next, LineError>
         requires { IsSound self.old }
         ensures sound { IsSound self.new }
-        ensures next { NextLine result (pending self.old) (pending self.new) (S.left src.old) (S.left src.new) (S.faults src.old) (S.faults src.new) }
+        ensures next { NextLine result (pending self.old) (pending self.new) (S.left src.old) (S.left src.new)
+            (S.faults src.old) (S.faults src.new) }
         ensures still { 0 < newlines (pending self.old).ahead → src.new ≡ src.old }
     {
         loop {

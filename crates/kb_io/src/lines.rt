@@ -1,3 +1,4 @@
+//! Inputs by lines.
 ghost use Rattle.std.specs.Prelude.{◌≡◌, ◌<◌, IfOk, [], List, ℕ};
 ghost use Rattle.kb_io.specs.Lines.{newlines};
 ghost use Rattle.kb_io.specs.Pending.{NextLine, GivesLine};
@@ -77,7 +78,8 @@ impl LineState {
 
 /// Reads the next line. The source is read only where no whole line was taken of it before.
 pub fn next_line<S: Source>(src: &mut S, state: &mut LineState) -> Result<Next, LineError>
-    ensures next { NextLine result state.old state.new (S.left src.old) (S.left src.new) (S.faults src.old) (S.faults src.new) }
+    ensures next { NextLine result state.old state.new (S.left src.old) (S.left src.new) (S.faults src.old)
+        (S.faults src.new) }
     ensures lines { GivesLine result state.old state.new (S.left src.old) (S.left src.new) }
     ensures still { 0 < newlines state.old.ahead → src.new ≡ src.old }
 {

@@ -1,3 +1,4 @@
+//! Whole inputs and whole outputs.
 ghost use Rattle.std.specs.Prelude.{◌≡◌, ◌<◌, OnOk, OnErr};
 ghost use Rattle.std.specs.Io.KnownBytes.{Appends};
 ghost use Rattle.kb_io.specs.Outside.{HasCause};

@@ -1,3 +1,4 @@
+//! Sinks in memory.
 ghost use Rattle.std.specs.Prelude.{◌≡◌, ◌<◌, ◌≤◌, ℕ, List, Option, Some, None, IfOk, length};
 ghost use Rattle.std.specs.Io.KnownBytes.{WriteAppends, Keeps};
 ghost use Rattle.kb_io.specs.Outside.{HasCause};
@@ -7,7 +8,7 @@ use crate::source::piece_of;
 use crate::traits::{Failed, Sink};
 use std::marker::Model;
 
-/// A sink over memory, which fails and takes pieces as it is told to. Its writes and its flushes are counted
+/// A sink over memory, which fails and takes pieces exactly as scripted. Its writes and its flushes are counted
 /// apart, each from 0. A write that finds no memory is a fault too.
 #[derive(Drop)]
 pub struct MemSink {
@@ -25,7 +26,15 @@ impl Model for MemSink {
 
     ghost Value = { SinkState };
 
-    ghost view = { λ s. record { held = s.held.items; failing_writes = s.failing_writes.items; failing_flushes = s.failing_flushes.items; pieces = s.pieces.items; writes = s.writes; flushes = s.flushes; faults = s.faults } };
+    ghost view = { λ s. record {
+      held = s.held.items;
+      failing_writes = s.failing_writes.items;
+      failing_flushes = s.failing_flushes.items;
+      pieces = s.pieces.items;
+      writes = s.writes;
+      flushes = s.flushes;
+      faults = s.faults;
+    } };
 }
 
 impl MemSink {
@@ -37,7 +46,15 @@ impl MemSink {
         failing_flushes: Vec<u64>,
         pieces: Vec<usize>,
     ) -> MemSink
-        ensures { result ≡ record { held = held.items; failing_writes = failing_writes.items; failing_flushes = failing_flushes.items; pieces = pieces.items; writes = 0; flushes = 0; faults = 0 } }
+        ensures { result ≡ record {
+          held = held.items;
+          failing_writes = failing_writes.items;
+          failing_flushes = failing_flushes.items;
+          pieces = pieces.items;
+          writes = 0;
+          flushes = 0;
+          faults = 0;
+        } }
     {
         MemSink {
             held,

@@ -1,22 +1,23 @@
+//! The devices that a program reads and writes, as traits.
 ghost use Rattle.std.specs.Prelude.{◌≡◌, ◌≢◌, ℕ, ◌<◌, ◌≤◌, List, Option, Some, IfOk, IfSome, length};
 ghost use Rattle.std.specs.Io.KnownBytes.{ReadConsumes, WriteAppends, Keeps};
 ghost use Rattle.kb_io.specs.Outside.{HasCause, GrewByName, KeptNames, Closes, OpensOne, LoweredByOne};
 
 use thiserror::Error;
 
-/// A call of the outside that did not come about.
+/// A call of a device that did not come about.
 #[derive(Clone, Copy, Debug, Error)]
 #[error("the outside failed")]
 pub struct Failed;
 
 /// A source of bytes.
 pub trait Source {
-    // the bytes that it has left, where it tells them
+    // the bytes that it has left, where they are observable
     ghost left: { Self → Option (List ℕ) };
     // how often it has failed
     ghost faults: { Self → ℕ };
 
-    /// Reads some bytes to the front of `buf`. For a `buf` that is not empty 0 is the end of input.
+    /// Reads some bytes to the beginning of `buf`. For a `buf` that is not empty 0 is the end of input.
     fn read(&mut self, buf: &mut [u8]) -> Result<usize, Failed>
         ensures bound { IfOk result (λ n. n ≤ length buf.new) }
         ensures bytes { ReadConsumes (left self.old) (left self.new) result buf.new }
@@ -25,12 +26,12 @@ pub trait Source {
 
 /// A sink for bytes.
 pub trait Sink {
-    // the bytes that it holds, where it tells them
+    // the bytes that it holds, where they are observable
     ghost holds: { Self → Option (List ℕ) };
     // how often it has failed
     ghost faults: { Self → ℕ };
 
-    /// Takes a front of the piece, which is not empty where the piece is not.
+    /// Takes a prefix of the piece, which is not empty where the piece is not.
     fn write(&mut self, piece: &[u8]) -> Result<usize, Failed>
         ensures bound { IfOk result (λ n. n ≤ length piece.now) }
         ensures some { 0 < length piece.now → IfOk result (λ n. 0 < n) }
@@ -47,11 +48,11 @@ pub trait Sink {
 pub trait Shelf {
     type Src: Source + Drop;
 
-    // the bytes of the named file, where the shelf tells them
+    // the bytes of the named file, where they are observable
     ghost file: { Self → List ℕ → Option (List ℕ) };
-    // the names that it was asked for, where it tells them
+    // the names that it was asked for, where they are observable
     ghost asked: { Self → Option (List (List ℕ)) };
-    // how many sources it has handed out and not got back, where it tells that
+    // how many sources it has handed out and not got back, where that is observable
     ghost open_sources: { Self → Option ℕ };
     // how often it, or a source that it got back, has failed
     ghost faults: { Self → ℕ };

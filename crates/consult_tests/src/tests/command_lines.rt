@@ -32,7 +32,7 @@ fn show_literal(out: &mut Vec<u8>, literal: &Literal) -> Result<(), Memory> {
     Ok(())
 }
 
-fn show_command(out: &mut Vec<u8>, command: &Command) -> Result<(), Memory> {
+pub(super) fn show_command(out: &mut Vec<u8>, command: &Command) -> Result<(), Memory> {
     match command {
         Command::Assert(literal) => {
             out.extend_from_slice(b"assert ")?;

@@ -34,7 +34,7 @@ pub(super) fn symbol(
 }
 
 /// `P(Letter,Number)`, `p`, `f(Letter):Letter`, `c:Number` and `Q(Number)`.
-fn symbols(alloc: Global) -> Result<Vec<Symbol>, Memory>
+pub(super) fn symbols(alloc: Global) -> Result<Vec<Symbol>, Memory>
     ensures { IfOk result (λ v. length v.items ≡ 5) }
 {
     let two = symbol(alloc, b"P", &[0, 1], None)?;

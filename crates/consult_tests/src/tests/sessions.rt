@@ -1,9 +1,8 @@
 //! A session by itself.
 ghost use Rattle.std.specs.Prelude.{IfSome};
-ghost use Rattle.consultant_session.specs.Replies.{IsSmallFirstKb};
-ghost use Rattle.consultant_session.specs.Sessions.{kb_of};
+ghost use Rattle.consultant_session.specs.Sessions.{IsSmallFirstKb};
 
-use consult_text::{Command, Reply, read_command};
+use consult_text::{Command, Reply, commands_are_over_the_base, read_command};
 use consultant_session::Session;
 use first_reader::read_first;
 use kb_logic::first::{FirstKb, open_atoms};
@@ -34,17 +33,13 @@ fn small_base(alloc: Global) -> Option<FirstKb>
 }
 
 /// A session over the file.
-fn session(alloc: Global) -> Option<Session>
-    ensures { IfSome result (λ session. IsSmallFirstKb (kb_of session)) }
-{
+fn session(alloc: Global) -> Option<Session> {
     Session::open(alloc, small_base(alloc)?).ok()
 }
 
 /// Whether the line's command is carried out.
-fn accepts(alloc: Global, session: &mut Session, line: &[u8]) -> bool
-    requires { IsSmallFirstKb (kb_of session.old) }
-    ensures { IsSmallFirstKb (kb_of session.new) }
-{
+fn accepts(alloc: Global, session: &mut Session, line: &[u8]) -> bool {
+    commands_are_over_the_base();
     match read_command(alloc, line, session.kb()) {
         Ok(Some(command)) => matches!(session.step(&command), Ok(Reply::Fine)),
         _ => false,
