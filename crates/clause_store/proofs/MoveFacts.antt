@@ -7,20 +7,20 @@ use Rattle.std.proofs.lemmas.List.{length-set}
 use Rattle.lit_core.specs.declared.literals.Lit.{Lit}
 use Rattle.lit_core.specs.Literals.{value_in}
 use Rattle.lit_core.proofs.LiteralFacts.{Contains-cons_cases, Contains-head, Contains-tail}
-use Rattle.clause_store.specs.declared.engine.Visit.TheVariants.{Done}
-use Rattle.clause_store.specs.declared.engine.Watch.{Watch}
-use Rattle.clause_store.specs.declared.engine.Engine.{Engine}
-use Rattle.clause_store.specs.ListsState.{ListsState, HasLaws, nodes_of}
-use Rattle.clause_store.specs.StoreState.{IsHeld, Propagates}
-use Rattle.clause_store.specs.Watching.{code_of, store_of, IsEngine, IsHanging, IsHung, IsNodeOf, IsPair, IsWatched}
+use Rattle.clause_store.specs.declared.propagation.Visit.TheVariants.{Done}
+use Rattle.clause_store.specs.declared.watched.Watch.{Watch}
+use Rattle.clause_store.specs.declared.watched.Watcher.{Watcher}
+use Rattle.clause_base.specs.ListsState.{ListsState, HasLaws, nodes_of}
+use Rattle.clause_base.specs.StoreState.{IsHeld, Propagates}
+use Rattle.clause_store.specs.Watching.{code_of, store_of, IsWatcher, IsWatchNode, IsListed, IsNodeOf, IsPair, IsWatched}
 use Rattle.clause_store.specs.Visits.{CanMove, IsAt, IsNext, Keeps, VisitGives}
-use Rattle.clause_store.proofs.LinkFacts.{contains-cut, cut-contains}
-use Rattle.clause_store.proofs.ListFacts.{slice_get-set_same, slice_get-set_other}
-use Rattle.clause_store.proofs.PropagateFacts.{propagates-refl}
+use Rattle.clause_base.proofs.LinkFacts.{contains-cut, cut-contains}
+use Rattle.clause_base.proofs.ListFacts.{slice_get-set_same, slice_get-set_other}
+use Rattle.clause_base.proofs.PropagateFacts.{propagates-refl}
 use Rattle.clause_store.proofs.WatchFacts.{pair-moved, pair-swap, same-held, next-false}
-use Rattle.clause_store.proofs.HangFacts.{code-same, literal-within, same-node}
+use Rattle.clause_store.proofs.NodeFacts.{code-same, literal-within, same-node}
 
--- a node that left one list and was hung in another
+-- a node that left one list and was listed in another
 pub record Moves (old new : ListsState) (from to node : ℕ) : Type 0 where
   pub laws : HasLaws new
   pub nodes : new.nodes ≡ old.nodes
@@ -31,18 +31,18 @@ pub record Moves (old new : ListsState) (from to node : ℕ) : Type 0 where
   pub was : (j m : ℕ) → Contains (nodes_of new j) m → (m ≡ node) ⊎ Contains (nodes_of old j) m
 
 pub moves : (old mid new : ListsState) (from to node : ℕ) (before : Option ℕ) → (from ≡ to → ⊥) → IsAt old from before node → HasLaws new → mid.nodes ≡ old.nodes → new.nodes ≡ mid.nodes → length mid.lists ≡ length old.lists → length new.lists ≡ length mid.lists → ((front back : List ℕ) → nodes_of old from ≡ front ++ node ∷ back → nodes_of mid from ≡ front ++ back) → ((j : ℕ) → (j ≡ from → ⊥) → nodes_of mid j ≡ nodes_of old j) → nodes_of new to ≡ node ∷ nodes_of mid to → ((j : ℕ) → (j ≡ to → ⊥) → nodes_of new j ≡ nodes_of mid j) → Moves old new from to node
-moves old mid new from to node before apart at laws nodes1 nodes2 count1 count2 cut stay hung rest = record {
+moves old mid new from to node before apart at laws nodes1 nodes2 count1 count2 cut stay listed rest = record {
   laws = laws;
   nodes = nodes2 ∙ nodes1;
   count = count2 ∙ count1;
   here = λ front back is. rest from apart ∙ cut front back is;
-  there = subst (λ (xs : List ℕ). Contains xs node) (sym hung) (Contains-head node (nodes_of mid to));
+  there = subst (λ (xs : List ℕ). Contains xs node) (sym listed) (Contains-head node (nodes_of mid to));
   kept = λ j m has ne. to_new j m (to_mid j m has ne);
   was = λ j m has. ⊎_elim
       (λ e. ⊎_elim
       (λ is. inl (sym is))
       (λ old_one. inr (from_mid j m (subst (λ (k : ℕ). Contains (nodes_of mid k) m) (sym e) old_one)))
-      (Contains-cons_cases node (nodes_of mid to) m (subst (λ (xs : List ℕ). Contains xs m) (ap (nodes_of new) e ∙ hung) has)))
+      (Contains-cons_cases node (nodes_of mid to) m (subst (λ (xs : List ℕ). Contains xs m) (ap (nodes_of new) e ∙ listed) has)))
       (λ ne. inr (from_mid j m (subst (λ (xs : List ℕ). Contains xs m) (rest j ne) has)))
       (cases_eq j to);
 }
@@ -61,17 +61,17 @@ moves old mid new from to node before apart at laws nodes1 nodes2 count1 count2 
 
     to_new : (j m : ℕ) → Contains (nodes_of mid j) m → Contains (nodes_of new j) m
     to_new j m has = ⊎_elim
-        (λ e. subst (λ (k : ℕ). Contains (nodes_of new k) m) (sym e) (subst (λ (xs : List ℕ). Contains xs m) (sym hung) (Contains-tail node (nodes_of mid to) m (subst (λ (k : ℕ). Contains (nodes_of mid k) m) e has))))
+        (λ e. subst (λ (k : ℕ). Contains (nodes_of new k) m) (sym e) (subst (λ (xs : List ℕ). Contains xs m) (sym listed) (Contains-tail node (nodes_of mid to) m (subst (λ (k : ℕ). Contains (nodes_of mid k) m) e has))))
         (λ ne. subst (λ (xs : List ℕ). Contains xs m) (sym (rest j ne)) has)
         (cases_eq j to)
 
-module _ (e : Engine) (h : IsEngine e) (f : Lit) (next : IsNext e f) (node : ℕ) (l : Lit) (m : CanMove e node f l) where
+module _ (e : Watcher) (h : IsWatcher e) (f : Lit) (next : IsNext e f) (node : ℕ) (l : Lit) (m : CanMove e node f l) where
   -- the literal that is watched now is another one
   pub move-apart : code_of f ≡ code_of l → ⊥
   move-apart same = m.unfalse (subst (λ (x : Lit). value_in e.trail.values x ≡ Some false) (code-same f l same) (next-false e h f next))
 
   module _ (w : Watch) (lists : ListsState) (first : node ≡ 2 * m.id → w ≡ record { first = l; second = m.loose.watch.second }) (second : node ≡ 2 * m.id + 1 → w ≡ record { first = m.loose.watch.first; second = l }) (mv : Moves e.lists lists (code_of f) (code_of l) node) where
-    abbrev after-move : Engine
+    abbrev after-move : Watcher
     after-move = record { held = e.held; watches = with_item e.watches m.id w; lists = lists; trail = e.trail; queue = e.queue; checked = e.checked; stale = e.stale }
 
     id-within : m.id < length e.watches.items
@@ -115,10 +115,10 @@ module _ (e : Engine) (h : IsEngine e) (f : Lit) (next : IsNext e f) (node : ℕ
     at-id : slice_get (set e.watches.items m.id w) m.id ≡ Some w
     at-id = slice_get-set_same e.watches.items m.id w id-within
 
-    -- the clause's two nodes hang where they should
-    hung-id : (c : List Lit) → IsHeld (store_of e) m.id c → IsHung after-move m.id
-    hung-id c held =
-        let old = h.hung m.id c m.checked held in
+    -- the clause's two nodes link where they should
+    listed-id : (c : List Lit) → IsHeld (store_of e) m.id c → IsListed after-move m.id
+    listed-id c held =
+        let old = h.listed m.id c m.checked held in
         let same : old.watch ≡ m.loose.watch = same_Some old.watch m.loose.watch (sym old.is_watch ∙ m.loose.is_watch) in
         ⊎_elim
         (λ a.
@@ -145,16 +145,16 @@ module _ (e : Engine) (h : IsEngine e) (f : Lit) (next : IsNext e f) (node : ℕ
     other-node : (i n : ℕ) → (i ≡ m.id → ⊥) → IsNodeOf n i → n ≡ node → ⊥
     other-node i n ne of same = ne (same-node node i m.id (subst (λ (x : ℕ). IsNodeOf x i) same of) m.of)
 
-    hung-other : (i : ℕ) → (i ≡ m.id → ⊥) → IsHung e i → IsHung after-move i
-    hung-other i ne old = record {
+    listed-other : (i : ℕ) → (i ≡ m.id → ⊥) → IsListed e i → IsListed after-move i
+    listed-other i ne old = record {
       watch = old.watch;
       is_watch = slice_get-set_other e.watches.items m.id i w ne ∙ old.is_watch;
       first = mv.kept (code_of old.watch.first) (2 * i) old.first (other-node i (2 * i) ne (inl refl));
       second = mv.kept (code_of old.watch.second) (2 * i + 1) old.second (other-node i (2 * i + 1) ne (inr refl));
     }
 
-    hanging-old : (n : ℕ) → IsHanging e n → IsHanging after-move n
-    hanging-old n old = ⊎_elim
+    owned-old : (n : ℕ) → IsWatchNode e n → IsWatchNode after-move n
+    owned-old n old = ⊎_elim
         (λ same. record {
           id = m.id;
           of = subst (IsNodeOf n) same old.of;
@@ -175,8 +175,8 @@ module _ (e : Engine) (h : IsEngine e) (f : Lit) (next : IsNext e f) (node : ℕ
         })
         (cases_eq old.id m.id)
 
-    pub move-engine : IsEngine after-move
-    move-engine = record {
+    pub move-watcher : IsWatcher after-move
+    move-watcher = record {
       store = h.store;
       lists = mv.laws;
       queue = h.queue;
@@ -190,13 +190,13 @@ module _ (e : Engine) (h : IsEngine e) (f : Lit) (next : IsNext e f) (node : ℕ
           (λ ne. let g = h.guarded i c lt held in (g.0, slice_get-set_other e.watches.items m.id i w ne ∙ g.1, g.2))
           (cases_eq i m.id);
       current = h.current;
-      hung = λ i c lt held. ⊎_elim
-          (λ same. subst (IsHung after-move) (sym same) (hung-id c (subst (λ (n : ℕ). IsHeld (store_of e) n c) same held)))
-          (λ ne. hung-other i ne (h.hung i c lt held))
+      listed = λ i c lt held. ⊎_elim
+          (λ same. subst (IsListed after-move) (sym same) (listed-id c (subst (λ (n : ℕ). IsHeld (store_of e) n c) same held)))
+          (λ ne. listed-other i ne (h.listed i c lt held))
           (cases_eq i m.id);
-      hanging = λ j n has. ⊎_elim
-          (λ same. subst (IsHanging after-move) (sym same) (record { id = m.id; of = m.of; checked = m.checked; watch = w; is_watch = at-id; first = w-first; second = w-second }))
-          (λ old. hanging-old n (h.hanging j n old))
+      owned = λ j n has. ⊎_elim
+          (λ same. subst (IsWatchNode after-move) (sym same) (record { id = m.id; of = m.of; checked = m.checked; watch = w; is_watch = at-id; first = w-first; second = w-second }))
+          (λ old. owned-old n (h.owned j n old))
           (mv.was j n has);
     }
 

@@ -10,8 +10,6 @@ mod lines;
 mod lookup;
 mod refusals;
 mod replies;
-#[cfg(test)]
-mod tests;
 mod texts;
 mod written;
 

@@ -5,5 +5,4 @@ pub mod Filling
 pub mod Replies
 pub mod States
 pub mod Sessions
-pub mod Samples
 pub mod Laws

@@ -9,8 +9,6 @@ pub mod laws;
 mod literals;
 mod rows;
 mod session;
-#[cfg(test)]
-mod tests;
 mod tuples;
 
 pub use session::Session;

@@ -3,7 +3,7 @@ use Rattle.std.proofs.Common.{◌≡◌, ℕ, List, [], ◌∷◌, ◌++◌, ref
 use Rattle.std.proofs.lemmas.List.Concat.{flat_map-append}
 use Rattle.std.proofs.lemmas.List.{append-nil}
 use Rattle.std.specs.Io.KnownBytes.{Appends}
-use Rattle.kb_io.specs.KnownBytes.{appends_more, appends_none}
+use Rattle.kb_io.proofs.KnownBytes.{appends_more, appends_none}
 use Rattle.kb_logic.specs.declared.first.FirstKb.{FirstKb}
 use Rattle.consultant_session.specs.States.{State, first_state}
 use Rattle.idp_cli.specs.Consultation.{Said, IsRightAnswer, state_left, said_text, said_texts, Consultation, AnswersTo}

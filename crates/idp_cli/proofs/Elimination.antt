@@ -5,14 +5,14 @@ use Rattle.kb_text.specs.declared.fault.K.TheVariants as cause
 use Rattle.kb_logic.specs.declared.first.FirstKb.{FirstKb}
 use Rattle.kb_logic.specs.First.{open_atom_count}
 use Rattle.first_reader.specs.FirstReads.{IsReadAs}
-use Rattle.idp_cli.specs.Files.{IfTold, IsRefused, IsConsultable, line_of}
-use Rattle.idp_cli.specs.Top.{Words, Outside, IsConsult, ConsultationEnds, RunEnds}
+use Rattle.idp_cli.specs.Files.{IfObservable, IsRefused, IsConsultable, line_of}
+use Rattle.idp_cli.specs.Runs.{Words, Outside, IsConsult, ConsultationEnds, RunEnds}
 use Rattle.idp_cli.specs.Laws.{IsUnlessFailed, UsageLaw, CommandLaw, RefusalLaw, TakingLaw, LengthLaw, ShortLaw, DoneLaw}
 use Rattle.idp_cli.specs.declared.status.Status.{Status}
 use Rattle.idp_cli.specs.declared.status.Status.TheVariants as status
 
-told : (o : Option (List ℕ)) (bytes : List ℕ) (P : List ℕ → Type 0) → o ≡ Some bytes → IfTold o P → P bytes
-told o bytes P is holds = let Q : Option (List ℕ) → Type 0 = λ o. IfTold o P in subst Q is holds
+told : (o : Option (List ℕ)) (bytes : List ℕ) (P : List ℕ → Type 0) → o ≡ Some bytes → IfObservable o P → P bytes
+told o bytes P is holds = let Q : Option (List ℕ) → Type 0 = λ o. IfObservable o P in subst Q is holds
 
 second : List (List ℕ) → List ℕ
 second [] = []

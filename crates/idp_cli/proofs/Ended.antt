@@ -1,7 +1,8 @@
 -- Lines and the newlines behind them.
 use Rattle.std.proofs.Common.{◌≡◌, ℕ, suc, ◌+◌, List, [], ◌∷◌, ◌++◌, take, refl, sym, ◌∙◌, ap, arith, append_assoc}
 use Rattle.std.specs.List.{AllByRecursion}
-use Rattle.kb_io.specs.Lines.{newlines, newlines-append, command_lines, ended, first_line}
+use Rattle.kb_io.specs.Lines.{newlines, command_lines, ended}
+use Rattle.kb_io.proofs.LineLemmas.{newlines-append, first_line}
 use Rattle.idp_cli.specs.EndedLines.{ended_lines}
 
 -- no line has a newline

@@ -4,7 +4,7 @@ use Rattle.kb_io.specs.Outside.{Rose}
 use Rattle.kb_io.specs.Pending.{Pending, most_bytes}
 use Rattle.kb_logic.specs.declared.first.FirstKb.{FirstKb}
 use Rattle.consultant_session.specs.States.{State, first_state}
-use Rattle.idp_cli.specs.Files.{IfTold}
+use Rattle.idp_cli.specs.Files.{IfObservable}
 use Rattle.idp_cli.specs.Consultation.{AnswersTo}
 use Rattle.idp_cli.specs.Answering.{Streams, IsWithoutFault, AnswersCommands, status_of}
 use Rattle.idp_cli.specs.Turns.{Turns, TakesLine}
@@ -37,7 +37,7 @@ goes_on kb kb' s t p p' before mid now same so_far turned =
       ),
     )
 
-map_told : (o : Option (List ℕ)) (P Q : List ℕ → Type 0) → ((bytes : List ℕ) → P bytes → Q bytes) → IfTold o P → IfTold o Q
+map_told : (o : Option (List ℕ)) (P Q : List ℕ → Type 0) → ((bytes : List ℕ) → P bytes → Q bytes) → IfObservable o P → IfObservable o Q
 map_told None P Q f is = tt
 map_told (Some bytes) P Q f is = f bytes is
 

@@ -3,11 +3,12 @@ use Rattle.std.proofs.Common.{◌≡◌, ℕ, ◌+◌, ◌-◌, ◌<◌, ◌≤�
 use Rattle.std.proofs.lemmas.List.{take-append-le}
 use Rattle.std.proofs.Math.Seq.{take-append-add}
 use Rattle.std.specs.Io.KnownBytes.{Consumes}
-use Rattle.kb_io.specs.Lines.{newlines, newlines-append, command_lines, ended, last_line, IsNextLine, next_line_begins}
+use Rattle.kb_io.specs.Lines.{newlines, command_lines, ended, IsNextLine}
+use Rattle.kb_io.proofs.LineLemmas.{newlines-append, last_line, next_line_begins}
 use Rattle.kb_io.specs.Pending.{Pending, NextLine, most_bytes}
 use Rattle.kb_io.specs.declared.lines.LineError.TheVariants as line_error
 use Rattle.kb_io.specs.declared.lines.Next.TheVariants as next
-use Rattle.idp_cli.specs.Files.{IfTold}
+use Rattle.idp_cli.specs.Files.{IfObservable}
 use Rattle.idp_cli.specs.EndedLines.{ended_lines, HaveEnded}
 use Rattle.idp_cli.specs.Turns.{TakesLine}
 use Rattle.idp_cli.proofs.Ended.{AreWhole, whole_more, ended_more, lines_after, ended_are}
@@ -101,14 +102,14 @@ lines_left script left front p (inr over) =
     let none : p.ahead ++ left ≡ [] = ap (λ (l : List ℕ). l ++ left) over.0 ∙ over.1 in
     over.2 ∙ sym (append-nil front) ∙ ap (λ (l : List ℕ). front ++ command_lines l) (sym none)
 
-pub some_given : (script left : Option (List ℕ)) (front : List (List ℕ)) (p : Pending) → Given script left front p → IfTold script (λ bytes. (rest : List (List ℕ)) × (command_lines bytes ≡ front ++ rest))
+pub some_given : (script left : Option (List ℕ)) (front : List (List ℕ)) (p : Pending) → Given script left front p → IfObservable script (λ bytes. (rest : List (List ℕ)) × (command_lines bytes ≡ front ++ rest))
 some_given None left front p so_far = tt
 some_given (Some script) None front p so_far = absurd so_far
 some_given (Some script) (Some left) front p so_far = (command_lines (p.ahead ++ left), lines_left script left front p so_far)
 
 -- the line that is taken next is one of the script
 pub next_given : (script left left' : Option (List ℕ)) (front : List (List ℕ)) (line : List ℕ) (p p' : Pending) → Given script left front p → TakesLine line p p' left left'
-    → IfTold script (λ bytes. (rest : List (List ℕ)) × (command_lines bytes ≡ front ++ line ∷ rest))
+    → IfObservable script (λ bytes. (rest : List (List ℕ)) × (command_lines bytes ≡ front ++ line ∷ rest))
 next_given None left left' front line p p' so_far takes = tt
 next_given (Some script) None left' front line p p' so_far takes = absurd so_far
 next_given (Some script) (Some left) None front line p p' so_far takes = absurd takes.1
@@ -123,7 +124,7 @@ size_given script left front p (inr over) none at_end = sym over.3
 
 -- all lines were given
 pub all_given : (script left left' : Option (List ℕ)) (front : List (List ℕ)) (p p' : Pending) (before now : ℕ) → Given script left front p → p.taken ≤ most_bytes
-    → NextLine (Ok next.End) p p' left left' before now → IfTold script (λ bytes. (length bytes ≤ most_bytes) × (command_lines bytes ≡ front))
+    → NextLine (Ok next.End) p p' left left' before now → IfObservable script (λ bytes. (length bytes ≤ most_bytes) × (command_lines bytes ≡ front))
 all_given None left left' front p p' before now so_far within next = tt
 all_given (Some script) None left' front p p' before now so_far within next = absurd so_far
 all_given (Some script) (Some left) None front p p' before now so_far within next = absurd next.0
@@ -141,7 +142,7 @@ no_more (byte ∷ bytes) left left' none took = absurd (omega (arith, ap length 
 -- after a failing read the lines that ended were given
 pub ended_given : (script left left' : Option (List ℕ)) (front : List (List ℕ)) (p p' : Pending) (before now : ℕ) → Given script left front p → p.taken ≤ most_bytes
     → NextLine (Err line_error.Fault) p p' left left' before now
-    → IfTold script (λ bytes. (taken : List ℕ) × Consumes (Some bytes) left' taken × (length taken ≤ most_bytes) × HaveEnded front taken left')
+    → IfObservable script (λ bytes. (taken : List ℕ) × Consumes (Some bytes) left' taken × (length taken ≤ most_bytes) × HaveEnded front taken left')
 ended_given None left left' front p p' before now so_far within next = tt
 ended_given (Some script) None left' front p p' before now so_far within next = absurd so_far
 ended_given (Some script) (Some left) None front p p' before now so_far within next = absurd next.1
@@ -174,7 +175,7 @@ allowed_lines front begun beyond more script whole all sizes few short none =
 
 -- where too many bytes were offered, the lines that ended within the allowed ones were given
 pub ended_within : (script left left' : Option (List ℕ)) (front : List (List ℕ)) (p p' : Pending) (before now : ℕ) → Given script left front p → p.taken ≤ most_bytes
-    → NextLine (Err line_error.TooLong) p p' left left' before now → IfTold script (λ bytes. (most_bytes < length bytes) × (front ≡ ended_lines (take most_bytes bytes)))
+    → NextLine (Err line_error.TooLong) p p' left left' before now → IfObservable script (λ bytes. (most_bytes < length bytes) × (front ≡ ended_lines (take most_bytes bytes)))
 ended_within None left left' front p p' before now so_far within next = tt
 ended_within (Some script) None left' front p p' before now so_far within next = absurd so_far
 ended_within (Some script) (Some left) None front p p' before now so_far within next = absurd next.2

@@ -1,7 +1,7 @@
 -- The reply that is written is the answer to the line.
 use Rattle.std.proofs.Common.{◌≡◌, ℕ, List, sym, subst, Option, Some, Result, Ok, Err}
 use Rattle.std.specs.Io.KnownBytes.{Appends}
-use Rattle.kb_io.specs.Whole.{AppendsFront}
+use Rattle.kb_io.specs.ReadWrite.{AppendsPrefix}
 use Rattle.kb_logic.specs.declared.vocabularies.Vocabulary.{Vocabulary}
 use Rattle.kb_logic.specs.declared.first.FirstKb.{FirstKb}
 use Rattle.consult_text.specs.Texts.{reply_text}
@@ -24,7 +24,7 @@ written : (result : Result Unit Stop) (kb : FirstKb) (s t : State) (line : List 
 written (Ok x) kb s t line reply old new before now replies writes =
     (writes.0, (replies.0, replies.1, replies.3, subst (Appends old new) (text_of_reply kb.vocab replies.0 reply replies.2) writes.1))
 written (Err stop.WriteFault) kb s t line reply old new before now replies writes =
-    (writes.0, (replies.0, replies.1, subst (AppendsFront old new) (text_of_reply kb.vocab replies.0 reply replies.2) writes.1))
+    (writes.0, (replies.0, replies.1, subst (AppendsPrefix old new) (text_of_reply kb.vocab replies.0 reply replies.2) writes.1))
 written (Err stop.Memory) kb s t line reply old new before now replies writes = writes
 written (Err stop.ReadFault) kb s t line reply old new before now replies writes = absurd writes
 written (Err stop.ScriptTooLong) kb s t line reply old new before now replies writes = absurd writes

@@ -3,18 +3,15 @@ use Rattle.std.specs.Prelude.{◌≡◌, ◌⊎◌, ℕ, ◌<◌, ◌≤◌, Lis
 use Rattle.std.specs.Io.KnownBytes.{Consumes, IsAtEnd}
 use Rattle.kb_io.specs.Lines.{command_lines}
 use Rattle.kb_io.specs.Outside.{Rose}
+use Rattle.kb_io.specs.Pending.{most_bytes}
 use Rattle.kb_logic.specs.declared.first.FirstKb.{FirstKb}
-use Rattle.idp_cli.specs.Files.{IfTold}
+use Rattle.idp_cli.specs.Files.{IfObservable}
 use Rattle.idp_cli.specs.EndedLines.{ended_lines, HaveEnded}
 use Rattle.idp_cli.specs.Consultation.{AnswersAll, AnswersSome, AnswersInPart}
 use Rattle.idp_cli.specs.declared.stops.Stop.{Stop}
 use Rattle.idp_cli.specs.declared.stops.Stop.TheVariants as stop
 use Rattle.idp_cli.specs.declared.status.Status.{Status}
 use Rattle.idp_cli.specs.declared.status.Status.TheVariants as status
-
--- how many bytes of commands may be offered
-abbrev pub most_script_bytes : ℕ
-most_script_bytes = 67108864
 
 -- The commands and the output at one moment, as far as they are told: the bytes that the commands have left, those that the
 -- output holds, and the counts of faults.
@@ -53,18 +50,18 @@ HasReason status.Usage before now = ⊥
 -- failing read or too many bytes, to all that end within the bytes taken; after a failing write, to a front of them, and a front of
 -- the next answer; and for want of memory to a front of them.
 abbrev pub AnswersScript : Status → FirstKb → List ℕ → Option (List ℕ) → Option (List ℕ) → Option (List ℕ) → Type 0
-AnswersScript status.Done kb script left old new = (length script ≤ most_script_bytes) × AnswersAll kb (command_lines script) old new
+AnswersScript status.Done kb script left old new = (length script ≤ most_bytes) × AnswersAll kb (command_lines script) old new
 AnswersScript status.ReadFault kb script left old new =
-    (taken : List ℕ) × (lines : List (List ℕ)) × Consumes (Some script) left taken × (length taken ≤ most_script_bytes) × HaveEnded lines taken left × AnswersAll kb lines old new
+    (taken : List ℕ) × (lines : List (List ℕ)) × Consumes (Some script) left taken × (length taken ≤ most_bytes) × HaveEnded lines taken left × AnswersAll kb lines old new
 AnswersScript status.WriteFault kb script left old new = AnswersInPart kb (command_lines script) old new
 AnswersScript status.Memory kb script left old new = AnswersSome kb (command_lines script) old new
-AnswersScript status.ScriptTooLong kb script left old new = (most_script_bytes < length script) × AnswersAll kb (ended_lines (take most_script_bytes script)) old new
+AnswersScript status.ScriptTooLong kb script left old new = (most_bytes < length script) × AnswersAll kb (ended_lines (take most_bytes script)) old new
 AnswersScript (status.KbRefused k line) kb script left old new = ⊥
 AnswersScript status.Usage kb script left old new = ⊥
 
 -- how the answers to the commands end, and what was said where they are told
 abbrev pub AnswersCommands : Status → FirstKb → Streams → Streams → Type 0
-AnswersCommands s kb before now = HasReason s before now × IfTold before.script (λ script. AnswersScript s kb script now.script before.out now.out)
+AnswersCommands s kb before now = HasReason s before now × IfObservable before.script (λ script. AnswersScript s kb script now.script before.out now.out)
 
 -- a session is opened and answers the commands, or memory is wanting before a byte of them is taken
 abbrev pub OpensAndAnswers : Status → FirstKb → Streams → Streams → Type 0

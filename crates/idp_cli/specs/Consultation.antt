@@ -2,7 +2,7 @@
 use Rattle.std.specs.Prelude.{◌≡◌, ℕ, ◌<◌, ◌≤◌, List, [], ◌∷◌, ◌++◌, Option, length, flat_map}
 use Rattle.std.specs.Io.KnownBytes.{Appends}
 use Rattle.kb_io.specs.Lines.{longest_line}
-use Rattle.kb_io.specs.Whole.{AppendsFront}
+use Rattle.kb_io.specs.ReadWrite.{AppendsPrefix}
 use Rattle.kb_logic.specs.declared.vocabularies.Vocabulary.{Vocabulary}
 use Rattle.kb_logic.specs.declared.first.FirstKb.{FirstKb}
 use Rattle.consult_text.specs.Lines.{IsBlank, HasCommand, HasRefusal}
@@ -60,8 +60,8 @@ abbrev pub AnswersTo : FirstKb → List (List ℕ) → State → Option (List �
 AnswersTo kb lines t old new = (said : List Said) × Consultation kb first_state lines said t × Appends old new (said_texts kb said)
 
 -- out grew by a front of the right answer to the line
-abbrev pub AnswersFront : FirstKb → State → List ℕ → Option (List ℕ) → Option (List ℕ) → Type 0
-AnswersFront kb s line old new = (said : Said) × IsRightAnswer kb s line said × AppendsFront old new (said_text kb.vocab said)
+abbrev pub AnswersPrefix : FirstKb → State → List ℕ → Option (List ℕ) → Option (List ℕ) → Type 0
+AnswersPrefix kb s line old new = (said : Said) × IsRightAnswer kb s line said × AppendsPrefix old new (said_text kb.vocab said)
 
 -- all of the lines are answered
 abbrev pub AnswersAll : FirstKb → List (List ℕ) → Option (List ℕ) → Option (List ℕ) → Type 0
@@ -75,4 +75,4 @@ AnswersSome kb lines old new = (front : List (List ℕ)) × (rest : List (List �
 abbrev pub AnswersInPart : FirstKb → List (List ℕ) → Option (List ℕ) → Option (List ℕ) → Type 0
 AnswersInPart kb lines old new =
     (front : List (List ℕ)) × (line : List ℕ) × (rest : List (List ℕ)) × (lines ≡ front ++ line ∷ rest)
-    × ((t : State) × (mid : Option (List ℕ)) × AnswersTo kb front t old mid × AnswersFront kb t line mid new)
+    × ((t : State) × (mid : Option (List ℕ)) × AnswersTo kb front t old mid × AnswersPrefix kb t line mid new)

@@ -3,8 +3,8 @@ use Rattle.std.specs.Prelude.{◌≡◌, ◌<◌, ◌≤◌, ℕ, List, Some, le
 use Rattle.kb_text.specs.declared.fault.K.{K}
 use Rattle.kb_logic.specs.declared.first.FirstKb.{FirstKb}
 use Rattle.idp_cli.specs.Files.{IsRefused, IsConsultable}
-use Rattle.idp_cli.specs.Top.{Words, Outside, IsConsult, IsUsage, RunEnds}
-use Rattle.idp_cli.specs.Answering.{most_script_bytes}
+use Rattle.idp_cli.specs.Runs.{Words, Outside, IsConsult, IsUsage, RunEnds}
+use Rattle.kb_io.specs.Pending.{most_bytes}
 use Rattle.idp_cli.specs.declared.status.Status.{Status}
 use Rattle.idp_cli.specs.declared.status.Status.TheVariants as status
 
@@ -36,14 +36,14 @@ TakingLaw = (k : K) (line : ℕ) (words : Words) (before now : Outside) (file by
 -- more commands than are read give ScriptTooLong
 abbrev pub LengthLaw : Type 0
 LengthLaw = (s : Status) (words : Words) (before now : Outside) (file bytes script : List ℕ) (kb : FirstKb) → IsConsult words file → before.files file ≡ Some bytes → IsConsultable bytes kb
-    → before.script ≡ Some script → most_script_bytes < length script → RunEnds s words before now → IsUnlessFailed status.ScriptTooLong s
+    → before.script ≡ Some script → most_bytes < length script → RunEnds s words before now → IsUnlessFailed status.ScriptTooLong s
 
 -- and no others do
 abbrev pub ShortLaw : Type 0
-ShortLaw = (words : Words) (before now : Outside) (file bytes script : List ℕ) → IsConsult words file → before.files file ≡ Some bytes → before.script ≡ Some script → length script ≤ most_script_bytes
+ShortLaw = (words : Words) (before now : Outside) (file bytes script : List ℕ) → IsConsult words file → before.files file ≡ Some bytes → before.script ≡ Some script → length script ≤ most_bytes
     → RunEnds status.ScriptTooLong words before now → ⊥
 
 -- where a file is consulted about and the commands are within their limit, all of them are answered
 abbrev pub DoneLaw : Type 0
 DoneLaw = (s : Status) (words : Words) (before now : Outside) (file bytes script : List ℕ) (kb : FirstKb) → IsConsult words file → before.files file ≡ Some bytes → IsConsultable bytes kb
-    → before.script ≡ Some script → length script ≤ most_script_bytes → RunEnds s words before now → IsUnlessFailed status.Done s
+    → before.script ≡ Some script → length script ≤ most_bytes → RunEnds s words before now → IsUnlessFailed status.Done s

@@ -4,7 +4,7 @@ use Rattle.std.specs.Io.KnownBytes.{Appends, Consumes}
 use Rattle.kb_io.specs.Lines.{IsNextLine}
 use Rattle.kb_io.specs.Outside.{Rose}
 use Rattle.kb_io.specs.Pending.{Pending, NextLine, most_bytes}
-use Rattle.kb_io.specs.Whole.{AppendsFront}
+use Rattle.kb_io.specs.ReadWrite.{AppendsPrefix}
 use Rattle.kb_io.specs.declared.lines.LineError.{LineError}
 use Rattle.kb_io.specs.declared.lines.LineError.TheVariants as line_error
 use Rattle.kb_io.specs.declared.lines.Next.TheVariants as next
@@ -13,7 +13,7 @@ use Rattle.consult_text.specs.declared.refusals.F.TheVariants as refusal
 use Rattle.consult_text.specs.declared.replies.Reply.{Reply}
 use Rattle.consult_text.specs.declared.replies.Reply.TheVariants as reply
 use Rattle.consultant_session.specs.States.{State}
-use Rattle.idp_cli.specs.Consultation.{Said, nothing, too_long, refused, replied, IsRightAnswer, state_left, said_text, AnswersFront}
+use Rattle.idp_cli.specs.Consultation.{Said, nothing, too_long, refused, replied, IsRightAnswer, state_left, said_text, AnswersPrefix}
 use Rattle.idp_cli.specs.Answering.{Streams, IsWithoutFault}
 use Rattle.idp_cli.specs.declared.stops.Stop.{Stop}
 use Rattle.idp_cli.specs.declared.stops.Stop.TheVariants as stop
@@ -37,7 +37,7 @@ RepliesTo kb s line r t = (said : Said) × IsRightAnswer kb s line said × (r �
 -- the text was written and flushed, or why not; `before` and `now` are the output's counts of faults
 abbrev pub Writes : Result Unit Stop → List ℕ → Option (List ℕ) → Option (List ℕ) → ℕ → ℕ → Type 0
 Writes (Ok x) text old new before now = (now ≡ before) × Appends old new text
-Writes (Err stop.WriteFault) text old new before now = Rose before now × AppendsFront old new text
+Writes (Err stop.WriteFault) text old new before now = Rose before now × AppendsPrefix old new text
 Writes (Err stop.Memory) text old new before now = new ≡ old
 Writes (Err stop.ReadFault) text old new before now = ⊥
 Writes (Err stop.ScriptTooLong) text old new before now = ⊥
@@ -46,7 +46,7 @@ Writes (Err stop.ScriptTooLong) text old new before now = ⊥
 abbrev pub AnswersLine : Result Unit Stop → FirstKb → State → State → List ℕ → Option (List ℕ) → Option (List ℕ) → ℕ → ℕ → Type 0
 AnswersLine (Ok x) kb s t line old new before now =
     (now ≡ before) × ((said : Said) × IsRightAnswer kb s line said × (t ≡ state_left kb s said) × Appends old new (said_text kb.vocab said))
-AnswersLine (Err stop.WriteFault) kb s t line old new before now = Rose before now × AnswersFront kb s line old new
+AnswersLine (Err stop.WriteFault) kb s t line old new before now = Rose before now × AnswersPrefix kb s line old new
 AnswersLine (Err stop.Memory) kb s t line old new before now = new ≡ old
 AnswersLine (Err stop.ReadFault) kb s t line old new before now = ⊥
 AnswersLine (Err stop.ScriptTooLong) kb s t line old new before now = ⊥
@@ -68,5 +68,5 @@ Turns (Err stop.ReadFault) kb s t old new before now = NextLine (Err line_error.
 Turns (Err stop.ScriptTooLong) kb s t old new before now =
     NextLine (Err line_error.TooLong) old new before.script now.script before.script_faults now.script_faults × (now.out ≡ before.out) × (now.out_faults ≡ before.out_faults)
 Turns (Err stop.WriteFault) kb s t old new before now =
-    Rose before.out_faults now.out_faults × ((line : List ℕ) × TakesLine line old new before.script now.script × AnswersFront kb s line before.out now.out)
+    Rose before.out_faults now.out_faults × ((line : List ℕ) × TakesLine line old new before.script now.script × AnswersPrefix kb s line before.out now.out)
 Turns (Err stop.Memory) kb s t old new before now = now.out ≡ before.out

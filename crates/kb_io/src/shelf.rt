@@ -3,8 +3,8 @@ ghost use Rattle.std.specs.Option.{option_map};
 ghost use Rattle.kb_io.specs.Outside.{HasCause, GrewByName, KeptNames, Closes, OpensOne, RaisedByOne, LoweredByOne};
 ghost use Rattle.kb_io.specs.Files.{source_named, file_named, without, AreFresh, NamesDiffer, names_of};
 
-use crate::outside::{Failed, Shelf};
 use crate::source::{MemFile, MemSource};
+use crate::traits::{Failed, Shelf};
 use std::marker::Model;
 
 /// A shelf of files in memory, each of which it hands out once. Another name and a second opening are faults.
@@ -71,7 +71,7 @@ fn write_down(asked: &mut Option<Vec<String>>, name: &str)
 }
 
 // One more, or no longer told where the number would not fit.
-fn one_more(count: Option<u64>) -> Option<u64>
+fn checked_succ(count: Option<u64>) -> Option<u64>
     ensures raised { RaisedByOne count result }
     ensures told { IfSome count (λ n. n + 1 < 2 ^ 64 → result ≡ Some (n + 1)) }
 {
@@ -79,7 +79,7 @@ fn one_more(count: Option<u64>) -> Option<u64>
 }
 
 // One less, or no longer told where there was none.
-fn one_less(count: Option<u64>) -> Option<u64>
+fn checked_pred(count: Option<u64>) -> Option<u64>
     ensures lowered { LoweredByOne count result }
     ensures told { (n : ℕ) → count ≡ Some (n + 1) → result ≡ Some n }
 {
@@ -114,7 +114,7 @@ impl Shelf for MemShelf {
         write_down(&mut self.asked, name);
         match take_named(&mut self.files, name) {
             Some(source) => {
-                self.open_sources = one_more(self.open_sources);
+                self.open_sources = checked_succ(self.open_sources);
                 Ok(source)
             }
             None => {
@@ -135,7 +135,7 @@ impl Shelf for MemShelf {
         ensures asked { self.new.asked ≡ self.old.asked }
         ensures told { (n : ℕ) → self.old.open_sources ≡ Some (n + 1) → self.new.open_sources ≡ Some n }
     {
-        self.open_sources = one_less(self.open_sources);
+        self.open_sources = checked_pred(self.open_sources);
         if src.faults() > 0 {
             self.faults = self.faults.saturating_add(1);
         }

@@ -1,10 +1,10 @@
 ghost use Rattle.std.specs.Prelude.{◌≡◌, ◌<◌, ◌≤◌, ℕ, List, Option, Some, None, IfOk, length};
 ghost use Rattle.std.specs.Io.KnownBytes.{WriteAppends, Keeps};
 ghost use Rattle.kb_io.specs.Outside.{HasCause};
-ghost use Rattle.kb_io.specs.Memory.{SinkState, WritesAsTold, FlushesAsTold};
+ghost use Rattle.kb_io.specs.Memory.{SinkState, WritesAsScripted, FlushesAsScripted};
 
-use crate::outside::{Failed, Sink};
 use crate::source::piece_of;
+use crate::traits::{Failed, Sink};
 use std::marker::Model;
 
 /// A sink over memory, which fails and takes pieces as it is told to. Its writes and its flushes are counted
@@ -68,7 +68,7 @@ impl Sink for MemSink {
         ensures some { 0 < length piece.now → IfOk result (λ n. 0 < n) }
         ensures bytes { WriteAppends (Some self.old.held) (Some self.new.held) result piece.now }
         ensures cause { HasCause self.old.faults self.new.faults result }
-        ensures told { WritesAsTold self.old self.new result (length piece.now) }
+        ensures told { WritesAsScripted self.old self.new result (length piece.now) }
     {
         let call = self.writes;
         self.writes = call.saturating_add(1);
@@ -87,7 +87,7 @@ impl Sink for MemSink {
     fn flush(&mut self) -> Result<(), Failed>
         ensures bytes { Keeps (Some self.old.held) (Some self.new.held) }
         ensures cause { HasCause self.old.faults self.new.faults result }
-        ensures told { FlushesAsTold self.old self.new result }
+        ensures told { FlushesAsScripted self.old self.new result }
     {
         let call = self.flushes;
         self.flushes = call.saturating_add(1);

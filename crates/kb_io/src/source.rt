@@ -1,9 +1,9 @@
 ghost use Rattle.std.specs.Prelude.{◌≡◌, ◌<◌, ◌≤◌, ℕ, List, Option, Some, IfOk, length, slice_get};
 ghost use Rattle.std.specs.Io.KnownBytes.{ReadConsumes};
 ghost use Rattle.kb_io.specs.Outside.{HasCause};
-ghost use Rattle.kb_io.specs.Memory.{SourceState, ReadsAsTold, piece};
+ghost use Rattle.kb_io.specs.Memory.{SourceState, ReadsAsScripted, piece};
 
-use crate::outside::{Failed, Source};
+use crate::traits::{Failed, Source};
 use std::marker::Model;
 
 /// A source over bytes in memory, which fails and gives pieces as it is told to. Its reads are counted from 0.
@@ -70,7 +70,7 @@ impl Source for MemSource {
         ensures bound { IfOk result (λ n. n ≤ length buf.new) }
         ensures bytes { ReadConsumes (Some self.old.left) (Some self.new.left) result buf.new }
         ensures cause { HasCause self.old.faults self.new.faults result }
-        ensures told { ReadsAsTold self.old self.new result (length buf.old) }
+        ensures told { ReadsAsScripted self.old self.new result (length buf.old) }
     {
         let call = self.calls;
         self.calls = call.saturating_add(1);

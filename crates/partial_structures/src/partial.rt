@@ -6,7 +6,7 @@ ghost use Rattle.kb_logic.specs.Views.{formula_view};
 ghost use Rattle.partial_structures.specs.Certainty.{certain_truth};
 ghost use Rattle.partial_structures.specs.KnownArithmetic.{CertaintyFits};
 ghost use Rattle.partial_structures.specs.KnownAtoms.{IsAtomOver, atom_of, nothing_known, value_at, with_closed, with_false, with_true};
-ghost use Rattle.partial_structures.specs.Consistency.{IsConsistent};
+ghost use Rattle.partial_structures.specs.Consistency.{IsConsistent, IsListed};
 ghost use Rattle.partial_structures.specs.Counts.{added_by};
 ghost use Rattle.partial_structures.specs.Extension.{ExtendsData, IsStructureOver};
 ghost use Rattle.partial_structures.specs.declared.truths.Truth.TheVariants.{Yes, No};
@@ -104,11 +104,13 @@ impl Partial {
     }
 
     /// What is known is consistent: no function has two values at the same arguments, and no atom is both
-    /// true and false. It does nothing.
+    /// true and false. It is listed in the order of all atoms, and a function's other values are false where
+    /// one is true. It does nothing.
     pub fn consistency(&self)
-        ensures { IsConsistent self.now }
+        ensures consistent { IsConsistent self.now }
+        ensures listed { IsListed self.now }
     {
-        // Its parts are looked at, so that what it keeps is known here.
+        // Brings the invariant of the type into scope.
         let _count = self.count;
     }
 
