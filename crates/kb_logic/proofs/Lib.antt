@@ -18,6 +18,7 @@ pub mod NoAssignments
 pub mod Pairs
 pub mod Sums
 pub mod Tables
-pub mod Tuples
+pub mod TupleCounts
+pub mod TupleLists
 pub mod ViewsOf
 pub mod WithinBounds

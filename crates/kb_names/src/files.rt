@@ -1,27 +1,26 @@
 //! A raw knowledge base with numbers for words, or the earliest refusal.
 ghost use Rattle.std.specs.Prelude.{◌≡◌, fold, map, take, OnOk, IfOk, IfErr};
 ghost use Rattle.std.specs.List.{flat_map};
-ghost use Rattle.fo_reader.specs.FileView.{declaration_in, file_in, term_in, theory_in, vocabulary_in};
-ghost use Rattle.fo_reader.specs.Names.{names_of};
-ghost use Rattle.fo_reader.specs.NamesStage.{declarations_of, name_noted, uses_of_file};
-ghost use Rattle.fo_reader.specs.Numbering as number;
-ghost use Rattle.fo_reader.specs.Numbering.{IsNamed};
-ghost use Rattle.fo_reader.specs.Uses as use_of;
-ghost use Rattle.fo_reader.specs.Uses.{climbing_uses, type_names};
-ghost use Rattle.kb_names.specs.Failures.{FailsWith};
-ghost use Rattle.kb_names.specs.FileViews.{block_view, kb_view, theory_view};
-ghost use Rattle.kb_names.specs.Meanings.{names_in};
+ghost use Rattle.reading_stages.specs.FileView.{declaration_in, file_in, term_in, theory_in, vocabulary_in};
+ghost use Rattle.reading_stages.specs.Names.{names_of};
+ghost use Rattle.reading_stages.specs.NamesStage.{declarations_of, name_noted, uses_of_file};
+ghost use Rattle.reading_stages.specs.Numbering as number;
+ghost use Rattle.reading_stages.specs.Numbering.{IsNamed};
+ghost use Rattle.reading_stages.specs.Uses as use_of;
+ghost use Rattle.reading_stages.specs.Uses.{climbing_uses, type_names};
+ghost use Rattle.reading_stages.specs.Failures.{FailsWith};
+ghost use Rattle.reading_stages.specs.FileViews.{block_view, kb_view, theory_view};
+ghost use Rattle.formula_names.specs.Meanings.{names_in};
 
 use crate::cycles::note_cycles;
 use crate::declarations::declared_table;
-use crate::earliest::Earliest;
-use crate::named::{NamedKb, NamedTermBlock, NamedTheory};
 use crate::places::{parents_in, symbol_places, type_places};
-use crate::tables::Table;
 use crate::theories::{block, theory};
 use crate::vocabularies::types_and_symbols;
-use fo_reader::{KbError, RawDeclaration, RawKb, RawTerm, RawTheory, RawVocabulary};
+use fo_syntax::{KbError, RawDeclaration, RawKb, RawTerm, RawTheory, RawVocabulary};
+use formula_names::tables::Table;
 use kb_logic::{Memory, Name, Vocabulary};
+use reading_stages::{Earliest, NamedKb, NamedTermBlock, NamedTheory};
 use sqlite_items::Items;
 use std::alloc::Global;
 

@@ -18,7 +18,6 @@ mod sides;
 mod spots;
 mod totals;
 mod truths;
-mod values;
 mod words;
 
 pub use errors::SetError;

@@ -3,12 +3,13 @@ ghost use Rattle.std.specs.Prelude.{◌≡◌, ◌<◌, ◌||◌, ◌++◌, ◌�
 ghost use Rattle.indexmap.specs.IndexMap.{set_value_at};
 ghost use Rattle.partial_structures.specs.Words.{words_in};
 ghost use Rattle.partial_structures.specs.Rows.{Grows, child_of, child_by, has_label, is_symbol, is_tree, label_of, mark_at, node_of};
-ghost use Rattle.partial_structures.specs.Values.{IsValueOf, value_label, value_view};
+ghost use Rattle.partial_structures.specs.Values.{IsValueOf, value_label};
+ghost use Rattle.kb_logic.specs.Values.{value_view};
 
 use crate::truths::Truth;
-use crate::values::Value;
 use crate::words::Words;
 use indexmap::IndexMap;
+use kb_logic::values::Value;
 use kb_logic::{Elem, Memory};
 use std::alloc::Global;
 

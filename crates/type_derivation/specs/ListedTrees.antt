@@ -5,10 +5,10 @@ use Rattle.kb_logic.specs.declared.vocabularies.Vocabulary.{Vocabulary}
 use Rattle.kb_logic.specs.declared.vocabularies.Bound.{Bound}
 use Rattle.kb_logic.specs.Trees.{TermTree, TermTrees, SummandTrees, FormulaTree, FormulaTrees}
 use Rattle.kb_logic.specs.Trees as tree
-use Rattle.fo_reader.specs.Demands.{Part, demand, scope, Parts, no_parts, more_parts, later_types}
-use Rattle.fo_reader.specs.NamedTrees.{NamedVar, NamedTerm, at, NamedNode, variable, integer, constructed, application, summation, product, aggregate, NamedTerms, no_terms, more_terms, NamedSummands, no_summands, more_summands, NamedFormula, truth, atom, comparison, negation, conjunction, disjunction, implication, equivalence, universal, existential, numbered, NamedFormulas, no_formulas, more_formulas}
-use Rattle.fo_reader.specs.TypedTrees.{chosen, integer_of, truth_tree, typed_sentence, typed_block_term}
-use Rattle.fo_reader.specs.TypesStage.{sentence_settled, block_settled}
+use Rattle.reading_stages.specs.Demands.{Part, demand, scope, Parts, no_parts, more_parts, later_types}
+use Rattle.reading_stages.specs.NamedTrees.{NamedVar, NamedTerm, at, NamedNode, variable, integer, constructed, application, summation, product, aggregate, NamedTerms, no_terms, more_terms, NamedSummands, no_summands, more_summands, NamedFormula, truth, atom, comparison, negation, conjunction, disjunction, implication, equivalence, universal, existential, numbered, NamedFormulas, no_formulas, more_formulas}
+use Rattle.reading_stages.specs.TypedTrees.{chosen, integer_of, truth_tree, typed_sentence, typed_block_term}
+use Rattle.reading_stages.specs.TypesStage.{sentence_settled, block_settled}
 
 -- the types of all variables in parts, as they are found
 abbrev mutual

@@ -1,8 +1,8 @@
 use Rattle.std.proofs.Common.{◌≡◌, ◌∙◌, None, fold, map, sym}
-use Rattle.fo_reader.specs.FileView.{file_in, vocabulary_in}
-use Rattle.fo_reader.specs.Names.{names_of}
-use Rattle.fo_reader.specs.NamesStage.{declarations_of, name_noted, uses_of_file}
-use Rattle.kb_names.proofs.Rows.{earliest_refused, nothing_refused}
+use Rattle.reading_stages.specs.FileView.{file_in, vocabulary_in}
+use Rattle.reading_stages.specs.Names.{names_of}
+use Rattle.reading_stages.specs.NamesStage.{declarations_of, name_noted, uses_of_file}
+use Rattle.reading_stages.proofs.Rows.{earliest_refused, nothing_refused}
 use Rattle.kb_names.proofs.files.resolve.Goals as goal
 
 pub returns-in-None-clause-ok : goal.returns-in-None-clause-ok
