@@ -5,8 +5,9 @@ use Rattle.kb_logic.specs.declared.vocabularies.Symbol.{Symbol}
 use Rattle.kb_logic.specs.declared.vocabularies.Vocabulary.{Vocabulary}
 use Rattle.kb_logic.specs.Trees.{TermTree, variable, integer, constructed, application, summation, product, aggregate, TermTrees, no_terms, more_terms, SummandTrees, no_summands, more_summands, FormulaTree, verum, falsum, atom, comparison, negation, conjunction, disjunction, implication, equivalence, universal, existential, numbered, FormulaTrees, no_formulas, more_formulas}
 use Rattle.kb_logic.specs.Structures.{domain_at}
-use Rattle.kb_logic.specs.Bounds.{Interval, exactly, interval_sum, interval_product, bounds_of, factor_bounds, summand_bounds, front_bounds, types_of, bound_limit}
+use Rattle.kb_logic.specs.Bounds.{Interval, exactly, front_bounds, types_of, bound_limit}
 use Rattle.kb_logic.specs.Weights.{value_count}
+use Rattle.reading_stages.specs.ClampedBounds.{clamping_sum, clamping_product, clamped_bounds, clamped_factors, clamped_summands}
 use Rattle.reading_stages.specs.TheoryItems.{TheoryItem, sentence}
 
 -- ---- ground atoms
@@ -25,11 +26,13 @@ symbol_atoms domains s = size_product domains s.args * value_count domains s.val
 abbrev pub is_small : Interval → Bool
 is_small i = not (int_lt i.low (neg_ℤ (pos bound_limit))) && not (int_lt (pos bound_limit) i.high)
 
--- the bounds of the terms that begin where this term does: of each front of a chain, else of the term itself
+-- the bounds of the terms that begin where this term does: of each prefix of a chain, else of the term itself
 abbrev pub bounds_at : Vocabulary → List (List Elem) → TermTree → List ℕ → List Interval
-bounds_at v domains (summation ss) scope = front_bounds interval_sum (exactly (pos 0)) (summand_bounds v domains ss scope)
-bounds_at v domains (product ts) scope = front_bounds interval_product (exactly (pos 1)) (factor_bounds v domains ts scope)
-bounds_at v domains t scope = bounds_of v domains t scope ∷ []
+bounds_at v domains (summation ss) scope =
+    front_bounds clamping_sum (exactly (pos 0)) (clamped_summands v domains ss scope)
+bounds_at v domains (product ts) scope =
+    front_bounds clamping_product (exactly (pos 1)) (clamped_factors v domains ts scope)
+bounds_at v domains t scope = clamped_bounds v domains t scope ∷ []
 
 -- the bounds at each term of a tree, in the order in which the places of terms are kept, a term before its parts; the
 -- scope has the types of the variables in scope

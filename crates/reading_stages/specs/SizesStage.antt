@@ -1,6 +1,6 @@
 -- The stage of sizes: what it refuses of the chosen theory over the data's domains, and what it answers where it refuses
 -- nothing.
-use Rattle.std.specs.Prelude.{ℕ, ◌+◌, ◌≡◌, Bool, false, not, ◌&&◌, nat_lt, List, [], ◌∷◌, ◌++◌, map, Option, Some, slice_get, option_to_list, zip, flat_map}
+use Rattle.std.specs.Prelude.{ℕ, ◌+◌, min, ◌≡◌, Bool, false, not, ◌&&◌, nat_lt, List, [], ◌∷◌, ◌++◌, map, Option, Some, slice_get, option_to_list, zip, flat_map}
 use Rattle.std.specs.List.{list_any}
 use Rattle.kb_text.specs.declared.fault.K.{K}
 use Rattle.kb_text.specs.declared.fault.K.TheVariants as k
@@ -14,6 +14,10 @@ use Rattle.reading_stages.specs.Earliest.{IsRowOf, noted_at}
 use Rattle.reading_stages.specs.TypedFiles.{TypedTheoryTree, TypedTermTree, TypedFile}
 use Rattle.reading_stages.specs.TheoryItems.{items_of}
 use Rattle.reading_stages.specs.Sizes.{symbol_atoms, is_small, item_bounds, term_bounds}
+
+-- a number, or the greatest of 64 bits
+abbrev pub capped : ℕ → ℕ
+capped n = min n 18446744073709551615
 
 -- what the stage looks at
 pub data SizeUse : Type 0 where
@@ -110,7 +114,7 @@ SizesRefuse = IsRowOf is_size_refused place_of_size_use size_causes
 abbrev pub size_noted : Option KbFault → SizeUse → Option KbFault
 size_noted = noted_at is_size_refused place_of_size_use size_causes
 
--- the number of ground atoms, and the weight
+-- the number of ground atoms, and the weight, each up to the greatest of 64 bits
 pub record Sizes : Type 0 where
   pub atoms : ℕ
   pub weight : ℕ
@@ -118,5 +122,5 @@ pub record Sizes : Type 0 where
 -- what the stage of sizes answers where it refuses nothing of the theory with this number over these domains
 pub record AreSizesOf (f : TypedFile) (theory : ℕ) (domains : List (List Elem)) (answer : Sizes) : Type 0 where
   pub accepted : (q : KbFault) → SizesRefuse (size_uses f theory domains) q → ⊥
-  pub atoms : answer.atoms ≡ atom_count f.vocabulary domains
-  pub weight : (t : TypedTheoryTree) → slice_get f.theories theory ≡ Some t → answer.weight ≡ weight_in f domains t
+  pub atoms : answer.atoms ≡ capped (atom_count f.vocabulary domains)
+  pub weight : (t : TypedTheoryTree) → slice_get f.theories theory ≡ Some t → answer.weight ≡ capped (weight_in f domains t)
