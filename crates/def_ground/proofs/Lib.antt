@@ -1,0 +1,9 @@
+pub mod Growing
+pub mod CaseLaws
+pub mod FormLaws
+pub mod LeafLaws
+pub mod Leaves
+pub mod AssertLaws
+pub mod SentenceLaws
+pub mod Counting
+pub mod FewLaws

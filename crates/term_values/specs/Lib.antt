@@ -1,0 +1,4 @@
+pub mod GroundBases
+pub mod Rows
+pub mod GroundTerms
+pub mod Laws
