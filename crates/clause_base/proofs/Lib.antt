@@ -1,3 +1,4 @@
+pub mod ArenaFacts
 pub mod DecisionFacts
 pub mod EachOnce
 pub mod LinkFacts

@@ -13,6 +13,12 @@ pub slice_get-push_new : {X : Type 0} (xs : List X) (y : X) → slice_get (xs ++
 slice_get-push_new [] y = refl
 slice_get-push_new (z ∷ xs) y = slice_get-push_new xs y
 
+-- an element of a list is there before more
+pub slice_get-append_left : {X : Type 0} (xs ys : List X) (k : ℕ) (x : X) → slice_get xs k ≡ Some x → slice_get (xs ++ ys) k ≡ Some x
+slice_get-append_left [] ys k x h = absurd (cc)
+slice_get-append_left (z ∷ xs) ys zero x h = h
+slice_get-append_left (z ∷ xs) ys (suc k) x h = slice_get-append_left xs ys k x h
+
 -- an element after a push is one of before, or the new one
 pub slice_get-push_cases : {X : Type 0} (xs : List X) (y : X) (k : ℕ) (x : X) → slice_get (xs ++ y ∷ []) k ≡ Some x → (slice_get xs k ≡ Some x) ⊎ ((k ≡ length xs) × (x ≡ y))
 slice_get-push_cases [] y zero x h = inr (refl, sym (same_Some y x h))

@@ -1,5 +1,5 @@
 -- What a visit of a clause leaves.
-use Rattle.std.specs.Prelude.{◌≡◌, ◌≢◌, ℕ, ◌<◌, ◌≤◌, ◌+◌, ◌*◌, Bool, true, false, Option, Some, None, List, ◌∷◌, ◌++◌, length, slice_get, All, Contains, ◌⊎◌}
+use Rattle.std.specs.Prelude.{◌≡◌, ◌≢◌, ℕ, ◌<◌, ◌≤◌, ◌+◌, ◌*◌, ◌^◌, Bool, true, false, Option, Some, None, List, ◌∷◌, ◌++◌, length, slice_get, All, Contains, ◌⊎◌}
 use Rattle.lit_core.specs.declared.literals.Lit.{Lit}
 use Rattle.lit_core.specs.Literals.{value_in, negated}
 use Rattle.lit_core.specs.Truth.{IsFalsified}
@@ -19,10 +19,10 @@ use Rattle.clause_base.specs.ListsState.{ListsState, nodes_of}
 use Rattle.clause_base.specs.StoreState.{IsHeld, IsConflict}
 use Rattle.clause_store.specs.Watching.{code_of, Guarded, IsGood, IsNodeOf, IsPair, IsWatched, store_of}
 
--- the literal may stand in for a watched one beside the other, or no literal may
-abbrev pub Replaces : List (Option Bool) → List Lit → Lit → Option Lit → Type 0
-Replaces a c other None = All (λ m. (m ≡ other) ⊎ (value_in a m ≡ Some false)) c
-Replaces a c other (Some l) = Contains c l × (l ≢ other) × (value_in a l ≢ Some false)
+-- the literal at this place may stand in for a watched one beside the other, or no literal may
+abbrev pub ReplacesAt : List (Option Bool) → List Lit → Lit → Option ℕ → Type 0
+ReplacesAt a c other None = All (λ m. (m ≡ other) ⊎ (value_in a m ≡ Some false)) c
+ReplacesAt a c other (Some place) = (l : Lit) × (slice_get c place ≡ Some l) × (l ≢ other) × (value_in a l ≢ Some false)
 
 -- the literal became false by the first step that is not yet propagated
 abbrev pub IsNext : Watcher → Lit → Type 0
@@ -73,7 +73,7 @@ pub record CanImply (e : Watcher) (node : ℕ) (f other : Lit) : Type 0 where
 -- the clause was removed; or this literal may be watched in place of the false one; or the other watched literal is the last that is not false; or none is
 abbrev pub ReplacementGives : Watcher → ℕ → Lit → Replacement → Type 0
 ReplacementGives e id other Deleted = (c : List Lit) → IsHeld (store_of e) id c → ⊥
-ReplacementGives e id other (Literal l) = (c : List Lit) × IsHeld (store_of e) id c × Contains c l × (l ≢ other) × (value_in e.trail.values l ≢ Some false)
+ReplacementGives e id other (Literal l place) = (c : List Lit) × IsHeld (store_of e) id c × Contains c l × (l ≢ other) × (value_in e.trail.values l ≢ Some false) × (place < 2 ^ 32)
 ReplacementGives e id other UnitLeft = (value_in e.trail.values other ≡ None) × ((c : List Lit) × IsHeld (store_of e) id c × All (λ m. (m ≡ other) ⊎ (value_in e.trail.values m ≡ Some false)) c)
 ReplacementGives e id other AllFalse = (c : List Lit) × IsHeld (store_of e) id c × ((value_in e.trail.values other ≡ Some true) ⊎ IsFalsified e.trail.values c)
 

@@ -76,14 +76,16 @@ impl Watcher {
         requires id { id < length self.now.held.clauses }
         ensures { WatchChoiceGives self.now id result }
     {
-        let Some(clause) = self.held.get(id as u64) else {
+        let Some(lits) = self.held.get(id) else {
             return WatchChoice::Deleted;
         };
-        let lits = clause.as_slice();
         match open_literal(self.trail.assignment(), lits) {
             None => WatchChoice::Conflict,
-            Some(first) => match find_replacement(self.trail.assignment(), lits, first) {
-                Some(second) => WatchChoice::Two(Watch { first, second }),
+            Some(first) => match find_replacement(self.trail.assignment(), lits, 0, first) {
+                Some(place) => WatchChoice::Two(Watch {
+                    first,
+                    second: lits[place],
+                }),
                 None => WatchChoice::One(first),
             },
         }
@@ -151,8 +153,8 @@ impl Watcher {
         ensures { IfSome result (λ m. IsPartner self.now self.now.checked lit m) }
     {
         let level = self.level_of(lit.var);
-        let clause = self.held.get(self.checked as u64)?;
-        for other in clause.as_slice() {
+        let lits = self.held.get(self.checked)?;
+        for other in lits {
             if *other != lit
                 && self.trail.assignment().value(*other) == Some(false)
                 && self.level_of(other.var) >= level

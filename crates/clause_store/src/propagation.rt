@@ -1,9 +1,9 @@
 //! Unit propagation: what a visit of a clause leaves, and the walk over the clauses that watch a literal.
-ghost use Rattle.std.specs.Prelude.{◌≡◌, ℕ, ◌+◌, ◌*◌, ◌<◌, length, Option, Some, None, All, Contains, IfNone, IfSome};
+ghost use Rattle.std.specs.Prelude.{◌≡◌, ℕ, ◌+◌, ◌*◌, ◌^◌, ◌<◌, length, Option, Some, None, All, Contains, IfNone, IfSome};
 ghost use Rattle.lit_core.specs.declared.literals.Lit.{Lit};
 ghost use Rattle.clause_base.specs.ListsState.{nodes_of};
 ghost use Rattle.clause_base.specs.StoreState.{IsQuiet, IsConflict, Propagates};
-ghost use Rattle.clause_store.specs.Visits.{CanMove, CanImply, ReplacementGives, IsAt, IsNext, Keeps, LookGives, OneGives, Replaces, VisitGives};
+ghost use Rattle.clause_store.specs.Visits.{CanMove, CanImply, ReplacementGives, IsAt, IsNext, Keeps, LookGives, OneGives, ReplacesAt, VisitGives};
 ghost use Rattle.clause_store.specs.Watching.{code_of, store_of, IsWatcher, IsNodeOf};
 
 use crate::watched::{Watch, Watcher, list_of};
@@ -32,8 +32,8 @@ pub enum Look {
 pub enum Replacement {
     /// The clause was removed.
     Deleted,
-    /// This literal.
-    Literal(Lit),
+    /// This literal, at this place of the clause.
+    Literal(Lit, usize),
     /// Nothing: the other watched literal is the last that is not false.
     Unit,
     /// Nothing: all literals are false.
@@ -77,17 +77,39 @@ fn moved(watch: Watch, node: usize, lit: Lit) -> Watch
     }
 }
 
-/// A literal of the clause that is not false and is not the other watched one.
-pub fn find_replacement(assignment: &Assignment, lits: &[Lit], other: Lit) -> Option<Lit>
+/// The place of a literal that is not false and is not the other watched one.
+fn find_in(assignment: &Assignment, lits: &[Lit], other: Lit) -> Option<usize>
     requires { All (λ l. l.var.0 < length assignment.now) lits.now }
-    ensures { Replaces assignment.now lits.now other result }
+    ensures { ReplacesAt assignment.now lits.now other result }
 {
-    for lit in lits {
-        if *lit != other && assignment.value(*lit) != Some(false) {
-            return Some(*lit);
+    for place in 0..lits.len() {
+        let lit = lits[place];
+        if lit != other && assignment.value(lit) != Some(false) {
+            return Some(place);
         }
     }
     None
+}
+
+/// The place of a literal that is not false and is not the other watched one, sought from this place on, round the clause.
+///
+/// The literals before the place were false when the watch came there, and mostly are still. A search that began with the
+/// first literal each time would pass over them again at each move of the watch, so that a long clause of which one literal
+/// after another becomes false, as one that excludes a model, would take the square of its length.
+pub fn find_replacement(
+    assignment: &Assignment,
+    lits: &[Lit],
+    from: usize,
+    other: Lit,
+) -> Option<usize>
+    requires { All (λ l. l.var.0 < length assignment.now) lits.now }
+    ensures { ReplacesAt assignment.now lits.now other result }
+{
+    let (before, after) = lits.split_at(from.min(lits.len()));
+    match find_in(assignment, after, other) {
+        Some(place) => Some(before.len() + place),
+        None => find_in(assignment, before, other),
+    }
 }
 
 impl Watcher {
@@ -110,17 +132,17 @@ impl Watcher {
     }
 
     /// What becomes of a clause of which one watched literal is false and the other not true.
-    fn seek(&self, id: usize, other: Lit) -> Replacement
+    fn seek(&self, id: usize, from: usize, other: Lit) -> Replacement
         requires watcher { IsWatcher self.now }
         requires id { id < length self.now.held.clauses }
         requires other { other.var.0 < length self.now.trail.values }
         ensures { ReplacementGives self.now id other result }
     {
-        let Some(clause) = self.held.get(id as u64) else {
+        let Some(lits) = self.held.get(id) else {
             return Replacement::Deleted;
         };
-        match find_replacement(self.trail.assignment(), clause.as_slice(), other) {
-            Some(lit) => Replacement::Literal(lit),
+        match find_replacement(self.trail.assignment(), lits, from, other) {
+            Some(place) => Replacement::Literal(lits[place], place),
             None => match self.trail.assignment().value(other) {
                 Some(_) => Replacement::Conflict,
                 None => Replacement::Unit,
@@ -128,12 +150,20 @@ impl Watcher {
         }
     }
 
-    /// Watches another literal of a clause.
-    fn move_watch(&mut self, node: usize, before: Option<usize>, falsified: Lit, lit: Lit)
+    /// Watches another literal of a clause, which stands at this place of it.
+    fn move_watch(
+        &mut self,
+        node: usize,
+        before: Option<usize>,
+        falsified: Lit,
+        lit: Lit,
+        place: usize,
+    )
         requires watcher { IsWatcher self.old }
         requires falsified { IsNext self.old falsified }
         requires at { IsAt self.old.lists (code_of falsified) before node }
         requires moved { CanMove self.old node falsified lit }
+        requires place { place < 2 ^ 32 }
         ensures watcher { IsWatcher self.new }
         ensures same { Propagates (store_of self.old) (store_of self.new) }
         ensures keeps { Keeps self.old self.new node }
@@ -144,6 +174,7 @@ impl Watcher {
         self.watches[id] = watch;
         self.lists.unlink(list_of(falsified), before, node);
         self.lists.link(list_of(lit), node);
+        self.held.set_place(node, place);
     }
 
     /// Makes the last literal of a clause true.
@@ -171,10 +202,14 @@ impl Watcher {
     {
         match self.look(node, falsified) {
             Look::Satisfied => Visit::Done(Some(node)),
-            Look::Unsatisfied(other) => match self.seek(clause_of(node), other) {
+            Look::Unsatisfied(other) => match self.seek(
+                clause_of(node),
+                self.held.place(node),
+                other,
+            ) {
                 Replacement::Deleted => Visit::Done(Some(node)),
-                Replacement::Literal(lit) => {
-                    self.move_watch(node, before, falsified, lit);
+                Replacement::Literal(lit, place) => {
+                    self.move_watch(node, before, falsified, lit, place);
                     Visit::Done(before)
                 }
                 Replacement::Unit => {

@@ -12,7 +12,7 @@ use Rattle.kb_logic.specs.Denotations.{Denotation, named, number, minus_infinity
 use Rattle.kb_logic.specs.Meaning.{rows_of, behind, is_end, has_row, values_of}
 use Rattle.kb_logic.specs.Laws.{AtomIsMembership, AtomIsInItsTypes}
 use Rattle.kb_logic.proofs.Assignments.{before}
-use Rattle.kb_logic.proofs.Members.{first, later, none_in, member_cases, from_filter, from_pairs}
+use Rattle.kb_logic.proofs.Members.{first, later, none_in, member_cases, from_filter, in_pairs, from_pairs}
 
 pub same_is : (a b : Denotation) → same_value a b ≡ true → a ≡ b
 same_is (named a) (named b) h = ap named ((bytes_eq-Decides a b).0 h)
@@ -49,7 +49,7 @@ either_row : (b : Bool) (rs : List (List Elem)) (vs : List Denotation) → cond 
 either_row true rs vs h = inl refl
 either_row false rs vs h = inr h
 
-row_in : (rows : List (List Elem)) (vs : List Denotation) → has_row rows vs ≡ true → (row : List Elem) × Contains rows row × (map denotation_of row ≡ vs)
+pub row_in : (rows : List (List Elem)) (vs : List Denotation) → has_row rows vs ≡ true → (row : List Elem) × Contains rows row × (map denotation_of row ≡ vs)
 row_in [] vs h = cc
 row_in (r ∷ rs) vs h = elim (either_row (is_end (behind r vs)) rs vs h) [
   | inl e ↦ (r, first r rs, row_is r vs e)
@@ -64,7 +64,7 @@ yes_second : (b c : Bool) → c ≡ true → cond b true c ≡ true
 yes_second true c h = refl
 yes_second false c h = h
 
-in_rows : (rows : List (List Elem)) (row : List Elem) → Contains rows row → has_row rows (map denotation_of row) ≡ true
+pub in_rows : (rows : List (List Elem)) (row : List Elem) → Contains rows row → has_row rows (map denotation_of row) ≡ true
 in_rows [] row at = absurd (none_in row at)
 in_rows (r ∷ rs) row at = elim (member_cases r row rs at) [
   | inl e ↦ yes_first (is_end (behind r (map denotation_of row))) (has_row rs (map denotation_of row)) (subst (λ s. is_end (behind s (map denotation_of row)) ≡ true) (sym e) (is_row row))
@@ -105,6 +105,12 @@ tuple_elements domains [] a at = elim (member_cases [] a [] at) [ inl e ↦ subs
 tuple_elements domains (ty ∷ types) a at =
     let r = from_pairs before (tuples_of domains types) (domain_at domains ty) a at in
     subst (EachWith (λ (ty : ℕ) (x : Elem). Contains (domain_at domains ty) x) (ty ∷ types)) r.4 (r.2, tuple_elements domains types r.1 r.3)
+
+pub elements_tuple : (domains : List (List Elem)) (types : List ℕ) (a : List Elem) → EachWith (λ ty x. Contains (domain_at domains ty) x) types a → Contains (tuples_of domains types) a
+elements_tuple domains [] [] h = first [] []
+elements_tuple domains [] (x ∷ a) h = absurd h
+elements_tuple domains (ty ∷ types) [] h = absurd h
+elements_tuple domains (ty ∷ types) (x ∷ a) h = in_pairs before (tuples_of domains types) (domain_at domains ty) x a h.0 (elements_tuple domains types a h.1)
 
 denoted : (domains : List (List Elem)) (types : List ℕ) (row : List Elem) → EachWith (λ ty x. Contains (domain_at domains ty) x) types row
     → EachWith (λ ty d. (x : Elem) × Contains (domain_at domains ty) x × (denotation_of x ≡ d)) types (map denotation_of row)

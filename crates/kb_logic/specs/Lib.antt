@@ -10,6 +10,10 @@ pub mod Bounds
 pub mod Weights
 pub mod Laws
 pub mod Models
+pub mod KnownAtoms
+pub mod Bases
+pub mod Domains
+pub mod DomainExamples
 pub mod First
 pub mod Plain
 pub mod Decimals

@@ -18,8 +18,6 @@ mod lists;
 mod names;
 mod structures;
 mod syntax;
-#[cfg(test)]
-mod tests;
 pub mod values;
 mod vocabularies;
 

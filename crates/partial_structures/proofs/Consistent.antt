@@ -16,12 +16,13 @@ use Rattle.partial_structures.specs.declared.rows.Label.{Label}
 use Rattle.partial_structures.specs.declared.truths.Truth.{Truth}
 use Rattle.partial_structures.specs.declared.truths.Truth.TheVariants.{Yes, No, Unknown}
 use Rattle.partial_structures.specs.declared.partial.Partial.TheInside.{Inside}
-use Rattle.partial_structures.proofs.Members.{has_from}
+use Rattle.kb_logic.proofs.Has.{has_from}
 use Rattle.partial_structures.proofs.Nodes.{label_injective}
 use Rattle.partial_structures.proofs.Sames.{atom_by}
 use Rattle.partial_structures.proofs.Statuses.{never_yes}
-use Rattle.partial_structures.proofs.Structures.{passes_filter}
-use Rattle.partial_structures.proofs.Walks.{listed_over, yes_label}
+use Rattle.kb_logic.proofs.Tables.{passes_filter}
+use Rattle.kb_logic.proofs.AllAtoms.{listed_over}
+use Rattle.partial_structures.proofs.Walks.{yes_label}
 
 never_both : (t : Truth) → is_yes t ≡ true → is_no t ≡ true → ⊥
 never_both Yes h i = cc

@@ -16,8 +16,6 @@ mod partial;
 mod rows;
 mod sides;
 mod spots;
-#[cfg(test)]
-mod tests;
 mod totals;
 mod truths;
 mod values;

@@ -1,10 +1,11 @@
-use Rattle.std.proofs.Common.{◌≡◌, ℕ, ◌<◌, ◌≤◌, ◌+◌, ◌*◌, ◌++◌, ◌∷◌, length, Some, Option, List, get_or, slice_get, sym, ap, ◌∙◌, subst, refl, arith}
+use Rattle.std.proofs.Common.{◌≡◌, ℕ, ◌<◌, ◌≤◌, ◌+◌, ◌*◌, ◌++◌, ◌∷◌, length, Some, Option, List, get_or, slice_get, sym, ap, ◌∙◌, subst, refl, arith, ⊎_elim}
 use Rattle.std.specs.Vec.{with_item}
 use Rattle.std.proofs.lemmas.Option.{slice_get_read, same_Some}
 use Rattle.lit_core.specs.declared.literals.Lit.{Lit}
 use Rattle.clause_store.specs.declared.propagation.Visit.TheVariants.{Done}
 use Rattle.clause_store.specs.declared.watched.Watch.{Watch}
 use Rattle.clause_store.specs.declared.watched.Watcher.{Watcher}
+use Rattle.clause_base.specs.ClauseDbState.{ClauseDbState}
 use Rattle.clause_base.specs.ListsState.{ListsState, HasLaws, nodes_of}
 use Rattle.clause_base.specs.StoreState.{Propagates}
 use Rattle.clause_store.specs.Watching.{code_of, store_of, IsWatcher, IsNodeOf}
@@ -51,62 +52,47 @@ moved-lists old mid new from to at there node before ea eb apart w laws nodes1 n
     (subst (λ (j : ℕ). nodes_of new j ≡ node ∷ nodes_of mid j) eb listed)
     (subst (λ (k : ℕ). (j : ℕ) → (j ≡ k → ⊥) → nodes_of new j ≡ nodes_of mid j) eb rest)
 
-pub returns-clause-watcher : goal.returns-clause-watcher
-returns-clause-watcher c =
-    let e : Watcher = c.args.self.now in
-    let h = c.requires.watcher in
+module _ (c : goal.After-set_place) where
+  abbrev e : Watcher
+  e = c.args.self.now
+
+  abbrev w : Watch
+  w = c.moved-watch.result
+
+  id-is : c.clause_of-id.result ≡ c.requires.moved.id
+  id-is = same-node c.args.node c.clause_of-id.result c.requires.moved.id c.clause_of-id.ensures c.requires.moved.of
+
+  read : c.index.result.now ≡ c.requires.moved.loose.watch
+  read = watch-read e c.requires.watcher c.args.node c.clause_of-id.result c.args.falsified c.args.lit c.requires.moved c.clause_of-id.ensures c.index.result.now c.index.ensures
+
+  first : c.args.node ≡ 2 * c.requires.moved.id → w ≡ record { first = c.args.lit; second = c.requires.moved.loose.watch.second }
+  first of = c.moved-watch.ensures.first c.requires.moved.id of ∙ ap (watch_second c.args.lit) read
+
+  second : c.args.node ≡ 2 * c.requires.moved.id + 1 → w ≡ record { first = c.requires.moved.loose.watch.first; second = c.args.lit }
+  second of = c.moved-watch.ensures.second c.requires.moved.id of ∙ ap (watch_first c.args.lit) read
+
+  lists : Moves e.lists c.link.new.self (code_of c.args.falsified) (code_of c.args.lit) c.args.node
+  lists = moved-lists e.lists c.unlink.new.self c.link.new.self (code_of c.args.falsified) (code_of c.args.lit) c.list_of.result c.list_of-2.result c.args.node c.args.before c.list_of.ensures c.list_of-2.ensures (move-apart e c.requires.watcher c.args.falsified c.requires.falsified c.args.node c.args.lit c.requires.moved) c.requires.at c.link.ensures.laws c.unlink.ensures.nodes c.link.ensures.nodes c.unlink.ensures.count c.link.ensures.count c.unlink.ensures.here c.unlink.ensures.others c.link.ensures.here c.link.ensures.others
+
+  -- what holds after the clause and its watch are named, and a place in it is remembered
+  named : (P : Watcher → Type 0) → P (after e c.requires.moved.id w c.link.new.self) → P (record { held = c.set_place.new.self; watches = with_item e.watches c.clause_of-id.result w; lists = c.link.new.self; trail = e.trail; queue = e.queue; checked = e.checked; stale = e.stale })
+  named P h = subst (λ (x : ClauseDbState). P (record { held = x; watches = with_item e.watches c.clause_of-id.result w; lists = c.link.new.self; trail = e.trail; queue = e.queue; checked = e.checked; stale = e.stale })) (sym c.set_place.ensures) (subst (λ (i : ℕ). P (after e i w c.link.new.self)) (sym id-is) h)
+
+pub set_place-requires-clause-node : goal.set_place-requires-clause-node
+set_place-requires-clause-node c =
     let m = c.requires.moved in
-    let f = c.args.falsified in
-    let l = c.args.lit in
-    let w : Watch = c.moved-watch.result in
-    let id : c.clause_of-id.result ≡ m.id = same-node c.args.node c.clause_of-id.result m.id c.clause_of-id.ensures m.of in
-    let read : c.index.result.now ≡ m.loose.watch = watch-read e h c.args.node c.clause_of-id.result f l m c.clause_of-id.ensures c.index.result.now c.index.ensures in
-    let first : c.args.node ≡ 2 * m.id → w ≡ record { first = l; second = m.loose.watch.second } = λ of. c.moved-watch.ensures.first m.id of ∙ ap (watch_second l) read in
-    let second : c.args.node ≡ 2 * m.id + 1 → w ≡ record { first = m.loose.watch.first; second = l } = λ of. c.moved-watch.ensures.second m.id of ∙ ap (watch_first l) read in
-    let mv : Moves e.lists c.link.new.self (code_of f) (code_of l) c.args.node = moved-lists e.lists c.unlink.new.self c.link.new.self (code_of f) (code_of l) c.list_of.result c.list_of-2.result c.args.node c.args.before c.list_of.ensures c.list_of-2.ensures (move-apart e h f c.requires.falsified c.args.node l m) c.requires.at c.link.ensures.laws c.unlink.ensures.nodes c.link.ensures.nodes c.unlink.ensures.count c.link.ensures.count c.unlink.ensures.here c.unlink.ensures.others c.link.ensures.here c.link.ensures.others in
-    subst (λ (i : ℕ). IsWatcher (after e i w c.link.new.self)) (sym id) (move-watcher e h f c.requires.falsified c.args.node l m w c.link.new.self first second mv)
+    let lt : m.id < c.args.self.now.checked = m.checked in
+    let all : c.args.self.now.checked ≤ length c.args.self.now.held.clauses = c.requires.watcher.checked in
+    ⊎_elim (λ a. omega arith) (λ a. omega arith) m.of
+
+pub returns-clause-watcher : goal.returns-clause-watcher
+returns-clause-watcher c = named c IsWatcher (move-watcher c.args.self.now c.requires.watcher c.args.falsified c.requires.falsified c.args.node c.args.lit c.requires.moved c.moved-watch.result c.link.new.self (first c) (second c) (lists c))
 
 pub returns-clause-same : goal.returns-clause-same
-returns-clause-same c =
-    let e : Watcher = c.args.self.now in
-    let h = c.requires.watcher in
-    let m = c.requires.moved in
-    let f = c.args.falsified in
-    let l = c.args.lit in
-    let w : Watch = c.moved-watch.result in
-    let id : c.clause_of-id.result ≡ m.id = same-node c.args.node c.clause_of-id.result m.id c.clause_of-id.ensures m.of in
-    let read : c.index.result.now ≡ m.loose.watch = watch-read e h c.args.node c.clause_of-id.result f l m c.clause_of-id.ensures c.index.result.now c.index.ensures in
-    let first : c.args.node ≡ 2 * m.id → w ≡ record { first = l; second = m.loose.watch.second } = λ of. c.moved-watch.ensures.first m.id of ∙ ap (watch_second l) read in
-    let second : c.args.node ≡ 2 * m.id + 1 → w ≡ record { first = m.loose.watch.first; second = l } = λ of. c.moved-watch.ensures.second m.id of ∙ ap (watch_first l) read in
-    let mv : Moves e.lists c.link.new.self (code_of f) (code_of l) c.args.node = moved-lists e.lists c.unlink.new.self c.link.new.self (code_of f) (code_of l) c.list_of.result c.list_of-2.result c.args.node c.args.before c.list_of.ensures c.list_of-2.ensures (move-apart e h f c.requires.falsified c.args.node l m) c.requires.at c.link.ensures.laws c.unlink.ensures.nodes c.link.ensures.nodes c.unlink.ensures.count c.link.ensures.count c.unlink.ensures.here c.unlink.ensures.others c.link.ensures.here c.link.ensures.others in
-    subst (λ (i : ℕ). Propagates (store_of e) (store_of (after e i w c.link.new.self))) (sym id) (move-same e h f c.requires.falsified c.args.node l m w c.link.new.self first second mv)
+returns-clause-same c = named c (λ b. Propagates (store_of c.args.self.now) (store_of b)) (move-same c.args.self.now c.requires.watcher c.args.falsified c.requires.falsified c.args.node c.args.lit c.requires.moved c.moved-watch.result c.link.new.self (first c) (second c) (lists c))
 
 pub returns-clause-keeps : goal.returns-clause-keeps
-returns-clause-keeps c =
-    let e : Watcher = c.args.self.now in
-    let h = c.requires.watcher in
-    let m = c.requires.moved in
-    let f = c.args.falsified in
-    let l = c.args.lit in
-    let w : Watch = c.moved-watch.result in
-    let id : c.clause_of-id.result ≡ m.id = same-node c.args.node c.clause_of-id.result m.id c.clause_of-id.ensures m.of in
-    let read : c.index.result.now ≡ m.loose.watch = watch-read e h c.args.node c.clause_of-id.result f l m c.clause_of-id.ensures c.index.result.now c.index.ensures in
-    let first : c.args.node ≡ 2 * m.id → w ≡ record { first = l; second = m.loose.watch.second } = λ of. c.moved-watch.ensures.first m.id of ∙ ap (watch_second l) read in
-    let second : c.args.node ≡ 2 * m.id + 1 → w ≡ record { first = m.loose.watch.first; second = l } = λ of. c.moved-watch.ensures.second m.id of ∙ ap (watch_first l) read in
-    let mv : Moves e.lists c.link.new.self (code_of f) (code_of l) c.args.node = moved-lists e.lists c.unlink.new.self c.link.new.self (code_of f) (code_of l) c.list_of.result c.list_of-2.result c.args.node c.args.before c.list_of.ensures c.list_of-2.ensures (move-apart e h f c.requires.falsified c.args.node l m) c.requires.at c.link.ensures.laws c.unlink.ensures.nodes c.link.ensures.nodes c.unlink.ensures.count c.link.ensures.count c.unlink.ensures.here c.unlink.ensures.others c.link.ensures.here c.link.ensures.others in
-    subst (λ (i : ℕ). Keeps e (after e i w c.link.new.self) c.args.node) (sym id) (move-keeps e h f c.requires.falsified c.args.node l m w c.link.new.self first second mv)
+returns-clause-keeps c = named c (λ b. Keeps c.args.self.now b c.args.node) (move-keeps c.args.self.now c.requires.watcher c.args.falsified c.requires.falsified c.args.node c.args.lit c.requires.moved c.moved-watch.result c.link.new.self (first c) (second c) (lists c))
 
 pub returns-clause-done : goal.returns-clause-done
-returns-clause-done c =
-    let e : Watcher = c.args.self.now in
-    let h = c.requires.watcher in
-    let m = c.requires.moved in
-    let f = c.args.falsified in
-    let l = c.args.lit in
-    let w : Watch = c.moved-watch.result in
-    let id : c.clause_of-id.result ≡ m.id = same-node c.args.node c.clause_of-id.result m.id c.clause_of-id.ensures m.of in
-    let read : c.index.result.now ≡ m.loose.watch = watch-read e h c.args.node c.clause_of-id.result f l m c.clause_of-id.ensures c.index.result.now c.index.ensures in
-    let first : c.args.node ≡ 2 * m.id → w ≡ record { first = l; second = m.loose.watch.second } = λ of. c.moved-watch.ensures.first m.id of ∙ ap (watch_second l) read in
-    let second : c.args.node ≡ 2 * m.id + 1 → w ≡ record { first = m.loose.watch.first; second = l } = λ of. c.moved-watch.ensures.second m.id of ∙ ap (watch_first l) read in
-    let mv : Moves e.lists c.link.new.self (code_of f) (code_of l) c.args.node = moved-lists e.lists c.unlink.new.self c.link.new.self (code_of f) (code_of l) c.list_of.result c.list_of-2.result c.args.node c.args.before c.list_of.ensures c.list_of-2.ensures (move-apart e h f c.requires.falsified c.args.node l m) c.requires.at c.link.ensures.laws c.unlink.ensures.nodes c.link.ensures.nodes c.unlink.ensures.count c.link.ensures.count c.unlink.ensures.here c.unlink.ensures.others c.link.ensures.here c.link.ensures.others in
-    subst (λ (i : ℕ). VisitGives e (after e i w c.link.new.self) c.args.node f c.args.before (Done c.args.before)) (sym id) (move-done e h f c.requires.falsified c.args.node l m w c.link.new.self first second mv c.args.before)
+returns-clause-done c = named c (λ b. VisitGives c.args.self.now b c.args.node c.args.falsified c.args.before (Done c.args.before)) (move-done c.args.self.now c.requires.watcher c.args.falsified c.requires.falsified c.args.node c.args.lit c.requires.moved c.moved-watch.result c.link.new.self (first c) (second c) (lists c) c.args.before)

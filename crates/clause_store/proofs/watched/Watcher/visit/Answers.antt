@@ -20,6 +20,13 @@ seek-requires-clause-id c =
     let all : e.checked ≤ length e.held.clauses = c.requires.watcher.checked in
     omega arith
 
+pub place-requires : goal.place-requires
+place-requires c =
+    let e = c.args.self.now in
+    let lt : c.clause_of.result < e.checked = (c.in-Unsatisfied.ensures.1 c.clause_of.result c.clause_of.ensures).0 in
+    let all : e.checked ≤ length e.held.clauses = c.requires.watcher.checked in
+    ⊎_elim (λ a. omega arith) (λ a. omega arith) c.clause_of.ensures
+
 pub move_watch-requires-clause-moved : goal.move_watch-requires-clause-moved
 move_watch-requires-clause-moved c =
     let l = c.in-Unsatisfied.ensures.1 c.clause_of.result c.clause_of.ensures in

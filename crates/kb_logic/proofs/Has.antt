@@ -15,6 +15,11 @@ has_at (y ∷ ys) x (suc k) lt e = inr (has_at ys x k (omega arith) e)
 pub has_from : {X : Type 0} (xs : List X) (x : X) → Contains xs x → Has xs x
 has_from xs x c = has_at xs x c.0 c.1 c.2
 
+pub contains_from : {X : Type 0} (xs : List X) (x : X) → Has xs x → Contains xs x
+contains_from [] x m = absurd m
+contains_from (y ∷ ys) x (inl e) = (0, omega arith, e)
+contains_from (y ∷ ys) x (inr m) = let c = contains_from ys x m in (suc c.0, omega (arith, c.1), c.2)
+
 pub has_get : {X : Type 0} (xs : List X) (k : ℕ) (x : X) → slice_get xs k ≡ Some x → Has xs x
 has_get [] k x h = absurd (cc)
 has_get (y ∷ ys) zero x h = inl (cc)

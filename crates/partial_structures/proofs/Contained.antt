@@ -1,4 +1,4 @@
--- What the tests ask of elements before they call.
+-- Elements that stand in lists, by comparing them.
 use Rattle.std.proofs.Common.{◌≡◌, ℕ, suc, List, [], ◌∷◌, map, Bool, true, false, sym, ap, ◌∙◌, arith, inl, inr}
 use Rattle.std.specs.List.{list_any, Contains}
 use Rattle.std.specs.Bool.{OnTrue}
@@ -6,13 +6,8 @@ use Rattle.std.proofs.lemmas.Bool.{or_cases, or_left, or_right, true≢false}
 use Rattle.kb_logic.specs.declared.elements.Elem.{Elem}
 use Rattle.kb_logic.specs.Structures.{domain_at, tuples_of}
 use Rattle.kb_logic.specs.Denotations.{denotation_of, same_value}
-use Rattle.partial_structures.proofs.Members.{Has, has_from, has_map, has_flat_map}
+use Rattle.kb_logic.proofs.Has.{Has, has_from, contains_from, has_map, has_flat_map}
 use Rattle.partial_structures.proofs.Sames.{same_element, element_itself}
-
-pub contains_from : {X : Type 0} (xs : List X) (x : X) → Has xs x → Contains xs x
-contains_from [] x m = absurd m
-contains_from (y ∷ ys) x (inl e) = (0, omega arith, e)
-contains_from (y ∷ ys) x (inr m) = let c = contains_from ys x m in (suc c.0, omega (arith, c.1), c.2)
 
 found_has : (x : Elem) (d : List Elem) → list_any (λ y. same_value (denotation_of y) (denotation_of x)) d ≡ true → Has d x
 found_has x [] h = absurd (true≢false (sym h))

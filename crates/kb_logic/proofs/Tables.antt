@@ -11,9 +11,8 @@ use Rattle.kb_logic.specs.Structures.{IsDistinct, EachWith, IsRelation, IsRowFor
 use Rattle.kb_logic.specs.Meaning.{rows_of}
 use Rattle.kb_logic.proofs.Atoms.{numbered_at}
 use Rattle.kb_logic.proofs.Members.{from_filter}
-use Rattle.partial_structures.proofs.Members.{Has, has_from, has_enumerated}
-use Rattle.partial_structures.proofs.TestLemmas.{contains_from}
-use Rattle.partial_structures.proofs.Distinct.{map-itself, mapped, numbers_distinct}
+use Rattle.kb_logic.proofs.Has.{Has, has_from, contains_from, has_enumerated}
+use Rattle.kb_logic.proofs.DistinctAtoms.{map-itself, mapped, numbers_distinct}
 
 -- ---- lists item by item
 
