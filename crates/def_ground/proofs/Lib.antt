@@ -7,3 +7,5 @@ pub mod AssertLaws
 pub mod SentenceLaws
 pub mod Counting
 pub mod FewLaws
+pub mod StartLaws
+pub mod ProblemLaws

@@ -6,4 +6,5 @@ pub mod Sentences
 pub mod Problems
 pub mod GroundForms
 pub mod Meanings
+pub mod Groundings
 pub mod Laws

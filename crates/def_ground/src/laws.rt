@@ -1,5 +1,6 @@
 //! Laws of the definitions.
 ghost use Rattle.def_ground.specs.Laws.{CasesAreRight, FormIsRight, AssertionIsRight, SentencesAreAsserted};
+ghost use Rattle.def_ground.specs.Groundings.{ProblemIsRight};
 ghost use Rattle.def_ground.specs.Laws.{OneEachByClauses, FewVariables};
 
 /// What cases come to is what they say.
@@ -30,4 +31,10 @@ pub fn one_each_by_clauses()
 /// A formula adds no more than four variables for each occurrence.
 pub fn few_variables()
     ensures { FewVariables }
+{}
+
+/// Each model of a theory that extends its data is one valuation of its problem, and each valuation
+/// of the problem is one such model.
+pub fn problem_is_right()
+    ensures { ProblemIsRight }
 {}

@@ -32,7 +32,7 @@ is-same minus_infinity = refl
 is-same plus_infinity = refl
 is-same undefined = refl
 
-is-row : (row : List Elem) → is_end (behind row (map denotation_of row)) ≡ true
+pub is-row : (row : List Elem) → is_end (behind row (map denotation_of row)) ≡ true
 is-row [] = refl
 is-row (x ∷ row) = ap (λ m. is_end (cond m (behind row (map denotation_of row)) None)) (is-same (denotation_of x)) ∙ is-row row
 
@@ -43,7 +43,7 @@ true-rest : (m c : Bool) → c ≡ true → cond m true c ≡ true
 true-rest true c e = refl
 true-rest false c e = e
 
-in-rows : (rs : List (List Elem)) (r : List Elem) → Contains rs r → has_row rs (map denotation_of r) ≡ true
+pub in-rows : (rs : List (List Elem)) (r : List Elem) → Contains rs r → has_row rs (map denotation_of r) ≡ true
 in-rows [] r at = absurd (none_in r at)
 in-rows (q ∷ rs) r at = elim (member_cases q r rs at) [
   | inl e ↦ true-first (is_end (behind q (map denotation_of r))) (has_row rs (map denotation_of r)) (ap (λ x. is_end (behind x (map denotation_of r))) e ∙ is-row r)
