@@ -5,7 +5,8 @@ pub mod LeafLaws
 pub mod Leaves
 pub mod AssertLaws
 pub mod SentenceLaws
+pub mod StartLaws
+pub mod KeepLaws
+pub mod ProblemLaws
 pub mod Counting
 pub mod FewLaws
-pub mod StartLaws
-pub mod ProblemLaws

@@ -19,11 +19,13 @@ use Rattle.term_values.specs.KnownBases.{IsGroundBase, known_truth, base_of_data
 use Rattle.term_values.proofs.StructureAtoms.{atom-true}
 use Rattle.term_values.proofs.StructureLaws.{structure-is, structure-same, one-value-each, valuation-of}
 use Rattle.term_values.proofs.KnownLaws.{ground-base, known-extends, extends-known}
-use Rattle.def_ground.specs.Problems.{start_problem, problem_of}
+use Rattle.def_ground.specs.Problems.{fact_of, start_problem, problem_of}
 use Rattle.def_ground.specs.Meanings.{AssertsMore, HasRoom}
 use Rattle.def_ground.specs.Groundings.{IsGroundTheory, IsGroundingOf, ProblemIsRight}
 use Rattle.def_ground.proofs.SentenceLaws.{sentences-said}
-use Rattle.def_ground.proofs.StartLaws.{atoms-length, start-fine, start-room, start-atoms, start-satisfied}
+use Rattle.def_ground.proofs.StartLaws.{atoms-length, start-fine, start-room, start-atoms, start-satisfied, fact-in-start}
+use Rattle.def_ground.proofs.KeepLaws.{Keeps, sentences-keep}
+use Rattle.kb_logic.proofs.Has.{Has, has_left, contains_from}
 
 all-one : (p : FormulaTree → Bool) (fs : List FormulaTree) → list_all p fs ≡ true → AllByRecursion (λ f. IsTrue (p f)) fs
 all-one p [] h = tt
@@ -106,8 +108,16 @@ module _ (base : Base) (theory : IsGroundTheory base) where
         chosen = tt;
       }
 
+  keeps : Keeps (start_problem (base_of_data base.vocabulary base.known)) (problem_of (base_of_data base.vocabulary base.known) base.theory.sentences)
+  keeps = sentences-keep (base_of_data base.vocabulary base.known) base.theory.sentences (start_problem (base_of_data base.vocabulary base.known))
+
   pub problem-right : IsGroundingOf base (problem_of (base_of_data base.vocabulary base.known) base.theory.sentences)
   problem-right = record {
+    atoms = keeps.atoms;
+    facts = λ n x known.
+        let gb = base_of_data base.vocabulary base.known in
+        contains_from (problem_of gb base.theory.sentences).clauses (fact_of n x ∷ [])
+        (subst (λ cs. Has cs (fact_of n x ∷ [])) (sym keeps.clauses) (has_left (start_problem gb).clauses keeps.more (fact_of n x ∷ []) (fact-in-start gb is n x known)));
     extends = model-gives;
     unique = λ v w s t same. asserts.unique v w s t (same-at v w same);
     gives = valuation-gives;

@@ -12,7 +12,7 @@ use Rattle.kb_logic.specs.Structures.{domain_at, tuples_of, functions_of}
 use Rattle.kb_logic.specs.Models.{GroundAtom}
 use Rattle.kb_logic.specs.KnownAtoms.{atoms_with, atoms_over}
 use Rattle.kb_logic.specs.Bounds.{domain_if, value_type_of}
-use Rattle.kb_logic.proofs.Has.{Has, has_enumerated, enumerated_has}
+use Rattle.kb_logic.proofs.Has.{Has, has_right, has_enumerated, enumerated_has}
 use Rattle.kb_logic.proofs.Tables.{function_has}
 use Rattle.lit_core.specs.declared.literals.Lit.{Lit}
 use Rattle.lit_core.specs.Literals.{negated, by_sign}
@@ -28,7 +28,7 @@ use Rattle.term_values.specs.Rows.{positive_lit}
 use Rattle.term_values.proofs.Places.{plain-atom, valued-atom, predicate-variable, function-variable}
 use Rattle.term_values.proofs.StructureAtoms.{tuples-are, values-are}
 use Rattle.term_values.proofs.StructureLaws.{declared-function, function-of, is-function, only-atoms-matter}
-use Rattle.def_ground.specs.Problems.{pair_clauses, variables_from, tuple_clauses, function_clauses, all_function_clauses, fact_clauses, start_problem}
+use Rattle.def_ground.specs.Problems.{fact_of, pair_clauses, variables_from, tuple_clauses, function_clauses, all_function_clauses, fact_clauses, start_problem}
 use Rattle.def_ground.specs.Meanings.{HasAtoms, HasRoom}
 use Rattle.def_ground.proofs.SentenceLaws.{one-each}
 
@@ -129,7 +129,21 @@ known-facts v n (Some c ∷ os) h =
     All-cons (IsSatisfied v) (l ∷ []) (fact_clauses (n + 1) os) (clause-holds v (l ∷ []) (true-unit c (v n) (ap v number ∙ h 0 c refl)))
     (known-facts v (n + 1) os (λ j x at. let shift : (n + 1) + j ≡ n + suc j = omega arith in ap v shift ∙ h (suc j) x at))
 
-unwrapped : (o : Option (Option Bool)) (x : Bool) → unwrap_or o None ≡ Some x → o ≡ Some (Some x)
+fact-there : (n : ℕ) (os : List (Option Bool)) (j : ℕ) (x : Bool) → slice_get os j ≡ Some (Some x) → Has (fact_clauses n os) (fact_of (n + j) x ∷ [])
+fact-there n [] j x at = cc
+fact-there n (None ∷ os) zero x at = cc
+fact-there n (None ∷ os) (suc j) x at =
+    let shift : (n + 1) + j ≡ n + suc j = omega arith in
+    subst (λ k. Has (fact_clauses (n + 1) os) (fact_of k x ∷ [])) shift (fact-there (n + 1) os j x at)
+fact-there n (Some c ∷ os) zero x at =
+    let number : n ≡ n + 0 = omega arith in
+    let is : c ≡ x = cc in
+    inl (ap (λ k. fact_of k c ∷ []) number ∙ ap (λ y. fact_of (n + 0) y ∷ []) is)
+fact-there n (Some c ∷ os) (suc j) x at =
+    let shift : (n + 1) + j ≡ n + suc j = omega arith in
+    inr (subst (λ k. Has (fact_clauses (n + 1) os) (fact_of k x ∷ [])) shift (fact-there (n + 1) os j x at))
+
+pub unwrapped : (o : Option (Option Bool)) (x : Bool) → unwrap_or o None ≡ Some x → o ≡ Some (Some x)
 unwrapped None x h = cc
 unwrapped (Some o) x h = ap Some h
 
@@ -282,3 +296,11 @@ module _ (b : GroundBase) (is : IsGroundBase b) where
     sums = All-nil (SumHolds v);
     bounds = All-nil (BoundHolds v []);
   }
+
+  -- a known atom has a clause of its one literal
+  pub fact-in-start : (n : ℕ) (x : Bool) → known_of b n ≡ Some x → Has (start_problem b).clauses (fact_of n x ∷ [])
+  fact-in-start zero x h = cc
+  fact-in-start (suc n) x h =
+      let number : 1 + n ≡ suc n = omega arith in
+      has_right (all_function_clauses b) (fact_clauses 1 b.known) (fact_of (suc n) x ∷ [])
+      (subst (λ k. Has (fact_clauses 1 b.known) (fact_of k x ∷ [])) number (fact-there 1 b.known n x (unwrapped (slice_get b.known n) x h)))

@@ -1,9 +1,10 @@
 -- What the definitions promise.
-use Rattle.std.specs.Prelude.{◌≡◌, ℕ, ◌+◌, ◌*◌, ◌≤◌, List, [], ◌∷◌, length, Bool, not, ◌||◌, if◌then◌else◌, All}
+use Rattle.std.specs.Prelude.{◌≡◌, ℕ, ◌+◌, ◌*◌, ◌≤◌, List, [], ◌∷◌, Bool, not, ◌||◌, if◌then◌else◌, All}
 use Rattle.std.specs.List.{list_all, list_any, AllByRecursion}
 use Rattle.kb_logic.specs.declared.elements.Elem.{Elem}
-use Rattle.kb_logic.specs.Trees.{TermTree, TermTrees, FormulaTree}
-use Rattle.kb_logic.specs.Weights.{occurrences, application_count, applications_count}
+use Rattle.kb_logic.specs.Trees.{FormulaTree}
+use Rattle.kb_logic.specs.Bounds.{HasTypes}
+use Rattle.kb_logic.specs.Weights.{occurrences}
 use Rattle.kb_logic.specs.Meaning.{truth_of}
 use Rattle.lit_core.specs.declared.literals.Lit.{Lit}
 use Rattle.lit_core.specs.Literals.{literal_value}
@@ -12,12 +13,12 @@ use Rattle.ground_core.specs.Problems.{ProblemState, IsProblem, AreLitsOf}
 use Rattle.ground_core.specs.Meaning.{Satisfies}
 use Rattle.ground_core.specs.More.{Agree}
 use Rattle.term_values.specs.GroundBases.{GroundBase, structure_of, true_values}
-use Rattle.term_values.specs.Rows.{rows_of_term, rows_of_terms}
 use Rattle.def_ground.specs.Cases.{Case, cases_of}
 use Rattle.def_ground.specs.Forms.{form_of}
 use Rattle.def_ground.specs.Sentences.{assert_of, assert_sentences}
 use Rattle.def_ground.specs.Problems.{one_of_clauses, variables_from}
 use Rattle.def_ground.specs.GroundForms.{IsGroundForm}
+use Rattle.def_ground.specs.TypedForms.{IsTypedForm}
 use Rattle.def_ground.specs.Meanings.{Means, AssertsMore, HasAtoms, HasRoom, IsCaseOf, CasesSay}
 
 -- what cases come to is what they say
@@ -56,13 +57,9 @@ OneEachByClauses =
     → (All (IsSatisfied v) (one_of_clauses (variables_from n xs)) → (x : Elem) × (true_values v n xs ≡ x ∷ []))
     × ((x : Elem) → true_values v n xs ≡ x ∷ [] → All (IsSatisfied v) (one_of_clauses (variables_from n xs)))
 
--- terms have no more rows than their applications have values
-pub record RowsAreFew (b : GroundBase) : Type 0 where
-  pub terms : (t : TermTree) (e : List Elem) → length (rows_of_term b t e) ≤ application_count b.vocabulary b.domains t
-  pub lists : (ts : TermTrees) (e : List Elem) → length (rows_of_terms b ts e) ≤ applications_count b.vocabulary b.domains ts
-
--- no more new variables than four for each occurrence
+-- a well typed formula adds no more than four variables for each of its occurrences
 abbrev pub FewVariables : Type 0
 FewVariables =
-    (b : GroundBase) (f : FormulaTree) (e : List Elem) (p : ProblemState) → RowsAreFew b
+    (b : GroundBase) (f : FormulaTree) (scope : List ℕ) (e : List Elem) (p : ProblemState)
+    → HasTypes b.domains scope e → IsTypedForm b.vocabulary b.domains scope f
     → (form_of b f e p).problem.vars ≤ p.vars + 4 * occurrences b.vocabulary b.domains f 1

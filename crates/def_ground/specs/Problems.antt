@@ -40,10 +40,14 @@ function_clauses b s = flat_map (λ (r : ℕ × List Elem). tuple_clauses b s r.
 abbrev pub all_function_clauses : GroundBase → List (List Lit)
 all_function_clauses b = flat_map (λ (s : ℕ × Symbol). function_clauses b s.0) (functions_of b.vocabulary)
 
+-- that a variable has a value
+abbrev pub fact_of : ℕ → Bool → Lit
+fact_of n x = record { var = record { 0 = n }; positive = x }
+
 -- what is known of the atom of a variable
 abbrev pub fact_clause : ℕ → Option Bool → List (List Lit)
 fact_clause n None = []
-fact_clause n (Some c) = (record { var = record { 0 = n }; positive = c } ∷ []) ∷ []
+fact_clause n (Some x) = (fact_of n x ∷ []) ∷ []
 
 -- what is known of the atoms from a variable on, a clause of one literal for each known one
 abbrev pub fact_clauses : ℕ → List (Option Bool) → List (List Lit)

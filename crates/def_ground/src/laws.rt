@@ -1,6 +1,6 @@
 //! Laws of the definitions.
 ghost use Rattle.def_ground.specs.Laws.{CasesAreRight, FormIsRight, AssertionIsRight, SentencesAreAsserted};
-ghost use Rattle.def_ground.specs.Groundings.{ProblemIsRight};
+ghost use Rattle.def_ground.specs.Groundings.{ProblemIsRight, ProblemIsSmall};
 ghost use Rattle.def_ground.specs.Laws.{OneEachByClauses, FewVariables};
 
 /// What cases come to is what they say.
@@ -28,7 +28,7 @@ pub fn one_each_by_clauses()
     ensures { OneEachByClauses }
 {}
 
-/// A formula adds no more than four variables for each occurrence.
+/// A well typed formula adds no more than four variables for each occurrence.
 pub fn few_variables()
     ensures { FewVariables }
 {}
@@ -37,4 +37,9 @@ pub fn few_variables()
 /// of the problem is one such model.
 pub fn problem_is_right()
     ensures { ProblemIsRight }
+{}
+
+/// The problem of a theory has no more variables than the knowledge base weighs.
+pub fn problem_is_small()
+    ensures { ProblemIsSmall }
 {}

@@ -6,3 +6,4 @@ pub mod Chosen
 pub mod StructureAtoms
 pub mod StructureLaws
 pub mod KnownLaws
+pub mod FewRows

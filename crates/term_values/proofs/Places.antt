@@ -5,6 +5,7 @@ use Rattle.std.specs.List.{enumerate_from, sum_by}
 use Rattle.std.proofs.lemmas.List.{length-map}
 use Rattle.std.proofs.Math.Seq.{take-length}
 use Rattle.std.proofs.lemmas.List.Concat.{length-flat_map}
+use Rattle.std.proofs.lemmas.List.Sums.{sum_by-cons}
 use Rattle.std.proofs.lemmas.Option.{slice_get_within, slice_get-map}
 use Rattle.kb_logic.specs.declared.elements.Elem.{Elem}
 use Rattle.kb_logic.specs.declared.vocabularies.Symbol.{Symbol}
@@ -172,3 +173,18 @@ module _ (b : GroundBase) where
           atom = q.9;
         })
       ]
+
+sum-numbered : (f : ℕ × Symbol → ℕ) (g : Symbol → ℕ) → ((p : ℕ × Symbol) → f p ≡ g p.1) → (n : ℕ) (xs : List Symbol) → sum_by f (enumerate_from n xs) ≡ sum_by g xs
+sum-numbered f g is n [] = refl
+sum-numbered f g is n (x ∷ xs) =
+    let left = sum_by-cons f (n, x) (enumerate_from (n + 1) xs) in
+    let right = sum_by-cons g x xs in
+    let here = is (n, x) in
+    let rest = sum-numbered f g is (n + 1) xs in
+    omega (arith, left, right, here, rest)
+
+-- how many ground atoms there are
+pub atoms-count : (b : GroundBase) → length (atoms_over b.vocabulary.symbols b.domains) ≡ sum_by (atoms_in b.domains) b.vocabulary.symbols
+atoms-count b =
+    length-flat_map (parts b) (enumerate_from 0 b.vocabulary.symbols)
+    ∙ sum-numbered (λ p. length (parts b p)) (atoms_in b.domains) (λ p. with-size b.domains p.0 (tuples_of b.domains p.1.args) p.1.value) 0 b.vocabulary.symbols

@@ -47,7 +47,7 @@ same-parts : {A B : Type 0} (f g : A → List B) (xs : List A) → ((x : A) → 
 same-parts f g [] h = refl
 same-parts f g (x ∷ xs) h = ap (λ ys. ys ++ flat_map f xs) (h x (inl refl)) ∙ ap (λ ys. g x ++ ys) (same-parts f g xs (λ y m. h y (inr m)))
 
-each-at : {A B : Type 0} (R : A → B → Type 0) (xs : List A) (ys : List B) (k : ℕ) (x : A) → EachWith R xs ys → slice_get xs k ≡ Some x → (y : B) × (slice_get ys k ≡ Some y) × R x y
+pub each-at : {A B : Type 0} (R : A → B → Type 0) (xs : List A) (ys : List B) (k : ℕ) (x : A) → EachWith R xs ys → slice_get xs k ≡ Some x → (y : B) × (slice_get ys k ≡ Some y) × R x y
 each-at R [] [] k x e at = cc
 each-at R [] (y ∷ ys) k x e at = absurd e
 each-at R (z ∷ xs) [] k x e at = absurd e

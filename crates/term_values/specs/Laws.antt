@@ -4,13 +4,16 @@ use Rattle.kb_logic.specs.declared.elements.Elem.{Elem}
 use Rattle.kb_logic.specs.declared.structures.Structure.{Structure}
 use Rattle.kb_logic.specs.declared.vocabularies.Vocabulary.{Vocabulary}
 use Rattle.kb_logic.specs.Structures.{IsStructure}
-use Rattle.kb_logic.specs.Trees.{TermTree}
+use Rattle.kb_logic.specs.Bounds.{HasTypes}
+use Rattle.kb_logic.specs.Weights.{application_count, applications_count}
+use Rattle.kb_logic.specs.Trees.{TermTree, TermTrees}
 use Rattle.kb_logic.specs.Meaning.{value_of}
 use Rattle.kb_logic.specs.Models.{GroundAtom, AtomHolds}
 use Rattle.kb_logic.specs.KnownAtoms.{KnownAtoms, ExtendsData, atoms_over}
 use Rattle.term_values.specs.GroundBases.{GroundBase, structure_of, OneValueEach, HasKnown, IsOver}
 use Rattle.term_values.specs.KnownBases.{IsGroundBase, base_of_data, AreDataOf}
-use Rattle.term_values.specs.Rows.{rows_of_term, selected_values}
+use Rattle.term_values.specs.Rows.{rows_of_term, rows_of_terms, selected_values}
+use Rattle.term_values.specs.TypedTerms.{IsTypedTerm, AreTypedTerms}
 use Rattle.term_values.specs.GroundTerms.{IsGroundTerm}
 
 -- exactly one row has true guards, and its value is the term's in the structure of the valuation
@@ -49,3 +52,12 @@ abbrev pub KnownIsExtended : Type 0
 KnownIsExtended =
     (v : Vocabulary) (k : KnownAtoms) (w : ℕ → Bool) → AreDataOf v k
     → HasKnown (base_of_data v k) w ↔ ExtendsData (structure_of (base_of_data v k) w) k
+
+-- well typed terms have no more rows than their applications have values
+abbrev pub RowsAreFew : Type 0
+RowsAreFew =
+    (b : GroundBase) (scope : List ℕ) (e : List Elem) → HasTypes b.domains scope e
+    → ((t : TermTree) → IsTypedTerm b.vocabulary b.domains scope t
+    → length (rows_of_term b t e) ≤ application_count b.vocabulary b.domains t)
+    × ((ts : TermTrees) → AreTypedTerms b.vocabulary b.domains scope ts
+    → length (rows_of_terms b ts e) ≤ applications_count b.vocabulary b.domains ts)

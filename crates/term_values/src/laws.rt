@@ -1,5 +1,5 @@
 //! Laws of the structures of valuations, and of the rows of terms.
-ghost use Rattle.term_values.specs.Laws.{RowsAreRight, AtomsHaveVariables, ValuationsMakeStructures};
+ghost use Rattle.term_values.specs.Laws.{RowsAreRight, RowsAreFew, AtomsHaveVariables, ValuationsMakeStructures};
 ghost use Rattle.term_values.specs.Laws.{StructuresHaveValuations, OnlyAtomsMatter, KnownIsExtended};
 
 /// Exactly one row of a term has true guards, and its value is the term's.
@@ -30,4 +30,9 @@ pub fn only_atoms_matter()
 /// A valuation has what is known exactly where its structure extends the data.
 pub fn known_is_extended()
     ensures { KnownIsExtended }
+{}
+
+/// A well typed term has no more rows than its applications have values.
+pub fn rows_are_few()
+    ensures { RowsAreFew }
 {}

@@ -5,6 +5,6 @@
 mod laws;
 
 pub use laws::{
-    atoms_have_variables, known_is_extended, only_atoms_matter, rows_are_right,
+    atoms_have_variables, known_is_extended, only_atoms_matter, rows_are_few, rows_are_right,
     structures_have_valuations, valuations_make_structures,
 };
