@@ -1,7 +1,7 @@
 -- Clauses that stand in an arena.
 use Rattle.std.proofs.Common.{◌≡◌, ℕ, zero, suc, ◌<◌, ◌≤◌, ◌+◌, ◌-◌, ◌^◌, Bool, true, false, cond, Option, Some, None, List, [], ◌∷◌, ◌++◌, length, length-append, map, set, take, drop, refl, sym, ap, ◌∙◌, ⊎_elim, arith, slice_get, subst, vec_len, vec_capacity}
 use Rattle.std.specs.List.{dedup, dedup_from}
-use Rattle.std.proofs.lemmas.Option.{slice_get-map, slice_get_within, same_Some}
+use Rattle.std.proofs.lemmas.Option.{slice_get_within, same_Some}
 use Rattle.std.proofs.lemmas.List.{take-append-le, drop-append-le, length-drop, take_all, map_push}
 use Rattle.std.proofs.Math.Seq.{drop-append_seam}
 use Rattle.std.proofs.lemmas.Bool.{cases_eq}
@@ -9,7 +9,7 @@ use Rattle.lit_core.specs.declared.literals.Lit.{Lit}
 use Rattle.clause_base.specs.declared.clause_db.Entry.{Entry}
 use Rattle.clause_base.specs.declared.clause_db.ClauseDb.TheInside.{Inside}
 use Rattle.clause_base.specs.ClauseDbFields.{IsKept, HasRoom, clause_of, part_of, state_of}
-use Rattle.clause_base.proofs.ListFacts.{slice_get-set_same, slice_get-set_other, slice_get-push_cases}
+use Rattle.clause_base.proofs.ListFacts.{slice_get-mapped, slice_get-set_same, slice_get-set_other, slice_get-push_cases}
 
 -- taking repetitions out makes no list longer
 dedup_from-le : {X : Type 0} (same : X → X → Bool) (k : X) (xs : List X) → length (dedup_from same k xs) ≤ suc (length xs)
@@ -29,7 +29,7 @@ dedup-le same (x ∷ xs) = dedup_from-le same x xs
 
 -- the clause of an entry, and of none where it was removed
 pub held-at : (lits : List Lit) (entries : List Entry) (id : ℕ) (e : Entry) → slice_get entries id ≡ Some e → slice_get (map (clause_of lits) entries) id ≡ Some (clause_of lits e)
-held-at lits entries id e h = slice_get-map (clause_of lits) entries id ∙ ap (λ (o : Option Entry). elim o as (λ _. Option (Option (List Lit))) [ None ↦ None | Some x ↦ Some (clause_of lits x) ]) h
+held-at lits entries id e h = slice_get-mapped (clause_of lits) entries id e h
 
 pub part-is : (lits : List Lit) (start size m : ℕ) → (size ≡ 0 → ⊥) → m ≡ size - 1 → part_of lits start size ≡ Some (take m (drop start lits))
 part-is lits start zero m ne is = absurd (ne refl)

@@ -1,5 +1,5 @@
 -- Lemmas on lists that std lacks.
-use Rattle.std.proofs.Common.{◌≡◌, ℕ, suc, zero, ◌<◌, ◌≤◌, ◌+◌, Bool, true, false, cond, Some, List, [], ◌∷◌, ◌++◌, length, get_or, set, take, drop, refl, sym, ap, ◌∙◌, ◌⊎◌, inl, inr, ⊎_elim, arith, slice_get, count_by}
+use Rattle.std.proofs.Common.{◌≡◌, ℕ, suc, zero, ◌<◌, ◌≤◌, ◌+◌, Bool, true, false, cond, Some, List, [], ◌∷◌, ◌++◌, length, get_or, map, set, take, drop, refl, sym, ap, ◌∙◌, ◌⊎◌, inl, inr, ⊎_elim, arith, slice_get, count_by}
 use Rattle.std.proofs.lemmas.Option.{slice_get_within, get_or_from_slice_get, same_Some}
 use Rattle.std.proofs.lemmas.List.Sums.{sum_by-set, sum_by_push, sum_by-cons, sum_by-le-sum_by, count_by-le-length}
 
@@ -12,6 +12,12 @@ slice_get-push_old (z ∷ xs) y (suc k) x h = slice_get-push_old xs y k x h
 pub slice_get-push_new : {X : Type 0} (xs : List X) (y : X) → slice_get (xs ++ y ∷ []) (length xs) ≡ Some y
 slice_get-push_new [] y = refl
 slice_get-push_new (z ∷ xs) y = slice_get-push_new xs y
+
+-- an element of a list, as the list is mapped
+pub slice_get-mapped : {X Y : Type 0} (f : X → Y) (xs : List X) (k : ℕ) (x : X) → slice_get xs k ≡ Some x → slice_get (map f xs) k ≡ Some (f x)
+slice_get-mapped f [] k x h = absurd (cc)
+slice_get-mapped f (y ∷ xs) zero x h = ap Some (ap f (same_Some y x h))
+slice_get-mapped f (y ∷ xs) (suc k) x h = slice_get-mapped f xs k x h
 
 -- an element of a list is there before more
 pub slice_get-append_left : {X : Type 0} (xs ys : List X) (k : ℕ) (x : X) → slice_get xs k ≡ Some x → slice_get (xs ++ ys) k ≡ Some x

@@ -12,7 +12,7 @@ use Rattle.clause_store.specs.declared.attachment.WatchChoice.TheVariants.{Two}
 use Rattle.clause_base.specs.ListsState.{ListsState, HasLaws, nodes_of}
 use Rattle.clause_base.specs.StoreState.{IsHeld}
 use Rattle.clause_base.specs.TrailLaws.{IsMade}
-use Rattle.clause_store.specs.Watching.{code_of, store_of, IsWatcher, IsWatchNode, IsListed, IsNodeOf, IsWatched}
+use Rattle.clause_store.specs.Watching.{code_of, store_of, HasWatch, IsWatcher, IsWatchNode, IsListed, IsNodeOf, IsWatched}
 use Rattle.clause_store.specs.Visits.{CanAttach, IsPartner, WatchChoiceGives}
 use Rattle.clause_base.proofs.ListFacts.{slice_get-set_same, slice_get-set_other}
 use Rattle.clause_store.proofs.WatchFacts.{guards-unfalse, same-held}
@@ -48,20 +48,14 @@ enlists old new to node here rest = record {
       (cases_eq j to);
 }
 
-module _ (e : Watcher) (h : IsWatcher e) (more : e.checked < length e.held.clauses) (w : Watch) (mid lists : ListsState) (first : Enlists e.lists mid (code_of w.first) (2 * e.checked)) (second : Enlists mid lists (code_of w.second) (2 * e.checked + 1)) where
+module _ (e : Watcher) (h : IsWatcher e) (more : e.checked < length e.held.clauses) (w : Watch) (mid lists : ListsState) (mine : HasWatch lists.labels e.checked w) (theirs : (i : ℕ) (v : Watch) → (i ≡ e.checked → ⊥) → HasWatch e.lists.labels i v → HasWatch lists.labels i v) (first : Enlists e.lists mid (code_of w.first) (2 * e.checked)) (second : Enlists mid lists (code_of w.second) (2 * e.checked + 1)) where
   abbrev after-attach : Watcher
-  after-attach = record { held = e.held; watches = with_item e.watches e.checked w; lists = lists; trail = e.trail; queue = e.queue; checked = e.checked + 1; stale = e.stale }
-
-  within : e.checked < length e.watches.items
-  within = let a : length e.held.clauses ≤ length e.watches.items = h.watches in omega arith
-
-  at-next : slice_get (set e.watches.items e.checked w) e.checked ≡ Some w
-  at-next = slice_get-set_same e.watches.items e.checked w within
+  after-attach = record { held = e.held; lists = lists; trail = e.trail; queue = e.queue; checked = e.checked + 1; stale = e.stale }
 
   listed-next : IsListed after-attach e.checked
   listed-next = record {
     watch = w;
-    is_watch = at-next;
+    is_watch = mine;
     first = second.kept (code_of w.first) (2 * e.checked) first.there;
     second = second.there;
   }
@@ -69,30 +63,30 @@ module _ (e : Watcher) (h : IsWatcher e) (more : e.checked < length e.held.claus
   listed-before : (i : ℕ) → (i ≡ e.checked → ⊥) → IsListed e i → IsListed after-attach i
   listed-before i ne g = record {
     watch = g.watch;
-    is_watch = slice_get-set_other e.watches.items e.checked i w ne ∙ g.is_watch;
+    is_watch = theirs i g.watch ne g.is_watch;
     first = second.kept (code_of g.watch.first) (2 * i) (first.kept (code_of g.watch.first) (2 * i) g.first);
     second = second.kept (code_of g.watch.second) (2 * i + 1) (first.kept (code_of g.watch.second) (2 * i + 1) g.second);
   }
 
-  pub attach-watcher : HasLaws lists → lists.nodes ≡ e.lists.nodes → length lists.lists ≡ length e.lists.lists → w.first.var.0 < length e.trail.values → w.second.var.0 < length e.trail.values → CanAttach e w → IsWatcher after-attach
+  pub attach-watcher : HasLaws lists → length lists.labels ≡ length e.lists.labels → length lists.lists ≡ length e.lists.lists → w.first.var.0 < length e.trail.values → w.second.var.0 < length e.trail.values → CanAttach e w → IsWatcher after-attach
   attach-watcher laws nodes count in_first in_second can =
-      let owned-next : (n : ℕ) → IsNodeOf n e.checked → IsWatchNode after-attach n = λ n of. record { id = e.checked; of = of; checked = omega arith; watch = w; is_watch = at-next; first = in_first; second = in_second } in
+      let owned-next : (n : ℕ) → IsNodeOf n e.checked → IsWatchNode after-attach n = λ n of. record { id = e.checked; of = of; checked = omega arith; watch = w; is_watch = mine; first = in_first; second = in_second } in
       let owned-before : (j n : ℕ) → Contains (nodes_of e.lists j) n → IsWatchNode after-attach n = λ j n has. (
       let g = h.owned j n has in
       let lt : g.id < e.checked = g.checked in
-      record { id = g.id; of = g.of; checked = omega arith; watch = g.watch; is_watch = slice_get-set_other e.watches.items e.checked g.id w (λ x. let y : g.id ≡ e.checked = x in omega arith) ∙ g.is_watch; first = g.first; second = g.second }) in
+      record { id = g.id; of = g.of; checked = omega arith; watch = g.watch; is_watch = theirs g.id g.watch (λ x. let y : g.id ≡ e.checked = x in omega arith) g.is_watch; first = g.first; second = g.second }) in
       record {
         store = h.store;
         lists = laws;
         queue = h.queue;
         checked = omega arith;
-        watches = rw length-set h.watches;
-        nodes = let k : 2 * length e.held.clauses ≤ e.lists.nodes = h.nodes in omega arith;
+        nodes = let k : 2 * length e.held.clauses ≤ length e.lists.labels = h.nodes in omega arith;
         count = let k : 2 * length e.trail.values ≤ length e.lists.lists = h.count in omega arith;
-        room = λ spare. let r = h.room spare in (rw length-set r.0, let k : 2 * length e.held.clauses + 2 ≤ e.lists.nodes = r.1 in omega arith);
+        small = h.small;
+        room = λ spare. let k : 2 * length e.held.clauses + 2 ≤ length e.lists.labels = h.room spare in omega arith;
         guarded = λ i c lt held. ⊎_elim
-            (λ same. (w, ap (slice_get (set e.watches.items e.checked w)) same ∙ at-next, can c (subst (λ (n : ℕ). IsHeld (store_of e) n c) same held)))
-            (λ ne. let g = h.guarded i c (omega arith) held in (g.0, slice_get-set_other e.watches.items e.checked i w ne ∙ g.1, g.2))
+            (λ same. (w, subst (λ (n : ℕ). HasWatch lists.labels n w) (sym same) mine, can c (subst (λ (n : ℕ). IsHeld (store_of e) n c) same held)))
+            (λ ne. let g = h.guarded i c (omega arith) held in (g.0, theirs i g.0 ne g.1, g.2))
             (cases_eq i e.checked);
         current = h.current;
         listed = λ i c lt held. ⊎_elim
@@ -106,15 +100,15 @@ module _ (e : Watcher) (h : IsWatcher e) (more : e.checked < length e.held.claus
       }
 
 -- a removed clause is passed over
-pub skip-watcher : (e : Watcher) → IsWatcher e → e.checked < length e.held.clauses → ((c : List Lit) → IsHeld (store_of e) e.checked c → ⊥) → IsWatcher (record { held = e.held; watches = e.watches; lists = e.lists; trail = e.trail; queue = e.queue; checked = e.checked + 1; stale = e.stale })
+pub skip-watcher : (e : Watcher) → IsWatcher e → e.checked < length e.held.clauses → ((c : List Lit) → IsHeld (store_of e) e.checked c → ⊥) → IsWatcher (record { held = e.held; lists = e.lists; trail = e.trail; queue = e.queue; checked = e.checked + 1; stale = e.stale })
 skip-watcher e h more gone = record {
   store = h.store;
   lists = h.lists;
   queue = h.queue;
   checked = omega arith;
-  watches = h.watches;
   nodes = h.nodes;
   count = h.count;
+  small = h.small;
   room = h.room;
   guarded = λ i c lt held. ⊎_elim
       (λ same. absurd (gone c (subst (λ (n : ℕ). IsHeld (store_of e) n c) same held)))

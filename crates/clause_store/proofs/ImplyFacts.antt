@@ -11,7 +11,7 @@ use Rattle.clause_base.specs.Links.{last_of}
 use Rattle.clause_base.specs.ListsState.{nodes_of}
 use Rattle.clause_base.specs.StoreState.{IsStore, IsHeld, Implies, Propagates}
 use Rattle.clause_base.specs.TrailLaws.{with_step}
-use Rattle.clause_store.specs.Watching.{code_of, store_of, Guarded, IsWatcher, IsGood, IsWatchNode, IsNodeOf, IsPair, IsWatched}
+use Rattle.clause_store.specs.Watching.{HasWatch, code_of, store_of, Guarded, IsWatcher, IsGood, IsWatchNode, IsNodeOf, IsPair, IsWatched}
 use Rattle.clause_store.specs.Visits.{CanImply, IsNext, Keeps, Passes, VisitGives}
 use Rattle.clause_base.proofs.ListFacts.{slice_get-push_cases}
 use Rattle.clause_base.proofs.PropagateFacts.{propagates-refl, propagates-step}
@@ -30,12 +30,12 @@ passes-node old new node f before same front rest is last =
     (front ++ node ∷ [], ap (λ s. nodes_of s (code_of f)) same ∙ is ∙ sym (append_assoc front (node ∷ []) rest), last-push front node)
 
 -- what enlists stays so over a longer trail
-pub owned-sized : (e : Watcher) (t : Step) (n : ℕ) → IsWatchNode e n → IsWatchNode (record { held = e.held; watches = e.watches; lists = e.lists; trail = with_step e.trail t; queue = e.queue; checked = e.checked; stale = e.stale }) n
+pub owned-sized : (e : Watcher) (t : Step) (n : ℕ) → IsWatchNode e n → IsWatchNode (record { held = e.held; lists = e.lists; trail = with_step e.trail t; queue = e.queue; checked = e.checked; stale = e.stale }) n
 owned-sized e t n h = record { id = h.id; of = h.of; checked = h.checked; watch = h.watch; is_watch = h.is_watch; first = rw length-set h.first; second = rw length-set h.second }
 
 module _ (e : Watcher) (h : IsWatcher e) (node : ℕ) (f : Lit) (next : IsNext e f) (other : Lit) (m : CanImply e node f other) where
   abbrev after-imply : Watcher
-  after-imply = record { held = e.held; watches = e.watches; lists = e.lists; trail = with_step e.trail (record { lit = other; level = e.trail.level; reason = Some m.id }); queue = e.queue; checked = e.checked; stale = e.stale }
+  after-imply = record { held = e.held; lists = e.lists; trail = with_step e.trail (record { lit = other; level = e.trail.level; reason = Some m.id }); queue = e.queue; checked = e.checked; stale = e.stale }
 
   pub other-within : other.var.0 < length e.trail.values
   other-within = literal-within e h m.id m.clause m.loose.held other m.loose.has_other
@@ -56,9 +56,9 @@ module _ (e : Watcher) (h : IsWatcher e) (node : ℕ) (f : Lit) (next : IsNext e
         lists = h.lists;
         queue = omega arith;
         checked = h.checked;
-        watches = h.watches;
         nodes = h.nodes;
         count = rw length-set h.count;
+        small = rw length-set h.small;
         room = h.room;
         guarded = λ i c lt held. let g = h.guarded i c lt held in (g.0, g.1, watched-push e.trail.steps t e.queue e.stale c g.0 h.queue g.2);
         current = λ n k u le eu. ⊎_elim (λ o. h.current n k u le o) (λ x. ap (λ (y : Step). y.level) x.1) (slice_get-push_cases e.trail.steps t k u eu);
@@ -98,7 +98,7 @@ module _ (e : Watcher) (h : IsWatcher e) (node : ℕ) (f : Lit) (next : IsNext e
       })
       m.loose.sides in
       let held2 : IsHeld (store_of e) m.id c = subst (λ (n : ℕ). IsHeld (store_of e) n c) same held in
-      (m.loose.watch, ap (slice_get e.watches.items) same ∙ m.loose.is_watch, subst (λ (x : List Lit). IsWatched steps (e.queue + 1) e.stale x m.loose.watch) (same-held (store_of e) m.id m.clause c m.loose.held held2) here)
+      (m.loose.watch, subst (λ (n : ℕ). HasWatch e.lists.labels n m.loose.watch) (sym same) m.loose.is_watch, subst (λ (x : List Lit). IsWatched steps (e.queue + 1) e.stale x m.loose.watch) (same-held (store_of e) m.id m.clause c m.loose.held held2) here)
 
   pub imply-done : (before : Option ℕ) → VisitGives e after-imply node f before (Done (Some node))
   imply-done before = (passes-node e after-imply node f before refl, imply-watched)

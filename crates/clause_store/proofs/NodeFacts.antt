@@ -1,6 +1,8 @@
 -- Where the nodes of clauses link.
-use Rattle.std.proofs.Common.{◌≡◌, ℕ, ◌<◌, ◌≤◌, ◌+◌, ◌*◌, ◌^◌, Bool, true, false, cond, Some, List, length, refl, sym, ap, ◌∙◌, ◌⊎◌, inl, inr, ⊎_elim, arith, slice_get, subst, Contains}
+use Rattle.std.proofs.Common.{◌≡◌, ℕ, ◌<◌, ◌≤◌, ◌+◌, ◌*◌, ◌^◌, Bool, true, false, cond, Some, List, length, set, refl, sym, ap, ◌∙◌, ◌⊎◌, inl, inr, ⊎_elim, arith, slice_get, subst, Contains}
 use Rattle.std.proofs.lemmas.Option.{same_Some}
+use Rattle.std.proofs.lemmas.List.{length-set}
+use Rattle.clause_base.proofs.ListFacts.{slice_get-set_same, slice_get-set_other}
 use Rattle.std.proofs.lemmas.List.Elements.{All-contains}
 use Rattle.lit_core.specs.declared.literals.Lit.{Lit}
 use Rattle.lit_core.specs.Literals.{value_in}
@@ -10,7 +12,7 @@ use Rattle.clause_store.specs.declared.watched.Watcher.{Watcher}
 use Rattle.clause_store.specs.declared.propagation.Look.TheVariants.{Satisfied, Unsatisfied}
 use Rattle.clause_base.specs.ListsState.{nodes_of}
 use Rattle.clause_base.specs.StoreState.{IsHeld}
-use Rattle.clause_store.specs.Watching.{code_of, store_of, IsWatcher, IsNodeOf, IsPair, IsWatched}
+use Rattle.clause_store.specs.Watching.{code_of, store_of, HasWatch, IsWatcher, IsNodeOf, IsPair, IsWatched}
 use Rattle.clause_store.specs.Visits.{IsNext, LookGives}
 use Rattle.clause_store.proofs.WatchFacts.{pair-swap, pair-true}
 
@@ -30,6 +32,32 @@ code-le l = by_sign l.positive
     by_sign : (p : Bool) → 2 * l.var.0 + cond p 1 0 ≤ 2 * l.var.0 + 1
     by_sign true = omega arith
     by_sign false = omega arith
+
+-- a clause watches just two literals
+pub same-watch : (labels : List ℕ) (id : ℕ) (v w : Watch) → HasWatch labels id v → HasWatch labels id w → v ≡ w
+same-watch labels id v w hv hw =
+    let first : v.first ≡ w.first = code-same v.first w.first (same_Some (code_of v.first) (code_of w.first) (sym hv.first ∙ hw.first)) in
+    let second : v.second ≡ w.second = code-same v.second w.second (same_Some (code_of v.second) (code_of w.second) (sym hv.second ∙ hw.second)) in
+    let make : Lit → Lit → Watch = λ a b. record { first = a; second = b } in
+    ap (λ (a : Lit). make a v.second) first ∙ ap (λ (b : Lit). make w.first b) second
+
+-- what is written on another clause's node
+pub label-other : (labels : List ℕ) (node x i : ℕ) (v : Watch) → (IsNodeOf node i → ⊥) → HasWatch labels i v → HasWatch (set labels node x) i v
+label-other labels node x i v ne h = record {
+  first = slice_get-set_other labels node (2 * i + 1) x (λ e. ne (inr (sym e))) ∙ h.first;
+  second = slice_get-set_other labels node (2 * i) x (λ e. ne (inl (sym e))) ∙ h.second;
+}
+
+-- what is written on both nodes of a clause
+pub label-both : (labels : List ℕ) (id x y : ℕ) (w : Watch) → 2 * id + 1 < length labels → x ≡ code_of w.second → y ≡ code_of w.first → HasWatch (set (set labels (2 * id) x) (2 * id + 1) y) id w
+label-both labels id x y w within second first = record {
+  first = slice_get-set_same (set labels (2 * id) x) (2 * id + 1) y (rw length-set within) ∙ ap Some first;
+  second = slice_get-set_other (set labels (2 * id) x) (2 * id + 1) (2 * id) y (λ e. omega arith) ∙ slice_get-set_same labels (2 * id) x (omega arith) ∙ ap Some second;
+}
+
+-- the number of a literal of the store fits in 32 bits
+pub code-small : (e : Watcher) → IsWatcher e → (l : Lit) → l.var.0 < length e.trail.values → l.var.0 < 2 ^ 31
+code-small e h l lt = let small : length e.trail.values ≤ 2 ^ 31 = h.small in omega arith
 
 -- a literal of the store has a list
 pub code-within : (e : Watcher) → IsWatcher e → (l : Lit) → l.var.0 < length e.trail.values → code_of l < length e.lists.lists
@@ -59,7 +87,7 @@ literal-within e h id c held l has = All-contains (λ (m : Lit). m.var.0 < lengt
 -- the literal of the list in which a node enlists is the one that its clause watches there
 pub record Sides (e : Watcher) (node id : ℕ) (f : Lit) (c : List Lit) : Type 0 where
   pub watch : Watch
-  pub is_watch : slice_get e.watches.items id ≡ Some watch
+  pub is_watch : HasWatch e.lists.labels id watch
   pub watched : IsWatched e.trail.steps e.queue e.stale c watch
   pub side : ((node ≡ 2 * id) × (watch.first ≡ f)) ⊎ ((node ≡ 2 * id + 1) × (watch.second ≡ f))
 
@@ -76,7 +104,7 @@ module _ (e : Watcher) (h : IsWatcher e) (f : Lit) (node : ℕ) (listed : Contai
       let lt = node-checked id of in
       let g = h.guarded id c lt held in
       let w = h.listed id c lt held in
-      let same : w.watch ≡ g.0 = same_Some w.watch g.0 (sym w.is_watch ∙ g.1) in
+      let same : w.watch ≡ g.0 = same-watch e.lists.labels id w.watch g.0 w.is_watch g.1 in
       record {
         watch = g.0;
         is_watch = g.1;
@@ -88,11 +116,11 @@ module _ (e : Watcher) (h : IsWatcher e) (f : Lit) (node : ℕ) (listed : Contai
       }
 
   -- what a look at the watches gives
-  module _ (next : IsNext e f) (watch : Watch) (other : Lit) (at : (id : ℕ) → IsNodeOf node id → slice_get e.watches.items id ≡ Some watch) (first : (id : ℕ) → node ≡ 2 * id → other ≡ watch.second) (second : (id : ℕ) → node ≡ 2 * id + 1 → other ≡ watch.first) where
+  module _ (next : IsNext e f) (watch : Watch) (other : Lit) (at : (id : ℕ) → IsNodeOf node id → HasWatch e.lists.labels id watch) (first : (id : ℕ) → node ≡ 2 * id → other ≡ watch.second) (second : (id : ℕ) → node ≡ 2 * id + 1 → other ≡ watch.first) where
     pub look-fine : value_in e.trail.values other ≡ Some true → LookGives e node f Satisfied
     look-fine yes_true id c of held =
         let s = sides id c of held in
-        let same : watch ≡ s.watch = same_Some watch s.watch (sym (at id of) ∙ s.is_watch) in (
+        let same : watch ≡ s.watch = same-watch e.lists.labels id watch s.watch (at id of) s.is_watch in (
           s.watch,
           s.is_watch,
           record {
@@ -122,7 +150,7 @@ module _ (e : Watcher) (h : IsWatcher e) (f : Lit) (node : ℕ) (listed : Contai
         node-checked id of,
         λ c held.
             let s = sides id c of held in
-            let same : watch ≡ s.watch = same_Some watch s.watch (sym (at id of) ∙ s.is_watch) in
+            let same : watch ≡ s.watch = same-watch e.lists.labels id watch s.watch (at id of) s.is_watch in
             ⊎_elim
             (λ a.
             let is : s.watch.second ≡ other = sym (first id a.0 ∙ ap (λ (x : Watch). x.second) same) in

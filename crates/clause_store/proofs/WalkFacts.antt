@@ -18,6 +18,7 @@ use Rattle.clause_store.specs.Watching.{code_of, store_of, Guarded, IsWatcher, I
 use Rattle.clause_store.specs.Visits.{IsAt, IsNext, Keeps, VisitGives}
 use Rattle.clause_base.proofs.ListFacts.{slice_get-take-below}
 use Rattle.clause_base.proofs.PropagateFacts.{propagates-trans, propagates-refl}
+use Rattle.clause_store.proofs.NodeFacts.{same-watch}
 use Rattle.clause_store.proofs.WatchFacts.{pair-untouched, next-within}
 
 -- how many nodes of a list are from this one on
@@ -75,7 +76,7 @@ walk-start e h f next at first = record {
   walked = λ id c lt held.
       let g = h.guarded id c lt held in
       let w = h.listed id c lt held in
-      let same : w.watch ≡ g.0 = same_Some w.watch g.0 (sym w.is_watch ∙ g.1) in
+      let same : w.watch ≡ g.0 = same-watch e.lists.labels id w.watch g.0 w.is_watch g.1 in
       ⊎_elim
       (λ af. inr (2 * id, inl refl, subst (λ (x : Lit). Contains (nodes_of e.lists (code_of x)) (2 * id)) af w.first))
       (λ na. ⊎_elim
@@ -179,7 +180,7 @@ module _ (old e new : Watcher) (f : Lit) (n : ℕ) (at before last : Option ℕ)
 
 -- at the end of the walk
 module _ (old e : Watcher) (f : Lit) (before : Option ℕ) (h : Walks old e f None before) where
-  pub walk-watcher : IsWatcher (record { held = e.held; watches = e.watches; lists = e.lists; trail = e.trail; queue = e.queue + 1; checked = e.checked; stale = e.stale })
+  pub walk-watcher : IsWatcher (record { held = e.held; lists = e.lists; trail = e.trail; queue = e.queue + 1; checked = e.checked; stale = e.stale })
   walk-watcher =
       let within : e.queue < length e.trail.steps = next-within e h.watcher f h.next in
       let none : h.back ≡ [] = back-none h.back h.at_is in
@@ -188,9 +189,9 @@ module _ (old e : Watcher) (f : Lit) (before : Option ℕ) (h : Walks old e f No
         lists = h.watcher.lists;
         queue = omega arith;
         checked = h.watcher.checked;
-        watches = h.watcher.watches;
         nodes = h.watcher.nodes;
         count = h.watcher.count;
+        small = h.watcher.small;
         room = h.watcher.room;
         guarded = λ id c lt held. ⊎_elim (λ g. g) (λ w. absurd (nothing_in_none w.0 (subst (λ (xs : List ℕ). Contains xs w.0) none w.2))) (h.walked id c lt held);
         current = λ n k t le et. h.watcher.current n k t (omega arith) et;

@@ -17,7 +17,7 @@ use Rattle.clause_base.specs.declared.trail.Step.{Step}
 use Rattle.clause_base.specs.Links.{last_of}
 use Rattle.clause_base.specs.ListsState.{ListsState, nodes_of}
 use Rattle.clause_base.specs.StoreState.{IsHeld, IsConflict}
-use Rattle.clause_store.specs.Watching.{code_of, Guarded, IsGood, IsNodeOf, IsPair, IsWatched, store_of}
+use Rattle.clause_store.specs.Watching.{code_of, Guarded, HasWatch, IsGood, IsNodeOf, IsPair, IsWatched, store_of}
 
 -- the literal at this place may stand in for a watched one beside the other, or no literal may
 abbrev pub ReplacesAt : List (Option Bool) → List Lit → Lit → Option ℕ → Type 0
@@ -40,7 +40,7 @@ pub record IsLoose (e : Watcher) (node id : ℕ) (f other : Lit) (c : List Lit) 
   pub untrue : value_in e.trail.values other ≢ Some true
   pub ways : IsGood e.trail.steps e.stale c ⊎ IsPair e.trail.steps e.queue e.stale f other
   pub watch : Watch
-  pub is_watch : slice_get e.watches.items id ≡ Some watch
+  pub is_watch : HasWatch e.lists.labels id watch
   pub sides : ((node ≡ 2 * id) × (watch.first ≡ f) × (watch.second ≡ other)) ⊎ ((node ≡ 2 * id + 1) × (watch.first ≡ other) × (watch.second ≡ f))
 
 -- the clause of the node is watched over one step more by its other watched literal, or that literal is not true

@@ -1,5 +1,5 @@
 -- What the watches of the clauses keep.
-use Rattle.std.specs.Prelude.{◌≡◌, ◌≢◌, ℕ, ◌<◌, ◌≤◌, ◌+◌, ◌*◌, Bool, true, false, cond, Some, List, length, slice_get, Contains, ◌⊎◌}
+use Rattle.std.specs.Prelude.{◌≡◌, ◌≢◌, ℕ, ◌<◌, ◌≤◌, ◌+◌, ◌*◌, ◌^◌, Bool, true, false, cond, Some, List, length, slice_get, Contains, ◌⊎◌}
 use Rattle.lit_core.specs.declared.literals.Lit.{Lit}
 use Rattle.lit_core.specs.Literals.{negated}
 use Rattle.clause_base.specs.declared.trail.Step.{Step}
@@ -27,6 +27,11 @@ Guards steps q stale a b = (k : ℕ) (t : Step) → k < q → slice_get steps k 
 abbrev pub IsGood : List Step → Bool → List Lit → Type 0
 IsGood steps stale c = (j : ℕ) × (u : Step) × (slice_get steps j ≡ Some u) × Contains c u.lit × ((stale ≡ true) ⊎ (u.level ≡ 0))
 
+-- the clause watches these literals: each of its two nodes is labelled with the number of the other one's literal
+pub record HasWatch (labels : List ℕ) (id : ℕ) (w : Watch) : Type 0 where
+  pub first : slice_get labels (2 * id + 1) ≡ Some (code_of w.first)
+  pub second : slice_get labels (2 * id) ≡ Some (code_of w.second)
+
 -- two literals watch each other
 pub record IsPair (steps : List Step) (q : ℕ) (stale : Bool) (a b : Lit) : Type 0 where
   pub distinct : a ≢ b
@@ -40,12 +45,12 @@ pub record IsWatched (steps : List Step) (q : ℕ) (stale : Bool) (c : List Lit)
   pub ways : IsGood steps stale c ⊎ IsPair steps q stale w.first w.second
 
 abbrev pub Guarded : Watcher → ℕ → ℕ → List Lit → Type 0
-Guarded e q id c = (w : Watch) × (slice_get e.watches.items id ≡ Some w) × IsWatched e.trail.steps q e.stale c w
+Guarded e q id c = (w : Watch) × HasWatch e.lists.labels id w × IsWatched e.trail.steps q e.stale c w
 
 -- the nodes of the clause link in the lists of its watched literals
 pub record IsListed (e : Watcher) (id : ℕ) : Type 0 where
   pub watch : Watch
-  pub is_watch : slice_get e.watches.items id ≡ Some watch
+  pub is_watch : HasWatch e.lists.labels id watch
   pub first : Contains (nodes_of e.lists (code_of watch.first)) (2 * id)
   pub second : Contains (nodes_of e.lists (code_of watch.second)) (2 * id + 1)
 
@@ -55,7 +60,7 @@ pub record IsWatchNode (e : Watcher) (node : ℕ) : Type 0 where
   pub of : IsNodeOf node id
   pub checked : id < e.checked
   pub watch : Watch
-  pub is_watch : slice_get e.watches.items id ≡ Some watch
+  pub is_watch : HasWatch e.lists.labels id watch
   pub first : watch.first.var.0 < length e.trail.values
   pub second : watch.second.var.0 < length e.trail.values
 
@@ -64,11 +69,12 @@ pub record IsWatcher (e : Watcher) : Type 0 where
   pub lists : HasLaws e.lists
   pub queue : e.queue ≤ length e.trail.steps
   pub checked : e.checked ≤ length e.held.clauses
-  pub watches : length e.held.clauses ≤ length e.watches.items
-  pub nodes : 2 * length e.held.clauses ≤ e.lists.nodes
+  pub nodes : 2 * length e.held.clauses ≤ length e.lists.labels
   pub count : 2 * length e.trail.values ≤ length e.lists.lists
-  -- room for the watches of the next clause
-  pub room : 0 < e.held.spare → (length e.held.clauses < length e.watches.items) × (2 * length e.held.clauses + 2 ≤ e.lists.nodes)
+  -- the numbers of literals fit in 32 bits
+  pub small : length e.trail.values ≤ 2 ^ 31
+  -- room for the nodes of the next clause
+  pub room : 0 < e.held.spare → 2 * length e.held.clauses + 2 ≤ length e.lists.labels
   pub guarded : (id : ℕ) (c : List Lit) → id < e.checked → IsHeld (store_of e) id c → Guarded e e.queue id c
   -- while levels are not passed over, what is not yet propagated is of the current level
   pub current : e.stale ≡ false → (k : ℕ) (t : Step) → e.queue ≤ k → slice_get e.trail.steps k ≡ Some t → t.level ≡ e.trail.level

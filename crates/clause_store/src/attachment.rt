@@ -8,7 +8,7 @@ ghost use Rattle.clause_store.specs.Visits.{AttachGives, CanAttach, IsPartner, O
 ghost use Rattle.clause_store.specs.Watching.{store_of, IsWatcher};
 
 use crate::propagation::find_replacement;
-use crate::watched::{Watch, Watcher, list_of};
+use crate::watched::{Watch, Watcher, label_of, list_of};
 use lit_core::{Assignment, Lit};
 
 /// Which literals of a clause are not false.
@@ -52,9 +52,10 @@ impl Watcher {
         ensures checked { self.new.checked ≡ self.old.checked + 1 }
     {
         let node = 2 * self.checked;
-        self.watches[self.checked] = watch;
         self.lists.link(list_of(watch.first), node);
         self.lists.link(list_of(watch.second), node + 1);
+        self.lists.set_label(node, label_of(watch.second));
+        self.lists.set_label(node + 1, label_of(watch.first));
         self.checked += 1;
     }
 

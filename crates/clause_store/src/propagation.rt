@@ -6,7 +6,7 @@ ghost use Rattle.clause_base.specs.StoreState.{IsQuiet, IsConflict, Propagates};
 ghost use Rattle.clause_store.specs.Visits.{CanMove, CanImply, ReplacementGives, IsAt, IsNext, Keeps, LookGives, OneGives, ReplacesAt, VisitGives};
 ghost use Rattle.clause_store.specs.Watching.{code_of, store_of, IsWatcher, IsNodeOf};
 
-use crate::watched::{Watch, Watcher, list_of};
+use crate::watched::{Watcher, label_of, list_of, literal_of};
 use lit_core::{Assignment, Lit};
 
 /// What became of a clause of which a watched literal became false.
@@ -47,34 +47,13 @@ fn clause_of(node: usize) -> usize
     node / 2
 }
 
-/// The literal that the other node of the clause watches.
-fn other_of(watch: Watch, node: usize) -> Lit
-    ensures first { (id : ℕ) → node ≡ 2 * id → result ≡ watch.second }
-    ensures second { (id : ℕ) → node ≡ 2 * id + 1 → result ≡ watch.first }
+/// The other node of the clause.
+fn partner_of(node: usize) -> usize
+    requires { node < 2 ^ 32 }
+    ensures first { (id : ℕ) → node ≡ 2 * id → result ≡ 2 * id + 1 }
+    ensures second { (id : ℕ) → node ≡ 2 * id + 1 → result ≡ 2 * id }
 {
-    if node % 2 == 0 {
-        watch.second
-    } else {
-        watch.first
-    }
-}
-
-/// The watches after this node's moved to another literal.
-fn moved(watch: Watch, node: usize, lit: Lit) -> Watch
-    ensures first { (id : ℕ) → node ≡ 2 * id → result ≡ record { first = lit; second = watch.second } }
-    ensures second { (id : ℕ) → node ≡ 2 * id + 1 → result ≡ record { first = watch.first; second = lit } }
-{
-    if node % 2 == 0 {
-        Watch {
-            first: lit,
-            second: watch.second,
-        }
-    } else {
-        Watch {
-            first: watch.first,
-            second: lit,
-        }
-    }
+    if node % 2 == 0 { node + 1 } else { node - 1 }
 }
 
 /// The place of a literal that is not false and is not the other watched one.
@@ -115,15 +94,17 @@ pub fn find_replacement(
 impl Watcher {
     ghost use Rattle.clause_store.specs.declared.watched.Watcher.{Watcher};
 
-    /// Looks at the watches of a clause after a literal became false.
+    /// Looks at the other watched literal of a clause after one became false.
+    ///
+    /// Its number stands on the node itself (a blocking literal), so that a clause of which it is true is passed by without a
+    /// look at the clause or its entry.
     fn look(&self, node: usize, falsified: Lit) -> Look
         requires watcher { IsWatcher self.now }
         requires falsified { IsNext self.now falsified }
         requires listed { Contains (nodes_of self.now.lists (code_of falsified)) node }
         ensures { LookGives self.now node falsified result }
     {
-        let watch = self.watches[clause_of(node)];
-        let other = other_of(watch, node);
+        let other = literal_of(self.lists.label(node));
         if self.trail.assignment().value(other) == Some(true) {
             Look::Satisfied
         } else {
@@ -169,11 +150,9 @@ impl Watcher {
         ensures keeps { Keeps self.old self.new node }
         ensures done { VisitGives self.old self.new node falsified before (Visit.Done before) }
     {
-        let id = clause_of(node);
-        let watch = moved(self.watches[id], node, lit);
-        self.watches[id] = watch;
         self.lists.unlink(list_of(falsified), before, node);
         self.lists.link(list_of(lit), node);
+        self.lists.set_label(partner_of(node), label_of(lit));
         self.held.set_place(node, place);
     }
 

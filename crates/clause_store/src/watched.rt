@@ -18,7 +18,7 @@ use lit_core::{Lit, Memory, Var};
 use std::alloc::Global;
 
 /// Which two literals of a clause are watched.
-#[derive(Clone, Copy, Debug, PartialEq, Eq, Default)]
+#[derive(Clone, Copy)]
 pub struct Watch {
     pub first: Lit,
     pub second: Lit,
@@ -28,8 +28,8 @@ pub struct Watch {
 #[derive(Debug, Drop)]
 pub struct Watcher {
     pub held: ClauseDb,
-    pub watches: Vec<Watch>,
-    /// For each literal the clauses that watch it. Clause n has the nodes 2n and 2n + 1.
+    /// For each literal the clauses that watch it. Clause n has the nodes 2n and 2n + 1, one for each literal that it
+    /// watches, and each is labelled with the number of the other one's literal.
     pub lists: LinkedLists,
     pub trail: Trail,
     /// How many steps of the trail are propagated.
@@ -49,16 +49,23 @@ pub fn list_of(lit: Lit) -> usize
     if lit.positive { place + 1 } else { place }
 }
 
-/// Adds watches, so that there are at least `len`.
-fn add_watches(watches: &mut Vec<Watch>, len: usize) -> Result<(), Memory>
-    ensures kept { (id : ℕ) (w : Watch) → slice_get watches.old.items id ≡ Some w → slice_get watches.new.items id ≡ Some w }
-    ensures longer { length watches.old.items ≤ length watches.new.items }
-    ensures enough { OnOk result (len ≤ length watches.new.items) }
+/// The number of a literal, as it is written on a node.
+pub fn label_of(lit: Lit) -> u32
+    requires { lit.var.0 < 2 ^ 31 }
+    ensures { result ≡ code_of lit }
 {
-    if watches.len() < len {
-        watches.resize(len, Watch::default())?;
+    let number = lit.var.0 as u32 * 2;
+    if lit.positive { number + 1 } else { number }
+}
+
+/// The literal with this number.
+pub fn literal_of(label: u32) -> Lit
+    ensures { code_of result ≡ label }
+{
+    Lit {
+        var: Var(label as u64 / 2),
+        positive: label % 2 == 1,
     }
-    Ok(())
 }
 
 impl Watcher {
@@ -71,7 +78,6 @@ impl Watcher {
     {
         Watcher {
             held: ClauseDb::new(alloc),
-            watches: Vec::new(alloc),
             lists: LinkedLists::new(alloc),
             trail: Trail::new(alloc),
             queue: 0,
@@ -87,10 +93,11 @@ impl Watcher {
         ensures ok { OnOk result (store_of self.new ≡ with_variables n (store_of self.old)) }
         ensures err { OnErr result (store_of self.new ≡ store_of self.old) }
     {
-        let Some(lists) = n.checked_mul(2) else {
+        // The numbers of literals are of 32 bits.
+        if n > 2_147_483_648 {
             return Err(Memory);
-        };
-        self.lists.add_lists(lists as usize)?;
+        }
+        self.lists.add_lists(2 * n as usize)?;
         self.trail.grow(n as usize)
     }
 
@@ -106,7 +113,6 @@ impl Watcher {
             return Ok(());
         }
         let count = self.held.len() + 1;
-        add_watches(&mut self.watches, count)?;
         self.lists.add_nodes(2 * count)?;
         self.held.reserve(len)
     }

@@ -5,6 +5,7 @@ use Rattle.std.proofs.lemmas.Bool.{cases_Bool, eqb-true}
 use Rattle.std.proofs.lemmas.Bool.Decides.{Decides-int_eq}
 use Rattle.std.proofs.lemmas.Slice.Eq.{bytes_eq-Decides}
 use Rattle.kb_logic.specs.declared.elements.Elem.{Elem}
+use Rattle.kb_logic.specs.declared.elements.Elem.TheVariants.{Named, Num}
 use Rattle.kb_logic.specs.declared.vocabularies.Symbol.{Symbol}
 use Rattle.kb_logic.specs.declared.structures.Table.{Table}
 use Rattle.kb_logic.specs.Structures.{domain_at, tuples_of, EachWith, IsRelation, predicates_of}
@@ -22,7 +23,7 @@ same_is plus_infinity plus_infinity h = refl
 same_is undefined undefined h = refl
 same_is a b h = cc
 
-is_same : (a : Denotation) → same_value a a ≡ true
+pub is_same : (a : Denotation) → same_value a a ≡ true
 is_same (named n) = (bytes_eq-Decides n n).1 refl
 is_same (number z) = (Decides-int_eq z z).1 refl
 is_same minus_infinity = refl
@@ -70,6 +71,25 @@ in_rows (r ∷ rs) row at = elim (member_cases r row rs at) [
   | inl e ↦ yes_first (is_end (behind r (map denotation_of row))) (has_row rs (map denotation_of row)) (subst (λ s. is_end (behind s (map denotation_of row)) ≡ true) (sym e) (is_row row))
   | inr more ↦ yes_second (is_end (behind r (map denotation_of row))) (has_row rs (map denotation_of row)) (in_rows rs row more)
 ]
+
+pub denotes_one : (x y : Elem) → denotation_of x ≡ denotation_of y → x ≡ y
+denotes_one (Named a) (Named b) h = cc
+denotes_one (Named a) (Num z) h = cc
+denotes_one (Num y) (Named b) h = cc
+denotes_one (Num y) (Num z) h = cc
+
+denote_row : (a b : List Elem) → map denotation_of a ≡ map denotation_of b → a ≡ b
+denote_row [] [] h = refl
+denote_row [] (y ∷ b) h = cc
+denote_row (x ∷ a) [] h = cc
+denote_row (x ∷ a) (y ∷ b) h =
+    let one : denotation_of x ≡ denotation_of y = cc in
+    let rest : map denotation_of a ≡ map denotation_of b = cc in
+    ap (λ z. z ∷ a) (denotes_one x y one) ∙ ap (λ c. y ∷ c) (denote_row a b rest)
+
+-- a row passes the test exactly where it is among the rows
+pub among : (rows : List (List Elem)) (row : List Elem) → has_row rows (map denotation_of row) ≡ true → Contains rows row
+among rows row h = let r = row_in rows (map denotation_of row) h in subst (Contains rows) (denote_row r.0 row r.2) r.1
 
 pub atom_is_membership : AtomIsMembership
 atom_is_membership m n ts e = (

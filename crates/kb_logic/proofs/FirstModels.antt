@@ -3,7 +3,6 @@ use Rattle.std.proofs.Common.{◌≡◌, ◌≢◌, ℕ, List, [], ◌∷◌, ma
 use Rattle.std.specs.List.{Contains, AllByRecursion, list_any}
 use Rattle.std.proofs.lemmas.Bool.{cases_Bool, and_parts, and_from, eqb-true, eq-eqb, true≢false}
 use Rattle.kb_logic.specs.declared.elements.Elem.{Elem}
-use Rattle.kb_logic.specs.declared.elements.Elem.TheVariants.{Named, Num}
 use Rattle.kb_logic.specs.declared.vocabularies.Symbol.{Symbol}
 use Rattle.kb_logic.specs.declared.structures.Literal.{Literal}
 use Rattle.kb_logic.specs.declared.structures.Table.{Table}
@@ -17,29 +16,10 @@ use Rattle.kb_logic.specs.KnownAtoms.{atoms_over, ExtendsData}
 use Rattle.kb_logic.specs.Bases.{IsModelUnder}
 use Rattle.kb_logic.specs.First.{IsPlainPredicate, IsGivenTable, AreApart, IsFirstKb, AgreesWith, ModelOfFirst, is_given, is_in_data, data_of_first, base_of_first, FirstModelsAreModels}
 use Rattle.kb_logic.proofs.AllAtoms.{atom_listed, listed_over}
-use Rattle.kb_logic.proofs.Atoms.{row_in, in_rows, elements_tuple, some_same}
+use Rattle.kb_logic.proofs.Atoms.{among, in_rows, elements_tuple, some_same}
 use Rattle.kb_logic.proofs.Has.{Has, has_from, contains_from, has_get}
 use Rattle.kb_logic.proofs.Members.{all_in, in_all, from_map, from_filter, some_one, one_is_some}
 use Rattle.kb_logic.proofs.Tables.{rows_at, row_table, passes_filter, has_filter, relation_of}
-
-element_of : (x y : Elem) → denotation_of x ≡ denotation_of y → x ≡ y
-element_of (Named a) (Named b) h = cc
-element_of (Named a) (Num z) h = cc
-element_of (Num y) (Named b) h = cc
-element_of (Num y) (Num z) h = cc
-
-row_of : (a b : List Elem) → map denotation_of a ≡ map denotation_of b → a ≡ b
-row_of [] [] h = refl
-row_of [] (y ∷ b) h = cc
-row_of (x ∷ a) [] h = cc
-row_of (x ∷ a) (y ∷ b) h =
-    let one : denotation_of x ≡ denotation_of y = cc in
-    let rest : map denotation_of a ≡ map denotation_of b = cc in
-    ap (λ z. z ∷ a) (element_of x y one) ∙ ap (λ c. y ∷ c) (row_of a b rest)
-
--- a row passes the test exactly where it is among the rows
-among : (rows : List (List Elem)) (row : List Elem) → has_row rows (map denotation_of row) ≡ true → Contains rows row
-among rows row h = let r = row_in rows (map denotation_of row) h in subst (Contains rows) (row_of r.0 row r.2) r.1
 
 no_value : (domains : List (List Elem)) (v : Option ℕ) (o : Option Elem) → v ≡ None → HasValueIn domains v o → o ≡ None
 no_value domains None None e h = refl

@@ -4,6 +4,7 @@ pub mod Assignments
 pub mod Atoms
 pub mod Choices
 pub mod Counts
+pub mod Derived
 pub mod Digits
 pub mod DistinctAtoms
 pub mod DomainsOf
@@ -18,6 +19,7 @@ pub mod NoAssignments
 pub mod Pairs
 pub mod Sums
 pub mod Tables
-pub mod Tuples
+pub mod TupleCounts
+pub mod TupleLists
 pub mod ViewsOf
 pub mod WithinBounds

@@ -1,10 +1,12 @@
 -- What data make known of the atoms over some domains, and the structures that extend it.
-use Rattle.std.specs.Prelude.{◌≡◌, ℕ, List, map, flat_map, Option, None, Some}
+use Rattle.std.specs.Prelude.{◌≡◌, ℕ, List, [], ◌∷◌, ◌++◌, map, filter, flat_map, Bool, not, Option, None, Some}
 use Rattle.std.specs.List.{enumerate_from, AllByRecursion}
 use Rattle.kb_logic.specs.declared.elements.Elem.{Elem}
 use Rattle.kb_logic.specs.declared.vocabularies.Symbol.{Symbol}
 use Rattle.kb_logic.specs.declared.structures.Structure.{Structure}
 use Rattle.kb_logic.specs.Structures.{domain_at, tuples_of}
+use Rattle.kb_logic.specs.Denotations.{denotation_of}
+use Rattle.kb_logic.specs.Meaning.{rows_of, has_row}
 use Rattle.kb_logic.specs.Models.{GroundAtom, AtomHolds}
 
 -- the symbols with their types, the domains, and the atoms that are certainly true and those that are certainly false,
@@ -29,3 +31,19 @@ pub record ExtendsData (m : Structure) (k : KnownAtoms) : Type 0 where
   pub domains : m.domains ≡ k.domains
   pub true_atoms : AllByRecursion (AtomHolds m) k.true_atoms
   pub false_atoms : AllByRecursion (λ a. AtomHolds m a → ⊥) k.false_atoms
+
+-- whether the structure has the atom in its table
+abbrev pub is_true_atom : Structure → GroundAtom → Bool
+is_true_atom m a = elim a.value [
+  | None ↦ has_row (rows_of a.symbol m.relations) (map denotation_of a.args)
+  | Some x ↦ has_row (rows_of a.symbol m.functions) (map denotation_of (a.args ++ x ∷ []))
+]
+
+-- a structure over these symbols as what makes every atom known
+abbrev pub known_of : List Symbol → Structure → KnownAtoms
+known_of symbols m = record {
+  symbols = symbols;
+  domains = m.domains;
+  true_atoms = filter (is_true_atom m) (atoms_over symbols m.domains);
+  false_atoms = filter (λ a. not (is_true_atom m a)) (atoms_over symbols m.domains);
+}

@@ -1,6 +1,7 @@
 //! What the definitions say, in the subject's own words. The functions are empty: their contracts are laws.
 ghost use Rattle.kb_logic.specs.Arithmetic.{NoArithmeticFits};
-ghost use Rattle.kb_logic.specs.Bounds.{ValuesLieWithinBounds, SmallBoundsFit};
+ghost use Rattle.kb_logic.specs.Bounds.{ValuesLieWithinBounds, SmallBoundsFit, SmallTermsFit};
+ghost use Rattle.kb_logic.specs.Derivations.{DerivedIsDecided, DefinitionExamples};
 ghost use Rattle.kb_logic.specs.DomainExamples.{DomainExamples};
 ghost use Rattle.kb_logic.specs.Examples.{WorkedExamples};
 ghost use Rattle.kb_logic.specs.First.{FirstModelsAreModels};
@@ -95,4 +96,15 @@ pub fn domain_examples()
 /// A knowledge base of the first profile has the models of the knowledge base that it is, under any choices.
 pub fn first_models_are_models()
     ensures { FirstModelsAreModels }
+{}
+
+/// A term with static bounds from -10^15 to 10^15 has a value whose integers fit 64 bits.
+pub fn small_terms_fit()
+    ensures { SmallTermsFit }
+{}
+
+/// Whether an atom is derived can be tested, and which small structures are models of definitions.
+pub fn definitions_derive()
+    ensures decided { DerivedIsDecided }
+    ensures examples { DefinitionExamples }
 {}

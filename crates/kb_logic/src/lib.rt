@@ -18,6 +18,8 @@ mod lists;
 mod names;
 mod structures;
 mod syntax;
+pub mod totals;
+pub mod tuples;
 pub mod values;
 mod vocabularies;
 

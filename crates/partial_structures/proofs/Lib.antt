@@ -26,3 +26,5 @@ pub mod Plain
 pub mod Certain
 pub mod ElementLemmas
 pub mod Worked
+pub mod Total
+pub mod Typed

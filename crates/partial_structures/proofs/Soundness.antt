@@ -295,7 +295,7 @@ module _ (m : Structure) (k : KnownAtoms) (v : Vocabulary) (symbols : v.symbols 
 
   -- ---- functions
 
-  held_value : (s : ℕ) (xs : List Elem) (x : Elem) → Contains (rows_of s m.functions) (xs ++ x ∷ []) → applied (rows_of s m.functions) (map denotation_of xs) ≡ denotation_of x
+  pub held_value : (s : ℕ) (xs : List Elem) (x : Elem) → Contains (rows_of s m.functions) (xs ++ x ∷ []) → applied (rows_of s m.functions) (map denotation_of xs) ≡ denotation_of x
   held_value s xs x at =
       let t = row_table m.functions s (xs ++ x ∷ []) (has_from (rows_of s m.functions) (xs ++ x ∷ []) at) in
       let q = function_of v m is t.0 t.1 in

@@ -18,10 +18,9 @@ mod sides;
 mod spots;
 mod totals;
 mod truths;
-mod values;
 mod words;
 
 pub use errors::SetError;
 pub use kb_logic::Memory;
-pub use partial::{Partial, extends, kleene};
+pub use partial::{Partial, extends, kleene, known_term};
 pub use truths::Truth;

@@ -8,7 +8,7 @@ use Rattle.clause_store.proofs.watched.Watcher.back_to.Goals as goal
 pub returns-then-self-clause-watcher : goal.returns-then-self-clause-watcher
 returns-then-self-clause-watcher c =
     watcher-reset c.args.self.now c.args.level c.clear.new.self c.back_to.new.self (nat_lt 0 c.args.level) c.requires.watcher c.back_to.ensures.cut c.back_to.ensures.laws
-    c.clear.ensures.laws c.clear.ensures.nodes c.clear.ensures.count c.clear.ensures.empty
+    c.clear.ensures.laws c.clear.ensures.labels c.clear.ensures.count c.clear.ensures.empty
     (λ e. let a : c.args.level ≤ 0 = ltb-false 0 c.args.level e in omega arith)
 
 pub returns-else-self-clause-watcher : goal.returns-else-self-clause-watcher
