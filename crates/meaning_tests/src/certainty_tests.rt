@@ -1,13 +1,15 @@
-//! `kleene`.
+//! `kleene` and `known_term`.
 ghost use Rattle.std.specs.Prelude.{IfOk};
-ghost use Rattle.kb_logic.specs.Arithmetic.{HasNoArithmetic};
-ghost use Rattle.kb_logic.specs.Views.{formula_view};
+ghost use Rattle.kb_logic.specs.Arithmetic.{HasNoArithmetic, IsPlainTerm};
+ghost use Rattle.kb_logic.specs.Views.{formula_view, term_view};
 
 use crate::conditions::nothing;
 use crate::fixtures::{domains, edge_and_color, variables};
-use crate::partial_tests::{close_first, linked_areas};
+use crate::partial_tests::{close_first, coloured_areas, linked_areas};
+use kb_logic::environments::Env;
+use kb_logic::values::Value;
 use kb_logic::{Cmp, Formula, Memory, Term};
-use partial_structures::{Partial, Truth, kleene};
+use partial_structures::{Partial, Truth, kleene, known_term};
 use std::alloc::Global;
 use std::test::Fail;
 
@@ -56,14 +58,16 @@ fn is_certain_by_one_part(alloc: Global, s: &Partial) -> bool {
         & is_said(s, loop_or_edge(alloc, 0), Truth::Unknown)
 }
 
+fn one_part_is_enough(alloc: Global) -> bool {
+    match linked_areas(alloc) {
+        Ok(Some(s)) => is_certain_by_one_part(alloc, &s),
+        _ => false,
+    }
+}
+
 #[test]
 fn a_disjunction_is_certain_by_one_part(rt: HostRuntime) -> Result<(), Fail> {
-    assert!(rt;
-        match linked_areas(rt.alloc()) {
-            Ok(Some(s)) => is_certain_by_one_part(rt.alloc(), &s),
-            _ => false,
-        }
-    );
+    assert!(rt; one_part_is_enough(rt.alloc()));
     Ok(())
 }
 
@@ -134,16 +138,67 @@ fn are_said_before_and_after(alloc: Global, s: &mut Partial) -> bool {
     before & are_said(alloc, s, &CLOSED)
 }
 
+fn long_binders_are_said(alloc: Global) -> bool {
+    match over(alloc, &[7]) {
+        Ok(Some(mut s)) => are_said_before_and_after(alloc, &mut s),
+        _ => false,
+    }
+}
+
 #[test]
 fn many_variables_need_no_deep_stack(rt: HostRuntime) -> Result<(), Fail> {
-    let mut s = over(rt.alloc(), &[7])?.ok_or("no fixture")?;
-    assert!(rt; are_said_before_and_after(rt.alloc(), &mut s));
+    assert!(rt; long_binders_are_said(rt.alloc()));
     Ok(())
+}
+
+fn empty_binders_are_said(alloc: Global) -> bool {
+    match over(alloc, &[1, 2]) {
+        Ok(Some(s)) => are_said(alloc, &s, &NO_ASSIGNMENT),
+        _ => false,
+    }
 }
 
 #[test]
 fn one_empty_type_leaves_no_assignment(rt: HostRuntime) -> Result<(), Fail> {
-    let s = over(rt.alloc(), &[1, 2])?.ok_or("no fixture")?;
-    assert!(rt; are_said(rt.alloc(), &s, &NO_ASSIGNMENT));
+    assert!(rt; empty_binders_are_said(rt.alloc()));
+    Ok(())
+}
+
+/// The colour of the area with this number.
+fn colour_of(alloc: Global, area: u32) -> Result<Term, Memory>
+    ensures { IfOk result (λ t. IsPlainTerm (term_view t)) }
+{
+    Ok(Term::Apply(1, vec![in alloc; Term::Made(0, area)]?))
+}
+
+#[tactic(auto, using(crate::proofs::Fits::value_fits))]
+fn is_named(s: &Partial, t: &Term, want: Option<&[u8]>) -> bool
+    requires { IsPlainTerm (term_view t.now) }
+{
+    let env = Env::Given(&[]);
+    match (known_term(s, t, &env), want) {
+        (Some(Value::Named(word)), Some(want)) => word == want,
+        (None, None) => true,
+        _ => false,
+    }
+}
+
+fn has_colour(alloc: Global, s: &Partial, area: u32, want: Option<&[u8]>) -> bool {
+    match colour_of(alloc, area) {
+        Ok(t) => is_named(s, &t, want),
+        Err(_) => false,
+    }
+}
+
+fn one_colour_is_known(alloc: Global) -> bool {
+    match coloured_areas(alloc) {
+        Ok(Some(s)) => has_colour(alloc, &s, 0, Some(b"Red")) & has_colour(alloc, &s, 1, None),
+        _ => false,
+    }
+}
+
+#[test]
+fn a_term_is_known_where_its_atom_is(rt: HostRuntime) -> Result<(), Fail> {
+    assert!(rt; one_colour_is_known(rt.alloc()));
     Ok(())
 }
