@@ -1,13 +1,27 @@
 //! The static bounds of each term of a formula or a term, and which of them are too wide.
 //!
-//! A term is noted before its parts, since the places of terms are kept in this order; what is noted of it is known only
-//! after them, so its place in the list is taken first and set then.
+//! A term is noted before its parts, since the places of terms are kept in this order; what is noted of it is known
+//! only after them, so its place in the list is taken first and set then.
 ghost use Rattle.std.specs.Prelude.{◌≡◌, ◌++◌, ◌||◌, not, pos, [], ◌∷◌, map, fold, slice_get, IfOk, OnOk};
 ghost use Rattle.kb_logic.specs.Bounds.{exactly, front_bounds};
 ghost use Rattle.kb_logic.specs.Trees.{formulas_of, summands_of, terms_of};
 ghost use Rattle.kb_logic.specs.Views.{formula_view, signed_view, term_view};
-ghost use Rattle.reading_stages.specs.ClampedBounds.{clamped_bounds, clamped_factors, clamped_summands, clamping_product, clamping_sum};
-ghost use Rattle.reading_stages.specs.Sizes.{bounds_at, formula_bounds, formulas_bounds, is_small, summands_bounds, term_bounds, terms_bounds};
+ghost use Rattle.reading_stages.specs.ClampedBounds.{
+  clamped_bounds,
+  clamped_factors,
+  clamped_summands,
+  clamping_product,
+  clamping_sum,
+};
+ghost use Rattle.reading_stages.specs.Sizes.{
+  bounds_at,
+  formula_bounds,
+  formulas_bounds,
+  is_small,
+  summands_bounds,
+  term_bounds,
+  terms_bounds,
+};
 ghost use Rattle.kb_logic.specs.Bounds.{types_of};
 ghost use Rattle.kb_sizes.specs.Ranges.{is_wide, part_bounds, range_view, ranges_in, wide_at};
 
@@ -62,9 +76,11 @@ pub fn term(
     of: &Term,
 ) -> Result<Range, Memory>
     requires known { map range_view ranges.now ≡ ranges_in domains.now }
-    ensures range { IfOk result (λ r. range_view r ≡ clamped_bounds vocab.now domains.now (term_view of.now) scope.old.items) }
+    ensures range { IfOk result (λ r. range_view r ≡ clamped_bounds vocab.now domains.now (term_view of.now)
+        scope.old.items) }
     ensures scope { OnOk result (scope.new.items ≡ scope.old.items) }
-    ensures wide { OnOk result (wide.new.items ≡ wide.old.items ++ wide_at (term_bounds vocab.now domains.now (term_view of.now) scope.old.items)) }
+    ensures wide { OnOk result (wide.new.items ≡ wide.old.items ++ wide_at (term_bounds vocab.now domains.now (term_view
+        of.now) scope.old.items)) }
 {
     let at = wide.len();
     wide.push(false)?;
@@ -84,10 +100,13 @@ fn node(
     of: &Term,
 ) -> Result<TermRange, Memory>
     requires known { map range_view ranges.now ≡ ranges_in domains.now }
-    ensures range { IfOk result (λ r. range_view r.range ≡ clamped_bounds vocab.now domains.now (term_view of.now) scope.old.items) }
-    ensures own { IfOk result (λ r. r.wide ≡ is_wide (bounds_at vocab.now domains.now (term_view of.now) scope.old.items)) }
+    ensures range { IfOk result (λ r. range_view r.range ≡ clamped_bounds vocab.now domains.now (term_view of.now)
+        scope.old.items) }
+    ensures own { IfOk result (λ r. r.wide ≡ is_wide
+        (bounds_at vocab.now domains.now (term_view of.now) scope.old.items)) }
     ensures scope { OnOk result (scope.new.items ≡ scope.old.items) }
-    ensures wide { OnOk result (wide.new.items ≡ wide.old.items ++ wide_at (part_bounds vocab.now domains.now (term_view of.now) scope.old.items)) }
+    ensures wide { OnOk result (wide.new.items ≡ wide.old.items ++ wide_at (part_bounds vocab.now domains.now (term_view
+        of.now) scope.old.items)) }
 {
     match of {
         Term::Var(n) => Ok(single(range_if(domains, ranges, type_in(scope, *n)))),
@@ -120,10 +139,16 @@ fn sum(
     parts: &[Signed],
 ) -> Result<TermRange, Memory>
     requires known { map range_view ranges.now ≡ ranges_in domains.now }
-    ensures range { IfOk result (λ r. range_view r.range ≡ fold clamping_sum (exactly (pos 0)) (clamped_summands vocab.now domains.now (summands_of (map signed_view parts.now)) scope.old.items)) }
-    ensures own { IfOk result (λ r. r.wide ≡ is_wide (front_bounds clamping_sum (exactly (pos 0)) (clamped_summands vocab.now domains.now (summands_of (map signed_view parts.now)) scope.old.items))) }
+    ensures range { IfOk result (λ r. range_view r.range
+        ≡ fold clamping_sum (exactly (pos 0)) (clamped_summands vocab.now
+        domains.now (summands_of (map signed_view parts.now)) scope.old.items)) }
+    ensures own { IfOk result (λ r. r.wide ≡ is_wide
+        (front_bounds clamping_sum (exactly (pos 0)) (clamped_summands vocab.now
+        domains.now (summands_of (map signed_view parts.now)) scope.old.items))) }
     ensures scope { OnOk result (scope.new.items ≡ scope.old.items) }
-    ensures wide { OnOk result (wide.new.items ≡ wide.old.items ++ wide_at (summands_bounds vocab.now domains.now (summands_of (map signed_view parts.now)) scope.old.items)) }
+    ensures wide { OnOk result (wide.new.items ≡ wide.old.items ++ wide_at
+        (summands_bounds vocab.now domains.now (summands_of
+        (map signed_view parts.now)) scope.old.items)) }
 {
     let mut range = Range::exactly(0);
     let mut any = false;
@@ -145,10 +170,15 @@ fn product(
     factors: &[Term],
 ) -> Result<TermRange, Memory>
     requires known { map range_view ranges.now ≡ ranges_in domains.now }
-    ensures range { IfOk result (λ r. range_view r.range ≡ fold clamping_product (exactly (pos 1)) (clamped_factors vocab.now domains.now (terms_of (map term_view factors.now)) scope.old.items)) }
-    ensures own { IfOk result (λ r. r.wide ≡ is_wide (front_bounds clamping_product (exactly (pos 1)) (clamped_factors vocab.now domains.now (terms_of (map term_view factors.now)) scope.old.items))) }
+    ensures range { IfOk result (λ r. range_view r.range
+        ≡ fold clamping_product (exactly (pos 1)) (clamped_factors vocab.now
+        domains.now (terms_of (map term_view factors.now)) scope.old.items)) }
+    ensures own { IfOk result (λ r. r.wide ≡ is_wide (front_bounds clamping_product (exactly (pos 1)) (clamped_factors
+        vocab.now domains.now (terms_of (map term_view factors.now)) scope.old.items))) }
     ensures scope { OnOk result (scope.new.items ≡ scope.old.items) }
-    ensures wide { OnOk result (wide.new.items ≡ wide.old.items ++ wide_at (terms_bounds vocab.now domains.now (terms_of (map term_view factors.now)) scope.old.items)) }
+    ensures wide { OnOk result (wide.new.items ≡ wide.old.items ++ wide_at
+        (terms_bounds vocab.now domains.now (terms_of (map
+        term_view factors.now)) scope.old.items)) }
 {
     let mut range = Range::exactly(1);
     let mut any = false;
@@ -172,7 +202,9 @@ fn terms(
 ) -> Result<(), Memory>
     requires known { map range_view ranges.now ≡ ranges_in domains.now }
     ensures scope { OnOk result (scope.new.items ≡ scope.old.items) }
-    ensures wide { OnOk result (wide.new.items ≡ wide.old.items ++ wide_at (terms_bounds vocab.now domains.now (terms_of (map term_view all.now)) scope.old.items)) }
+    ensures wide { OnOk result (wide.new.items ≡ wide.old.items ++ wide_at
+        (terms_bounds vocab.now domains.now (terms_of (map
+        term_view all.now)) scope.old.items)) }
 {
     for one in all {
         term(vocab, domains, ranges, scope, wide, one)?;
@@ -192,7 +224,9 @@ pub fn formula(
 ) -> Result<(), Memory>
     requires known { map range_view ranges.now ≡ ranges_in domains.now }
     ensures scope { OnOk result (scope.new.items ≡ scope.old.items) }
-    ensures wide { OnOk result (wide.new.items ≡ wide.old.items ++ wide_at (formula_bounds vocab.now domains.now (formula_view of.now) scope.old.items)) }
+    ensures wide { OnOk result (wide.new.items ≡ wide.old.items ++ wide_at
+        (formula_bounds vocab.now domains.now (formula_view
+        of.now) scope.old.items)) }
 {
     match of {
         Formula::True => Ok(()),
@@ -235,7 +269,9 @@ fn under(
 ) -> Result<(), Memory>
     requires known { map range_view ranges.now ≡ ranges_in domains.now }
     ensures scope { OnOk result (scope.new.items ≡ scope.old.items) }
-    ensures wide { OnOk result (wide.new.items ≡ wide.old.items ++ wide_at (formula_bounds vocab.now domains.now (formula_view of.now) (scope.old.items ++ types_of bounds.now))) }
+    ensures wide { OnOk result (wide.new.items ≡ wide.old.items ++ wide_at
+        (formula_bounds vocab.now domains.now (formula_view
+        of.now) (scope.old.items ++ types_of bounds.now))) }
 {
     let outer = scope.len();
     enter(scope, bounds)?;
@@ -255,7 +291,9 @@ fn formulas(
 ) -> Result<(), Memory>
     requires known { map range_view ranges.now ≡ ranges_in domains.now }
     ensures scope { OnOk result (scope.new.items ≡ scope.old.items) }
-    ensures wide { OnOk result (wide.new.items ≡ wide.old.items ++ wide_at (formulas_bounds vocab.now domains.now (formulas_of (map formula_view all.now)) scope.old.items)) }
+    ensures wide { OnOk result (wide.new.items ≡ wide.old.items ++ wide_at
+        (formulas_bounds vocab.now domains.now (formulas_of
+        (map formula_view all.now)) scope.old.items)) }
 {
     for one in all {
         formula(vocab, domains, ranges, scope, wide, one)?;

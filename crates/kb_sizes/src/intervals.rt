@@ -1,7 +1,14 @@
 //! From the least to the greatest integer that a term may be.
 ghost use Rattle.std.specs.Prelude.{◌≡◌, ◌*◌, ◌+ℤ◌, ◌*ℤ◌, pos, neg_ℤ};
 ghost use Rattle.std.specs.Int.{int_max, int_min};
-ghost use Rattle.kb_logic.specs.Bounds.{above_zero, aggregate_bounds, below_zero, interval_product, interval_sum, signed_interval};
+ghost use Rattle.kb_logic.specs.Bounds.{
+  above_zero,
+  aggregate_bounds,
+  below_zero,
+  interval_product,
+  interval_sum,
+  signed_interval,
+};
 ghost use Rattle.kb_logic.specs.Bounds.{exactly as exact_interval};
 ghost use Rattle.kb_sizes.specs.Ranges.{interval, range_view};
 ghost use Rattle.reading_stages.specs.ClampedBounds.{clamp, clamp_interval, clamping_product, clamping_sum};

@@ -22,7 +22,8 @@ fn note_all(
     domains: &DomainList,
     earliest: &mut Earliest,
 ) -> Result<(), Memory>
-    ensures { OnOk result (earliest.new.first ≡ fold size_noted earliest.old.first (size_uses (typed_view kb.now) theory domains.now)) }
+    ensures { OnOk result (earliest.new.first ≡ fold size_noted earliest.old.first (size_uses (typed_view kb.now) theory
+        domains.now)) }
 {
     note_symbols(
         earliest,
@@ -39,7 +40,9 @@ fn note_all(
 
 /// The weight of the theory with this number, where there is one.
 fn theory_weight(kb: &TypedKb, theory: usize, domains: &DomainList) -> u64
-    ensures { (t : TypedTheoryTree) → slice_get (typed_view kb.now).theories theory ≡ Some t → result ≡ capped (weight_in (typed_view kb.now) domains.now t) }
+    ensures { (t : TypedTheoryTree) → slice_get (typed_view kb.now).theories theory ≡ Some t → result
+        ≡ capped (weight_in
+        (typed_view kb.now) domains.now t) }
 {
     match kb.theories.get(theory) {
         Some(named) => weight(&kb.vocab, domains, &named.value, kb.terms.as_slice()),

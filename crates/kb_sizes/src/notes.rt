@@ -4,7 +4,16 @@ ghost use Rattle.kb_logic.specs.Views.{formula_view, term_view};
 ghost use Rattle.kb_sizes.specs.Notes.{sentence_bounds, wide_noted};
 ghost use Rattle.kb_sizes.specs.Ranges.{range_view, ranges_in, wide_at};
 ghost use Rattle.reading_stages.specs.Sizes.{term_bounds};
-ghost use Rattle.reading_stages.specs.SizesStage.{atom_limit, chosen_of, size_noted, term_use, uses_of_block, uses_of_symbols, uses_of_theory, weight_uses};
+ghost use Rattle.reading_stages.specs.SizesStage.{
+  atom_limit,
+  chosen_of,
+  size_noted,
+  term_use,
+  uses_of_block,
+  uses_of_symbols,
+  uses_of_theory,
+  weight_uses,
+};
 ghost use Rattle.type_derivation.specs.TypedViews.{named_term_view, named_theory_view, typed_view};
 
 use crate::bounds::{formula, term};
@@ -36,7 +45,8 @@ pub fn note_symbols(
     domains: &DomainList,
     symbols: &[Symbol],
 )
-    ensures { earliest.new.first ≡ fold size_noted earliest.old.first (uses_of_symbols domains.now 0 (zip places.now symbols.now)) }
+    ensures { earliest.new.first ≡ fold size_noted earliest.old.first (uses_of_symbols domains.now 0 (zip places.now
+        symbols.now)) }
 {
     let mut before = 0u64;
     for i in 0..symbols.len() {
@@ -70,7 +80,8 @@ fn wide_in_sentences(
     sentences: &[Formula],
 ) -> Result<Vec<bool>, Memory>
     requires known { map range_view ranges.now ≡ ranges_in domains.now }
-    ensures { IfOk result (λ w. w.items ≡ wide_at (sentence_bounds vocab.now domains.now (map formula_view sentences.now))) }
+    ensures { IfOk result (λ w. w.items ≡ wide_at (sentence_bounds vocab.now domains.now (map formula_view
+        sentences.now))) }
 {
     let mut scope = Vec::new(alloc);
     let mut wide = Vec::new(alloc);
@@ -108,7 +119,8 @@ fn note_sentences(
     earliest: &mut Earliest,
 ) -> Result<(), Memory>
     requires known { map range_view ranges.now ≡ ranges_in domains.now }
-    ensures { OnOk result (earliest.new.first ≡ fold size_noted earliest.old.first (uses_of_theory vocab.now domains.now (named_theory_view theory.now, places.now))) }
+    ensures { OnOk result (earliest.new.first ≡ fold size_noted earliest.old.first (uses_of_theory vocab.now domains.now
+        (named_theory_view theory.now, places.now))) }
 {
     let sentences = theory.value.sentences.as_slice();
     let wide = wide_in_sentences(alloc, vocab, domains, ranges, sentences)?;
@@ -126,7 +138,9 @@ pub fn note_theory(
     earliest: &mut Earliest,
 ) -> Result<(), Memory>
     requires known { map range_view ranges.now ≡ ranges_in domains.now }
-    ensures { OnOk result (earliest.new.first ≡ fold size_noted earliest.old.first (flat_map (uses_of_theory (typed_view kb.now).vocabulary domains.now) (chosen_of (typed_view kb.now).theories (typed_view kb.now).places.theory_terms theory))) }
+    ensures { OnOk result (earliest.new.first ≡ fold size_noted earliest.old.first (flat_map (uses_of_theory (typed_view
+        kb.now).vocabulary domains.now) (chosen_of (typed_view kb.now).theories (typed_view
+        kb.now).places.theory_terms theory))) }
 {
     let Some(named) = kb.theories.get(theory) else {
         return Ok(());
@@ -156,7 +170,8 @@ fn note_block(
     earliest: &mut Earliest,
 ) -> Result<(), Memory>
     requires known { map range_view ranges.now ≡ ranges_in domains.now }
-    ensures { OnOk result (earliest.new.first ≡ fold size_noted earliest.old.first (uses_of_block vocab.now domains.now (named_term_view block.now, places.now))) }
+    ensures { OnOk result (earliest.new.first ≡ fold size_noted earliest.old.first (uses_of_block vocab.now domains.now
+        (named_term_view block.now, places.now))) }
 {
     let wide = wide_in_term(alloc, vocab, domains, ranges, &block.value)?;
     note_terms(earliest, places, &wide);
@@ -172,7 +187,8 @@ pub fn note_blocks(
     earliest: &mut Earliest,
 ) -> Result<(), Memory>
     requires known { map range_view ranges.now ≡ ranges_in domains.now }
-    ensures { OnOk result (earliest.new.first ≡ fold size_noted earliest.old.first (flat_map (uses_of_block (typed_view kb.now).vocabulary domains.now) (zip (typed_view kb.now).terms (typed_view kb.now).places.block_terms))) }
+    ensures { OnOk result (earliest.new.first ≡ fold size_noted earliest.old.first (flat_map (uses_of_block (typed_view
+        kb.now).vocabulary domains.now) (zip (typed_view kb.now).terms (typed_view kb.now).places.block_terms))) }
 {
     let blocks = kb.terms.as_slice();
     let places = kb.places.block_terms.as_slice();
@@ -195,7 +211,8 @@ pub fn note_blocks(
 
 /// Notes the weight of the theory with this number, where there is one.
 pub fn note_weight(kb: &TypedKb, theory: usize, domains: &DomainList, earliest: &mut Earliest)
-    ensures { earliest.new.first ≡ fold size_noted earliest.old.first (flat_map (weight_uses (typed_view kb.now) domains.now) (chosen_of (typed_view kb.now).theories (typed_view kb.now).places.theories theory)) }
+    ensures { earliest.new.first ≡ fold size_noted earliest.old.first (flat_map (weight_uses (typed_view kb.now)
+        domains.now) (chosen_of (typed_view kb.now).theories (typed_view kb.now).places.theories theory)) }
 {
     let Some(named) = kb.theories.get(theory) else {
         return;

@@ -2,7 +2,14 @@
 ghost use Rattle.std.specs.Prelude.{◌≡◌, map};
 ghost use Rattle.kb_logic.specs.Trees.{formulas_of, summands_of, terms_of};
 ghost use Rattle.kb_logic.specs.Views.{formula_view, signed_view, term_view};
-ghost use Rattle.kb_logic.specs.Weights.{all_occurrences, asked_occurrences, occurrences, summands_occurrences, term_occurrences, terms_occurrences};
+ghost use Rattle.kb_logic.specs.Weights.{
+  all_occurrences,
+  asked_occurrences,
+  occurrences,
+  summands_occurrences,
+  term_occurrences,
+  terms_occurrences,
+};
 ghost use Rattle.reading_stages.specs.SizesStage.{capped};
 
 use crate::applications::{in_term, in_terms};

@@ -2,7 +2,16 @@
 ghost use Rattle.std.specs.Prelude.{◌≡◌, ◌*◌, ◌+◌, length, map, sum_by};
 ghost use Rattle.kb_logic.specs.Structures.{domain_at, tuples_of};
 ghost use Rattle.kb_logic.specs.Views.{definition_view, formula_view, rule_view, term_view, theory_view};
-ghost use Rattle.kb_logic.specs.Weights.{asked_occurrences, atom_count, body_occurrences, definition_occurrences, occurrences, rule_occurrences, value_count, weight_of};
+ghost use Rattle.kb_logic.specs.Weights.{
+  asked_occurrences,
+  atom_count,
+  body_occurrences,
+  definition_occurrences,
+  occurrences,
+  rule_occurrences,
+  value_count,
+  weight_of,
+};
 ghost use Rattle.type_derivation.specs.TypedViews.{named_term_view};
 ghost use Rattle.reading_stages.specs.SizesStage.{capped};
 
@@ -40,7 +49,8 @@ fn values_of(domains: &DomainList, value: Option<u32>) -> u64
 
 /// The ground atoms of a symbol.
 pub fn atoms_of(domains: &DomainList, symbol: &Symbol) -> u64
-    ensures { result ≡ capped (length (tuples_of domains.now symbol.now.args) * value_count domains.now symbol.now.value) }
+    ensures { result ≡ capped (length (tuples_of domains.now symbol.now.args) * value_count domains.now
+        symbol.now.value) }
 {
     times(
         tuples(domains, symbol.args.as_slice()),
@@ -80,7 +90,8 @@ fn body(vocab: &Vocabulary, domains: &DomainList, of: &Formula, n: u64) -> u64
 }
 
 fn terms(vocab: &Vocabulary, domains: &DomainList, all: &[Named<Term>]) -> u64
-    ensures { result ≡ capped (sum_by (asked_occurrences vocab.now domains.now) (map (λ t. t.term) (map named_term_view all.now))) }
+    ensures { result ≡ capped (sum_by (asked_occurrences vocab.now domains.now) (map (λ t. t.term) (map named_term_view
+        all.now))) }
 {
     let mut count = 0u64;
     for one in all {
@@ -123,7 +134,8 @@ pub fn weight(
     theory: &Theory,
     blocks: &[Named<Term>],
 ) -> u64
-    ensures { result ≡ capped (weight_of vocab.now domains.now (theory_view theory.now) (map (λ t. t.term) (map named_term_view blocks.now))) }
+    ensures { result ≡ capped (weight_of vocab.now domains.now (theory_view theory.now) (map (λ t. t.term) (map
+        named_term_view blocks.now))) }
 {
     let in_sentences = sentences(vocab, domains, theory.sentences.as_slice());
     let in_definitions = definitions(vocab, domains, theory.definitions.as_slice());

@@ -31,14 +31,18 @@ abbrev mutual
   clamped_bounds v domains (integer z) scope = exactly z
   clamped_bounds v domains (constructed ty n) scope = range_of (domain_at domains ty)
   clamped_bounds v domains (application s ts) scope = range_of (domain_if domains (value_type_of v s))
-  clamped_bounds v domains (summation ss) scope = fold clamping_sum (exactly (pos 0)) (clamped_summands v domains ss scope)
-  clamped_bounds v domains (product ts) scope = fold clamping_product (exactly (pos 1)) (clamped_factors v domains ts scope)
+  clamped_bounds v domains (summation ss) scope = fold clamping_sum (exactly (pos 0))
+      (clamped_summands v domains ss scope)
+  clamped_bounds v domains (product ts) scope = fold clamping_product (exactly (pos 1))
+      (clamped_factors v domains ts scope)
   clamped_bounds v domains (aggregate k bs f t) scope =
-      clamp_interval (aggregate_bounds k (length (choices domains bs)) (clamped_bounds v domains t (scope ++ types_of bs)))
+      clamp_interval (aggregate_bounds k (length (choices domains bs))
+      (clamped_bounds v domains t (scope ++ types_of bs)))
 
   pub clamped_factors : Vocabulary → List (List Elem) → TermTrees → List ℕ → List Interval
   clamped_factors v domains no_terms scope = []
-  clamped_factors v domains (more_terms t ts) scope = clamped_bounds v domains t scope ∷ clamped_factors v domains ts scope
+  clamped_factors v domains (more_terms t ts) scope = clamped_bounds v domains t scope
+      ∷ clamped_factors v domains ts scope
 
   pub clamped_summands : Vocabulary → List (List Elem) → SummandTrees → List ℕ → List Interval
   clamped_summands v domains no_summands scope = []

@@ -1,5 +1,7 @@
 -- The elements of types, as a structure gives them.
-use Rattle.std.specs.Prelude.{ℕ, ◌==◌, Bool, true, false, not, ◌&&◌, ◌||◌, nat_lt, is_none, pos, negsuc, List, [], length, map, filter, filter_map, flat_map, Option, None, Some, unwrap_or, slice_get, if◌then◌else◌}
+use Rattle.std.specs.Prelude.{ℕ, ◌==◌, Bool, true, false, not, ◌&&◌, ◌||◌, nat_lt, is_none, pos, negsuc, List, []}
+use Rattle.std.specs.Prelude.{length, map, filter, filter_map, flat_map, Option, None, Some, unwrap_or, slice_get}
+use Rattle.std.specs.Prelude.{if◌then◌else◌}
 use Rattle.std.specs.List.{list_any, enumerate_from}
 use Rattle.kb_logic.specs.declared.elements.Elem.{Elem}
 use Rattle.kb_logic.specs.declared.elements.Elem.TheVariants.{Named}
@@ -72,7 +74,8 @@ has_what_occurs es t d = not (is_constructed d) && (not (is_listed es t) && is_n
 -- the elements of the type with this number, which is declared so
 abbrev pub cells_by : List TypeDecl → List Said → ℕ → TypeDecl → List Cell
 cells_by types es t d =
-    if is_constructed d then made_cells d else (if is_listed es t then listed_cells es t else (if has_what_occurs es t d then occurring_cells types es t else []))
+    if is_constructed d then made_cells d else (if is_listed es t then listed_cells es t else
+    (if has_what_occurs es t d then occurring_cells types es t else []))
 
 -- the elements of a type, if there is one
 abbrev pub cells_if : List TypeDecl → List Said → ℕ → Option TypeDecl → List Cell
@@ -108,7 +111,8 @@ is_natural_type types t = is_under_nat (slice_get types (top_of types t))
 
 -- a number type has integers alone, and one under `nat` none below 0
 abbrev pub is_of_kind : List TypeDecl → ℕ → Cell → Bool
-is_of_kind types t c = (not (is_number_type types t) || is_numeric c) && (not (is_natural_type types t) || is_not_negative c)
+is_of_kind types t c = (not (is_number_type types t) || is_numeric c)
+    && (not (is_natural_type types t) || is_not_negative c)
 
 -- the integers of domains lie from -1,000,000 to 1,000,000
 abbrev pub is_in_range : Cell → Bool

@@ -2,7 +2,9 @@
 --
 -- A type's list is read as the table of a predicate with one argument, a constant's element as a row with nothing but a
 -- value, `true` as a table with the empty row, and `false` as one without rows.
-use Rattle.std.specs.Prelude.{ℕ, ◌==◌, pos, neg_ℤ, Bool, true, false, not, ◌&&◌, ◌||◌, nat_lt, is_some, is_none, List, [], ◌∷◌, ◌++◌, length, map, filter, flat_map, Option, None, Some, option_map, if◌then◌else◌, codes}
+use Rattle.std.specs.Prelude.{ℕ, ◌==◌, pos, neg_ℤ, Bool, true, false, not, ◌&&◌, ◌||◌, nat_lt, is_some, is_none, List}
+use Rattle.std.specs.Prelude.{[], ◌∷◌, ◌++◌, length, map, filter, flat_map, Option, None, Some, option_map}
+use Rattle.std.specs.Prelude.{if◌then◌else◌, codes}
 use Rattle.std.specs.List.{enumerate_from}
 use Rattle.std.specs.Str.{bytes_eq}
 use Rattle.kb_logic.specs.declared.elements.Elem.{Elem}
@@ -28,12 +30,14 @@ pub data Subject : Type 0 where
 -- the type of this name, or else what else the word names
 abbrev pub named_in_types : Text → List (ℕ × TypeDecl) → Subject → Subject
 named_in_types word [] else_named = else_named
-named_in_types word (t ∷ ts) else_named = if bytes_eq word t.1.name then a_type t.0 t.1 else named_in_types word ts else_named
+named_in_types word (t ∷ ts) else_named = if bytes_eq word t.1.name then a_type t.0 t.1 else named_in_types word ts
+    else_named
 
 -- the symbol of this name, or else what else the word names
 abbrev pub named_in_symbols : Text → List (ℕ × Symbol) → Subject → Subject
 named_in_symbols word [] else_named = else_named
-named_in_symbols word (s ∷ ss) else_named = if bytes_eq word s.1.name then a_symbol s.0 s.1 else named_in_symbols word ss else_named
+named_in_symbols word (s ∷ ss) else_named = if bytes_eq word s.1.name then a_symbol s.0 s.1 else named_in_symbols word
+    ss else_named
 
 -- one of these names of elements, or nothing
 abbrev pub named_in_elements : Text → List Text → Subject
@@ -90,7 +94,8 @@ mark_name (raw.open_mark p n) = n
 abbrev pub sense_of : Option Name → Sense
 sense_of None = everything
 sense_of (Some m) =
-    if bytes_eq (text_of m) (codes "ct") then certainly_true else (if bytes_eq (text_of m) (codes "cf") then certainly_false else unread)
+    if bytes_eq (text_of m) (codes "ct") then certainly_true else
+    (if bytes_eq (text_of m) (codes "cf") then certainly_false else unread)
 
 -- ---- rows as they are written
 
@@ -124,7 +129,7 @@ place_of_items (raw.items i is) = place_of_item i
 abbrev pub items_in : raw.RowItems → List raw.RowItem
 items_in (raw.items i is) = i ∷ map (λ x. x.1) is
 
--- the element behind an arrow
+-- the element after an arrow
 abbrev pub value_in : Option (ℕ × raw.Element) → Option raw.Element
 value_in = option_map (λ x. x.1)
 
@@ -132,7 +137,7 @@ value_in = option_map (λ x. x.1)
 abbrev pub row_of_item : raw.RowItem → WrittenRow
 row_of_item i = record { place = place_of_item i; items = i ∷ []; value = None }
 
--- items that are one row, with what stands behind an arrow
+-- items that are one row, with what stands after an arrow
 abbrev pub row_of_items : raw.RowItems → Option (ℕ × raw.Element) → WrittenRow
 row_of_items is to = record { place = place_of_items is; items = items_in is; value = value_in to }
 
@@ -196,7 +201,8 @@ has_form (a_symbol s d) sense count value = form_of_symbol sense count d.args d.
 
 -- ---- entries
 
--- an entry: its word, what this names, its mark, whether its value has the form that is asked for, and its rows; a value
+-- an entry: its word, what this names, its mark, whether its value has the form that is asked for, and its rows; a
+-- value
 -- of another form has none
 pub record Said : Type 0 where
   pub word : Name
@@ -267,11 +273,18 @@ abbrev pub item_spots : Subject → List ℕ → List raw.RowItem → List Spot
 item_spots x [] is = []
 item_spots x (t ∷ ts) [] = []
 item_spots x (t ∷ ts) (i ∷ is) =
-    record { ty = t; in_list = is_a_type x; place = place_of_item i; cell = cell_of (is_plain_list x) i } ∷ item_spots x ts is
+    record { ty = t; in_list = is_a_type x; place = place_of_item i; cell = cell_of (is_plain_list x) i }
+    ∷ item_spots x ts is
 
 -- the value of a row, at a position of this type
 abbrev pub value_spots : Option ℕ → Option raw.Element → List Spot
-value_spots (Some t) (Some e) = record { ty = t; in_list = false; place = place_of_element e; cell = Some (one (element_of e)) } ∷ []
+value_spots (Some t) (Some e) = record {
+  ty = t;
+  in_list = false;
+  place = place_of_element e;
+  cell = Some
+      (one (element_of e));
+} ∷ []
 value_spots (Some t) None = []
 value_spots None value = []
 

@@ -1,12 +1,16 @@
 -- What the rows of a structure say of atoms, and where they clash.
-use Rattle.std.specs.Prelude.{ℕ, ◌*◌, ◌==◌, Bool, true, false, not, ◌&&◌, ◌||◌, nat_lt, is_none, List, [], ◌∷◌, length, fold, filter, filter_map, flat_map, Option, None, Some, option_map, if◌then◌else◌}
+use Rattle.std.specs.Prelude.{ℕ, ◌*◌, ◌==◌, Bool, true, false, not, ◌&&◌, ◌||◌, nat_lt, is_none, List, [], ◌∷◌}
+use Rattle.std.specs.Prelude.{length, fold, filter, filter_map, flat_map, Option, None, Some, option_map}
+use Rattle.std.specs.Prelude.{if◌then◌else◌}
 use Rattle.std.specs.List.{list_any}
 use Rattle.kb_logic.specs.declared.elements.Elem.{Elem}
 use Rattle.kb_logic.specs.declared.vocabularies.TypeDecl.{TypeDecl}
 use Rattle.kb_logic.specs.Models.{GroundAtom}
 use Rattle.fo_syntax.specs.BlockTrees as raw
 use Rattle.reading_stages.specs.Elements.{Cell, same_element, is_in, is_among, do_share, count_of}
-use Rattle.reading_stages.specs.DataEntries.{Subject, nothing_named, an_element, a_type, a_symbol, Sense, everything, certainly_true, certainly_false, unread, sense_of, WrittenRow, element_of, is_plain_list, cell_of, fitting, Said}
+use Rattle.reading_stages.specs.DataEntries.{Subject, nothing_named, an_element, a_type, a_symbol, Sense, everything}
+use Rattle.reading_stages.specs.DataEntries.{certainly_true, certainly_false, unread, sense_of, WrittenRow}
+use Rattle.reading_stages.specs.DataEntries.{element_of, is_plain_list, cell_of, fitting, Said}
 use Rattle.reading_stages.specs.DataDomains.{cells_of}
 
 -- the atoms of a symbol with arguments in these cells and this value are true, or false, as the row at this place says
@@ -19,7 +23,7 @@ pub record Fact : Type 0 where
 
 -- ---- the facts of an entry
 
--- one more cell in front, where both are read
+-- one more cell before these, where both are read
 abbrev pub joined_to : Option Cell → Option (List Cell) → Option (List Cell)
 joined_to None cells = None
 joined_to (Some c) None = None
@@ -32,7 +36,14 @@ cells_read in_plain_list (i ∷ is) = joined_to (cell_of in_plain_list i) (cells
 
 -- a fact of its parts
 abbrev pub fact_at : ℕ → ℕ → Bool → Option Elem → List Cell → Fact
-fact_at place symbol holds value args = record { place = place; symbol = symbol; holds = holds; args = args; value = value }
+fact_at place symbol holds value args = record {
+  place = place;
+  symbol = symbol;
+  holds = holds;
+  args = args;
+  value =
+      value;
+}
 
 -- what a row says of its symbol, where all of its items are read
 abbrev pub fact_of : Bool → Subject → WrittenRow → Option Fact
@@ -40,7 +51,8 @@ fact_of holds nothing_named r = None
 fact_of holds an_element r = None
 fact_of holds (a_type t d) r = None
 fact_of holds (a_symbol s d) r =
-    option_map (fact_at r.place s holds (option_map element_of r.value)) (cells_read (is_plain_list (a_symbol s d)) r.items)
+    option_map (fact_at r.place s holds (option_map element_of r.value))
+    (cells_read (is_plain_list (a_symbol s d)) r.items)
 
 -- whether the rows with this sense are true or false
 abbrev pub signs_of : Sense → List Bool
@@ -82,7 +94,8 @@ are_opposed false false same = false
 
 -- both cannot be so
 abbrev pub do_clash : Fact → Fact → Bool
-do_clash f g = (f.symbol == g.symbol) && (all_share f.args g.args && are_opposed f.holds g.holds (same_value_of f.value g.value))
+do_clash f g = (f.symbol == g.symbol) && (all_share f.args g.args
+    && are_opposed f.holds g.holds (same_value_of f.value g.value))
 
 -- a fact clashes with one of these
 abbrev pub clashes_with : List Fact → Fact → Bool
@@ -95,7 +108,7 @@ abbrev pub single_element : raw.RowItem → Option Elem
 single_element (raw.item e None) = Some (element_of e)
 single_element (raw.item e (Some to)) = None
 
--- one more element in front, where both are there
+-- one more element before these, where both are there
 abbrev pub added_to : Option Elem → Option (List Elem) → Option (List Elem)
 added_to None xs = None
 added_to (Some x) None = None
@@ -126,7 +139,8 @@ is_over types es (t ∷ ts) (x ∷ xs) = is_among (cells_of types es t) x && is_
 
 -- the different tuples of elements of these types that an entry has as arguments
 abbrev pub tuples_given : List TypeDecl → List Said → List ℕ → Said → List (List Elem)
-tuples_given types es args e = fold with_tuple [] (filter (is_over types es args) (filter_map (λ r. single_elements r.items) (fitting e)))
+tuples_given types es args e = fold with_tuple []
+    (filter (is_over types es args) (filter_map (λ r. single_elements r.items) (fitting e)))
 
 -- how many tuples there are over these types
 abbrev pub tuple_count : List TypeDecl → List Said → List ℕ → ℕ

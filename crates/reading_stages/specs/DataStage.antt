@@ -1,5 +1,6 @@
 -- The stage of data: what it refuses in the chosen structure, and of integers in the chosen theory and the terms.
-use Rattle.std.specs.Prelude.{ℕ, Bool, true, false, not, ◌&&◌, ◌||◌, is_some, is_none, nat_lt, List, [], ◌∷◌, ◌++◌, map, Option, None, Some, slice_get, option_to_list, zip, flat_map, if◌then◌else◌}
+use Rattle.std.specs.Prelude.{ℕ, Bool, true, false, not, ◌&&◌, ◌||◌, is_some, is_none, nat_lt, List, [], ◌∷◌, ◌++◌}
+use Rattle.std.specs.Prelude.{map, Option, None, Some, slice_get, option_to_list, zip, flat_map, if◌then◌else◌}
 use Rattle.std.specs.List.{list_any, list_all, enumerate_from}
 use Rattle.std.specs.Str.{bytes_eq}
 use Rattle.kb_text.specs.declared.fault.K.{K}
@@ -19,8 +20,12 @@ use Rattle.reading_stages.specs.Below.{type_above}
 use Rattle.reading_stages.specs.TypedFiles.{TypedTheoryTree, TypedTermTree, TypedFile}
 use Rattle.reading_stages.specs.TheoryItems.{items_of}
 use Rattle.reading_stages.specs.Elements.{Cell, same_element, is_covered, count_of}
-use Rattle.reading_stages.specs.DataEntries.{Subject, nothing_named, an_element, a_type, a_symbol, is_a_type, Sense, everything, certainly_true, certainly_false, unread, sense_of, WrittenRow, Said, said_in, fits_in, Spot, spots_of}
-use Rattle.reading_stages.specs.DataDomains.{is_listed, cells_given, parent_of_type, is_constructed, made_cells, has_what_occurs, occurring_cells, cells_of, domains_of, is_of_kind, is_in_range}
+use Rattle.reading_stages.specs.DataEntries.{Subject, nothing_named, an_element, a_type, a_symbol, is_a_type, Sense}
+use Rattle.reading_stages.specs.DataEntries.{everything, certainly_true, certainly_false, unread, sense_of}
+use Rattle.reading_stages.specs.DataEntries.{WrittenRow, Said, said_in, fits_in, Spot, spots_of}
+use Rattle.reading_stages.specs.DataDomains.{is_listed, cells_given, parent_of_type, is_constructed, made_cells}
+use Rattle.reading_stages.specs.DataDomains.{has_what_occurs, occurring_cells, cells_of, domains_of, is_of_kind}
+use Rattle.reading_stages.specs.DataDomains.{is_in_range}
 use Rattle.reading_stages.specs.DataFacts.{Fact, facts_in, clashes_with, misses_a_tuple}
 use Rattle.reading_stages.specs.IntegerArguments.{Argument, item_integers, term_integers, arguments_at}
 
@@ -30,13 +35,13 @@ pub data DataUse : Type 0 where
   declared : ℕ → TypeDecl → ℕ → DataUse
   -- an integer that is an argument of a function
   argument : Argument → DataUse
-  -- an entry, at its word, behind these
+  -- an entry, at its word, after these
   entry : List Said → Said → DataUse
   -- the mark of an entry
   mark : Subject → Name → DataUse
   -- a row of an entry, as it is written
   row : Subject → WrittenRow → DataUse
-  -- what a row says of atoms, behind what the rows before it say
+  -- what a row says of atoms, after what the rows before it say
   fact : List Fact → Fact → DataUse
   -- an element or a range
   spot : Spot → DataUse
@@ -58,17 +63,17 @@ abbrev pub mark_uses : Subject → Option Name → List DataUse
 mark_uses x None = []
 mark_uses x (Some m) = mark x m ∷ []
 
--- an entry behind these: its word, its mark, its rows, and what stands in these
+-- an entry after these: its word, its mark, its rows, and what stands in these
 abbrev pub uses_of_entry : List Said → Said → List DataUse
 uses_of_entry before e =
     entry before e ∷ (mark_uses e.subject e.mark ++ (map (row e.subject) e.rows ++ map spot (spots_of e)))
 
--- entries behind these, each behind the ones before it
+-- entries after these, each after the ones before it
 abbrev pub uses_of_entries : List Said → List Said → List DataUse
 uses_of_entries before [] = []
 uses_of_entries before (e ∷ es) = uses_of_entry before e ++ uses_of_entries (before ++ e ∷ []) es
 
--- facts behind these, each behind the ones before it
+-- facts after these, each after the ones before it
 abbrev pub uses_of_facts : List Fact → List Fact → List DataUse
 uses_of_facts before [] = []
 uses_of_facts before (f ∷ fs) = fact before f ∷ uses_of_facts (before ++ f ∷ []) fs
@@ -129,7 +134,8 @@ same_marks (Some m) (Some n) = bytes_eq (text_of m) (text_of n)
 
 -- one of the entries before has the same word, and no other mark
 abbrev pub is_again : DataUse → Bool
-is_again (entry before e) = list_any (λ q. bytes_eq (text_of q.word) (text_of e.word) && same_marks q.mark e.mark) before
+is_again (entry before e) = list_any (λ q. bytes_eq (text_of q.word) (text_of e.word)
+    && same_marks q.mark e.mark) before
 is_again _ = false
 
 -- a value of another form, or a row of another length
@@ -219,7 +225,8 @@ is_unsupported _ = false
 
 -- an integer of a domain is out of range
 abbrev pub is_out_of_range : List TypeDecl → List Said → DataUse → Bool
-is_out_of_range types es (spot s) = not (is_idle types s) && (gives types es s && cell_is (λ c. not (is_in_range c)) s.cell)
+is_out_of_range types es (spot s) = not (is_idle types s)
+    && (gives types es s && cell_is (λ c. not (is_in_range c)) s.cell)
 is_out_of_range types es _ = false
 
 -- the most elements that a type may have
@@ -229,7 +236,8 @@ element_limit = 65536
 -- a list has too many elements, or they are too many that occur
 abbrev pub is_too_large : List TypeDecl → List Said → DataUse → Bool
 is_too_large types es (entry before e) = is_a_type e.subject && nat_lt element_limit (count_of (cells_given e))
-is_too_large types es (declared t d place) = has_what_occurs es t d && nat_lt element_limit (count_of (occurring_cells types es t))
+is_too_large types es (declared t d place) = has_what_occurs es t d
+    && nat_lt element_limit (count_of (occurring_cells types es t))
 is_too_large types es _ = false
 
 -- ---- the table
@@ -249,7 +257,8 @@ is_data_refused types es u cause = false
 
 -- the causes of this stage
 abbrev pub data_causes : List K
-data_causes = k.UnknownName ∷ k.Redeclared ∷ k.WrongArity ∷ k.TypeNotGiven ∷ k.NotAnElement ∷ k.DataClash ∷ k.Unsupported ∷ k.OutOfRange ∷ k.TooLarge ∷ []
+data_causes = k.UnknownName ∷ k.Redeclared ∷ k.WrongArity ∷ k.TypeNotGiven ∷ k.NotAnElement ∷ k.DataClash
+    ∷ k.Unsupported ∷ k.OutOfRange ∷ k.TooLarge ∷ []
 
 -- a row of the table holds of one of these uses, beside these entries
 abbrev pub DataRefuse : List TypeDecl → List Said → List DataUse → KbFault → Type 0
@@ -269,4 +278,5 @@ ArgumentsRefuse f theory s = DataRefuse f.vocabulary.types (said_in f.vocabulary
 
 -- a refusal of the structure s beside the theory with this number, in a file
 abbrev pub StructureRefuses : TypedFile → ℕ → raw.Structure → KbFault → Type 0
-StructureRefuses f theory s = DataRefuse f.vocabulary.types (said_in f.vocabulary s) (data_uses f theory (said_in f.vocabulary s))
+StructureRefuses f theory s = DataRefuse f.vocabulary.types (said_in f.vocabulary s)
+    (data_uses f theory (said_in f.vocabulary s))

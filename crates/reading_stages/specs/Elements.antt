@@ -1,5 +1,6 @@
 -- The elements that tables are made of: single ones, and ranges of integers, which are never listed one by one.
-use Rattle.std.specs.Prelude.{ℕ, suc, zero, ◌+◌, ◌==◌, Bool, true, false, not, ◌&&◌, ◌||◌, nat_lt, ℤ, pos, negsuc, ◌+ℤ◌, ◌-ℤ◌, int_lt, List, [], ◌∷◌, ◌++◌, length, fold, sum_by, flat_map, if◌then◌else◌}
+use Rattle.std.specs.Prelude.{ℕ, suc, zero, ◌+◌, ◌==◌, Bool, true, false, not, ◌&&◌, ◌||◌, nat_lt, ℤ, pos, negsuc}
+use Rattle.std.specs.Prelude.{◌+ℤ◌, ◌-ℤ◌, int_lt, List, [], ◌∷◌, ◌++◌, length, fold, sum_by, flat_map, if◌then◌else◌}
 use Rattle.std.specs.Int.{int_min, int_max}
 use Rattle.std.specs.List.{list_any}
 use Rattle.std.specs.Str.{bytes_eq}
@@ -105,7 +106,8 @@ count_of cells = length (words_of cells) + sum_by size_of (intervals_of cells)
 -- each element of the cell is among some cells
 abbrev pub is_covered : List Cell → Cell → Bool
 is_covered cells (one x) = is_among cells x
-is_covered cells (span a b) = size_of (as_interval a b) == sum_by (λ j. size_of (common (as_interval a b) j)) (intervals_of cells)
+is_covered cells (span a b) = size_of (as_interval a b) == sum_by (λ j. size_of (common (as_interval a b) j))
+    (intervals_of cells)
 
 -- some element is in both cells
 abbrev pub do_share : Cell → Cell → Bool

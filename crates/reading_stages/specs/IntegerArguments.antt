@@ -1,9 +1,14 @@
 -- The integers that stand as arguments of functions.
 --
 -- Each list has one item a term, in the order in which the places of terms are kept, a term before its parts.
-use Rattle.std.specs.Prelude.{ℕ, ℤ, neg_ℤ, Bool, List, [], ◌∷◌, ◌++◌, Option, None, Some, slice_get, if◌then◌else◌, zip, filter_map}
+use Rattle.std.specs.Prelude.{ℕ, ℤ, neg_ℤ, Bool, List, [], ◌∷◌, ◌++◌, Option, None, Some, slice_get, if◌then◌else◌}
+use Rattle.std.specs.Prelude.{zip, filter_map}
 use Rattle.kb_logic.specs.declared.vocabularies.Symbol.{Symbol}
-use Rattle.kb_logic.specs.Trees.{TermTree, variable, integer, constructed, application, summation, product, aggregate, TermTrees, no_terms, more_terms, SummandTrees, no_summands, more_summands, FormulaTree, verum, falsum, atom, comparison, negation, conjunction, disjunction, implication, equivalence, universal, existential, numbered, FormulaTrees, no_formulas, more_formulas}
+use Rattle.kb_logic.specs.Trees.{TermTree, variable, integer, constructed, application, summation, product, aggregate}
+use Rattle.kb_logic.specs.Trees.{TermTrees, no_terms, more_terms, SummandTrees, no_summands, more_summands}
+use Rattle.kb_logic.specs.Trees.{FormulaTree, verum, falsum, atom, comparison, negation, conjunction, disjunction}
+use Rattle.kb_logic.specs.Trees.{implication, equivalence, universal, existential, numbered, FormulaTrees}
+use Rattle.kb_logic.specs.Trees.{no_formulas, more_formulas}
 use Rattle.reading_stages.specs.TheoryItems.{TheoryItem, sentence}
 use Rattle.reading_stages.specs.Demands.{argument_types, later_types}
 

@@ -3,11 +3,16 @@ use Rattle.std.specs.Prelude.{ℕ, ◌*◌, pos, neg_ℤ, int_lt, Bool, not, ◌
 use Rattle.kb_logic.specs.declared.elements.Elem.{Elem}
 use Rattle.kb_logic.specs.declared.vocabularies.Symbol.{Symbol}
 use Rattle.kb_logic.specs.declared.vocabularies.Vocabulary.{Vocabulary}
-use Rattle.kb_logic.specs.Trees.{TermTree, variable, integer, constructed, application, summation, product, aggregate, TermTrees, no_terms, more_terms, SummandTrees, no_summands, more_summands, FormulaTree, verum, falsum, atom, comparison, negation, conjunction, disjunction, implication, equivalence, universal, existential, numbered, FormulaTrees, no_formulas, more_formulas}
+use Rattle.kb_logic.specs.Trees.{TermTree, variable, integer, constructed, application, summation, product, aggregate}
+use Rattle.kb_logic.specs.Trees.{TermTrees, no_terms, more_terms, SummandTrees, no_summands, more_summands}
+use Rattle.kb_logic.specs.Trees.{FormulaTree, verum, falsum, atom, comparison, negation, conjunction, disjunction}
+use Rattle.kb_logic.specs.Trees.{implication, equivalence, universal, existential, numbered, FormulaTrees}
+use Rattle.kb_logic.specs.Trees.{no_formulas, more_formulas}
 use Rattle.kb_logic.specs.Structures.{domain_at}
 use Rattle.kb_logic.specs.Bounds.{Interval, exactly, front_bounds, types_of, bound_limit}
 use Rattle.kb_logic.specs.Weights.{value_count}
-use Rattle.reading_stages.specs.ClampedBounds.{clamping_sum, clamping_product, clamped_bounds, clamped_factors, clamped_summands}
+use Rattle.reading_stages.specs.ClampedBounds.{clamping_sum, clamping_product, clamped_bounds, clamped_factors}
+use Rattle.reading_stages.specs.ClampedBounds.{clamped_summands}
 use Rattle.reading_stages.specs.TheoryItems.{TheoryItem, sentence}
 
 -- ---- ground atoms
@@ -45,22 +50,27 @@ abbrev mutual
   formula_bounds v domains (negation f) scope = formula_bounds v domains f scope
   formula_bounds v domains (conjunction fs) scope = formulas_bounds v domains fs scope
   formula_bounds v domains (disjunction fs) scope = formulas_bounds v domains fs scope
-  formula_bounds v domains (implication f g) scope = formula_bounds v domains f scope ++ formula_bounds v domains g scope
-  formula_bounds v domains (equivalence f g) scope = formula_bounds v domains f scope ++ formula_bounds v domains g scope
+  formula_bounds v domains (implication f g) scope = formula_bounds v domains f scope ++ formula_bounds v domains g
+      scope
+  formula_bounds v domains (equivalence f g) scope = formula_bounds v domains f scope ++ formula_bounds v domains g
+      scope
   formula_bounds v domains (universal bs f) scope = formula_bounds v domains f (scope ++ types_of bs)
   formula_bounds v domains (existential bs f) scope = formula_bounds v domains f (scope ++ types_of bs)
   formula_bounds v domains (numbered c k bs f) scope = formula_bounds v domains f (scope ++ types_of bs)
 
   pub formulas_bounds : Vocabulary → List (List Elem) → FormulaTrees → List ℕ → List (List Interval)
   formulas_bounds v domains no_formulas scope = []
-  formulas_bounds v domains (more_formulas f fs) scope = formula_bounds v domains f scope ++ formulas_bounds v domains fs scope
+  formulas_bounds v domains (more_formulas f fs) scope = formula_bounds v domains f scope ++ formulas_bounds v domains
+      fs scope
 
   pub term_bounds : Vocabulary → List (List Elem) → TermTree → List ℕ → List (List Interval)
   term_bounds v domains (variable n) scope = bounds_at v domains (variable n) scope ∷ []
   term_bounds v domains (integer z) scope = bounds_at v domains (integer z) scope ∷ []
   term_bounds v domains (constructed ty n) scope = bounds_at v domains (constructed ty n) scope ∷ []
-  term_bounds v domains (application s ts) scope = bounds_at v domains (application s ts) scope ∷ terms_bounds v domains ts scope
-  term_bounds v domains (summation ss) scope = bounds_at v domains (summation ss) scope ∷ summands_bounds v domains ss scope
+  term_bounds v domains (application s ts) scope = bounds_at v domains (application s ts) scope
+      ∷ terms_bounds v domains ts scope
+  term_bounds v domains (summation ss) scope = bounds_at v domains (summation ss) scope
+      ∷ summands_bounds v domains ss scope
   term_bounds v domains (product ts) scope = bounds_at v domains (product ts) scope ∷ terms_bounds v domains ts scope
   term_bounds v domains (aggregate k bs f t) scope =
       bounds_at v domains (aggregate k bs f t) scope
@@ -72,7 +82,8 @@ abbrev mutual
 
   pub summands_bounds : Vocabulary → List (List Elem) → SummandTrees → List ℕ → List (List Interval)
   summands_bounds v domains no_summands scope = []
-  summands_bounds v domains (more_summands minus t ss) scope = term_bounds v domains t scope ++ summands_bounds v domains ss scope
+  summands_bounds v domains (more_summands minus t ss) scope = term_bounds v domains t scope ++ summands_bounds v
+      domains ss scope
 
 -- the bounds at each term of an item of a theory
 abbrev pub item_bounds : Vocabulary → List (List Elem) → TheoryItem → List (List Interval)

@@ -1,6 +1,8 @@
--- The stage of sizes: what it refuses of the chosen theory over the data's domains, and what it answers where it refuses
+-- The stage of sizes: what it refuses of the chosen theory over the data's domains, and what it returns where it
+-- refuses
 -- nothing.
-use Rattle.std.specs.Prelude.{ℕ, ◌+◌, min, ◌≡◌, Bool, false, not, ◌&&◌, nat_lt, List, [], ◌∷◌, ◌++◌, map, Option, Some, slice_get, option_to_list, zip, flat_map}
+use Rattle.std.specs.Prelude.{ℕ, ◌+◌, min, ◌≡◌, Bool, false, not, ◌&&◌, nat_lt, List, [], ◌∷◌, ◌++◌, map, Option}
+use Rattle.std.specs.Prelude.{Some, slice_get, option_to_list, zip, flat_map}
 use Rattle.std.specs.List.{list_any}
 use Rattle.kb_text.specs.declared.fault.K.{K}
 use Rattle.kb_text.specs.declared.fault.K.TheVariants as k
@@ -119,8 +121,9 @@ pub record Sizes : Type 0 where
   pub atoms : ℕ
   pub weight : ℕ
 
--- what the stage of sizes answers where it refuses nothing of the theory with this number over these domains
+-- what the stage of sizes returns where it refuses nothing of the theory with this number over these domains
 pub record AreSizesOf (f : TypedFile) (theory : ℕ) (domains : List (List Elem)) (answer : Sizes) : Type 0 where
   pub accepted : (q : KbFault) → SizesRefuse (size_uses f theory domains) q → ⊥
   pub atoms : answer.atoms ≡ capped (atom_count f.vocabulary domains)
-  pub weight : (t : TypedTheoryTree) → slice_get f.theories theory ≡ Some t → answer.weight ≡ capped (weight_in f domains t)
+  pub weight : (t : TypedTheoryTree) → slice_get f.theories theory ≡ Some t → answer.weight
+      ≡ capped (weight_in f domains t)

@@ -214,15 +214,15 @@ mutual
       let parts = first_of_all (bounds_at v domains (summation ss) scope) (summands_bounds v domains ss scope) h in
       let inner = summands_bounded v domains ss scope parts.1 in
       let chain =
-          prefixes interval_sum sum_proper (exactly (pos 0)) (summand_bounds v domains ss scope) (exactly_proper (pos 0)) (summands_proper v domains ss scope) (exactly_small 0 (omega arith))
-          (subst (λ js. AllByRecursion IsSmall (front_bounds clamping_sum (exactly (pos 0)) js)) inner.1 parts.0) in
+      prefixes interval_sum sum_proper (exactly (pos 0)) (summand_bounds v domains ss scope) (exactly_proper (pos 0)) (summands_proper v domains ss scope) (exactly_small 0 (omega arith))
+      (subst (λ js. AllByRecursion IsSmall (front_bounds clamping_sum (exactly (pos 0)) js)) inner.1 parts.0) in
       record { bounded = (chain.0, inner.0); same = ap (fold clamping_sum (exactly (pos 0))) inner.1 ∙ chain.1; small = chain.2 }
   term_bounded v domains (product ts) scope h =
       let parts = first_of_all (bounds_at v domains (product ts) scope) (terms_bounds v domains ts scope) h in
       let inner = terms_bounded v domains ts scope parts.1 in
       let chain =
-          prefixes interval_product product_proper (exactly (pos 1)) (factor_bounds v domains ts scope) (exactly_proper (pos 1)) (factors_proper v domains ts scope) (exactly_small 1 (omega arith))
-          (subst (λ js. AllByRecursion IsSmall (front_bounds clamping_product (exactly (pos 1)) js)) inner.1 parts.0) in
+      prefixes interval_product product_proper (exactly (pos 1)) (factor_bounds v domains ts scope) (exactly_proper (pos 1)) (factors_proper v domains ts scope) (exactly_small 1 (omega arith))
+      (subst (λ js. AllByRecursion IsSmall (front_bounds clamping_product (exactly (pos 1)) js)) inner.1 parts.0) in
       record { bounded = (chain.0, inner.0); same = ap (fold clamping_product (exactly (pos 1))) inner.1 ∙ chain.1; small = chain.2 }
   term_bounded v domains (aggregate k bs f t) scope h =
       let inner = scope ++ types_of bs in
@@ -257,11 +257,12 @@ mutual
       let first = term_bounded v domains t scope parts.0 in
       let rest = summands_bounded v domains ss scope parts.1 in
       let own = signed_interval minus (bounds_of v domains t scope) in
-      let kept = small_kept own (signed_proper minus (bounds_of v domains t scope) (bounds_proper v domains t scope)) (signed_small minus (bounds_of v domains t scope) first.small) in
-      ((first.bounded, rest.0),
-      ap (λ (i : Interval). clamp_interval (signed_interval minus i) ∷ clamped_summands v domains ss scope) first.same
-      ∙ ap (λ (i : Interval). i ∷ clamped_summands v domains ss scope) kept
-      ∙ ap (λ is. own ∷ is) rest.1)
+      let kept = small_kept own (signed_proper minus (bounds_of v domains t scope) (bounds_proper v domains t scope)) (signed_small minus (bounds_of v domains t scope) first.small) in (
+        (first.bounded, rest.0),
+        ap (λ (i : Interval). clamp_interval (signed_interval minus i) ∷ clamped_summands v domains ss scope) first.same
+            ∙ ap (λ (i : Interval). i ∷ clamped_summands v domains ss scope) kept
+            ∙ ap (λ is. own ∷ is) rest.1,
+      )
 
 pub small_is_bounded : SmallIsBounded
 small_is_bounded = formula_bounded

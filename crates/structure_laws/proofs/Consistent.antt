@@ -112,7 +112,7 @@ not_both a f h k =
     let same : same_value_of f.value a.value ≡ true = ap (λ o. same_value_of o a.value) t.2 ∙ value_itself a.value in
     true≢false (sym s.1 ∙ ap (λ b. are_opposed true b (same_value_of f.value a.value)) t.1 ∙ ap not same)
 
--- ---- facts of which none clashes with one behind it
+-- ---- facts of which none clashes with one after it
 
 abbrev keeps_apart : Fact → List Fact → Bool
 keeps_apart f fs = list_all (λ g. not (do_clash f g)) fs

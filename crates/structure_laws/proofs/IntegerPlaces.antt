@@ -8,7 +8,7 @@ use Rattle.reading_stages.specs.TypedTrees.{inside, aggregate_parts, typed_formu
 use Rattle.reading_stages.specs.IntegerArguments.{first_position, formula_integers, all_integers, term_integers, argument_integers, summand_integers}
 use Rattle.structure_laws.specs.DataLaws.{SentencesHavePlaces, BlocksHavePlaces}
 
--- two lists behind one another, as long as two others
+-- two lists after one another, as long as two others
 pub lengths : {X Y : Type 0} (xs ys : List X) (us vs : List Y) → length xs ≡ length us → length ys ≡ length vs → length (xs ++ ys) ≡ length (us ++ vs)
 lengths xs ys us vs h k = length-append xs ys ∙ ap (λ n. n + length ys) h ∙ ap (λ n. length us + n) k ∙ sym (length-append us vs)
 

@@ -201,7 +201,7 @@ one_more_over test before t false h all q e = elim (or_cases (same_tuple q t) (l
   | inr f ↦ all q f
 ]
 
--- where the tests let through what comes behind, they do so with one more in front
+-- where the tests let through what comes after, they do so with one more before it
 over_by : (test : List Elem → Bool) (before : List (List Elem)) (t : List Elem) (rest : List (List Elem)) → ((q : List Elem) → list_any (same_tuple q) before ≡ true → test q ≡ true)
     → ((more : List (List Elem)) → ((q : List Elem) → list_any (same_tuple q) more ≡ true → test q ≡ true) → (q : List Elem) → list_any (same_tuple q) (fold with_tuple more rest) ≡ true → test q ≡ true)
     → (q : List Elem) → (b : Bool) → test t ≡ b → list_any (same_tuple q) (fold with_tuple before (if b then t ∷ rest else rest)) ≡ true → test q ≡ true

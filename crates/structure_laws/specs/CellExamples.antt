@@ -23,7 +23,8 @@ joining = range 5 6 ∷ range 1 2 ∷ range 9 9 ∷ range 2 5 ∷ []
 
 pub record CellsAreWorkedOut : Type 0 where
   pub counted : count_of mixed ≡ 7
-  pub listed_once : listed mixed ≡ Num (pos 1) ∷ Num (pos 2) ∷ Num (pos 3) ∷ Num (pos 5) ∷ Named (codes "a") ∷ Num (pos 4) ∷ Named (codes "b") ∷ []
+  pub listed_once : listed mixed ≡ Num (pos 1) ∷ Num (pos 2) ∷ Num (pos 3) ∷ Num (pos 5) ∷ Named (codes "a")
+      ∷ Num (pos 4) ∷ Named (codes "b") ∷ []
   pub joined_count : count_of joining ≡ 7
   pub joined_list : length (listed joining) ≡ 7
   pub inside : count_of (range 1 9 ∷ range 3 4 ∷ range 2 8 ∷ []) ≡ 9

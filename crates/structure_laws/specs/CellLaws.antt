@@ -4,7 +4,8 @@ use Rattle.std.specs.List.{list_any, list_all}
 use Rattle.kb_logic.specs.declared.elements.Elem.{Elem}
 use Rattle.kb_logic.specs.declared.vocabularies.TypeDecl.{TypeDecl}
 use Rattle.kb_logic.specs.Structures.{IsDistinct, tuples_of}
-use Rattle.reading_stages.specs.Elements.{Cell, same_element, is_in, is_among, is_covered, do_share, members, listed, count_of}
+use Rattle.reading_stages.specs.Elements.{Cell, same_element, is_in, is_among, is_covered, do_share, members, listed}
+use Rattle.reading_stages.specs.Elements.{count_of}
 use Rattle.reading_stages.specs.DataEntries.{Said}
 use Rattle.reading_stages.specs.DataDomains.{domains_of}
 use Rattle.reading_stages.specs.DataFacts.{same_tuple, tuples_given, misses_a_tuple}

@@ -35,16 +35,19 @@ GivenIsConsistent =
 abbrev pub AcceptedHaveDomains : Type 0
 AcceptedHaveDomains =
     (file : File) (named : NamedFile) (typed : TypedFile) → IsNamed file named → IsTyped named typed
-    → (theory : ℕ) (s : raw.Structure) (answer : KnownAtoms) → IsDataOf typed theory s answer → AreDomainsOf typed.vocabulary answer.domains
+    → (theory : ℕ) (s : raw.Structure) (answer : KnownAtoms) → IsDataOf typed theory s answer
+    → AreDomainsOf typed.vocabulary answer.domains
 
 -- ---- places
 
 -- there is one item for each place of a term in a sentence
 abbrev pub SentencesHavePlaces : Type 0
 SentencesHavePlaces =
-    (v : Vocabulary) (f : NamedFormula) → length (formula_integers v.symbols (typed_sentence v f)) ≡ length (terms_begin f)
+    (v : Vocabulary) (f : NamedFormula) → length (formula_integers v.symbols (typed_sentence v f))
+    ≡ length (terms_begin f)
 
 -- and for each in a term block
 abbrev pub BlocksHavePlaces : Type 0
 BlocksHavePlaces =
-    (v : Vocabulary) (t : NamedTerm) → length (term_integers v.symbols None (typed_block_term v t)) ≡ length (term_begins t)
+    (v : Vocabulary) (t : NamedTerm) → length (term_integers v.symbols None (typed_block_term v t))
+    ≡ length (term_begins t)

@@ -17,7 +17,8 @@ use Rattle.reading_stages.specs.SizesStage.{Sizes, AreSizesOf}
 
 -- the product of the sizes of domains counts their tuples
 abbrev pub ProductCountsTuples : Type 0
-ProductCountsTuples = (domains : List (List Elem)) (types : List ℕ) → length (tuples_of domains types) ≡ size_product domains types
+ProductCountsTuples = (domains : List (List Elem)) (types : List ℕ) → length (tuples_of domains types)
+    ≡ size_product domains types
 
 -- there are bounds for each place of a term in a sentence
 abbrev pub SentencesHaveBounds : Type 0
@@ -46,6 +47,7 @@ SmallTermIsBounded =
 -- what the stage of sizes accepts is bounded: the chosen theory, and the term of each term block
 abbrev pub AcceptedAreBounded : Type 0
 AcceptedAreBounded =
-    (named : NamedFile) (f : TypedFile) → IsTyped named f → (theory : ℕ) (domains : List (List Elem)) (answer : Sizes) → AreSizesOf f theory domains answer
+    (named : NamedFile) (f : TypedFile) → IsTyped named f → (theory : ℕ) (domains : List (List Elem)) (answer : Sizes)
+    → AreSizesOf f theory domains answer
     → ((t : TypedTheoryTree) → slice_get f.theories theory ≡ Some t → TheoryIsBounded f.vocabulary domains t.theory)
     × AllByRecursion (λ b. TermIsBounded f.vocabulary domains b.term []) f.terms

@@ -1,4 +1,5 @@
--- Structures as they are written, for worked examples. The places of brackets and signs, at which nothing is looked, are 0.
+-- Structures as they are written, for worked examples. The places of brackets and signs, at which nothing is looked,
+-- are 0.
 use Rattle.std.specs.Prelude.{ℕ, List, [], ◌∷◌, map, Option, None, Some, fold}
 use Rattle.kb_logic.specs.declared.elements.Elem.{Elem}
 use Rattle.kb_logic.specs.declared.vocabularies.Parent.{Parent}
@@ -36,7 +37,12 @@ atom s args value = record { symbol = s; args = args; value = value }
 
 -- what is known of atoms over these domains
 abbrev pub known : Vocabulary → List (List Elem) → List GroundAtom → List GroundAtom → KnownAtoms
-known v domains true_atoms false_atoms = record { symbols = v.symbols; domains = domains; true_atoms = true_atoms; false_atoms = false_atoms }
+known v domains true_atoms false_atoms = record {
+  symbols = v.symbols;
+  domains = domains;
+  true_atoms = true_atoms;
+  false_atoms = false_atoms;
+}
 
 -- ---- elements, rows and entries
 
