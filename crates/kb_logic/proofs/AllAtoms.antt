@@ -1,6 +1,6 @@
 -- Which atoms there are.
 use Rattle.std.proofs.Common.{◌≡◌, ℕ, List, map, Bool, false, Option, None, Some, sym, ap, ◌∙◌, arith, slice_get, is_some, refl, subst}
-use Rattle.std.specs.List.{enumerate_from, Contains}
+use Rattle.std.specs.List.{enumerate_from}
 use Rattle.std.specs.Option.{option_map_or}
 use Rattle.kb_logic.specs.declared.elements.Elem.{Elem}
 use Rattle.kb_logic.specs.declared.vocabularies.Symbol.{Symbol}

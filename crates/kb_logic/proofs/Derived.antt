@@ -1,5 +1,5 @@
 -- What is derived, and models of small definitions.
-use Rattle.std.proofs.Common.{◌≡◌, ℕ, pos, List, [], ◌∷◌, map, Bool, true, false, ◌&&◌, ◌==◌, Option, Some, None, option_map, IsTrue, refl, sym, ap, ◌∙◌, subst, arith, inl, inr, slice_get}
+use Rattle.std.proofs.Common.{◌≡◌, ℕ, pos, List, [], ◌∷◌, map, true, ◌&&◌, ◌==◌, Option, Some, None, option_map, IsTrue, refl, sym, ap, ◌∙◌, subst, inl, inr, slice_get}
 use Rattle.std.specs.List.{Contains, list_any}
 use Rattle.std.proofs.lemmas.Bool.{and_parts, and_from, eqb-true, eq-eqb, true≢false}
 use Rattle.kb_logic.specs.declared.elements.Elem.{Elem}

@@ -1,5 +1,5 @@
 -- Domains of four types, worked out.
-use Rattle.std.proofs.Common.{◌≡◌, ℕ, zero, pos, negsuc, List, [], ◌∷◌, refl, ap, arith, inl, inr}
+use Rattle.std.proofs.Common.{◌≡◌, ℕ, pos, negsuc, List, [], ◌∷◌, refl, ap, arith, inl, inr}
 use Rattle.std.specs.List.{Contains}
 use Rattle.std.proofs.lemmas.Int.{ints}
 use Rattle.kb_logic.specs.declared.elements.Elem.{Elem}

@@ -1,20 +1,17 @@
 -- A knowledge base of the first profile has the models of the knowledge base that it is.
 use Rattle.std.proofs.Common.{◌≡◌, ◌≢◌, ℕ, List, [], ◌∷◌, map, Bool, true, false, not, ◌&&◌, ◌==◌, Option, None, Some, length, refl, sym, ap, ◌∙◌, subst, inl, inr, slice_get, filter}
-use Rattle.std.specs.List.{Contains, AllByRecursion, list_any}
-use Rattle.std.proofs.lemmas.Bool.{cases_Bool, and_parts, and_from, eqb-true, eq-eqb, true≢false}
+use Rattle.std.specs.List.{Contains, AllByRecursion}
+use Rattle.std.proofs.lemmas.Bool.{cases_Bool, and_parts, and_from, eqb-true, eq-eqb}
 use Rattle.kb_logic.specs.declared.elements.Elem.{Elem}
 use Rattle.kb_logic.specs.declared.vocabularies.Symbol.{Symbol}
-use Rattle.kb_logic.specs.declared.structures.Literal.{Literal}
 use Rattle.kb_logic.specs.declared.structures.Table.{Table}
 use Rattle.kb_logic.specs.declared.structures.Structure.{Structure}
 use Rattle.kb_logic.specs.declared.first.FirstKb.{FirstKb}
 use Rattle.kb_logic.specs.Structures.{IsDistinct, IsStructure, tuples_of}
-use Rattle.kb_logic.specs.Denotations.{denotation_of}
-use Rattle.kb_logic.specs.Meaning.{rows_of, has_row}
-use Rattle.kb_logic.specs.Models.{GroundAtom, HasValueIn, AtomHolds, HoldsIn}
+use Rattle.kb_logic.specs.Meaning.{rows_of}
+use Rattle.kb_logic.specs.Models.{GroundAtom, HasValueIn, AtomHolds}
 use Rattle.kb_logic.specs.KnownAtoms.{atoms_over, ExtendsData}
-use Rattle.kb_logic.specs.Bases.{IsModelUnder}
-use Rattle.kb_logic.specs.First.{IsPlainPredicate, IsGivenTable, AreApart, IsFirstKb, AgreesWith, ModelOfFirst, is_given, is_in_data, data_of_first, base_of_first, FirstModelsAreModels}
+use Rattle.kb_logic.specs.First.{IsPlainPredicate, IsGivenTable, AreApart, IsFirstKb, AgreesWith, ModelOfFirst, is_given, is_in_data, data_of_first, FirstModelsAreModels}
 use Rattle.kb_logic.proofs.AllAtoms.{atom_listed, listed_over}
 use Rattle.kb_logic.proofs.Atoms.{among, in_rows, elements_tuple, some_same}
 use Rattle.kb_logic.proofs.Has.{Has, has_from, contains_from, has_get}

@@ -21,5 +21,6 @@ pub mod Sums
 pub mod Tables
 pub mod TupleCounts
 pub mod TupleLists
+pub mod TypedExamples
 pub mod ViewsOf
 pub mod WithinBounds

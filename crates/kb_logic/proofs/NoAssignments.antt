@@ -15,7 +15,7 @@ product_none n (suc s) (suc m) e h =
     let some : 1 * 1 ≤ suc s * suc m = mul-le 1 1 (suc s) (suc m) (omega arith) (omega arith) in
     (λ none. absurd (omega (arith, none, e, some)), λ none. absurd (omega (arith, none)))
 
--- behind a variable of a type with elements there are none exactly where there are none with it
+-- after a variable of a type with elements there are none exactly where there are none with it
 pub none_behind : (domains : List (List Elem)) (bs : List Bound) (i : ℕ) (b : Bound) (dom : List Elem) → i < length bs → b ≡ get_or bs i b → dom ≡ domain_at domains b.ty → (length dom == 0) ≡ false
     → (length (choices domains (drop i bs)) ≡ 0 → length (choices domains (drop (i + 1) bs)) ≡ 0) × (length (choices domains (drop (i + 1) bs)) ≡ 0 → length (choices domains (drop i bs)) ≡ 0)
 none_behind domains bs i b dom h at is some =

@@ -22,8 +22,8 @@ pub record Base : Type 0 where
   pub theory : TheoryTree
   pub terms : List NamedTerm
 
--- m is a model of the knowledge base under these choices: a structure over its vocabulary and its domains that agrees with
--- every known atom, that is a model of its theory, and in which each choice is true
+-- m is a model of the knowledge base under these choices: a structure over its vocabulary and its domains that agrees
+-- with every known atom, that is a model of its theory, and in which each choice is true
 pub record IsModelUnder (base : Base) (choices : List Literal) (m : Structure) : Type 0 where
   pub structure : IsStructure base.vocabulary m
   pub extends : ExtendsData m base.known

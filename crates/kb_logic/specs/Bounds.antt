@@ -109,7 +109,7 @@ bound_limit = 1000000000000000
 abbrev pub IsSmall : Interval → Type 0
 IsSmall i = (neg_ℤ (pos bound_limit) ≤ℤ i.low) × (i.high ≤ℤ pos bound_limit)
 
--- the bounds of each front of a chain of operands, which counts as a term of its own
+-- the bounds of each prefix of a chain of operands, which counts as a term of its own
 abbrev pub front_bounds : (Interval → Interval → Interval) → Interval → List Interval → List Interval
 front_bounds step i [] = []
 front_bounds step i (j ∷ js) = step i j ∷ front_bounds step (step i j) js

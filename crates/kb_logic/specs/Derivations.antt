@@ -29,7 +29,8 @@ same_optional_value (Some u) (Some v) = same_value u v
 abbrev pub is_head : Structure → RuleTree → GroundAtom → List Elem → Bool
 is_head m r a e =
     (r.symbol == a.symbol)
-    && (same_values (values_of m (terms_of r.args) e) (map denotation_of a.args) && same_optional_value (option_map (λ t. value_of m t e) r.value) (option_map denotation_of a.value))
+    && (same_values (values_of m (terms_of r.args) e) (map denotation_of a.args)
+    && same_optional_value (option_map (λ t. value_of m t e) r.value) (option_map denotation_of a.value))
 
 -- some instance of some rule has the atom as its head, and a true body
 abbrev pub is_derived : Structure → DefinitionTree → GroundAtom → Bool
@@ -48,7 +49,8 @@ two = Num (pos 2)
 abbrev proposition : Symbol
 proposition = record { name = []; args = []; value = None }
 
--- p, q and o are the propositions 0, 1 and 2; f is the function 3 from type 0, which has 1 and 2, to itself; type 1 is empty
+-- p, q and o are the propositions 0, 1 and 2; f is the function 3 from type 0, which has 1 and 2, to itself; type 1 is
+-- empty
 abbrev pub words : Vocabulary
 words = record { name = []; types = []; symbols = proposition ∷ proposition ∷ proposition ∷ record { name = []; args = 0 ∷ []; value = Some 0 } ∷ [] }
 
@@ -95,8 +97,9 @@ p_if_q = rules (p_if [] (said 1) ∷ [])
 abbrev pub both_values : DefinitionTree
 both_values = rules (f_is (integer (pos 1)) ∷ f_is (integer (pos 2)) ∷ [])
 
--- what is derived and what is a model: by a rule with a true body; by the second of two rules; by a fact; not by a rule with a
--- variable over an empty type; not where the value is outside the value type; and two rules may give a function two values
+-- what is derived and what is a model: by a rule with a true body; by the second of two rules; by a fact; not by a rule
+-- with a variable over an empty type; not where the value is outside the value type; and two rules may give a function
+-- two values
 pub record DefinitionExamples : Type 0 where
   pub model : ModelOfDefinition words (world yes yes [] constant_one) p_if_q
   pub not_closed : ModelOfDefinition words (world [] yes [] constant_one) p_if_q → ⊥

@@ -9,8 +9,8 @@ use Rattle.kb_logic.specs.declared.vocabularies.TypeDecl.{TypeDecl}
 use Rattle.kb_logic.specs.declared.vocabularies.Vocabulary.{Vocabulary}
 use Rattle.kb_logic.specs.Structures.{domain_at, IsDistinct, EachWith}
 
--- an element of a type with this parent: any element where there is none; an integer under `int`, and one that is not below 0
--- under `nat`; else an element of the parent
+-- an element of a type with this parent: any element where there is none; an integer under `int`, and one that is not
+-- below 0 under `nat`; else an element of the parent
 abbrev pub IsUnder : List (List Elem) → Parent → Elem → Type 0
 IsUnder domains Root x = ⊤
 IsUnder domains Int x = (z : ℤ) × (x ≡ Num z)
@@ -22,8 +22,8 @@ abbrev pub IsInRange : Elem → Type 0
 IsInRange (Named n) = ⊤
 IsInRange (Num z) = (neg_ℤ (pos 1000000) ≤ℤ z) × (z ≤ℤ pos 1000000)
 
--- the domain of a type: no element stands twice, a constructed type has its names in their order, each element is one of the
--- type's parent, integers are in range, and there are at most 65,536 elements
+-- the domain of a type: no element stands twice, a constructed type has its names in their order, each element is one
+-- of the type's parent, integers are in range, and there are at most 65,536 elements
 pub record IsDomainOf (domains : List (List Elem)) (t : TypeDecl) (d : List Elem) : Type 0 where
   pub distinct : IsDistinct d
   pub names : t.made ≢ [] → d ≡ map Named t.made

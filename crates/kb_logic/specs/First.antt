@@ -110,7 +110,8 @@ unknown_of kb s = if is_some s.1.value || is_given kb.given s.0 then 0 else leng
 abbrev pub open_atom_count : FirstKb → ℕ
 open_atom_count kb = sum_by (unknown_of kb) (enumerate_from 0 kb.vocab.symbols)
 
--- what the data make known: the rows of the given predicates are true atoms, and the other atoms of these predicates false ones
+-- what the data make known: the rows of the given predicates are true atoms, and the other atoms of these predicates are
+-- false
 abbrev pub data_of_first : FirstKb → KnownAtoms
 data_of_first kb = record {
   symbols = kb.vocab.symbols;
@@ -126,4 +127,5 @@ base_of_first kb = record { vocabulary = kb.vocab; known = data_of_first kb; the
 -- its models that make some choices true are those of the knowledge base that it is
 abbrev pub FirstModelsAreModels : Type 0
 FirstModelsAreModels =
-    (kb : FirstKb) (choices : List Literal) (m : Structure) → IsFirstKb kb → (ModelOfFirst kb m × AllByRecursion (HoldsIn m) choices) ↔ IsModelUnder (base_of_first kb) choices m
+    (kb : FirstKb) (choices : List Literal) (m : Structure) → IsFirstKb kb
+    → (ModelOfFirst kb m × AllByRecursion (HoldsIn m) choices) ↔ IsModelUnder (base_of_first kb) choices m

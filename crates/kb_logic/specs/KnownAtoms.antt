@@ -20,11 +20,13 @@ pub record KnownAtoms : Type 0 where
 -- the atoms of symbol i with these tuples: one for each, or for a function one for each tuple and each value
 abbrev pub atoms_with : List (List Elem) → ℕ → List (List Elem) → Option ℕ → List GroundAtom
 atoms_with domains i ts None = map (λ t. record { symbol = i; args = t; value = None }) ts
-atoms_with domains i ts (Some ty) = flat_map (λ t. map (λ x. record { symbol = i; args = t; value = Some x }) (domain_at domains ty)) ts
+atoms_with domains i ts (Some ty) =
+    flat_map (λ t. map (λ x. record { symbol = i; args = t; value = Some x }) (domain_at domains ty)) ts
 
 -- all atoms: the symbols as declared, the tuples of each in domain order, then the values in domain order
 abbrev pub atoms_over : List Symbol → List (List Elem) → List GroundAtom
-atoms_over symbols domains = flat_map (λ s. atoms_with domains s.0 (tuples_of domains s.1.args) s.1.value) (enumerate_from 0 symbols)
+atoms_over symbols domains =
+    flat_map (λ s. atoms_with domains s.0 (tuples_of domains s.1.args) s.1.value) (enumerate_from 0 symbols)
 
 -- m has the same domains, every atom that is certainly true is true in m, and none that is certainly false
 pub record ExtendsData (m : Structure) (k : KnownAtoms) : Type 0 where

@@ -8,6 +8,7 @@ pub mod Environments
 pub mod Arithmetic
 pub mod Bounds
 pub mod Typing
+pub mod TypingExamples
 pub mod Weights
 pub mod Laws
 pub mod Models

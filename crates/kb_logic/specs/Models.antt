@@ -33,9 +33,13 @@ IsAtomOver symbols domains a =
 abbrev pub IsAtomOf : Vocabulary → List (List Elem) → GroundAtom → Type 0
 IsAtomOf v domains a = IsAtomOver v.symbols domains a
 
--- the atom is true in the structure: its arguments are in the predicate's table, or in the function's table with its value
+-- the atom is true in the structure: its arguments are in the predicate's table, or in the function's table with its
+-- value
 abbrev pub AtomHolds : Structure → GroundAtom → Type 0
-AtomHolds m a = elim a.value [ None ↦ Contains (rows_of a.symbol m.relations) a.args | Some x ↦ Contains (rows_of a.symbol m.functions) (a.args ++ x ∷ []) ]
+AtomHolds m a = elim a.value [
+  | None ↦ Contains (rows_of a.symbol m.relations) a.args
+  | Some x ↦ Contains (rows_of a.symbol m.functions) (a.args ++ x ∷ [])
+]
 
 -- the atom that a literal affirms or denies
 abbrev pub atom_of : Literal → GroundAtom
@@ -57,7 +61,9 @@ pub record IsHead (m : Structure) (r : RuleTree) (e : List Elem) (a : GroundAtom
 
 -- some instance of some rule has the atom as its head, and a true body
 abbrev pub IsDerived : Structure → DefinitionTree → GroundAtom → Type 0
-IsDerived m d a = (r : RuleTree) × Contains d.rules r × ((e : List Elem) × Contains (assignments m r.vars) e × IsHead m r e a × IsTrue (truth_of m r.body e))
+IsDerived m d a =
+    (r : RuleTree) × Contains d.rules r
+    × ((e : List Elem) × Contains (assignments m r.vars) e × IsHead m r e a × IsTrue (truth_of m r.body e))
 
 -- some rule's head has this symbol
 abbrev pub IsDefined : DefinitionTree → ℕ → Type 0

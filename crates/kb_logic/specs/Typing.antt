@@ -1,4 +1,4 @@
--- Well-typed terms and formulas: variables in scope, each symbol with its arguments, and types that fit where they meet.
+-- Well-typed terms and formulas: variables in scope, symbols with their arguments, and types that fit where they meet.
 use Rattle.std.specs.Prelude.{◌≡◌, ◌<◌, ◌⊎◌, ℕ, ℤ, neg_ℤ, List, [], ◌∷◌, ◌++◌, true, length, Option, Some, None, option_map, is_some, slice_get, Contains, ⊤}
 use Rattle.std.specs.List.{AllByRecursion}
 use Rattle.kb_logic.specs.declared.elements.Elem.{Elem}
@@ -73,7 +73,8 @@ SidesFit v cmp.Ge a b = IsNumeric v a × IsNumeric v b
 
 -- an integer of which Q holds, written with or without a minus
 abbrev pub IsIntegerSuch : (ℤ → Type 0) → TermTree → Type 0
-IsIntegerSuch Q t = (z : ℤ) × (((t ≡ integer z) × Q z) ⊎ ((t ≡ summation (more_summands true (integer z) no_summands)) × Q (neg_ℤ z)))
+IsIntegerSuch Q t =
+    (z : ℤ) × (((t ≡ integer z) × Q z) ⊎ ((t ≡ summation (more_summands true (integer z) no_summands)) × Q (neg_ℤ z)))
 
 abbrev pub IsElementBelow : Vocabulary → Option Sort → ℕ → Type 0
 IsElementBelow v None ty = ⊥
@@ -90,11 +91,13 @@ abbrev mutual
   TermIsTyped v I (variable n) scope = (ty : ℕ) × (slice_get scope n ≡ Some ty)
   TermIsTyped v I (integer z) scope = ⊤
   TermIsTyped v I (constructed ty n) scope = (d : TypeDecl) × (slice_get v.types ty ≡ Some d) × (n < length d.made)
-  TermIsTyped v I (application s ts) scope = (d : Symbol) × (slice_get v.symbols s ≡ Some d) × (is_some d.value ≡ true) × ArgumentsAreTyped v I ts d.args scope
+  TermIsTyped v I (application s ts) scope =
+      (d : Symbol) × (slice_get v.symbols s ≡ Some d) × (is_some d.value ≡ true) × ArgumentsAreTyped v I ts d.args scope
   TermIsTyped v I (summation ss) scope = OperandsAreTyped v I ss scope
   TermIsTyped v I (product ts) scope = FactorsAreTyped v I ts scope
   TermIsTyped v I (aggregate k bs f t) scope =
-      HaveTypes v bs × FormulaIsTyped v I f (scope ++ types_of bs) × TermIsTyped v I t (scope ++ types_of bs) × IsNumeric v (sort_of v t (scope ++ types_of bs))
+      HaveTypes v bs × FormulaIsTyped v I f (scope ++ types_of bs) × TermIsTyped v I t (scope ++ types_of bs)
+      × IsNumeric v (sort_of v t (scope ++ types_of bs))
 
   -- each argument of a function is an element of a type below its position's, or an integer
   pub ArgumentsAreTyped : Vocabulary → (ℕ → ℤ → Type 0) → TermTrees → List ℕ → List ℕ → Type 0
@@ -102,7 +105,8 @@ abbrev mutual
   ArgumentsAreTyped v I no_terms (ty ∷ types) scope = ⊥
   ArgumentsAreTyped v I (more_terms t ts) [] scope = ⊥
   ArgumentsAreTyped v I (more_terms t ts) (ty ∷ types) scope =
-      TermIsTyped v I t scope × (IsElementBelow v (sort_of v t scope) ty ⊎ IsIntegerSuch (I ty) t) × ArgumentsAreTyped v I ts types scope
+      TermIsTyped v I t scope × (IsElementBelow v (sort_of v t scope) ty ⊎ IsIntegerSuch (I ty) t)
+      × ArgumentsAreTyped v I ts types scope
 
   -- each argument of a predicate is akin to its position
   pub PlacesAreTyped : Vocabulary → (ℕ → ℤ → Type 0) → TermTrees → List ℕ → List ℕ → Type 0
@@ -110,22 +114,27 @@ abbrev mutual
   PlacesAreTyped v I no_terms (ty ∷ types) scope = ⊥
   PlacesAreTyped v I (more_terms t ts) [] scope = ⊥
   PlacesAreTyped v I (more_terms t ts) (ty ∷ types) scope =
-      TermIsTyped v I t scope × SortsAreAkin v (sort_of v t scope) (Some (element_of ty)) × PlacesAreTyped v I ts types scope
+      TermIsTyped v I t scope × SortsAreAkin v (sort_of v t scope) (Some (element_of ty))
+      × PlacesAreTyped v I ts types scope
 
   pub FactorsAreTyped : Vocabulary → (ℕ → ℤ → Type 0) → TermTrees → List ℕ → Type 0
   FactorsAreTyped v I no_terms scope = ⊤
-  FactorsAreTyped v I (more_terms t ts) scope = TermIsTyped v I t scope × IsNumeric v (sort_of v t scope) × FactorsAreTyped v I ts scope
+  FactorsAreTyped v I (more_terms t ts) scope =
+      TermIsTyped v I t scope × IsNumeric v (sort_of v t scope) × FactorsAreTyped v I ts scope
 
   pub OperandsAreTyped : Vocabulary → (ℕ → ℤ → Type 0) → SummandTrees → List ℕ → Type 0
   OperandsAreTyped v I no_summands scope = ⊤
-  OperandsAreTyped v I (more_summands minus t ss) scope = TermIsTyped v I t scope × IsNumeric v (sort_of v t scope) × OperandsAreTyped v I ss scope
+  OperandsAreTyped v I (more_summands minus t ss) scope =
+      TermIsTyped v I t scope × IsNumeric v (sort_of v t scope) × OperandsAreTyped v I ss scope
 
   -- the formula is well typed, in the same way
   pub FormulaIsTyped : Vocabulary → (ℕ → ℤ → Type 0) → FormulaTree → List ℕ → Type 0
   FormulaIsTyped v I verum scope = ⊤
   FormulaIsTyped v I falsum scope = ⊤
-  FormulaIsTyped v I (atom s ts) scope = (d : Symbol) × (slice_get v.symbols s ≡ Some d) × (d.value ≡ None) × PlacesAreTyped v I ts d.args scope
-  FormulaIsTyped v I (comparison c a b) scope = TermIsTyped v I a scope × TermIsTyped v I b scope × SidesFit v c (sort_of v a scope) (sort_of v b scope)
+  FormulaIsTyped v I (atom s ts) scope =
+      (d : Symbol) × (slice_get v.symbols s ≡ Some d) × (d.value ≡ None) × PlacesAreTyped v I ts d.args scope
+  FormulaIsTyped v I (comparison c a b) scope =
+      TermIsTyped v I a scope × TermIsTyped v I b scope × SidesFit v c (sort_of v a scope) (sort_of v b scope)
   FormulaIsTyped v I (negation f) scope = FormulaIsTyped v I f scope
   FormulaIsTyped v I (conjunction fs) scope = AllAreTyped v I fs scope
   FormulaIsTyped v I (disjunction fs) scope = AllAreTyped v I fs scope

@@ -55,8 +55,8 @@ fn have_no_assignment(domains: &[ElemList], bounds: &[Bound]) -> bool
 }
 
 // One variable over an empty type leaves no assignment, however many the variables before it have. So where a `u64`
-// cannot count those, the types of all are looked at before the variables are parted: otherwise 64 variables over two
-// elements and one over an empty type would be 2^63 turns of a loop, each round an empty one.
+// cannot count those, the types of all variables are examined before the variables are parted: otherwise 64 variables
+// over two elements and one over an empty type would take 2^63 turns of a loop, each around an empty one.
 /// How many of the first variables a `u64` can count the assignments of, and their number.
 fn countable(domains: &[ElemList], bounds: &[Bound]) -> (usize, u64)
     requires { 0 < length bounds.now }

@@ -108,7 +108,7 @@ fn product<'a>(m: &'a Structure, factors: &'a [Term], env: &'a Env<'a>) -> Optio
     Some(total)
 }
 
-/// What the row has behind the values of the arguments, if it begins with them.
+/// What follows the values of the arguments in the row, if it begins with them.
 #[cycle(eval)]
 fn strip<'a>(
     m: &'a Structure,

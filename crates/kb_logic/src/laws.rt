@@ -5,6 +5,7 @@ ghost use Rattle.kb_logic.specs.Derivations.{DerivedIsDecided, DefinitionExample
 ghost use Rattle.kb_logic.specs.DomainExamples.{DomainExamples};
 ghost use Rattle.kb_logic.specs.Examples.{WorkedExamples};
 ghost use Rattle.kb_logic.specs.First.{FirstModelsAreModels};
+ghost use Rattle.kb_logic.specs.TypingExamples.{TypingExamples};
 ghost use Rattle.kb_logic.specs.Laws.{EveryIsForAll, SomeIsThereIs, NumberComparesCount, AssignmentsAreChoices, AssignmentsAreDistinct, AggregateIsOverAssignments, CountIsLength, SumAddsEach, LeastIsAttained, GreatestIsAttained, AtomIsMembership, AtomIsInItsTypes};
 
 /// A formula without sums, products and aggregates meets the condition of `truth` in every structure.
@@ -107,4 +108,9 @@ pub fn small_terms_fit()
 pub fn definitions_derive()
     ensures decided { DerivedIsDecided }
     ensures examples { DefinitionExamples }
+{}
+
+/// Which formulas are well typed, as worked out by hand.
+pub fn typing_examples()
+    ensures { TypingExamples }
 {}

@@ -8,8 +8,8 @@ use crate::lists::ElemList;
 use crate::values::domain_in;
 use std::alloc::Global;
 
-/// All tuples of elements of these types, in domain order. Where no domain is empty, what it takes is
-/// linear in what it answers.
+/// All tuples of elements of these types, in domain order. Where no domain is empty, the memory that it
+/// takes is linear in what it returns.
 pub fn all_tuples(
     alloc: Global,
     domains: &[ElemList],

@@ -20,9 +20,9 @@ pub record IsConsistent (k : KnownAtoms) : Type 0 where
   pub single : (a b : GroundAtom) → Contains k.true_atoms a → Contains k.true_atoms b → a.symbol ≡ b.symbol → a.args ≡ b.args → a ≡ b
   pub apart : (a : GroundAtom) → Contains k.true_atoms a → Contains k.false_atoms a → ⊥
 
--- how a partial structure lists what it knows: no domain has an element twice; both lists have atoms over the domains, each once
--- and in the order of all atoms; and where an atom is true that gives a function a value, every atom that gives it another value
--- at the same arguments is false
+-- how a partial structure lists what it knows: no domain has an element twice; both lists have atoms over the domains,
+-- each once and in the order of all atoms; and where an atom is true that gives a function a value, every atom that
+-- gives it another value at the same arguments is false
 pub record IsListed (k : KnownAtoms) : Type 0 where
   pub distinct : AllByRecursion IsDistinct k.domains
   pub false_over : AllByRecursion (IsAtomOver k.symbols k.domains) k.false_atoms

@@ -75,19 +75,23 @@ SmallTermsFit =
 -- a structure, as what makes every atom known, is consistent, leaves no atom unknown and extends itself
 abbrev pub StructuresKnowAll : Type 0
 StructuresKnowAll =
-    (v : Vocabulary) (m : Structure) → IsStructure v m → KnowsAll (known_of v.symbols m) × IsConsistent (known_of v.symbols m) × ExtendsData m (known_of v.symbols m)
+    (v : Vocabulary) (m : Structure) → IsStructure v m
+    → KnowsAll (known_of v.symbols m) × IsConsistent (known_of v.symbols m) × ExtendsData m (known_of v.symbols m)
 
 -- it extends what is known exactly where it knows more
 abbrev pub ExtendsIsKnowsMore : Type 0
 ExtendsIsKnowsMore =
-    (v : Vocabulary) (m : Structure) → IsStructure v m → (k : KnownAtoms) → k.symbols ≡ v.symbols → AllByRecursion (IsAtomOver k.symbols k.domains) k.false_atoms
+    (v : Vocabulary) (m : Structure) → IsStructure v m → (k : KnownAtoms) → k.symbols ≡ v.symbols
+    → AllByRecursion (IsAtomOver k.symbols k.domains) k.false_atoms
     → ExtendsData m k ↔ KnowsMore k (known_of v.symbols m)
 
--- over domains as the vocabulary asks for them, what is well typed applies each function within its types, and a term of a type
--- has an element of the type as its value
+-- over domains as the vocabulary asks for them, what is well typed applies each function within its types, and a term of
+-- a type has an element of the type as its value
 abbrev pub TypedIsWellApplied : Type 0
 TypedIsWellApplied =
-    (v : Vocabulary) (m : Structure) → IsStructure v m → AreDomainsOf v m.domains → (scope : List ℕ) (e : List Elem) → HasTypes m.domains scope e
+    (v : Vocabulary) (m : Structure) → IsStructure v m → AreDomainsOf v m.domains
+    → (scope : List ℕ) (e : List Elem) → HasTypes m.domains scope e
     → ((f : FormulaTree) → IsTypedOver v m.domains f scope → IsWellApplied v.symbols m f e)
     × ((t : TermTree) → TermIsTypedOver v m.domains t scope → AppliesWell v.symbols m t e)
-    × ((t : TermTree) (ty : ℕ) → TermIsTypedOver v m.domains t scope → sort_of v t scope ≡ Some (element_of ty) → (x : Elem) × Contains (domain_at m.domains ty) x × (value_of m t e ≡ denotation_of x))
+    × ((t : TermTree) (ty : ℕ) → TermIsTypedOver v m.domains t scope → sort_of v t scope ≡ Some (element_of ty)
+    → (x : Elem) × Contains (domain_at m.domains ty) x × (value_of m t e ≡ denotation_of x))

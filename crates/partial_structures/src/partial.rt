@@ -224,7 +224,7 @@ impl Partial {
     }
 }
 
-/// How many atoms are true once one more is, of which so much is known; None where they cannot be counted.
+/// How many atoms are true once one more is, whose truth before is `known`; None where they cannot be counted.
 fn counted(known: Truth, count: u64) -> Option<u64>
     ensures { IfSome result (λ n. n ≡ count + added_by known) }
 {

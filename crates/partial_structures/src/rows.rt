@@ -1,4 +1,5 @@
-//! A tree of rows whose branches are hashed, so that a row is found by its elements one after another.
+//! A trie of rows with hashed edges: a row is found by its elements one after another, without memory and whatever its
+//! length.
 ghost use Rattle.std.specs.Prelude.{◌≡◌, ◌<◌, ◌||◌, ◌++◌, ◌∷◌, None, Some, [], List, ℕ, length, reverse, nat_lt, true, IsTrue, IsSome, All, OnOk, OnErr, IfOk};
 ghost use Rattle.indexmap.specs.IndexMap.{set_value_at};
 ghost use Rattle.partial_structures.specs.Words.{words_in};
@@ -43,7 +44,7 @@ impl Mark {
     };
 }
 
-/// Rows by their symbols and elements. Each node of the tree stands for the front of a row.
+/// Rows by their symbols and elements. Each node of the trie stands for a prefix of a row.
 #[derive(Drop)]
 pub(crate) struct Rows {
     pub words: Words,

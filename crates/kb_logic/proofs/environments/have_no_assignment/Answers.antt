@@ -1,6 +1,4 @@
-use Rattle.std.proofs.Common.{◌≡◌, false, sym, ap, ◌∙◌, length}
-use Rattle.kb_logic.specs.declared.vocabularies.Bound.{Bound}
-use Rattle.kb_logic.specs.Structures.{domain_at}
+use Rattle.std.proofs.Common.{sym, ◌∙◌}
 use Rattle.kb_logic.proofs.NoAssignments.{none_behind}
 use Rattle.kb_logic.proofs.environments.have_no_assignment.Goals as goal
 
