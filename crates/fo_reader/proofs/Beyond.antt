@@ -1,30 +1,31 @@
 -- Where a formula, a term, an application or variables are stuck in a block, whatever comes behind them.
 use Rattle.std.proofs.Common.{◌≡◌, ℕ, List, [], ◌∷◌, ◌++◌, append-nil, Some, None, ◌⊎◌, inl, inr, refl, sym, ap, ap₂, subst, ◌∙◌, arith}
-use Rattle.fo_reader.specs.declared.stops.ReadError.{ReadError}
-use Rattle.fo_reader.specs.declared.stops.ReadError.TheVariants.{Memory, Stuck}
-use Rattle.fo_reader.specs.declared.terminal.Terminal.TheVariants as t
-use Rattle.fo_reader.specs.declared.terminal.Outer.TheVariants as o
-use Rattle.fo_reader.specs.Terminals.{Symbol, Tok, tok_at, mark, word, sign}
-use Rattle.fo_reader.specs.Trees.{Vars, Formula, App}
-use Rattle.fo_reader.specs.Spelling.{put_formula, put_term, put_app}
-use Rattle.fo_reader.specs.Fine.{FineFormula, FineTerm, FineApp}
-use Rattle.fo_reader.specs.Texts.{SameHead}
-use Rattle.fo_reader.specs.Machine.{Frame, need, want, done, vars_first, colon, dot, beyond, fresh, in_term, Sort, term, formula, on, stuck, whole, run, shuts}
-use Rattle.fo_reader.specs.Modes.{mode_formula, sort_formula}
-use Rattle.fo_reader.specs.Parts.{Broken, Fails, EndsFactor, EndsTerm, wanted, at_sentence, at_factor, at_either, at_vars}
-use Rattle.fo_reader.specs.Results.{FormulaIs, ArgumentsAre, Unsealed}
-use Rattle.fo_reader.specs.Binders.{Binder, binder, put_binder, Whole}
-use Rattle.fo_reader.specs.BlockParts.{next, Is, StuckAt}
+use Rattle.fo_syntax.specs.declared.stops.ReadError.{ReadError}
+use Rattle.fo_syntax.specs.declared.stops.ReadError.TheVariants.{Memory, Stuck}
+use Rattle.fo_syntax.specs.declared.terminal.Terminal.TheVariants as t
+use Rattle.fo_syntax.specs.declared.terminal.Outer.TheVariants as o
+use Rattle.fo_syntax.specs.Terminals.{Symbol, Tok, tok_at, mark, word, sign}
+use Rattle.fo_syntax.specs.Trees.{Vars, Formula, App}
+use Rattle.fo_syntax.specs.Spelling.{put_formula, put_term, put_app}
+use Rattle.fo_syntax.specs.Fine.{FineFormula, FineTerm, FineApp}
+use Rattle.fo_syntax.specs.Texts.{SameHead}
+use Rattle.token_reader.specs.Machine.{Frame, need, want, done, vars_first, colon, dot, beyond, fresh, in_term, Sort, term, formula, on, stuck, whole, run, shuts}
+use Rattle.token_reader.specs.Modes.{mode_formula, sort_formula}
+use Rattle.token_reader.specs.Parts.{Broken, Fails, EndsFactor, EndsTerm, wanted, at_sentence, at_factor, at_either, at_vars}
+use Rattle.formula_reader.specs.Results.{FormulaIs, ArgumentsAre}
+use Rattle.token_reader.specs.Parts.{Unsealed}
+use Rattle.token_reader.specs.Binders.{Binder, binder, put_binder, Whole}
+use Rattle.block_reader.specs.BlockParts.{next, Is, StuckAt}
 use Rattle.fo_reader.specs.TheoryReads.{EndsApp, EndsSum}
-use Rattle.fo_reader.proofs.Append.{formula-append, app-append}
-use Rattle.fo_reader.proofs.Only.{only_app}
-use Rattle.fo_reader.proofs.Behind.{ends_formula}
-use Rattle.fo_reader.proofs.Runs.{run_vars, run_shut}
-use Rattle.fo_reader.proofs.Readings.{read_formula, want_term, want_app}
-use Rattle.fo_reader.proofs.InTerms.{term_no_args}
-use Rattle.fo_reader.proofs.InFactors.{halted, app_shut}
-use Rattle.fo_reader.proofs.Unread.{unread, left_on}
-use Rattle.fo_reader.proofs.Formats.{Format, Here, same_next}
+use Rattle.token_reader.proofs.Append.{formula-append, app-append}
+use Rattle.token_reader.proofs.Only.{only_app}
+use Rattle.token_reader.proofs.Behind.{ends_formula}
+use Rattle.token_reader.proofs.Runs.{run_vars, run_shut}
+use Rattle.token_reader.proofs.Readings.{read_formula, want_term, want_app}
+use Rattle.formula_reader.proofs.InTerms.{term_no_args}
+use Rattle.formula_reader.proofs.InFactors.{halted, app_shut}
+use Rattle.formula_reader.proofs.Unread.{unread, left_on}
+use Rattle.block_reader.proofs.Formats.{Format, Here, same_next}
 use Rattle.fo_reader.proofs.FormulaFormats.{app_format, app_ended, term_format, term_ended, formula_format}
 use Rattle.fo_reader.proofs.TheoryFormats.{bound_vars}
 

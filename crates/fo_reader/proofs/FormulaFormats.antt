@@ -1,18 +1,18 @@
 -- Variables, applications, terms and formulas as formats, by what stands behind them in a block.
 use Rattle.std.proofs.Common.{◌≡◌, ℕ, List, [], ◌∷◌, true, Option, Some, None, subst}
-use Rattle.fo_reader.specs.declared.terminal.Terminal.TheVariants as t
-use Rattle.fo_reader.specs.declared.terminal.Outer.TheVariants as o
-use Rattle.fo_reader.specs.Terminals.{Symbol, Tok, tok_at, mark, sign}
-use Rattle.fo_reader.specs.Trees.{name, untyped, typed, Vars, var, beside, comma, Formula, alone, linked, Or, one, or, And, single, and, Unary, not, every, some, prim, Prim, group, truth, atom, compare, Term, product, sum, Product, factor, times, Factor, integer, value, brackets, negative, count, aggregate, App, constant, empty, apply}
-use Rattle.fo_reader.specs.Spelling.{put_vars, put_formula, put_links, put_or, put_and, put_unary, put_prim, put_term, put_product, put_factor, put_app}
-use Rattle.fo_reader.specs.Fine.{FineFormula, FineTerm, FineApp}
-use Rattle.fo_reader.specs.Parts.{EndsFactor, EndsTerm}
-use Rattle.fo_reader.specs.BlockParts.{next, Anything, Is, AWord}
+use Rattle.fo_syntax.specs.declared.terminal.Terminal.TheVariants as t
+use Rattle.fo_syntax.specs.declared.terminal.Outer.TheVariants as o
+use Rattle.fo_syntax.specs.Terminals.{Symbol, Tok, tok_at, mark, sign}
+use Rattle.fo_syntax.specs.Trees.{name, untyped, typed, Vars, var, beside, comma, Formula, alone, linked, Or, one, or, And, single, and, Unary, not, every, some, prim, Prim, group, truth, atom, compare, Term, product, sum, Product, factor, times, Factor, integer, value, brackets, negative, count, aggregate, App, constant, empty, apply}
+use Rattle.fo_syntax.specs.Spelling.{put_vars, put_formula, put_links, put_or, put_and, put_unary, put_prim, put_term, put_product, put_factor, put_app}
+use Rattle.fo_syntax.specs.Fine.{FineFormula, FineTerm, FineApp}
+use Rattle.token_reader.specs.Parts.{EndsFactor, EndsTerm}
+use Rattle.block_reader.specs.BlockParts.{next, Anything, Is, AWord}
 use Rattle.fo_reader.specs.TheoryReads.{EndsApp, EndsSum}
-use Rattle.fo_reader.proofs.Append.{vars-append, formula-append, term-append, app-append}
-use Rattle.fo_reader.proofs.Ends.{EndsVars, EndsFormula, all_stop_formula}
-use Rattle.fo_reader.proofs.Only.{only_vars, only_formula, only_term, only_app}
-use Rattle.fo_reader.proofs.Formats.{Format, Law}
+use Rattle.token_reader.proofs.Append.{vars-append, formula-append, term-append, app-append}
+use Rattle.token_reader.proofs.Ends.{EndsVars, EndsFormula, all_stop_formula}
+use Rattle.token_reader.proofs.Only.{only_vars, only_formula, only_term, only_app}
+use Rattle.block_reader.proofs.Formats.{Format, Law}
 
 -- what is so wherever this symbol comes
 came : (P : List Tok → Type 0) (r : Symbol) → ((p : ℕ) (us : List Tok) → P (tok_at r p ∷ us)) → (ts : List Tok) → next ts ≡ Some r → P ts

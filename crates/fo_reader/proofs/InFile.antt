@@ -4,36 +4,37 @@ use Rattle.std.specs.List.{filter_map, cons_option}
 use Rattle.std.proofs.lemmas.List.Elements.{filter_map-append}
 use Rattle.std.proofs.lemmas.List.{map-append}
 use Rattle.kb_text.specs.declared.fault.KbFault.{KbFault}
-use Rattle.fo_reader.specs.declared.error.KbError.{KbError}
-use Rattle.fo_reader.specs.declared.error.KbError.TheVariants as errors
-use Rattle.fo_reader.specs.declared.stops.ReadError.{ReadError}
-use Rattle.fo_reader.specs.declared.stops.ReadError.TheVariants.{Memory, Stuck}
-use Rattle.fo_reader.specs.declared.raw_blocks.RawKb.{RawKb}
-use Rattle.fo_reader.specs.declared.raw_blocks.RawVocabulary.{RawVocabulary}
-use Rattle.fo_reader.specs.declared.raw_blocks.RawTheory.{RawTheory}
-use Rattle.fo_reader.specs.declared.raw_blocks.RawStructure.{RawStructure}
-use Rattle.fo_reader.specs.declared.raw_blocks.RawTerm.{RawTerm}
+use Rattle.fo_syntax.specs.declared.error.KbError.{KbError}
+use Rattle.fo_syntax.specs.declared.error.KbError.TheVariants as errors
+use Rattle.fo_syntax.specs.declared.stops.ReadError.{ReadError}
+use Rattle.fo_syntax.specs.declared.stops.ReadError.TheVariants.{Memory, Stuck}
+use Rattle.fo_syntax.specs.declared.raw_blocks.RawKb.{RawKb}
+use Rattle.fo_syntax.specs.declared.raw_blocks.RawVocabulary.{RawVocabulary}
+use Rattle.fo_syntax.specs.declared.raw_blocks.RawTheory.{RawTheory}
+use Rattle.fo_syntax.specs.declared.raw_blocks.RawStructure.{RawStructure}
+use Rattle.fo_syntax.specs.declared.raw_blocks.RawTerm.{RawTerm}
 use Rattle.fo_reader.specs.declared.file.RawBlock.{RawBlock}
 use Rattle.fo_reader.specs.declared.file.RawBlock.TheVariants as raw
-use Rattle.fo_reader.specs.declared.terminal.Terminal.TheVariants as t
-use Rattle.fo_reader.specs.declared.terminal.Outer.TheVariants as o
-use Rattle.fo_reader.specs.Terminals.{Tok, sign}
-use Rattle.fo_reader.specs.Texts.{FirstStuck}
-use Rattle.fo_reader.specs.Items.{IsTokens, ItemsOf}
-use Rattle.fo_reader.specs.Whole.{parsed, unscanned, ungrammatical, refusal_of}
-use Rattle.fo_reader.specs.Binders.{Whole}
-use Rattle.fo_reader.specs.BlockTrees.{Block}
-use Rattle.fo_reader.specs.BlockSpelling.{put_vocabulary, put_theory, put_structure, put_term_block, put_block, put_file}
-use Rattle.fo_reader.specs.BlockFine.{FineTheory, FineTermBlock, FineBlock, FineFile}
-use Rattle.fo_reader.specs.BlockView.{vocabulary_view, theory_view, structure_view, term_block_view, as_vocabulary, as_theory, as_structure, as_term_block, IsKb}
-use Rattle.fo_reader.specs.BlockParts.{next, Anything, No, StuckIn, StuckAt}
-use Rattle.fo_reader.specs.FileReads.{most_bytes, KbReads, too_long, fits, KbRead, FileRead, block_view}
-use Rattle.fo_reader.proofs.Formats.{Here, at_same, not_first, either_left, either_right, same_in, each_in}
-use Rattle.fo_reader.proofs.BlockFormats.{vocabulary_format}
-use Rattle.fo_reader.proofs.StructureFormats.{structure_format}
+use Rattle.fo_syntax.specs.declared.terminal.Terminal.TheVariants as t
+use Rattle.fo_syntax.specs.declared.terminal.Outer.TheVariants as o
+use Rattle.fo_syntax.specs.Terminals.{Tok, sign}
+use Rattle.fo_syntax.specs.Texts.{FirstStuck}
+use Rattle.fo_syntax.specs.Items.{IsTokens, ItemsOf}
+use Rattle.fo_syntax.specs.Whole.{parsed, unscanned, ungrammatical, refusal_of}
+use Rattle.token_reader.specs.Binders.{Whole}
+use Rattle.fo_syntax.specs.BlockTrees.{Block}
+use Rattle.fo_syntax.specs.BlockSpelling.{put_vocabulary, put_theory, put_structure, put_term_block, put_block, put_file}
+use Rattle.fo_syntax.specs.BlockFine.{FineTheory, FineTermBlock, FineBlock, FineFile}
+use Rattle.fo_syntax.specs.BlockView.{vocabulary_view, theory_view, structure_view, term_block_view, as_vocabulary, as_theory, as_structure, as_term_block, IsKb}
+use Rattle.block_reader.specs.BlockParts.{next, Anything, No, StuckIn, StuckAt}
+use Rattle.fo_syntax.specs.FileReads.{most_bytes, KbReads, too_long, fits, KbRead}
+use Rattle.fo_reader.specs.FileResults.{FileRead, block_view}
+use Rattle.block_reader.proofs.Formats.{Here, at_same, not_first, either_left, either_right, same_in, each_in}
+use Rattle.block_reader.proofs.BlockFormats.{vocabulary_format}
+use Rattle.block_reader.proofs.StructureFormats.{structure_format}
 use Rattle.fo_reader.proofs.TheoryFormats.{theory_format, term_block_format, value_alternatives, structure_alternatives, theory_alternatives, block_alternatives, block_format, block_same, block_law, blocks_several, file_format, file_law}
-use Rattle.fo_reader.proofs.BlockReadings.{neither}
-use Rattle.fo_reader.proofs.OneReading.{one_reading}
+use Rattle.block_reader.proofs.BlockReadings.{neither}
+use Rattle.formula_reader.proofs.OneReading.{one_reading}
 
 -- ---- one block
 

@@ -1,29 +1,30 @@
 -- Where the parts of a theory and of a term are stuck.
 use Rattle.std.proofs.Common.{◌≡◌, ℕ, List, ◌∷◌, Option, refl, ap, ◌∙◌}
-use Rattle.fo_reader.specs.declared.stops.ReadError.{ReadError}
-use Rattle.fo_reader.specs.declared.stops.ReadError.TheVariants.{Memory, Stuck}
-use Rattle.fo_reader.specs.declared.terminal.Terminal.{Terminal}
-use Rattle.fo_reader.specs.declared.terminal.Terminal.TheVariants as t
-use Rattle.fo_reader.specs.declared.terminal.Outer.TheVariants as o
-use Rattle.fo_reader.specs.declared.terminal.Comparison.TheVariants as cmp
-use Rattle.fo_reader.specs.Terminals.{Symbol, Tok, sign}
-use Rattle.fo_reader.specs.Trees.{Formula, Term, App}
-use Rattle.fo_reader.specs.Binders.{Whole, put_binder}
-use Rattle.fo_reader.specs.Machine.{fresh}
-use Rattle.fo_reader.specs.Parts.{Fails, at_vars}
-use Rattle.fo_reader.specs.Results.{FormulaIs}
-use Rattle.fo_reader.specs.Fine.{FineFormula, FineTerm, FineApp}
-use Rattle.fo_reader.specs.Spelling.{put_formula, put_term, put_app}
-use Rattle.fo_reader.specs.BlockTrees.{Header, Binding, Head, Rule, TheoryItem}
-use Rattle.fo_reader.specs.BlockSpelling.{put_option, put_each, put_sign, put_header, put_binding, put_head, put_body, put_rule, put_theory_item, put_theory, put_term_block}
-use Rattle.fo_reader.specs.BlockFine.{FineEach, FineHead, FineBody, FineRule, FineTheoryItem, FineTheory, FineTermBlock}
-use Rattle.fo_reader.specs.BlockParts.{next, No, Is, AWord, Anything, StuckAt, Absent}
-use Rattle.fo_reader.specs.TheoryReads.{EndsApp, EndsSum, EndsHead, put_ended, FineEnded, put_clause, FineClause}
-use Rattle.fo_reader.proofs.Formats.{Format, Law, Into, at_same, not_first, sign_law, then_first, then_second, option_law, option_in, option_ends, each_law, each_in, either_left, either_right, same_in, behind_in}
-use Rattle.fo_reader.proofs.Plain as plain
-use Rattle.fo_reader.proofs.BlockReadings.{absent_at, neither}
-use Rattle.fo_reader.proofs.BlockFormats.{word_no}
-use Rattle.fo_reader.proofs.StructureFormats.{header_format, header_law}
+use Rattle.fo_syntax.specs.declared.stops.ReadError.{ReadError}
+use Rattle.fo_syntax.specs.declared.stops.ReadError.TheVariants.{Memory, Stuck}
+use Rattle.fo_syntax.specs.declared.terminal.Terminal.{Terminal}
+use Rattle.fo_syntax.specs.declared.terminal.Terminal.TheVariants as t
+use Rattle.fo_syntax.specs.declared.terminal.Outer.TheVariants as o
+use Rattle.fo_syntax.specs.declared.terminal.Comparison.TheVariants as cmp
+use Rattle.fo_syntax.specs.Terminals.{Symbol, Tok, sign}
+use Rattle.fo_syntax.specs.Trees.{Formula, Term, App}
+use Rattle.token_reader.specs.Binders.{Whole, put_binder}
+use Rattle.token_reader.specs.Machine.{fresh}
+use Rattle.token_reader.specs.Parts.{Fails, at_vars}
+use Rattle.formula_reader.specs.Results.{FormulaIs}
+use Rattle.fo_syntax.specs.Fine.{FineFormula, FineTerm, FineApp}
+use Rattle.fo_syntax.specs.Spelling.{put_formula, put_term, put_app}
+use Rattle.fo_syntax.specs.BlockTrees.{Header, Binding, Head, Rule, TheoryItem}
+use Rattle.fo_syntax.specs.BlockSpelling.{put_option, put_each, put_sign, put_header, put_binding, put_head, put_body, put_rule, put_theory_item, put_theory, put_term_block}
+use Rattle.fo_syntax.specs.BlockFine.{FineEach, FineHead, FineBody, FineRule, FineTheoryItem, FineTheory, FineTermBlock}
+use Rattle.block_reader.specs.BlockParts.{next, No, Is, AWord, Anything, StuckAt, Absent}
+use Rattle.fo_reader.specs.TheoryReads.{EndsApp, EndsSum, put_ended, FineEnded, put_clause, FineClause}
+use Rattle.block_reader.specs.BlockParts.{EndsHead}
+use Rattle.block_reader.proofs.Formats.{Format, Law, Into, at_same, not_first, sign_law, then_first, then_second, option_law, option_in, option_ends, each_law, each_in, either_left, either_right, same_in, behind_in}
+use Rattle.block_reader.proofs.Plain as plain
+use Rattle.block_reader.proofs.BlockReadings.{absent_at, neither}
+use Rattle.block_reader.proofs.BlockFormats.{word_no}
+use Rattle.block_reader.proofs.StructureFormats.{header_format, header_law}
 use Rattle.fo_reader.proofs.FormulaFormats.{app_format, app_law, term_format, term_law, formula_format, formula_law}
 use Rattle.fo_reader.proofs.TheoryFormats.{bound_vars, bound_vars_law, binding_format, binding_same, every_binding_law, head_value_optional, head_into, head_format, head_same, head_law, inner_body_optional, body_format, body_optional, body_same, body_law, ended_body, ended_body_law, headed, headed_law, rule_format, rule_same, rules_format, rules_several, closed_rules_law, theory_item_format, theory_item_same, theory_item_alternatives, theory_items_format, theory_items_several, closed_items_law, theory_format, theory_same, stop_format, stop_optional, closed_stop_law, stop_into, inner_term_law, term_block_format, term_block_same}
 use Rattle.fo_reader.proofs.Beyond.{binder_fails, no_dot}

@@ -1,19 +1,20 @@
 -- The parts of theories and terms, and the file, as formats; and their laws.
 use Rattle.std.proofs.Common.{◌≡◌, ℕ, List, Option, Some, None, ◌⊎◌, inl, inr, refl, sym, subst}
-use Rattle.fo_reader.specs.declared.terminal.Terminal.TheVariants as t
-use Rattle.fo_reader.specs.declared.terminal.Outer.TheVariants as o
-use Rattle.fo_reader.specs.declared.terminal.Comparison.TheVariants as cmp
-use Rattle.fo_reader.specs.Terminals.{Symbol, Tok}
-use Rattle.fo_reader.specs.Trees.{Vars, Formula, Term, App}
-use Rattle.fo_reader.specs.BlockTrees.{Vocabulary, Header, Binding, binding, Head, atom_head, value_head, Rule, rule, TheoryItem, sentence, definition, Theory, theory, TermBlock, term_block, Structure, Block, vocabulary_block, theory_block, structure_block, value_block, procedure}
-use Rattle.fo_reader.specs.BlockSpelling.{put_binding, put_head, put_rule, put_theory_item, put_theory, put_term_block, put_block}
-use Rattle.fo_reader.specs.BlockFine.{FineHead, FineBody, FineRule, FineTheoryItem, FineTheory, FineTermBlock, FineBlock}
-use Rattle.fo_reader.specs.BlockParts.{Anything, No, Is, AWord}
-use Rattle.fo_reader.specs.TheoryReads.{EndsApp, EndsSum, EndsHead}
-use Rattle.fo_reader.proofs.Formats.{Format, Law, Into, Apart, sign_format, sign_law, then, then_law, option, Optional, option_law, each, Several, each_law, either, Alternatives, either_law, Same, same_law, behind, behind_law, optional_behind}
-use Rattle.fo_reader.proofs.Plain as plain
-use Rattle.fo_reader.proofs.BlockFormats.{word_no, vocabulary_format, vocabulary_law}
-use Rattle.fo_reader.proofs.StructureFormats.{header_format, header_law, structure_format, structure_law}
+use Rattle.fo_syntax.specs.declared.terminal.Terminal.TheVariants as t
+use Rattle.fo_syntax.specs.declared.terminal.Outer.TheVariants as o
+use Rattle.fo_syntax.specs.declared.terminal.Comparison.TheVariants as cmp
+use Rattle.fo_syntax.specs.Terminals.{Symbol, Tok}
+use Rattle.fo_syntax.specs.Trees.{Vars, Formula, Term, App}
+use Rattle.fo_syntax.specs.BlockTrees.{Vocabulary, Header, Binding, binding, Head, atom_head, value_head, Rule, rule, TheoryItem, sentence, definition, Theory, theory, TermBlock, term_block, Structure, Block, vocabulary_block, theory_block, structure_block, value_block, procedure}
+use Rattle.fo_syntax.specs.BlockSpelling.{put_binding, put_head, put_rule, put_theory_item, put_theory, put_term_block, put_block}
+use Rattle.fo_syntax.specs.BlockFine.{FineHead, FineBody, FineRule, FineTheoryItem, FineTheory, FineTermBlock, FineBlock}
+use Rattle.block_reader.specs.BlockParts.{Anything, No, Is, AWord}
+use Rattle.fo_reader.specs.TheoryReads.{EndsApp, EndsSum}
+use Rattle.block_reader.specs.BlockParts.{EndsHead}
+use Rattle.block_reader.proofs.Formats.{Format, Law, Into, Apart, sign_format, sign_law, then, then_law, option, Optional, option_law, each, Several, each_law, either, Alternatives, either_law, Same, same_law, behind, behind_law, optional_behind}
+use Rattle.block_reader.proofs.Plain as plain
+use Rattle.block_reader.proofs.BlockFormats.{word_no, vocabulary_format, vocabulary_law}
+use Rattle.block_reader.proofs.StructureFormats.{header_format, header_law, structure_format, structure_law}
 use Rattle.fo_reader.proofs.FormulaFormats.{vars_format, vars_law, app_format, app_law, term_format, term_law, BeginsFormula, formula_format, formula_law}
 
 -- ---- rules

@@ -1,33 +1,33 @@
 -- What the readers of the parts of theories and of terms in blocks answer.
-use Rattle.std.specs.Prelude.{ℕ, List, map, Option, Some, ◌⊎◌, Result}
+use Rattle.std.specs.Prelude.{ℕ, List, map, Option, Some, Result}
 use Rattle.std.specs.Option.{option_map}
 use Rattle.std.specs.Borrow.{Bor}
-use Rattle.fo_reader.specs.declared.stops.ReadError.{ReadError}
-use Rattle.fo_reader.specs.declared.terminal.Terminal.TheVariants as t
-use Rattle.fo_reader.specs.declared.terminal.Outer.TheVariants as o
-use Rattle.fo_reader.specs.declared.terminal.Item.{Item}
-use Rattle.fo_reader.specs.declared.raw.RawApp.{RawApp}
-use Rattle.fo_reader.specs.declared.raw.RawTermTree.{RawTermTree}
-use Rattle.fo_reader.specs.declared.raw.RawFormula.{RawFormula}
-use Rattle.fo_reader.specs.declared.raw_blocks.RawBinder.{RawBinder}
-use Rattle.fo_reader.specs.declared.raw_blocks.RawHead.{RawHead}
-use Rattle.fo_reader.specs.declared.raw_blocks.RawBody.{RawBody}
-use Rattle.fo_reader.specs.declared.raw_blocks.RawRule.{RawRule}
-use Rattle.fo_reader.specs.declared.raw_blocks.RawTheoryItem.{RawTheoryItem}
-use Rattle.fo_reader.specs.declared.raw_blocks.RawTheory.{RawTheory}
-use Rattle.fo_reader.specs.declared.raw_blocks.RawTerm.{RawTerm}
-use Rattle.fo_reader.specs.Terminals.{Symbol, Tok, mark}
-use Rattle.fo_reader.specs.Trees.{Formula}
-use Rattle.fo_reader.specs.Binders.{Whole}
-use Rattle.fo_reader.specs.Fine.{FineFormula, FineTerm, FineApp}
-use Rattle.fo_reader.specs.Spelling.{put_formula, put_term, put_app}
-use Rattle.fo_reader.specs.View.{formula_view, term_view, app_view}
-use Rattle.fo_reader.specs.BlockTrees.{Head}
-use Rattle.fo_reader.specs.BlockSpelling.{put_option, put_each, put_sign, put_binding, put_head, put_body, put_rule, put_theory_item, put_theory, put_term_block}
-use Rattle.fo_reader.specs.BlockFine.{FineEach, FineHead, FineBody, FineRule, FineTheoryItem, FineTheory, FineTermBlock}
-use Rattle.fo_reader.specs.BlockView.{binding_view, head_view, body_view, rule_view, theory_item_view, theory_view, term_block_view}
-use Rattle.fo_reader.specs.BlockParts.{PartRead, Anything, No, Is}
-use Rattle.fo_reader.specs.BlockReads.{itself}
+use Rattle.fo_syntax.specs.declared.stops.ReadError.{ReadError}
+use Rattle.fo_syntax.specs.declared.terminal.Terminal.TheVariants as t
+use Rattle.fo_syntax.specs.declared.terminal.Outer.TheVariants as o
+use Rattle.fo_syntax.specs.declared.terminal.Item.{Item}
+use Rattle.fo_syntax.specs.declared.raw.RawApp.{RawApp}
+use Rattle.fo_syntax.specs.declared.raw.RawTermTree.{RawTermTree}
+use Rattle.fo_syntax.specs.declared.raw.RawFormula.{RawFormula}
+use Rattle.fo_syntax.specs.declared.raw_blocks.RawBinder.{RawBinder}
+use Rattle.fo_syntax.specs.declared.raw_blocks.RawHead.{RawHead}
+use Rattle.fo_syntax.specs.declared.raw_blocks.RawBody.{RawBody}
+use Rattle.fo_syntax.specs.declared.raw_blocks.RawRule.{RawRule}
+use Rattle.fo_syntax.specs.declared.raw_blocks.RawTheoryItem.{RawTheoryItem}
+use Rattle.fo_syntax.specs.declared.raw_blocks.RawTheory.{RawTheory}
+use Rattle.fo_syntax.specs.declared.raw_blocks.RawTerm.{RawTerm}
+use Rattle.fo_syntax.specs.Terminals.{Symbol, Tok, mark}
+use Rattle.fo_syntax.specs.Trees.{Formula}
+use Rattle.token_reader.specs.Binders.{Whole}
+use Rattle.fo_syntax.specs.Fine.{FineFormula, FineTerm, FineApp}
+use Rattle.fo_syntax.specs.Spelling.{put_formula, put_term, put_app}
+use Rattle.fo_syntax.specs.View.{formula_view, term_view, app_view}
+use Rattle.fo_syntax.specs.BlockTrees.{Head}
+use Rattle.fo_syntax.specs.BlockSpelling.{put_option, put_each, put_sign, put_binding, put_head, put_body, put_rule, put_theory_item, put_theory, put_term_block}
+use Rattle.fo_syntax.specs.BlockFine.{FineEach, FineHead, FineBody, FineRule, FineTheoryItem, FineTheory, FineTermBlock}
+use Rattle.fo_syntax.specs.BlockView.{binding_view, head_view, body_view, rule_view, theory_item_view, theory_view, term_block_view}
+use Rattle.block_reader.specs.BlockParts.{PartRead, Anything, EndsHead, No, Is}
+use Rattle.block_reader.specs.BlockReads.{itself}
 
 -- what may come behind an application: no arguments
 abbrev pub EndsApp : Option Symbol → Type 0
@@ -40,10 +40,6 @@ EndsSum (Some (mark t.Open)) = ⊥
 EndsSum (Some (mark t.Times)) = ⊥
 EndsSum (Some (mark (t.Add s))) = ⊥
 EndsSum _ = Unit {0}
-
--- what may come behind a head: its body, or the end of the rule
-abbrev pub EndsHead : Option Symbol → Type 0
-EndsHead s = Is (t.Outer o.If) s ⊎ Is (t.Outer o.Dot) s
 
 -- ---- formulas and terms
 

@@ -1,15 +1,14 @@
 //! Applications, terms and formulas as they stand in a theory or in a term's block.
 ghost use Rattle.std.specs.Prelude.{◌≤◌, ◌<◌, length, IfOk};
-ghost use Rattle.fo_reader.specs.Terminals.{toks};
+ghost use Rattle.fo_syntax.specs.Terminals.{toks};
 ghost use Rattle.fo_reader.specs.TheoryReads.{ApplicationRead, InnerTermRead, StatementRead};
 
-use crate::block_cursor::{name, sign};
-use crate::cursor::sealed;
-use crate::expressions::{Found, Reader};
-use crate::nested::{content, formula, term};
-use crate::raw::{RawApp, RawFormula, RawTermTree};
-use crate::terminal::{Item, Outer, Terminal};
+use block_reader::block_cursor::{name, sign};
+use fo_syntax::{Item, Outer, RawApp, RawFormula, RawTermTree, Terminal};
+use formula_reader::expressions::Reader;
+use formula_reader::nested::{content, formula, term};
 use std::alloc::Global;
+use token_reader::cursor::{Found, sealed};
 
 /// A word with its arguments, if it has any.
 pub fn application<'a>(alloc: Global, items: &'a [Item<'a>], end: usize) -> Found<'a, RawApp>

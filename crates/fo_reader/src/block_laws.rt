@@ -1,20 +1,20 @@
 //! Laws of the grammar of files.
 ghost use Rattle.std.specs.Prelude.{◌≡◌, ℕ, List, [], Result};
 ghost use Rattle.kb_text.specs.declared.fault.KbFault.{KbFault};
-ghost use Rattle.fo_reader.specs.Terminals.{Tok};
-ghost use Rattle.fo_reader.specs.Binders.{Whole};
-ghost use Rattle.fo_reader.specs.BlockTrees.{Block, Declaration, TheoryItem, Rule, Entry};
-ghost use Rattle.fo_reader.specs.BlockSpelling.{put_block, put_declaration, put_theory_item, put_rule, put_entry};
-ghost use Rattle.fo_reader.specs.BlockFine.{IsFile, FineBlock, FineTheoryItem, FineRule};
-ghost use Rattle.fo_reader.specs.BlockParts.{Anything, EndsDeclaration, OneAtAPlace};
-ghost use Rattle.fo_reader.specs.FileReads.{KbReads};
+ghost use Rattle.fo_syntax.specs.Terminals.{Tok};
+ghost use Rattle.token_reader.specs.Binders.{Whole};
+ghost use Rattle.fo_syntax.specs.BlockTrees.{Block, Declaration, TheoryItem, Rule, Entry};
+ghost use Rattle.fo_syntax.specs.BlockSpelling.{put_block, put_declaration, put_theory_item, put_rule, put_entry};
+ghost use Rattle.fo_syntax.specs.BlockFine.{IsFile, FineBlock, FineTheoryItem, FineRule};
+ghost use Rattle.block_reader.specs.BlockParts.{Anything, EndsDeclaration, OneAtAPlace};
+ghost use Rattle.fo_syntax.specs.FileReads.{KbReads};
 
 /// No text is written by two files.
 pub fn one_file()
     ensures { (ts : List Tok) (f g : List Block) → IsFile ts f → IsFile ts g → f ≡ g }
 {}
 
-/// Each text is one list of blocks, or has one first refusal.
+/// No text is two lists of blocks, nor has it two first refusals, nor both.
 pub fn one_file_reading()
     ensures { (src : List ℕ) (r s : Result (List Block) KbFault) → KbReads src r → KbReads src s → r ≡ s }
 {}

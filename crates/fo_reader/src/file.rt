@@ -1,25 +1,25 @@
 //! The file: its blocks by kind.
 ghost use Rattle.std.specs.Prelude.{◌≡◌, ◌∷◌, [], ◌++◌, ◌<◌, ℕ, List, None, length, IfOk, true, false};
-ghost use Rattle.fo_reader.specs.Terminals.{toks};
-ghost use Rattle.fo_reader.specs.BlockTrees.{Block};
-ghost use Rattle.fo_reader.specs.BlockView.{IsKb};
-ghost use Rattle.fo_reader.specs.BlockParts.{next};
-ghost use Rattle.fo_reader.specs.FileReads.{BlockRead, FileRead, KbRead, block_view};
+ghost use Rattle.fo_syntax.specs.Terminals.{toks};
+ghost use Rattle.fo_syntax.specs.BlockTrees.{Block};
+ghost use Rattle.fo_syntax.specs.BlockView.{IsKb};
+ghost use Rattle.block_reader.specs.BlockParts.{next};
+ghost use Rattle.fo_reader.specs.FileResults.{BlockRead, FileRead, block_view};
+ghost use Rattle.fo_syntax.specs.FileReads.{KbRead};
 
-use crate::block_cursor::skip;
-use crate::cursor::{place_at, split, start};
-use crate::error::KbError;
-use crate::expressions::Found;
-use crate::items::items;
-use crate::raw_blocks::{RawKb, RawStructure, RawTerm, RawTheory, RawVocabulary};
-use crate::stops::ReadError;
-use crate::structure::structure;
-use crate::terminal::{Item, Outer, Terminal};
 use crate::theory::{term_block, theory};
-use crate::vocabulary::vocabulary;
+use block_reader::block_cursor::skip;
+use block_reader::structure::structure;
+use block_reader::vocabulary::vocabulary;
+use fo_syntax::{
+    Item, KbError, Outer, RawKb, RawStructure, RawTerm, RawTheory, RawVocabulary, ReadError,
+    Terminal,
+};
 use kb_text::{K, KbFault};
 use sqlite_items::Items;
 use std::alloc::{AllocError, Global};
+use token_reader::cursor::{Found, place_at, split, start};
+use token_reader::items::items;
 
 const LONGEST: usize = 4_194_304;
 

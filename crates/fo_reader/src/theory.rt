@@ -1,27 +1,25 @@
 //! The theory, and the term in a block of its own.
 ghost use Rattle.std.specs.Prelude.{◌≡◌, ◌∷◌, ◌≤◌, ◌<◌, length, map, IfOk};
 ghost use Rattle.std.specs.Option.{option_map};
-ghost use Rattle.fo_reader.specs.BlockTrees as tree;
-ghost use Rattle.fo_reader.specs.BlockView.{binding_view, body_view, head_view, rule_view};
-ghost use Rattle.fo_reader.specs.Terminals.{toks};
-ghost use Rattle.fo_reader.specs.Terminals as terminals;
+ghost use Rattle.fo_syntax.specs.BlockTrees as tree;
+ghost use Rattle.fo_syntax.specs.BlockView.{binding_view, body_view, head_view, rule_view};
+ghost use Rattle.fo_syntax.specs.Terminals.{toks};
+ghost use Rattle.fo_syntax.specs.Terminals as terminals;
 ghost use Rattle.fo_reader.specs.TheoryReads.{BindingsRead, BodyRead, ClauseRead, EndedRead, HeadRead, RuleRead, RulesRead, StopRead, TermBlockRead, TheoryItemRead, TheoryItemsRead, TheoryRead};
-ghost use Rattle.fo_reader.specs.declared.terminal.Terminal.TheVariants as t;
-ghost use Rattle.fo_reader.specs.declared.terminal.Outer.TheVariants as o;
+ghost use Rattle.fo_syntax.specs.declared.terminal.Terminal.TheVariants as t;
+ghost use Rattle.fo_syntax.specs.declared.terminal.Outer.TheVariants as o;
 
-use crate::binders::binder;
-use crate::block_cursor::{closes, head_ends, sign, skip};
 use crate::block_formulas::{application, inner_term, statement};
-use crate::cursor::start;
-use crate::expressions::Found;
-use crate::raw_blocks::{
-    RawBinder, RawBody, RawDefinition, RawHead, RawRule, RawSentence, RawTerm, RawTheory,
-    RawTheoryItem,
+use block_reader::block_cursor::{closes, head_ends, sign, skip};
+use block_reader::structure::header;
+use fo_syntax::{
+    Comparison, Item, Outer, RawBinder, RawBody, RawDefinition, RawHead, RawRule, RawSentence,
+    RawTerm, RawTheory, RawTheoryItem, Terminal,
 };
-use crate::structure::header;
-use crate::terminal::{Comparison, Item, Outer, Terminal};
 use sqlite_items::Items;
 use std::alloc::Global;
+use token_reader::binders::binder;
+use token_reader::cursor::{Found, start};
 
 // A body and the place of the full stop behind it, and a head in front of them.
 type Ended = (Option<RawBody>, usize);

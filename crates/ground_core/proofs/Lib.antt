@@ -9,7 +9,7 @@ pub mod GrowthFacts
 pub mod CallFacts
 pub mod Whole
 pub mod Sublists
-pub mod TupleFacts
+pub mod ListFacts
 pub mod AtomFacts
 pub mod EachAtom
 pub mod RangeFacts

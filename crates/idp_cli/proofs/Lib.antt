@@ -7,3 +7,5 @@ mod Replying
 mod Consulting
 mod Elimination
 mod OneAnswer
+mod FewSymbols
+mod Taking

@@ -3,8 +3,9 @@ use Rattle.std.proofs.Common.{◌≡◌, ℕ, ◌+◌, ◌-◌, ◌<◌, ◌≤�
 use Rattle.std.proofs.lemmas.List.{append-nil}
 use Rattle.std.specs.Io.KnownBytes.{Consumes, IsAtEnd}
 use Rattle.kb_io.specs.Outside.{Rose}
-use Rattle.kb_io.specs.KnownBytes.{consumes_none, consumes_more, consumes_kept}
-use Rattle.kb_io.specs.Lines.{newlines, longest_line, IsLong, StandsFor, newlines-append, let_go_is_long, long_more}
+use Rattle.kb_io.proofs.KnownBytes.{consumes_none, consumes_more, consumes_kept}
+use Rattle.kb_io.specs.Lines.{newlines, longest_line, IsLong, StandsFor}
+use Rattle.kb_io.proofs.LineLemmas.{newlines-append, let_go_is_long, long_more}
 use Rattle.kb_io.specs.Pending.{NextLine, most_bytes}
 use Rattle.kb_io.specs.Buffer.{begun, begun_at, answered, answered_at, unread, pending, IsSoundLine, IsUnderWay, IsUnderWayAt}
 use Rattle.kb_io.specs.Finishes.{Cuts, Refills, FinishesLast}
@@ -12,24 +13,24 @@ use Rattle.kb_io.specs.declared.lines.Next.{Next}
 use Rattle.kb_io.specs.declared.lines.Next.TheVariants.{Line, LongLine, End}
 use Rattle.kb_io.specs.declared.lines.LineError.{LineError}
 use Rattle.kb_io.specs.declared.lines.LineError.TheVariants.{Fault, TooLong}
-use Rattle.kb_io.specs.declared.buffer.Stage.{Stage}
-use Rattle.kb_io.specs.declared.buffer.Stage.TheVariants.{Begun, LetGo, Whole}
-use Rattle.kb_io.specs.declared.buffer.KeptLine.{KeptLine}
-use Rattle.kb_io.specs.declared.buffer.Buffer.{Buffer}
+use Rattle.kb_io.specs.declared.line_buffer.Stage.{Stage}
+use Rattle.kb_io.specs.declared.line_buffer.Stage.TheVariants.{Partial, Overlong, Complete}
+use Rattle.kb_io.specs.declared.line_buffer.LineBuffer.{LineBuffer}
+use Rattle.kb_io.specs.declared.line_buffer.Buffer.{Buffer}
 use Rattle.kb_io.proofs.Reading.{Reads}
 
 begun_at_whole : (stage : Stage) (bytes : List ℕ) → newlines bytes ≡ 0 → newlines (begun_at stage bytes) ≡ 0
-begun_at_whole Begun bytes whole = whole
-begun_at_whole LetGo bytes whole = let_go_is_long.0
-begun_at_whole Whole bytes whole = refl
+begun_at_whole Partial bytes whole = whole
+begun_at_whole Overlong bytes whole = let_go_is_long.0
+begun_at_whole Complete bytes whole = refl
 
 answered_at_none : (stage : Stage) (bytes : List ℕ) → IsUnderWayAt stage → answered_at stage bytes ≡ []
-answered_at_none Begun bytes on = refl
-answered_at_none LetGo bytes on = refl
-answered_at_none Whole bytes on = absurd on
+answered_at_none Partial bytes on = refl
+answered_at_none Overlong bytes on = refl
+answered_at_none Complete bytes on = absurd on
 
 -- nothing is answered while a line is under way
-pub answered_none : (line : KeptLine) → IsUnderWay line → answered line ≡ []
+pub answered_none : (line : LineBuffer) → IsUnderWay line → answered line ≡ []
 answered_none line on = answered_at_none line.stage line.bytes.items on
 
 -- nothing is unread where all was looked at
@@ -95,7 +96,7 @@ reads_more initial old new left left' left'' n before now reads at_end same refi
   taken = (let size = length-append reads.bytes (unread new) in omega (arith, size, reads.taken, refills.1, refills.2));
   most = omega (arith, refills.3);
   ahead = sym (append_assoc _ reads.bytes (unread new)) ∙ ap (λ (l : List ℕ). l ++ unread new) (all_is_line initial old left left' reads at_end);
-  stands = subst (λ (line : KeptLine). StandsFor (begun line) reads.line) (sym same) reads.stands;
+  stands = subst (λ (line : LineBuffer). StandsFor (begun line) reads.line) (sym same) reads.stands;
   whole = reads.whole;
 }
 
@@ -192,7 +193,7 @@ nothing_stands line (inl same) = sym same
 nothing_stands line (inr long) = absurd (omega (arith, long.0.1))
 
 -- what the input ended with
-pub answers_end : (next : Next) (initial old : Buffer) (line : KeptLine) (left left' : Option (List ℕ)) (before now : ℕ) → Reads initial old left left' → unread old ≡ [] → IsAtEnd left' → now ≡ before
+pub answers_end : (next : Next) (initial old : Buffer) (line : LineBuffer) (left left' : Option (List ℕ)) (before now : ℕ) → Reads initial old left left' → unread old ≡ [] → IsAtEnd left' → now ≡ before
     → IsUnderWay old.line → FinishesLast next old.line line → NextLine (Ok next) (pending initial) (pending (record old { line = line })) left left' before now
 answers_end Line initial old line left left' before now reads none at_end same on finishes =
     let finished = finishes.0 in
@@ -239,7 +240,7 @@ answers_end LongLine initial old line left left' before now reads none at_end sa
 answers_end End initial old line left left' before now reads none at_end same on finishes =
     let nothing : reads.line ≡ [] = nothing_stands reads.line (subst (λ (l : List ℕ). StandsFor l reads.line) finishes.0 reads.stands) in
     let all = nothing_before (begun initial.line ++ unread initial) reads.bytes (reads.ahead ∙ ap (λ (l : List ℕ). reads.line ++ l) none ∙ append-nil _ ∙ nothing) in
-    let ahead : begun line ++ unread old ≡ [] = ap (λ (k : KeptLine). begun k ++ unread old) finishes.1 ∙ ap (λ (l : List ℕ). l ++ unread old) finishes.0 ∙ none in
+    let ahead : begun line ++ unread old ≡ [] = ap (λ (k : LineBuffer). begun k ++ unread old) finishes.1 ∙ ap (λ (l : List ℕ). l ++ unread old) finishes.0 ∙ none in
     let given : answered line ≡ [] = ap answered finishes.1 ∙ answered_none old.line on in
     let taken : old.taken ≡ initial.taken = omega (arith, reads.taken, ap length all.1) in
     (subst (Consumes left left') all.1 reads.consumed, at_end, all.0, rw (taken, ahead, given) refl, same)

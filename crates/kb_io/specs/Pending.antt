@@ -2,14 +2,14 @@
 use Rattle.std.specs.Prelude.{◌≡◌, ℕ, ◌+◌, ◌<◌, ◌≤◌, max, List, [], ◌++◌, length, Option, Result, Ok, Err}
 use Rattle.std.specs.Io.KnownBytes.{Consumes, IsAtEnd}
 use Rattle.kb_io.specs.Outside.{Rose}
-use Rattle.kb_io.specs.Lines.{newlines, longest_line, IsNextLine, StandsFor, BeginsLines, HasNoLines, next_line_begins, no_line_begins}
+use Rattle.kb_io.specs.Lines.{newlines, longest_line, IsNextLine, StandsFor, BeginsLines, HasNoLines}
 use Rattle.kb_io.specs.declared.lines.Next.{Next}
 use Rattle.kb_io.specs.declared.lines.Next.TheVariants.{Line, LongLine, End}
 use Rattle.kb_io.specs.declared.lines.LineError.{LineError}
 use Rattle.kb_io.specs.declared.lines.LineError.TheVariants.{Fault, TooLong}
 
--- How many bytes were taken of the source in all, those of them that are still ahead, and the line answered last.
--- Where the bytes ahead begin with a line that was too long to keep, `let_go` stands for what was let go of it.
+-- How many bytes were taken of the source in all, those of them that are still ahead, and the line returned last.
+-- Where the bytes ahead begin with a line that was too long to keep, `let_go` stands for what was given up of it.
 pub record Pending : Type 0 where
   pub taken : ℕ
   pub ahead : List ℕ
@@ -19,7 +19,7 @@ pub record Pending : Type 0 where
 abbrev pub most_bytes : ℕ
 most_bytes = 67108864
 
--- What the next line is. `left` and `left'` are what the source tells to be left before and after, `before` and `now`
+-- What the next line is. `left` and `left'` are what is observed to be left of the source before and after, `before` and `now`
 -- its counts of faults.
 abbrev pub NextLine : Result Next LineError → Pending → Pending → Option (List ℕ) → Option (List ℕ) → ℕ → ℕ → Type 0
 NextLine (Ok Line) old new left left' before now =
@@ -37,7 +37,7 @@ NextLine (Err TooLong) old new left left' before now =
     (bytes : List ℕ) × (beyond : List ℕ) × Consumes left left' (bytes ++ beyond) × (new.taken ≡ old.taken + length bytes + length beyond) × (new.taken ≡ most_bytes + 1)
     × (length beyond ≤ 1) × (now ≡ before) × (newlines (old.ahead ++ bytes) ≡ 0) × StandsFor new.ahead (old.ahead ++ bytes) × (new.line ≡ [])
 
--- The same, said of the lines of all bytes, where the source tells them: the answered line is the first of those that
+-- The same, said of the lines of all bytes, where they are observable: the returned line is the first of those that
 -- were ahead and left, and the others are ahead and left then.
 abbrev pub GivesLine : Result Next LineError → Pending → Pending → Option (List ℕ) → Option (List ℕ) → Type 0
 GivesLine (Ok Line) old new left left' = BeginsLines old.ahead left new.line new.ahead left'
@@ -45,12 +45,3 @@ GivesLine (Ok LongLine) old new left left' = (line : List ℕ) × (longest_line 
 GivesLine (Ok End) old new left left' = HasNoLines old.ahead left
 GivesLine (Err Fault) old new left left' = Unit {0}
 GivesLine (Err TooLong) old new left left' = Unit {0}
-
--- the next line is the first of the lines
-pub next_line_is_first : (result : Result Next LineError) (old new : Pending) (left left' : Option (List ℕ)) (before now : ℕ) → NextLine result old new left left' before now
-    → GivesLine result old new left left'
-next_line_is_first (Ok Line) old new left left' before now next = next_line_begins old.ahead next.0 new.line new.ahead left left' next.1 next.5
-next_line_is_first (Ok LongLine) old new left left' before now next = (next.5.0, next.5.2, next_line_begins old.ahead next.0 next.5.0 new.ahead left left' next.1 next.5.1)
-next_line_is_first (Ok End) old new left left' before now next = no_line_begins old.ahead left left' next.0 next.1 next.2
-next_line_is_first (Err Fault) old new left left' before now next = tt
-next_line_is_first (Err TooLong) old new left left' before now next = tt

@@ -1,13 +1,13 @@
 //! Cycles of `isa`.
 ghost use Rattle.std.specs.Prelude.{◌≡◌, Some, List, Bool, ℕ, fold, map, take, slice_get};
-ghost use Rattle.fo_reader.specs.NamesStage.{name_noted, stepped};
-ghost use Rattle.fo_reader.specs.NamesStage as stage;
-ghost use Rattle.fo_reader.specs.Names.{Names, place_of_name};
-ghost use Rattle.fo_reader.specs.Trees.{Name};
-ghost use Rattle.fo_reader.specs.Uses.{climbing_uses};
+ghost use Rattle.reading_stages.specs.NamesStage.{name_noted, stepped};
+ghost use Rattle.reading_stages.specs.NamesStage as stage;
+ghost use Rattle.reading_stages.specs.Names.{Names, place_of_name};
+ghost use Rattle.fo_syntax.specs.Trees.{Name};
+ghost use Rattle.reading_stages.specs.Uses.{climbing_uses};
 
-use crate::earliest::Earliest;
 use kb_text::K;
+use reading_stages::Earliest;
 
 /// The number of the first type past the greatest count. It is refused, so no later cycle is the earliest refusal.
 const FIRST_TOO_MANY: usize = 257;

@@ -1,20 +1,20 @@
 //! The names that a vocabulary declares.
 ghost use Rattle.std.specs.Prelude.{◌≡◌, ◌∷◌, [], ◌≤◌, ◌+◌, ◌<◌, ◌^◌, fold, map, OnOk, IfOk, length};
 ghost use Rattle.std.specs.Option.{option_map};
-ghost use Rattle.fo_reader.specs.FileView.{declaration_in, element_name, argument_names, result_name};
-ghost use Rattle.fo_reader.specs.Names.{Names, declared, declared_names, made_names, names_of, number_types, with_names, symbol_meaning};
-ghost use Rattle.fo_reader.specs.NamesStage.{name_noted};
-ghost use Rattle.fo_reader.specs.Uses.{declares, declared_uses};
-ghost use Rattle.fo_reader.specs.View.{name_view};
-ghost use Rattle.kb_names.specs.Meanings.{meaning_view, names_in};
-ghost use Rattle.kb_names.specs.Tails.{type_count, symbol_count};
+ghost use Rattle.reading_stages.specs.FileView.{declaration_in, element_name, argument_names, result_name};
+ghost use Rattle.reading_stages.specs.Names.{Names, declared, declared_names, made_names, names_of, number_types, with_names, symbol_meaning};
+ghost use Rattle.reading_stages.specs.NamesStage.{name_noted};
+ghost use Rattle.reading_stages.specs.Uses.{declares, declared_uses};
+ghost use Rattle.fo_syntax.specs.View.{name_view};
+ghost use Rattle.formula_names.specs.Meanings.{meaning_view, names_in};
+ghost use Rattle.formula_names.specs.Tails.{type_count, symbol_count};
 
-use crate::earliest::Earliest;
-use crate::tables::{Meaning, Table, declare, is_declared};
-use fo_reader::{RawDeclaration, RawElementTail, RawName, RawPositions, RawSymbol};
+use fo_syntax::{RawDeclaration, RawElementTail, RawName, RawPositions, RawSymbol};
+use formula_names::tables::{Meaning, Table, declare, is_declared};
 use indexmap::IndexMap;
 use kb_logic::Memory;
 use kb_text::K;
+use reading_stages::Earliest;
 use std::alloc::Global;
 
 /// One more name. A name that is declared already is refused.

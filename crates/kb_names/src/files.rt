@@ -1,29 +1,40 @@
 //! A raw knowledge base with numbers for words, or the earliest refusal.
 ghost use Rattle.std.specs.Prelude.{◌≡◌, fold, map, take, OnOk, IfOk, IfErr};
 ghost use Rattle.std.specs.List.{flat_map};
-ghost use Rattle.fo_reader.specs.FileView.{declaration_in, file_in, term_in, theory_in, vocabulary_in};
-ghost use Rattle.fo_reader.specs.Names.{names_of};
-ghost use Rattle.fo_reader.specs.NamesStage.{declarations_of, name_noted, uses_of_file};
-ghost use Rattle.fo_reader.specs.Numbering as number;
-ghost use Rattle.fo_reader.specs.Numbering.{IsNamed};
-ghost use Rattle.fo_reader.specs.Uses as use_of;
-ghost use Rattle.fo_reader.specs.Uses.{climbing_uses, type_names};
-ghost use Rattle.kb_names.specs.Failures.{FailsWith};
-ghost use Rattle.kb_names.specs.FileViews.{block_view, kb_view, theory_view};
-ghost use Rattle.kb_names.specs.Meanings.{names_in};
+ghost use Rattle.reading_stages.specs.Below.{HasNoCycle, type_parents};
+ghost use Rattle.reading_stages.specs.FileView.{declaration_in, file_in, term_in, theory_in, vocabulary_in};
+ghost use Rattle.reading_stages.specs.Names.{names_of};
+ghost use Rattle.reading_stages.specs.NamesStage.{declarations_of, name_noted, uses_of_file};
+ghost use Rattle.reading_stages.specs.Numbering as number;
+ghost use Rattle.reading_stages.specs.Numbering.{IsNamed};
+ghost use Rattle.reading_stages.specs.Uses as use_of;
+ghost use Rattle.reading_stages.specs.Uses.{climbing_uses, type_names};
+ghost use Rattle.reading_stages.specs.Failures.{FailsWith};
+ghost use Rattle.reading_stages.specs.FileViews.{block_view, kb_view, theory_view};
+ghost use Rattle.formula_names.specs.Meanings.{names_in};
+ghost use Rattle.kb_names.specs.NumberedViews.{numbered_view};
 
 use crate::cycles::note_cycles;
 use crate::declarations::declared_table;
-use crate::earliest::Earliest;
-use crate::named::{NamedKb, NamedTermBlock, NamedTheory};
 use crate::places::{parents_in, symbol_places, type_places};
-use crate::tables::Table;
 use crate::theories::{block, theory};
 use crate::vocabularies::types_and_symbols;
-use fo_reader::{KbError, RawDeclaration, RawKb, RawTerm, RawTheory, RawVocabulary};
+use fo_syntax::{KbError, RawDeclaration, RawKb, RawTerm, RawTheory, RawVocabulary};
+use formula_names::tables::Table;
 use kb_logic::{Memory, Name, Vocabulary};
+use reading_stages::{Earliest, NamedKb, NamedTermBlock, NamedTheory};
 use sqlite_items::Items;
 use std::alloc::Global;
+
+/// A file with numbers for words, before it is known whether something in it is refused.
+#[derive(Drop)]
+pub struct Numbered {
+    pub vocab: Vocabulary,
+    pub theories: Items<NamedTheory>,
+    pub terms: Items<NamedTermBlock>,
+    pub type_places: Items<usize>,
+    pub symbol_places: Items<usize>,
+}
 
 /// The declarations of the first vocabulary.
 fn declarations_in(vocabularies: &[RawVocabulary]) -> &[RawDeclaration]
@@ -45,7 +56,7 @@ fn name_in(vocabularies: &[RawVocabulary]) -> &[u8]
     }
 }
 
-/// Notes the first type of each cycle of `isa`, and answers the places of the types' names.
+/// Notes the first type of each cycle of `isa`, and returns the places of the types' names.
 fn climbed_types<'a>(
     alloc: Global,
     table: &Table<'a>,
@@ -96,8 +107,8 @@ fn terms<'a>(
 }
 
 /// The knowledge base with numbers for words, where a word that is refused has the number 0.
-fn named(alloc: Global, raw: &RawKb, earliest: &mut Earliest) -> Result<NamedKb, Memory>
-    ensures tree { IfOk result (λ kb. kb_view kb ≡ number.named_file (number.vocabulary_name (file_in raw.now).vocabularies) (declarations_of (file_in raw.now).vocabularies) (file_in raw.now).theories (file_in raw.now).terms) }
+fn named(alloc: Global, raw: &RawKb, earliest: &mut Earliest) -> Result<Numbered, Memory>
+    ensures tree { IfOk result (λ kb. numbered_view kb ≡ number.named_file (number.vocabulary_name (file_in raw.now).vocabularies) (declarations_of (file_in raw.now).vocabularies) (file_in raw.now).theories (file_in raw.now).terms) }
     ensures noted { OnOk result (earliest.new.first ≡ fold (name_noted (names_of (declarations_of (file_in raw.now).vocabularies))) earliest.old.first (uses_of_file (file_in raw.now))) }
 {
     let vocabularies = raw.vocabularies.as_slice();
@@ -108,7 +119,7 @@ fn named(alloc: Global, raw: &RawKb, earliest: &mut Earliest) -> Result<NamedKb,
     let symbol_places = symbol_places(alloc, declarations)?;
     let theories = theories(alloc, &table, raw.theories.as_slice(), earliest)?;
     let terms = terms(alloc, &table, raw.terms.as_slice(), earliest)?;
-    Ok(NamedKb {
+    Ok(Numbered {
         vocab: Vocabulary {
             name: Name::new(alloc, name_in(vocabularies))?,
             types: declared.types,
@@ -121,6 +132,20 @@ fn named(alloc: Global, raw: &RawKb, earliest: &mut Earliest) -> Result<NamedKb,
     })
 }
 
+/// The same file, now that nothing in it is refused.
+fn accepted(kb: Numbered) -> NamedKb
+    requires acyclic { HasNoCycle (type_parents kb.vocab.types) }
+    ensures { kb_view result ≡ numbered_view kb }
+{
+    NamedKb {
+        vocab: kb.vocab,
+        theories: kb.theories,
+        terms: kb.terms,
+        type_places: kb.type_places,
+        symbol_places: kb.symbol_places,
+    }
+}
+
 /// The first vocabulary, the theories and the term blocks of a file with numbers for words, or the earliest refusal
 /// of the names in them.
 pub fn resolve(alloc: Global, raw: &RawKb) -> Result<NamedKb, KbError>
@@ -130,7 +155,7 @@ pub fn resolve(alloc: Global, raw: &RawKb) -> Result<NamedKb, KbError>
     let mut earliest = Earliest::new();
     match named(alloc, raw, &mut earliest) {
         Ok(kb) => match earliest.first {
-            None => Ok(kb),
+            None => Ok(accepted(kb)),
             Some(fault) => Err(KbError::Refused(fault)),
         },
         Err(_) => Err(KbError::Memory),

@@ -1,13 +1,13 @@
 //! Where types and symbols are declared, and which types stand under which.
 ghost use Rattle.std.specs.Prelude.{◌≡◌, ◌∷◌, [], ◌++◌, map, OnOk, IfOk};
 ghost use Rattle.std.specs.Option.{option_map};
-ghost use Rattle.fo_reader.specs.FileView.{declaration_in, isa_name};
-ghost use Rattle.fo_reader.specs.Numbering as number;
-ghost use Rattle.fo_reader.specs.Uses as use_of;
-ghost use Rattle.kb_names.specs.Meanings.{meaning_view, names_in};
+ghost use Rattle.reading_stages.specs.FileView.{declaration_in, isa_name};
+ghost use Rattle.reading_stages.specs.Numbering as number;
+ghost use Rattle.reading_stages.specs.Uses as use_of;
+ghost use Rattle.formula_names.specs.Meanings.{meaning_view, names_in};
 
-use crate::tables::{Meaning, Table, declared_meaning};
-use fo_reader::{RawDeclaration, RawIsa};
+use fo_syntax::{RawDeclaration, RawIsa};
+use formula_names::tables::{Meaning, Table, declared_meaning};
 use kb_logic::Memory;
 use sqlite_items::Items;
 use std::alloc::Global;
@@ -27,7 +27,7 @@ fn type_in(meaning: Meaning) -> Option<usize>
     }
 }
 
-/// The type behind `isa`, where it is one of the vocabulary.
+/// The type after `isa`, where it is one of the vocabulary.
 fn parent_type<'a>(table: &Table<'a>, isa: &'a Option<RawIsa>) -> Option<usize>
     ensures { result ≡ use_of.parent_type (names_in table.now) (option_map isa_name isa.now) }
 {

@@ -1,23 +1,22 @@
 //! Theories and term blocks with numbers for words.
 ghost use Rattle.std.specs.Prelude.{◌≡◌, ◌++◌, fold, map, OnOk, IfOk};
 ghost use Rattle.std.specs.List.{flat_map};
-ghost use Rattle.fo_reader.specs.FileView.{part_in, term_in, theory_in};
-ghost use Rattle.fo_reader.specs.Names.{Names};
-ghost use Rattle.fo_reader.specs.NamesStage.{name_noted};
-ghost use Rattle.fo_reader.specs.Numbering as number;
-ghost use Rattle.fo_reader.specs.Uses as use_of;
-ghost use Rattle.kb_names.specs.Meanings.{names_in};
-ghost use Rattle.kb_names.specs.FileViews.{theory_view, block_view};
-ghost use Rattle.kb_names.specs.NamedViews.{formula_view};
+ghost use Rattle.reading_stages.specs.FileView.{part_in, term_in, theory_in};
+ghost use Rattle.reading_stages.specs.Names.{Names};
+ghost use Rattle.reading_stages.specs.NamesStage.{name_noted};
+ghost use Rattle.reading_stages.specs.Numbering as number;
+ghost use Rattle.reading_stages.specs.Uses as use_of;
+ghost use Rattle.formula_names.specs.Meanings.{names_in};
+ghost use Rattle.reading_stages.specs.FileViews.{theory_view, block_view};
+ghost use Rattle.reading_stages.specs.NamedViews.{formula_view};
 
-use crate::earliest::Earliest;
-use crate::formulas::{formula, term};
-use crate::named::{NamedFormula, NamedTermBlock, NamedTheory};
-use crate::scopes::Scope;
-use crate::tables::Table;
-use fo_reader::{RawTerm, RawTheory, RawTheoryItem};
+use fo_syntax::{RawTerm, RawTheory, RawTheoryItem};
+use formula_names::formulas::{formula, term};
+use formula_names::scopes::Scope;
+use formula_names::tables::Table;
 use kb_logic::{Memory, Name};
 use kb_text::K;
+use reading_stages::{Earliest, NamedFormula, NamedTermBlock, NamedTheory};
 use sqlite_items::Items;
 use std::alloc::Global;
 

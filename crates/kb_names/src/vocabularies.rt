@@ -1,25 +1,25 @@
 //! The types and symbols of a vocabulary, with numbers for the words of their declarations.
 ghost use Rattle.std.specs.Prelude.{◌≡◌, ◌∷◌, [], ◌++◌, ◌+◌, fold, map, OnOk, IfOk, length};
 ghost use Rattle.std.specs.Option.{option_map};
-ghost use Rattle.fo_reader.specs.FileView.{argument_names, declaration_in, element_name, isa_name, result_name};
-ghost use Rattle.fo_reader.specs.Files as file;
-ghost use Rattle.fo_reader.specs.Names.{Names, text_of};
-ghost use Rattle.fo_reader.specs.NamesStage.{name_noted};
-ghost use Rattle.fo_reader.specs.Numbering as number;
-ghost use Rattle.fo_reader.specs.Uses as use_of;
-ghost use Rattle.fo_reader.specs.View.{name_view};
-ghost use Rattle.kb_names.specs.Meanings.{meaning_view, names_in};
+ghost use Rattle.reading_stages.specs.FileView.{argument_names, declaration_in, element_name, isa_name, result_name};
+ghost use Rattle.reading_stages.specs.Files as file;
+ghost use Rattle.reading_stages.specs.Names.{Names, text_of};
+ghost use Rattle.reading_stages.specs.NamesStage.{name_noted};
+ghost use Rattle.reading_stages.specs.Numbering as number;
+ghost use Rattle.reading_stages.specs.Uses as use_of;
+ghost use Rattle.fo_syntax.specs.View.{name_view};
+ghost use Rattle.formula_names.specs.Meanings.{meaning_view, names_in};
 
 use crate::declarations::argument_count;
-use crate::earliest::Earliest;
-use crate::positions::{positions, value_position};
-use crate::tables::{Meaning, Table};
-use crate::uses::{parent, within_count};
-use fo_reader::{
+use fo_syntax::{
     RawConstructed, RawDeclaration, RawElementTail, RawIsa, RawName, RawSymbol, RawType,
 };
+use formula_names::positions::{positions, value_position};
+use formula_names::tables::{Meaning, Table};
+use formula_names::uses::{parent, within_count};
 use kb_logic::{Memory, Name, NameList, Parent, Symbol, SymbolList, TypeDecl, TypeList};
 use kb_text::K;
+use reading_stages::Earliest;
 use std::alloc::Global;
 
 /// The types and symbols of some declarations.
@@ -36,7 +36,7 @@ fn note_count(greatest: usize, count: usize, word: &RawName, earliest: &mut Earl
     earliest.note_if(count > greatest, K::TooLarge, word.place);
 }
 
-/// Notes a declaration that stands behind as many others as there may be.
+/// Notes a declaration that follows as many others as there may be.
 fn note_next(greatest: usize, before: usize, word: &RawName, earliest: &mut Earliest)
     ensures { (names : Names) → earliest.new.first ≡ name_noted names earliest.old.first (use_of.counted greatest (before + 1) (name_view word.now)) }
 {

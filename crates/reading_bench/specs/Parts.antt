@@ -1,14 +1,14 @@
 -- What a whole text is, read as one of the parts.
 use Rattle.std.specs.Prelude.{ℕ, List, Result, Ok, Err, codes}
 use Rattle.kb_text.specs.declared.fault.KbFault.{KbFault}
-use Rattle.fo_reader.specs.declared.error.KbError.{KbError}
-use Rattle.fo_reader.specs.declared.error.KbError.TheVariants as errors
-use Rattle.fo_reader.specs.Trees.{Formula, Term}
-use Rattle.fo_reader.specs.Spelling.{put_formula, put_term}
-use Rattle.fo_reader.specs.Fine.{FineFormula, FineTerm}
-use Rattle.fo_reader.specs.Whole.{Reads}
-use Rattle.fo_reader.specs.BlockTrees.{Block}
-use Rattle.fo_reader.specs.FileReads.{KbReads}
+use Rattle.fo_syntax.specs.declared.error.KbError.{KbError}
+use Rattle.fo_syntax.specs.declared.error.KbError.TheVariants as errors
+use Rattle.fo_syntax.specs.Trees.{Formula, Term}
+use Rattle.fo_syntax.specs.Spelling.{put_formula, put_term}
+use Rattle.fo_syntax.specs.Fine.{FineFormula, FineTerm}
+use Rattle.fo_syntax.specs.Whole.{Reads}
+use Rattle.fo_syntax.specs.BlockTrees.{Block}
+use Rattle.fo_syntax.specs.FileReads.{KbReads}
 use Rattle.reading_bench.specs.declared.parts.Part.{Part}
 use Rattle.reading_bench.specs.declared.parts.Part.TheVariants as part
 

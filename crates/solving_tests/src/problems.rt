@@ -4,8 +4,8 @@ ghost use Rattle.ground_core.specs.Problems.{AreLitsOf, IsLitOf};
 
 use crate::fixtures::{are_over, blamed_by_force, no, problem_of, say, yes};
 use ground_core::{
-    AtomTable, Gate, GroundTerm, LitList, Memory, Part, PartList, Problem,
-    clauses_of_gate, has_small_terms, nnf,
+    AtomTable, Gate, GroundTerm, LitList, Memory, Part, PartList, Problem, clauses_of_gate,
+    has_small_terms, nnf,
 };
 use kb_logic::{
     AggKind, Elem, ElemList, ExtInt, Formula, Literal, LiteralList, Name, NumberList, Symbol,
@@ -71,15 +71,39 @@ fn a_gate_has_three_clauses(rt: HostRuntime) -> Result<(), Fail> {
 
 #[test]
 fn both_parts_of_a_gate_are_true(rt: HostRuntime) -> Result<(), Fail> {
-    assert_eq!(rt; blamed_by_force(rt.alloc(), gate_problem(rt.alloc(), true, true)?, &[yes(1)])?, None);
-    assert_eq!(rt; blamed_by_force(rt.alloc(), gate_problem(rt.alloc(), true, true)?, &[yes(1), no(2)])?, Some(2));
+    assert_eq!(rt;
+        blamed_by_force(rt.alloc(), gate_problem(rt.alloc(), true, true)?, &[yes(1)])?,
+        None
+    );
+    assert_eq!(rt;
+        blamed_by_force(
+            rt.alloc(),
+            gate_problem(rt.alloc(), true, true)?,
+            &[yes(1), no(2)]
+        )?,
+        Some(2)
+    );
     Ok(())
 }
 
 #[test]
 fn no_part_of_a_gate_is_true(rt: HostRuntime) -> Result<(), Fail> {
-    assert_eq!(rt; blamed_by_force(rt.alloc(), gate_problem(rt.alloc(), false, false)?, &[no(1)])?, None);
-    assert_eq!(rt; blamed_by_force(rt.alloc(), gate_problem(rt.alloc(), false, false)?, &[yes(2)])?, Some(1));
+    assert_eq!(rt;
+        blamed_by_force(
+            rt.alloc(),
+            gate_problem(rt.alloc(), false, false)?,
+            &[no(1)]
+        )?,
+        None
+    );
+    assert_eq!(rt;
+        blamed_by_force(
+            rt.alloc(),
+            gate_problem(rt.alloc(), false, false)?,
+            &[yes(2)]
+        )?,
+        Some(1)
+    );
     Ok(())
 }
 
@@ -98,8 +122,22 @@ fn equality_problem(alloc: Global) -> Result<Problem, Memory>
 
 #[test]
 fn equal_literals_have_one_value(rt: HostRuntime) -> Result<(), Fail> {
-    assert_eq!(rt; blamed_by_force(rt.alloc(), equality_problem(rt.alloc())?, &[no(1), no(2), yes(3)])?, None);
-    assert_eq!(rt; blamed_by_force(rt.alloc(), equality_problem(rt.alloc())?, &[no(1), yes(2), yes(3)])?, Some(3));
+    assert_eq!(rt;
+        blamed_by_force(
+            rt.alloc(),
+            equality_problem(rt.alloc())?,
+            &[no(1), no(2), yes(3)]
+        )?,
+        None
+    );
+    assert_eq!(rt;
+        blamed_by_force(
+            rt.alloc(),
+            equality_problem(rt.alloc())?,
+            &[no(1), yes(2), yes(3)]
+        )?,
+        Some(3)
+    );
     Ok(())
 }
 

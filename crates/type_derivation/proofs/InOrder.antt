@@ -5,10 +5,10 @@ use Rattle.kb_logic.specs.declared.vocabularies.Bound.{Bound}
 use Rattle.kb_logic.specs.declared.vocabularies.TypeDecl.{TypeDecl}
 use Rattle.kb_logic.specs.declared.vocabularies.Vocabulary.{Vocabulary}
 use Rattle.kb_logic.specs.Trees as tree
-use Rattle.fo_reader.specs.Demands.{Binding, Part, scope, Parts, parts_of, binding_of, is_order, order_demands, comparison_demands, argument_demands, later_types, number_demand, formula_parts, formulas_parts, term_parts, node_parts, arguments_parts, factors_parts, summands_parts}
-use Rattle.fo_reader.specs.NamedTrees.{NamedVar, NamedTerm, at, NamedNode, variable, integer, constructed, application, summation, product, aggregate, NamedTerms, no_terms, more_terms, NamedSummands, no_summands, more_summands, NamedFormula, truth, atom, comparison, negation, conjunction, disjunction, implication, equivalence, universal, existential, numbered, NamedFormulas, no_formulas, more_formulas}
-use Rattle.fo_reader.specs.TypedTrees.{found_by_places, found_by_sides, chosen, types_by_places, typed_from, inside, typed_vars, aggregate_parts, integer_of, typed_formula, typed_formulas, typed_term, typed_node, typed_terms, typed_summands}
-use Rattle.fo_reader.specs.Typing.{settled_bindings, places_in, sides_in, by_places, part_by_places, by_sides, part_by_sides, type_found, within}
+use Rattle.reading_stages.specs.Demands.{Binding, Part, scope, Parts, parts_of, binding_of, is_order, order_demands, comparison_demands, argument_demands, later_types, number_demand, formula_parts, formulas_parts, term_parts, node_parts, arguments_parts, factors_parts, summands_parts}
+use Rattle.reading_stages.specs.NamedTrees.{NamedVar, NamedTerm, at, NamedNode, variable, integer, constructed, application, summation, product, aggregate, NamedTerms, no_terms, more_terms, NamedSummands, no_summands, more_summands, NamedFormula, truth, atom, comparison, negation, conjunction, disjunction, implication, equivalence, universal, existential, numbered, NamedFormulas, no_formulas, more_formulas}
+use Rattle.reading_stages.specs.TypedTrees.{found_by_places, found_by_sides, chosen, types_by_places, typed_from, inside, typed_vars, aggregate_parts, integer_of, typed_formula, typed_formulas, typed_term, typed_node, typed_terms, typed_summands}
+use Rattle.reading_stages.specs.Typing.{settled_bindings, places_in, sides_in, by_places, part_by_places, by_sides, part_by_sides, type_found, within}
 use Rattle.type_derivation.specs.ListedTrees.{types_at, types_among, listed_vars, left_vars, left_formula, left_formulas, left_term, left_node, left_terms, left_summands, listed_formula, listed_formulas, listed_term, listed_node, listed_terms, listed_summands, TypesAreInOrder}
 
 two : {X Y Z : Type 0} (make : X → Y → Z) (a b : X) (c d : Y) → a ≡ b → c ≡ d → make a c ≡ make b d
@@ -112,7 +112,7 @@ module _ (v : Vocabulary) where
       ap (λ (ts : List ℕ). ts ++ rest) (append-nil (found (within around placed) (length around + length (map binding_of xs))) ∙ both)
       ∙ append_assoc (types_here around xs ps) (found_in (inside v.types around xs ps) ps) rest
 
-  -- what is left behind the variables
+  -- what is left after the variables
   scope_left : (around : List (Option ℕ)) (xs : List NamedVar) (ps : List Part) (rest : List ℕ)
       → left_vars (found_in around (scope (map binding_of xs) (parts_of ps) ∷ []) ++ rest) xs ≡ found_in (inside v.types around xs ps) ps ++ rest
   scope_left around xs ps rest =
@@ -125,7 +125,7 @@ module _ (v : Vocabulary) where
       ap (λ (ts : List ℕ). listed_vars ts xs) (split_scope around xs ps rest)
       ∙ front_vars v.types (inside v.types around xs ps) (parts_of ps) (length around) xs (found_in (inside v.types around xs ps) ps ++ rest)
 
-  -- ---- what is left behind a tree
+  -- ---- what is left after a tree
 
   mutual
     left-formula : (around : List (Option ℕ)) (f : NamedFormula) (rest : List ℕ) → left_formula (found_in around (formula_parts v.symbols f) ++ rest) f ≡ rest

@@ -3,13 +3,13 @@ use Rattle.std.proofs.Common.{◌≡◌, ℕ, Bool, true, false, not, ◌||◌, 
 use Rattle.std.specs.List.{list_any, list_all}
 use Rattle.std.proofs.lemmas.List.Elements.{Contains-append_left, Contains-push, Contains-push_cases}
 use Rattle.kb_logic.specs.declared.vocabularies.TypeDecl.{TypeDecl}
-use Rattle.fo_reader.specs.Below.{Parents, HasNoCycle, IsForest, type_parents, is_below}
-use Rattle.fo_reader.specs.Demands.{Finding, nothing, found, torn}
-use Rattle.fo_reader.specs.Kinship.{is_under}
-use Rattle.fo_reader.specs.Typing.{is_split, found_first, least_of, finding_of}
-use Rattle.fo_reader.proofs.EarliestLaws.{contains_head, contains_tail, contains_nothing, contains_cases}
-use Rattle.kb_names.proofs.Forest.{forest}
-use Rattle.kb_names.proofs.Ranks.{ranked}
+use Rattle.reading_stages.specs.Below.{Parents, HasNoCycle, IsForest, type_parents, is_below}
+use Rattle.reading_stages.specs.Demands.{Finding, nothing, found, torn}
+use Rattle.reading_stages.specs.Kinship.{is_under}
+use Rattle.reading_stages.specs.Typing.{is_split, found_first, least_of, finding_of}
+use Rattle.reading_stages.proofs.EarliestLaws.{contains_head, contains_tail, contains_nothing, contains_cases}
+use Rattle.reading_stages.proofs.Forest.{forest}
+use Rattle.reading_stages.proofs.Ranks.{ranked}
 use Rattle.type_derivation.specs.Gathering.{seen}
 
 -- ---- lists of which some element passes a test, or each does

@@ -5,11 +5,11 @@ use Rattle.std.proofs.lemmas.Grind.{fold-append}
 use Rattle.std.proofs.lemmas.Bool.Decides.{nat_tests}
 use Rattle.std.proofs.Math.Seq.{drop-append_seam, take-append_seam}
 use Rattle.kb_logic.specs.declared.vocabularies.TypeDecl.{TypeDecl}
-use Rattle.fo_reader.specs.Below.{HasNoCycle, type_parents}
+use Rattle.reading_stages.specs.Below.{HasNoCycle, type_parents}
 use Rattle.std.proofs.lemmas.List.{length-map, map-set}
 use Rattle.std.proofs.Math.ListN.{get_or-map}
-use Rattle.fo_reader.specs.Demands.{TermType, Kind, of_variable, by_itself, Finding, nothing, Binding}
-use Rattle.fo_reader.specs.Typing.{settled_binding, settled_bindings, is_variable, types_known, type_in, side_given}
+use Rattle.reading_stages.specs.Demands.{TermType, Kind, of_variable, by_itself, Finding, nothing, Binding}
+use Rattle.reading_stages.specs.Typing.{settled_binding, settled_bindings, is_variable, types_known, type_in, side_given}
 use Rattle.type_derivation.specs.PartViews.{finding_view}
 use Rattle.type_derivation.specs.declared.demands.Finding.{Finding as Found}
 use Rattle.type_derivation.specs.Gathering.{seen, after, if_variable, settled_by, settled_from}

@@ -3,9 +3,9 @@ use Rattle.std.proofs.Common.{◌≡◌, ◌≤◌, ◌<◌, ℕ, ◌+◌, List,
 use Rattle.std.proofs.lemmas.Grind.{common_steps}
 use Rattle.std.proofs.lemmas.List.{length-map, take-map}
 use Rattle.kb_logic.specs.declared.vocabularies.TypeDecl.{TypeDecl}
-use Rattle.fo_reader.specs.Below.{HasNoCycle, type_parents}
-use Rattle.fo_reader.specs.Demands.{Finding, nothing, Binding, Part, demand, scope, Parts, no_parts, more_parts, parts_of}
-use Rattle.fo_reader.specs.Typing.{within, settled_bindings, settled_binding, places_at, places_in, sides_at, sides_in, part_by_places, by_places, part_by_sides, by_sides, type_found}
+use Rattle.reading_stages.specs.Below.{HasNoCycle, type_parents}
+use Rattle.reading_stages.specs.Demands.{Finding, nothing, Binding, Part, demand, scope, Parts, no_parts, more_parts, parts_of}
+use Rattle.reading_stages.specs.Typing.{within, settled_bindings, settled_binding, places_at, places_in, sides_at, sides_in, part_by_places, by_places, part_by_sides, by_sides, type_found}
 use Rattle.type_derivation.specs.Gathering.{after, settled_from, gathered_at, gathered_in, part_by, parts_by}
 use Rattle.type_derivation.specs.PartViews.{part_view, parts_view, finding_view}
 use Rattle.type_derivation.specs.declared.demands.Part.{Part as Kept}

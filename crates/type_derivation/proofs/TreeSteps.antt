@@ -2,8 +2,8 @@
 use Rattle.std.proofs.Common.{◌≡◌, ◌≤◌, ◌<◌, ℕ, ◌+◌, Bool, List, [], ◌∷◌, ◌++◌, length, refl, ap, ◌∙◌, sym, add-one, get_or, drop, drop-cons, arith, map, subst, append_assoc}
 use Rattle.std.proofs.lemmas.Grind.{common_steps}
 use Rattle.kb_logic.specs.Trees as tree
-use Rattle.fo_reader.specs.NamedTrees.{NamedTerm, terms_of, summands_of, NamedFormula, formulas_of}
-use Rattle.fo_reader.specs.TermPlaces.{each_begins, formulas_begin, summands_begin, term_begins, terms_begin}
+use Rattle.reading_stages.specs.NamedTrees.{NamedTerm, terms_of, summands_of, NamedFormula, formulas_of}
+use Rattle.reading_stages.specs.TermPlaces.{each_begins, formulas_begin, summands_begin, term_begins, terms_begin}
 use Rattle.type_derivation.specs.ListedTrees as listed
 use Rattle.type_derivation.specs.TreeLists.{then_formulas, then_terms, then_summands}
 

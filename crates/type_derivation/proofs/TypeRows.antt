@@ -2,10 +2,10 @@
 use Rattle.std.proofs.Common.{◌≡◌, IsTrue, false, [], ◌∷◌, None, Some, fold, refl, Contains}
 use Rattle.kb_text.specs.declared.fault.K.TheVariants as k
 use Rattle.kb_text.specs.declared.fault.KbFault.{KbFault}
-use Rattle.fo_reader.specs.Earliest.{IsEarliest, IsRowOf, row}
-use Rattle.fo_reader.specs.Numbering.{NamedFile}
-use Rattle.fo_reader.specs.TypesStage.{place_of_type_use, type_uses_of_file, TypesRefuse, type_clash, no_type, is_type_refused, type_causes, type_noted}
-use Rattle.fo_reader.proofs.EarliestLaws.{contains_head, contains_tail, nothing_noted, earliest_noted, earliest_of_same}
+use Rattle.reading_stages.specs.Earliest.{IsEarliest, IsRowOf, row}
+use Rattle.reading_stages.specs.Numbering.{NamedFile}
+use Rattle.reading_stages.specs.TypesStage.{place_of_type_use, type_uses_of_file, TypesRefuse, type_clash, no_type, is_type_refused, type_causes, type_noted}
+use Rattle.reading_stages.proofs.EarliestLaws.{contains_head, contains_tail, nothing_noted, earliest_noted, earliest_of_same}
 
 abbrev Row : NamedFile → KbFault → Type 0
 Row f = IsRowOf (is_type_refused f.vocabulary.types) place_of_type_use type_causes (type_uses_of_file f)

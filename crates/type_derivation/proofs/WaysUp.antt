@@ -4,10 +4,10 @@ use Rattle.std.specs.Option.{option_map}
 use Rattle.std.proofs.lemmas.List.{length-map}
 use Rattle.std.proofs.lemmas.Option.{slice_get-map}
 use Rattle.kb_logic.specs.declared.vocabularies.TypeDecl.{TypeDecl}
-use Rattle.fo_reader.specs.Below.{Parents, reaches, type_parents, type_above}
-use Rattle.fo_reader.specs.Kinship.{is_under, climbed, climbed_on, top_of}
-use Rattle.fo_reader.specs.NamesStage.{stepped}
-use Rattle.kb_names.proofs.Forest.{equal, same_here}
+use Rattle.reading_stages.specs.Below.{Parents, reaches, type_parents, type_above}
+use Rattle.reading_stages.specs.Kinship.{is_under, climbed, climbed_on, top_of}
+use Rattle.reading_stages.specs.NamesStage.{stepped}
+use Rattle.reading_stages.proofs.Forest.{equal, same_here}
 use Rattle.type_derivation.specs.Above.{above}
 
 pub apart : (a b : ℕ) → (a ≡ b → ⊥) → (a == b) ≡ false

@@ -12,13 +12,13 @@ use Rattle.kb_logic.specs.Trees as typed
 use Rattle.kb_logic.specs.Trees.{TermTree, FormulaTree}
 use Rattle.kb_text.specs.declared.fault.K.TheVariants as k
 use Rattle.kb_text.specs.declared.fault.KbFault.{KbFault}
-use Rattle.fo_reader.specs.Demands.{Finding, nothing, found, torn, Binding, demand, scope, Parts, no_parts, more_parts}
-use Rattle.fo_reader.specs.Earliest.{refusal}
-use Rattle.fo_reader.specs.Kinship.{is_under, is_number_type, are_akin}
-use Rattle.fo_reader.specs.NamedTrees.{NamedVar, NamedTerm, at, variable, integer, application, summation, aggregate, terms_of, summands_of, NamedFormula, truth, atom, comparison, conjunction, universal, existential, formulas_of}
-use Rattle.fo_reader.specs.TermPlaces.{term_begins}
-use Rattle.fo_reader.specs.TypedTrees.{typed_sentence, typed_block_term}
-use Rattle.fo_reader.specs.TypesStage.{sentence_settled, block_settled, uses_among, type_noted}
+use Rattle.reading_stages.specs.Demands.{Finding, nothing, found, torn, Binding, demand, scope, Parts, no_parts, more_parts}
+use Rattle.reading_stages.specs.Earliest.{refusal}
+use Rattle.reading_stages.specs.Kinship.{is_under, is_number_type, are_akin}
+use Rattle.reading_stages.specs.NamedTrees.{NamedVar, NamedTerm, at, variable, integer, application, summation, aggregate, terms_of, summands_of, NamedFormula, truth, atom, comparison, conjunction, universal, existential, formulas_of}
+use Rattle.reading_stages.specs.TermPlaces.{term_begins}
+use Rattle.reading_stages.specs.TypedTrees.{typed_sentence, typed_block_term}
+use Rattle.reading_stages.specs.TypesStage.{sentence_settled, block_settled, uses_among, type_noted}
 
 abbrev pub a_type : Parent → TypeDecl
 a_type above = record { name = codes "T"; parent = above; made = [] }

@@ -1,9 +1,9 @@
 -- Types that are found of variables one by one: of their places, or of the other sides of comparisons.
 use Rattle.std.specs.Prelude.{ℕ, ◌+◌, List, [], ◌∷◌, ◌++◌, length, Option, fold, if◌then◌else◌}
 use Rattle.kb_logic.specs.declared.vocabularies.TypeDecl.{TypeDecl}
-use Rattle.fo_reader.specs.Kinship.{is_under}
-use Rattle.fo_reader.specs.Demands.{Kind, Demand, Finding, nothing, found, torn, Binding, Part, demand, scope, Parts, no_parts, more_parts}
-use Rattle.fo_reader.specs.Typing.{is_variable, places_given, sides_given, within, settled, settled_bindings}
+use Rattle.reading_stages.specs.Kinship.{is_under}
+use Rattle.reading_stages.specs.Demands.{Kind, Demand, Finding, nothing, found, torn, Binding, Part, demand, scope, Parts, no_parts, more_parts}
+use Rattle.reading_stages.specs.Typing.{is_variable, places_given, sides_given, within, settled, settled_bindings}
 use Rattle.type_derivation.specs.declared.gathering.Source.{Source}
 use Rattle.type_derivation.specs.declared.gathering.Source.TheVariants.{Places, Sides}
 

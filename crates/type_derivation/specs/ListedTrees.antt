@@ -1,14 +1,14 @@
 -- The types of all variables in the order in which they are bound in the text, and trees whose variables take theirs from
--- the front of such a list. Derivation works by these trees; they are the typed ones.
+-- the start of such a list. Derivation works by these trees; they are the typed ones.
 use Rattle.std.specs.Prelude.{ℕ, ◌≡◌, pos, List, [], ◌∷◌, ◌++◌, map}
 use Rattle.kb_logic.specs.declared.vocabularies.Vocabulary.{Vocabulary}
 use Rattle.kb_logic.specs.declared.vocabularies.Bound.{Bound}
 use Rattle.kb_logic.specs.Trees.{TermTree, TermTrees, SummandTrees, FormulaTree, FormulaTrees}
 use Rattle.kb_logic.specs.Trees as tree
-use Rattle.fo_reader.specs.Demands.{Part, demand, scope, Parts, no_parts, more_parts, later_types}
-use Rattle.fo_reader.specs.NamedTrees.{NamedVar, NamedTerm, at, NamedNode, variable, integer, constructed, application, summation, product, aggregate, NamedTerms, no_terms, more_terms, NamedSummands, no_summands, more_summands, NamedFormula, truth, atom, comparison, negation, conjunction, disjunction, implication, equivalence, universal, existential, numbered, NamedFormulas, no_formulas, more_formulas}
-use Rattle.fo_reader.specs.TypedTrees.{chosen, integer_of, truth_tree, typed_sentence, typed_block_term}
-use Rattle.fo_reader.specs.TypesStage.{sentence_settled, block_settled}
+use Rattle.reading_stages.specs.Demands.{Part, demand, scope, Parts, no_parts, more_parts, later_types}
+use Rattle.reading_stages.specs.NamedTrees.{NamedVar, NamedTerm, at, NamedNode, variable, integer, constructed, application, summation, product, aggregate, NamedTerms, no_terms, more_terms, NamedSummands, no_summands, more_summands, NamedFormula, truth, atom, comparison, negation, conjunction, disjunction, implication, equivalence, universal, existential, numbered, NamedFormulas, no_formulas, more_formulas}
+use Rattle.reading_stages.specs.TypedTrees.{chosen, integer_of, truth_tree, typed_sentence, typed_block_term}
+use Rattle.reading_stages.specs.TypesStage.{sentence_settled, block_settled}
 
 -- the types of all variables in parts, as they are found
 abbrev mutual
@@ -20,22 +20,22 @@ abbrev mutual
   types_among no_parts = []
   types_among (more_parts p ps) = types_at p ++ types_among ps
 
--- the type at the front
+-- the type at the start
 abbrev pub first_type : List ℕ → ℕ
 first_type [] = 0
 first_type (t ∷ ts) = t
 
--- variables with the types at the front
+-- variables with the types at the start
 abbrev pub listed_vars : List ℕ → List NamedVar → List Bound
 listed_vars ts [] = []
 listed_vars ts (x ∷ xs) = record { name = x.name; ty = first_type ts } ∷ listed_vars (later_types ts) xs
 
--- what is left behind variables
+-- what is left after variables
 abbrev pub left_vars : List ℕ → List NamedVar → List ℕ
 left_vars ts [] = ts
 left_vars ts (x ∷ xs) = left_vars (later_types ts) xs
 
--- what is left behind a tree
+-- what is left after a tree
 abbrev mutual
   pub left_formula : List ℕ → NamedFormula → List ℕ
   left_formula ts (truth b) = ts
@@ -74,7 +74,7 @@ abbrev mutual
   left_summands ts no_summands = ts
   left_summands ts (more_summands m u ss) = left_summands (left_term ts u) ss
 
--- trees whose variables have the types at the front
+-- trees whose variables have the types at the start
 abbrev mutual
   pub listed_formula : List ℕ → NamedFormula → FormulaTree
   listed_formula ts (truth b) = truth_tree b

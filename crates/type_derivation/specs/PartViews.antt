@@ -1,6 +1,6 @@
 -- What the parts in memory are.
 use Rattle.std.specs.Prelude.{map, List}
-use Rattle.fo_reader.specs.Demands as said
+use Rattle.reading_stages.specs.Demands as said
 use Rattle.type_derivation.specs.declared.demands.TermType.{TermType}
 use Rattle.type_derivation.specs.declared.demands.TermType.TheVariants.{Whole, Declared, Untyped}
 use Rattle.type_derivation.specs.declared.demands.Kind.{Kind}

@@ -1,4 +1,4 @@
--- Trees in front of further trees.
+-- Trees before further trees.
 use Rattle.std.specs.Prelude.{Bool, List, [], ◌∷◌}
 use Rattle.kb_logic.specs.Trees.{TermTree, TermTrees, more_terms, SummandTrees, more_summands, FormulaTree, FormulaTrees, more_formulas}
 

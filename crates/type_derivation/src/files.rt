@@ -2,16 +2,16 @@
 ghost use Rattle.std.specs.Prelude.{◌≡◌, ◌++◌, ◌∷◌, [], fold, map, OnOk, IfOk, IfErr};
 ghost use Rattle.std.specs.List.{flat_map};
 ghost use Rattle.kb_logic.specs.Views as view;
-ghost use Rattle.fo_reader.specs.Below.{HasNoCycle, type_parents};
-ghost use Rattle.fo_reader.specs.TermPlaces.{term_begins, terms_begin};
-ghost use Rattle.fo_reader.specs.TypedFiles.{typed_block, typed_file, typed_theory};
-ghost use Rattle.fo_reader.specs.TypedTrees.{typed_block_term, typed_sentence};
-ghost use Rattle.fo_reader.specs.TypesStage as stage;
-ghost use Rattle.fo_reader.specs.TypesStage.{type_noted, IsTyped};
-ghost use Rattle.fo_reader.specs.Typing.{all_settled};
-ghost use Rattle.kb_names.specs.FileViews as named_view;
-ghost use Rattle.kb_names.specs.FileViews.{kb_view};
-ghost use Rattle.kb_names.specs.NamedViews.{formula_view, term_view};
+ghost use Rattle.reading_stages.specs.Below.{HasNoCycle, type_parents};
+ghost use Rattle.reading_stages.specs.TermPlaces.{term_begins, terms_begin};
+ghost use Rattle.reading_stages.specs.TypedFiles.{typed_block, typed_file, typed_theory};
+ghost use Rattle.reading_stages.specs.TypedTrees.{typed_block_term, typed_sentence};
+ghost use Rattle.reading_stages.specs.TypesStage as stage;
+ghost use Rattle.reading_stages.specs.TypesStage.{type_noted, IsTyped};
+ghost use Rattle.reading_stages.specs.Typing.{all_settled};
+ghost use Rattle.reading_stages.specs.FileViews as named_view;
+ghost use Rattle.reading_stages.specs.FileViews.{kb_view};
+ghost use Rattle.reading_stages.specs.NamedViews.{formula_view, term_view};
 ghost use Rattle.type_derivation.specs.Failures.{FailsWith};
 ghost use Rattle.type_derivation.specs.ListedTrees.{types_among};
 ghost use Rattle.type_derivation.specs.PartViews.{parts_view};
@@ -24,9 +24,9 @@ use crate::noting::note_parts;
 use crate::remaining::Remaining;
 use crate::typed::{Named, Places, TypedKb};
 use crate::{listing, trees};
-use fo_reader::KbError;
+use fo_syntax::KbError;
 use kb_logic::{Formula, ListOf, Memory, Term, Theory, TypeDecl, Vocabulary};
-use kb_names::{Earliest, NamedFormula, NamedKb, NamedTerm, NamedTermBlock, NamedTheory};
+use reading_stages::{Earliest, NamedFormula, NamedKb, NamedTerm, NamedTermBlock, NamedTheory};
 use sqlite_items::Items;
 use std::alloc::Global;
 
@@ -183,7 +183,6 @@ fn first_words(alloc: Global, theories: &[NamedTheory]) -> Result<Items<usize>, 
 }
 
 fn derived(alloc: Global, named: NamedKb, earliest: &mut Earliest) -> Result<TypedKb, Memory>
-    requires acyclic { HasNoCycle (type_parents named.vocab.types) }
     ensures tree { IfOk result (λ kb. typed_view kb ≡ typed_file (kb_view named)) }
     ensures noted { OnOk result (earliest.new.first ≡ fold (type_noted named.vocab.types) earliest.old.first (stage.type_uses_of_file (kb_view named))) }
 {
@@ -227,7 +226,6 @@ fn derived(alloc: Global, named: NamedKb, earliest: &mut Earliest) -> Result<Typ
 
 /// The file with the types of its variables, or the earliest refusal of the types in it.
 pub fn derive(alloc: Global, named: NamedKb) -> Result<TypedKb, KbError>
-    requires acyclic { HasNoCycle (type_parents named.vocab.types) }
     ensures ok { IfOk result (λ kb. IsTyped (kb_view named) (typed_view kb)) }
     ensures err { IfErr result (FailsWith (kb_view named)) }
 {

@@ -1,8 +1,8 @@
 //! The types of variables by their places, and by the other sides of comparisons.
 ghost use Rattle.std.specs.Prelude.{◌≡◌, ◌+◌, ◌++◌, drop, length, map, replicate, take, IfOk, OnOk};
-ghost use Rattle.fo_reader.specs.Below.{HasNoCycle, type_parents};
-ghost use Rattle.fo_reader.specs.Demands as said;
-ghost use Rattle.fo_reader.specs.Typing as typing;
+ghost use Rattle.reading_stages.specs.Below.{HasNoCycle, type_parents};
+ghost use Rattle.reading_stages.specs.Demands as said;
+ghost use Rattle.reading_stages.specs.Typing as typing;
 ghost use Rattle.type_derivation.specs.Gathering.{after, gathered_at, gathered_in, given, part_by, parts_by, settled_from};
 ghost use Rattle.type_derivation.specs.PartViews.{binding_view, demand_view, finding_view, kind_view, part_view, parts_view};
 

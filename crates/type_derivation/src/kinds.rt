@@ -1,13 +1,13 @@
 //! Where the types of terms come from.
 ghost use Rattle.std.specs.Prelude.{◌≡◌, ◌++◌, ◌∷◌, [], map, slice_get, OnOk};
-ghost use Rattle.fo_reader.specs.Demands as said;
-ghost use Rattle.kb_names.specs.NamedViews.{term_view, signed_view};
-ghost use Rattle.fo_reader.specs.NamedTrees.{summands_of, place_of};
+ghost use Rattle.reading_stages.specs.Demands as said;
+ghost use Rattle.reading_stages.specs.NamedViews.{term_view, signed_view};
+ghost use Rattle.reading_stages.specs.NamedTrees.{summands_of, place_of};
 ghost use Rattle.type_derivation.specs.PartViews.{kind_view, demand_view, part_view, type_view};
 
 use crate::demands::{Demand, Kind, Part, TermType};
 use kb_logic::{Cmp, Memory, Symbol};
-use kb_names::{NamedNode, NamedSigned, NamedTerm};
+use reading_stages::{NamedNode, NamedSigned, NamedTerm};
 
 fn value_type(symbols: &[Symbol], function: u32) -> TermType
     ensures { type_view result ≡ said.known (said.value_type (slice_get symbols.now function)) }

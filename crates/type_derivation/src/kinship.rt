@@ -1,7 +1,7 @@
 //! Which type is below which, and which belong together.
 ghost use Rattle.std.specs.Prelude.{◌≡◌, slice_get};
-ghost use Rattle.fo_reader.specs.Below.{type_parents};
-ghost use Rattle.fo_reader.specs.Kinship as kin;
+ghost use Rattle.reading_stages.specs.Below.{type_parents};
+ghost use Rattle.reading_stages.specs.Kinship as kin;
 ghost use Rattle.type_derivation.specs.Above.{above};
 
 use kb_logic::{Parent, TypeDecl};

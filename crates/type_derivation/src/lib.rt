@@ -12,8 +12,6 @@ mod laws;
 mod listing;
 mod noting;
 mod remaining;
-#[cfg(test)]
-mod stage_tests;
 mod trees;
 mod typed;
 

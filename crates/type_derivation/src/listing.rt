@@ -1,14 +1,14 @@
 //! What a formula demands of the types of its terms.
 ghost use Rattle.std.specs.Prelude.{◌≡◌, ◌++◌, ◌∷◌, [], map, OnOk, IfOk};
-ghost use Rattle.fo_reader.specs.Demands as said;
-ghost use Rattle.fo_reader.specs.NamedTrees as tree;
-ghost use Rattle.kb_names.specs.NamedViews.{formula_view, node_view, signed_view, term_view, var_view};
+ghost use Rattle.reading_stages.specs.Demands as said;
+ghost use Rattle.reading_stages.specs.NamedTrees as tree;
+ghost use Rattle.reading_stages.specs.NamedViews.{formula_view, node_view, signed_view, term_view, var_view};
 ghost use Rattle.type_derivation.specs.PartViews.{binding_view, part_view};
 
 use crate::demands::{Binding, Finding, Part};
 use crate::kinds::{argument_types, demand_comparison, demand_number, demand_position};
 use kb_logic::{Memory, Symbol};
-use kb_names::{NamedFormula, NamedNode, NamedSigned, NamedTerm, NamedVar};
+use reading_stages::{NamedFormula, NamedNode, NamedSigned, NamedTerm, NamedVar};
 use std::alloc::Global;
 
 fn binding(var: &NamedVar) -> Binding

@@ -1,9 +1,9 @@
 //! The refusals of the stage of types, where all is found that is found of variables' types.
 ghost use Rattle.std.specs.Prelude.{◌≡◌, ◌++◌, fold, map, OnOk};
-ghost use Rattle.fo_reader.specs.TypedTrees.{chosen};
-ghost use Rattle.fo_reader.specs.TypesStage as stage;
-ghost use Rattle.fo_reader.specs.TypesStage.{type_noted};
-ghost use Rattle.fo_reader.specs.Typing as typing;
+ghost use Rattle.reading_stages.specs.TypedTrees.{chosen};
+ghost use Rattle.reading_stages.specs.TypesStage as stage;
+ghost use Rattle.reading_stages.specs.TypesStage.{type_noted};
+ghost use Rattle.reading_stages.specs.Typing as typing;
 ghost use Rattle.type_derivation.specs.ListedTrees.{types_among, types_at};
 ghost use Rattle.type_derivation.specs.PartViews.{binding_view, demand_view, finding_view, part_view, parts_view, type_view};
 
@@ -11,8 +11,8 @@ use crate::demands::{Binding, Demand, Finding, Part, TermType};
 use crate::findings::{type_found, type_in};
 use crate::kinship::{are_akin, is_number_type, is_under};
 use kb_logic::{Memory, TypeDecl};
-use kb_names::Earliest;
 use kb_text::K;
+use reading_stages::Earliest;
 
 fn is_no_number(types: &[TypeDecl], ty: TermType) -> bool
     ensures { result ≡ stage.is_no_number types.now (type_view ty) }

@@ -2,15 +2,15 @@
 ghost use Rattle.std.specs.Prelude.{◌≡◌, ◌++◌, pos, map, IfOk, OnOk};
 ghost use Rattle.kb_logic.specs.Trees as tree;
 ghost use Rattle.kb_logic.specs.Views as view;
-ghost use Rattle.fo_reader.specs.NamedTrees as named_tree;
-ghost use Rattle.fo_reader.specs.TermPlaces.{each_begins, formulas_begin, summands_begin, term_begins, terms_begin};
-ghost use Rattle.fo_reader.specs.TypedTrees as typed;
-ghost use Rattle.kb_names.specs.NamedViews.{formula_view, signed_view, term_view, var_view};
+ghost use Rattle.reading_stages.specs.NamedTrees as named_tree;
+ghost use Rattle.reading_stages.specs.TermPlaces.{each_begins, formulas_begin, summands_begin, term_begins, terms_begin};
+ghost use Rattle.reading_stages.specs.TypedTrees as typed;
+ghost use Rattle.reading_stages.specs.NamedViews.{formula_view, signed_view, term_view, var_view};
 ghost use Rattle.type_derivation.specs.ListedTrees as listed;
 
 use crate::remaining::Remaining;
 use kb_logic::{Bound, Formula, Memory, Signed, Term};
-use kb_names::{NamedFormula, NamedNode, NamedSigned, NamedTerm, NamedVar};
+use reading_stages::{NamedFormula, NamedNode, NamedSigned, NamedTerm, NamedVar};
 use std::alloc::Global;
 
 /// An integer of the language, which has 64 bits with its sign.
@@ -51,7 +51,7 @@ fn bound_vars(alloc: Global, types: &mut Remaining, vars: &[NamedVar]) -> Result
     Ok(bounds)
 }
 
-/// A formula whose variables take their types from the front of the list. The places of its terms are added.
+/// A formula whose variables take their types from the start of the list. The places of its terms are added.
 #[cycle(trees)]
 pub fn formula(
     alloc: Global,
@@ -141,7 +141,7 @@ fn formulas(
     Ok(operands)
 }
 
-/// A term whose variables take their types from the front of the list. Its places are added.
+/// A term whose variables take their types from the start of the list. Its places are added.
 #[cycle(trees)]
 pub fn term(
     alloc: Global,

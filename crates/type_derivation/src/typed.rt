@@ -1,4 +1,6 @@
 //! A knowledge base whose variables have their types.
+ghost use Rattle.reading_stages.specs.Below.{HasNoCycle, type_parents};
+
 use kb_logic::{Name, Term, Theory, Vocabulary};
 use sqlite_items::Items;
 
@@ -20,11 +22,12 @@ pub struct Places {
     pub block_terms: Items<Items<usize>>,
 }
 
-/// A vocabulary, the theories and the term blocks of a file.
+/// A vocabulary, the theories and the term blocks of a file. No type of it comes back to itself by `isa`.
 #[derive(Drop)]
 pub struct TypedKb {
     pub vocab: Vocabulary,
     pub theories: Items<Named<Theory>>,
     pub terms: Items<Named<Term>>,
     pub places: Places,
+    ghost acyclic: { HasNoCycle (type_parents vocab.types) },
 }

@@ -1,5 +1,5 @@
-use Rattle.fo_reader.proofs.BlockFormats.{declaration_law}
-use Rattle.fo_reader.proofs.StructureFormats.{entry_law}
+use Rattle.block_reader.proofs.BlockFormats.{declaration_law}
+use Rattle.block_reader.proofs.StructureFormats.{entry_law}
 use Rattle.fo_reader.proofs.TheoryFormats.{block_law, theory_item_law, rule_law}
 use Rattle.fo_reader.proofs.block_laws.one_item.Goals as goal
 

@@ -1,9 +1,9 @@
 use Rattle.std.proofs.Common.{◌≡◌, List, length}
-use Rattle.fo_reader.specs.Terminals.{toks}
-use Rattle.fo_reader.specs.BlockTrees.{Block}
-use Rattle.fo_reader.specs.BlockSpelling.{put_file}
-use Rattle.fo_reader.specs.BlockFine.{FineFile}
-use Rattle.fo_reader.specs.BlockView.{IsKb}
+use Rattle.fo_syntax.specs.Terminals.{toks}
+use Rattle.fo_syntax.specs.BlockTrees.{Block}
+use Rattle.fo_syntax.specs.BlockSpelling.{put_file}
+use Rattle.fo_syntax.specs.BlockFine.{FineFile}
+use Rattle.fo_syntax.specs.BlockView.{IsKb}
 use Rattle.fo_reader.proofs.file.file.Given as goal
 
 abbrev pub invariant-turns : goal.invariant-turns

@@ -1,6 +1,6 @@
 use Rattle.std.proofs.Common.{ap, sym, take, ◌∙◌}
-use Rattle.fo_reader.specs.Names.{place_of_name}
-use Rattle.kb_names.proofs.Climbs.{map-take}
+use Rattle.reading_stages.specs.Names.{place_of_name}
+use Rattle.reading_stages.proofs.Climbs.{map-take}
 use Rattle.kb_names.proofs.cycles.note_cycles.Goals as goal
 
 pub returns : goal.returns

@@ -1,4 +1,4 @@
-use Rattle.kb_names.proofs.Climbs.{climb_on}
+use Rattle.reading_stages.proofs.Climbs.{climb_on}
 use Rattle.kb_names.proofs.cycles.note_each.Goals as goal
 
 pub loop-ty-preserved : goal.loop-ty-preserved

@@ -1,6 +1,6 @@
-use Rattle.kb_names.specs.Meanings.{names_in}
-use Rattle.fo_reader.specs.NamesStage.{name_noted}
-use Rattle.kb_names.proofs.Declared.{next_made, next_made_noted}
+use Rattle.formula_names.specs.Meanings.{names_in}
+use Rattle.reading_stages.specs.NamesStage.{name_noted}
+use Rattle.formula_names.proofs.Declared.{next_made, next_made_noted}
 use Rattle.kb_names.proofs.declarations.declare_more.Goals as goal
 
 pub loop-i-preserved : goal.loop-i-preserved

@@ -1,9 +1,9 @@
 use Rattle.std.proofs.Common.{◌≡◌, ◌+◌, drop, fold, map}
-use Rattle.fo_reader.specs.FileView.{element_name}
-use Rattle.fo_reader.specs.Names.{Names, made_names, with_names}
-use Rattle.fo_reader.specs.NamesStage.{name_noted}
-use Rattle.fo_reader.specs.Uses.{declared_uses}
-use Rattle.kb_names.specs.Meanings.{names_in}
+use Rattle.reading_stages.specs.FileView.{element_name}
+use Rattle.reading_stages.specs.Names.{Names, made_names, with_names}
+use Rattle.reading_stages.specs.NamesStage.{name_noted}
+use Rattle.reading_stages.specs.Uses.{declared_uses}
+use Rattle.formula_names.specs.Meanings.{names_in}
 use Rattle.kb_names.proofs.declarations.declare_more.Given as goal
 
 abbrev pub invariant-loop-i : goal.invariant-loop-i

@@ -1,10 +1,10 @@
 use Rattle.std.proofs.Common.{map}
-use Rattle.fo_reader.specs.FileView.{element_name}
-use Rattle.fo_reader.specs.NamesStage.{name_noted}
-use Rattle.fo_reader.specs.View.{name_view}
-use Rattle.kb_names.specs.Meanings.{names_in}
-use Rattle.kb_names.proofs.ChainEnds.{on_ok_map}
-use Rattle.kb_names.proofs.Declared.{constructed_noted}
+use Rattle.reading_stages.specs.FileView.{element_name}
+use Rattle.reading_stages.specs.NamesStage.{name_noted}
+use Rattle.fo_syntax.specs.View.{name_view}
+use Rattle.formula_names.specs.Meanings.{names_in}
+use Rattle.formula_names.proofs.ChainEnds.{on_ok_map}
+use Rattle.formula_names.proofs.Declared.{constructed_noted}
 use Rattle.kb_names.proofs.declarations.declare_one.Goals as goal
 
 pub returns-in-Type-clause-noted : goal.returns-in-Type-clause-noted

@@ -1,9 +1,9 @@
 use Rattle.std.proofs.Common.{◌≡◌, ◌≤◌, drop, fold, map}
-use Rattle.fo_reader.specs.FileView.{declaration_in}
-use Rattle.fo_reader.specs.Names.{Names, declared_names, names_of, number_types, with_names}
-use Rattle.fo_reader.specs.NamesStage.{name_noted}
-use Rattle.fo_reader.specs.Uses.{declared_uses}
-use Rattle.kb_names.specs.Meanings.{names_in}
+use Rattle.reading_stages.specs.FileView.{declaration_in}
+use Rattle.reading_stages.specs.Names.{Names, declared_names, names_of, number_types, with_names}
+use Rattle.reading_stages.specs.NamesStage.{name_noted}
+use Rattle.reading_stages.specs.Uses.{declared_uses}
+use Rattle.formula_names.specs.Meanings.{names_in}
 use Rattle.kb_names.proofs.declarations.declared_table.Given as goal
 
 abbrev pub invariant-loop-raw : goal.invariant-loop-raw

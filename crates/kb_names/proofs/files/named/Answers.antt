@@ -1,12 +1,12 @@
 use Rattle.std.proofs.Common.{◌≡◌, ◌∙◌, List, ap, map, take}
 use Rattle.std.specs.List.{flat_map}
-use Rattle.fo_reader.specs.declared.raw_blocks.RawVocabulary.{RawVocabulary}
-use Rattle.fo_reader.specs.FileView.{declaration_in, term_in, theory_in, vocabulary_in}
-use Rattle.fo_reader.specs.Names.{declared_names, names_of, number_types}
-use Rattle.fo_reader.specs.NamesStage.{declarations_of, name_noted}
-use Rattle.fo_reader.specs.Uses.{climbing_uses, declared_uses, parents_in, type_names, uses_in_block, uses_in_declarations, uses_in_theory}
-use Rattle.kb_names.specs.Meanings.{names_in}
-use Rattle.kb_names.proofs.PerDeclaration.{file_noted}
+use Rattle.fo_syntax.specs.declared.raw_blocks.RawVocabulary.{RawVocabulary}
+use Rattle.reading_stages.specs.FileView.{declaration_in, term_in, theory_in, vocabulary_in}
+use Rattle.reading_stages.specs.Names.{declared_names, names_of, number_types}
+use Rattle.reading_stages.specs.NamesStage.{declarations_of, name_noted}
+use Rattle.reading_stages.specs.Uses.{climbing_uses, declared_uses, parents_in, type_names, uses_in_block, uses_in_declarations, uses_in_theory}
+use Rattle.formula_names.specs.Meanings.{names_in}
+use Rattle.formula_names.proofs.PerDeclaration.{file_noted}
 use Rattle.kb_names.proofs.files.named.Goals as goal
 
 pub returns-clause-noted : goal.returns-clause-noted

@@ -1,11 +1,11 @@
 use Rattle.std.proofs.Common.{◌≡◌, fold, map, take}
 use Rattle.std.specs.List.{flat_map}
-use Rattle.fo_reader.specs.FileView.{term_in}
-use Rattle.fo_reader.specs.NamesStage.{name_noted}
-use Rattle.fo_reader.specs.Numbering.{named_block}
-use Rattle.fo_reader.specs.Uses.{uses_in_block}
-use Rattle.kb_names.specs.FileViews.{block_view}
-use Rattle.kb_names.specs.Meanings.{names_in}
+use Rattle.reading_stages.specs.FileView.{term_in}
+use Rattle.reading_stages.specs.NamesStage.{name_noted}
+use Rattle.reading_stages.specs.Numbering.{named_block}
+use Rattle.reading_stages.specs.Uses.{uses_in_block}
+use Rattle.reading_stages.specs.FileViews.{block_view}
+use Rattle.formula_names.specs.Meanings.{names_in}
 use Rattle.kb_names.proofs.files.terms.Given as goal
 
 abbrev pub invariant-loop-raw : goal.invariant-loop-raw

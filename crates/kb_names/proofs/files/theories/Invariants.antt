@@ -1,11 +1,11 @@
 use Rattle.std.proofs.Common.{◌≡◌, fold, map, take}
 use Rattle.std.specs.List.{flat_map}
-use Rattle.fo_reader.specs.FileView.{theory_in}
-use Rattle.fo_reader.specs.NamesStage.{name_noted}
-use Rattle.fo_reader.specs.Numbering.{named_theory}
-use Rattle.fo_reader.specs.Uses.{uses_in_theory}
-use Rattle.kb_names.specs.FileViews.{theory_view}
-use Rattle.kb_names.specs.Meanings.{names_in}
+use Rattle.reading_stages.specs.FileView.{theory_in}
+use Rattle.reading_stages.specs.NamesStage.{name_noted}
+use Rattle.reading_stages.specs.Numbering.{named_theory}
+use Rattle.reading_stages.specs.Uses.{uses_in_theory}
+use Rattle.reading_stages.specs.FileViews.{theory_view}
+use Rattle.formula_names.specs.Meanings.{names_in}
 use Rattle.kb_names.proofs.files.theories.Given as goal
 
 abbrev pub invariant-loop-raw : goal.invariant-loop-raw

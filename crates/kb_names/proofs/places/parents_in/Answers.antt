@@ -1,6 +1,6 @@
-use Rattle.fo_reader.specs.Uses.{parents_in}
-use Rattle.kb_names.specs.Meanings.{names_in}
-use Rattle.kb_names.proofs.PerDeclaration.{parents_in-next, next_added}
+use Rattle.reading_stages.specs.Uses.{parents_in}
+use Rattle.formula_names.specs.Meanings.{names_in}
+use Rattle.formula_names.proofs.PerDeclaration.{parents_in-next, next_added}
 use Rattle.kb_names.proofs.places.parents_in.Goals as goal
 
 pub loop-raw-preserved : goal.loop-raw-preserved

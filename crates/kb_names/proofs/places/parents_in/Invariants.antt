@@ -1,7 +1,7 @@
 use Rattle.std.proofs.Common.{◌≡◌, ◌++◌, drop, map}
-use Rattle.fo_reader.specs.FileView.{declaration_in}
-use Rattle.fo_reader.specs.Uses.{parents_in}
-use Rattle.kb_names.specs.Meanings.{names_in}
+use Rattle.reading_stages.specs.FileView.{declaration_in}
+use Rattle.reading_stages.specs.Uses.{parents_in}
+use Rattle.formula_names.specs.Meanings.{names_in}
 use Rattle.kb_names.proofs.places.parents_in.Given as goal
 
 abbrev pub invariant-loop-raw : goal.invariant-loop-raw

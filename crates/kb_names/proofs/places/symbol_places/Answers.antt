@@ -1,5 +1,5 @@
-use Rattle.fo_reader.specs.Numbering.{symbol_places}
-use Rattle.kb_names.proofs.PerDeclaration.{symbol_places-next, next_added}
+use Rattle.reading_stages.specs.Numbering.{symbol_places}
+use Rattle.formula_names.proofs.PerDeclaration.{symbol_places-next, next_added}
 use Rattle.kb_names.proofs.places.symbol_places.Goals as goal
 
 pub loop-raw-preserved : goal.loop-raw-preserved

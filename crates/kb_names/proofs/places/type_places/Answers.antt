@@ -1,5 +1,5 @@
-use Rattle.fo_reader.specs.Numbering.{type_places}
-use Rattle.kb_names.proofs.PerDeclaration.{type_places-next, next_added}
+use Rattle.reading_stages.specs.Numbering.{type_places}
+use Rattle.formula_names.proofs.PerDeclaration.{type_places-next, next_added}
 use Rattle.kb_names.proofs.places.type_places.Goals as goal
 
 pub loop-raw-preserved : goal.loop-raw-preserved

@@ -1,4 +1,4 @@
-use Rattle.kb_names.specs.Meanings.{names_in}
+use Rattle.formula_names.specs.Meanings.{names_in}
 use Rattle.kb_names.proofs.theories.item.Goals as goal
 
 pub returns-in-Definition-clause-noted : goal.returns-in-Definition-clause-noted

@@ -1,11 +1,11 @@
 use Rattle.std.proofs.Common.{◌≡◌, take, fold, map}
 use Rattle.std.specs.List.{flat_map}
-use Rattle.fo_reader.specs.FileView.{part_in}
-use Rattle.fo_reader.specs.NamesStage.{name_noted}
-use Rattle.fo_reader.specs.Numbering.{sentences_in}
-use Rattle.fo_reader.specs.Uses.{uses_in_part}
-use Rattle.kb_names.specs.Meanings.{names_in}
-use Rattle.kb_names.specs.NamedViews.{formula_view}
+use Rattle.reading_stages.specs.FileView.{part_in}
+use Rattle.reading_stages.specs.NamesStage.{name_noted}
+use Rattle.reading_stages.specs.Numbering.{sentences_in}
+use Rattle.reading_stages.specs.Uses.{uses_in_part}
+use Rattle.formula_names.specs.Meanings.{names_in}
+use Rattle.reading_stages.specs.NamedViews.{formula_view}
 use Rattle.kb_names.proofs.theories.theory.Given as goal
 
 abbrev pub invariant-loop-raw : goal.invariant-loop-raw

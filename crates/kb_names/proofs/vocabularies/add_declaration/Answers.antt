@@ -1,5 +1,5 @@
-use Rattle.kb_names.specs.Meanings.{names_in}
-use Rattle.kb_names.proofs.ChainEnds.{on_ok_map}
+use Rattle.formula_names.specs.Meanings.{names_in}
+use Rattle.formula_names.proofs.ChainEnds.{on_ok_map}
 use Rattle.kb_names.proofs.vocabularies.add_declaration.Goals as goal
 
 pub returns-in-Constructed-clause-types : goal.returns-in-Constructed-clause-types

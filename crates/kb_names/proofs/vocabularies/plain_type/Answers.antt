@@ -1,12 +1,12 @@
 use Rattle.std.proofs.Common.{◌≡◌, ◌+◌, length}
 use Rattle.std.specs.Option.{option_map}
-use Rattle.fo_reader.specs.FileView.{isa_name}
-use Rattle.fo_reader.specs.NamesStage.{name_noted}
-use Rattle.fo_reader.specs.Uses.{counted, parent_uses}
-use Rattle.fo_reader.specs.View.{name_view}
-use Rattle.kb_names.specs.Meanings.{names_in}
-use Rattle.kb_names.proofs.ChainEnds.{always_on_ok}
-use Rattle.kb_names.proofs.PerDeclaration.{type_noted}
+use Rattle.reading_stages.specs.FileView.{isa_name}
+use Rattle.reading_stages.specs.NamesStage.{name_noted}
+use Rattle.reading_stages.specs.Uses.{counted, parent_uses}
+use Rattle.fo_syntax.specs.View.{name_view}
+use Rattle.formula_names.specs.Meanings.{names_in}
+use Rattle.formula_names.proofs.ChainEnds.{always_on_ok}
+use Rattle.formula_names.proofs.PerDeclaration.{type_noted}
 use Rattle.kb_names.proofs.vocabularies.plain_type.Goals as goal
 
 pub returns-clause-noted : goal.returns-clause-noted

@@ -1,12 +1,12 @@
 use Rattle.std.proofs.Common.{◌≡◌, ◌+◌, length, map}
 use Rattle.std.specs.Option.{option_map}
-use Rattle.fo_reader.specs.FileView.{argument_names, result_name}
-use Rattle.fo_reader.specs.NamesStage.{name_noted}
-use Rattle.fo_reader.specs.Uses.{counted, position, position_uses}
-use Rattle.fo_reader.specs.View.{name_view}
-use Rattle.kb_names.specs.Meanings.{names_in}
-use Rattle.kb_names.proofs.ChainEnds.{always_on_ok}
-use Rattle.kb_names.proofs.PerDeclaration.{symbol_noted}
+use Rattle.reading_stages.specs.FileView.{argument_names, result_name}
+use Rattle.reading_stages.specs.NamesStage.{name_noted}
+use Rattle.reading_stages.specs.Uses.{counted, position, position_uses}
+use Rattle.fo_syntax.specs.View.{name_view}
+use Rattle.formula_names.specs.Meanings.{names_in}
+use Rattle.formula_names.proofs.ChainEnds.{always_on_ok}
+use Rattle.formula_names.proofs.PerDeclaration.{symbol_noted}
 use Rattle.kb_names.proofs.vocabularies.symbol.Goals as goal
 
 pub returns-clause-noted : goal.returns-clause-noted

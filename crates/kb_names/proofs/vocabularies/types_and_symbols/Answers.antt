@@ -1,8 +1,8 @@
-use Rattle.fo_reader.specs.FileView.{declaration_in}
-use Rattle.fo_reader.specs.NamesStage.{name_noted}
-use Rattle.fo_reader.specs.Numbering.{types_in, symbols_in}
-use Rattle.kb_names.specs.Meanings.{names_in}
-use Rattle.kb_names.proofs.PerDeclaration.{types_in-next, symbols_in-next, next_added, more_types, more_symbols, next_noted}
+use Rattle.reading_stages.specs.FileView.{declaration_in}
+use Rattle.reading_stages.specs.NamesStage.{name_noted}
+use Rattle.reading_stages.specs.Numbering.{types_in, symbols_in}
+use Rattle.formula_names.specs.Meanings.{names_in}
+use Rattle.formula_names.proofs.PerDeclaration.{types_in-next, symbols_in-next, next_added, more_types, more_symbols, next_noted}
 use Rattle.kb_names.proofs.vocabularies.types_and_symbols.Goals as goal
 
 pub loop-raw-preserved : goal.loop-raw-preserved

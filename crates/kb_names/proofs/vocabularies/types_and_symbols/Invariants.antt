@@ -1,9 +1,9 @@
 use Rattle.std.proofs.Common.{◌≡◌, ◌++◌, drop, fold, length, map}
-use Rattle.fo_reader.specs.FileView.{declaration_in}
-use Rattle.fo_reader.specs.NamesStage.{name_noted}
-use Rattle.fo_reader.specs.Numbering.{types_in, symbols_in}
-use Rattle.fo_reader.specs.Uses.{uses_in_declarations}
-use Rattle.kb_names.specs.Meanings.{names_in}
+use Rattle.reading_stages.specs.FileView.{declaration_in}
+use Rattle.reading_stages.specs.NamesStage.{name_noted}
+use Rattle.reading_stages.specs.Numbering.{types_in, symbols_in}
+use Rattle.reading_stages.specs.Uses.{uses_in_declarations}
+use Rattle.formula_names.specs.Meanings.{names_in}
 use Rattle.kb_names.proofs.vocabularies.types_and_symbols.Given as goal
 
 abbrev pub invariant-loop-raw : goal.invariant-loop-raw

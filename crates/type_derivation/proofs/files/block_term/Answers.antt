@@ -1,8 +1,8 @@
 use Rattle.std.proofs.Common.{◌≡◌, ◌∙◌, sym, rules, IfOk}
 use Rattle.std.proofs.lemmas.Result.{IfOk-weaker}
 use Rattle.kb_logic.specs.Views as view
-use Rattle.fo_reader.specs.TypesStage.{block_settled}
-use Rattle.kb_names.specs.NamedViews.{term_view}
+use Rattle.reading_stages.specs.TypesStage.{block_settled}
+use Rattle.reading_stages.specs.NamedViews.{term_view}
 use Rattle.type_derivation.specs.ListedTrees.{types_among, listed_term}
 use Rattle.type_derivation.proofs.InOrder.{types_are_in_order}
 use Rattle.type_derivation.proofs.files.block_term.Goals as goal

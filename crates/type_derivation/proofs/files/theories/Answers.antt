@@ -1,12 +1,12 @@
 use Rattle.std.proofs.Common.{◌≡◌, ◌++◌, ◌∷◌, [], arith, map}
 use Rattle.std.specs.List.{flat_map}
 use Rattle.std.proofs.lemmas.Grind.{common_steps}
-use Rattle.fo_reader.specs.Numbering.{NamedTheoryTree}
-use Rattle.fo_reader.specs.TermPlaces.{terms_begin}
-use Rattle.fo_reader.specs.TypedFiles.{typed_theory}
-use Rattle.fo_reader.specs.TypesStage as stage
-use Rattle.fo_reader.specs.TypesStage.{type_noted}
-use Rattle.kb_names.specs.FileViews as named_view
+use Rattle.reading_stages.specs.Numbering.{NamedTheoryTree}
+use Rattle.reading_stages.specs.TermPlaces.{terms_begin}
+use Rattle.reading_stages.specs.TypedFiles.{typed_theory}
+use Rattle.reading_stages.specs.TypesStage as stage
+use Rattle.reading_stages.specs.TypesStage.{type_noted}
+use Rattle.reading_stages.specs.FileViews as named_view
 use Rattle.type_derivation.specs.TypedViews.{named_theory_view}
 use Rattle.type_derivation.proofs.Listed.{made_next, listed_next, noted_next}
 use Rattle.type_derivation.proofs.files.theories.Goals as goal

@@ -1,11 +1,11 @@
 use Rattle.std.proofs.Common.{◌≡◌, [], fold, map, take}
 use Rattle.std.specs.List.{flat_map}
 use Rattle.kb_logic.specs.Views as view
-use Rattle.fo_reader.specs.TermPlaces.{terms_begin}
-use Rattle.fo_reader.specs.TypedTrees.{typed_sentence}
-use Rattle.fo_reader.specs.TypesStage as stage
-use Rattle.fo_reader.specs.TypesStage.{type_noted}
-use Rattle.kb_names.specs.NamedViews.{formula_view}
+use Rattle.reading_stages.specs.TermPlaces.{terms_begin}
+use Rattle.reading_stages.specs.TypedTrees.{typed_sentence}
+use Rattle.reading_stages.specs.TypesStage as stage
+use Rattle.reading_stages.specs.TypesStage.{type_noted}
+use Rattle.reading_stages.specs.NamedViews.{formula_view}
 use Rattle.type_derivation.proofs.files.theory.Given as goal
 
 abbrev pub invariant-loop-item : goal.invariant-loop-item

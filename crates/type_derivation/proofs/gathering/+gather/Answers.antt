@@ -1,7 +1,7 @@
 use Rattle.std.proofs.Common.{◌≡◌, ◌∙◌, ◌+◌, arith, rules, ap, sym, length, map, drop, List, ℕ, Option}
 use Rattle.std.proofs.lemmas.Grind.{common_steps}
 use Rattle.std.proofs.lemmas.List.{length-map, drop-map}
-use Rattle.fo_reader.specs.Demands as said
+use Rattle.reading_stages.specs.Demands as said
 use Rattle.type_derivation.specs.Gathering.{gathered_in, gathered_at, part_by, after, settled_from}
 use Rattle.type_derivation.specs.PartViews.{binding_view, finding_view, part_view, parts_view}
 use Rattle.type_derivation.specs.declared.demands.Binding.{Binding}

@@ -1,6 +1,6 @@
 use Rattle.std.proofs.Common.{◌≡◌, ◌++◌, map, replicate, take}
-use Rattle.fo_reader.specs.Demands as said
-use Rattle.fo_reader.specs.Typing as typing
+use Rattle.reading_stages.specs.Demands as said
+use Rattle.reading_stages.specs.Typing as typing
 use Rattle.type_derivation.specs.PartViews.{binding_view, finding_view}
 use Rattle.type_derivation.proofs.gathering.enter.Given as goal
 

@@ -1,5 +1,5 @@
 use Rattle.std.proofs.Common.{ap, sym, ◌∙◌}
-use Rattle.fo_reader.specs.Typing.{side_given}
+use Rattle.reading_stages.specs.Typing.{side_given}
 use Rattle.type_derivation.specs.Gathering.{after}
 use Rattle.type_derivation.specs.PartViews.{kind_view}
 use Rattle.type_derivation.proofs.Seen.{after-nothing, after-append}

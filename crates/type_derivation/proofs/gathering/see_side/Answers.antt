@@ -1,5 +1,5 @@
 use Rattle.std.proofs.Common.{ap, sym, map}
-use Rattle.fo_reader.specs.Typing.{types_known}
+use Rattle.reading_stages.specs.Typing.{types_known}
 use Rattle.type_derivation.specs.PartViews.{finding_view, kind_view}
 use Rattle.type_derivation.proofs.Seen.{no_side}
 use Rattle.type_derivation.proofs.gathering.see_side.Goals as goal

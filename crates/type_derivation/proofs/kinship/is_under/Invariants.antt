@@ -1,6 +1,6 @@
 use Rattle.std.proofs.Common.{◌≡◌, ◌+◌, ℕ, length}
-use Rattle.fo_reader.specs.Below.{reaches, type_parents}
-use Rattle.fo_reader.specs.Kinship as kin
+use Rattle.reading_stages.specs.Below.{reaches, type_parents}
+use Rattle.reading_stages.specs.Kinship as kin
 use Rattle.type_derivation.proofs.kinship.is_under.Given as goal
 
 abbrev pub invariant-loop-step : goal.invariant-loop-step

@@ -1,7 +1,7 @@
 use Rattle.std.proofs.Common.{◌≡◌, ◌++◌, drop, map}
-use Rattle.fo_reader.specs.Demands.{formulas_parts, arguments_parts, factors_parts, summands_parts}
-use Rattle.fo_reader.specs.NamedTrees.{formulas_of, terms_of, summands_of}
-use Rattle.kb_names.specs.NamedViews.{formula_view, term_view, signed_view}
+use Rattle.reading_stages.specs.Demands.{formulas_parts, arguments_parts, factors_parts, summands_parts}
+use Rattle.reading_stages.specs.NamedTrees.{formulas_of, terms_of, summands_of}
+use Rattle.reading_stages.specs.NamedViews.{formula_view, term_view, signed_view}
 use Rattle.type_derivation.specs.PartViews.{part_view}
 use Rattle.type_derivation.proofs.listing.+list.Given as goal
 

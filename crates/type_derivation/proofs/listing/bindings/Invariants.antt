@@ -1,6 +1,6 @@
 use Rattle.std.proofs.Common.{◌≡◌, map, take}
-use Rattle.fo_reader.specs.Demands.{binding_of}
-use Rattle.kb_names.specs.NamedViews.{var_view}
+use Rattle.reading_stages.specs.Demands.{binding_of}
+use Rattle.reading_stages.specs.NamedViews.{var_view}
 use Rattle.type_derivation.specs.PartViews.{binding_view}
 use Rattle.type_derivation.proofs.listing.bindings.Given as goal
 

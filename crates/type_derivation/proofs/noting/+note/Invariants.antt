@@ -1,6 +1,6 @@
 use Rattle.std.proofs.Common.{◌≡◌, ◌++◌, drop, fold}
-use Rattle.fo_reader.specs.TypesStage as stage
-use Rattle.fo_reader.specs.TypesStage.{type_noted}
+use Rattle.reading_stages.specs.TypesStage as stage
+use Rattle.reading_stages.specs.TypesStage.{type_noted}
 use Rattle.type_derivation.specs.ListedTrees.{types_among}
 use Rattle.type_derivation.specs.PartViews.{parts_view}
 use Rattle.type_derivation.proofs.noting.+note.Given as goal

@@ -1,8 +1,8 @@
 use Rattle.std.proofs.Common.{◌≡◌, ◌++◌, fold, map, take}
-use Rattle.fo_reader.specs.TypedTrees.{chosen}
-use Rattle.fo_reader.specs.TypesStage as stage
-use Rattle.fo_reader.specs.TypesStage.{type_noted}
-use Rattle.fo_reader.specs.Typing as typing
+use Rattle.reading_stages.specs.TypedTrees.{chosen}
+use Rattle.reading_stages.specs.TypesStage as stage
+use Rattle.reading_stages.specs.TypesStage.{type_noted}
+use Rattle.reading_stages.specs.Typing as typing
 use Rattle.type_derivation.specs.PartViews.{binding_view}
 use Rattle.type_derivation.proofs.noting.enter.Given as goal
 

@@ -1,9 +1,9 @@
 use Rattle.std.proofs.Common.{◌≡◌, ◌∙◌, ◌++◌, ◌∷◌, [], ◌+◌, arith, rules, ap, map, drop, Bool}
 use Rattle.std.proofs.lemmas.Grind.{common_steps}
 use Rattle.kb_logic.specs.Views as view
-use Rattle.fo_reader.specs.NamedTrees as named_tree
-use Rattle.kb_names.specs.NamedViews.{formula_view, signed_view, term_view}
-use Rattle.kb_names.specs.declared.named.NamedFormula.{the_lemmas}
+use Rattle.reading_stages.specs.NamedTrees as named_tree
+use Rattle.reading_stages.specs.NamedViews.{formula_view, signed_view, term_view}
+use Rattle.reading_stages.specs.declared.named.NamedFormula.{the_lemmas}
 use Rattle.type_derivation.proofs.TreeSteps.{next_item, no_item, formulas_next, formulas_left, formulas_begun, formulas_done, terms_next, terms_left, terms_begun, terms_done, summands_next, summands_left, summands_begun, summands_done}
 use Rattle.type_derivation.proofs.trees.+trees.Goals as goal
 

@@ -1,0 +1,7 @@
+//! The stage of blocks: which theory and which structure of a file are used.
+#![tactic(auto)]
+
+mod blocks;
+mod picking;
+
+pub use picking::{Picked, pick};

@@ -1,0 +1,7 @@
+pub mod Formats
+pub mod Plain
+pub mod BlockReadings
+pub mod InVocabulary
+pub mod InStructure
+pub mod BlockFormats
+pub mod StructureFormats

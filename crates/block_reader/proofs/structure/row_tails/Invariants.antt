@@ -1,0 +1,18 @@
+use Rattle.std.proofs.Common.{◌≡◌, ◌≤◌, length, map}
+use Rattle.fo_syntax.specs.declared.terminal.Terminal.TheVariants as t
+use Rattle.fo_syntax.specs.declared.terminal.Outer.TheVariants as o
+use Rattle.fo_syntax.specs.Terminals.{toks}
+use Rattle.fo_syntax.specs.BlockSpelling.{put_each, put_behind, put_row}
+use Rattle.fo_syntax.specs.BlockView.{row_tail_view}
+use Rattle.block_reader.specs.BlockParts.{next, EndsRow}
+use Rattle.block_reader.proofs.structure.row_tails.Given as goal
+
+abbrev pub invariant-loop-place : goal.invariant-loop-place
+invariant-loop-place l = record {
+  shorter : length l.rest ≤ length l.items;
+  so_far : toks l.items ≡ put_each (put_behind (t.Outer o.Semicolon) put_row) (map row_tail_view l.more) (toks l.rest);
+  may : EndsRow (next (toks l.rest));
+}
+
+abbrev pub decreases-loop-place : goal.decreases-loop-place
+decreases-loop-place l = length l.rest

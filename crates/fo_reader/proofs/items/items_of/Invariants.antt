@@ -1,8 +1,0 @@
-use Rattle.std.proofs.Common.{◌≡◌, map, take}
-use Rattle.kb_text.specs.Tokens.{lexemes}
-use Rattle.fo_reader.specs.Terminals.{toks}
-use Rattle.fo_reader.specs.Items.{tok_of}
-use Rattle.fo_reader.proofs.items.items_of.Given as goal
-
-abbrev pub invariant-loop-token : goal.invariant-loop-token
-invariant-loop-token l = toks l.found.items ≡ map tok_of (lexemes (take l.token-index l.tokens))

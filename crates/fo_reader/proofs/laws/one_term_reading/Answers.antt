@@ -1,9 +1,0 @@
-use Rattle.std.proofs.Common.{[]}
-use Rattle.fo_reader.specs.Spelling.{put_term}
-use Rattle.fo_reader.specs.Fine.{FineTerm}
-use Rattle.fo_reader.proofs.Only.{only_term}
-use Rattle.fo_reader.proofs.OneReading.{one_reading}
-use Rattle.fo_reader.proofs.laws.one_term_reading.Goals as goal
-
-pub returns : goal.returns
-returns c = λ src r s h k. one_reading put_term FineTerm (λ x y h k e. (only_term x y [] [] h k tt tt e).0) src r s h k

@@ -1,9 +1,0 @@
-use Rattle.std.proofs.lemmas.Result.{err_from_is_err_and}
-use Rattle.fo_reader.specs.Terminals.{toks}
-use Rattle.fo_reader.proofs.InStructure.{no_element}
-use Rattle.fo_reader.proofs.structure.element.Goals as goal
-
-pub returns-in_err-found-clause-reads : goal.returns-in_err-found-clause-reads
-returns-in_err-found-clause-reads c =
-    let p = err_from_is_err_and c.from_residual.result c.from_residual.ensures.1 in
-    rw (p.1, p.2) (no_element (toks c.args.items.now) c.args.end c.in_err-found.field-0.0 c.in_default.ensures.none c.in_default-integer.ensures.none c.in_err-found.ensures.reads)

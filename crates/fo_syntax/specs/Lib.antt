@@ -1,0 +1,13 @@
+pub mod Terminals
+pub mod Trees
+pub mod Spelling
+pub mod Fine
+pub mod Texts
+pub mod View
+pub mod Items
+pub mod Whole
+pub mod BlockTrees
+pub mod BlockSpelling
+pub mod BlockFine
+pub mod BlockView
+pub mod FileReads

@@ -1,0 +1,39 @@
+ghost use Rattle.std.specs.Prelude.{◌≡◌};
+ghost use Rattle.fo_syntax.specs.Whole.{refusal_of};
+ghost use Rattle.fo_syntax.specs.declared.error.KbError.TheVariants.{Memory};
+
+use crate::stops::ReadError;
+use kb_text::{K, KbFault};
+use std::alloc::AllocError;
+use thiserror::Error;
+
+/// Why a knowledge base was not read.
+#[derive(Clone, Copy, Debug, Error)]
+pub enum KbError {
+    #[error("the knowledge base is refused")]
+    Refused(KbFault),
+    #[error("out of memory")]
+    Memory,
+}
+
+impl From<ReadError> for KbError {
+    ghost from_gives = { λ e k. k ≡ refusal_of e };
+
+    fn from(e: ReadError) -> KbError {
+        match e {
+            ReadError::Memory => KbError::Memory,
+            ReadError::Stuck(place) => KbError::Refused(KbFault {
+                cause: K::Syntax,
+                place,
+            }),
+        }
+    }
+}
+
+impl From<AllocError> for KbError {
+    ghost from_gives = { λ _ e. e ≡ Memory };
+
+    fn from(_e: AllocError) -> KbError {
+        KbError::Memory
+    }
+}

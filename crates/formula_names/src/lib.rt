@@ -1,0 +1,12 @@
+//! Names of formulas and terms as numbers.
+#![tactic(auto)]
+
+mod arrows;
+mod binders;
+pub mod formulas;
+mod nodes;
+pub mod positions;
+pub mod scopes;
+pub mod tables;
+pub mod uses;
+mod words;

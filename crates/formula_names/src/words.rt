@@ -1,0 +1,153 @@
+//! What single tokens and nodes become.
+ghost use Rattle.std.specs.Prelude.{◌≡◌, IfOk, fold, map};
+ghost use Rattle.reading_stages.specs.NamesStage.{name_noted};
+ghost use Rattle.reading_stages.specs.NamedTrees.{aggregate, at, terms_of};
+ghost use Rattle.reading_stages.specs.Names.{Names};
+ghost use Rattle.reading_stages.specs.Numbering as numbers;
+ghost use Rattle.reading_stages.specs.Uses as use_of;
+ghost use Rattle.fo_syntax.specs.View as raw;
+ghost use Rattle.formula_names.specs.Meanings.{meaning_view};
+ghost use Rattle.reading_stages.specs.NamedViews.{formula_view, node_view, term_view, var_view};
+
+use crate::tables::Meaning;
+use crate::uses::within_count;
+use fo_syntax::{Aggregation, Comparison, RawApp, RawName, RawNumber, RawTerms};
+use kb_logic::{AggKind, Cmp, Memory};
+use kb_text::K;
+use reading_stages::{Earliest, NamedFormula, NamedNode, NamedTerm, NamedVar};
+use sqlite_items::Items;
+use std::alloc::Global;
+
+/// The word of an application.
+pub fn app_name(app: &RawApp) -> &RawName
+    ensures { raw.name_view result.now ≡ use_of.app_name (raw.app_view app.now) }
+{
+    match app {
+        RawApp::Constant(name) => name,
+        RawApp::Empty(name, _, _) => name,
+        RawApp::Apply(name, _, _, _) => name,
+    }
+}
+
+fn terms_count(terms: &RawTerms) -> usize
+    ensures { result ≡ use_of.terms_count (raw.terms_view terms.now) }
+{
+    terms.more.as_slice().len() + 1
+}
+
+/// How many arguments follow the word.
+pub fn app_count(app: &RawApp) -> usize
+    ensures { result ≡ use_of.app_count (raw.app_view app.now) }
+{
+    match app {
+        RawApp::Constant(_) => 0,
+        RawApp::Empty(_, _, _) => 0,
+        RawApp::Apply(_, _, terms, _) => terms_count(terms.get()),
+    }
+}
+
+/// A word as a term, with these arguments.
+pub fn application(meaning: Meaning, args: Vec<NamedTerm>) -> NamedNode
+    ensures { node_view result ≡ numbers.node_of (meaning_view meaning) (terms_of (map term_view args.items)) }
+{
+    match meaning {
+        Meaning::Variable(level) => NamedNode::Var(level),
+        Meaning::Made(ty, place) => {
+            NamedNode::Made(within_count(256, ty), within_count(65536, place))
+        }
+        Meaning::Function(number, _) => NamedNode::Apply(within_count(1024, number), args),
+        Meaning::Undeclared => NamedNode::Apply(0, args),
+        Meaning::Integers => NamedNode::Apply(0, args),
+        Meaning::Naturals => NamedNode::Apply(0, args),
+        Meaning::TypeName(_) => NamedNode::Apply(0, args),
+        Meaning::Predicate(_, _) => NamedNode::Apply(0, args),
+    }
+}
+
+pub fn comparison_of(sign: Comparison) -> Cmp
+    ensures { result ≡ numbers.comparison_of sign }
+{
+    match sign {
+        Comparison::Equal => Cmp::Eq,
+        Comparison::NotEqual => Cmp::Ne,
+        Comparison::Less => Cmp::Lt,
+        Comparison::Greater => Cmp::Gt,
+        Comparison::AtMost => Cmp::Le,
+        Comparison::AtLeast => Cmp::Ge,
+    }
+}
+
+pub fn kind_of(how: Aggregation) -> AggKind
+    ensures { result ≡ numbers.kind_of how }
+{
+    match how {
+        Aggregation::Sum => AggKind::Sum,
+        Aggregation::Min => AggKind::Min,
+        Aggregation::Max => AggKind::Max,
+    }
+}
+
+/// Aggregates are not read yet.
+pub fn note_aggregate(place: usize, earliest: &mut Earliest)
+    ensures { (names : Names) → earliest.new.first ≡ name_noted names earliest.old.first (use_of.an_aggregate place) }
+{
+    earliest.note(K::Unsupported, place);
+}
+
+/// Number quantifiers are not read yet.
+fn note_number_quantifier(place: usize, earliest: &mut Earliest)
+    ensures { (names : Names) → earliest.new.first ≡ name_noted names earliest.old.first (use_of.a_number_quantifier place) }
+{
+    earliest.note(K::Unsupported, place);
+}
+
+/// Notes what is refused of a quantifier with this number.
+pub fn note_number(number: &RawNumber, place: usize, earliest: &mut Earliest)
+    ensures { (names : Names) → earliest.new.first ≡ fold (name_noted names) earliest.old.first (use_of.number_uses place (raw.number_view number.now)) }
+{
+    match number {
+        RawNumber::Any => {}
+        RawNumber::Exactly(_) => note_number_quantifier(place, earliest),
+        RawNumber::Compared(_, _, _) => note_number_quantifier(place, earliest),
+    }
+}
+
+/// `?` with this number of instances.
+pub fn quantified(
+    alloc: Global,
+    number: &RawNumber,
+    vars: Items<NamedVar>,
+    inner: NamedFormula,
+) -> Result<NamedFormula, Memory>
+    ensures { IfOk result (λ f. formula_view f ≡ numbers.counted_by (raw.number_view number.now) (map var_view vars) (formula_view inner)) }
+{
+    let inner = Box::new(alloc, inner)?;
+    match number {
+        RawNumber::Any => Ok(NamedFormula::Any(vars, inner)),
+        RawNumber::Exactly(count) => Ok(NamedFormula::Number(Cmp::Eq, count.value, vars, inner)),
+        RawNumber::Compared(sign, _, count) => Ok(NamedFormula::Number(
+            comparison_of(*sign),
+            count.value,
+            vars,
+            inner,
+        )),
+    }
+}
+
+/// An aggregate over these variables.
+pub fn aggregated(
+    alloc: Global,
+    place: usize,
+    kind: AggKind,
+    vars: Items<NamedVar>,
+    condition: NamedFormula,
+    weight: NamedTerm,
+) -> Result<NamedTerm, Memory>
+    ensures { IfOk result (λ t. term_view t ≡ at place (aggregate kind (map var_view vars) (formula_view condition) (term_view weight))) }
+{
+    let condition = Box::new(alloc, condition)?;
+    Ok(NamedTerm {
+        place,
+        node: NamedNode::Agg(kind, vars, condition, Box::new(alloc, weight)?),
+    })
+}

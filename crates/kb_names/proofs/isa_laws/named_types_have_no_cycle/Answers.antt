@@ -1,5 +1,0 @@
-use Rattle.kb_names.proofs.NamedTypes.{named_without_cycles}
-use Rattle.kb_names.proofs.isa_laws.named_types_have_no_cycle.Goals as goal
-
-pub returns : goal.returns
-returns c = named_without_cycles

@@ -1,6 +1,0 @@
-use Rattle.std.proofs.Common.{◌∙◌}
-use Rattle.kb_names.proofs.Listed.{is_listed}
-use Rattle.kb_names.proofs.tables.is_declared.Goals as goal
-
-pub returns : goal.returns
-returns c = c.contains_key.ensures ∙ is_listed c.args.table.now.meanings.entries c.args.word.now

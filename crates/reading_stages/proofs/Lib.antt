@@ -1,0 +1,10 @@
+pub mod EarliestLaws
+pub mod Headers
+pub mod BlockRows
+pub mod Forest
+pub mod Ranks
+pub mod Climbs
+pub mod NamedTypes
+pub mod Groups
+pub mod Rows
+pub mod OneFile

@@ -1,0 +1,79 @@
+-- Worked examples of the stage of names.
+use Rattle.std.specs.Prelude.{◌≡◌, ℕ, true, false, List, [], ◌∷◌, None, Some, codes}
+use Rattle.kb_logic.specs.declared.vocabularies.Parent.TheVariants as parent
+use Rattle.fo_syntax.specs.declared.terminal.Arrow.TheVariants as arrow
+use Rattle.fo_syntax.specs.Trees as raw
+use Rattle.fo_syntax.specs.Trees.{Name, name}
+use Rattle.reading_stages.specs.Files.{Declaration, type_under, constructed_type, symbol}
+use Rattle.reading_stages.specs.Names.{Names, names_of, meaning_of, a_type}
+use Rattle.reading_stages.specs.NamedTrees as tree
+use Rattle.reading_stages.specs.NamesStage.{is_unknown, is_redeclared, is_wrong, is_unsupported, is_too_many, begins_cycle}
+use Rattle.reading_stages.specs.Numbering.{grouped, named_factor, named_product, parent_named}
+use Rattle.reading_stages.specs.Scopes.{last_position}
+use Rattle.reading_stages.specs.Uses.{declares, counted, climbs, bound, formula_word, term_word, position, an_aggregate}
+use Rattle.reading_stages.specs.Uses as use_of
+
+abbrev pub word : List ℕ → Name
+word text = name text 7
+
+-- type A isa int  P(A)  f(A): A  p  type C constructed from {Red}
+abbrev pub some_declarations : List Declaration
+some_declarations =
+    type_under (word (codes "A")) (Some (word (codes "int")))
+    ∷ symbol (word (codes "P")) (word (codes "A") ∷ []) None
+    ∷ symbol (word (codes "f")) (word (codes "A") ∷ []) (Some (word (codes "A")))
+    ∷ symbol (word (codes "p")) [] None
+    ∷ constructed_type (word (codes "C")) (word (codes "Red") ∷ [])
+    ∷ []
+
+abbrev pub some_names : Names
+some_names = names_of some_declarations
+
+-- one formula for each name
+abbrev pub formula_number : ℕ → tree.NamedFormula
+formula_number n = tree.atom n tree.no_terms
+
+pub record NamesAreWorkedOut : Type 0 where
+  -- a bound variable is no formula, even where a proposition has its name
+  pub variable_as_formula : is_wrong some_names (formula_word (codes "p" ∷ []) (word (codes "p")) 0) ≡ true
+  -- with arguments a variable's name is sought among the declarations alone
+  pub variable_with_arguments : is_unknown some_names (formula_word (codes "x" ∷ []) (word (codes "x")) 1) ≡ true
+  pub element_as_formula : is_wrong some_names (formula_word [] (word (codes "Red")) 0) ≡ true
+  pub function_as_formula : is_wrong some_names (formula_word [] (word (codes "f")) 1) ≡ true
+  pub predicate_with_other_count : is_wrong some_names (formula_word [] (word (codes "P")) 2) ≡ true
+  pub predicate_as_formula : is_wrong some_names (formula_word [] (word (codes "P")) 1) ≡ false
+  pub element_with_arguments : is_wrong some_names (term_word [] (word (codes "Red")) 1) ≡ true
+  pub type_as_term : is_unsupported some_names (term_word [] (word (codes "A")) 0) ≡ true
+  pub number_type_as_formula : is_unsupported some_names (formula_word [] (word (codes "nat")) 0) ≡ true
+  pub number_type_of_argument : is_unsupported some_names (position (word (codes "int"))) ≡ true
+  pub predicate_as_type : is_wrong some_names (position (word (codes "P"))) ≡ true
+  pub predicate_as_parent : is_wrong some_names (use_of.parent (word (codes "P"))) ≡ true
+  pub number_type_as_parent : parent_named some_names (Some (word (codes "int"))) ≡ parent.Int
+  pub unknown_type : is_unknown some_names (position (word (codes "D"))) ≡ true
+  pub aggregates_later : is_unsupported some_names (an_aggregate 7) ≡ true
+  -- `int` is taken, and elements' names are names as others
+  pub taken : is_redeclared (declares some_names (word (codes "int"))) ≡ true
+  pub element_declared_again : is_redeclared (declares some_names (word (codes "Red"))) ≡ true
+  pub variable_bound_twice : is_redeclared (bound (codes "x" ∷ []) (word (codes "x"))) ≡ true
+  -- a name that is declared twice means its first declaration
+  pub first_declaration : meaning_of (names_of (type_under (word (codes "A")) None ∷ symbol (word (codes "A")) [] None ∷ [])) (codes "A") ≡ a_type 0
+  pub types_up_to_256 : is_too_many (counted 256 256 (word (codes "A"))) ≡ false
+  pub types_past_256 : is_too_many (counted 256 257 (word (codes "A"))) ≡ true
+  -- a cycle begins at its first type in the text; a type under itself is one
+  pub own_parent : begins_cycle (Some 0 ∷ []) 0 ≡ true
+  pub first_of_two : begins_cycle (Some 1 ∷ Some 0 ∷ []) 0 ≡ true
+  pub second_of_two : begins_cycle (Some 1 ∷ Some 0 ∷ []) 1 ≡ false
+  pub on_the_way : begins_cycle (Some 1 ∷ Some 1 ∷ []) 0 ≡ false
+  -- the innermost variable of a name, counted from the outermost variable
+  pub shadowed : last_position (codes "x") (codes "x" ∷ codes "y" ∷ codes "x" ∷ codes "z" ∷ []) ≡ Some 2
+  -- `x()` is the variable x, and a bracket is the place of what stands in it
+  pub empty_brackets : named_factor some_names (codes "x" ∷ []) (raw.value (raw.empty (word (codes "x")) 8 9)) ≡ tree.at 7 (tree.variable 0)
+  pub in_brackets : named_factor some_names [] (raw.brackets 1 (raw.product (raw.factor (raw.integer 5 2))) 3) ≡ tree.at 1 (tree.integer 5)
+  -- `-2 * 3` is a product of a sum of one with minus and 3
+  pub minus_two_times_three :
+      named_product some_names [] (raw.times (raw.negative 0 (raw.integer 2 1)) 2 (raw.factor (raw.integer 3 3)))
+      ≡ tree.at 0 (tree.product (tree.more_terms (tree.at 0 (tree.summation (tree.more_summands true (tree.at 1 (tree.integer 2)) tree.no_summands))) (tree.more_terms (tree.at 3 (tree.integer 3)) tree.no_terms)))
+  -- arrows are grouped to the right, but `<=` and `<=>` to the left
+  pub right : grouped arrow.Implies (formula_number 0) (formula_number 1 ∷ formula_number 2 ∷ []) ≡ tree.implication (formula_number 0) (tree.implication (formula_number 1) (formula_number 2))
+  pub left : grouped arrow.ImpliedBy (formula_number 0) (formula_number 1 ∷ formula_number 2 ∷ []) ≡ tree.implication (formula_number 2) (tree.implication (formula_number 1) (formula_number 0))
+  pub both : grouped arrow.Equivalent (formula_number 0) (formula_number 1 ∷ formula_number 2 ∷ []) ≡ tree.equivalence (tree.equivalence (formula_number 0) (formula_number 1)) (formula_number 2)

@@ -1,0 +1,19 @@
+//! What the stages after reading mean: which blocks are chosen, which numbers words have, which types variables have,
+//! and where each stage refuses a file.
+#![tactic(auto)]
+
+mod earliest;
+mod file_laws;
+mod isa_laws;
+mod laws;
+mod named;
+mod stage_examples;
+
+pub use earliest::Earliest;
+pub use file_laws::files_are_their_blocks;
+pub use isa_laws::{cycles_come_back, isa_has_a_rank, isa_is_a_forest, named_types_have_no_cycle};
+pub use laws::{noted_is_earliest, worked_examples};
+pub use named::{
+    NamedFormula, NamedKb, NamedNode, NamedSigned, NamedTerm, NamedTermBlock, NamedTheory, NamedVar,
+};
+pub use stage_examples::{below_worked_out, blocks_worked_out};

@@ -1,0 +1,39 @@
+-- Ground bases that data make, and what laws ask of them.
+use Rattle.std.specs.Prelude.{◌≡◌, map, length, Bool, true, false, Option, Some, None, Contains}
+use Rattle.std.specs.List.{AllByRecursion}
+use Rattle.kb_logic.specs.declared.vocabularies.Vocabulary.{Vocabulary}
+use Rattle.kb_logic.specs.Structures.{IsDistinct}
+use Rattle.kb_logic.specs.Models.{GroundAtom, IsAtomOver}
+use Rattle.kb_logic.specs.KnownAtoms.{KnownAtoms, atoms_over}
+use Rattle.partial_structures.specs.KnownAtoms.{value_at}
+use Rattle.partial_structures.specs.declared.truths.Truth.{Truth}
+use Rattle.partial_structures.specs.declared.truths.Truth.TheVariants as truth
+use Rattle.term_values.specs.GroundBases.{GroundBase}
+
+-- a certain truth
+abbrev pub known_truth : Truth → Option Bool
+known_truth truth.Yes = Some true
+known_truth truth.No = Some false
+known_truth truth.Unknown = None
+
+-- what the data make known of each ground atom, in the order of all atoms
+abbrev pub base_of_data : Vocabulary → KnownAtoms → GroundBase
+base_of_data v k = record {
+  vocabulary = v;
+  domains = k.domains;
+  known = map (λ a. known_truth (value_at k a)) (atoms_over v.symbols k.domains);
+}
+
+-- there is a domain for each type, and no element stands in one twice
+pub record IsGroundBase (b : GroundBase) : Type 0 where
+  pub types : length b.domains ≡ length b.vocabulary.types
+  pub distinct : AllByRecursion IsDistinct b.domains
+
+-- the data are of the vocabulary's symbols and types, their atoms are over their domains, and none is both true and false
+pub record AreDataOf (v : Vocabulary) (k : KnownAtoms) : Type 0 where
+  pub symbols : k.symbols ≡ v.symbols
+  pub types : length k.domains ≡ length v.types
+  pub distinct : AllByRecursion IsDistinct k.domains
+  pub true_over : AllByRecursion (IsAtomOver k.symbols k.domains) k.true_atoms
+  pub false_over : AllByRecursion (IsAtomOver k.symbols k.domains) k.false_atoms
+  pub apart : (a : GroundAtom) → Contains k.true_atoms a → Contains k.false_atoms a → ⊥

@@ -1,0 +1,9 @@
+pub mod Append
+pub mod Balance
+pub mod Ends
+pub mod Only
+pub mod Behind
+pub mod Runs
+pub mod Readings
+pub mod Inside
+pub mod Binds

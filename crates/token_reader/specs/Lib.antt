@@ -1,0 +1,5 @@
+pub mod Sorts
+pub mod Machine
+pub mod Modes
+pub mod Parts
+pub mod Binders

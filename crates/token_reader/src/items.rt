@@ -1,0 +1,169 @@
+//! What each token of a text is to the grammar.
+ghost use Rattle.std.specs.Prelude.{◌≡◌, ◌<◌, ◌^◌, IfOk, All, map};
+ghost use Rattle.kb_text.specs.Pieces.{IsPiece, IntText};
+ghost use Rattle.kb_text.specs.Tokens.{IsSpelled, IsSpellingOf, decimal, lexeme_of, lexemes};
+ghost use Rattle.kb_text.specs.declared.token.Kind.TheVariants.{Int};
+ghost use Rattle.fo_syntax.specs.Terminals.{tok, toks};
+ghost use Rattle.fo_syntax.specs.Items.{ItemsOf, longer_terminal, sign_terminal, single_terminal, terminal_of, tok_of, word_terminal};
+
+use fo_syntax::{Adding, Aggregation, Arrow, Comparison, Item, KbError, Outer, Terminal};
+use kb_text::{Kind, LexError, Token};
+use std::alloc::{AllocError, Global};
+
+fn word_terminal(text: &[u8]) -> Terminal
+    ensures { result ≡ word_terminal text.now }
+{
+    if text == b"vocabulary".as_slice() {
+        Terminal::Outer(Outer::Vocabulary)
+    } else if text == b"theory".as_slice() {
+        Terminal::Outer(Outer::Theory)
+    } else if text == b"structure".as_slice() {
+        Terminal::Outer(Outer::Structure)
+    } else if text == b"term".as_slice() {
+        Terminal::Outer(Outer::Term)
+    } else if text == b"procedure".as_slice() {
+        Terminal::Outer(Outer::Procedure)
+    } else if text == b"type".as_slice() {
+        Terminal::Outer(Outer::Type)
+    } else if text == b"isa".as_slice() {
+        Terminal::Outer(Outer::Isa)
+    } else if text == b"constructed".as_slice() {
+        Terminal::Outer(Outer::Constructed)
+    } else if text == b"true".as_slice() {
+        Terminal::Truth(true)
+    } else if text == b"false".as_slice() {
+        Terminal::Truth(false)
+    } else if text == b"sum".as_slice() {
+        Terminal::Aggregate(Aggregation::Sum)
+    } else if text == b"min".as_slice() {
+        Terminal::Aggregate(Aggregation::Min)
+    } else if text == b"max".as_slice() {
+        Terminal::Aggregate(Aggregation::Max)
+    } else {
+        Terminal::Word
+    }
+}
+
+#[tactic(auto, unfolding(fo_syntax::specs::Items::single_terminal))]
+fn single_terminal(b: u8) -> Terminal
+    ensures { result ≡ single_terminal b }
+{
+    match b {
+        b'{' => Terminal::OpenBrace,
+        b'}' => Terminal::CloseBrace,
+        b'(' => Terminal::Open,
+        b')' => Terminal::Close,
+        b'[' => Terminal::OpenSquare,
+        b']' => Terminal::CloseSquare,
+        b':' => Terminal::Colon,
+        b';' => Terminal::Outer(Outer::Semicolon),
+        b',' => Terminal::Comma,
+        b'.' => Terminal::Outer(Outer::Dot),
+        b'!' => Terminal::Every,
+        b'?' => Terminal::Some,
+        b'~' => Terminal::Not,
+        b'&' => Terminal::And,
+        b'|' => Terminal::Or,
+        b'=' => Terminal::Compare(Comparison::Equal),
+        b'<' => Terminal::Compare(Comparison::Less),
+        b'>' => Terminal::Compare(Comparison::Greater),
+        b'+' => Terminal::Add(Adding::Plus),
+        b'-' => Terminal::Add(Adding::Minus),
+        b'*' => Terminal::Times,
+        _ => Terminal::Count,
+    }
+}
+
+fn longer_terminal(text: &[u8]) -> Terminal
+    ensures { result ≡ longer_terminal text.now }
+{
+    if text == b"=>".as_slice() {
+        Terminal::Arrow(Arrow::Implies)
+    } else if text == b"<=".as_slice() {
+        Terminal::Arrow(Arrow::ImpliedBy)
+    } else if text == b"=<".as_slice() {
+        Terminal::Compare(Comparison::AtMost)
+    } else if text == b">=".as_slice() {
+        Terminal::Compare(Comparison::AtLeast)
+    } else if text == b"~=".as_slice() {
+        Terminal::Compare(Comparison::NotEqual)
+    } else if text == b"<-".as_slice() {
+        Terminal::Outer(Outer::If)
+    } else if text == b"->".as_slice() {
+        Terminal::Outer(Outer::To)
+    } else if text == b"..".as_slice() {
+        Terminal::Outer(Outer::Range)
+    } else {
+        Terminal::Arrow(Arrow::Equivalent)
+    }
+}
+
+fn sign_terminal(text: &[u8]) -> Terminal
+    ensures { result ≡ sign_terminal text.now }
+{
+    match text {
+        [b] => single_terminal(*b),
+        _ => longer_terminal(text),
+    }
+}
+
+fn number(digits: &[u8]) -> u64
+    requires digits { IsPiece IntText digits.now }
+    requires small { decimal digits.now < 2 ^ 63 }
+    ensures { result ≡ decimal digits.now }
+{
+    let mut n: u64 = 0;
+    for b in digits {
+        n = 10 * n + u64::from(*b - b'0');
+    }
+    n
+}
+
+fn terminal_of(kind: Kind, text: &[u8]) -> Terminal
+    requires spelled { IsSpellingOf kind text.now }
+    requires small { kind ≡ Int → decimal text.now < 2 ^ 63 }
+    ensures { result ≡ terminal_of kind text.now }
+{
+    match kind {
+        Kind::Word => word_terminal(text),
+        Kind::Int => Terminal::Integer(number(text)),
+        Kind::Sign => sign_terminal(text),
+        Kind::Procedure => Terminal::Outer(Outer::Procedure),
+    }
+}
+
+fn item<'a>(token: Token<'a>) -> Item<'a>
+    requires { IsSpelled (lexeme_of token) }
+    ensures { tok result ≡ tok_of (lexeme_of token.entry) }
+{
+    Item {
+        terminal: terminal_of(token.kind, token.text),
+        text: token.text,
+        place: token.start,
+    }
+}
+
+fn items_of<'a>(alloc: Global, tokens: &[Token<'a>]) -> Result<Vec<Item<'a>>, AllocError>
+    requires { All IsSpelled (lexemes tokens.now) }
+    ensures { IfOk result (λ v. toks v.items ≡ map tok_of (lexemes tokens.now)) }
+{
+    let mut found = Vec::new(alloc);
+    for token in tokens {
+        found.push(item(*token))?;
+    }
+    Ok(found)
+}
+
+/// The tokens of the text as the grammar sees them.
+pub fn items<'a>(alloc: Global, src: &'a [u8]) -> Result<Vec<Item<'a>>, KbError>
+    ensures { ItemsOf src.now result }
+{
+    match kb_text::tokens(alloc, src) {
+        Ok(tokens) => match items_of(alloc, &tokens) {
+            Ok(found) => Ok(found),
+            Err(_) => Err(KbError::Memory),
+        },
+        Err(LexError::Refused(fault)) => Err(KbError::Refused(fault)),
+        Err(LexError::Memory) => Err(KbError::Memory),
+    }
+}
