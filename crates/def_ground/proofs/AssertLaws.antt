@@ -75,13 +75,13 @@ says-nothing p V fine e = record { fine = fine; grows = omega arith; gives = λ 
 
 says-clause : (p : ProblemState) (ls : List Lit) → IsProblem p → AreLitsOf p.vars ls → AssertsMore p (with_clause p ls) (any-of ls)
 says-clause p ls fine within = record {
-  fine = record { atoms = fine.atoms; gates = fine.gates; clauses = All-push (AreLitsOf p.vars) p.clauses ls fine.clauses within; sums = fine.sums; terms = fine.terms; bounds = fine.bounds };
+  fine = record { atoms = fine.atoms; gates = fine.gates; clauses = All-push (AreLitsOf p.vars) p.clauses ls fine.clauses within; sums = fine.sums; terms = fine.terms; bounds = fine.bounds; retired = fine.retired };
   grows = omega arith;
   gives = λ v s. (
-    record { gates = s.gates; clauses = All-front (IsSatisfied v) p.clauses (ls ∷ []) s.clauses; sums = s.sums; bounds = s.bounds },
+    record { gates = s.gates; clauses = All-front (IsSatisfied v) p.clauses (ls ∷ []) s.clauses; sums = s.sums; bounds = s.bounds; retired = s.retired },
     clause-true v ls (All-contains (IsSatisfied v) (p.clauses ++ ls ∷ []) ls s.clauses (Contains-push p.clauses ls)),
   );
-  extends = λ v s t. (v, agree-refl p.vars v, record { gates = s.gates; clauses = All-push (IsSatisfied v) p.clauses ls s.clauses (clause-holds v ls t); sums = s.sums; bounds = s.bounds });
+  extends = λ v s t. (v, agree-refl p.vars v, record { gates = s.gates; clauses = All-push (IsSatisfied v) p.clauses ls s.clauses (clause-holds v ls t); sums = s.sums; bounds = s.bounds; retired = s.retired });
   unique = λ v w s t a. a;
 }
 

@@ -305,7 +305,7 @@ module _ (p : ProblemState) (cs : List Case) (V : (ℕ → Bool) → Bool) (fine
   new = clauses_of_cases (next_lit p) cs
 
   sat-old : (v : ℕ → Bool) → Satisfies (with_cases p cs) v → Satisfies p v
-  sat-old v s = record { gates = s.gates; clauses = All-front (IsSatisfied v) p.clauses (clauses_of_cases (next_lit p) cs) s.clauses; sums = s.sums; bounds = s.bounds }
+  sat-old v s = record { gates = s.gates; clauses = All-front (IsSatisfied v) p.clauses (clauses_of_cases (next_lit p) cs) s.clauses; sums = s.sums; bounds = s.bounds; retired = s.retired }
 
   pub with-added : Means p (with_cases p cs) (Literal (next_lit p)) V
   with-added =
@@ -319,6 +319,7 @@ module _ (p : ProblemState) (cs : List Case) (V : (ℕ → Bool) → Bool) (fine
         clauses = All-append (IsSatisfied v) p.clauses (clauses_of_cases (next_lit p) cs) s.clauses (clauses-hold v (clauses_of_cases (next_lit p) cs) (cases-value v (next_lit p) cs (V v) (say v s) ∙ true-same (v (p.vars + 1)) (V v) e));
         sums = s.sums;
         bounds = s.bounds;
+        retired = s.retired;
       }) in
       record {
         fine = record {
@@ -328,13 +329,14 @@ module _ (p : ProblemState) (cs : List Case) (V : (ℕ → Bool) → Bool) (fine
           sums = more.sums;
           terms = more.terms;
           bounds = more.bounds;
+          retired = more.retired;
         };
         more = add.more;
         within = add.within;
         right = add.means;
       }
     where
-      more : IsProblem (record { atoms = p.atoms; vars = p.vars + 1; gates = p.gates ++ []; clauses = p.clauses ++ clauses_of_cases (next_lit p) cs; sums = p.sums; terms = p.terms; bounds = p.bounds })
+      more : IsProblem (record { atoms = p.atoms; vars = p.vars + 1; gates = p.gates ++ []; clauses = p.clauses ++ clauses_of_cases (next_lit p) cs; sums = p.sums; terms = p.terms; bounds = p.bounds; retired = p.retired })
       more = problem-grown p (p.vars + 1) [] (clauses_of_cases (next_lit p) cs) fine (omega arith) (All-nil _) (case-clauses p.vars (p.vars + 1) (omega arith) (next_lit p) cs (omega arith, omega arith) are)
 
   constant : (x : Bool) → ((v : ℕ → Bool) → Satisfies p v → x ≡ V v) → Means p p (Constant x) V

@@ -141,7 +141,7 @@ gate-right p all (l ∷ m ∷ ls) fine within =
     let g : Gate = record { out = next_lit p; all = all; parts = l ∷ m ∷ ls } in
     let grown = problem-grown p (p.vars + 1) (g ∷ []) [] fine (omega arith) (All-cons (IsGateOf (p.vars + 1)) g [] ((omega arith, omega arith), lits-more p.vars (p.vars + 1) (omega arith) (l ∷ m ∷ ls) within) (All-nil (IsGateOf (p.vars + 1)))) (All-nil (AreLitsOf (p.vars + 1))) in
     record {
-      fine = record { atoms = grown.atoms; gates = grown.gates; clauses = All-front (AreLitsOf (p.vars + 1)) p.clauses [] grown.clauses; sums = grown.sums; terms = grown.terms; bounds = grown.bounds };
+      fine = record { atoms = grown.atoms; gates = grown.gates; clauses = All-front (AreLitsOf (p.vars + 1)) p.clauses [] grown.clauses; sums = grown.sums; terms = grown.terms; bounds = grown.bounds; retired = grown.retired };
       more = add.more;
       within = add.within;
       right = add.means;
@@ -217,7 +217,7 @@ iff-right p q r (Literal l) (Literal m) F G h k =
     (All-cons (AreLitsOf n) c4 [] (three c (negated l) (negated m) o a b) (All-nil (AreLitsOf n))))) in
     let grown = problem-grown r n [] (clauses_of_same (next_lit r) l m) k.fine (omega arith) (All-nil (IsGateOf n)) four in
     record {
-      fine = record { atoms = grown.atoms; gates = All-front (IsGateOf n) r.gates [] grown.gates; clauses = grown.clauses; sums = grown.sums; terms = grown.terms; bounds = grown.bounds };
+      fine = record { atoms = grown.atoms; gates = All-front (IsGateOf n) r.gates [] grown.gates; clauses = grown.clauses; sums = grown.sums; terms = grown.terms; bounds = grown.bounds; retired = grown.retired };
       more = more-trans p q (with_same r l m) h.more (more-trans q r (with_same r l m) k.more add.more);
       within = add.within;
       right = λ v s.

@@ -15,7 +15,7 @@ use Rattle.kb_logic.specs.Bounds.{domain_if, value_type_of}
 use Rattle.kb_logic.proofs.Has.{Has, has_right, has_enumerated, enumerated_has}
 use Rattle.kb_logic.proofs.Tables.{function_has}
 use Rattle.lit_core.specs.declared.literals.Lit.{Lit}
-use Rattle.lit_core.specs.Literals.{negated, by_sign}
+use Rattle.lit_core.specs.Literals.{negated, by_sign, literal_value}
 use Rattle.lit_core.specs.Truth.{IsSatisfied}
 use Rattle.ground_core.specs.Atoms.{atom_of, atoms_at, atoms_of_symbol, ground_atoms}
 use Rattle.ground_core.specs.Problems.{IsProblem, IsLitOf, AreLitsOf, IsGateOf, IsSumOf, IsTermOf, IsBoundOf}
@@ -207,6 +207,7 @@ module _ (b : GroundBase) (is : IsGroundBase b) where
         sums = All-nil (IsSumOf m);
         terms = All-nil (IsTermOf m);
         bounds = All-nil (IsBoundOf m []);
+        retired = All-nil (IsLitOf m);
       }
 
   no-tuples : (s i : ℕ) → slice_get b.vocabulary.symbols s ≡ None → i < length (tuples_at b s) → ⊥
@@ -295,6 +296,7 @@ module _ (b : GroundBase) (is : IsGroundBase b) where
         (known-facts v 1 b.known (λ j x at. let number : 1 + j ≡ suc j = omega arith in ap v number ∙ over.known (suc j) x (ap (λ o. unwrap_or o None) at)));
     sums = All-nil (SumHolds v);
     bounds = All-nil (BoundHolds v []);
+    retired = All-nil (λ l. literal_value v l ≡ false);
   }
 
   -- a known atom has a clause of its one literal

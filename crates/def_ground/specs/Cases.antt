@@ -42,6 +42,7 @@ with_var_and p cs = record {
   sums = p.sums;
   terms = p.terms;
   bounds = p.bounds;
+  retired = p.retired;
 }
 
 -- the problem with one more variable, which has in each case the case's value

@@ -64,6 +64,7 @@ start_problem b = record {
   sums = [];
   terms = [];
   bounds = [];
+  retired = [];
 }
 
 -- the problem of sentences over what is known
