@@ -5,6 +5,7 @@ pub mod LeafLaws
 pub mod Leaves
 pub mod AssertLaws
 pub mod SentenceLaws
+pub mod TypedForms
 pub mod StartLaws
 pub mod KeepLaws
 pub mod ProblemLaws

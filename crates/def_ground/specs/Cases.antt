@@ -11,7 +11,8 @@ use Rattle.def_ground.specs.declared.answers.Answer.{Answer}
 use Rattle.def_ground.specs.declared.answers.Answer.TheVariants.{Constant, Literal}
 use Rattle.def_ground.specs.Answers.{GroundResult}
 
--- under the guards the whole is true where `yes` is, and false where `no` is; a side is a list of literals, one of which
+-- under the guards the whole is true where `yes` is, and false where `no` is; a side is a list of literals, one of
+-- which
 -- is true, or nothing, which is true in any case
 pub record Case : Type 0 where
   pub guards : List Lit
@@ -30,7 +31,8 @@ side_clauses l guards (Some ls) = (l ∷ map negated guards ++ ls) ∷ []
 
 -- the clauses that give the output its value in each case
 abbrev pub clauses_of_cases : Lit → List Case → List (List Lit)
-clauses_of_cases out cs = flat_map (λ (c : Case). side_clauses (negated out) c.guards c.yes ++ side_clauses out c.guards c.no) cs
+clauses_of_cases out cs =
+    flat_map (λ (c : Case). side_clauses (negated out) c.guards c.yes ++ side_clauses out c.guards c.no) cs
 
 -- the problem with one more variable, and clauses
 abbrev pub with_var_and : ProblemState → List (List Lit) → ProblemState
@@ -90,7 +92,8 @@ certain_answer None o = option_map (λ l. Literal (negated l)) o
 abbrev pub plain_answer : List Case → Option Answer
 plain_answer cs =
     if list_all is_certain cs then
-    certain_answer (only_guard (filter (λ (c : Case). is_always c.yes) cs)) (only_guard (filter (λ (c : Case). is_always c.no) cs))
+    certain_answer (only_guard (filter (λ (c : Case). is_always c.yes) cs))
+    (only_guard (filter (λ (c : Case). is_always c.no) cs))
     else single_answer cs
 
 -- the plain answer, or else a new variable

@@ -1,4 +1,5 @@
--- A comparison of two terms, by their rows: a case for each row of the left term, whose sides are the values of the right
+-- A comparison of two terms, by their rows: a case for each row of the left term, whose sides are the values of the
+-- right
 -- term that compare so. No variable is made for a pair of values.
 use Rattle.std.specs.Prelude.{List, [], ◌∷◌, map, Bool, true, false, not, if◌then◌else◌, Option, Some, None}
 use Rattle.std.specs.List.{list_all}
@@ -49,7 +50,8 @@ comparison_case c bs a = record {
 }
 
 -- a comparison of two terms by their rows; where the left term has no row it makes no variable
-abbrev pub comparison_of : Cmp → List (List Lit × Denotation) → List (List Lit × Denotation) → ProblemState → GroundResult
+abbrev pub comparison_of : Cmp → List (List Lit × Denotation) → List (List Lit × Denotation) → ProblemState
+    → GroundResult
 comparison_of c [] bs p = record { answer = Constant true; problem = p }
 comparison_of c (a ∷ as') bs p =
     let s = guard_answers bs p in

@@ -1,5 +1,6 @@
 -- What a formula comes to under an assignment, and the problem that defines it.
-use Rattle.std.specs.Prelude.{ℕ, ◌+◌, List, [], ◌∷◌, ◌++◌, map, Bool, true, false, not, if◌then◌else◌, Option, Some, None}
+use Rattle.std.specs.Prelude.{ℕ, ◌+◌, List, [], ◌∷◌, ◌++◌, map, Bool, true, false, not, if◌then◌else◌, Option, Some}
+use Rattle.std.specs.Prelude.{None}
 use Rattle.std.specs.Bool.{beq}
 use Rattle.kb_logic.specs.declared.elements.Elem.{Elem}
 use Rattle.kb_logic.specs.Trees.{FormulaTree, verum, falsum, atom, comparison, negation, conjunction, disjunction}
@@ -59,13 +60,15 @@ abbrev pub no_more_parts : List Lit → ProblemState → Parts
 no_more_parts ls p = record { settled = false; lits = ls; problem = p }
 
 -- a part for each assignment
-abbrev pub parts_each : (List Elem → ProblemState → GroundResult) → Bool → List (List Elem) → List Lit → ProblemState → Parts
+abbrev pub parts_each : (List Elem → ProblemState → GroundResult) → Bool → List (List Elem) → List Lit → ProblemState
+    → Parts
 parts_each G all [] ls p = no_more_parts ls p
 parts_each G all (a ∷ more) ls p = next_parts all (G a p) ls (λ xs q. parts_each G all more xs q)
 
 -- the whole: a constant where it is settled, else all, or any, of the literals
 abbrev pub close_parts : Bool → Parts → GroundResult
-close_parts all r = if r.settled then record { answer = Constant (not all); problem = r.problem } else gate_of all r.lits r.problem
+close_parts all r =
+    if r.settled then record { answer = Constant (not all); problem = r.problem } else gate_of all r.lits r.problem
 
 abbrev pub opposite_result : GroundResult → GroundResult
 opposite_result g = record { answer = opposite_of g.answer; problem = g.problem }
@@ -95,13 +98,16 @@ abbrev mutual
   form_of b (disjunction fs) e p = close_parts false (parts_of b false fs e [] p)
   form_of b (implication f g) e p =
       close_parts false
-      (next_parts false (opposite_result (form_of b f e p)) [] (λ xs q. next_parts false (form_of b g e q) xs no_more_parts))
+      (next_parts false (opposite_result (form_of b f e p)) []
+      (λ xs q. next_parts false (form_of b g e q) xs no_more_parts))
   form_of b (equivalence f g) e p =
       let x = form_of b f e p in
       let y = form_of b g e x.problem in
       same_of x.answer y.answer y.problem
-  form_of b (universal bs f) e p = close_parts true (parts_each (λ a q. form_of b f (e ++ a) q) true (choices b.domains bs) [] p)
-  form_of b (existential bs f) e p = close_parts false (parts_each (λ a q. form_of b f (e ++ a) q) false (choices b.domains bs) [] p)
+  form_of b (universal bs f) e p =
+      close_parts true (parts_each (λ a q. form_of b f (e ++ a) q) true (choices b.domains bs) [] p)
+  form_of b (existential bs f) e p =
+      close_parts false (parts_each (λ a q. form_of b f (e ++ a) q) false (choices b.domains bs) [] p)
   form_of b (numbered c n bs f) e p = record { answer = Constant true; problem = p }
 
   -- the parts of a conjunction or a disjunction

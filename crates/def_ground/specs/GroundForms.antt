@@ -5,7 +5,7 @@ use Rattle.kb_logic.specs.Trees.{implication, equivalence, universal, existentia
 use Rattle.kb_logic.specs.Trees.{FormulaTrees, no_formulas, more_formulas}
 use Rattle.kb_logic.specs.Bounds.{value_type_of}
 use Rattle.term_values.specs.GroundBases.{GroundBase}
-use Rattle.term_values.specs.GroundTerms.{IsGroundTerm, AreGroundTerms}
+use Rattle.term_values.specs.GroundTerms.{IsGroundTerm, AreGroundTerms, TermHasNoCounting, TermsHaveNoCounting}
 
 -- the symbol is a predicate
 pub record IsPredicateOf (b : GroundBase) (s : ℕ) : Type 0 where
@@ -31,3 +31,23 @@ abbrev mutual
   pub AreGroundForms : GroundBase → FormulaTrees → Type 0
   AreGroundForms b no_formulas = Unit {0}
   AreGroundForms b (more_formulas f fs) = IsGroundForm b f × AreGroundForms b fs
+
+abbrev mutual
+  -- there is no aggregate and no number quantifier in the formula
+  pub HasNoCounting : FormulaTree → Type 0
+  HasNoCounting verum = Unit {0}
+  HasNoCounting falsum = Unit {0}
+  HasNoCounting (atom s ts) = TermsHaveNoCounting ts
+  HasNoCounting (comparison c x y) = TermHasNoCounting x × TermHasNoCounting y
+  HasNoCounting (negation f) = HasNoCounting f
+  HasNoCounting (conjunction fs) = HaveNoCounting fs
+  HasNoCounting (disjunction fs) = HaveNoCounting fs
+  HasNoCounting (implication f g) = HasNoCounting f × HasNoCounting g
+  HasNoCounting (equivalence f g) = HasNoCounting f × HasNoCounting g
+  HasNoCounting (universal bs f) = HasNoCounting f
+  HasNoCounting (existential bs f) = HasNoCounting f
+  HasNoCounting (numbered c n bs f) = ⊥
+
+  pub HaveNoCounting : FormulaTrees → Type 0
+  HaveNoCounting no_formulas = Unit {0}
+  HaveNoCounting (more_formulas f fs) = HasNoCounting f × HaveNoCounting fs

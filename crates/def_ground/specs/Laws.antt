@@ -4,6 +4,8 @@ use Rattle.std.specs.List.{list_all, list_any, AllByRecursion}
 use Rattle.kb_logic.specs.declared.elements.Elem.{Elem}
 use Rattle.kb_logic.specs.Trees.{FormulaTree}
 use Rattle.kb_logic.specs.Bounds.{HasTypes}
+use Rattle.kb_logic.specs.Domains.{AreDomainsOf}
+use Rattle.kb_logic.specs.Typing.{IsTypedOver}
 use Rattle.kb_logic.specs.Weights.{occurrences}
 use Rattle.kb_logic.specs.Meaning.{truth_of}
 use Rattle.lit_core.specs.declared.literals.Lit.{Lit}
@@ -17,8 +19,7 @@ use Rattle.def_ground.specs.Cases.{Case, cases_of}
 use Rattle.def_ground.specs.Forms.{form_of}
 use Rattle.def_ground.specs.Sentences.{assert_of, assert_sentences}
 use Rattle.def_ground.specs.Problems.{one_of_clauses, variables_from}
-use Rattle.def_ground.specs.GroundForms.{IsGroundForm}
-use Rattle.def_ground.specs.TypedForms.{IsTypedForm}
+use Rattle.def_ground.specs.GroundForms.{IsGroundForm, HasNoCounting}
 use Rattle.def_ground.specs.Meanings.{Means, AssertsMore, HasAtoms, HasRoom, IsCaseOf, CasesSay}
 
 -- what cases come to is what they say
@@ -35,13 +36,15 @@ FormIsRight =
     → IsProblem p → HasAtoms b p → HasRoom b p → IsGroundForm b f
     → Means p (form_of b f e p).problem (form_of b f e p).answer (λ v. truth_of (structure_of b v) f e)
 
--- exactly the valuations remain in which one of the literals is true, or the formula is, or where the sign is false is not
+-- exactly the valuations remain in which one of the literals is true, or the formula is, or where the sign is false is
+-- not
 abbrev pub AssertionIsRight : Type 0
 AssertionIsRight =
     (b : GroundBase) (sign : Bool) (f : FormulaTree) (e : List Elem) (ls : List Lit) (p : ProblemState)
     → IsProblem p → HasAtoms b p → HasRoom b p → IsGroundForm b f → AreLitsOf p.vars ls
     → AssertsMore p (assert_of b sign f e ls p)
-    (λ v. list_any (literal_value v) ls || (if sign then truth_of (structure_of b v) f e else not (truth_of (structure_of b v) f e)))
+    (λ v. list_any (literal_value v) ls ||
+    (if sign then truth_of (structure_of b v) f e else not (truth_of (structure_of b v) f e)))
 
 -- exactly the valuations remain in which all sentences are true
 abbrev pub SentencesAreAsserted : Type 0
@@ -61,5 +64,6 @@ OneEachByClauses =
 abbrev pub FewVariables : Type 0
 FewVariables =
     (b : GroundBase) (f : FormulaTree) (scope : List ℕ) (e : List Elem) (p : ProblemState)
-    → HasTypes b.domains scope e → IsTypedForm b.vocabulary b.domains scope f
+    → AreDomainsOf b.vocabulary b.domains → HasTypes b.domains scope e
+    → IsTypedOver b.vocabulary b.domains f scope → HasNoCounting f
     → (form_of b f e p).problem.vars ≤ p.vars + 4 * occurrences b.vocabulary b.domains f 1

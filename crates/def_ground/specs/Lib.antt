@@ -5,7 +5,7 @@ pub mod Forms
 pub mod Sentences
 pub mod Problems
 pub mod GroundForms
-pub mod TypedForms
 pub mod Meanings
 pub mod Groundings
 pub mod Laws
+pub mod Examples

@@ -35,7 +35,8 @@ HasAtoms b p = (v : ℕ → Bool) → Satisfies p v → IsOver b v
 -- the ground atoms have variables of the problem, and their values alone make the structure
 pub record HasRoom (b : GroundBase) (p : ProblemState) : Type 0 where
   pub same : (v w : ℕ → Bool) → Agree p.vars v w → structure_of b v ≡ structure_of b w
-  pub predicates : (s i : ℕ) → IsNone (value_type_of b.vocabulary s) → i < length (tuples_at b s) → first_var b s + i ≤ p.vars
+  pub predicates : (s i : ℕ) → IsNone (value_type_of b.vocabulary s) → i < length (tuples_at b s)
+      → first_var b s + i ≤ p.vars
   pub functions :
       (s i j : ℕ) → i < length (tuples_at b s) → j < length (values_at b s)
       → first_var b s + i * length (values_at b s) + j ≤ p.vars

@@ -48,7 +48,8 @@ abbrev mutual
   assert_of b true (implication f g) e ls p =
       unless_settled (signed_result false (form_of b f e p)) ls (λ xs q. assert_of b true g e xs q)
   assert_of b false (implication f g) e ls p = assert_of b false g e ls (assert_of b true f e ls p)
-  assert_of b true (universal bs f) e ls p = assert_each (λ a q. assert_of b true f (e ++ a) ls q) (choices b.domains bs) p
+  assert_of b true (universal bs f) e ls p =
+      assert_each (λ a q. assert_of b true f (e ++ a) ls q) (choices b.domains bs) p
   assert_of b false (universal bs f) e ls p =
       parts_clause (parts_each (λ a q. signed_result false (form_of b f (e ++ a) q)) false (choices b.domains bs) ls p)
   assert_of b true (existential bs f) e ls p =

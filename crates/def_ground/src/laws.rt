@@ -1,5 +1,6 @@
 //! Laws of the definitions.
 ghost use Rattle.def_ground.specs.Laws.{CasesAreRight, FormIsRight, AssertionIsRight, SentencesAreAsserted};
+ghost use Rattle.def_ground.specs.Examples.{ProblemsAsWorkedOut};
 ghost use Rattle.def_ground.specs.Groundings.{ProblemIsRight, ProblemIsSmall};
 ghost use Rattle.def_ground.specs.Laws.{OneEachByClauses, FewVariables};
 
@@ -42,4 +43,9 @@ pub fn problem_is_right()
 /// The problem of a theory has no more variables than the knowledge base weighs.
 pub fn problem_is_small()
     ensures { ProblemIsSmall }
+{}
+
+/// Two small problems, as they are worked out by hand.
+pub fn problems_as_worked_out()
+    ensures { ProblemsAsWorkedOut }
 {}

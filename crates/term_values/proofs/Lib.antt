@@ -5,5 +5,7 @@ pub mod Places
 pub mod Chosen
 pub mod StructureAtoms
 pub mod StructureLaws
+pub mod ArgumentTypes
+pub mod TypedLaws
 pub mod KnownLaws
 pub mod FewRows

@@ -1,6 +1,8 @@
 -- What a ground problem is made over, and the structure that a valuation of the ground atoms is.
-use Rattle.std.specs.Prelude.{◌≡◌, ℕ, zero, suc, ◌+◌, ◌*◌, ◌<◌, List, [], ◌∷◌, ◌++◌, map, length, filter, flat_map, take}
-use Rattle.std.specs.Prelude.{Bool, false, if◌then◌else◌, Option, Some, None, option_map, slice_get, unwrap_or, sum_by, IsSome}
+use Rattle.std.specs.Prelude.{◌≡◌, ℕ, zero, suc, ◌+◌, ◌*◌, ◌<◌, List, [], ◌∷◌, ◌++◌, map, length, filter, flat_map}
+use Rattle.std.specs.Prelude.{take}
+use Rattle.std.specs.Prelude.{Bool, false, if◌then◌else◌, Option, Some, None, option_map, slice_get, unwrap_or, sum_by}
+use Rattle.std.specs.Prelude.{IsSome}
 use Rattle.kb_logic.specs.declared.elements.Elem.{Elem}
 use Rattle.kb_logic.specs.declared.vocabularies.Symbol.{Symbol}
 use Rattle.kb_logic.specs.declared.vocabularies.Vocabulary.{Vocabulary}
@@ -77,8 +79,10 @@ function_table b v s = function_rows v (first_var b s) (values_at b s) (tuples_a
 abbrev pub structure_of : GroundBase → (ℕ → Bool) → Structure
 structure_of b v = record {
   domains = b.domains;
-  relations = map (λ (s : ℕ × Symbol). record { symbol = s.0; rows = predicate_table b v s.0 }) (predicates_of b.vocabulary);
-  functions = map (λ (s : ℕ × Symbol). record { symbol = s.0; rows = function_table b v s.0 }) (functions_of b.vocabulary);
+  relations =
+      map (λ (s : ℕ × Symbol). record { symbol = s.0; rows = predicate_table b v s.0 }) (predicates_of b.vocabulary);
+  functions =
+      map (λ (s : ℕ × Symbol). record { symbol = s.0; rows = function_table b v s.0 }) (functions_of b.vocabulary);
 }
 
 -- each function has exactly one value at each tuple of arguments

@@ -1,7 +1,8 @@
 -- The terms of which the laws of rows speak.
 use Rattle.std.specs.Prelude.{◌≡◌, ℕ, ◌+◌, length, IsSome}
 use Rattle.std.specs.List.{AllByRecursion}
-use Rattle.kb_logic.specs.Trees.{TermTree, variable, integer, constructed, application, summation, product, aggregate, TermTrees}
+use Rattle.kb_logic.specs.Trees.{TermTree, variable, integer, constructed, application, summation, product, aggregate}
+use Rattle.kb_logic.specs.Trees.{TermTrees}
 use Rattle.kb_logic.specs.Trees.{no_terms, more_terms, SummandTrees, no_summands, more_summands}
 use Rattle.kb_logic.specs.Bounds.{value_type_of}
 use Rattle.term_values.specs.GroundBases.{GroundBase, tuples_at}
@@ -33,3 +34,22 @@ abbrev mutual
   pub AreGroundSummands : GroundBase → SummandTrees → Type 0
   AreGroundSummands b no_summands = Unit {0}
   AreGroundSummands b (more_summands minus t ss) = IsGroundTerm b t × AreGroundSummands b ss
+
+abbrev mutual
+  -- there is no aggregate in the term
+  pub TermHasNoCounting : TermTree → Type 0
+  TermHasNoCounting (variable n) = Unit {0}
+  TermHasNoCounting (integer z) = Unit {0}
+  TermHasNoCounting (constructed ty n) = Unit {0}
+  TermHasNoCounting (application s ts) = TermsHaveNoCounting ts
+  TermHasNoCounting (summation ss) = SummandsHaveNoCounting ss
+  TermHasNoCounting (product ts) = TermsHaveNoCounting ts
+  TermHasNoCounting (aggregate k bs f t) = ⊥
+
+  pub TermsHaveNoCounting : TermTrees → Type 0
+  TermsHaveNoCounting no_terms = Unit {0}
+  TermsHaveNoCounting (more_terms t ts) = TermHasNoCounting t × TermsHaveNoCounting ts
+
+  pub SummandsHaveNoCounting : SummandTrees → Type 0
+  SummandsHaveNoCounting no_summands = Unit {0}
+  SummandsHaveNoCounting (more_summands minus t ss) = TermHasNoCounting t × SummandsHaveNoCounting ss

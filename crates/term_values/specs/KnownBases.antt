@@ -1,10 +1,12 @@
 -- Ground bases that data make, and what laws ask of them.
-use Rattle.std.specs.Prelude.{◌≡◌, map, length, Bool, true, false, Option, Some, None, Contains}
+use Rattle.std.specs.Prelude.{◌≡◌, map, length, Bool, true, false, Option, Some, None}
 use Rattle.std.specs.List.{AllByRecursion}
 use Rattle.kb_logic.specs.declared.vocabularies.Vocabulary.{Vocabulary}
 use Rattle.kb_logic.specs.Structures.{IsDistinct}
-use Rattle.kb_logic.specs.Models.{GroundAtom, IsAtomOver}
+use Rattle.kb_logic.specs.Domains.{AreDomainsOf}
+use Rattle.kb_logic.specs.Models.{IsAtomOver}
 use Rattle.kb_logic.specs.KnownAtoms.{KnownAtoms, atoms_over}
+use Rattle.partial_structures.specs.Consistency.{IsConsistent}
 use Rattle.partial_structures.specs.KnownAtoms.{value_at}
 use Rattle.partial_structures.specs.declared.truths.Truth.{Truth}
 use Rattle.partial_structures.specs.declared.truths.Truth.TheVariants as truth
@@ -29,11 +31,10 @@ pub record IsGroundBase (b : GroundBase) : Type 0 where
   pub types : length b.domains ≡ length b.vocabulary.types
   pub distinct : AllByRecursion IsDistinct b.domains
 
--- the data are of the vocabulary's symbols and types, their atoms are over their domains, and none is both true and false
+-- the data are of the vocabulary's symbols, over domains as it asks for them, consistent, and their atoms are over the
+-- domains
 pub record AreDataOf (v : Vocabulary) (k : KnownAtoms) : Type 0 where
   pub symbols : k.symbols ≡ v.symbols
-  pub types : length k.domains ≡ length v.types
-  pub distinct : AllByRecursion IsDistinct k.domains
-  pub true_over : AllByRecursion (IsAtomOver k.symbols k.domains) k.true_atoms
+  pub domains : AreDomainsOf v k.domains
+  pub consistent : IsConsistent k
   pub false_over : AllByRecursion (IsAtomOver k.symbols k.domains) k.false_atoms
-  pub apart : (a : GroundAtom) → Contains k.true_atoms a → Contains k.false_atoms a → ⊥

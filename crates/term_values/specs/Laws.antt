@@ -5,16 +5,17 @@ use Rattle.kb_logic.specs.declared.structures.Structure.{Structure}
 use Rattle.kb_logic.specs.declared.vocabularies.Vocabulary.{Vocabulary}
 use Rattle.kb_logic.specs.Structures.{IsStructure}
 use Rattle.kb_logic.specs.Bounds.{HasTypes}
-use Rattle.kb_logic.specs.Weights.{application_count, applications_count}
-use Rattle.kb_logic.specs.Trees.{TermTree, TermTrees}
+use Rattle.kb_logic.specs.Weights.{application_count}
+use Rattle.kb_logic.specs.Domains.{AreDomainsOf}
+use Rattle.kb_logic.specs.Typing.{TermIsTypedOver}
+use Rattle.kb_logic.specs.Trees.{TermTree}
 use Rattle.kb_logic.specs.Meaning.{value_of}
 use Rattle.kb_logic.specs.Models.{GroundAtom, AtomHolds}
 use Rattle.kb_logic.specs.KnownAtoms.{KnownAtoms, ExtendsData, atoms_over}
 use Rattle.term_values.specs.GroundBases.{GroundBase, structure_of, OneValueEach, HasKnown, IsOver}
 use Rattle.term_values.specs.KnownBases.{IsGroundBase, base_of_data, AreDataOf}
-use Rattle.term_values.specs.Rows.{rows_of_term, rows_of_terms, selected_values}
-use Rattle.term_values.specs.TypedTerms.{IsTypedTerm, AreTypedTerms}
-use Rattle.term_values.specs.GroundTerms.{IsGroundTerm}
+use Rattle.term_values.specs.Rows.{rows_of_term, selected_values}
+use Rattle.term_values.specs.GroundTerms.{IsGroundTerm, TermHasNoCounting}
 
 -- exactly one row has true guards, and its value is the term's in the structure of the valuation
 abbrev pub RowsAreRight : Type 0
@@ -22,7 +23,8 @@ RowsAreRight =
     (b : GroundBase) (v : ℕ → Bool) (t : TermTree) (e : List Elem) → IsOver b v → IsGroundTerm b t
     → selected_values v (rows_of_term b t e) ≡ value_of (structure_of b v) t e ∷ []
 
--- variables are numbered from 1 on in the order of all atoms: an atom is true in the structure exactly where its variable is
+-- variables are numbered from 1 on in the order of all atoms: an atom is true in the structure exactly where its
+-- variable is
 abbrev pub AtomsHaveVariables : Type 0
 AtomsHaveVariables =
     (b : GroundBase) (v : ℕ → Bool) (n : ℕ) (a : GroundAtom) → IsGroundBase b
@@ -56,8 +58,7 @@ KnownIsExtended =
 -- well typed terms have no more rows than their applications have values
 abbrev pub RowsAreFew : Type 0
 RowsAreFew =
-    (b : GroundBase) (scope : List ℕ) (e : List Elem) → HasTypes b.domains scope e
-    → ((t : TermTree) → IsTypedTerm b.vocabulary b.domains scope t
-    → length (rows_of_term b t e) ≤ application_count b.vocabulary b.domains t)
-    × ((ts : TermTrees) → AreTypedTerms b.vocabulary b.domains scope ts
-    → length (rows_of_terms b ts e) ≤ applications_count b.vocabulary b.domains ts)
+    (b : GroundBase) (t : TermTree) (scope : List ℕ) (e : List Elem) → AreDomainsOf b.vocabulary b.domains
+    → HasTypes b.domains scope e
+    → TermIsTypedOver b.vocabulary b.domains t scope → TermHasNoCounting t
+    → length (rows_of_term b t e) ≤ application_count b.vocabulary b.domains t

@@ -2,5 +2,4 @@ pub mod GroundBases
 pub mod Rows
 pub mod KnownBases
 pub mod GroundTerms
-pub mod TypedTerms
 pub mod Laws

@@ -1,9 +1,11 @@
 -- The values of a term, each with the literals under which the term has it: its rows.
-use Rattle.std.specs.Prelude.{ℕ, ◌+◌, ◌*◌, ℤ, pos, List, [], ◌∷◌, ◌++◌, length, map, flat_map, Bool, true, false, if◌then◌else◌}
+use Rattle.std.specs.Prelude.{ℕ, ◌+◌, ◌*◌, ℤ, pos, List, [], ◌∷◌, ◌++◌, length, map, flat_map, Bool, true, false}
+use Rattle.std.specs.Prelude.{if◌then◌else◌}
 use Rattle.std.specs.Prelude.{Option, Some, None, slice_get}
 use Rattle.std.specs.List.{list_all}
 use Rattle.kb_logic.specs.declared.elements.Elem.{Elem}
-use Rattle.kb_logic.specs.Trees.{TermTree, variable, integer, constructed, application, summation, product, aggregate, TermTrees}
+use Rattle.kb_logic.specs.Trees.{TermTree, variable, integer, constructed, application, summation, product, aggregate}
+use Rattle.kb_logic.specs.Trees.{TermTrees}
 use Rattle.kb_logic.specs.Trees.{no_terms, more_terms, SummandTrees, no_summands, more_summands}
 use Rattle.kb_logic.specs.Structures.{domain_at}
 use Rattle.kb_logic.specs.Denotations.{Denotation, number, undefined, denotation_of}
@@ -17,7 +19,8 @@ abbrev pub positive_lit : ℕ → Lit
 positive_lit n = record { var = record { 0 = n }; positive = true }
 
 -- a row more, unless the variable's atom is known to be false; its literal is a guard where the atom is unknown
-abbrev pub with_row : Option Bool → ℕ → List Lit → Denotation → List (List Lit × Denotation) → List (List Lit × Denotation)
+abbrev pub with_row : Option Bool → ℕ → List Lit → Denotation → List (List Lit × Denotation)
+    → List (List Lit × Denotation)
 with_row None n g x rows = (g ++ positive_lit n ∷ [], x) ∷ rows
 with_row (Some true) n g x rows = (g, x) ∷ rows
 with_row (Some false) n g x rows = rows
@@ -46,7 +49,8 @@ abbrev mutual
   rows_of_term b (variable n) e = ([], element_value (slice_get e n)) ∷ []
   rows_of_term b (integer z) e = ([], number z) ∷ []
   rows_of_term b (constructed ty n) e = ([], element_value (slice_get (domain_at b.domains ty) n)) ∷ []
-  rows_of_term b (application s ts) e = flat_map (λ t. rows_at b s t.0 (row_index (tuples_at b s) t.1)) (rows_of_terms b ts e)
+  rows_of_term b (application s ts) e =
+      flat_map (λ t. rows_at b s t.0 (row_index (tuples_at b s) t.1)) (rows_of_terms b ts e)
   rows_of_term b (summation ss) e = map_rows number_value (rows_of_sum b ss e)
   rows_of_term b (product ts) e = map_rows (λ vs. number_value (product_from (pos 1) vs)) (rows_of_terms b ts e)
   rows_of_term b (aggregate k bs f t) e = []

@@ -1,10 +1,11 @@
 -- Terms whose functions are applied to elements of their argument types.
-use Rattle.std.specs.Prelude.{◌≡◌, ℕ, ◌<◌, List, [], ◌∷◌, length, Some, slice_get, Contains}
+use Rattle.std.specs.Prelude.{◌≡◌, ℕ, ℤ, neg_ℤ, true, ◌<◌, List, [], ◌∷◌, length, Some, slice_get, Contains}
 use Rattle.kb_logic.specs.declared.elements.Elem.{Elem}
 use Rattle.kb_logic.specs.declared.elements.Elem.TheVariants.{Num}
 use Rattle.kb_logic.specs.declared.vocabularies.Symbol.{Symbol}
 use Rattle.kb_logic.specs.declared.vocabularies.Vocabulary.{Vocabulary}
-use Rattle.kb_logic.specs.Trees.{TermTree, variable, integer, constructed, application, summation, product, aggregate, TermTrees}
+use Rattle.kb_logic.specs.Trees.{TermTree, variable, integer, constructed, application, summation, product, aggregate}
+use Rattle.kb_logic.specs.Trees.{TermTrees}
 use Rattle.kb_logic.specs.Trees.{no_terms, more_terms, SummandTrees, no_summands, more_summands}
 use Rattle.kb_logic.specs.Structures.{domain_at}
 use Rattle.kb_logic.specs.Bounds.{value_type_of}
@@ -19,7 +20,8 @@ IsOfType v domains scope ty (variable n) = (u : ℕ) × (slice_get scope n ≡ S
 IsOfType v domains scope ty (integer z) = Contains (domain_at domains ty) (Num z)
 IsOfType v domains scope ty (constructed u n) = (n < length (domain_at domains u)) × IsSubtype domains u ty
 IsOfType v domains scope ty (application s ts) = (u : ℕ) × (value_type_of v s ≡ Some u) × IsSubtype domains u ty
-IsOfType v domains scope ty (summation ss) = ⊥
+IsOfType v domains scope ty (summation ss) =
+    (z : ℤ) × (ss ≡ more_summands true (integer z) no_summands) × Contains (domain_at domains ty) (Num (neg_ℤ z))
 IsOfType v domains scope ty (product ts) = ⊥
 IsOfType v domains scope ty (aggregate k bs f t) = ⊥
 
@@ -29,7 +31,8 @@ abbrev mutual
   IsTypedTerm v domains scope (variable n) = Unit {0}
   IsTypedTerm v domains scope (integer z) = Unit {0}
   IsTypedTerm v domains scope (constructed u n) = Unit {0}
-  IsTypedTerm v domains scope (application s ts) = (d : Symbol) × (slice_get v.symbols s ≡ Some d) × AreArguments v domains scope d.args ts
+  IsTypedTerm v domains scope (application s ts) =
+      (d : Symbol) × (slice_get v.symbols s ≡ Some d) × AreArguments v domains scope d.args ts
   IsTypedTerm v domains scope (summation ss) = AreTypedSummands v domains scope ss
   IsTypedTerm v domains scope (product ts) = AreTypedTerms v domains scope ts
   IsTypedTerm v domains scope (aggregate k bs f t) = ⊥
@@ -40,7 +43,8 @@ abbrev mutual
 
   pub AreTypedSummands : Vocabulary → List (List Elem) → List ℕ → SummandTrees → Type 0
   AreTypedSummands v domains scope no_summands = Unit {0}
-  AreTypedSummands v domains scope (more_summands minus t ss) = IsTypedTerm v domains scope t × AreTypedSummands v domains scope ss
+  AreTypedSummands v domains scope (more_summands minus t ss) =
+      IsTypedTerm v domains scope t × AreTypedSummands v domains scope ss
 
   -- one argument for each of the types
   pub AreArguments : Vocabulary → List (List Elem) → List ℕ → List ℕ → TermTrees → Type 0
