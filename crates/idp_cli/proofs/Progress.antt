@@ -6,7 +6,7 @@ use Rattle.std.specs.Prelude.{nat_le}
 use Rattle.std.proofs.lemmas.Bool.Decides.{leb_tells}
 use Rattle.std.specs.Io.KnownBytes.{Consumes}
 use Rattle.kb_io.specs.Lines.{newlines, command_lines, ended, IsNextLine}
-use Rattle.kb_io.proofs.LineLemmas.{newlines-append, last_line, next_line_begins}
+use Rattle.kb_io.proofs.LineLemmas.{newlines-append, last_line}
 use Rattle.kb_io.specs.Pending.{Pending, TakesLine, NextLine, most_bytes}
 use Rattle.kb_io.specs.declared.lines.LineError.TheVariants as line_error
 use Rattle.kb_io.specs.declared.lines.Next.TheVariants as next

@@ -1,5 +1,5 @@
 -- The next line is the first of the lines of all bytes.
-use Rattle.std.specs.Prelude.{◌≡◌, ℕ, List, Option, Result, Ok, Err}
+use Rattle.std.specs.Prelude.{ℕ, List, Option, Result, Ok, Err}
 use Rattle.kb_io.specs.Pending.{Pending, NextLine, GivesLine}
 use Rattle.kb_io.specs.declared.lines.Next.{Next}
 use Rattle.kb_io.specs.declared.lines.Next.TheVariants.{Line, LongLine, End}
