@@ -1,39 +1,36 @@
 -- One more clause is watched.
-use Rattle.std.proofs.Common.{◌≡◌, ℕ, ◌<◌, ◌≤◌, ◌+◌, ◌*◌, true, false, Some, List, ◌∷◌, length, set, sym, ap, ◌∙◌, ◌⊎◌, inl, inr, ⊎_elim, arith, slice_get, subst, Contains}
-use Rattle.std.specs.Vec.{with_item}
-use Rattle.std.proofs.lemmas.Bool.{cases_eq}
-use Rattle.std.proofs.lemmas.List.{length-set}
+use Rattle.std.proofs.Common.{◌≡◌, ℕ, ◌<◌, ◌≤◌, ◌+◌, ◌*◌, true, false, Some, List, ◌∷◌, length, sym, ap, ◌∙◌, ◌⊎◌, inl, inr, ⊎_elim, arith, subst, Contains}
+use Rattle.std.proofs.lemmas.Bool.{cases_eq, cases_lt}
 use Rattle.lit_core.specs.declared.literals.Lit.{Lit}
 use Rattle.lit_core.specs.Literals.{value_in}
 use Rattle.lit_core.proofs.LiteralFacts.{Contains-cons_cases, Contains-head, Contains-tail}
-use Rattle.clause_store.specs.declared.engine.Watch.{Watch}
-use Rattle.clause_store.specs.declared.engine.Engine.{Engine}
-use Rattle.clause_store.specs.declared.engine.Pick.TheVariants.{Two}
-use Rattle.clause_store.specs.ListsState.{ListsState, HasLaws, nodes_of}
-use Rattle.clause_store.specs.StoreState.{IsHeld}
-use Rattle.clause_store.specs.TrailLaws.{IsMade}
-use Rattle.clause_store.specs.Watching.{code_of, store_of, IsEngine, IsHanging, IsHung, IsNodeOf, IsWatched}
-use Rattle.clause_store.specs.Visits.{CanAttach, IsPartner, PickGives}
-use Rattle.clause_store.proofs.ListFacts.{slice_get-set_same, slice_get-set_other}
+use Rattle.clause_store.specs.declared.watched.Watch.{Watch}
+use Rattle.clause_store.specs.declared.watched.Watcher.{Watcher}
+use Rattle.clause_store.specs.declared.attachment.WatchChoice.TheVariants.{Two}
+use Rattle.clause_base.specs.ListsState.{ListsState, HasLaws, nodes_of}
+use Rattle.clause_base.specs.StoreState.{IsHeld}
+use Rattle.clause_base.specs.TrailLaws.{IsMade}
+use Rattle.clause_store.specs.Watching.{code_of, store_of, HasWatch, IsWatcher, IsWatchNode, IsListed, IsNodeOf, IsWatched}
+use Rattle.clause_store.specs.Visits.{CanAttach, IsPartner, WatchChoiceGives}
 use Rattle.clause_store.proofs.WatchFacts.{guards-unfalse, same-held}
-use Rattle.clause_store.proofs.HangFacts.{same-node}
+use Rattle.clause_store.proofs.NodeFacts.{same-node}
 
--- a node of the next clause hangs nowhere
-pub next-free : (e : Engine) → IsEngine e → (n : ℕ) → IsNodeOf n e.checked → (j : ℕ) → Contains (nodes_of e.lists j) n → ⊥
+-- a node of the next clause enlists nowhere
+pub next-free : (e : Watcher) → IsWatcher e → (n : ℕ) → IsNodeOf n e.checked → (j : ℕ) → Contains (nodes_of e.lists j) n → ⊥
 next-free e h n of j has =
-    let w = h.hanging j n has in
+    let w = h.owned j n has in
     let same : w.id ≡ e.checked = same-node n w.id e.checked w.of of in
     let lt : w.id < e.checked = w.checked in
     omega arith
 
--- a node was hung in front of a list
-pub record Hangs (old new : ListsState) (to node : ℕ) : Type 0 where
+-- a node was listed in front of a list
+pub record Enlists (old new : ListsState) (to node : ℕ) : Type 0 where
   pub there : Contains (nodes_of new to) node
   pub kept : (j m : ℕ) → Contains (nodes_of old j) m → Contains (nodes_of new j) m
   pub was : (j m : ℕ) → Contains (nodes_of new j) m → (m ≡ node) ⊎ Contains (nodes_of old j) m
 
-pub hangs : (old new : ListsState) (to node : ℕ) → nodes_of new to ≡ node ∷ nodes_of old to → ((j : ℕ) → (j ≡ to → ⊥) → nodes_of new j ≡ nodes_of old j) → Hangs old new to node
-hangs old new to node here rest = record {
+pub enlists : (old new : ListsState) (to node : ℕ) → nodes_of new to ≡ node ∷ nodes_of old to → ((j : ℕ) → (j ≡ to → ⊥) → nodes_of new j ≡ nodes_of old j) → Enlists old new to node
+enlists old new to node here rest = record {
   there = subst (λ (xs : List ℕ). Contains xs node) (sym here) (Contains-head node (nodes_of old to));
   kept = λ j m has. ⊎_elim
       (λ e. subst (λ (k : ℕ). Contains (nodes_of new k) m) (sym e) (subst (λ (xs : List ℕ). Contains xs m) (sym here) (Contains-tail node (nodes_of old to) m (subst (λ (k : ℕ). Contains (nodes_of old k) m) e has))))
@@ -48,88 +45,104 @@ hangs old new to node here rest = record {
       (cases_eq j to);
 }
 
-module _ (e : Engine) (h : IsEngine e) (more : e.checked < length e.held.clauses) (w : Watch) (mid lists : ListsState) (first : Hangs e.lists mid (code_of w.first) (2 * e.checked)) (second : Hangs mid lists (code_of w.second) (2 * e.checked + 1)) where
-  abbrev after-attach : Engine
-  after-attach = record { held = e.held; watches = with_item e.watches e.checked w; lists = lists; trail = e.trail; queue = e.queue; checked = e.checked + 1; stale = e.stale }
+module _ (e : Watcher) (h : IsWatcher e) (more : e.checked < length e.held.clauses) (w : Watch) (mid lists : ListsState) (mine : HasWatch lists.labels e.checked w) (theirs : (i : ℕ) (v : Watch) → (i ≡ e.checked → ⊥) → HasWatch e.lists.labels i v → HasWatch lists.labels i v) (first : Enlists e.lists mid (code_of w.first) (2 * e.checked)) (second : Enlists mid lists (code_of w.second) (2 * e.checked + 1)) where
+  abbrev after-attach : Watcher
+  after-attach = record { held = e.held; lists = lists; trail = e.trail; queue = e.queue; checked = e.checked + 1; stale = e.stale }
 
-  within : e.checked < length e.watches.items
-  within = let a : length e.held.clauses ≤ length e.watches.items = h.watches in omega arith
-
-  at-next : slice_get (set e.watches.items e.checked w) e.checked ≡ Some w
-  at-next = slice_get-set_same e.watches.items e.checked w within
-
-  hung-next : IsHung after-attach e.checked
-  hung-next = record {
+  listed-next : IsListed after-attach e.checked
+  listed-next = record {
     watch = w;
-    is_watch = at-next;
+    is_watch = mine;
     first = second.kept (code_of w.first) (2 * e.checked) first.there;
     second = second.there;
   }
 
-  hung-before : (i : ℕ) → (i ≡ e.checked → ⊥) → IsHung e i → IsHung after-attach i
-  hung-before i ne g = record {
+  listed-before : (i : ℕ) → (i ≡ e.checked → ⊥) → IsListed e i → IsListed after-attach i
+  listed-before i ne g = record {
     watch = g.watch;
-    is_watch = slice_get-set_other e.watches.items e.checked i w ne ∙ g.is_watch;
+    is_watch = theirs i g.watch ne g.is_watch;
     first = second.kept (code_of g.watch.first) (2 * i) (first.kept (code_of g.watch.first) (2 * i) g.first);
     second = second.kept (code_of g.watch.second) (2 * i + 1) (first.kept (code_of g.watch.second) (2 * i + 1) g.second);
   }
 
-  pub attach-engine : HasLaws lists → lists.nodes ≡ e.lists.nodes → length lists.lists ≡ length e.lists.lists → w.first.var.0 < length e.trail.values → w.second.var.0 < length e.trail.values → CanAttach e w → IsEngine after-attach
-  attach-engine laws nodes count in_first in_second can =
-      let hanging-next : (n : ℕ) → IsNodeOf n e.checked → IsHanging after-attach n = λ n of. record { id = e.checked; of = of; checked = omega arith; watch = w; is_watch = at-next; first = in_first; second = in_second } in
-      let hanging-before : (j n : ℕ) → Contains (nodes_of e.lists j) n → IsHanging after-attach n = λ j n has. (
-      let g = h.hanging j n has in
+  pub attach-watcher : HasLaws lists → length lists.labels ≡ length e.lists.labels → length lists.lists ≡ length e.lists.lists → w.first.var.0 < length e.trail.values → w.second.var.0 < length e.trail.values → CanAttach e w → IsWatcher after-attach
+  attach-watcher laws nodes count in_first in_second can =
+      let owned-next : (n : ℕ) → IsNodeOf n e.checked → IsWatchNode after-attach n = λ n of. record { id = e.checked; of = of; checked = omega arith; watch = w; is_watch = mine; first = in_first; second = in_second } in
+      let owned-before : (j n : ℕ) → Contains (nodes_of e.lists j) n → IsWatchNode after-attach n = λ j n has. (
+      let g = h.owned j n has in
       let lt : g.id < e.checked = g.checked in
-      record { id = g.id; of = g.of; checked = omega arith; watch = g.watch; is_watch = slice_get-set_other e.watches.items e.checked g.id w (λ x. let y : g.id ≡ e.checked = x in omega arith) ∙ g.is_watch; first = g.first; second = g.second }) in
+      record { id = g.id; of = g.of; checked = omega arith; watch = g.watch; is_watch = theirs g.id g.watch (λ x. let y : g.id ≡ e.checked = x in omega arith) g.is_watch; first = g.first; second = g.second }) in
       record {
         store = h.store;
         lists = laws;
         queue = h.queue;
         checked = omega arith;
-        watches = rw length-set h.watches;
-        nodes = let k : 2 * length e.held.clauses ≤ e.lists.nodes = h.nodes in omega arith;
+        nodes = let k : 2 * length e.held.clauses ≤ length e.lists.labels = h.nodes in omega arith;
         count = let k : 2 * length e.trail.values ≤ length e.lists.lists = h.count in omega arith;
-        room = λ spare. let r = h.room spare in (rw length-set r.0, let k : 2 * length e.held.clauses + 2 ≤ e.lists.nodes = r.1 in omega arith);
+        small = h.small;
+        room = λ spare. let k : 2 * length e.held.clauses + 2 ≤ length e.lists.labels = h.room spare in omega arith;
         guarded = λ i c lt held. ⊎_elim
-            (λ same. (w, ap (slice_get (set e.watches.items e.checked w)) same ∙ at-next, can c (subst (λ (n : ℕ). IsHeld (store_of e) n c) same held)))
-            (λ ne. let g = h.guarded i c (omega arith) held in (g.0, slice_get-set_other e.watches.items e.checked i w ne ∙ g.1, g.2))
+            (λ same. (w, subst (λ (n : ℕ). HasWatch lists.labels n w) (sym same) mine, can c (subst (λ (n : ℕ). IsHeld (store_of e) n c) same held)))
+            (λ ne. let g = h.guarded i c (omega arith) held in (g.0, theirs i g.0 ne g.1, g.2))
             (cases_eq i e.checked);
         current = h.current;
-        hung = λ i c lt held. ⊎_elim
-            (λ same. subst (IsHung after-attach) (sym same) hung-next)
-            (λ ne. hung-before i ne (h.hung i c (omega arith) held))
+        listed = λ i c lt held. ⊎_elim
+            (λ same. subst (IsListed after-attach) (sym same) listed-next)
+            (λ ne. listed-before i ne (h.listed i c (omega arith) held))
             (cases_eq i e.checked);
-        hanging = λ j n has. ⊎_elim
-            (λ is. hanging-next n (inr is))
-            (λ rest. ⊎_elim (λ is. hanging-next n (inl is)) (λ old. hanging-before j n old) (first.was j n rest))
+        owned = λ j n has. ⊎_elim
+            (λ is. owned-next n (inr is))
+            (λ rest. ⊎_elim (λ is. owned-next n (inl is)) (λ old. owned-before j n old) (first.was j n rest))
             (second.was j n has);
       }
 
 -- a removed clause is passed over
-pub skip-engine : (e : Engine) → IsEngine e → e.checked < length e.held.clauses → ((c : List Lit) → IsHeld (store_of e) e.checked c → ⊥) → IsEngine (record { held = e.held; watches = e.watches; lists = e.lists; trail = e.trail; queue = e.queue; checked = e.checked + 1; stale = e.stale })
-skip-engine e h more gone = record {
+pub skip-watcher : (e : Watcher) → IsWatcher e → e.checked < length e.held.clauses → ((c : List Lit) → IsHeld (store_of e) e.checked c → ⊥) → IsWatcher (record { held = e.held; lists = e.lists; trail = e.trail; queue = e.queue; checked = e.checked + 1; stale = e.stale })
+skip-watcher e h more gone = record {
   store = h.store;
   lists = h.lists;
   queue = h.queue;
   checked = omega arith;
-  watches = h.watches;
   nodes = h.nodes;
   count = h.count;
+  small = h.small;
   room = h.room;
   guarded = λ i c lt held. ⊎_elim
       (λ same. absurd (gone c (subst (λ (n : ℕ). IsHeld (store_of e) n c) same held)))
       (λ ne. h.guarded i c (omega arith) held)
       (cases_eq i e.checked);
   current = h.current;
-  hung = λ i c lt held. ⊎_elim
+  listed = λ i c lt held. ⊎_elim
       (λ same. absurd (gone c (subst (λ (n : ℕ). IsHeld (store_of e) n c) same held)))
-      (λ ne. let g = h.hung i c (omega arith) held in record { watch = g.watch; is_watch = g.is_watch; first = g.first; second = g.second })
+      (λ ne. let g = h.listed i c (omega arith) held in record { watch = g.watch; is_watch = g.is_watch; first = g.first; second = g.second })
       (cases_eq i e.checked);
-  hanging = λ j n has. let g = h.hanging j n has in let lt : g.id < e.checked = g.checked in record { id = g.id; of = g.of; checked = omega arith; watch = g.watch; is_watch = g.is_watch; first = g.first; second = g.second };
+  owned = λ j n has. let g = h.owned j n has in let lt : g.id < e.checked = g.checked in record { id = g.id; of = g.of; checked = omega arith; watch = g.watch; is_watch = g.is_watch; first = g.first; second = g.second };
 }
 
+-- the rest of the clauses, all removed, is passed over
+pub rest-watcher : (e : Watcher) (n : ℕ) → IsWatcher e → n ≡ length e.held.clauses → ((id : ℕ) (c : List Lit) → e.checked ≤ id → IsHeld (store_of e) id c → ⊥) → IsWatcher (record { held = e.held; lists = e.lists; trail = e.trail; queue = e.queue; checked = n; stale = e.stale })
+rest-watcher e n h all gone =
+    let most : e.checked ≤ length e.held.clauses = h.checked in
+    record {
+      store = h.store;
+      lists = h.lists;
+      queue = h.queue;
+      checked = omega arith;
+      nodes = h.nodes;
+      count = h.count;
+      small = h.small;
+      room = h.room;
+      guarded = λ i c lt held. ⊎_elim (λ before. h.guarded i c before held) (λ ge. absurd (gone i c ge held)) (cases_lt i e.checked);
+      current = h.current;
+      listed = λ i c lt held. ⊎_elim
+          (λ before. let g = h.listed i c before held in record { watch = g.watch; is_watch = g.is_watch; first = g.first; second = g.second })
+          (λ ge. absurd (gone i c ge held))
+          (cases_lt i e.checked);
+      owned = λ j k has. let g = h.owned j k has in let lt : g.id < e.checked = g.checked in record { id = g.id; of = g.of; checked = omega arith; watch = g.watch; is_watch = g.is_watch; first = g.first; second = g.second };
+    }
+
 -- two literals that are not false may be watched
-pub two-attach : (e : Engine) (w : Watch) → IsEngine e → PickGives e e.checked (Two w) → CanAttach e w
+pub two-attach : (e : Watcher) (w : Watch) → IsWatcher e → WatchChoiceGives e e.checked (Two w) → CanAttach e w
 two-attach e w h p c held =
     subst (λ (x : List Lit). IsWatched e.trail.steps e.queue e.stale x w) (same-held (store_of e) e.checked p.0 c p.1 held) (record {
       has_first = p.2;
@@ -142,7 +155,7 @@ two-attach e w h p c held =
     })
 
 -- a true literal may be watched with one that became false at no lower level
-pub pair-attach : (e : Engine) (l m : Lit) (c : List Lit) → IsEngine e → IsHeld (store_of e) e.checked c → Contains c l → value_in e.trail.values l ≡ Some true → IsPartner e e.checked l m → CanAttach e (record { first = l; second = m })
+pub pair-attach : (e : Watcher) (l m : Lit) (c : List Lit) → IsWatcher e → IsHeld (store_of e) e.checked c → Contains c l → value_in e.trail.values l ≡ Some true → IsPartner e e.checked l m → CanAttach e (record { first = l; second = m })
 pair-attach e l m c h held has t p d k =
     let w : Watch = record { first = l; second = m } in
     subst (λ (x : List Lit). IsWatched e.trail.steps e.queue e.stale x w) (same-held (store_of e) e.checked c d held k) (record {
@@ -156,7 +169,7 @@ pair-attach e l m c h held has t p d k =
     })
 
 -- a clause with a true literal may be watched by it, at level 0 or where levels are passed over
-pub one-attach : (e : Engine) (l : Lit) (c : List Lit) → IsEngine e → IsHeld (store_of e) e.checked c → Contains c l → value_in e.trail.values l ≡ Some true → ((e.stale ≡ true) ⊎ (e.trail.level ≡ 0)) → CanAttach e (record { first = l; second = l })
+pub one-attach : (e : Watcher) (l : Lit) (c : List Lit) → IsWatcher e → IsHeld (store_of e) e.checked c → Contains c l → value_in e.trail.values l ≡ Some true → ((e.stale ≡ true) ⊎ (e.trail.level ≡ 0)) → CanAttach e (record { first = l; second = l })
 one-attach e l c h held has t low d k =
     let m : IsMade e.trail.steps l = h.store.trail.coherent.was_made l t in
     let w : Watch = record { first = l; second = l } in

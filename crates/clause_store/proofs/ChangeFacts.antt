@@ -1,5 +1,5 @@
--- The engine after an assignment, a step back, and other calls.
-use Rattle.std.proofs.Common.{◌≡◌, ℕ, ◌<◌, ◌≤◌, ◌+◌, ◌*◌, min, Bool, true, false, Option, Some, None, List, [], ◌∷◌, ◌++◌, length, refl, sym, ap, ◌∙◌, inl, inr, ⊎_elim, arith, slice_get, subst, Contains}
+-- The watcher after an assignment, a step back, and other calls.
+use Rattle.std.proofs.Common.{◌≡◌, ℕ, ◌<◌, ◌≤◌, ◌+◌, ◌*◌, ◌^◌, min, Bool, true, false, Option, Some, None, List, [], ◌∷◌, ◌++◌, length, refl, sym, ap, ◌∙◌, inl, inr, ⊎_elim, arith, slice_get, subst, Contains}
 use Rattle.std.specs.Option.{ForSome}
 use Rattle.std.proofs.lemmas.Option.{slice_get_within}
 use Rattle.std.proofs.lemmas.List.{length-set, length_push, length-replicate}
@@ -7,19 +7,19 @@ use Rattle.std.proofs.lemmas.Bool.{cases_lt, both_ways}
 use Rattle.lit_core.specs.declared.literals.Lit.{Lit}
 use Rattle.lit_core.specs.Literals.{value_in, negated}
 use Rattle.lit_core.proofs.LiteralFacts.{nothing_in_none}
-use Rattle.clause_store.specs.declared.trails.Step.{Step}
-use Rattle.clause_store.specs.TrailState.{TrailState}
-use Rattle.clause_store.specs.TrailLaws.{IsTrail, with_step, level_after, cleared, CutsAt}
-use Rattle.clause_store.specs.ListsState.{ListsState, HasLaws, nodes_of}
-use Rattle.clause_store.specs.StoreState.{IsStore, IsHeld, Implies, with_trail}
-use Rattle.clause_store.specs.declared.engine.Watch.{Watch}
-use Rattle.clause_store.specs.declared.engine.Engine.{Engine}
-use Rattle.clause_store.specs.Watching.{store_of, Guards, IsWatched, IsEngine}
+use Rattle.clause_base.specs.declared.trail.Step.{Step}
+use Rattle.clause_base.specs.TrailState.{TrailState}
+use Rattle.clause_base.specs.TrailLaws.{IsTrail, with_step, level_after, cleared, CutsAt}
+use Rattle.clause_base.specs.ListsState.{ListsState, HasLaws, nodes_of}
+use Rattle.clause_base.specs.StoreState.{IsStore, IsHeld, Implies, with_trail}
+use Rattle.clause_store.specs.declared.watched.Watch.{Watch}
+use Rattle.clause_store.specs.declared.watched.Watcher.{Watcher}
+use Rattle.clause_store.specs.Watching.{store_of, Guards, IsWatched, IsWatcher}
 use Rattle.clause_store.specs.Visits.{MayAssign}
-use Rattle.clause_store.proofs.ListFacts.{slice_get-push_cases, slice_get-take, slice_get-take-below}
-use Rattle.clause_store.proofs.StoreFacts.{store-assign, store-cut, store-cleared, store-fix}
+use Rattle.clause_base.proofs.ListFacts.{slice_get-push_cases, slice_get-take, slice_get-take-below}
+use Rattle.clause_base.proofs.StoreFacts.{store-assign, store-cut, store-cleared, store-fix}
 use Rattle.clause_store.proofs.WatchFacts.{watched-push}
-use Rattle.clause_store.proofs.ImplyFacts.{hanging-sized}
+use Rattle.clause_store.proofs.ImplyFacts.{owned-sized}
 
 guards-stale : (steps : List Step) (q : ℕ) (stale : Bool) (a b : Lit) → Guards steps q stale a b → Guards steps q true a b
 guards-stale steps q stale a b g k t lt e is = let w = g k t lt e is in (w.0, w.1, w.2, w.3, inl refl)
@@ -31,25 +31,25 @@ watched-stale steps q stale c w h = record {
   ways = ⊎_elim (λ g. inl (g.0, g.1, g.2, g.3, inl refl)) (λ p. inr (record { distinct = p.distinct; first = guards-stale steps q stale w.first w.second p.first; second = guards-stale steps q stale w.second w.first p.second })) h.ways;
 }
 
-pub engine-stale : (e : Engine) → IsEngine e → IsEngine (record { held = e.held; watches = e.watches; lists = e.lists; trail = e.trail; queue = e.queue; checked = e.checked; stale = true })
-engine-stale e h = record {
+pub watcher-stale : (e : Watcher) → IsWatcher e → IsWatcher (record { held = e.held; lists = e.lists; trail = e.trail; queue = e.queue; checked = e.checked; stale = true })
+watcher-stale e h = record {
   store = h.store;
   lists = h.lists;
   queue = h.queue;
   checked = h.checked;
-  watches = h.watches;
   nodes = h.nodes;
   count = h.count;
+  small = h.small;
   room = h.room;
   guarded = λ id c lt held. let g = h.guarded id c lt held in (g.0, g.1, watched-stale e.trail.steps e.queue e.stale c g.0 g.2);
   current = λ n. cc;
-  hung = λ i c lt held. let g = h.hung i c lt held in record { watch = g.watch; is_watch = g.is_watch; first = g.first; second = g.second };
-  hanging = λ j n has. let g = h.hanging j n has in record { id = g.id; of = g.of; checked = g.checked; watch = g.watch; is_watch = g.is_watch; first = g.first; second = g.second };
+  listed = λ i c lt held. let g = h.listed i c lt held in record { watch = g.watch; is_watch = g.is_watch; first = g.first; second = g.second };
+  owned = λ j n has. let g = h.owned j n has in record { id = g.id; of = g.of; checked = g.checked; watch = g.watch; is_watch = g.is_watch; first = g.first; second = g.second };
 }
 
 -- one more step, which is of the current level where what is not yet propagated is
-pub engine-step : (e : Engine) (t : Step) → IsEngine e → IsStore (with_trail (store_of e) (with_step e.trail t)) → (e.stale ≡ false → (k : ℕ) (u : Step) → e.queue ≤ k → slice_get e.trail.steps k ≡ Some u → u.level ≡ t.level) → IsEngine (record { held = e.held; watches = e.watches; lists = e.lists; trail = with_step e.trail t; queue = e.queue; checked = e.checked; stale = e.stale })
-engine-step e t h store current =
+pub watcher-step : (e : Watcher) (t : Step) → IsWatcher e → IsStore (with_trail (store_of e) (with_step e.trail t)) → (e.stale ≡ false → (k : ℕ) (u : Step) → e.queue ≤ k → slice_get e.trail.steps k ≡ Some u → u.level ≡ t.level) → IsWatcher (record { held = e.held; lists = e.lists; trail = with_step e.trail t; queue = e.queue; checked = e.checked; stale = e.stale })
+watcher-step e t h store current =
     let len : length (e.trail.steps ++ t ∷ []) ≡ length e.trail.steps + 1 = length_push e.trail.steps t in
     let q : e.queue ≤ length e.trail.steps = h.queue in
     record {
@@ -57,58 +57,58 @@ engine-step e t h store current =
       lists = h.lists;
       queue = omega arith;
       checked = h.checked;
-      watches = h.watches;
       nodes = h.nodes;
       count = rw length-set h.count;
+      small = rw length-set h.small;
       room = h.room;
       guarded = λ i c lt held. let g = h.guarded i c lt held in (g.0, g.1, watched-push e.trail.steps t e.queue e.stale c g.0 h.queue g.2);
       current = λ n k u le eu. ⊎_elim (λ o. current n k u le o) (λ x. ap (λ (y : Step). y.level) x.1) (slice_get-push_cases e.trail.steps t k u eu);
-      hung = λ i c lt held. let g = h.hung i c lt held in record { watch = g.watch; is_watch = g.is_watch; first = g.first; second = g.second };
-      hanging = λ j n has. hanging-sized e t n (h.hanging j n has);
+      listed = λ i c lt held. let g = h.listed i c lt held in record { watch = g.watch; is_watch = g.is_watch; first = g.first; second = g.second };
+      owned = λ j n has. owned-sized e t n (h.owned j n has);
     }
 
-pub engine-assign : (e : Engine) (l : Lit) (r : Option ℕ) → IsEngine e → l.var.0 < length e.trail.values → value_in e.trail.values l ≡ None → ForSome r (λ id. Implies (store_of e) id l) → MayAssign e r → IsEngine (record { held = e.held; watches = e.watches; lists = e.lists; trail = with_step e.trail (record { lit = l; level = level_after e.trail.level r; reason = r }); queue = e.queue; checked = e.checked; stale = e.stale })
-engine-assign e l r h within free reason may =
-    engine-step e (record { lit = l; level = level_after e.trail.level r; reason = r }) h (store-assign (store_of e) l r h.store within free reason) (by_reason r may)
+pub watcher-assign : (e : Watcher) (l : Lit) (r : Option ℕ) → IsWatcher e → l.var.0 < length e.trail.values → value_in e.trail.values l ≡ None → ForSome r (λ id. Implies (store_of e) id l) → MayAssign e r → IsWatcher (record { held = e.held; lists = e.lists; trail = with_step e.trail (record { lit = l; level = level_after e.trail.level r; reason = r }); queue = e.queue; checked = e.checked; stale = e.stale })
+watcher-assign e l r h within free reason may =
+    watcher-step e (record { lit = l; level = level_after e.trail.level r; reason = r }) h (store-assign (store_of e) l r h.store within free reason) (by_reason r may)
   where
     by_reason : (o : Option ℕ) → MayAssign e o → e.stale ≡ false → (k : ℕ) (u : Step) → e.queue ≤ k → slice_get e.trail.steps k ≡ Some u → u.level ≡ level_after e.trail.level o
     by_reason None m n k u le eu = ⊎_elim (λ s. absurd (both_ways e.stale n s)) (λ all. let lt : k < length e.trail.steps = slice_get_within e.trail.steps k u eu in absurd (omega arith)) m
     by_reason (Some id) m n k u le eu = h.current n k u le eu
 
-pub engine-fix : (e : Engine) (l : Lit) → IsEngine e → e.trail.level ≡ 0 → l.var.0 < length e.trail.values → value_in e.trail.values l ≡ None → ((id : ℕ) (c : List Lit) → IsHeld (store_of e) id c → Contains c (negated l) → ⊥) → IsEngine (record { held = e.held; watches = e.watches; lists = e.lists; trail = with_step e.trail (record { lit = l; level = 0; reason = None }); queue = e.queue; checked = e.checked; stale = e.stale })
-engine-fix e l h level within free unopposed =
-    engine-step e (record { lit = l; level = 0; reason = None }) h (store-fix (store_of e) l h.store level within free unopposed) (λ n k u le eu. h.current n k u le eu ∙ level)
+pub watcher-fix : (e : Watcher) (l : Lit) → IsWatcher e → e.trail.level ≡ 0 → l.var.0 < length e.trail.values → value_in e.trail.values l ≡ None → ((id : ℕ) (c : List Lit) → IsHeld (store_of e) id c → Contains c (negated l) → ⊥) → IsWatcher (record { held = e.held; lists = e.lists; trail = with_step e.trail (record { lit = l; level = 0; reason = None }); queue = e.queue; checked = e.checked; stale = e.stale })
+watcher-fix e l h level within free unopposed =
+    watcher-step e (record { lit = l; level = 0; reason = None }) h (store-fix (store_of e) l h.store level within free unopposed) (λ n k u le eu. h.current n k u le eu ∙ level)
 
 -- the lists were emptied: all is to be looked at again
-pub engine-emptied : (e : Engine) (lists : ListsState) (t : TrailState) (stale : Bool) → IsEngine e → IsStore (with_trail (store_of e) t) → length t.values ≡ length e.trail.values → HasLaws lists → lists.nodes ≡ e.lists.nodes → length lists.lists ≡ length e.lists.lists → ((j : ℕ) → nodes_of lists j ≡ []) → (stale ≡ false → t.level ≡ 0) → IsEngine (record { held = e.held; watches = e.watches; lists = lists; trail = t; queue = 0; checked = 0; stale = stale })
-engine-emptied e lists t stale h store size laws nodes count empty low = record {
+pub watcher-emptied : (e : Watcher) (lists : ListsState) (t : TrailState) (stale : Bool) → IsWatcher e → IsStore (with_trail (store_of e) t) → length t.values ≡ length e.trail.values → HasLaws lists → lists.labels ≡ e.lists.labels → length lists.lists ≡ length e.lists.lists → ((j : ℕ) → nodes_of lists j ≡ []) → (stale ≡ false → t.level ≡ 0) → IsWatcher (record { held = e.held; lists = lists; trail = t; queue = 0; checked = 0; stale = stale })
+watcher-emptied e lists t stale h store size laws nodes count empty low = record {
   store = store;
   lists = laws;
   queue = omega arith;
   checked = omega arith;
-  watches = h.watches;
-  nodes = let k : 2 * length e.held.clauses ≤ e.lists.nodes = h.nodes in omega arith;
+  nodes = let k : 2 * length e.held.clauses ≤ length e.lists.labels = h.nodes in let n : length lists.labels ≡ length e.lists.labels = ap length nodes in omega arith;
   count = let k : 2 * length e.trail.values ≤ length e.lists.lists = h.count in omega arith;
-  room = λ spare. let r = h.room spare in (r.0, let k : 2 * length e.held.clauses + 2 ≤ e.lists.nodes = r.1 in omega arith);
+  small = let k : length e.trail.values ≤ 2 ^ 31 = h.small in omega arith;
+  room = λ spare. let k : 2 * length e.held.clauses + 2 ≤ length e.lists.labels = h.room spare in let n : length lists.labels ≡ length e.lists.labels = ap length nodes in omega arith;
   guarded = λ i c lt held. absurd (omega arith);
   current = λ n k u le eu. let a : u.level ≤ t.level = store.trail.top k u eu in let z : t.level ≡ 0 = low n in omega arith;
-  hung = λ i c lt held. absurd (omega arith);
-  hanging = λ j n has. absurd (nothing_in_none n (subst (λ (xs : List ℕ). Contains xs n) (empty j) has));
+  listed = λ i c lt held. absurd (omega arith);
+  owned = λ j n has. absurd (nothing_in_none n (subst (λ (xs : List ℕ). Contains xs n) (empty j) has));
 }
 
-pub engine-reset : (e : Engine) (level : ℕ) (lists : ListsState) (t : TrailState) (stale : Bool) → IsEngine e → CutsAt level e.trail t → IsTrail t → HasLaws lists → lists.nodes ≡ e.lists.nodes → length lists.lists ≡ length e.lists.lists → ((j : ℕ) → nodes_of lists j ≡ []) → (stale ≡ false → level ≡ 0) → IsEngine (record { held = e.held; watches = e.watches; lists = lists; trail = t; queue = 0; checked = 0; stale = stale })
-engine-reset e level lists t stale h cut trail laws nodes count empty low =
-    engine-emptied e lists t stale h (store-cut (store_of e) level t h.store cut trail) cut.size laws nodes count empty (λ n. cut.level_is ∙ low n)
+pub watcher-reset : (e : Watcher) (level : ℕ) (lists : ListsState) (t : TrailState) (stale : Bool) → IsWatcher e → CutsAt level e.trail t → IsTrail t → HasLaws lists → lists.labels ≡ e.lists.labels → length lists.lists ≡ length e.lists.lists → ((j : ℕ) → nodes_of lists j ≡ []) → (stale ≡ false → level ≡ 0) → IsWatcher (record { held = e.held; lists = lists; trail = t; queue = 0; checked = 0; stale = stale })
+watcher-reset e level lists t stale h cut trail laws nodes count empty low =
+    watcher-emptied e lists t stale h (store-cut (store_of e) level t h.store cut trail) cut.size laws nodes count empty (λ n. cut.level_is ∙ low n)
 
-pub engine-cleared : (e : Engine) (lists : ListsState) (t : TrailState) → IsEngine e → t ≡ cleared e.trail → HasLaws lists → lists.nodes ≡ e.lists.nodes → length lists.lists ≡ length e.lists.lists → ((j : ℕ) → nodes_of lists j ≡ []) → IsEngine (record { held = e.held; watches = e.watches; lists = lists; trail = t; queue = 0; checked = 0; stale = false })
-engine-cleared e lists t h is laws nodes count empty =
-    engine-emptied e lists t false h
+pub watcher-cleared : (e : Watcher) (lists : ListsState) (t : TrailState) → IsWatcher e → t ≡ cleared e.trail → HasLaws lists → lists.labels ≡ e.lists.labels → length lists.lists ≡ length e.lists.lists → ((j : ℕ) → nodes_of lists j ≡ []) → IsWatcher (record { held = e.held; lists = lists; trail = t; queue = 0; checked = 0; stale = false })
+watcher-cleared e lists t h is laws nodes count empty =
+    watcher-emptied e lists t false h
     (subst (λ (x : TrailState). IsStore (with_trail (store_of e) x)) (sym is) (store-cleared (store_of e) h.store))
     (ap (λ (x : TrailState). length x.values) is ∙ length-replicate (length e.trail.values) None)
     laws nodes count empty (λ n. ap (λ (x : TrailState). x.level) is)
 
 -- a step back, where no level was passed over
-module _ (e : Engine) (level : ℕ) (t : TrailState) (h : IsEngine e) (fresh : e.stale ≡ false) (le : level ≤ e.trail.level) (cut : CutsAt level e.trail t) (laws : IsTrail t) where
+module _ (e : Watcher) (level : ℕ) (t : TrailState) (h : IsWatcher e) (fresh : e.stale ≡ false) (le : level ≤ e.trail.level) (cut : CutsAt level e.trail t) (laws : IsTrail t) where
   -- a step of a kept level is kept
   kept-low : (j : ℕ) (u : Step) → slice_get e.trail.steps j ≡ Some u → u.level ≤ level → slice_get t.steps j ≡ Some u
   kept-low j u eu low = ⊎_elim
@@ -138,15 +138,15 @@ module _ (e : Engine) (level : ℕ) (t : TrailState) (h : IsEngine e) (fresh : e
         p.ways;
   }
 
-  pub engine-cut : (q : ℕ) → q ≡ min e.queue (length t.steps) → IsEngine (record { held = e.held; watches = e.watches; lists = e.lists; trail = t; queue = q; checked = e.checked; stale = e.stale })
-  engine-cut q is = record {
+  pub watcher-cut : (q : ℕ) → q ≡ min e.queue (length t.steps) → IsWatcher (record { held = e.held; lists = e.lists; trail = t; queue = q; checked = e.checked; stale = e.stale })
+  watcher-cut q is = record {
     store = store-cut (store_of e) level t h.store cut laws;
     lists = h.lists;
     queue = omega arith;
     checked = h.checked;
-    watches = h.watches;
     nodes = h.nodes;
     count = rw cut.size h.count;
+    small = rw cut.size h.small;
     room = h.room;
     guarded = λ i c lt held. let g = h.guarded i c lt held in (g.0, g.1, watched-cut c g.0 q (omega arith) g.2);
     current = λ n k u kle eu.
@@ -155,6 +155,6 @@ module _ (e : Engine) (level : ℕ) (t : TrailState) (h : IsEngine e) (fresh : e
         let low : u.level ≤ level = cut.below k u eu in
         let lv : t.level ≡ level = cut.level_is in
         omega arith;
-    hung = λ i c lt held. let g = h.hung i c lt held in record { watch = g.watch; is_watch = g.is_watch; first = g.first; second = g.second };
-    hanging = λ j n has. let g = h.hanging j n has in record { id = g.id; of = g.of; checked = g.checked; watch = g.watch; is_watch = g.is_watch; first = rw cut.size g.first; second = rw cut.size g.second };
+    listed = λ i c lt held. let g = h.listed i c lt held in record { watch = g.watch; is_watch = g.is_watch; first = g.first; second = g.second };
+    owned = λ j n has. let g = h.owned j n has in record { id = g.id; of = g.of; checked = g.checked; watch = g.watch; is_watch = g.is_watch; first = rw cut.size g.first; second = rw cut.size g.second };
   }

@@ -1,87 +1,91 @@
--- The engine with more room, more variables, and other clauses.
-use Rattle.std.proofs.Common.{◌≡◌, ℕ, ◌<◌, ◌≤◌, ◌+◌, ◌*◌, Some, List, [], length, sym, ap, ◌∙◌, arith, slice_get, subst, Contains}
+-- The watcher with more room, more variables, and other clauses.
+use Rattle.std.proofs.Common.{◌≡◌, ℕ, ◌<◌, ◌≤◌, ◌+◌, ◌*◌, ◌^◌, Some, List, [], length, sym, ap, ◌∙◌, arith, slice_get, subst, Contains}
 use Rattle.lit_core.specs.declared.literals.Lit.{Lit}
 use Rattle.lit_core.proofs.LiteralFacts.{nothing_in_none}
-use Rattle.clause_store.specs.TrailState.{TrailState}
-use Rattle.clause_store.specs.TrailLaws.{IsTrail, empty_trail}
-use Rattle.clause_store.specs.ListsState.{ListsState, HasLaws, nodes_of}
-use Rattle.clause_store.specs.StoreState.{IsStore, IsHeld}
-use Rattle.clause_store.specs.declared.trails.Step.{Step}
-use Rattle.clause_store.specs.declared.engine.Watch.{Watch}
-use Rattle.clause_store.specs.declared.engine.Engine.{Engine}
-use Rattle.clause_store.specs.Watching.{code_of, store_of, IsEngine, IsWatched}
-use Rattle.clause_store.proofs.StoreFacts.{store-longer}
+use Rattle.clause_base.specs.TrailState.{TrailState}
+use Rattle.clause_base.specs.TrailLaws.{IsTrail, empty_trail}
+use Rattle.clause_base.specs.ListsState.{ListsState, HasLaws, nodes_of}
+use Rattle.clause_base.specs.StoreState.{IsStore, IsHeld}
+use Rattle.clause_base.specs.declared.trail.Step.{Step}
+use Rattle.clause_store.specs.declared.watched.Watch.{Watch}
+use Rattle.clause_store.specs.declared.watched.Watcher.{Watcher}
+use Rattle.clause_store.specs.Watching.{code_of, store_of, HasWatch, IsWatcher, IsWatched}
+use Rattle.clause_base.proofs.StoreFacts.{store-longer}
 
--- more watches, more nodes and other clauses, of which those that are watched were held before
-pub engine-held : (e : Engine) (b : Engine) → IsEngine e → IsStore (store_of b) → b.trail ≡ e.trail → b.queue ≡ e.queue → b.checked ≡ e.checked → b.stale ≡ e.stale → e.checked ≤ length b.held.clauses → length b.held.clauses ≤ length b.watches.items → 2 * length b.held.clauses ≤ b.lists.nodes → (0 < b.held.spare → (length b.held.clauses < length b.watches.items) × (2 * length b.held.clauses + 2 ≤ b.lists.nodes)) → ((id : ℕ) (c : List Lit) → id < e.checked → IsHeld (store_of b) id c → IsHeld (store_of e) id c) → ((id : ℕ) (w : Watch) → slice_get e.watches.items id ≡ Some w → slice_get b.watches.items id ≡ Some w) → HasLaws b.lists → length e.lists.lists ≤ length b.lists.lists → ((j : ℕ) → nodes_of b.lists j ≡ nodes_of e.lists j) → IsEngine b
-engine-held e b h store trail queue checked stale shorter watches nodes room was kept laws count lists =
+-- what is written on nodes stays where there are more of them
+pub watch-kept : (labels more : List ℕ) → ((k x : ℕ) → slice_get labels k ≡ Some x → slice_get more k ≡ Some x) → (id : ℕ) (w : Watch) → HasWatch labels id w → HasWatch more id w
+watch-kept labels more kept id w h = record { first = kept (2 * id + 1) (code_of w.first) h.first; second = kept (2 * id) (code_of w.second) h.second }
+
+-- more nodes and other clauses, of which those that are watched were held before
+pub watcher-held : (e : Watcher) (b : Watcher) → IsWatcher e → IsStore (store_of b) → b.trail ≡ e.trail → b.queue ≡ e.queue → b.checked ≡ e.checked → b.stale ≡ e.stale → e.checked ≤ length b.held.clauses → 2 * length b.held.clauses ≤ length b.lists.labels → (0 < b.held.spare → 2 * length b.held.clauses + 2 ≤ length b.lists.labels) → ((id : ℕ) (c : List Lit) → id < e.checked → IsHeld (store_of b) id c → IsHeld (store_of e) id c) → ((k x : ℕ) → slice_get e.lists.labels k ≡ Some x → slice_get b.lists.labels k ≡ Some x) → HasLaws b.lists → length e.lists.lists ≤ length b.lists.lists → ((j : ℕ) → nodes_of b.lists j ≡ nodes_of e.lists j) → IsWatcher b
+watcher-held e b h store trail queue checked stale shorter nodes room was kept laws count lists =
     record {
       store = store;
       lists = laws;
       queue = rw (queue, trail) h.queue;
       checked = rw checked shorter;
-      watches = watches;
       nodes = nodes;
       count = let k : 2 * length e.trail.values ≤ length e.lists.lists = h.count in rw trail (omega arith);
+      small = rw trail h.small;
       room = room;
       guarded = λ id c lt held.
           let lto : id < e.checked = omega arith in
           let g = h.guarded id c lto (was id c lto held) in
-          (g.0, kept id g.0 g.1, rw (trail, queue, stale) g.2);
+          (g.0, watch-kept e.lists.labels b.lists.labels kept id g.0 g.1, rw (trail, queue, stale) g.2);
       current = rw (trail, queue, stale) h.current;
-      hung = λ id c lt held.
+      listed = λ id c lt held.
           let lto : id < e.checked = omega arith in
-          let g = h.hung id c lto (was id c lto held) in
+          let g = h.listed id c lto (was id c lto held) in
           record {
             watch = g.watch;
-            is_watch = kept id g.watch g.is_watch;
+            is_watch = watch-kept e.lists.labels b.lists.labels kept id g.watch g.is_watch;
             first = subst (λ (xs : List ℕ). Contains xs (2 * id)) (sym (lists (code_of g.watch.first))) g.first;
             second = subst (λ (xs : List ℕ). Contains xs (2 * id + 1)) (sym (lists (code_of g.watch.second))) g.second;
           };
-      hanging = λ j n has.
-          let g = h.hanging j n (subst (λ (xs : List ℕ). Contains xs n) (lists j) has) in
+      owned = λ j n has.
+          let g = h.owned j n (subst (λ (xs : List ℕ). Contains xs n) (lists j) has) in
           record {
             id = g.id;
             of = g.of;
             checked = rw checked g.checked;
             watch = g.watch;
-            is_watch = kept g.id g.watch g.is_watch;
+            is_watch = watch-kept e.lists.labels b.lists.labels kept g.id g.watch g.is_watch;
             first = rw trail g.first;
             second = rw trail g.second;
           };
     }
 
 -- more variables, and more lists
-pub engine-longer : (e : Engine) (lists : ListsState) (t : TrailState) → IsEngine e → t.steps ≡ e.trail.steps → t.level ≡ e.trail.level → length e.trail.values ≤ length t.values → IsTrail t → HasLaws lists → lists.nodes ≡ e.lists.nodes → 2 * length t.values ≤ length lists.lists → ((j : ℕ) → nodes_of lists j ≡ nodes_of e.lists j) → IsEngine (record { held = e.held; watches = e.watches; lists = lists; trail = t; queue = e.queue; checked = e.checked; stale = e.stale })
-engine-longer e lists t h steps level longer trail laws nodes count same =
+pub watcher-longer : (e : Watcher) (lists : ListsState) (t : TrailState) → IsWatcher e → t.steps ≡ e.trail.steps → t.level ≡ e.trail.level → length e.trail.values ≤ length t.values → IsTrail t → HasLaws lists → lists.labels ≡ e.lists.labels → 2 * length t.values ≤ length lists.lists → length t.values ≤ 2 ^ 31 → ((j : ℕ) → nodes_of lists j ≡ nodes_of e.lists j) → IsWatcher (record { held = e.held; lists = lists; trail = t; queue = e.queue; checked = e.checked; stale = e.stale })
+watcher-longer e lists t h steps level longer trail laws nodes count small same =
     record {
       store = store-longer (store_of e) t h.store steps longer trail;
       lists = laws;
       queue = rw steps h.queue;
       checked = h.checked;
-      watches = h.watches;
-      nodes = let k : 2 * length e.held.clauses ≤ e.lists.nodes = h.nodes in omega arith;
+      nodes = let k : 2 * length e.held.clauses ≤ length e.lists.labels = h.nodes in let n : length lists.labels ≡ length e.lists.labels = ap length nodes in omega arith;
       count = count;
-      room = λ spare. let r = h.room spare in (r.0, let k : 2 * length e.held.clauses + 2 ≤ e.lists.nodes = r.1 in omega arith);
-      guarded = λ id c lt held. let g = h.guarded id c lt held in (g.0, g.1, subst (λ (xs : List Step). IsWatched xs e.queue e.stale c g.0) (sym steps) g.2);
+      small = small;
+      room = λ spare. let k : 2 * length e.held.clauses + 2 ≤ length e.lists.labels = h.room spare in let n : length lists.labels ≡ length e.lists.labels = ap length nodes in omega arith;
+      guarded = λ id c lt held. let g = h.guarded id c lt held in (g.0, subst (λ (ls : List ℕ). HasWatch ls id g.0) (sym nodes) g.1, subst (λ (xs : List Step). IsWatched xs e.queue e.stale c g.0) (sym steps) g.2);
       current = λ n k u le eu. h.current n k u le (subst (λ (xs : List Step). slice_get xs k ≡ Some u) steps eu) ∙ sym level;
-      hung = λ id c lt held.
-          let g = h.hung id c lt held in
+      listed = λ id c lt held.
+          let g = h.listed id c lt held in
           record {
             watch = g.watch;
-            is_watch = g.is_watch;
+            is_watch = subst (λ (ls : List ℕ). HasWatch ls id g.watch) (sym nodes) g.is_watch;
             first = subst (λ (xs : List ℕ). Contains xs (2 * id)) (sym (same (code_of g.watch.first))) g.first;
             second = subst (λ (xs : List ℕ). Contains xs (2 * id + 1)) (sym (same (code_of g.watch.second))) g.second;
           };
-      hanging = λ j n has.
-          let g = h.hanging j n (subst (λ (xs : List ℕ). Contains xs n) (same j) has) in
+      owned = λ j n has.
+          let g = h.owned j n (subst (λ (xs : List ℕ). Contains xs n) (same j) has) in
           let a : g.watch.first.var.0 < length e.trail.values = g.first in
           let b : g.watch.second.var.0 < length e.trail.values = g.second in
-          record { id = g.id; of = g.of; checked = g.checked; watch = g.watch; is_watch = g.is_watch; first = omega arith; second = omega arith };
+          record { id = g.id; of = g.of; checked = g.checked; watch = g.watch; is_watch = subst (λ (ls : List ℕ). HasWatch ls g.id g.watch) (sym nodes) g.is_watch; first = omega arith; second = omega arith };
     }
 
-pub engine-empty : (e : Engine) → IsStore (store_of e) → e.held.clauses ≡ [] → e.held.spare ≡ 0 → e.trail ≡ empty_trail → e.queue ≡ 0 → e.checked ≡ 0 → HasLaws e.lists → ((j : ℕ) → nodes_of e.lists j ≡ []) → IsEngine e
-engine-empty e store clauses spare trail queue checked laws empty =
+pub watcher-empty : (e : Watcher) → IsStore (store_of e) → e.held.clauses ≡ [] → e.held.spare ≡ 0 → e.trail ≡ empty_trail → e.queue ≡ 0 → e.checked ≡ 0 → HasLaws e.lists → ((j : ℕ) → nodes_of e.lists j ≡ []) → IsWatcher e
+watcher-empty e store clauses spare trail queue checked laws empty =
     let none : length e.held.clauses ≡ 0 = ap length clauses in
     let no_values : length e.trail.values ≡ 0 = ap (λ (t : TrailState). length t.values) trail in
     record {
@@ -89,12 +93,12 @@ engine-empty e store clauses spare trail queue checked laws empty =
       lists = laws;
       queue = omega arith;
       checked = omega arith;
-      watches = omega arith;
       nodes = omega arith;
       count = omega arith;
+      small = omega arith;
       room = λ pos. absurd (omega arith);
       guarded = λ id c lt held. absurd (omega arith);
       current = λ n k t le et. (let x : slice_get [] k ≡ Some t = subst (λ (y : TrailState). slice_get y.steps k ≡ Some t) trail et in cc);
-      hung = λ id c lt held. absurd (omega arith);
-      hanging = λ j n has. absurd (nothing_in_none n (subst (λ (xs : List ℕ). Contains xs n) (empty j) has));
+      listed = λ id c lt held. absurd (omega arith);
+      owned = λ j n has. absurd (nothing_in_none n (subst (λ (xs : List ℕ). Contains xs n) (empty j) has));
     }

@@ -1,23 +1,23 @@
 -- The last literal of a clause is made true.
-use Rattle.std.proofs.Common.{◌≡◌, ℕ, ◌<◌, ◌≤◌, ◌+◌, false, Option, Some, None, List, [], ◌∷◌, ◌++◌, length, refl, sym, ap, ◌∙◌, ◌⊎◌, inl, inr, ⊎_elim, arith, slice_get, subst, Contains}
+use Rattle.std.proofs.Common.{◌≡◌, ℕ, ◌<◌, ◌≤◌, ◌+◌, false, Option, Some, None, List, [], ◌∷◌, ◌++◌, length, refl, sym, ap, ◌∙◌, ◌⊎◌, inl, inr, ⊎_elim, arith, subst, Contains}
 use Rattle.std.proofs.lemmas.Option.{same_Some}
 use Rattle.std.proofs.lemmas.List.{length-set, length_push, append_assoc}
 use Rattle.lit_core.specs.declared.literals.Lit.{Lit}
 use Rattle.lit_core.specs.Literals.{value_in}
-use Rattle.clause_store.specs.declared.engine.Visit.TheVariants.{Done}
-use Rattle.clause_store.specs.declared.engine.Engine.{Engine}
-use Rattle.clause_store.specs.declared.trails.Step.{Step}
-use Rattle.clause_store.specs.Links.{last_of}
-use Rattle.clause_store.specs.ListsState.{nodes_of}
-use Rattle.clause_store.specs.StoreState.{IsStore, IsHeld, Implies, Propagates}
-use Rattle.clause_store.specs.TrailLaws.{with_step}
-use Rattle.clause_store.specs.Watching.{code_of, store_of, Guarded, IsEngine, IsGood, IsHanging, IsNodeOf, IsPair, IsWatched}
+use Rattle.clause_store.specs.declared.propagation.Visit.TheVariants.{Done}
+use Rattle.clause_store.specs.declared.watched.Watcher.{Watcher}
+use Rattle.clause_base.specs.declared.trail.Step.{Step}
+use Rattle.clause_base.specs.Links.{last_of}
+use Rattle.clause_base.specs.ListsState.{nodes_of}
+use Rattle.clause_base.specs.StoreState.{IsStore, IsHeld, Implies, Propagates}
+use Rattle.clause_base.specs.TrailLaws.{with_step}
+use Rattle.clause_store.specs.Watching.{HasWatch, code_of, store_of, Guarded, IsWatcher, IsGood, IsWatchNode, IsNodeOf, IsPair, IsWatched}
 use Rattle.clause_store.specs.Visits.{CanImply, IsNext, Keeps, Passes, VisitGives}
-use Rattle.clause_store.proofs.ListFacts.{slice_get-push_cases}
-use Rattle.clause_store.proofs.PropagateFacts.{propagates-refl, propagates-step}
-use Rattle.clause_store.proofs.StoreFacts.{store-assign}
+use Rattle.clause_base.proofs.ListFacts.{slice_get-push_cases}
+use Rattle.clause_base.proofs.PropagateFacts.{propagates-refl, propagates-step}
+use Rattle.clause_base.proofs.StoreFacts.{store-assign}
 use Rattle.clause_store.proofs.WatchFacts.{good-push, pair-implied, pair-swap, same-held, watched-push}
-use Rattle.clause_store.proofs.HangFacts.{literal-within, same-node}
+use Rattle.clause_store.proofs.NodeFacts.{literal-within, same-node}
 
 pub last-push : (front : List ℕ) (n : ℕ) → last_of (front ++ n ∷ []) ≡ Some n
 last-push [] n = refl
@@ -25,17 +25,17 @@ last-push (x ∷ []) n = refl
 last-push (x ∷ y ∷ front) n = last-push (y ∷ front) n
 
 -- a list that stays is passed up to the node
-pub passes-node : (old new : Engine) (node : ℕ) (f : Lit) (before : Option ℕ) → new.lists ≡ old.lists → Passes old new node f before (Some node)
+pub passes-node : (old new : Watcher) (node : ℕ) (f : Lit) (before : Option ℕ) → new.lists ≡ old.lists → Passes old new node f before (Some node)
 passes-node old new node f before same front rest is last =
     (front ++ node ∷ [], ap (λ s. nodes_of s (code_of f)) same ∙ is ∙ sym (append_assoc front (node ∷ []) rest), last-push front node)
 
--- what hangs stays so over a longer trail
-pub hanging-sized : (e : Engine) (t : Step) (n : ℕ) → IsHanging e n → IsHanging (record { held = e.held; watches = e.watches; lists = e.lists; trail = with_step e.trail t; queue = e.queue; checked = e.checked; stale = e.stale }) n
-hanging-sized e t n h = record { id = h.id; of = h.of; checked = h.checked; watch = h.watch; is_watch = h.is_watch; first = rw length-set h.first; second = rw length-set h.second }
+-- what enlists stays so over a longer trail
+pub owned-sized : (e : Watcher) (t : Step) (n : ℕ) → IsWatchNode e n → IsWatchNode (record { held = e.held; lists = e.lists; trail = with_step e.trail t; queue = e.queue; checked = e.checked; stale = e.stale }) n
+owned-sized e t n h = record { id = h.id; of = h.of; checked = h.checked; watch = h.watch; is_watch = h.is_watch; first = rw length-set h.first; second = rw length-set h.second }
 
-module _ (e : Engine) (h : IsEngine e) (node : ℕ) (f : Lit) (next : IsNext e f) (other : Lit) (m : CanImply e node f other) where
-  abbrev after-imply : Engine
-  after-imply = record { held = e.held; watches = e.watches; lists = e.lists; trail = with_step e.trail (record { lit = other; level = e.trail.level; reason = Some m.id }); queue = e.queue; checked = e.checked; stale = e.stale }
+module _ (e : Watcher) (h : IsWatcher e) (node : ℕ) (f : Lit) (next : IsNext e f) (other : Lit) (m : CanImply e node f other) where
+  abbrev after-imply : Watcher
+  after-imply = record { held = e.held; lists = e.lists; trail = with_step e.trail (record { lit = other; level = e.trail.level; reason = Some m.id }); queue = e.queue; checked = e.checked; stale = e.stale }
 
   pub other-within : other.var.0 < length e.trail.values
   other-within = literal-within e h m.id m.clause m.loose.held other m.loose.has_other
@@ -46,8 +46,8 @@ module _ (e : Engine) (h : IsEngine e) (node : ℕ) (f : Lit) (next : IsNext e f
   pub imply-store : IsStore (store_of after-imply)
   imply-store = store-assign (store_of e) other (Some m.id) h.store other-within m.unassigned (λ x is. subst (λ (n : ℕ). Implies (store_of e) n other) (same_Some m.id x is) implies)
 
-  pub imply-engine : IsEngine after-imply
-  imply-engine =
+  pub imply-watcher : IsWatcher after-imply
+  imply-watcher =
       let t : Step = record { lit = other; level = e.trail.level; reason = Some m.id } in
       let len : length (e.trail.steps ++ t ∷ []) ≡ length e.trail.steps + 1 = length_push e.trail.steps t in
       let q : e.queue ≤ length e.trail.steps = h.queue in
@@ -56,14 +56,14 @@ module _ (e : Engine) (h : IsEngine e) (node : ℕ) (f : Lit) (next : IsNext e f
         lists = h.lists;
         queue = omega arith;
         checked = h.checked;
-        watches = h.watches;
         nodes = h.nodes;
         count = rw length-set h.count;
+        small = rw length-set h.small;
         room = h.room;
         guarded = λ i c lt held. let g = h.guarded i c lt held in (g.0, g.1, watched-push e.trail.steps t e.queue e.stale c g.0 h.queue g.2);
         current = λ n k u le eu. ⊎_elim (λ o. h.current n k u le o) (λ x. ap (λ (y : Step). y.level) x.1) (slice_get-push_cases e.trail.steps t k u eu);
-        hung = λ i c lt held. let g = h.hung i c lt held in record { watch = g.watch; is_watch = g.is_watch; first = g.first; second = g.second };
-        hanging = λ j n has. hanging-sized e t n (h.hanging j n has);
+        listed = λ i c lt held. let g = h.listed i c lt held in record { watch = g.watch; is_watch = g.is_watch; first = g.first; second = g.second };
+        owned = λ j n has. owned-sized e t n (h.owned j n has);
       }
 
   pub imply-same : Propagates (store_of e) (store_of after-imply)
@@ -98,7 +98,7 @@ module _ (e : Engine) (h : IsEngine e) (node : ℕ) (f : Lit) (next : IsNext e f
       })
       m.loose.sides in
       let held2 : IsHeld (store_of e) m.id c = subst (λ (n : ℕ). IsHeld (store_of e) n c) same held in
-      (m.loose.watch, ap (slice_get e.watches.items) same ∙ m.loose.is_watch, subst (λ (x : List Lit). IsWatched steps (e.queue + 1) e.stale x m.loose.watch) (same-held (store_of e) m.id m.clause c m.loose.held held2) here)
+      (m.loose.watch, subst (λ (n : ℕ). HasWatch e.lists.labels n m.loose.watch) (sym same) m.loose.is_watch, subst (λ (x : List Lit). IsWatched steps (e.queue + 1) e.stale x m.loose.watch) (same-held (store_of e) m.id m.clause c m.loose.held held2) here)
 
   pub imply-done : (before : Option ℕ) → VisitGives e after-imply node f before (Done (Some node))
   imply-done before = (passes-node e after-imply node f before refl, imply-watched)

@@ -5,19 +5,19 @@ use Rattle.std.proofs.lemmas.List.Elements.{All-contains}
 use Rattle.lit_core.specs.declared.literals.Lit.{Lit}
 use Rattle.lit_core.specs.Literals.{value_in, negated}
 use Rattle.lit_core.specs.Truth.{IsSettled}
-use Rattle.clause_store.specs.TrailLaws.{IsCoherent, IsMade}
-use Rattle.clause_store.specs.StoreState.{IsQuiet, Propagates}
-use Rattle.clause_store.specs.declared.engine.Engine.{Engine}
-use Rattle.clause_store.specs.Watching.{store_of, Guards, IsPair, IsEngine}
-use Rattle.clause_store.proofs.StoreFacts.{negated-true}
+use Rattle.clause_base.specs.TrailLaws.{IsCoherent, IsMade}
+use Rattle.clause_base.specs.StoreState.{IsQuiet, Propagates}
+use Rattle.clause_store.specs.declared.watched.Watcher.{Watcher}
+use Rattle.clause_store.specs.Watching.{store_of, Guards, IsPair, IsWatcher}
+use Rattle.clause_base.proofs.StoreFacts.{negated-true}
 
-pub record Drains (old e : Engine) : Type 0 where
-  pub engine : IsEngine e
+pub record Drains (old e : Watcher) : Type 0 where
+  pub watcher : IsWatcher e
   pub same : Propagates (store_of old) (store_of e)
   pub checked : e.checked ≡ length e.held.clauses
 
-pub record Attaches (old e : Engine) : Type 0 where
-  pub engine : IsEngine e
+pub record Attaches (old e : Watcher) : Type 0 where
+  pub watcher : IsWatcher e
   pub same : Propagates (store_of old) (store_of e)
 
 -- a clause with a true literal is settled
@@ -44,7 +44,7 @@ settled-two a c l k hl hk ne nl nk = record {
 }
 
 -- with every step propagated, if one watched literal is false then the other is true
-module _ (e : Engine) (h : IsEngine e) (done : length e.trail.steps ≤ e.queue) where
+module _ (e : Watcher) (h : IsWatcher e) (done : length e.trail.steps ≤ e.queue) where
   coherent : IsCoherent e.trail.values e.trail.steps
   coherent = h.store.trail.coherent
 
@@ -65,8 +65,8 @@ module _ (e : Engine) (h : IsEngine e) (done : length e.trail.steps ≤ e.queue)
       by_values None (Some false) ea eb = let x : Some true ≡ None = sym (guarded-true b a p.second eb) ∙ ea in cc
       by_values None None ea eb = settled-two e.trail.values c a b ha hb p.distinct ea eb
 
-  pub engine-quiet : e.checked ≡ length e.held.clauses → IsQuiet (store_of e)
-  engine-quiet all id c held =
+  pub watcher-quiet : e.checked ≡ length e.held.clauses → IsQuiet (store_of e)
+  watcher-quiet all id c held =
       let lt : id < length e.held.clauses = slice_get_within e.held.clauses id (Some c) held in
       let g = h.guarded id c (omega arith) held in
       ⊎_elim

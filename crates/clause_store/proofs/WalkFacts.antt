@@ -7,17 +7,18 @@ use Rattle.std.proofs.lemmas.Bool.{cases_eq, cond-true, cond-false, eq-eqb, ne_e
 use Rattle.lit_core.specs.declared.literals.Lit.{Lit}
 use Rattle.lit_core.specs.Literals.{negated}
 use Rattle.lit_core.proofs.LiteralFacts.{decide_literal, Contains-cons_cases, Contains-head, nothing_in_none}
-use Rattle.clause_store.specs.declared.trails.Step.{Step}
-use Rattle.clause_store.specs.declared.engine.Visit.TheVariants.{Done}
-use Rattle.clause_store.specs.declared.engine.Engine.{Engine}
-use Rattle.clause_store.specs.Links.{first_of, last_of, IsOnce}
-use Rattle.clause_store.specs.ListsState.{nodes_of}
-use Rattle.clause_store.specs.StoreState.{IsHeld, Propagates}
-use Rattle.clause_store.specs.TrailLaws.{lits_of}
-use Rattle.clause_store.specs.Watching.{code_of, store_of, Guarded, IsEngine, IsNodeOf}
+use Rattle.clause_base.specs.declared.trail.Step.{Step}
+use Rattle.clause_store.specs.declared.propagation.Visit.TheVariants.{Done}
+use Rattle.clause_store.specs.declared.watched.Watcher.{Watcher}
+use Rattle.clause_base.specs.Links.{first_of, last_of, IsOnce}
+use Rattle.clause_base.specs.ListsState.{nodes_of}
+use Rattle.clause_base.specs.StoreState.{IsHeld, Propagates}
+use Rattle.clause_base.specs.TrailLaws.{lits_of}
+use Rattle.clause_store.specs.Watching.{code_of, store_of, Guarded, IsWatcher, IsNodeOf}
 use Rattle.clause_store.specs.Visits.{IsAt, IsNext, Keeps, VisitGives}
-use Rattle.clause_store.proofs.ListFacts.{slice_get-take-below}
-use Rattle.clause_store.proofs.PropagateFacts.{propagates-trans, propagates-refl}
+use Rattle.clause_base.proofs.ListFacts.{slice_get-take-below}
+use Rattle.clause_base.proofs.PropagateFacts.{propagates-trans, propagates-refl}
+use Rattle.clause_store.proofs.NodeFacts.{same-watch}
 use Rattle.clause_store.proofs.WatchFacts.{pair-untouched, next-within}
 
 -- how many nodes of a list are from this one on
@@ -36,8 +37,8 @@ pub left-first : (front back : List ℕ) → IsOnce (front ++ back) → left (fr
 left-first front [] once = refl
 left-first front (n ∷ back) once = left-is front n back once
 
-pub record Walks (old e : Engine) (f : Lit) (at before : Option ℕ) : Type 0 where
-  pub engine : IsEngine e
+pub record Walks (old e : Watcher) (f : Lit) (at before : Option ℕ) : Type 0 where
+  pub watcher : IsWatcher e
   pub same : Propagates (store_of old) (store_of e)
   pub queue : e.queue ≡ old.queue
   pub checked : e.checked ≡ old.checked
@@ -60,9 +61,9 @@ back-none [] e = refl
 back-none (m ∷ rest) e = cc
 
 -- a clause that watches other literals stays watched
-pub walk-start : (e : Engine) → IsEngine e → (f : Lit) → IsNext e f → (at : Option ℕ) → at ≡ first_of (nodes_of e.lists (code_of f)) → Walks e e f at None
+pub walk-start : (e : Watcher) → IsWatcher e → (f : Lit) → IsNext e f → (at : Option ℕ) → at ≡ first_of (nodes_of e.lists (code_of f)) → Walks e e f at None
 walk-start e h f next at first = record {
-  engine = h;
+  watcher = h;
   same = propagates-refl (store_of e);
   queue = refl;
   checked = refl;
@@ -74,8 +75,8 @@ walk-start e h f next at first = record {
   before_is = refl;
   walked = λ id c lt held.
       let g = h.guarded id c lt held in
-      let w = h.hung id c lt held in
-      let same : w.watch ≡ g.0 = same_Some w.watch g.0 (sym w.is_watch ∙ g.1) in
+      let w = h.listed id c lt held in
+      let same : w.watch ≡ g.0 = same-watch e.lists.labels id w.watch g.0 w.is_watch g.1 in
       ⊎_elim
       (λ af. inr (2 * id, inl refl, subst (λ (x : Lit). Contains (nodes_of e.lists (code_of x)) (2 * id)) af w.first))
       (λ na. ⊎_elim
@@ -94,16 +95,16 @@ walk-start e h f next at first = record {
 }
 
 -- the node that comes next stands in the list
-pub walk-at : (old e : Engine) (f : Lit) (n : ℕ) (before : Option ℕ) → Walks old e f (Some n) before → IsAt e.lists (code_of f) before n
+pub walk-at : (old e : Watcher) (f : Lit) (n : ℕ) (before : Option ℕ) → Walks old e f (Some n) before → IsAt e.lists (code_of f) before n
 walk-at old e f n before h = let r = back-is h.back n h.at_is in (h.front, r.0, h.is ∙ ap (λ (xs : List ℕ). h.front ++ xs) r.1, h.before_is)
 
 -- the measure falls
-pub walk-left : (old e : Engine) (f : Lit) (at before : Option ℕ) (h : Walks old e f at before) → left (nodes_of e.lists (code_of f)) at ≡ length h.back
+pub walk-left : (old e : Watcher) (f : Lit) (at before : Option ℕ) (h : Walks old e f at before) → left (nodes_of e.lists (code_of f)) at ≡ length h.back
 walk-left old e f at before h =
-    let once : IsOnce (h.front ++ h.back) = subst IsOnce h.is (h.engine.lists.once (code_of f)) in
+    let once : IsOnce (h.front ++ h.back) = subst IsOnce h.is (h.watcher.lists.once (code_of f)) in
     ap (λ (xs : List ℕ). left xs at) h.is ∙ ap (left (h.front ++ h.back)) h.at_is ∙ left-first h.front h.back once
 
-module _ (old e new : Engine) (f : Lit) (n : ℕ) (at before last : Option ℕ) (h : Walks old e f (Some n) before) (after : (front back : List ℕ) → nodes_of e.lists (code_of f) ≡ front ++ n ∷ back → at ≡ first_of back) (engine : IsEngine new) (same : Propagates (store_of e) (store_of new)) (keeps : Keeps e new n) (done : VisitGives e new n f before (Done last)) where
+module _ (old e new : Watcher) (f : Lit) (n : ℕ) (at before last : Option ℕ) (h : Walks old e f (Some n) before) (after : (front back : List ℕ) → nodes_of e.lists (code_of f) ≡ front ++ n ∷ back → at ≡ first_of back) (watcher : IsWatcher new) (same : Propagates (store_of e) (store_of new)) (keeps : Keeps e new n) (done : VisitGives e new n f before (Done last)) where
   rest : List ℕ
   rest = (back-is h.back n h.at_is).0
 
@@ -116,7 +117,7 @@ module _ (old e new : Engine) (f : Lit) (n : ℕ) (at before last : Option ℕ) 
 
   next-kept : IsNext new f
   next-kept =
-      let within : e.queue < length e.trail.steps = next-within e h.engine f h.next in
+      let within : e.queue < length e.trail.steps = next-within e h.watcher f h.next in
       let kept : slice_get new.trail.steps e.queue ≡ Some h.next.0 = sym (slice_get-take-below (length e.trail.steps) new.trail.steps e.queue within) ∙ ap (λ (xs : List Step). slice_get xs e.queue) (sym same.kept) ∙ h.next.1 in
       (h.next.0, ap (slice_get new.trail.steps) keeps.queue ∙ kept, h.next.2)
 
@@ -127,7 +128,7 @@ module _ (old e new : Engine) (f : Lit) (n : ℕ) (at before last : Option ℕ) 
       nq = ap (λ (x : ℕ). x + 1) (sym keeps.queue)
 
       within : e.queue < length e.trail.steps
-      within = next-within e h.engine f h.next
+      within = next-within e h.watcher f h.next
 
       is_of : (i : ℕ) → IsNodeOf n i ⊎ (IsNodeOf n i → ⊥)
       is_of i = ⊎_elim (λ a. inl (inl a)) (λ a. ⊎_elim (λ b. inl (inr b)) (λ b. inr (λ x. ⊎_elim a b x)) (cases_eq n (2 * i + 1))) (cases_eq n (2 * i))
@@ -156,7 +157,7 @@ module _ (old e new : Engine) (f : Lit) (n : ℕ) (at before last : Option ℕ) 
   walk-step =
       let passed = done.0 h.front rest list-is h.before_is in
       record {
-        engine = engine;
+        watcher = watcher;
         same = propagates-trans (store_of old) (store_of e) (store_of new) h.same same;
         queue = keeps.queue ∙ h.queue;
         checked = keeps.checked ∙ h.checked;
@@ -178,28 +179,28 @@ module _ (old e new : Engine) (f : Lit) (n : ℕ) (at before last : Option ℕ) 
       omega arith
 
 -- at the end of the walk
-module _ (old e : Engine) (f : Lit) (before : Option ℕ) (h : Walks old e f None before) where
-  pub walk-engine : IsEngine (record { held = e.held; watches = e.watches; lists = e.lists; trail = e.trail; queue = e.queue + 1; checked = e.checked; stale = e.stale })
-  walk-engine =
-      let within : e.queue < length e.trail.steps = next-within e h.engine f h.next in
+module _ (old e : Watcher) (f : Lit) (before : Option ℕ) (h : Walks old e f None before) where
+  pub walk-watcher : IsWatcher (record { held = e.held; lists = e.lists; trail = e.trail; queue = e.queue + 1; checked = e.checked; stale = e.stale })
+  walk-watcher =
+      let within : e.queue < length e.trail.steps = next-within e h.watcher f h.next in
       let none : h.back ≡ [] = back-none h.back h.at_is in
       record {
-        store = h.engine.store;
-        lists = h.engine.lists;
+        store = h.watcher.store;
+        lists = h.watcher.lists;
         queue = omega arith;
-        checked = h.engine.checked;
-        watches = h.engine.watches;
-        nodes = h.engine.nodes;
-        count = h.engine.count;
-        room = h.engine.room;
+        checked = h.watcher.checked;
+        nodes = h.watcher.nodes;
+        count = h.watcher.count;
+        small = h.watcher.small;
+        room = h.watcher.room;
         guarded = λ id c lt held. ⊎_elim (λ g. g) (λ w. absurd (nothing_in_none w.0 (subst (λ (xs : List ℕ). Contains xs w.0) none w.2))) (h.walked id c lt held);
-        current = λ n k t le et. h.engine.current n k t (omega arith) et;
-        hung = λ i c lt held. let g = h.engine.hung i c lt held in record { watch = g.watch; is_watch = g.is_watch; first = g.first; second = g.second };
-        hanging = λ j n has. let g = h.engine.hanging j n has in record { id = g.id; of = g.of; checked = g.checked; watch = g.watch; is_watch = g.is_watch; first = g.first; second = g.second };
+        current = λ n k t le et. h.watcher.current n k t (omega arith) et;
+        listed = λ i c lt held. let g = h.watcher.listed i c lt held in record { watch = g.watch; is_watch = g.is_watch; first = g.first; second = g.second };
+        owned = λ j n has. let g = h.watcher.owned j n has in record { id = g.id; of = g.of; checked = g.checked; watch = g.watch; is_watch = g.is_watch; first = g.first; second = g.second };
       }
 
 -- the literal that the next step makes false
-pub next-of : (e : Engine) (d : Lit) (lits : List Lit) (f : Lit) → e.queue < length e.trail.steps → lits ≡ lits_of e.trail.steps → f ≡ negated (get_or lits e.queue d) → IsNext e f
+pub next-of : (e : Watcher) (d : Lit) (lits : List Lit) (f : Lit) → e.queue < length e.trail.steps → lits ≡ lits_of e.trail.steps → f ≡ negated (get_or lits e.queue d) → IsNext e f
 next-of e d lits f lt is neg =
     let s : Step = record { lit = d; level = 0; reason = None } in
     let t : Step = get_or e.trail.steps e.queue s in
@@ -207,7 +208,7 @@ next-of e d lits f lt is neg =
     let same : get_or lits e.queue d ≡ t.lit = ap (λ (xs : List Lit). get_or xs e.queue d) is ∙ get_or-map (λ (x : Step). x.lit) e.trail.steps e.queue s d lt in
     (t, at, neg ∙ ap negated same)
 
-pub next-in-range : (e : Engine) → IsEngine e → (f : Lit) → IsNext e f → f.var.0 < length e.trail.values
+pub next-in-range : (e : Watcher) → IsWatcher e → (f : Lit) → IsNext e f → f.var.0 < length e.trail.values
 next-in-range e h f next =
     let lt : next.0.lit.var.0 < length e.trail.values = h.store.trail.coherent.in_range e.queue next.0 next.1 in
     subst (λ (x : Lit). x.var.0 < length e.trail.values) (sym next.2) lt

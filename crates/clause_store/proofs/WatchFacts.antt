@@ -4,14 +4,14 @@ use Rattle.std.proofs.lemmas.Option.{slice_get_within, same_Some}
 use Rattle.std.proofs.lemmas.Bool.{cases_lt, cases_Bool}
 use Rattle.lit_core.specs.declared.literals.Lit.{Lit}
 use Rattle.lit_core.specs.Literals.{value_in, by_sign_if_any, negated}
-use Rattle.clause_store.specs.declared.trails.Step.{Step}
-use Rattle.clause_store.specs.TrailLaws.{IsCoherent, IsMade}
-use Rattle.clause_store.specs.StoreState.{StoreState, IsHeld}
-use Rattle.clause_store.specs.declared.engine.Watch.{Watch}
-use Rattle.clause_store.specs.declared.engine.Engine.{Engine}
-use Rattle.clause_store.specs.Watching.{Guards, IsGood, IsPair, IsWatched, IsEngine}
+use Rattle.clause_base.specs.declared.trail.Step.{Step}
+use Rattle.clause_base.specs.TrailLaws.{IsCoherent, IsMade}
+use Rattle.clause_base.specs.StoreState.{StoreState, IsHeld}
+use Rattle.clause_store.specs.declared.watched.Watch.{Watch}
+use Rattle.clause_store.specs.declared.watched.Watcher.{Watcher}
+use Rattle.clause_store.specs.Watching.{Guards, IsGood, IsPair, IsWatched, IsWatcher}
 use Rattle.clause_store.specs.Visits.{IsNext}
-use Rattle.clause_store.proofs.ListFacts.{slice_get-push_old, slice_get-push_new, slice_get-push_cases}
+use Rattle.clause_base.proofs.ListFacts.{slice_get-push_old, slice_get-push_new, slice_get-push_cases}
 use Rattle.lit_core.proofs.LiteralFacts.{negated-negated}
 
 -- where a literal is true, its negation is false
@@ -76,7 +76,7 @@ watched-push steps t q stale c w le h = record {
   })) h.ways;
 }
 
-module _ (e : Engine) (h : IsEngine e) (f : Lit) (next : IsNext e f) where
+module _ (e : Watcher) (h : IsWatcher e) (f : Lit) (next : IsNext e f) where
   coherent : IsCoherent e.trail.values e.trail.steps
   coherent = h.store.trail.coherent
 

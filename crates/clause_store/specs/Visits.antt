@@ -1,31 +1,31 @@
 -- What a visit of a clause leaves.
-use Rattle.std.specs.Prelude.{◌≡◌, ◌≢◌, ℕ, ◌<◌, ◌≤◌, ◌+◌, ◌*◌, Bool, true, false, Option, Some, None, List, ◌∷◌, ◌++◌, length, slice_get, All, Contains, ◌⊎◌}
+use Rattle.std.specs.Prelude.{◌≡◌, ◌≢◌, ℕ, ◌<◌, ◌≤◌, ◌+◌, ◌*◌, ◌^◌, Bool, true, false, Option, Some, None, List, ◌∷◌, ◌++◌, length, slice_get, All, Contains, ◌⊎◌}
 use Rattle.lit_core.specs.declared.literals.Lit.{Lit}
 use Rattle.lit_core.specs.Literals.{value_in, negated}
 use Rattle.lit_core.specs.Truth.{IsFalsified}
-use Rattle.clause_store.specs.declared.engine.Visit.{Visit}
-use Rattle.clause_store.specs.declared.engine.Visit.TheVariants.{Conflict, Done}
-use Rattle.clause_store.specs.declared.engine.Look.{Look}
-use Rattle.clause_store.specs.declared.engine.Look.TheVariants.{Fine, Loose}
-use Rattle.clause_store.specs.declared.engine.Found.{Found}
-use Rattle.clause_store.specs.declared.engine.Found.TheVariants.{Gone, Other, Last, False}
-use Rattle.clause_store.specs.declared.engine.Pick.{Pick}
-use Rattle.clause_store.specs.declared.engine.Pick.TheVariants.{Gone as NoClause, Two, One, False as NoPick}
-use Rattle.clause_store.specs.declared.engine.Watch.{Watch}
-use Rattle.clause_store.specs.declared.engine.Engine.{Engine}
-use Rattle.clause_store.specs.declared.trails.Step.{Step}
-use Rattle.clause_store.specs.Links.{last_of}
-use Rattle.clause_store.specs.ListsState.{ListsState, nodes_of}
-use Rattle.clause_store.specs.StoreState.{IsHeld, IsConflict}
-use Rattle.clause_store.specs.Watching.{code_of, Guarded, IsGood, IsNodeOf, IsPair, IsWatched, store_of}
+use Rattle.clause_store.specs.declared.propagation.Visit.{Visit}
+use Rattle.clause_store.specs.declared.propagation.Visit.TheVariants.{Conflict, Done}
+use Rattle.clause_store.specs.declared.propagation.Look.{Look}
+use Rattle.clause_store.specs.declared.propagation.Look.TheVariants.{Satisfied, Unsatisfied}
+use Rattle.clause_store.specs.declared.propagation.Replacement.{Replacement}
+use Rattle.clause_store.specs.declared.propagation.Replacement.TheVariants.{Deleted, Literal, Unit as UnitLeft, Conflict as AllFalse}
+use Rattle.clause_store.specs.declared.attachment.WatchChoice.{WatchChoice}
+use Rattle.clause_store.specs.declared.attachment.WatchChoice.TheVariants.{Deleted as NoClause, Two, One, Conflict as NoChoice}
+use Rattle.clause_store.specs.declared.watched.Watch.{Watch}
+use Rattle.clause_store.specs.declared.watched.Watcher.{Watcher}
+use Rattle.clause_base.specs.declared.trail.Step.{Step}
+use Rattle.clause_base.specs.Links.{last_of}
+use Rattle.clause_base.specs.ListsState.{ListsState, nodes_of}
+use Rattle.clause_base.specs.StoreState.{IsHeld, IsConflict}
+use Rattle.clause_store.specs.Watching.{code_of, Guarded, HasWatch, IsGood, IsNodeOf, IsPair, IsWatched, store_of}
 
--- the literal may stand in for a watched one beside the other, or no literal may
-abbrev pub Replaces : List (Option Bool) → List Lit → Lit → Option Lit → Type 0
-Replaces a c other None = All (λ m. (m ≡ other) ⊎ (value_in a m ≡ Some false)) c
-Replaces a c other (Some l) = Contains c l × (l ≢ other) × (value_in a l ≢ Some false)
+-- the literal at this place may stand in for a watched one beside the other, or no literal may
+abbrev pub ReplacesAt : List (Option Bool) → List Lit → Lit → Option ℕ → Type 0
+ReplacesAt a c other None = All (λ m. (m ≡ other) ⊎ (value_in a m ≡ Some false)) c
+ReplacesAt a c other (Some place) = (l : Lit) × (slice_get c place ≡ Some l) × (l ≢ other) × (value_in a l ≢ Some false)
 
 -- the literal became false by the first step that is not yet propagated
-abbrev pub IsNext : Engine → Lit → Type 0
+abbrev pub IsNext : Watcher → Lit → Type 0
 IsNext e f = (t : Step) × (slice_get e.trail.steps e.queue ≡ Some t) × (f ≡ negated t.lit)
 
 -- the node stands in the list right after this one
@@ -33,22 +33,23 @@ abbrev pub IsAt : ListsState → ℕ → Option ℕ → ℕ → Type 0
 IsAt s j before node = (front : List ℕ) × (back : List ℕ) × (nodes_of s j ≡ front ++ node ∷ back) × (last_of front ≡ before)
 
 -- the clause watches a literal that is false, and another that is not true
-pub record IsLoose (e : Engine) (node id : ℕ) (f other : Lit) (c : List Lit) : Type 0 where
+pub record IsLoose (e : Watcher) (node id : ℕ) (f other : Lit) (c : List Lit) : Type 0 where
   pub held : IsHeld (store_of e) id c
   pub has_false : Contains c f
   pub has_other : Contains c other
   pub untrue : value_in e.trail.values other ≢ Some true
   pub ways : IsGood e.trail.steps e.stale c ⊎ IsPair e.trail.steps e.queue e.stale f other
   pub watch : Watch
-  pub is_watch : slice_get e.watches.items id ≡ Some watch
+  pub is_watch : HasWatch e.lists.labels id watch
   pub sides : ((node ≡ 2 * id) × (watch.first ≡ f) × (watch.second ≡ other)) ⊎ ((node ≡ 2 * id + 1) × (watch.first ≡ other) × (watch.second ≡ f))
 
-abbrev pub LookGives : Engine → ℕ → Lit → Look → Type 0
-LookGives e node f Fine = (id : ℕ) (c : List Lit) → IsNodeOf node id → IsHeld (store_of e) id c → Guarded e (e.queue + 1) id c
-LookGives e node f (Loose other) = (other.var.0 < length e.trail.values) × ((id : ℕ) → IsNodeOf node id → (id < e.checked) × ((c : List Lit) → IsHeld (store_of e) id c → IsLoose e node id f other c))
+-- the clause of the node is watched over one step more by its other watched literal, or that literal is not true
+abbrev pub LookGives : Watcher → ℕ → Lit → Look → Type 0
+LookGives e node f Satisfied = (id : ℕ) (c : List Lit) → IsNodeOf node id → IsHeld (store_of e) id c → Guarded e (e.queue + 1) id c
+LookGives e node f (Unsatisfied other) = (other.var.0 < length e.trail.values) × ((id : ℕ) → IsNodeOf node id → (id < e.checked) × ((c : List Lit) → IsHeld (store_of e) id c → IsLoose e node id f other c))
 
 -- the literal may be watched in place of the false one
-pub record CanMove (e : Engine) (node : ℕ) (f l : Lit) : Type 0 where
+pub record CanMove (e : Watcher) (node : ℕ) (f l : Lit) : Type 0 where
   pub id : ℕ
   pub of : IsNodeOf node id
   pub checked : id < e.checked
@@ -60,7 +61,7 @@ pub record CanMove (e : Engine) (node : ℕ) (f l : Lit) : Type 0 where
   pub unfalse : value_in e.trail.values l ≢ Some false
 
 -- the other watched literal is the only one that is not false
-pub record CanImply (e : Engine) (node : ℕ) (f other : Lit) : Type 0 where
+pub record CanImply (e : Watcher) (node : ℕ) (f other : Lit) : Type 0 where
   pub id : ℕ
   pub of : IsNodeOf node id
   pub checked : id < e.checked
@@ -69,14 +70,15 @@ pub record CanImply (e : Engine) (node : ℕ) (f other : Lit) : Type 0 where
   pub unassigned : value_in e.trail.values other ≡ None
   pub others : All (λ m. (m ≡ other) ⊎ (value_in e.trail.values m ≡ Some false)) clause
 
-abbrev pub FoundGives : Engine → ℕ → Lit → Found → Type 0
-FoundGives e id other Gone = (c : List Lit) → IsHeld (store_of e) id c → ⊥
-FoundGives e id other (Other l) = (c : List Lit) × IsHeld (store_of e) id c × Contains c l × (l ≢ other) × (value_in e.trail.values l ≢ Some false)
-FoundGives e id other Last = (value_in e.trail.values other ≡ None) × ((c : List Lit) × IsHeld (store_of e) id c × All (λ m. (m ≡ other) ⊎ (value_in e.trail.values m ≡ Some false)) c)
-FoundGives e id other False = (c : List Lit) × IsHeld (store_of e) id c × ((value_in e.trail.values other ≡ Some true) ⊎ IsFalsified e.trail.values c)
+-- the clause was removed; or this literal may be watched in place of the false one; or the other watched literal is the last that is not false; or none is
+abbrev pub ReplacementGives : Watcher → ℕ → Lit → Replacement → Type 0
+ReplacementGives e id other Deleted = (c : List Lit) → IsHeld (store_of e) id c → ⊥
+ReplacementGives e id other (Literal l place) = (c : List Lit) × IsHeld (store_of e) id c × Contains c l × (l ≢ other) × (value_in e.trail.values l ≢ Some false) × (place < 2 ^ 32)
+ReplacementGives e id other UnitLeft = (value_in e.trail.values other ≡ None) × ((c : List Lit) × IsHeld (store_of e) id c × All (λ m. (m ≡ other) ⊎ (value_in e.trail.values m ≡ Some false)) c)
+ReplacementGives e id other AllFalse = (c : List Lit) × IsHeld (store_of e) id c × ((value_in e.trail.values other ≡ Some true) ⊎ IsFalsified e.trail.values c)
 
 -- clauses of other nodes stay watched
-pub record Keeps (old new : Engine) (node : ℕ) : Type 0 where
+pub record Keeps (old new : Watcher) (node : ℕ) : Type 0 where
   pub held : new.held ≡ old.held
   pub queue : new.queue ≡ old.queue
   pub checked : new.checked ≡ old.checked
@@ -84,38 +86,42 @@ pub record Keeps (old new : Engine) (node : ℕ) : Type 0 where
   pub others : (q i : ℕ) (c : List Lit) → (IsNodeOf node i → ⊥) → q ≤ length old.trail.steps → Guarded old q i c → Guarded new q i c
 
 -- the rest of the list stays, after the last of these nodes
-abbrev pub Passes : Engine → Engine → ℕ → Lit → Option ℕ → Option ℕ → Type 0
+abbrev pub Passes : Watcher → Watcher → ℕ → Lit → Option ℕ → Option ℕ → Type 0
 Passes old new node f before last = (front rest : List ℕ) → nodes_of old.lists (code_of f) ≡ front ++ node ∷ rest → last_of front ≡ before → (passed : List ℕ) × (nodes_of new.lists (code_of f) ≡ passed ++ rest) × (last_of passed ≡ last)
 
-abbrev pub VisitGives : Engine → Engine → ℕ → Lit → Option ℕ → Visit → Type 0
+-- the clause of the node is false; or it is watched over one step more, and the rest of the list stays
+abbrev pub VisitGives : Watcher → Watcher → ℕ → Lit → Option ℕ → Visit → Type 0
 VisitGives old new node f before Conflict = (id : ℕ) → IsNodeOf node id → IsConflict (store_of new) id
 VisitGives old new node f before (Done last) = Passes old new node f before last × ((id : ℕ) (c : List Lit) → IsNodeOf node id → IsHeld (store_of new) id c → Guarded new (new.queue + 1) id c)
 
-abbrev pub OneGives : Engine → Engine → Option ℕ → Type 0
+-- one step more is propagated, or a clause is false
+abbrev pub OneGives : Watcher → Watcher → Option ℕ → Type 0
 OneGives old new None = (new.queue ≡ old.queue + 1) × (new.checked ≡ old.checked)
 OneGives old new (Some id) = IsConflict (store_of new) id
 
 -- a step without a reason comes where all is propagated, or levels are passed over
-abbrev pub MayAssign : Engine → Option ℕ → Type 0
+abbrev pub MayAssign : Watcher → Option ℕ → Type 0
 MayAssign e None = (e.stale ≡ true) ⊎ (length e.trail.steps ≤ e.queue)
 MayAssign e (Some id) = Unit {0}
 
 -- the next clause may be watched so
-abbrev pub CanAttach : Engine → Watch → Type 0
+abbrev pub CanAttach : Watcher → Watch → Type 0
 CanAttach e w = (c : List Lit) → IsHeld (store_of e) e.checked c → IsWatched e.trail.steps e.queue e.stale c w
 
+-- the literal is one of the clause that is not false, or all are false
 abbrev pub OpensAt : List (Option Bool) → List Lit → Option Lit → Type 0
 OpensAt a c None = All (λ m. value_in a m ≡ Some false) c
 OpensAt a c (Some l) = Contains c l × (value_in a l ≢ Some false)
 
-abbrev pub PickGives : Engine → ℕ → Pick → Type 0
-PickGives e id NoClause = (c : List Lit) → IsHeld (store_of e) id c → ⊥
-PickGives e id (Two w) = (c : List Lit) × IsHeld (store_of e) id c × Contains c w.first × Contains c w.second × (w.second ≢ w.first) × (value_in e.trail.values w.first ≢ Some false) × (value_in e.trail.values w.second ≢ Some false)
-PickGives e id (One l) = (c : List Lit) × IsHeld (store_of e) id c × Contains c l × (value_in e.trail.values l ≢ Some false) × All (λ m. (m ≡ l) ⊎ (value_in e.trail.values m ≡ Some false)) c
-PickGives e id NoPick = IsConflict (store_of e) id
+-- which literals of the clause with this number are not false: it was removed, or two at least, or one alone, or none
+abbrev pub WatchChoiceGives : Watcher → ℕ → WatchChoice → Type 0
+WatchChoiceGives e id NoClause = (c : List Lit) → IsHeld (store_of e) id c → ⊥
+WatchChoiceGives e id (Two w) = (c : List Lit) × IsHeld (store_of e) id c × Contains c w.first × Contains c w.second × (w.second ≢ w.first) × (value_in e.trail.values w.first ≢ Some false) × (value_in e.trail.values w.second ≢ Some false)
+WatchChoiceGives e id (One l) = (c : List Lit) × IsHeld (store_of e) id c × Contains c l × (value_in e.trail.values l ≢ Some false) × All (λ m. (m ≡ l) ⊎ (value_in e.trail.values m ≡ Some false)) c
+WatchChoiceGives e id NoChoice = IsConflict (store_of e) id
 
 -- another literal of the clause, which became false at no lower level than this one became true
-pub record IsPartner (e : Engine) (id : ℕ) (l m : Lit) : Type 0 where
+pub record IsPartner (e : Watcher) (id : ℕ) (l m : Lit) : Type 0 where
   pub member : (c : List Lit) → IsHeld (store_of e) id c → Contains c m
   pub distinct : l ≢ m
   pub at : ℕ
@@ -124,6 +130,7 @@ pub record IsPartner (e : Engine) (id : ℕ) (l m : Lit) : Type 0 where
   pub made : step.lit ≡ l
   pub later : (k : ℕ) (t : Step) → slice_get e.trail.steps k ≡ Some t → t.lit ≡ negated m → step.level ≤ t.level
 
-abbrev pub AttachGives : Engine → Engine → Option ℕ → Type 0
+-- one clause more is watched, or a clause is false
+abbrev pub AttachGives : Watcher → Watcher → Option ℕ → Type 0
 AttachGives old new None = new.checked ≡ old.checked + 1
 AttachGives old new (Some id) = IsConflict (store_of new) id

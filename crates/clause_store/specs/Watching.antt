@@ -1,14 +1,14 @@
 -- What the watches of the clauses keep.
-use Rattle.std.specs.Prelude.{◌≡◌, ◌≢◌, ℕ, ◌<◌, ◌≤◌, ◌+◌, ◌*◌, Bool, true, false, cond, Some, List, length, slice_get, Contains, ◌⊎◌}
+use Rattle.std.specs.Prelude.{◌≡◌, ◌≢◌, ℕ, ◌<◌, ◌≤◌, ◌+◌, ◌*◌, ◌^◌, Bool, true, false, cond, Some, List, length, slice_get, Contains, ◌⊎◌}
 use Rattle.lit_core.specs.declared.literals.Lit.{Lit}
 use Rattle.lit_core.specs.Literals.{negated}
-use Rattle.clause_store.specs.declared.trails.Step.{Step}
-use Rattle.clause_store.specs.declared.engine.Watch.{Watch}
-use Rattle.clause_store.specs.declared.engine.Engine.{Engine}
-use Rattle.clause_store.specs.ListsState.{HasLaws, nodes_of}
-use Rattle.clause_store.specs.StoreState.{StoreState, IsStore, IsHeld}
+use Rattle.clause_base.specs.declared.trail.Step.{Step}
+use Rattle.clause_store.specs.declared.watched.Watch.{Watch}
+use Rattle.clause_store.specs.declared.watched.Watcher.{Watcher}
+use Rattle.clause_base.specs.ListsState.{HasLaws, nodes_of}
+use Rattle.clause_base.specs.StoreState.{StoreState, IsStore, IsHeld}
 
-abbrev pub store_of : Engine → StoreState
+abbrev pub store_of : Watcher → StoreState
 store_of e = record { clauses = e.held.clauses; trail = e.trail; spare = e.held.spare }
 
 -- the number of the list of a literal
@@ -27,6 +27,11 @@ Guards steps q stale a b = (k : ℕ) (t : Step) → k < q → slice_get steps k 
 abbrev pub IsGood : List Step → Bool → List Lit → Type 0
 IsGood steps stale c = (j : ℕ) × (u : Step) × (slice_get steps j ≡ Some u) × Contains c u.lit × ((stale ≡ true) ⊎ (u.level ≡ 0))
 
+-- the clause watches these literals: each of its two nodes is labelled with the number of the other one's literal
+pub record HasWatch (labels : List ℕ) (id : ℕ) (w : Watch) : Type 0 where
+  pub first : slice_get labels (2 * id + 1) ≡ Some (code_of w.first)
+  pub second : slice_get labels (2 * id) ≡ Some (code_of w.second)
+
 -- two literals watch each other
 pub record IsPair (steps : List Step) (q : ℕ) (stale : Bool) (a b : Lit) : Type 0 where
   pub distinct : a ≢ b
@@ -39,38 +44,39 @@ pub record IsWatched (steps : List Step) (q : ℕ) (stale : Bool) (c : List Lit)
   pub has_second : Contains c w.second
   pub ways : IsGood steps stale c ⊎ IsPair steps q stale w.first w.second
 
-abbrev pub Guarded : Engine → ℕ → ℕ → List Lit → Type 0
-Guarded e q id c = (w : Watch) × (slice_get e.watches.items id ≡ Some w) × IsWatched e.trail.steps q e.stale c w
+abbrev pub Guarded : Watcher → ℕ → ℕ → List Lit → Type 0
+Guarded e q id c = (w : Watch) × HasWatch e.lists.labels id w × IsWatched e.trail.steps q e.stale c w
 
--- the nodes of the clause hang in the lists of its watched literals
-pub record IsHung (e : Engine) (id : ℕ) : Type 0 where
+-- the nodes of the clause link in the lists of its watched literals
+pub record IsListed (e : Watcher) (id : ℕ) : Type 0 where
   pub watch : Watch
-  pub is_watch : slice_get e.watches.items id ≡ Some watch
+  pub is_watch : HasWatch e.lists.labels id watch
   pub first : Contains (nodes_of e.lists (code_of watch.first)) (2 * id)
   pub second : Contains (nodes_of e.lists (code_of watch.second)) (2 * id + 1)
 
--- the clause of a node that hangs was watched, by literals of the store
-pub record IsHanging (e : Engine) (node : ℕ) : Type 0 where
+-- the clause of a node that enlists was watched, by literals of the store
+pub record IsWatchNode (e : Watcher) (node : ℕ) : Type 0 where
   pub id : ℕ
   pub of : IsNodeOf node id
   pub checked : id < e.checked
   pub watch : Watch
-  pub is_watch : slice_get e.watches.items id ≡ Some watch
+  pub is_watch : HasWatch e.lists.labels id watch
   pub first : watch.first.var.0 < length e.trail.values
   pub second : watch.second.var.0 < length e.trail.values
 
-pub record IsEngine (e : Engine) : Type 0 where
+pub record IsWatcher (e : Watcher) : Type 0 where
   pub store : IsStore (store_of e)
   pub lists : HasLaws e.lists
   pub queue : e.queue ≤ length e.trail.steps
   pub checked : e.checked ≤ length e.held.clauses
-  pub watches : length e.held.clauses ≤ length e.watches.items
-  pub nodes : 2 * length e.held.clauses ≤ e.lists.nodes
+  pub nodes : 2 * length e.held.clauses ≤ length e.lists.labels
   pub count : 2 * length e.trail.values ≤ length e.lists.lists
-  -- room for the watches of the next clause
-  pub room : 0 < e.held.spare → (length e.held.clauses < length e.watches.items) × (2 * length e.held.clauses + 2 ≤ e.lists.nodes)
+  -- the numbers of literals fit in 32 bits
+  pub small : length e.trail.values ≤ 2 ^ 31
+  -- room for the nodes of the next clause
+  pub room : 0 < e.held.spare → 2 * length e.held.clauses + 2 ≤ length e.lists.labels
   pub guarded : (id : ℕ) (c : List Lit) → id < e.checked → IsHeld (store_of e) id c → Guarded e e.queue id c
   -- while levels are not passed over, what is not yet propagated is of the current level
   pub current : e.stale ≡ false → (k : ℕ) (t : Step) → e.queue ≤ k → slice_get e.trail.steps k ≡ Some t → t.level ≡ e.trail.level
-  pub hung : (id : ℕ) (c : List Lit) → id < e.checked → IsHeld (store_of e) id c → IsHung e id
-  pub hanging : (j node : ℕ) → Contains (nodes_of e.lists j) node → IsHanging e node
+  pub listed : (id : ℕ) (c : List Lit) → id < e.checked → IsHeld (store_of e) id c → IsListed e id
+  pub owned : (j node : ℕ) → Contains (nodes_of e.lists j) node → IsWatchNode e node

@@ -1,17 +1,15 @@
 //! The clauses that a solver holds, the trail of what is true, and unit propagation.
 #![tactic(auto)]
 
-mod engine;
-mod growth;
-mod held;
-mod lists;
-mod plain;
-mod standing;
-mod stores;
-#[cfg(test)]
-mod tests;
-mod trails;
+mod attachment;
+mod propagation;
+mod store;
+mod watched;
 
-pub use plain::PlainStore;
-pub use stores::Store;
+pub use store::Store;
 pub use trails::Step;
+
+/// The path by which the crates above name a step in their clauses.
+pub mod trails {
+    pub use clause_base::Step;
+}

@@ -5,15 +5,16 @@ use Rattle.std.proofs.lemmas.List.{append_cancel_left}
 use Rattle.kb_logic.specs.declared.elements.Elem.{Elem}
 use Rattle.kb_logic.specs.declared.vocabularies.Symbol.{Symbol}
 use Rattle.kb_logic.specs.declared.structures.Literal.{Literal}
-use Rattle.kb_logic.specs.declared.first.FirstKb.{FirstKb}
-use Rattle.kb_logic.specs.First.{IsRowOver, IsFirstKb, IsPlainPredicate}
+use Rattle.kb_logic.specs.Bases.{Base}
+use Rattle.kb_logic.specs.Models.{HasValueIn}
+use Rattle.kb_logic.specs.First.{IsRowOver}
 use Rattle.kb_logic.specs.Structures.{domain_at, IsDistinct}
 use Rattle.kb_text.specs.declared.bytes.Class.TheVariants.{Mark}
 use Rattle.kb_text.specs.Bytes.{class_of}
 use Rattle.kb_text.specs.Pieces.{IsPiece, WordText}
-use Rattle.consult_text.specs.Literals.{IsLiteralOver, IsValueOver}
+use Rattle.consult_text.specs.Literals.{IsLiteralOver}
 use Rattle.consult_text.specs.Texts.{row_text, args_text, negation_text, choice_line}
-use Rattle.consult_text.specs.OneText.{CanBeWritten, HasWordNames}
+use Rattle.consult_text.specs.OneText.{CanBeWritten, HasPredicatesAlone, HasWordNames}
 use Rattle.consult_text.proofs.InnerBytes.{Stopped, word_inner, split_same}
 use Rattle.consult_text.proofs.RowTexts.{byte_above, rest_same, stop_at, row_same}
 
@@ -52,26 +53,26 @@ same_number (x ∷ symbols) zero (suc m) s t apart at at' e = absurd (apart.0 (n
 same_number (x ∷ symbols) (suc n) zero s t apart at at' e = absurd (apart.0 (named_later symbols n s x at (let f : x ≡ t = cc in e ∙ ap (λ (z : Symbol). z.name) (sym f))))
 same_number (x ∷ symbols) (suc n) (suc m) s t apart at at' e = ap suc (same_number symbols n m s t apart.1 at at' e)
 
-no_value : (domains : List (List Elem)) (ty : Option ℕ) (value : Option Elem) → ty ≡ None → IsValueOver domains ty value → value ≡ None
+no_value : (domains : List (List Elem)) (ty : Option ℕ) (value : Option Elem) → ty ≡ None → HasValueIn domains ty value → value ≡ None
 no_value domains None None e h = refl
 no_value domains None (Some x) e h = absurd h
 no_value domains (Some ty) value e h = absurd (cc)
 
 -- what a choice of the knowledge base is
-record Choice (kb : FirstKb) (l : Literal) : Type 0 where
+record Choice (kb : Base) (l : Literal) : Type 0 where
   pub symbol : Symbol
-  pub at : slice_get kb.vocab.symbols l.symbol ≡ Some symbol
+  pub at : slice_get kb.vocabulary.symbols l.symbol ≡ Some symbol
   pub word : IsPiece WordText symbol.name
   pub args : AllByRecursion CanBeWritten l.args
   pub value : l.value ≡ None
 
-choice_of : (kb : FirstKb) (l : Literal) → IsFirstKb kb → HasWordNames kb → IsLiteralOver kb l → Choice kb l
+choice_of : (kb : Base) (l : Literal) → HasPredicatesAlone kb → HasWordNames kb → IsLiteralOver kb l → Choice kb l
 choice_of kb l first names h = record {
   symbol = h.symbol;
   at = h.declared;
-  word = all_at (λ s. IsPiece WordText s.name) kb.vocab.symbols l.symbol h.symbol names.words h.declared;
-  args = row_written kb.domains h.symbol.args l.args names.elements h.args;
-  value = no_value kb.domains h.symbol.value l.value (all_at (IsPlainPredicate (length kb.vocab.types)) kb.vocab.symbols l.symbol h.symbol first.symbols h.declared).0 h.value;
+  word = all_at (λ s. IsPiece WordText s.name) kb.vocabulary.symbols l.symbol h.symbol names.words h.declared;
+  args = row_written kb.known.domains h.symbol.args l.args names.elements h.args;
+  value = no_value kb.known.domains h.symbol.value l.value (all_at (λ s. s.value ≡ None) kb.vocabulary.symbols l.symbol h.symbol first h.declared) h.value;
 }
 
 abbrev pub line_end : List ℕ → List ℕ
@@ -129,32 +130,35 @@ signed_same false false name other xs ys r s word word' all all' q =
     let e = atom_same name other xs ys r s word word' all all' (rest_same q) in (refl, e.0, e.1, e.2)
 
 -- the literal's text behind the word `choice`
-abbrev shown : FirstKb → Literal → List ℕ → List ℕ
+abbrev shown : Base → Literal → List ℕ → List ℕ
 shown kb l name = negation_text l.positive ++ (name ++ args_text l.args)
 
-line_is : (kb : FirstKb) (l : Literal) (c : Choice kb l) → choice_line kb.vocab l ≡ codes "choice " ++ (shown kb l c.symbol.name ++ codes "\n")
+line_is : (kb : Base) (l : Literal) (c : Choice kb l) → choice_line kb.vocabulary l ≡ codes "choice " ++ (shown kb l c.symbol.name ++ codes "\n")
 line_is kb l c = rw (c.value, c.at)
 
-literal_same : (kb : FirstKb) (l k : Literal) (r s : List ℕ) → HasWordNames kb → Choice kb l → Choice kb k → choice_line kb.vocab l ++ r ≡ choice_line kb.vocab k ++ s → (l ≡ k) × (r ≡ s)
+literal_same : (kb : Base) (l k : Literal) (r s : List ℕ) → HasWordNames kb → Choice kb l → Choice kb k → choice_line kb.vocabulary l ++ r ≡ choice_line kb.vocabulary k ++ s → (l ≡ k) × (r ≡ s)
 literal_same kb l k r s names c d q =
-    let left : choice_line kb.vocab l ++ r ≡ codes "choice " ++ (shown kb l c.symbol.name ++ line_end r) =
+    let left : choice_line kb.vocabulary l ++ r ≡ codes "choice " ++ (shown kb l c.symbol.name ++ line_end r) =
     ap (λ (t : List ℕ). t ++ r) (line_is kb l c) ∙ ap (λ (t : List ℕ). codes "choice " ++ t) (append_assoc (shown kb l c.symbol.name) (codes "\n") r) in
-    let right : choice_line kb.vocab k ++ s ≡ codes "choice " ++ (shown kb k d.symbol.name ++ line_end s) =
+    let right : choice_line kb.vocabulary k ++ s ≡ codes "choice " ++ (shown kb k d.symbol.name ++ line_end s) =
     ap (λ (t : List ℕ). t ++ s) (line_is kb k d) ∙ ap (λ (t : List ℕ). codes "choice " ++ t) (append_assoc (shown kb k d.symbol.name) (codes "\n") s) in
     let tails = append_cancel_left (codes "choice ") (shown kb l c.symbol.name ++ line_end r) (shown kb k d.symbol.name ++ line_end s) (sym left ∙ (q ∙ right)) in
     let cut = signed_same l.positive k.positive c.symbol.name d.symbol.name l.args k.args r s c.word d.word c.args d.args tails in
-    let number = same_number kb.vocab.symbols l.symbol k.symbol c.symbol d.symbol names.apart c.at d.at cut.1 in
+    let number = same_number kb.vocabulary.symbols l.symbol k.symbol c.symbol d.symbol names.apart c.at d.at cut.1 in
     let value : l.value ≡ k.value = c.value ∙ sym d.value in
     (λ i. record { positive = cut.0 i; symbol = number i; args = cut.2 i; value = value i }, cut.3)
 
-pub choices_same : (kb : FirstKb) (ls ks : List Literal) → IsFirstKb kb → HasWordNames kb → AllByRecursion (IsLiteralOver kb) ls → AllByRecursion (IsLiteralOver kb) ks → flat_map (choice_line kb.vocab) ls ++ codes "done\n" ≡ flat_map (choice_line kb.vocab) ks ++ codes "done\n" → ls ≡ ks
-choices_same kb [] [] first names all all' q = refl
-choices_same kb [] (k ∷ ks) first names all all' q = absurd (byte_above 100 99 (omega arith) q)
-choices_same kb (l ∷ ls) [] first names all all' q = absurd (byte_above 100 99 (omega arith) (sym q))
-choices_same kb (l ∷ ls) (k ∷ ks) first names all all' q =
-    let tails : choice_line kb.vocab l ++ (flat_map (choice_line kb.vocab) ls ++ codes "done\n") ≡ choice_line kb.vocab k ++ (flat_map (choice_line kb.vocab) ks ++ codes "done\n") =
-    sym (append_assoc (choice_line kb.vocab l) (flat_map (choice_line kb.vocab) ls) (codes "done\n")) ∙ (q ∙ append_assoc (choice_line kb.vocab k) (flat_map (choice_line kb.vocab) ks) (codes "done\n")) in
-    let cut = literal_same kb l k (flat_map (choice_line kb.vocab) ls ++ codes "done\n") (flat_map (choice_line kb.vocab) ks ++ codes "done\n") names (choice_of kb l first names all.0) (choice_of kb k first names all'.0) tails in
+pub choices_same : (kb : Base) (ls ks : List Literal) → HasPredicatesAlone kb → HasWordNames kb → AllByRecursion (IsLiteralOver kb) ls → AllByRecursion (IsLiteralOver kb) ks → (a b : List ℕ)
+    → flat_map (choice_line kb.vocabulary) ls ++ (codes "done\n" ++ a) ≡ flat_map (choice_line kb.vocabulary) ks ++ (codes "done\n" ++ b) → (ls ≡ ks) × (a ≡ b)
+choices_same kb [] [] first names all all' a b q = (refl, append_cancel_left (codes "done\n") a b q)
+choices_same kb [] (k ∷ ks) first names all all' a b q = absurd (byte_above 100 99 (omega arith) q)
+choices_same kb (l ∷ ls) [] first names all all' a b q = absurd (byte_above 100 99 (omega arith) (sym q))
+choices_same kb (l ∷ ls) (k ∷ ks) first names all all' a b q =
+    let tails : choice_line kb.vocabulary l ++ (flat_map (choice_line kb.vocabulary) ls ++ (codes "done\n" ++ a)) ≡ choice_line kb.vocabulary k ++ (flat_map (choice_line kb.vocabulary) ks ++ (codes "done\n" ++ b)) =
+    sym (append_assoc (choice_line kb.vocabulary l) (flat_map (choice_line kb.vocabulary) ls) (codes "done\n" ++ a))
+    ∙ (q ∙ append_assoc (choice_line kb.vocabulary k) (flat_map (choice_line kb.vocabulary) ks) (codes "done\n" ++ b)) in
+    let cut = literal_same kb l k (flat_map (choice_line kb.vocabulary) ls ++ (codes "done\n" ++ a)) (flat_map (choice_line kb.vocabulary) ks ++ (codes "done\n" ++ b)) names (choice_of kb l first names all.0) (choice_of kb k first names all'.0) tails in
     let one = cut.0 in
-    let more = choices_same kb ls ks first names all.1 all'.1 cut.1 in
-    cc
+    let more = choices_same kb ls ks first names all.1 all'.1 a b cut.1 in
+    let others = more.0 in
+    (cc, more.1)

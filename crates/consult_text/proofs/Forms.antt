@@ -6,8 +6,8 @@ use Rattle.std.proofs.lemmas.List.{length-map}
 use Rattle.kb_logic.specs.declared.vocabularies.Symbol.{Symbol}
 use Rattle.consult_text.specs.declared.written.ElemText.{ElemText}
 use Rattle.consult_text.specs.declared.written.LiteralText.{LiteralText}
-use Rattle.consult_text.specs.Literals.{IsFirstNamed, HasLengthOf, HasFormOf, name_of, literal_of}
-use Rattle.consult_text.specs.Cuts.{elem_view, elem_views, valued_view, literal_view}
+use Rattle.consult_text.specs.Literals.{IsFirstNamed, HasFormOf, name_of, literal_of}
+use Rattle.consult_text.specs.Parse.{elem_view, elem_views, valued_view, literal_view}
 use Rattle.consult_text.specs.Ranges.{IsInRange}
 
 name_valued : (l : LiteralText) (v : Option ElemText) → name_of (valued_view l v) ≡ l.name.now
@@ -20,17 +20,11 @@ none_named slice symbols l e h s at q = h s (subst (λ (xs : List Symbol). Conta
 pub first_named : (slice symbols : List Symbol) (l : LiteralText) (n : ℕ) (s : Symbol) → slice ≡ symbols → IsFirstNamed slice l.name.now n s → IsFirstNamed symbols (name_of (literal_view l)) n s
 first_named slice symbols l n s e h = subst (λ (name : List ℕ). IsFirstNamed symbols name n s) (sym (name_valued l l.value)) (subst (λ (xs : List Symbol). IsFirstNamed xs l.name.now n s) e h)
 
-same_length : (xs : List ℕ) (ys : List ElemText) → length xs ≡ length ys → HasLengthOf xs (elem_views ys)
-same_length [] [] e = tt
-same_length [] (y ∷ ys) e = absurd (omega arith)
-same_length (x ∷ xs) [] e = absurd (omega arith)
-same_length (x ∷ xs) (y ∷ ys) e = same_length xs ys (omega arith)
+same_length : (xs : List ℕ) (ys : List ElemText) → length xs ≡ length ys → length xs ≡ length (elem_views ys)
+same_length xs ys e = e ∙ sym (length-map ys elem_view)
 
-length_same : (xs : List ℕ) (ys : List ElemText) → HasLengthOf xs (elem_views ys) → length xs ≡ length ys
-length_same [] [] h = refl
-length_same [] (y ∷ ys) h = absurd h
-length_same (x ∷ xs) [] h = absurd h
-length_same (x ∷ xs) (y ∷ ys) h = ap suc (length_same xs ys h)
+length_same : (xs : List ℕ) (ys : List ElemText) → length xs ≡ length (elem_views ys) → length xs ≡ length ys
+length_same xs ys h = h ∙ length-map ys elem_view
 
 lengths : (s : Symbol) (l : LiteralText) (v : Option ElemText) → HasFormOf s (valued_view l v) → length s.args ≡ length l.args.items
 lengths s l None h = length_same s.args l.args.items h.1

@@ -6,7 +6,7 @@ use Rattle.std.proofs.lemmas.Option.{slice_get_within, get_or_from_slice_get}
 use Rattle.std.proofs.lemmas.Slice.Eq.{bytes_eq-Decides}
 use Rattle.kb_logic.specs.declared.vocabularies.Symbol.{Symbol}
 use Rattle.kb_logic.specs.declared.structures.Literal.{Literal}
-use Rattle.kb_logic.specs.declared.first.FirstKb.{FirstKb}
+use Rattle.kb_logic.specs.Bases.{Base}
 use Rattle.kb_text.specs.Depth.{outermost}
 use Rattle.kb_text.specs.Tokens.{Lexeme, TokensFrom}
 use Rattle.consult_text.specs.declared.commands.Command.{Command}
@@ -17,7 +17,7 @@ use Rattle.consult_text.specs.Written as written
 use Rattle.consult_text.specs.Written.{Tok, word, digits, sign, WrittenElem, WrittenLiteral, atom, equation, WrittenCommand, put_elem, put_args, put_literal, put_command, equals}
 use Rattle.consult_text.specs.Literals.{IsLiteralOver, IsFirstNamed, HasFormOf, name_of, literal_of}
 use Rattle.consult_text.specs.Lines.{tok_of, IsWritten, IsBlank, IsNoCommand, StandsFor, IsRefusedFor, Asks, RefusesFor, HasCommand, HasRefusal, IsCommandOver}
-use Rattle.consult_text.specs.Cuts.{dot, IsClosed}
+use Rattle.consult_text.specs.Parse.{dot, IsClosed}
 use Rattle.consult_text.specs.Laws.{HasOneMeaning, CommandsAreOverTheBase}
 use Rattle.consult_text.proofs.Spelling.{elem_same, args_same, sign_above, dot_closed, equals_closed}
 use Rattle.consult_text.proofs.Parses.{HasOneOutcome, same_lexemes}
@@ -140,18 +140,18 @@ first_same xs name n m s t h h' =
     numbers : n ≡ m
     numbers = omega (arith, not_below, not_above)
 
-literal_of_line : (kb : FirstKb) (w : WrittenLiteral) (l l' : Literal) → StandsFor kb w l → StandsFor kb w l' → l ≡ l'
+literal_of_line : (kb : Base) (w : WrittenLiteral) (l l' : Literal) → StandsFor kb w l → StandsFor kb w l' → l ≡ l'
 literal_of_line kb w l l' h h' =
-    let same = (first_same kb.vocab.symbols (name_of w) h.0 h'.0 h.1 h'.1 h.2 h'.2).0 in
+    let same = (first_same kb.vocabulary.symbols (name_of w) h.0 h'.0 h.1 h'.1 h.2 h'.2).0 in
     h.4 ∙ (ap (λ (n : ℕ). literal_of n w) same ∙ sym h'.4)
 
 -- the cause of a refusal
-data Cause (kb : FirstKb) (w : WrittenLiteral) : F → Type 0 where
-  unknown : ((s : Symbol) → Contains kb.vocab.symbols s → s.name ≢ name_of w) → Cause kb w refusal.UnknownSymbol
-  form : (n : ℕ) (s : Symbol) → IsFirstNamed kb.vocab.symbols (name_of w) n s → (HasFormOf s w → ⊥) → Cause kb w refusal.WrongArity
-  element : (n : ℕ) (s : Symbol) → IsFirstNamed kb.vocab.symbols (name_of w) n s → HasFormOf s w → (IsLiteralOver kb (literal_of n w) → ⊥) → Cause kb w refusal.NotAnElement
+data Cause (kb : Base) (w : WrittenLiteral) : F → Type 0 where
+  unknown : ((s : Symbol) → Contains kb.vocabulary.symbols s → s.name ≢ name_of w) → Cause kb w refusal.UnknownSymbol
+  form : (n : ℕ) (s : Symbol) → IsFirstNamed kb.vocabulary.symbols (name_of w) n s → (HasFormOf s w → ⊥) → Cause kb w refusal.WrongArity
+  element : (n : ℕ) (s : Symbol) → IsFirstNamed kb.vocabulary.symbols (name_of w) n s → HasFormOf s w → (IsLiteralOver kb (literal_of n w) → ⊥) → Cause kb w refusal.NotAnElement
 
-cause_of : (kb : FirstKb) (w : WrittenLiteral) (f : F) → IsRefusedFor kb w f → Cause kb w f
+cause_of : (kb : Base) (w : WrittenLiteral) (f : F) → IsRefusedFor kb w f → Cause kb w f
 cause_of kb w refusal.UnknownSymbol h = unknown h
 cause_of kb w refusal.WrongArity h = form h.0 h.1 h.2 h.3
 cause_of kb w refusal.NotAnElement h = element h.0 h.1 h.2 h.3 h.4
@@ -161,13 +161,13 @@ cause_of kb w refusal.NotChosen h = absurd h
 cause_of kb w refusal.GivenByData h = absurd h
 cause_of kb w refusal.LineTooLong h = absurd h
 
-is_declared : (kb : FirstKb) (name : List ℕ) (n : ℕ) (s : Symbol) → IsFirstNamed kb.vocab.symbols name n s → ((t : Symbol) → Contains kb.vocab.symbols t → t.name ≢ name) → ⊥
-is_declared kb name n s h none = none s (n, slice_get_within kb.vocab.symbols n s h.at, get_or_from_slice_get kb.vocab.symbols n s s h.at) h.named
+is_declared : (kb : Base) (name : List ℕ) (n : ℕ) (s : Symbol) → IsFirstNamed kb.vocabulary.symbols name n s → ((t : Symbol) → Contains kb.vocabulary.symbols t → t.name ≢ name) → ⊥
+is_declared kb name n s h none = none s (n, slice_get_within kb.vocabulary.symbols n s h.at, get_or_from_slice_get kb.vocabulary.symbols n s s h.at) h.named
 
-no_form : (kb : FirstKb) (w : WrittenLiteral) (n m : ℕ) (s t : Symbol) → IsFirstNamed kb.vocab.symbols (name_of w) n s → IsFirstNamed kb.vocab.symbols (name_of w) m t → (HasFormOf s w → ⊥) → HasFormOf t w → ⊥
-no_form kb w n m s t h h' other is = other (subst (λ (x : Symbol). HasFormOf x w) (sym (first_same kb.vocab.symbols (name_of w) n m s t h h').1) is)
+no_form : (kb : Base) (w : WrittenLiteral) (n m : ℕ) (s t : Symbol) → IsFirstNamed kb.vocabulary.symbols (name_of w) n s → IsFirstNamed kb.vocabulary.symbols (name_of w) m t → (HasFormOf s w → ⊥) → HasFormOf t w → ⊥
+no_form kb w n m s t h h' other is = other (subst (λ (x : Symbol). HasFormOf x w) (sym (first_same kb.vocabulary.symbols (name_of w) n m s t h h').1) is)
 
-cause_same : (kb : FirstKb) (w : WrittenLiteral) (f g : F) → Cause kb w f → Cause kb w g → f ≡ g
+cause_same : (kb : Base) (w : WrittenLiteral) (f g : F) → Cause kb w f → Cause kb w g → f ≡ g
 cause_same kb w f g (unknown none) (unknown none') = refl
 cause_same kb w f g (unknown none) (form n s h other) = absurd (is_declared kb (name_of w) n s h none)
 cause_same kb w f g (unknown none) (element n s h is other) = absurd (is_declared kb (name_of w) n s h none)
@@ -178,14 +178,14 @@ cause_same kb w f g (element n s h is other) (unknown none) = absurd (is_declare
 cause_same kb w f g (element n s h is other) (form m t h' other') = absurd (no_form kb w m n t s h' h other' is)
 cause_same kb w f g (element n s h is other) (element m t h' is' other') = refl
 
-no_cause : (kb : FirstKb) (w : WrittenLiteral) (l : Literal) (f : F) → StandsFor kb w l → Cause kb w f → ⊥
+no_cause : (kb : Base) (w : WrittenLiteral) (l : Literal) (f : F) → StandsFor kb w l → Cause kb w f → ⊥
 no_cause kb w l f h (unknown none) = is_declared kb (name_of w) h.0 h.1 h.2 none
 no_cause kb w l f h (form n s h' other) = no_form kb w n h.0 s h.1 h' h.2 other h.3
 no_cause kb w l f h (element n s h' is other) =
-    let same = (first_same kb.vocab.symbols (name_of w) h.0 n h.1 s h.2 h').0 in
+    let same = (first_same kb.vocabulary.symbols (name_of w) h.0 n h.1 s h.2 h').0 in
     other (subst (IsLiteralOver kb) (h.4 ∙ ap (λ (x : ℕ). literal_of x w) same) h.5)
 
-asks_same : (kb : FirstKb) (w : WrittenCommand) (c d : Command) → Asks kb w c → Asks kb w d → c ≡ d
+asks_same : (kb : Base) (w : WrittenCommand) (c d : Command) → Asks kb w c → Asks kb w d → c ≡ d
 asks_same kb (written.assert w) (command.Assert l) (command.Assert l') h h' = ap (λ (x : Literal). command.Assert x) (literal_of_line kb w l l' h h')
 asks_same kb (written.retract w) (command.Retract l) (command.Retract l') h h' = ap (λ (x : Literal). command.Retract x) (literal_of_line kb w l l' h h')
 asks_same kb written.reset command.Reset command.Reset h h' = refl
@@ -198,7 +198,7 @@ asks_same kb written.choices command.Choices d h h' = absurd h'
 asks_same kb written.model command.Model d h h' = absurd h'
 asks_same kb w c d h h' = absurd h
 
-no_refusal : (kb : FirstKb) (w : WrittenCommand) (c : Command) (f : F) → Asks kb w c → RefusesFor kb w f → ⊥
+no_refusal : (kb : Base) (w : WrittenCommand) (c : Command) (f : F) → Asks kb w c → RefusesFor kb w f → ⊥
 no_refusal kb (written.assert w) (command.Assert l) f h r = no_cause kb w l f h (cause_of kb w f r)
 no_refusal kb (written.retract w) (command.Retract l) f h r = no_cause kb w l f h (cause_of kb w f r)
 no_refusal kb written.reset c f h r = r
@@ -206,7 +206,7 @@ no_refusal kb written.choices c f h r = r
 no_refusal kb written.model c f h r = r
 no_refusal kb w c f h r = h
 
-refuses_same : (kb : FirstKb) (w : WrittenCommand) (f g : F) → RefusesFor kb w f → RefusesFor kb w g → f ≡ g
+refuses_same : (kb : Base) (w : WrittenCommand) (f g : F) → RefusesFor kb w f → RefusesFor kb w g → f ≡ g
 refuses_same kb (written.assert w) f g h h' = cause_same kb w f g (cause_of kb w f h) (cause_of kb w g h')
 refuses_same kb (written.retract w) f g h h' = cause_same kb w f g (cause_of kb w f h) (cause_of kb w g h')
 refuses_same kb written.reset f g h h' = absurd h
@@ -214,11 +214,11 @@ refuses_same kb written.choices f g h h' = absurd h
 refuses_same kb written.model f g h h' = absurd h
 
 -- a refused line is no command, or has one whose literal is refused
-data Refusal (kb : FirstKb) (line : List ℕ) : F → Type 0 where
+data Refusal (kb : Base) (line : List ℕ) : F → Type 0 where
   none : IsNoCommand line → Refusal kb line refusal.Syntax
   some : {f : F} (w : WrittenCommand) → IsWritten line w → RefusesFor kb w f → Refusal kb line f
 
-refusal_of : (kb : FirstKb) (line : List ℕ) (f : F) → HasRefusal kb line f → Refusal kb line f
+refusal_of : (kb : Base) (line : List ℕ) (f : F) → HasRefusal kb line f → Refusal kb line f
 refusal_of kb line refusal.Syntax h = none h
 refusal_of kb line refusal.UnknownSymbol h = some h.0 h.1 h.2
 refusal_of kb line refusal.WrongArity h = some h.0 h.1 h.2
@@ -228,22 +228,22 @@ refusal_of kb line refusal.NotChosen h = some h.0 h.1 h.2
 refusal_of kb line refusal.GivenByData h = some h.0 h.1 h.2
 refusal_of kb line refusal.LineTooLong h = some h.0 h.1 h.2
 
-refusal_same : (kb : FirstKb) (line : List ℕ) (f g : F) → HasOneOutcome line → Refusal kb line f → Refusal kb line g → f ≡ g
+refusal_same : (kb : Base) (line : List ℕ) (f g : F) → HasOneOutcome line → Refusal kb line f → Refusal kb line g → f ≡ g
 refusal_same kb line f g one (none h) (none h') = refl
 refusal_same kb line f g one (none h) (some w is r) = absurd (h.1 w is)
 refusal_same kb line f g one (some w is r) (none h) = absurd (h.1 w is)
 refusal_same kb line f g one (some w is r) (some w' is' r') =
     refuses_same kb w f g r (subst (λ (x : WrittenCommand). RefusesFor kb x g) (written_same w' w one is' is) r')
 
-not_refused : (kb : FirstKb) (line : List ℕ) (c : Command) (f : F) → HasOneOutcome line → HasCommand kb line c → Refusal kb line f → ⊥
+not_refused : (kb : Base) (line : List ℕ) (c : Command) (f : F) → HasOneOutcome line → HasCommand kb line c → Refusal kb line f → ⊥
 not_refused kb line c f one h (none no_command) = no_command.1 h.0 h.1
 not_refused kb line c f one h (some w is r) = no_refusal kb h.0 c f h.2 (subst (λ (x : WrittenCommand). RefusesFor kb x f) (written_same w h.0 one is h.1) r)
 
-not_blank : (kb : FirstKb) (line : List ℕ) (f : F) → IsBlank line → Refusal kb line f → ⊥
+not_blank : (kb : Base) (line : List ℕ) (f : F) → IsBlank line → Refusal kb line f → ⊥
 not_blank kb line f blank (none h) = h.0 blank
 not_blank kb line f blank (some w is r) = blank_written w blank is
 
-pub one_meaning : (kb : FirstKb) (line : List ℕ) → HasOneOutcome line → HasOneMeaning kb line
+pub one_meaning : (kb : Base) (line : List ℕ) → HasOneOutcome line → HasOneMeaning kb line
 one_meaning kb line one (Ok None) (Ok None) h h' = refl
 one_meaning kb line one (Ok None) (Ok (Some d)) h h' = absurd (blank_written h'.0 h h'.1)
 one_meaning kb line one (Ok None) (Err g) h h' = absurd (not_blank kb line g h (refusal_of kb line g h'))
@@ -255,7 +255,7 @@ one_meaning kb line one (Err f) (Ok None) h h' = absurd (not_blank kb line f h' 
 one_meaning kb line one (Err f) (Ok (Some d)) h h' = absurd (not_refused kb line d f one h' (refusal_of kb line f h))
 one_meaning kb line one (Err f) (Err g) h h' = ap (λ (x : F). Err x) (refusal_same kb line f g one (refusal_of kb line f h) (refusal_of kb line g h'))
 
-over_by : (kb : FirstKb) (w : WrittenCommand) (c : Command) → Asks kb w c → IsCommandOver kb c
+over_by : (kb : Base) (w : WrittenCommand) (c : Command) → Asks kb w c → IsCommandOver kb c
 over_by kb (written.assert w) (command.Assert l) h = h.5
 over_by kb (written.retract w) (command.Retract l) h = h.5
 over_by kb w command.Reset h = tt

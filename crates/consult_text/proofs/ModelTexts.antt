@@ -1,5 +1,5 @@
 -- The texts of models.
-use Rattle.std.proofs.Common.{◌≡◌, ◌≢◌, ℕ, ◌+◌, ◌<◌, ◌⊎◌, inl, inr, List, [], ◌∷◌, ◌++◌, map, flat_map, length, Bool, true, false, cond, Option, refl, sym, ap, ◌∙◌, subst, codes, append_assoc, arith}
+use Rattle.std.proofs.Common.{◌≡◌, ◌≢◌, ℕ, ◌+◌, ◌<◌, ◌⊎◌, inl, inr, List, [], ◌∷◌, ◌++◌, map, flat_map, Bool, true, false, cond, Option, None, refl, sym, ap, ◌∙◌, subst, codes, append_assoc, arith}
 use Rattle.std.specs.Prelude.{is_none, is_some, filter}
 use Rattle.std.specs.List.{AllByRecursion, enumerate_from}
 use Rattle.std.proofs.lemmas.Bool.{eq-eqb, ne_eqb}
@@ -8,12 +8,11 @@ use Rattle.kb_logic.specs.declared.elements.Elem.{Elem}
 use Rattle.kb_logic.specs.declared.vocabularies.Symbol.{Symbol}
 use Rattle.kb_logic.specs.declared.structures.Table.{Table}
 use Rattle.kb_logic.specs.declared.structures.Structure.{Structure}
-use Rattle.kb_logic.specs.declared.first.FirstKb.{FirstKb}
-use Rattle.kb_logic.specs.First.{IsFirstKb, IsPlainPredicate}
+use Rattle.kb_logic.specs.Bases.{Base}
 use Rattle.kb_logic.specs.Structures.{domain_at, tuples_over, tuples_of, EachWith, IsRelation, IsFunction, IsStructure}
 use Rattle.kb_logic.specs.Meaning.{rows_of}
-use Rattle.consult_text.specs.Texts.{rows_text, truth_text, value_text, symbol_line, symbol_lines}
-use Rattle.consult_text.specs.OneText.{CanBeWritten, HasWordNames}
+use Rattle.consult_text.specs.Texts.{rows_text, truth_text, predicate_text, value_text, symbol_line, symbol_lines}
+use Rattle.consult_text.specs.OneText.{CanBeWritten, HasPredicatesAlone, HasWordNames}
 use Rattle.consult_text.proofs.RowTexts.{IsSomeRow, byte_above, rest_same, brace, rows_same}
 use Rattle.consult_text.proofs.ChoiceTexts.{line_end, domain_written}
 
@@ -32,7 +31,7 @@ truth_same (x ∷ rows) (y ∷ rows') r s h k q = (one x rows h ∙ sym (one y r
     one z zs (inl e) = absurd (cc)
     one z zs (inr e) = e
 
-value_same : (types : List ℕ) (rows rows' : List (List Elem)) (r s : List ℕ) → IsReadable types rows → IsReadable types rows' → value_text types rows ++ line_end r ≡ value_text types rows' ++ line_end s → (rows ≡ rows') × (r ≡ s)
+value_same : (types : List ℕ) (rows rows' : List (List Elem)) (r s : List ℕ) → IsReadable types rows → IsReadable types rows' → predicate_text types rows ++ line_end r ≡ predicate_text types rows' ++ line_end s → (rows ≡ rows') × (r ≡ s)
 value_same [] rows rows' r s h k q = truth_same rows rows' r s h k q
 value_same (ty ∷ types) rows rows' r s h k q =
     let tails : rows_text rows ++ brace (line_end r) ≡ rows_text rows' ++ brace (line_end s) =
@@ -40,23 +39,37 @@ value_same (ty ∷ types) rows rows' r s h k q =
     let cut = rows_same rows rows' (line_end r) (line_end s) h k tails in
     (cut.0, rest_same cut.1)
 
-line_same : (m m' : Structure) (x : ℕ × Symbol) (r s : List ℕ) → IsReadable x.1.args (rows_of x.0 m.relations) → IsReadable x.1.args (rows_of x.0 m'.relations) → symbol_line m x ++ r ≡ symbol_line m' x ++ s → (rows_of x.0 m.relations ≡ rows_of x.0 m'.relations) × (r ≡ s)
-line_same m m' x r s h k q =
-    let v = value_text x.1.args (rows_of x.0 m.relations) in
-    let w = value_text x.1.args (rows_of x.0 m'.relations) in
+-- the line of a predicate
+predicate_line : Structure → ℕ × Symbol → List ℕ
+predicate_line m x = x.1.name ++ (codes " = " ++ (predicate_text x.1.args (rows_of x.0 m.relations) ++ codes "\n"))
+
+is_predicate_line : (m : Structure) (x : ℕ × Symbol) → x.1.value ≡ None → symbol_line m x ≡ predicate_line m x
+unfolding predicate_line
+is_predicate_line m x is = ap (λ (v : Option ℕ). x.1.name ++ (codes " = " ++ (value_text m x.0 x.1.args v ++ codes "\n"))) is
+
+predicate_same : (m m' : Structure) (x : ℕ × Symbol) (r s : List ℕ) → IsReadable x.1.args (rows_of x.0 m.relations) → IsReadable x.1.args (rows_of x.0 m'.relations) → predicate_line m x ++ r ≡ predicate_line m' x ++ s → (rows_of x.0 m.relations ≡ rows_of x.0 m'.relations) × (r ≡ s)
+unfolding predicate_line
+predicate_same m m' x r s h k q =
+    let v = predicate_text x.1.args (rows_of x.0 m.relations) in
+    let w = predicate_text x.1.args (rows_of x.0 m'.relations) in
     let named = append_cancel_left x.1.name ((codes " = " ++ (v ++ codes "\n")) ++ r) ((codes " = " ++ (w ++ codes "\n")) ++ s)
     (sym (append_assoc x.1.name (codes " = " ++ (v ++ codes "\n")) r) ∙ (q ∙ append_assoc x.1.name (codes " = " ++ (w ++ codes "\n")) s)) in
     let tails : v ++ line_end r ≡ w ++ line_end s =
     sym (append_assoc v (codes "\n") r) ∙ (append_cancel_left (codes " = ") ((v ++ codes "\n") ++ r) ((w ++ codes "\n") ++ s) named ∙ append_assoc w (codes "\n") s) in
     value_same x.1.args (rows_of x.0 m.relations) (rows_of x.0 m'.relations) r s h k tails
 
-lines_same : (m m' : Structure) (xs : List (ℕ × Symbol)) (r s : List ℕ) → AllByRecursion (λ x. IsReadable x.1.args (rows_of x.0 m.relations)) xs → AllByRecursion (λ x. IsReadable x.1.args (rows_of x.0 m'.relations)) xs → flat_map (symbol_line m) xs ++ r ≡ flat_map (symbol_line m') xs ++ s → AllByRecursion (λ x. rows_of x.0 m.relations ≡ rows_of x.0 m'.relations) xs
-lines_same m m' [] r s h k q = tt
-lines_same m m' (x ∷ xs) r s h k q =
+line_same : (m m' : Structure) (x : ℕ × Symbol) (r s : List ℕ) → x.1.value ≡ None → IsReadable x.1.args (rows_of x.0 m.relations) → IsReadable x.1.args (rows_of x.0 m'.relations) → symbol_line m x ++ r ≡ symbol_line m' x ++ s → (rows_of x.0 m.relations ≡ rows_of x.0 m'.relations) × (r ≡ s)
+line_same m m' x r s is h k q =
+    predicate_same m m' x r s h k (ap (λ (l : List ℕ). l ++ r) (sym (is_predicate_line m x is)) ∙ (q ∙ ap (λ (l : List ℕ). l ++ s) (is_predicate_line m' x is)))
+
+lines_same : (m m' : Structure) (xs : List (ℕ × Symbol)) (r s : List ℕ) → AllByRecursion (λ x. x.1.value ≡ None) xs → AllByRecursion (λ x. IsReadable x.1.args (rows_of x.0 m.relations)) xs → AllByRecursion (λ x. IsReadable x.1.args (rows_of x.0 m'.relations)) xs → flat_map (symbol_line m) xs ++ r ≡ flat_map (symbol_line m') xs ++ s → AllByRecursion (λ x. rows_of x.0 m.relations ≡ rows_of x.0 m'.relations) xs × (r ≡ s)
+lines_same m m' [] r s is h k q = (tt, q)
+lines_same m m' (x ∷ xs) r s is h k q =
     let tails : symbol_line m x ++ (flat_map (symbol_line m) xs ++ r) ≡ symbol_line m' x ++ (flat_map (symbol_line m') xs ++ s) =
     sym (append_assoc (symbol_line m x) (flat_map (symbol_line m) xs) r) ∙ (q ∙ append_assoc (symbol_line m' x) (flat_map (symbol_line m') xs) s) in
-    let cut = line_same m m' x (flat_map (symbol_line m) xs ++ r) (flat_map (symbol_line m') xs ++ s) h.0 k.0 tails in
-    (cut.0, lines_same m m' xs r s h.1 k.1 cut.1)
+    let cut = line_same m m' x (flat_map (symbol_line m) xs ++ r) (flat_map (symbol_line m') xs ++ s) is.0 h.0 k.0 tails in
+    let more = lines_same m m' xs r s is.1 h.1 k.1 cut.1 in
+    ((cut.0, more.0), more.1)
 
 -- every table of a structure is readable
 
@@ -147,43 +160,50 @@ tables_same domains n (s ∷ symbols) (t ∷ ts) (u ∷ us) each each' h =
     let more = tables_same domains (n + 1) symbols ts us each.1 each'.1 (without_earlier (n + 1) symbols t u ts us (omega (arith, each.0.symbol)) (omega (arith, each'.0.symbol)) h.1) in
     λ i. one i ∷ more i
 
-all_predicates : (types n : ℕ) (symbols : List Symbol) → AllByRecursion (IsPlainPredicate types) symbols → filter (λ s. is_none s.1.value) (enumerate_from n symbols) ≡ enumerate_from n symbols
-all_predicates types n [] h = refl
-all_predicates types n (s ∷ symbols) h =
+all_predicates : (n : ℕ) (symbols : List Symbol) → AllByRecursion (λ s. s.value ≡ None) symbols → filter (λ s. is_none s.1.value) (enumerate_from n symbols) ≡ enumerate_from n symbols
+all_predicates n [] h = refl
+all_predicates n (s ∷ symbols) h =
     let rest : List (ℕ × Symbol) = filter (λ x. is_none x.1.value) (enumerate_from (n + 1) symbols) in
-    ap (λ (v : Option ℕ). cond (is_none v) ((n, s) ∷ rest) rest) h.0.0 ∙ ap (λ (l : List (ℕ × Symbol)). (n, s) ∷ l) (all_predicates types (n + 1) symbols h.1)
+    ap (λ (v : Option ℕ). cond (is_none v) ((n, s) ∷ rest) rest) h.0 ∙ ap (λ (l : List (ℕ × Symbol)). (n, s) ∷ l) (all_predicates (n + 1) symbols h.1)
 
-no_functions : (types n : ℕ) (symbols : List Symbol) → AllByRecursion (IsPlainPredicate types) symbols → filter (λ s. is_some s.1.value) (enumerate_from n symbols) ≡ []
-no_functions types n [] h = refl
-no_functions types n (s ∷ symbols) h =
+no_functions : (n : ℕ) (symbols : List Symbol) → AllByRecursion (λ s. s.value ≡ None) symbols → filter (λ s. is_some s.1.value) (enumerate_from n symbols) ≡ []
+no_functions n [] h = refl
+no_functions n (s ∷ symbols) h =
     let rest : List (ℕ × Symbol) = filter (λ x. is_some x.1.value) (enumerate_from (n + 1) symbols) in
-    ap (λ (v : Option ℕ). cond (is_some v) ((n, s) ∷ rest) rest) h.0.0 ∙ no_functions types (n + 1) symbols h.1
+    ap (λ (v : Option ℕ). cond (is_some v) ((n, s) ∷ rest) rest) h.0 ∙ no_functions (n + 1) symbols h.1
+
+no_values : (n : ℕ) (symbols : List Symbol) → AllByRecursion (λ s. s.value ≡ None) symbols → AllByRecursion (λ x. x.1.value ≡ None) (enumerate_from n symbols)
+no_values n [] h = tt
+no_values n (s ∷ symbols) h = (h.0, no_values (n + 1) symbols h.1)
 
 none_each : (domains : List (List Elem)) (ts : List Table) → EachWith (IsFunction domains) [] ts → ts ≡ []
 none_each domains [] h = refl
 none_each domains (t ∷ ts) h = absurd h
 
 -- the parts of a structure over the vocabulary of a knowledge base
-record Parts (kb : FirstKb) (m : Structure) : Type 0 where
-  pub domains : m.domains ≡ kb.domains
-  pub relations : EachWith (IsRelation kb.domains) (enumerate_from 0 kb.vocab.symbols) m.relations
+record Parts (kb : Base) (m : Structure) : Type 0 where
+  pub domains : m.domains ≡ kb.known.domains
+  pub relations : EachWith (IsRelation kb.known.domains) (enumerate_from 0 kb.vocabulary.symbols) m.relations
   pub functions : m.functions ≡ []
 
-parts_of : (kb : FirstKb) (m : Structure) → IsFirstKb kb → IsStructure kb.vocab m × (m.domains ≡ kb.domains) → Parts kb m
+parts_of : (kb : Base) (m : Structure) → HasPredicatesAlone kb → IsStructure kb.vocabulary m × (m.domains ≡ kb.known.domains) → Parts kb m
 parts_of kb m first h = record {
   domains = h.1;
-  relations = subst (λ (d : List (List Elem)). EachWith (IsRelation d) (enumerate_from 0 kb.vocab.symbols) m.relations) h.1
-      (subst (λ (l : List (ℕ × Symbol)). EachWith (IsRelation m.domains) l m.relations) (all_predicates (length kb.vocab.types) 0 kb.vocab.symbols first.symbols) h.0.relations);
+  relations = subst (λ (d : List (List Elem)). EachWith (IsRelation d) (enumerate_from 0 kb.vocabulary.symbols) m.relations) h.1
+      (subst (λ (l : List (ℕ × Symbol)). EachWith (IsRelation m.domains) l m.relations) (all_predicates 0 kb.vocabulary.symbols first) h.0.relations);
   functions = none_each m.domains m.functions
-      (subst (λ (l : List (ℕ × Symbol)). EachWith (IsFunction m.domains) l m.functions) (no_functions (length kb.vocab.types) 0 kb.vocab.symbols first.symbols) h.0.functions);
+      (subst (λ (l : List (ℕ × Symbol)). EachWith (IsFunction m.domains) l m.functions) (no_functions 0 kb.vocabulary.symbols first) h.0.functions);
 }
 
-pub models_same : (kb : FirstKb) (m m' : Structure) → IsFirstKb kb → HasWordNames kb → IsStructure kb.vocab m × (m.domains ≡ kb.domains) → IsStructure kb.vocab m' × (m'.domains ≡ kb.domains) → symbol_lines kb.vocab m ++ codes "done\n" ≡ symbol_lines kb.vocab m' ++ codes "done\n" → m ≡ m'
-models_same kb m m' first names h h' q =
+pub models_same : (kb : Base) (m m' : Structure) → HasPredicatesAlone kb → HasWordNames kb → IsStructure kb.vocabulary m × (m.domains ≡ kb.known.domains) → IsStructure kb.vocabulary m' × (m'.domains ≡ kb.known.domains) → (a b : List ℕ)
+    → symbol_lines kb.vocabulary m ++ (codes "done\n" ++ a) ≡ symbol_lines kb.vocabulary m' ++ (codes "done\n" ++ b) → (m ≡ m') × (a ≡ b)
+models_same kb m m' first names h h' a b q =
     let p = parts_of kb m first h in
     let p' = parts_of kb m' first h' in
-    let rows = lines_same m m' (enumerate_from 0 kb.vocab.symbols) (codes "done\n") (codes "done\n") (all_readable kb.domains 0 kb.vocab.symbols m.relations names.elements p.relations) (all_readable kb.domains 0 kb.vocab.symbols m'.relations names.elements p'.relations) q in
+    let same = lines_same m m' (enumerate_from 0 kb.vocabulary.symbols) (codes "done\n" ++ a) (codes "done\n" ++ b) (no_values 0 kb.vocabulary.symbols first)
+    (all_readable kb.known.domains 0 kb.vocabulary.symbols m.relations names.elements p.relations) (all_readable kb.known.domains 0 kb.vocabulary.symbols m'.relations names.elements p'.relations) q in
+    let rows = same.0 in
     let domains : m.domains ≡ m'.domains = p.domains ∙ sym p'.domains in
-    let relations = tables_same kb.domains 0 kb.vocab.symbols m.relations m'.relations p.relations p'.relations rows in
+    let relations = tables_same kb.known.domains 0 kb.vocabulary.symbols m.relations m'.relations p.relations p'.relations rows in
     let functions : m.functions ≡ m'.functions = p.functions ∙ sym p'.functions in
-    λ i. record { domains = domains i; relations = relations i; functions = functions i }
+    (λ i. record { domains = domains i; relations = relations i; functions = functions i }, append_cancel_left (codes "done\n") a b same.1)

@@ -11,7 +11,7 @@ use Rattle.consult_text.specs.declared.written.CommandText.{CommandText}
 use Rattle.consult_text.specs.Written as written
 use Rattle.consult_text.specs.Written.{Tok, word, digits, sign, procedure, WrittenElem, named, integer, WrittenLiteral, atom, equation, WrittenCommand, put_elem, put_further, put_args, put_literal, put_command, equals, IsNamedWell}
 use Rattle.consult_text.specs.Lines.{tok, tok_of, has_spaces_alone, IsWritten}
-use Rattle.consult_text.specs.Cuts.{toks, close, dot, CutsCommand, command_view}
+use Rattle.consult_text.specs.Parse.{toks, close, dot, ParsesCommand, command_view}
 use Rattle.consult_text.specs.Ranges.{IsInRange, HasRange, HasRanges}
 
 -- the line has one outcome of its tokens
@@ -35,9 +35,9 @@ no_spaces {line} ts slice test one h same is no_space w written =
     let f : true ≡ false = sym written.spaces ∙ (e ∙ no_space) in
     absurd (cc)
 
-pub no_spelling : {line : List ℕ} (ts slice : List Token) (found : Option CommandText) → HasOneOutcome line → TokensFrom outermost 0 line (Ok (lexemes ts)) → slice ≡ ts → CutsCommand (toks slice) found → found ≡ None → (w : WrittenCommand) → IsWritten line w → ⊥
+pub no_spelling : {line : List ℕ} (ts slice : List Token) (found : Option CommandText) → HasOneOutcome line → TokensFrom outermost 0 line (Ok (lexemes ts)) → slice ≡ ts → ParsesCommand (toks slice) found → found ≡ None → (w : WrittenCommand) → IsWritten line w → ⊥
 no_spelling ts slice found one h same cut is w written =
-    let none = subst (CutsCommand (toks slice)) is cut in
+    let none = subst (ParsesCommand (toks slice)) is cut in
     none w written.named (ap toks same ∙ (ap (map tok_of) (sym (same_lexemes written.lexemes (lexemes ts) one written.tokens h)) ∙ written.spelled))
 
 -- an integer's digits have a value of 63 bits
@@ -90,9 +90,9 @@ command_fits written.reset h = tt
 command_fits written.choices h = tt
 command_fits written.model h = tt
 
-pub is_written : {line : List ℕ} (ts slice slice' : List Token) (test : Bool) (found : Option CommandText) (c : CommandText) → TokensFrom outermost 0 line (Ok (lexemes ts)) → All IsSpelled (lexemes ts) → slice ≡ ts → slice' ≡ ts → test ≡ has_spaces_alone 0 line (lexemes slice) → test ≡ true → CutsCommand (toks slice') found → found ≡ Some c → IsWritten line (command_view c) × HasRanges (command_view c)
+pub is_written : {line : List ℕ} (ts slice slice' : List Token) (test : Bool) (found : Option CommandText) (c : CommandText) → TokensFrom outermost 0 line (Ok (lexemes ts)) → All IsSpelled (lexemes ts) → slice ≡ ts → slice' ≡ ts → test ≡ has_spaces_alone 0 line (lexemes slice) → test ≡ true → ParsesCommand (toks slice') found → found ≡ Some c → IsWritten line (command_view c) × HasRanges (command_view c)
 is_written {line} ts slice slice' test found c h spelled same same' is space cut some =
-    let spell = subst (CutsCommand (toks slice')) some cut in
+    let spell = subst (ParsesCommand (toks slice')) some cut in
     let whole : toks ts ≡ put_command (command_view c) = ap toks (sym same') ∙ spell.0 in (
       record { lexemes = lexemes ts; tokens = h; spaces = ap (λ (x : List Token). has_spaces_alone 0 line (lexemes x)) (sym same) ∙ (sym is ∙ space); spelled = whole; named = spell.1 },
       command_fits (command_view c) (subst (AllByRecursion FitsTok) whole (fits_all (lexemes ts) spelled)),

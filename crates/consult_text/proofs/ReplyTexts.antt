@@ -1,5 +1,6 @@
 -- No two replies over a knowledge base have one text.
-use Rattle.std.proofs.Common.{◌≡◌, ℕ, zero, suc, ◌+◌, ◌<◌, List, [], ◌∷◌, ◌++◌, flat_map, refl, sym, ap, ◌∙◌, codes, arith}
+use Rattle.std.proofs.Common.{◌≡◌, ℕ, zero, suc, ◌+◌, ◌<◌, List, [], ◌∷◌, ◌++◌, flat_map, refl, sym, ap, ◌∙◌, codes, append_assoc, arith}
+use Rattle.std.specs.List.{AllByRecursion}
 use Rattle.std.proofs.lemmas.List.{append_cancel_left}
 use Rattle.std.proofs.lemmas.Fmt.{decimal_digit}
 use Rattle.kb_logic.specs.declared.structures.Literal.{Literal}
@@ -9,9 +10,12 @@ use Rattle.consult_text.specs.declared.refusals.F.{F}
 use Rattle.consult_text.specs.declared.refusals.F.TheVariants as refusal
 use Rattle.consult_text.specs.declared.replies.Reply.TheVariants as reply
 use Rattle.consult_text.specs.Refusals.{number_of, name_of, text_of}
-use Rattle.consult_text.specs.Texts.{choice_line, symbol_lines}
-use Rattle.consult_text.specs.OneText.{NoTwoRepliesHaveOneText}
-use Rattle.consult_text.proofs.RowTexts.{byte_above}
+use Rattle.kb_logic.specs.Bases.{Base}
+use Rattle.consult_text.specs.declared.replies.Reply.{Reply}
+use Rattle.consult_text.specs.Literals.{IsLiteralOver}
+use Rattle.consult_text.specs.Texts.{choice_line, symbol_lines, reply_text}
+use Rattle.consult_text.specs.OneText.{HasPredicatesAlone, HasWordNames, IsReplyOver, NoTwoRepliesHaveOneText}
+use Rattle.consult_text.proofs.RowTexts.{byte_above, rest_same}
 use Rattle.consult_text.proofs.ChoiceTexts.{choices_same}
 use Rattle.consult_text.proofs.ModelTexts.{models_same}
 
@@ -53,42 +57,65 @@ first_byte q = cc
 digit_text : (f : F) → text_of f ++ codes "\n" ≡ codes "F" ++ ((48 + number_of f) ∷ ((codes " " ++ name_of f) ++ codes "\n"))
 digit_text f = rw (decimal_digit (number_of f) (small_number f))
 
-refusals_same : (f g : F) → text_of f ++ codes "\n" ≡ text_of g ++ codes "\n" → f ≡ g
-refusals_same f g q =
-    let tails = append_cancel_left (codes "F") ((48 + number_of f) ∷ ((codes " " ++ name_of f) ++ codes "\n")) ((48 + number_of g) ∷ ((codes " " ++ name_of g) ++ codes "\n")) (sym (digit_text f) ∙ (q ∙ digit_text g)) in
-    let same : number_of f ≡ number_of g = omega (arith, first_byte tails) in
-    sym (back f) ∙ (ap numbered same ∙ back g)
+refusals_same : (f g : F) (a b : List ℕ) → (text_of f ++ codes "\n") ++ a ≡ (text_of g ++ codes "\n") ++ b → (f ≡ g) × (a ≡ b)
+refusals_same f g a b q =
+    let bytes = rest_same (ap (λ (l : List ℕ). l ++ a) (sym (digit_text f)) ∙ (q ∙ ap (λ (l : List ℕ). l ++ b) (digit_text g))) in
+    let number : number_of f ≡ number_of g = omega (arith, first_byte bytes) in
+    let same : f ≡ g = sym (back f) ∙ (ap numbered number ∙ back g) in
+    (same, append_cancel_left (text_of g ++ codes "\n") a b (ap (λ (x : F). (text_of x ++ codes "\n") ++ a) (sym same) ∙ q))
 
 -- the first byte of the lines of choices lies below that of any other reply
-low_byte : (vocab : Vocabulary) (ls : List Literal) (x : ℕ) {b : List ℕ} → 100 < x → flat_map (choice_line vocab) ls ++ codes "done\n" ≡ x ∷ b → ⊥
-low_byte vocab [] x above q = byte_above x 100 above (sym q)
-low_byte vocab (l ∷ ls) x above q = byte_above x 99 (omega arith) (sym q)
+low_byte : (vocab : Vocabulary) (ls : List Literal) (a : List ℕ) (x : ℕ) {b : List ℕ} → 100 < x → (flat_map (choice_line vocab) ls ++ codes "done\n") ++ a ≡ x ∷ b → ⊥
+low_byte vocab [] a x above q = byte_above x 100 above (sym q)
+low_byte vocab (l ∷ ls) a x above q = byte_above x 99 (omega arith) (sym q)
+
+module _ (kb : Base) (first : HasPredicatesAlone kb) (names : HasWordNames kb) where
+  two_choices : (ls ks : List Literal) (a b : List ℕ) → AllByRecursion (IsLiteralOver kb) ls → AllByRecursion (IsLiteralOver kb) ks
+      → (flat_map (choice_line kb.vocabulary) ls ++ codes "done\n") ++ a ≡ (flat_map (choice_line kb.vocabulary) ks ++ codes "done\n") ++ b → (reply.Choices ls ≡ reply.Choices ks) × (a ≡ b)
+  two_choices ls ks a b h k q =
+      let cut = choices_same kb ls ks first names h k a b
+      (sym (append_assoc (flat_map (choice_line kb.vocabulary) ls) (codes "done\n") a) ∙ (q ∙ append_assoc (flat_map (choice_line kb.vocabulary) ks) (codes "done\n") b)) in
+      (ap (λ (x : List Literal). reply.Choices x) cut.0, cut.1)
+
+  two_models : (m m' : Structure) (a b : List ℕ) → IsReplyOver kb (reply.Model m) → IsReplyOver kb (reply.Model m')
+      → reply_text kb.vocabulary (reply.Model m) ++ a ≡ reply_text kb.vocabulary (reply.Model m') ++ b → (reply.Model m ≡ reply.Model m') × (a ≡ b)
+  two_models m m' a b h k q =
+      let tails = append_cancel_left (codes "model\n") ((symbol_lines kb.vocabulary m ++ codes "done\n") ++ a) ((symbol_lines kb.vocabulary m' ++ codes "done\n") ++ b) q in
+      let cut = models_same kb m m' first names h k a b
+      (sym (append_assoc (symbol_lines kb.vocabulary m) (codes "done\n") a) ∙ (tails ∙ append_assoc (symbol_lines kb.vocabulary m') (codes "done\n") b)) in
+      (ap (λ (x : Structure). reply.Model x) cut.0, cut.1)
+
+  two_refusals : (f g : F) (a b : List ℕ) → reply_text kb.vocabulary (reply.Refused f) ++ a ≡ reply_text kb.vocabulary (reply.Refused g) ++ b → (reply.Refused f ≡ reply.Refused g) × (a ≡ b)
+  two_refusals f g a b q =
+      let cut = refusals_same f g a b (append_cancel_left (codes "refused ") ((text_of f ++ codes "\n") ++ a) ((text_of g ++ codes "\n") ++ b) q) in
+      (ap (λ (x : F). reply.Refused x) cut.0, cut.1)
+
+  same : (r s : Reply) (a b : List ℕ) → IsReplyOver kb r → IsReplyOver kb s → reply_text kb.vocabulary r ++ a ≡ reply_text kb.vocabulary s ++ b → (r ≡ s) × (a ≡ b)
+  same reply.Fine reply.Fine a b h k q = (refl, append_cancel_left (codes "ok\n") a b q)
+  same reply.Fine (reply.Refused g) a b h k q = absurd (byte_above 114 111 (omega arith) (sym q))
+  same reply.Fine (reply.Choices ks) a b h k q = absurd (low_byte kb.vocabulary ks b 111 (omega arith) (sym q))
+  same reply.Fine (reply.Model m) a b h k q = absurd (byte_above 111 109 (omega arith) q)
+  same reply.Fine reply.Inconsistent a b h k q = absurd (byte_above 111 105 (omega arith) q)
+  same (reply.Refused f) reply.Fine a b h k q = absurd (byte_above 114 111 (omega arith) q)
+  same (reply.Refused f) (reply.Refused g) a b h k q = two_refusals f g a b q
+  same (reply.Refused f) (reply.Choices ks) a b h k q = absurd (low_byte kb.vocabulary ks b 114 (omega arith) (sym q))
+  same (reply.Refused f) (reply.Model m) a b h k q = absurd (byte_above 114 109 (omega arith) q)
+  same (reply.Refused f) reply.Inconsistent a b h k q = absurd (byte_above 114 105 (omega arith) q)
+  same (reply.Choices ls) reply.Fine a b h k q = absurd (low_byte kb.vocabulary ls a 111 (omega arith) q)
+  same (reply.Choices ls) (reply.Refused g) a b h k q = absurd (low_byte kb.vocabulary ls a 114 (omega arith) q)
+  same (reply.Choices ls) (reply.Choices ks) a b h k q = two_choices ls ks a b h k q
+  same (reply.Choices ls) (reply.Model m) a b h k q = absurd (low_byte kb.vocabulary ls a 109 (omega arith) q)
+  same (reply.Choices ls) reply.Inconsistent a b h k q = absurd (low_byte kb.vocabulary ls a 105 (omega arith) q)
+  same (reply.Model m) reply.Fine a b h k q = absurd (byte_above 111 109 (omega arith) (sym q))
+  same (reply.Model m) (reply.Refused g) a b h k q = absurd (byte_above 114 109 (omega arith) (sym q))
+  same (reply.Model m) (reply.Choices ks) a b h k q = absurd (low_byte kb.vocabulary ks b 109 (omega arith) (sym q))
+  same (reply.Model m) (reply.Model m') a b h k q = two_models m m' a b h k q
+  same (reply.Model m) reply.Inconsistent a b h k q = absurd (byte_above 109 105 (omega arith) q)
+  same reply.Inconsistent reply.Fine a b h k q = absurd (byte_above 111 105 (omega arith) (sym q))
+  same reply.Inconsistent (reply.Refused g) a b h k q = absurd (byte_above 114 105 (omega arith) (sym q))
+  same reply.Inconsistent (reply.Choices ks) a b h k q = absurd (low_byte kb.vocabulary ks b 105 (omega arith) (sym q))
+  same reply.Inconsistent (reply.Model m) a b h k q = absurd (byte_above 109 105 (omega arith) (sym q))
+  same reply.Inconsistent reply.Inconsistent a b h k q = (refl, append_cancel_left (codes "inconsistent\n") a b q)
 
 pub replies_same : NoTwoRepliesHaveOneText
-replies_same kb first names reply.Fine reply.Fine h k q = refl
-replies_same kb first names reply.Fine (reply.Refused g) h k q = absurd (byte_above 114 111 (omega arith) (sym q))
-replies_same kb first names reply.Fine (reply.Choices ks) h k q = absurd (low_byte kb.vocab ks 111 (omega arith) (sym q))
-replies_same kb first names reply.Fine (reply.Model m) h k q = absurd (byte_above 111 109 (omega arith) q)
-replies_same kb first names reply.Fine reply.Inconsistent h k q = absurd (byte_above 111 105 (omega arith) q)
-replies_same kb first names (reply.Refused f) reply.Fine h k q = absurd (byte_above 114 111 (omega arith) q)
-replies_same kb first names (reply.Refused f) (reply.Refused g) h k q =
-    ap (λ (x : F). reply.Refused x) (refusals_same f g (append_cancel_left (codes "refused ") (text_of f ++ codes "\n") (text_of g ++ codes "\n") q))
-replies_same kb first names (reply.Refused f) (reply.Choices ks) h k q = absurd (low_byte kb.vocab ks 114 (omega arith) (sym q))
-replies_same kb first names (reply.Refused f) (reply.Model m) h k q = absurd (byte_above 114 109 (omega arith) q)
-replies_same kb first names (reply.Refused f) reply.Inconsistent h k q = absurd (byte_above 114 105 (omega arith) q)
-replies_same kb first names (reply.Choices ls) reply.Fine h k q = absurd (low_byte kb.vocab ls 111 (omega arith) q)
-replies_same kb first names (reply.Choices ls) (reply.Refused g) h k q = absurd (low_byte kb.vocab ls 114 (omega arith) q)
-replies_same kb first names (reply.Choices ls) (reply.Choices ks) h k q = ap (λ (x : List Literal). reply.Choices x) (choices_same kb ls ks first names h k q)
-replies_same kb first names (reply.Choices ls) (reply.Model m) h k q = absurd (low_byte kb.vocab ls 109 (omega arith) q)
-replies_same kb first names (reply.Choices ls) reply.Inconsistent h k q = absurd (low_byte kb.vocab ls 105 (omega arith) q)
-replies_same kb first names (reply.Model m) reply.Fine h k q = absurd (byte_above 111 109 (omega arith) (sym q))
-replies_same kb first names (reply.Model m) (reply.Refused g) h k q = absurd (byte_above 114 109 (omega arith) (sym q))
-replies_same kb first names (reply.Model m) (reply.Choices ks) h k q = absurd (low_byte kb.vocab ks 109 (omega arith) (sym q))
-replies_same kb first names (reply.Model m) (reply.Model m') h k q =
-    ap (λ (x : Structure). reply.Model x) (models_same kb m m' first names h k (append_cancel_left (codes "model\n") (symbol_lines kb.vocab m ++ codes "done\n") (symbol_lines kb.vocab m' ++ codes "done\n") q))
-replies_same kb first names (reply.Model m) reply.Inconsistent h k q = absurd (byte_above 109 105 (omega arith) q)
-replies_same kb first names reply.Inconsistent reply.Fine h k q = absurd (byte_above 111 105 (omega arith) (sym q))
-replies_same kb first names reply.Inconsistent (reply.Refused g) h k q = absurd (byte_above 114 105 (omega arith) (sym q))
-replies_same kb first names reply.Inconsistent (reply.Choices ks) h k q = absurd (low_byte kb.vocab ks 105 (omega arith) (sym q))
-replies_same kb first names reply.Inconsistent (reply.Model m) h k q = absurd (byte_above 109 105 (omega arith) (sym q))
-replies_same kb first names reply.Inconsistent reply.Inconsistent h k q = refl
+replies_same kb first names c r s a b to_r to_s h k q = same kb first names r s a b h k q

@@ -2,7 +2,7 @@
 use Rattle.std.proofs.Common.{◌≡◌, ℕ, List, [], ◌∷◌, Bool, true, false, refl, sym, codes, ◌<◌, arith}
 use Rattle.std.specs.List.{AllByRecursion}
 use Rattle.consult_text.specs.Written.{Tok, sign, WrittenElem, named, integer, put_elem, put_further, put_args, equals, HasName}
-use Rattle.consult_text.specs.Cuts.{close, IsClosed}
+use Rattle.consult_text.specs.Parse.{close, IsClosed}
 
 -- signs whose first bytes differ
 pub sign_above : (x y : ℕ) {xs ys : List ℕ} {a b : List Tok} → y < x → sign (x ∷ xs) ∷ a ≡ sign (y ∷ ys) ∷ b → ⊥

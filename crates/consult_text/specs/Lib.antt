@@ -2,8 +2,10 @@ pub mod Refusals
 pub mod Literals
 pub mod Written
 pub mod Lines
-pub mod Cuts
+pub mod Parse
 pub mod Ranges
 pub mod Laws
 pub mod OneText
 pub mod Texts
+pub mod States
+pub mod RightReplies

@@ -2,7 +2,7 @@
 use Rattle.std.specs.Prelude.{◌≡◌, ◌≢◌, ℕ, List, [], ◌∷◌, length, map, Bool, ◌&&◌, true, slice_range, Contains, Option, Some, None, Result, Ok, Err, ⊤}
 use Rattle.kb_logic.specs.declared.vocabularies.Symbol.{Symbol}
 use Rattle.kb_logic.specs.declared.structures.Literal.{Literal}
-use Rattle.kb_logic.specs.declared.first.FirstKb.{FirstKb}
+use Rattle.kb_logic.specs.Bases.{Base}
 use Rattle.kb_text.specs.Bytes.{only_spaces}
 use Rattle.kb_text.specs.Depth.{outermost}
 use Rattle.kb_text.specs.declared.token.Kind.{Kind}
@@ -49,21 +49,21 @@ abbrev pub IsNoCommand : List ℕ → Type 0
 IsNoCommand line = (IsBlank line → ⊥) × ((w : WrittenCommand) → IsWritten line w → ⊥)
 
 -- the written literal stands for this one
-abbrev pub StandsFor : FirstKb → WrittenLiteral → Literal → Type 0
+abbrev pub StandsFor : Base → WrittenLiteral → Literal → Type 0
 StandsFor kb w l =
-    (number : ℕ) × (s : Symbol) × IsFirstNamed kb.vocab.symbols (name_of w) number s × HasFormOf s w × (l ≡ literal_of number w) × IsLiteralOver kb l
+    (number : ℕ) × (s : Symbol) × IsFirstNamed kb.vocabulary.symbols (name_of w) number s × HasFormOf s w × (l ≡ literal_of number w) × IsLiteralOver kb l
 
 -- the written literal is refused, for the first of its causes: its symbol is not declared, is of another form, or an element
 -- is not in its position's type
-abbrev pub IsRefusedFor : FirstKb → WrittenLiteral → F → Type 0
-IsRefusedFor kb w refusal.UnknownSymbol = (s : Symbol) → Contains kb.vocab.symbols s → s.name ≢ name_of w
-IsRefusedFor kb w refusal.WrongArity = (number : ℕ) × (s : Symbol) × IsFirstNamed kb.vocab.symbols (name_of w) number s × (HasFormOf s w → ⊥)
+abbrev pub IsRefusedFor : Base → WrittenLiteral → F → Type 0
+IsRefusedFor kb w refusal.UnknownSymbol = (s : Symbol) → Contains kb.vocabulary.symbols s → s.name ≢ name_of w
+IsRefusedFor kb w refusal.WrongArity = (number : ℕ) × (s : Symbol) × IsFirstNamed kb.vocabulary.symbols (name_of w) number s × (HasFormOf s w → ⊥)
 IsRefusedFor kb w refusal.NotAnElement =
-    (number : ℕ) × (s : Symbol) × IsFirstNamed kb.vocab.symbols (name_of w) number s × HasFormOf s w × (IsLiteralOver kb (literal_of number w) → ⊥)
+    (number : ℕ) × (s : Symbol) × IsFirstNamed kb.vocabulary.symbols (name_of w) number s × HasFormOf s w × (IsLiteralOver kb (literal_of number w) → ⊥)
 IsRefusedFor kb w _ = ⊥
 
 -- what the written command asks
-abbrev pub Asks : FirstKb → WrittenCommand → Command → Type 0
+abbrev pub Asks : Base → WrittenCommand → Command → Type 0
 Asks kb (written.assert w) (command.Assert l) = StandsFor kb w l
 Asks kb (written.retract w) (command.Retract l) = StandsFor kb w l
 Asks kb written.reset command.Reset = ⊤
@@ -72,22 +72,22 @@ Asks kb written.model command.Model = ⊤
 Asks kb _ _ = ⊥
 
 -- why it is refused
-abbrev pub RefusesFor : FirstKb → WrittenCommand → F → Type 0
+abbrev pub RefusesFor : Base → WrittenCommand → F → Type 0
 RefusesFor kb (written.assert w) f = IsRefusedFor kb w f
 RefusesFor kb (written.retract w) f = IsRefusedFor kb w f
 RefusesFor kb _ f = ⊥
 
 -- the line has this command
-abbrev pub HasCommand : FirstKb → List ℕ → Command → Type 0
+abbrev pub HasCommand : Base → List ℕ → Command → Type 0
 HasCommand kb line c = (w : WrittenCommand) × IsWritten line w × Asks kb w c
 
 -- the line is refused for this cause: it is no command, or its literal is refused
-abbrev pub HasRefusal : FirstKb → List ℕ → F → Type 0
+abbrev pub HasRefusal : Base → List ℕ → F → Type 0
 HasRefusal kb line refusal.Syntax = IsNoCommand line
 HasRefusal kb line f = (w : WrittenCommand) × IsWritten line w × RefusesFor kb w f
 
 -- a command over the knowledge base, as every one that is read
-abbrev pub IsCommandOver : FirstKb → Command → Type 0
+abbrev pub IsCommandOver : Base → Command → Type 0
 IsCommandOver kb (command.Assert l) = IsLiteralOver kb l
 IsCommandOver kb (command.Retract l) = IsLiteralOver kb l
 IsCommandOver kb command.Reset = ⊤
@@ -95,7 +95,7 @@ IsCommandOver kb command.Choices = ⊤
 IsCommandOver kb command.Model = ⊤
 
 -- what a line is read as, unless memory ran out: nothing, a command, or a refusal
-abbrev pub Reads : FirstKb → List ℕ → Result (Option Command) CommandError → Type 0
+abbrev pub Reads : Base → List ℕ → Result (Option Command) CommandError → Type 0
 Reads kb line (Ok None) = IsBlank line
 Reads kb line (Ok (Some c)) = HasCommand kb line c
 Reads kb line (Err (errors.Refused f)) = HasRefusal kb line f

@@ -1,28 +1,21 @@
 -- Literals over a knowledge base: what a written one stands for, and why it is refused.
-use Rattle.std.specs.Prelude.{◌≡◌, ◌≢◌, ◌<◌, ℕ, ℤ, pos, neg_ℤ, List, [], ◌∷◌, Bool, true, false, Option, Some, None, map, slice_get, Contains, ⊤}
+use Rattle.std.specs.Prelude.{◌≡◌, ◌≢◌, ◌<◌, ℕ, ℤ, pos, neg_ℤ, List, Bool, true, false, Some, None, map, slice_get, length}
 use Rattle.kb_logic.specs.declared.elements.Elem.{Elem}
 use Rattle.kb_logic.specs.declared.elements.Elem.TheVariants.{Named, Num}
 use Rattle.kb_logic.specs.declared.vocabularies.Symbol.{Symbol}
 use Rattle.kb_logic.specs.declared.structures.Literal.{Literal}
-use Rattle.kb_logic.specs.declared.first.FirstKb.{FirstKb}
-use Rattle.kb_logic.specs.Structures.{domain_at}
+use Rattle.kb_logic.specs.Bases.{Base}
+use Rattle.kb_logic.specs.Models.{HasValueIn}
 use Rattle.kb_logic.specs.First.{IsRowOver}
 use Rattle.kb_text.specs.Tokens.{decimal}
 use Rattle.consult_text.specs.Written.{WrittenElem, named, integer, WrittenLiteral, atom, equation}
 
--- a value is written exactly where the symbol is a function, and it is in the function's type
-abbrev pub IsValueOver : List (List Elem) → Option ℕ → Option Elem → Type 0
-IsValueOver domains None None = ⊤
-IsValueOver domains None (Some x) = ⊥
-IsValueOver domains (Some ty) None = ⊥
-IsValueOver domains (Some ty) (Some x) = Contains (domain_at domains ty) x
-
 -- a ground literal of the vocabulary over the domains
-pub record IsLiteralOver (kb : FirstKb) (l : Literal) : Type 0 where
+pub record IsLiteralOver (kb : Base) (l : Literal) : Type 0 where
   pub symbol : Symbol
-  pub declared : slice_get kb.vocab.symbols l.symbol ≡ Some symbol
-  pub args : IsRowOver kb.domains symbol.args l.args
-  pub value : IsValueOver kb.domains symbol.value l.value
+  pub declared : slice_get kb.vocabulary.symbols l.symbol ≡ Some symbol
+  pub args : IsRowOver kb.known.domains symbol.args l.args
+  pub value : HasValueIn kb.known.domains symbol.value l.value
 
 -- the integer with these digits
 abbrev pub integer_of : Bool → List ℕ → ℤ
@@ -48,14 +41,7 @@ abbrev pub literal_of : ℕ → WrittenLiteral → Literal
 literal_of number (atom positive name args) = record { positive = positive; symbol = number; args = map elem_of args; value = None }
 literal_of number (equation positive name args value) = record { positive = positive; symbol = number; args = map elem_of args; value = Some (elem_of value) }
 
--- lists of one length
-abbrev pub HasLengthOf : {A B : Type 0} → List A → List B → Type 0
-HasLengthOf [] [] = ⊤
-HasLengthOf [] (y ∷ ys) = ⊥
-HasLengthOf (x ∷ xs) [] = ⊥
-HasLengthOf (x ∷ xs) (y ∷ ys) = HasLengthOf xs ys
-
 -- the symbol has that number of arguments; it is a predicate where an atom is written, and a function where an equation is
 abbrev pub HasFormOf : Symbol → WrittenLiteral → Type 0
-HasFormOf s (atom positive name args) = (s.value ≡ None) × HasLengthOf s.args args
-HasFormOf s (equation positive name args value) = ((ty : ℕ) × (s.value ≡ Some ty)) × HasLengthOf s.args args
+HasFormOf s (atom positive name args) = (s.value ≡ None) × (length s.args ≡ length args)
+HasFormOf s (equation positive name args value) = ((ty : ℕ) × (s.value ≡ Some ty)) × (length s.args ≡ length args)

@@ -1,14 +1,15 @@
 -- The replies that there are over a knowledge base, and that no two of them have one text.
-use Rattle.std.specs.Prelude.{◌≡◌, ◌<◌, ◌^◌, nat_abs, map, ⊤}
+use Rattle.std.specs.Prelude.{◌≡◌, ◌<◌, ◌^◌, ◌++◌, ℕ, List, nat_abs, map, None, ⊤}
 use Rattle.std.specs.List.{AllByRecursion}
 use Rattle.kb_logic.specs.declared.elements.Elem.{Elem}
 use Rattle.kb_logic.specs.declared.elements.Elem.TheVariants.{Named, Num}
-use Rattle.kb_logic.specs.declared.first.FirstKb.{FirstKb}
-use Rattle.kb_logic.specs.First.{IsFirstKb}
+use Rattle.kb_logic.specs.Bases.{Base}
 use Rattle.kb_logic.specs.Structures.{IsDistinct, IsStructure}
 use Rattle.kb_text.specs.Pieces.{IsPiece, WordText}
 use Rattle.consult_text.specs.Literals.{IsLiteralOver}
 use Rattle.consult_text.specs.Texts.{reply_text}
+use Rattle.consult_text.specs.declared.commands.Command.{Command}
+use Rattle.consult_text.specs.declared.commands.Command.TheVariants as command
 use Rattle.consult_text.specs.declared.replies.Reply.{Reply}
 use Rattle.consult_text.specs.declared.replies.Reply.TheVariants as reply
 
@@ -17,21 +18,41 @@ abbrev pub CanBeWritten : Elem → Type 0
 CanBeWritten (Named name) = IsPiece WordText name
 CanBeWritten (Num n) = nat_abs n < 2 ^ 63
 
+-- each symbol is a predicate
+abbrev pub HasPredicatesAlone : Base → Type 0
+HasPredicatesAlone kb = AllByRecursion (λ s. s.value ≡ None) kb.vocabulary.symbols
+
 -- symbols and elements are words, no two symbols have one name, and integers have at most 63 bits
-pub record HasWordNames (kb : FirstKb) : Type 0 where
-  pub words : AllByRecursion (λ s. IsPiece WordText s.name) kb.vocab.symbols
-  pub apart : IsDistinct (map (λ s. s.name) kb.vocab.symbols)
-  pub elements : AllByRecursion (AllByRecursion CanBeWritten) kb.domains
+pub record HasWordNames (kb : Base) : Type 0 where
+  pub words : AllByRecursion (λ s. IsPiece WordText s.name) kb.vocabulary.symbols
+  pub apart : IsDistinct (map (λ s. s.name) kb.vocabulary.symbols)
+  pub elements : AllByRecursion (AllByRecursion CanBeWritten) kb.known.domains
 
 -- a reply over the knowledge base: choices are literals over it, and a model is a structure over its domains
-abbrev pub IsReplyOver : FirstKb → Reply → Type 0
+abbrev pub IsReplyOver : Base → Reply → Type 0
 IsReplyOver kb reply.Fine = ⊤
 IsReplyOver kb (reply.Refused f) = ⊤
 IsReplyOver kb (reply.Choices ls) = AllByRecursion (IsLiteralOver kb) ls
-IsReplyOver kb (reply.Model m) = IsStructure kb.vocab m × (m.domains ≡ kb.domains)
+IsReplyOver kb (reply.Model m) = IsStructure kb.vocabulary m × (m.domains ≡ kb.known.domains)
 IsReplyOver kb reply.Inconsistent = ⊤
 
--- so the bytes that are printed determine the reply
+-- the replies that there are to a command: each may be refused, a change is answered by `ok`, and a query by what it
+-- asks for
+abbrev pub IsReplyTo : Command → Reply → Type 0
+IsReplyTo c (reply.Refused f) = ⊤
+IsReplyTo (command.Assert l) reply.Fine = ⊤
+IsReplyTo (command.Retract l) reply.Fine = ⊤
+IsReplyTo command.Reset reply.Fine = ⊤
+IsReplyTo command.Choices (reply.Choices ls) = ⊤
+IsReplyTo command.Model (reply.Model m) = ⊤
+IsReplyTo command.Model reply.Inconsistent = ⊤
+IsReplyTo _ _ = ⊥
+
+-- No two replies to one command have one text, and none has a text that begins that of another: where two texts with
+-- more bytes after them are equal, so are the replies, and so are the bytes after them.
 abbrev pub NoTwoRepliesHaveOneText : Type 0
 NoTwoRepliesHaveOneText =
-    (kb : FirstKb) → IsFirstKb kb → HasWordNames kb → (r s : Reply) → IsReplyOver kb r → IsReplyOver kb s → reply_text kb.vocab r ≡ reply_text kb.vocab s → r ≡ s
+    (kb : Base) → HasPredicatesAlone kb → HasWordNames kb → (c : Command) (r s : Reply) (after after' : List ℕ)
+    → IsReplyTo c r → IsReplyTo c s
+    → IsReplyOver kb r → IsReplyOver kb s → reply_text kb.vocabulary r ++ after ≡ reply_text kb.vocabulary s ++ after' →
+    (r ≡ s) × (after ≡ after')

@@ -2,12 +2,12 @@
 use Rattle.std.specs.Prelude.{◌≡◌, ℕ, List, ◌<◌, ◌^◌, Result, Ok, Err, ⊤}
 use Rattle.std.specs.List.{AllByRecursion}
 use Rattle.kb_logic.specs.declared.structures.Literal.{Literal}
-use Rattle.kb_logic.specs.declared.first.FirstKb.{FirstKb}
+use Rattle.kb_logic.specs.Bases.{Base}
 use Rattle.kb_text.specs.Tokens.{decimal}
 use Rattle.consult_text.specs.Written as written
 use Rattle.consult_text.specs.Written.{WrittenElem, named, integer, WrittenLiteral, atom, equation, WrittenCommand}
 use Rattle.consult_text.specs.Lines.{StandsFor, IsRefusedFor, IsWritten, IsNoCommand, Asks, RefusesFor}
-use Rattle.consult_text.specs.Cuts.{command_view}
+use Rattle.consult_text.specs.Parse.{command_view}
 use Rattle.consult_text.specs.declared.commands.Command.{Command}
 use Rattle.consult_text.specs.declared.written.CommandText.{CommandText}
 use Rattle.consult_text.specs.declared.refusals.F.TheVariants.{Syntax}
@@ -30,7 +30,7 @@ HasRanges written.choices = ⊤
 HasRanges written.model = ⊤
 
 -- what a written literal is looked up as
-abbrev pub LooksUp : FirstKb → WrittenLiteral → Result Literal CommandError → Type 0
+abbrev pub LooksUp : Base → WrittenLiteral → Result Literal CommandError → Type 0
 LooksUp kb w (Ok l) = StandsFor kb w l
 LooksUp kb w (Err (errors.Refused f)) = IsRefusedFor kb w f
 LooksUp kb w (Err errors.Memory) = ⊤
@@ -42,7 +42,7 @@ ParsesAs line (Err (errors.Refused f)) = (f ≡ Syntax) × IsNoCommand line
 ParsesAs line (Err errors.Memory) = ⊤
 
 -- what a written command means
-abbrev pub Answers : FirstKb → WrittenCommand → Result Command CommandError → Type 0
+abbrev pub Answers : Base → WrittenCommand → Result Command CommandError → Type 0
 Answers kb w (Ok c) = Asks kb w c
 Answers kb w (Err (errors.Refused f)) = RefusesFor kb w f
 Answers kb w (Err errors.Memory) = ⊤

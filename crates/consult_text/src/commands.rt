@@ -1,5 +1,8 @@
 //! Commands.
-use kb_logic::Literal;
+ghost use Rattle.std.specs.Prelude.{◌≡◌, IfOk};
+
+use kb_logic::{Literal, Memory};
+use std::alloc::Global;
 
 /// What a command line asks.
 #[derive(Drop)]
@@ -14,4 +17,18 @@ pub enum Command {
     Choices,
     /// Asks for a model that makes all choices true.
     Model,
+}
+
+impl Command {
+    pub fn copy(&self, alloc: Global) -> Result<Command, Memory>
+        ensures { IfOk result (λ c. c ≡ self.now) }
+    {
+        match self {
+            Command::Assert(literal) => Ok(Command::Assert(literal.copy(alloc)?)),
+            Command::Retract(literal) => Ok(Command::Retract(literal.copy(alloc)?)),
+            Command::Reset => Ok(Command::Reset),
+            Command::Choices => Ok(Command::Choices),
+            Command::Model => Ok(Command::Model),
+        }
+    }
 }

@@ -4,14 +4,12 @@
 #![tactic(auto)]
 
 mod commands;
-mod cuts;
 mod laws;
 mod lines;
 mod lookup;
+mod parse;
 mod refusals;
 mod replies;
-#[cfg(test)]
-mod tests;
 mod texts;
 mod written;
 

@@ -1,14 +1,15 @@
 //! What a command line means.
 ghost use Rattle.std.specs.Prelude.{◌≡◌, ◌≤◌, ◌^◌, true, length};
 ghost use Rattle.kb_text.specs.Tokens.{SpansRise, lexemes};
-ghost use Rattle.consult_text.specs.Cuts.{command_view};
+ghost use Rattle.kb_logic.specs.First.{base_of_first};
+ghost use Rattle.consult_text.specs.Parse.{command_view};
 ghost use Rattle.consult_text.specs.Lines.{has_spaces_alone, IsBlank, Reads};
 ghost use Rattle.consult_text.specs.Ranges.{HasRanges, ParsesAs, Answers};
 ghost use Rattle.consult_text.specs.declared.lines.CommandError.TheVariants as errors;
 
 use crate::commands::Command;
-use crate::cuts::cut_command;
 use crate::lookup::look_up;
+use crate::parse::parse_command;
 use crate::refusals::F;
 use crate::written::CommandText;
 use kb_logic::Memory;
@@ -38,7 +39,7 @@ pub fn read_command(
     kb: &FirstKb,
 ) -> Result<Option<Command>, CommandError>
     requires { length kb.now.vocab.symbols ≤ 2 ^ 32 }
-    ensures read { Reads kb.now line.now result }
+    ensures read { Reads (base_of_first kb.now) line.now result }
 {
     if only_spaces(line) {
         return Ok(None);
@@ -51,7 +52,7 @@ pub fn read_command(
 fn meaning(alloc: Global, kb: &FirstKb, text: &CommandText<'_>) -> Result<Command, CommandError>
     requires few { length kb.now.vocab.symbols ≤ 2 ^ 32 }
     requires ranges { HasRanges (command_view text.now) }
-    ensures { Answers kb.now (command_view text.now) result }
+    ensures { Answers (base_of_first kb.now) (command_view text.now) result }
 {
     match text {
         CommandText::Assert(literal) => Ok(Command::Assert(look_up(alloc, kb, literal)?)),
@@ -76,7 +77,7 @@ fn parse<'a>(alloc: Global, line: &'a [u8]) -> Result<CommandText<'a>, CommandEr
     if !has_spaces_alone(line, &tokens) {
         return Err(CommandError::Refused(F::Syntax));
     }
-    match cut_command(alloc, &tokens)? {
+    match parse_command(alloc, &tokens)? {
         Some(command) => Ok(command),
         None => Err(CommandError::Refused(F::Syntax)),
     }

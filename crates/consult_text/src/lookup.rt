@@ -1,10 +1,11 @@
 //! Looks the names of a written literal up.
 ghost use Rattle.std.specs.Prelude.{◌≡◌, ◌≢◌, ◌<◌, ◌≤◌, ◌^◌, ℕ, length, map, Contains, Some, slice_get, is_some, IfOk, MatchBool, MatchOption};
 ghost use Rattle.std.specs.List.{AllByRecursion};
-ghost use Rattle.kb_logic.specs.First.{IsRowOver};
+ghost use Rattle.kb_logic.specs.First.{IsRowOver, base_of_first};
+ghost use Rattle.kb_logic.specs.Models.{HasValueIn};
 ghost use Rattle.kb_text.specs.Tokens.{decimal};
-ghost use Rattle.consult_text.specs.Literals.{integer_of, elem_of, IsFirstNamed, HasFormOf, IsValueOver, IsLiteralOver, literal_of};
-ghost use Rattle.consult_text.specs.Cuts.{elem_view, elem_views, literal_view};
+ghost use Rattle.consult_text.specs.Literals.{integer_of, elem_of, IsFirstNamed, HasFormOf, IsLiteralOver, literal_of};
+ghost use Rattle.consult_text.specs.Parse.{elem_view, elem_views, literal_view};
 ghost use Rattle.consult_text.specs.Ranges.{IsInRange, HasRange, LooksUp};
 
 use crate::lines::CommandError;
@@ -143,7 +144,7 @@ fn is_row_over(domains: &[ElemList], types: &[u32], row: &[Elem]) -> bool
 }
 
 fn is_value_over(domains: &[ElemList], ty: Option<u32>, value: &Option<Elem>) -> bool
-    ensures { MatchBool result (IsValueOver domains.now ty value.now) (IsValueOver domains.now ty value.now → ⊥) }
+    ensures { MatchBool result (HasValueIn domains.now ty value.now) (HasValueIn domains.now ty value.now → ⊥) }
 {
     match (ty, value) {
         (None, None) => true,
@@ -156,7 +157,7 @@ fn is_value_over(domains: &[ElemList], ty: Option<u32>, value: &Option<Elem>) ->
 fn is_literal_over(kb: &FirstKb, symbol: &Symbol, literal: &Literal) -> bool
     requires declared { slice_get kb.now.vocab.symbols literal.now.symbol ≡ Some symbol.now }
     requires args { length symbol.now.args ≡ length literal.now.args }
-    ensures { MatchBool result (IsLiteralOver kb.now literal.now) (IsLiteralOver kb.now literal.now → ⊥) }
+    ensures { MatchBool result (IsLiteralOver (base_of_first kb.now) literal.now) (IsLiteralOver (base_of_first kb.now) literal.now → ⊥) }
 {
     let domains = kb.domains.as_slice();
     is_row_over(domains, symbol.args.as_slice(), literal.args.as_slice())
@@ -167,7 +168,7 @@ fn is_literal_over(kb: &FirstKb, symbol: &Symbol, literal: &Literal) -> bool
 pub fn look_up(alloc: Global, kb: &FirstKb, text: &LiteralText<'_>) -> Result<Literal, CommandError>
     requires few { length kb.now.vocab.symbols ≤ 2 ^ 32 }
     requires range { HasRange (literal_view text.now) }
-    ensures { LooksUp kb.now (literal_view text.now) result }
+    ensures { LooksUp (base_of_first kb.now) (literal_view text.now) result }
 {
     let Some((number, symbol)) = find_symbol(kb.vocab.symbols.as_slice(), text.name) else {
         return Err(CommandError::Refused(F::UnknownSymbol));

@@ -1,6 +1,9 @@
 //! Replies.
+ghost use Rattle.std.specs.Prelude.{◌≡◌, IfOk};
+
 use crate::refusals::F;
-use kb_logic::{LiteralList, Structure};
+use kb_logic::{LiteralList, Memory, Structure};
+use std::alloc::Global;
 
 /// A reply to a command.
 #[derive(Drop)]
@@ -15,4 +18,18 @@ pub enum Reply {
     Model(Structure),
     /// There is no model.
     Inconsistent,
+}
+
+impl Reply {
+    pub fn copy(&self, alloc: Global) -> Result<Reply, Memory>
+        ensures { IfOk result (λ r. r ≡ self.now) }
+    {
+        match self {
+            Reply::Fine => Ok(Reply::Fine),
+            Reply::Refused(cause) => Ok(Reply::Refused(*cause)),
+            Reply::Choices(choices) => Ok(Reply::Choices(choices.copy(alloc)?)),
+            Reply::Model(m) => Ok(Reply::Model(m.copy(alloc)?)),
+            Reply::Inconsistent => Ok(Reply::Inconsistent),
+        }
+    }
 }

@@ -1,15 +1,31 @@
 //! The texts of replies.
-ghost use Rattle.std.specs.Prelude.{◌≡◌, ◌++◌, OnOk, codes, flat_map};
+ghost use Rattle.std.specs.Prelude.{◌≡◌, ◌++◌, OnOk, OnErr, codes, flat_map};
 ghost use Rattle.kb_logic.specs.Meaning.{rows_of};
 ghost use Rattle.consult_text.specs.Refusals.{text_of};
-ghost use Rattle.consult_text.specs.Texts.{elem_text, row_text, rows_text, truth_text, symbol_line, symbol_lines, name_of, args_text, atom_text, negation_text, equality_text, literal_text, choice_line, reply_text};
+ghost use Rattle.consult_text.specs.Texts.{elem_text, row_text, rows_text, truth_text, predicate_text, function_text, separator_text, further_text, mapping_text, mappings_text, symbol_line, symbol_lines, name_of, args_text, atom_text, negation_text, equality_text, literal_text, choice_line, reply_text};
 
 use crate::refusals::F;
 use crate::replies::Reply;
 use kb_logic::{Elem, ElemList, ExtInt, Literal, Memory, Structure, Symbol, Table, Vocabulary};
+use std::alloc::Global;
 
-/// Appends the lines of a reply.
-pub fn write_reply(out: &mut Vec<u8>, vocab: &Vocabulary, reply: &Reply) -> Result<(), Memory>
+/// Appends the lines of a reply. Where memory runs out, nothing is appended.
+pub fn write_reply(
+    alloc: Global,
+    out: &mut Vec<u8>,
+    vocab: &Vocabulary,
+    reply: &Reply,
+) -> Result<(), Memory>
+    ensures ok { OnOk result (out.new.items ≡ out.old.items ++ reply_text vocab.now reply.now) }
+    ensures err { OnErr result (out.new.items ≡ out.old.items) }
+{
+    let mut text = Vec::new(alloc);
+    push_reply(&mut text, vocab, reply)?;
+    out.extend_from_slice(&text)?;
+    Ok(())
+}
+
+fn push_reply(out: &mut Vec<u8>, vocab: &Vocabulary, reply: &Reply) -> Result<(), Memory>
     ensures { OnOk result (out.new.items ≡ out.old.items ++ reply_text vocab.now reply.now) }
 {
     match reply {
@@ -39,7 +55,8 @@ fn push_refusal(out: &mut Vec<u8>, cause: F) -> Result<(), Memory>
 }
 
 fn push_choices(out: &mut Vec<u8>, vocab: &Vocabulary, choices: &[Literal]) -> Result<(), Memory>
-    ensures { OnOk result (out.new.items ≡ out.old.items ++ (flat_map (choice_line vocab.now) choices.now ++ codes "done\n")) }
+    ensures { OnOk result (out.new.items ≡ out.old.items ++ (flat_map
+        (choice_line vocab.now) choices.now ++ codes "done\n")) }
 {
     for literal in choices {
         push_bytes(out, b"choice ")?;
@@ -98,7 +115,8 @@ fn push_args(out: &mut Vec<u8>, args: &[Elem]) -> Result<(), Memory>
 }
 
 fn push_model(out: &mut Vec<u8>, vocab: &Vocabulary, m: &Structure) -> Result<(), Memory>
-    ensures { OnOk result (out.new.items ≡ out.old.items ++ (codes "model\n" ++ (symbol_lines vocab.now m.now ++ codes "done\n"))) }
+    ensures { OnOk result (out.new.items ≡ out.old.items ++ (codes "model\n" ++
+        (symbol_lines vocab.now m.now ++ codes "done\n"))) }
 {
     push_bytes(out, b"model\n")?;
     push_symbols(out, vocab, m)?;
@@ -123,15 +141,34 @@ fn push_symbol(
 ) -> Result<(), Memory>
     ensures { OnOk result (out.new.items ≡ out.old.items ++ symbol_line m.now (number, symbol.now)) }
 {
-    let rows = rows_in(m.relations.as_slice(), number);
     push_bytes(out, symbol.name.text())?;
     push_bytes(out, b" = ")?;
-    if symbol.args.is_empty() {
-        push_truth(out, rows)?;
-    } else {
-        push_table(out, rows)?;
+    match symbol.value {
+        None => push_predicate(out, symbol, rows_in(m.relations.as_slice(), number))?,
+        Some(_) => push_function(out, symbol, rows_in(m.functions.as_slice(), number))?,
     }
     push_bytes(out, b"\n")
+}
+
+fn push_predicate(out: &mut Vec<u8>, symbol: &Symbol, rows: &[ElemList]) -> Result<(), Memory>
+    ensures { OnOk result (out.new.items ≡ out.old.items ++ predicate_text symbol.now.args rows.now) }
+{
+    if symbol.args.is_empty() {
+        push_truth(out, rows)
+    } else {
+        push_table(out, rows)
+    }
+}
+
+fn push_function(out: &mut Vec<u8>, symbol: &Symbol, rows: &[ElemList]) -> Result<(), Memory>
+    ensures { OnOk result (out.new.items ≡ out.old.items ++ function_text symbol.now.args rows.now) }
+{
+    if symbol.args.is_empty() {
+        return push_mappings(out, rows);
+    }
+    push_bytes(out, b"{")?;
+    push_mappings(out, rows)?;
+    push_bytes(out, b"}")
 }
 
 fn rows_in(tables: &[Table], number: usize) -> &[ElemList]
@@ -175,6 +212,48 @@ fn push_rows(out: &mut Vec<u8>, rows: &[ElemList]) -> Result<(), Memory>
         push_row(out, row.as_slice())?;
     }
     Ok(())
+}
+
+fn push_mappings(out: &mut Vec<u8>, rows: &[ElemList]) -> Result<(), Memory>
+    ensures { OnOk result (out.new.items ≡ out.old.items ++ mappings_text rows.now) }
+{
+    let Some((first, others)) = rows.split_first() else {
+        return Ok(());
+    };
+    push_mapping(out, first.as_slice())?;
+    for row in others {
+        push_bytes(out, b"; ")?;
+        push_mapping(out, row.as_slice())?;
+    }
+    Ok(())
+}
+
+fn push_mapping(out: &mut Vec<u8>, row: &[Elem]) -> Result<(), Memory>
+    ensures { OnOk result (out.new.items ≡ out.old.items ++ mapping_text row.now) }
+{
+    let Some((first, others)) = row.split_first() else {
+        return Ok(());
+    };
+    push_elem(out, first)?;
+    push_further(out, others)
+}
+
+/// The elements of a function's row after its first one.
+fn push_further(out: &mut Vec<u8>, elems: &[Elem]) -> Result<(), Memory>
+    ensures { OnOk result (out.new.items ≡ out.old.items ++ further_text elems.now) }
+{
+    for at in 0..elems.len() {
+        push_bytes(out, separator(&elems[at + 1..]))?;
+        push_elem(out, &elems[at])?;
+    }
+    Ok(())
+}
+
+/// What stands before an element of a function's row that has these elements after it.
+fn separator(after: &[Elem]) -> &'static [u8]
+    ensures { result.now ≡ separator_text after.now }
+{
+    if after.is_empty() { b"->" } else { b"," }
 }
 
 fn push_row(out: &mut Vec<u8>, row: &[Elem]) -> Result<(), Memory>

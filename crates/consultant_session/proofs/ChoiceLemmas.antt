@@ -6,15 +6,15 @@ use Rattle.std.proofs.lemmas.Bool.{false≢true}
 use Rattle.std.proofs.lemmas.Bool.Decides.{Decides-not}
 use Rattle.std.proofs.lemmas.Map.Views.{Contains-from_any}
 use Rattle.kb_logic.specs.declared.structures.Literal.{Literal}
-use Rattle.kb_logic.specs.declared.first.FirstKb.{FirstKb}
+use Rattle.kb_logic.specs.Bases.{Base}
 use Rattle.kb_logic.specs.Structures.{IsDistinct}
 use Rattle.kb_logic.proofs.Members.{member_cases, from_filter, none_in, distinct-append, one_is_some}
 use Rattle.consult_text.specs.declared.commands.Command.TheVariants as command
 use Rattle.consult_text.specs.declared.refusals.F.{F}
 use Rattle.consult_text.specs.declared.refusals.F.TheVariants as refusal
-use Rattle.consultant_session.specs.States.{State, same_literal, is_chosen, is_known, refused_where, command_refusal, carried_out, unless_refused, state_after}
+use Rattle.consult_text.specs.States.{State, same_literal, is_chosen, is_known, refused_where, command_refusal, carried_out, unless_refused, state_after}
 use Rattle.consultant_session.specs.Laws.{SameLiteralIsEquality, ChosenIsMembership, WithoutRemovesOne, ChoicesStayDistinct, BudgetStays, OppositeChoicesHaveNoModel, opposite}
-use Rattle.consultant_session.specs.Replies.{HoldsIn}
+use Rattle.kb_logic.specs.Models.{HoldsIn}
 use Rattle.consultant_session.proofs.MemberLemmas.{all_at, contains_filter, filter_contains}
 use Rattle.consultant_session.proofs.LiteralLemmas.{same_literal_decides, opposites_clash}
 
@@ -51,7 +51,7 @@ distinct_filter passes (c ∷ choices) distinct =
     elim (passes c) as (λ (b : Bool). IsDistinct (cond b (c ∷ filter passes choices) (filter passes choices)))
     [ true ↦ ((λ contains. distinct.0 (from_filter passes choices c contains)), rest) | false ↦ rest ]
 
-asserted_distinct : (kb : FirstKb) (s : State) (l : Literal) → IsDistinct s.choices → IsDistinct (state_after kb s (command.Assert l)).choices
+asserted_distinct : (kb : Base) (s : State) (l : Literal) → IsDistinct s.choices → IsDistinct (state_after kb s (command.Assert l)).choices
 asserted_distinct kb s l distinct =
     let after : Option F → State = λ refused. unless_refused refused s (carried_out s (command.Assert l)) in
     let added : (b : Bool) → is_chosen s l ≡ b → IsDistinct (after (refused_where b refusal.AlreadyChosen None)).choices =

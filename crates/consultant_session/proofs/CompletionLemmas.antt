@@ -18,8 +18,7 @@ use Rattle.kb_logic.specs.First.{IsFirstKb, ModelOfFirst}
 use Rattle.consultant_session.specs.declared.atoms.Atom.{Atom}
 use Rattle.consultant_session.specs.Filling.{with_row, without_row, with_tables, Completes, Slot, begun_table, atom_at, atoms_from, IsFilled}
 use Rattle.consultant_session.specs.Begun.{slots_of}
-use Rattle.consultant_session.specs.Completion.{accepts, holds, ArePlaced}
-use Rattle.consultant_session.specs.Replies.{ModelUnder}
+use Rattle.consultant_session.specs.Completion.{accepts, holds, ArePlaced, ModelUnder}
 use Rattle.consultant_session.proofs.ApartLemmas.{all_append, all_map, all_always}
 use Rattle.consultant_session.proofs.FillingLemmas.{completes_filled, filled_completes}
 use Rattle.consultant_session.proofs.LiteralLemmas.{choices_hold}

@@ -8,6 +8,7 @@ pub mod BegunLemmas
 pub mod SortLemmas
 pub mod FitsLemmas
 pub mod CompletionLemmas
-pub mod SampleLemmas
 pub mod LiteralLemmas
 pub mod ChoiceLemmas
+pub mod KnownLemmas
+pub mod ModelLemmas

@@ -9,10 +9,11 @@ use Rattle.kb_logic.specs.declared.elements.Elem.{Elem}
 use Rattle.kb_logic.specs.declared.structures.Structure.{Structure}
 use Rattle.kb_logic.specs.declared.structures.Literal.{Literal}
 use Rattle.kb_logic.specs.Meaning.{rows_of}
-use Rattle.consultant_session.specs.DomainOrder.{same_elem, same_row, has_tuple}
-use Rattle.consultant_session.specs.States.{same_sign, same_given_value, same_literal}
+use Rattle.consultant_session.specs.DomainOrder.{has_tuple}
+use Rattle.consult_text.specs.States.{same_elem, same_row}
+use Rattle.consult_text.specs.States.{same_sign, same_given_value, same_literal}
 use Rattle.consultant_session.specs.Completion.{has_atom, holds}
-use Rattle.consultant_session.specs.Replies.{HoldsAtom, HoldsWithSign, HoldsIn}
+use Rattle.kb_logic.specs.Models.{GroundAtom, AtomHolds, atom_of, HoldsWithSign, HoldsIn}
 use Rattle.consultant_session.proofs.RepeatLemmas.{same_elem_decides, same_row_decides, has_tuple_contains, contains_has_tuple}
 
 same_sign_decides : (a b : Bool) → Decides (same_sign a b) (a ≡ b)
@@ -20,7 +21,7 @@ same_sign_decides true b = ((λ is. sym is), (λ is. sym is))
 same_sign_decides false true = ((λ is. absurd (false≢true is)), (λ is. absurd (false≢true is)))
 same_sign_decides false false = ((λ is. refl), (λ is. refl))
 
-same_value_decides : (a b : Option Elem) → Decides (same_given_value a b) (a ≡ b)
+pub same_value_decides : (a b : Option Elem) → Decides (same_given_value a b) (a ≡ b)
 same_value_decides None None = ((λ is. refl), (λ is. refl))
 same_value_decides None (Some y) = ((λ is. absurd (false≢true is)), (λ is. cc))
 same_value_decides (Some x) None = ((λ is. absurd (false≢true is)), (λ is. cc))
@@ -44,7 +45,11 @@ same_literal_decides a b =
 has_tuple_decides : (rows : List (List Elem)) (t : List Elem) → Decides (has_tuple rows t) (Contains rows t)
 has_tuple_decides rows t = (has_tuple_contains rows t, contains_has_tuple rows t)
 
-has_atom_decides : (m : Structure) (l : Literal) (value : Option Elem) → Decides (has_atom m l value) (HoldsAtom m l value)
+-- the literal's atom, with this value
+abbrev with_value : Literal → Option Elem → GroundAtom
+with_value l value = record { symbol = l.symbol; args = l.args; value = value }
+
+has_atom_decides : (m : Structure) (l : Literal) (value : Option Elem) → Decides (has_atom m l value) (AtomHolds m (with_value l value))
 has_atom_decides m l None = has_tuple_decides (rows_of l.symbol m.relations) l.args
 has_atom_decides m l (Some x) = has_tuple_decides (rows_of l.symbol m.functions) (l.args ++ x ∷ [])
 
@@ -84,7 +89,7 @@ pushed_entry row front args last value answer is answers =
 
 -- a literal and its opposite are not both true
 pub opposites_clash : (m : Structure) (l : Literal) → HoldsIn m l → HoldsIn m (record l { positive = not l.positive }) → ⊥
-opposites_clash m l = clash (HoldsAtom m l l.value) l.positive
+opposites_clash m l = clash (AtomHolds m (atom_of l)) l.positive
   where
     clash : (A : Type 0) (sign : Bool) → HoldsWithSign sign A → HoldsWithSign (not sign) A → ⊥
     clash A true holds fails = fails holds

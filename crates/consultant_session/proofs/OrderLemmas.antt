@@ -4,7 +4,8 @@ use Rattle.std.specs.List.{AllByRecursion, filter, flat_map}
 use Rattle.std.proofs.lemmas.List.{drop_more, drop_all, append-nil}
 use Rattle.kb_logic.specs.declared.elements.Elem.{Elem}
 use Rattle.kb_logic.specs.Structures.{tuples_over}
-use Rattle.consultant_session.specs.DomainOrder.{same_elem, same_row, grouped}
+use Rattle.consultant_session.specs.DomainOrder.{grouped}
+use Rattle.consult_text.specs.States.{same_elem, same_row}
 use Rattle.consultant_session.proofs.ListLemmas.{filter-flat_map, filter-filter, flat_map-map, flat_map-flat_map, flat_map_agree, filter_agree_on}
 
 -- what a row has from a place on is its element there, and what it has from the next place on

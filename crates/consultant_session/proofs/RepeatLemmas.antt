@@ -7,7 +7,8 @@ use Rattle.std.proofs.lemmas.Bool.Decides.{Decides-int_eq}
 use Rattle.std.proofs.lemmas.Slice.Eq.{bytes_eq-Decides, slice_eq-Decides}
 use Rattle.kb_logic.specs.declared.elements.Elem.{Elem}
 use Rattle.kb_logic.specs.declared.elements.Elem.TheVariants.{Named, Num}
-use Rattle.consultant_session.specs.DomainOrder.{same_elem, same_row, has_tuple, is_repeated, unrepeated}
+use Rattle.consultant_session.specs.DomainOrder.{has_tuple, is_repeated, unrepeated}
+use Rattle.consult_text.specs.States.{same_elem, same_row}
 use Rattle.consultant_session.specs.Filling.{Picks}
 use Rattle.consultant_session.proofs.ListLemmas.{filter_agree_on}
 use Rattle.consultant_session.proofs.ApartLemmas.{Apart, all_weaker}

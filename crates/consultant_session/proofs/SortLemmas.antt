@@ -6,7 +6,8 @@ use Rattle.std.proofs.lemmas.List.Concat.{flat_map_single}
 use Rattle.kb_logic.specs.declared.elements.Elem.{Elem}
 use Rattle.kb_logic.specs.Structures.{domain_at, tuples_of, tuples_over, IsDistinct}
 use Rattle.kb_logic.specs.First.{IsRowOver}
-use Rattle.consultant_session.specs.DomainOrder.{same_elem, has_tuple, rows_at, grouped, by_element, is_repeated, unrepeated}
+use Rattle.consultant_session.specs.DomainOrder.{has_tuple, rows_at, grouped, by_element, is_repeated, unrepeated}
+use Rattle.consult_text.specs.States.{same_elem}
 use Rattle.consultant_session.proofs.ListLemmas.{all_get, map-flat_map, map-map, flat_map_agree, flat_map-map, flat_map-flat_map, last_pushed}
 use Rattle.consultant_session.proofs.ApartLemmas.{all_weaker, all_always}
 use Rattle.consultant_session.proofs.MemberLemmas.{row_long}

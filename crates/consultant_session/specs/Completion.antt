@@ -7,12 +7,14 @@ use Rattle.kb_logic.specs.declared.structures.Literal.{Literal}
 use Rattle.kb_logic.specs.declared.structures.Table.{Table}
 use Rattle.kb_logic.specs.declared.structures.Structure.{Structure}
 use Rattle.kb_logic.specs.declared.first.FirstKb.{FirstKb}
+use Rattle.kb_logic.specs.First.{ModelOfFirst}
+use Rattle.kb_logic.specs.Models.{HoldsIn}
 use Rattle.kb_logic.specs.Views.{formula_view}
 use Rattle.kb_logic.specs.Meaning.{rows_of, truth_of}
 use Rattle.consultant_session.specs.declared.atoms.Atom.{Atom}
 use Rattle.consultant_session.specs.DomainOrder.{has_tuple}
 use Rattle.consultant_session.specs.Filling.{Completes, with_tables}
-use Rattle.consultant_session.specs.States.{same_sign}
+use Rattle.consult_text.specs.States.{same_sign}
 
 -- the literal's atom is true in the structure
 abbrev pub has_atom : Structure → Literal → Option Elem → Bool
@@ -37,3 +39,8 @@ abbrev pub Settles : FirstKb → List Literal → List Table → List Atom → S
 Settles kb choices begun atoms before after (Ok true) = Completes begun atoms after.relations × (after ≡ with_tables before after.relations) × (accepts kb choices after ≡ true)
 Settles kb choices begun atoms before after (Ok false) = (after ≡ before) × ((tables : List Table) → Completes begun atoms tables → accepts kb choices (with_tables before tables) ≡ false)
 Settles kb choices begun atoms before after (Err e) = ⊤
+
+-- m is a model of the knowledge base in which these choices are true
+pub record ModelUnder (kb : FirstKb) (choices : List Literal) (m : Structure) : Type 0 where
+  pub model : ModelOfFirst kb m
+  pub chosen : AllByRecursion (HoldsIn m) choices

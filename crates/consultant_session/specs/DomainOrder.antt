@@ -1,18 +1,9 @@
 -- The rows of a table, in domain order and each once.
 use Rattle.std.specs.Prelude.{ℕ, List, [], ◌∷◌, map, drop, filter, flat_map, slice_index_or, Bool, false, if◌then◌else◌, Option, Some, None}
-use Rattle.std.specs.Cmp.Lexicographic.{pointwise}
 use Rattle.std.specs.List.{list_any}
 use Rattle.kb_logic.specs.declared.elements.Elem.{Elem}
-use Rattle.kb_logic.specs.Denotations.{denotation_of, same_value}
+use Rattle.consult_text.specs.States.{same_elem, same_row}
 use Rattle.kb_logic.specs.Structures.{tuples_over}
-
--- the elements are the same word or the same integer
-abbrev pub same_elem : Elem → Elem → Bool
-same_elem x y = same_value (denotation_of x) (denotation_of y)
-
--- the rows have the same elements
-abbrev pub same_row : List Elem → List Elem → Bool
-same_row = pointwise same_elem
 
 -- the tuple is one of the rows
 abbrev pub has_tuple : List (List Elem) → List Elem → Bool

@@ -2,11 +2,11 @@
 use Rattle.std.specs.Prelude.{◌≡◌, ◌≢◌, ◌↔◌, List, not, Contains, IsTrue}
 use Rattle.kb_logic.specs.declared.structures.Structure.{Structure}
 use Rattle.kb_logic.specs.declared.structures.Literal.{Literal}
-use Rattle.kb_logic.specs.declared.first.FirstKb.{FirstKb}
+use Rattle.kb_logic.specs.Bases.{Base}
 use Rattle.kb_logic.specs.Structures.{IsDistinct}
 use Rattle.consult_text.specs.declared.commands.Command.{Command}
-use Rattle.consultant_session.specs.States.{State, same_literal, is_chosen, without, state_after}
-use Rattle.consultant_session.specs.Replies.{ModelOfState}
+use Rattle.consult_text.specs.States.{State, same_literal, is_chosen, without, state_after}
+use Rattle.consult_text.specs.RightReplies.{ModelOfState}
 
 -- the test of two literals tells exactly whether they are equal
 abbrev pub SameLiteralIsEquality : Type 0
@@ -22,15 +22,15 @@ WithoutRemovesOne = (l c : Literal) (choices : List Literal) → Contains (witho
 
 -- where no literal is a choice twice, a command leaves it so
 abbrev pub ChoicesStayDistinct : Type 0
-ChoicesStayDistinct = (kb : FirstKb) (s : State) (c : Command) → IsDistinct s.choices → IsDistinct (state_after kb s c).choices
+ChoicesStayDistinct = (kb : Base) (s : State) (c : Command) → IsDistinct s.choices → IsDistinct (state_after kb s c).choices
 
 -- no command changes the budget
 abbrev pub BudgetStays : Type 0
-BudgetStays = (kb : FirstKb) (s : State) (c : Command) → (state_after kb s c).budget ≡ s.budget
+BudgetStays = (kb : Base) (s : State) (c : Command) → (state_after kb s c).budget ≡ s.budget
 
 abbrev pub opposite : Literal → Literal
 opposite l = record l { positive = not l.positive }
 
 -- there is no model where a literal and its opposite are choices
 abbrev pub OppositeChoicesHaveNoModel : Type 0
-OppositeChoicesHaveNoModel = (kb : FirstKb) (s : State) (l : Literal) (m : Structure) → Contains s.choices l → Contains s.choices (opposite l) → ModelOfState kb s m → ⊥
+OppositeChoicesHaveNoModel = (kb : Base) (s : State) (l : Literal) (m : Structure) → Contains s.choices l → Contains s.choices (opposite l) → ModelOfState kb s m → ⊥

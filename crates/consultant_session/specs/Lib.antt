@@ -1,9 +1,8 @@
+pub use Rattle.consult_text.specs.States
+pub use Rattle.consult_text.specs.RightReplies
 pub mod Begun
 pub mod Completion
 pub mod DomainOrder
 pub mod Filling
-pub mod Replies
-pub mod States
 pub mod Sessions
-pub mod Samples
 pub mod Laws

@@ -1,9 +1,8 @@
 //! Elements, rows and the lists that hold them.
 ghost use Rattle.std.specs.Prelude.{◌≡◌, MatchOption, true, false, IsTrue, ◌↔◌};
-ghost use Rattle.kb_logic.specs.Structures.{domain_at};
 ghost use Rattle.kb_logic.specs.Meaning.{rows_of};
 ghost use Rattle.kb_logic.specs.First.{is_given};
-ghost use Rattle.consultant_session.specs.DomainOrder.{same_elem, same_row};
+ghost use Rattle.consult_text.specs.States.{same_elem, same_row};
 
 use kb_logic::{Elem, ElemList, Table};
 
@@ -29,16 +28,6 @@ pub(crate) fn are_same_rows(a: &[Elem], b: &[Elem]) -> bool
         }
     }
     true
-}
-
-/// The domain of a type.
-pub(crate) fn domain_of(domains: &[ElemList], ty: u32) -> &[Elem]
-    ensures { result.now ≡ domain_at domains.now ty }
-{
-    match domains.get(ty as usize) {
-        Some(domain) => domain.as_slice(),
-        None => &[],
-    }
 }
 
 /// The rows that the data give to the predicate with this number.

@@ -2,15 +2,12 @@
 #![tactic(auto)]
 
 mod atoms;
-mod begun;
-mod completion;
+mod backtracking;
+mod domain_order;
 mod elements;
 pub mod laws;
 mod literals;
-mod rows;
+mod open_atoms;
 mod session;
-#[cfg(test)]
-mod tests;
-mod tuples;
 
 pub use session::Session;

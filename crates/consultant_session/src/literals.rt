@@ -1,11 +1,15 @@
 //! Literals: which ones are the same, and which ones are true in a structure.
 ghost use Rattle.std.specs.Prelude.{◌≡◌, ◌∷◌, ◌++◌, []};
 ghost use Rattle.std.specs.List.{list_any};
-ghost use Rattle.consultant_session.specs.DomainOrder.{same_row, has_tuple};
-ghost use Rattle.consultant_session.specs.States.{same_literal, same_given_value, without};
+ghost use Rattle.consultant_session.specs.DomainOrder.{has_tuple};
+ghost use Rattle.consult_text.specs.States.{same_row};
+ghost use Rattle.kb_logic.specs.First.{IsFirstKb, base_of_first};
+ghost use Rattle.consult_text.specs.Literals.{IsLiteralOver};
+ghost use Rattle.consult_text.specs.States.{same_literal, same_given_value, without, is_known};
 ghost use Rattle.consultant_session.specs.Completion.{has_atom, holds};
 
-use crate::elements::{are_same, are_same_rows};
+use crate::elements::{are_same, are_same_rows, given_rows};
+use kb_logic::first::FirstKb;
 use kb_logic::values::rows;
 use kb_logic::{Elem, ElemList, Literal, Structure};
 
@@ -89,4 +93,13 @@ fn is_entry(row: &[Elem], args: &[Elem], value: &Elem) -> bool
         Some((last, front)) => are_same_rows(front, args) && are_same(last, value),
         None => false,
     }
+}
+
+/// Whether the data give the literal's atom.
+pub(crate) fn is_known(kb: &FirstKb, literal: &Literal) -> bool
+    requires first { IsFirstKb kb.now }
+    requires over { IsLiteralOver (base_of_first kb.now) literal.now }
+    ensures { result ≡ is_known (base_of_first kb.now) literal.now }
+{
+    given_rows(kb.given.as_slice(), literal.symbol as usize).is_some()
 }

@@ -1,17 +1,20 @@
 //! Sessions over a knowledge base.
 ghost use Rattle.std.specs.Prelude.{◌≡◌, IfOk, OnOk, OnErr};
 ghost use Rattle.consult_text.specs.declared.commands.Command.TheVariants as command;
-ghost use Rattle.consultant_session.specs.Replies.{IsSmallFirstKb, RightReply, TakesMemory};
-ghost use Rattle.consultant_session.specs.Sessions.{kb_of, state_of};
-ghost use Rattle.consultant_session.specs.States.{first_state, state_after};
+ghost use Rattle.consultant_session.specs.Sessions.{IsSmallFirstKb, TakesMemory, just_opened};
+ghost use Rattle.kb_logic.specs.First.{base_of_first};
+ghost use Rattle.consult_text.specs.Lines.{IsCommandOver};
+ghost use Rattle.consult_text.specs.Literals.{IsLiteralOver};
+ghost use Rattle.consult_text.specs.RightReplies.{RightReply};
+ghost use Rattle.consult_text.specs.States.{state_after};
 
-use crate::completion::find_model;
-use crate::elements::given_rows;
-use crate::literals::{is_among, remove};
+use crate::backtracking::find_model;
+use crate::literals::{is_among, is_known, remove};
 use consult_text::{Command, F, Reply};
 use kb_logic::first::FirstKb;
 use kb_logic::{Literal, LiteralList, Memory};
 use std::alloc::Global;
+use std::marker::Model;
 use std::mem;
 
 const FIRST_BUDGET: u64 = 100_000;
@@ -25,11 +28,25 @@ pub struct Session {
     budget: Option<u64>,
 }
 
+impl Model for Session {
+    ghost use Rattle.std.specs.Coded.{codes};
+    ghost use Rattle.kb_logic.specs.contracts.first.FirstKb as first;
+    ghost use Rattle.consultant_session.specs.Sessions.{SessionState, IsSmallFirstKb};
+
+    ghost Value = { SessionState };
+
+    ghost coded = { Prim.hlevel (codes, first.the_row.coded) };
+
+    ghost view = { λ s. record { kb = s.kb; state = record { choices = s.choices; budget = s.budget } } };
+
+    ghost invariant = { λ s. IsSmallFirstKb s.kb };
+}
+
 impl Session {
+    /// A session without choices, with a budget of 100,000.
     pub fn open(alloc: Global, kb: FirstKb) -> Result<Session, Memory>
         requires { IsSmallFirstKb kb }
-        ensures kb { IfOk result (λ session. kb_of session ≡ kb) }
-        ensures first { IfOk result (λ session. state_of session ≡ first_state) }
+        ensures { IfOk result (λ session. session ≡ just_opened kb) }
     {
         Ok(Session {
             alloc,
@@ -41,33 +58,34 @@ impl Session {
 
     /// What `open` took.
     pub fn kb(&self) -> &FirstKb
-        ensures { result.now ≡ kb_of self.now }
+        ensures kb { result.now ≡ self.now.kb }
+        ensures small { IsSmallFirstKb self.now.kb }
     {
         &self.kb
     }
 
     /// The choices, in the order in which they were made.
     pub fn choices(&self) -> &LiteralList
-        ensures { result.now ≡ (state_of self.now).choices }
+        ensures { result.now ≡ self.now.state.choices }
     {
         &self.choices
     }
 
     /// How many conflicts a command may meet; without a limit where there is no number.
     pub fn budget(&self) -> Option<u64>
-        ensures { result ≡ (state_of self.now).budget }
+        ensures { result ≡ self.now.state.budget }
     {
         self.budget
     }
 
-    /// The reply to the command. After want of memory the choices and the budget are as before.
+    /// The reply to the command. Where memory runs out the choices and the budget are as before.
     pub fn step(&mut self, command: &Command) -> Result<Reply, Memory>
-        requires { IsSmallFirstKb (kb_of self.old) }
-        ensures right { IfOk result (λ reply. RightReply (kb_of self.old) (state_of self.old) command.now reply) }
-        ensures after { OnOk result (state_of self.new ≡ state_after (kb_of self.old) (state_of self.old) command.now) }
-        ensures kept { OnErr result (state_of self.new ≡ state_of self.old) }
+        requires { IsCommandOver (base_of_first self.old.kb) command.now }
+        ensures right { IfOk result (λ reply. RightReply (base_of_first self.old.kb) self.old.state command.now reply) }
+        ensures after { OnOk result (self.new.state ≡ state_after (base_of_first self.old.kb) self.old.state command.now) }
+        ensures kept { OnErr result (self.new.state ≡ self.old.state) }
         ensures prompt { OnErr result (TakesMemory command.now) }
-        ensures kb { kb_of self.new ≡ kb_of self.old }
+        ensures kb { self.new.kb ≡ self.old.kb }
     {
         match command {
             Command::Assert(literal) => self.assert(literal),
@@ -82,12 +100,15 @@ impl Session {
     }
 
     fn assert(&mut self, literal: &Literal) -> Result<Reply, Memory>
-        ensures right { IfOk result (λ reply. RightReply (kb_of self.old) (state_of self.old) (command.Assert literal.now) reply) }
-        ensures after { OnOk result (state_of self.new ≡ state_after (kb_of self.old) (state_of self.old) (command.Assert literal.now)) }
-        ensures kept { OnErr result (state_of self.new ≡ state_of self.old) }
-        ensures kb { kb_of self.new ≡ kb_of self.old }
+        requires { IsLiteralOver (base_of_first self.old.kb) literal.now }
+        ensures right { IfOk result (λ reply. RightReply (base_of_first self.old.kb) self.old.state
+            (command.Assert literal.now) reply) }
+        ensures after { OnOk result (self.new.state ≡ state_after (base_of_first self.old.kb) self.old.state
+            (command.Assert literal.now)) }
+        ensures kept { OnErr result (self.new.state ≡ self.old.state) }
+        ensures kb { self.new.kb ≡ self.old.kb }
     {
-        if given_rows(self.kb.given.as_slice(), literal.symbol as usize).is_some() {
+        if is_known(&self.kb, literal) {
             return Ok(Reply::Refused(F::GivenByData));
         }
         if is_among(self.choices.as_slice(), literal) {
@@ -98,9 +119,9 @@ impl Session {
     }
 
     fn retract(&mut self, literal: &Literal) -> Reply
-        ensures right { RightReply (kb_of self.old) (state_of self.old) (command.Retract literal.now) result }
-        ensures after { state_of self.new ≡ state_after (kb_of self.old) (state_of self.old) (command.Retract literal.now) }
-        ensures kb { kb_of self.new ≡ kb_of self.old }
+        ensures right { RightReply (base_of_first self.old.kb) self.old.state (command.Retract literal.now) result }
+        ensures after { self.new.state ≡ state_after (base_of_first self.old.kb) self.old.state (command.Retract literal.now) }
+        ensures kb { self.new.kb ≡ self.old.kb }
     {
         if !is_among(self.choices.as_slice(), literal) {
             return Reply::Refused(F::NotChosen);
@@ -112,8 +133,7 @@ impl Session {
     }
 
     fn model(&self) -> Result<Reply, Memory>
-        requires { IsSmallFirstKb (kb_of self.now) }
-        ensures { IfOk result (λ reply. RightReply (kb_of self.now) (state_of self.now) command.Model reply) }
+        ensures { IfOk result (λ reply. RightReply (base_of_first self.now.kb) self.now.state command.Model reply) }
     {
         match find_model(self.alloc, &self.kb, self.choices.as_slice())? {
             Some(m) => Ok(Reply::Model(m)),

@@ -26,8 +26,6 @@ mod scan;
 mod steps;
 mod stop;
 mod tables;
-#[cfg(test)]
-mod tests;
 mod token;
 mod variables;
 mod vocabularies;

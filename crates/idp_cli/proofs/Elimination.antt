@@ -5,14 +5,14 @@ use Rattle.kb_text.specs.declared.fault.K.TheVariants as cause
 use Rattle.kb_logic.specs.declared.first.FirstKb.{FirstKb}
 use Rattle.kb_logic.specs.First.{open_atom_count}
 use Rattle.first_reader.specs.FirstReads.{IsReadAs}
-use Rattle.idp_cli.specs.Files.{IfTold, IsRefused, IsConsultable, line_of}
-use Rattle.idp_cli.specs.Top.{Words, Outside, IsConsult, ConsultationEnds, RunEnds}
+use Rattle.idp_cli.specs.Files.{IfObservable, IsRefused, IsConsultable, line_of}
+use Rattle.idp_cli.specs.Runs.{Words, Outside, IsConsult, ConsultationEnds, RunEnds}
 use Rattle.idp_cli.specs.Laws.{IsUnlessFailed, UsageLaw, CommandLaw, RefusalLaw, TakingLaw, LengthLaw, ShortLaw, DoneLaw}
 use Rattle.idp_cli.specs.declared.status.Status.{Status}
 use Rattle.idp_cli.specs.declared.status.Status.TheVariants as status
 
-told : (o : Option (List ℕ)) (bytes : List ℕ) (P : List ℕ → Type 0) → o ≡ Some bytes → IfTold o P → P bytes
-told o bytes P is holds = let Q : Option (List ℕ) → Type 0 = λ o. IfTold o P in subst Q is holds
+told : (o : Option (List ℕ)) (bytes : List ℕ) (P : List ℕ → Type 0) → o ≡ Some bytes → IfObservable o P → P bytes
+told o bytes P is holds = let Q : Option (List ℕ) → Type 0 = λ o. IfObservable o P in subst Q is holds
 
 second : List (List ℕ) → List ℕ
 second [] = []
@@ -83,28 +83,28 @@ command_law words before now file is ends = consulted status.Usage words before 
 
 refusal_ends : (s : Status) (before now : Outside) (file bytes : List ℕ) (k : K) (line : ℕ) → before.files file ≡ Some bytes → IsRefused k line bytes → ConsultationEnds s file before now
     → IsUnlessFailed (status.KbRefused k line) s
-refusal_ends status.Done before now file bytes k line is refused ends = let taken = told (before.files file) bytes _ is ends.2 in absurd (refused_or_taken k line bytes taken.0 refused taken.1)
-refusal_ends (status.KbRefused k' line') before now file bytes k line is refused ends = one_refusal k k' line line' bytes refused (told (before.files file) bytes _ is ends.2)
+refusal_ends status.Done before now file bytes k line is refused ends = let taken = told (before.files file) bytes _ is ends.answers in absurd (refused_or_taken k line bytes taken.0 refused taken.1)
+refusal_ends (status.KbRefused k' line') before now file bytes k line is refused ends = one_refusal k k' line line' bytes refused (told (before.files file) bytes _ is ends.0)
 refusal_ends status.Usage before now file bytes k line is refused ends = absurd ends
 refusal_ends status.ReadFault before now file bytes k line is refused ends = tt
 refusal_ends status.WriteFault before now file bytes k line is refused ends = tt
 refusal_ends status.Memory before now file bytes k line is refused ends = tt
-refusal_ends status.ScriptTooLong before now file bytes k line is refused ends = let taken = told (before.files file) bytes _ is ends.1 in absurd (refused_or_taken k line bytes taken.0 refused taken.1)
+refusal_ends status.ScriptTooLong before now file bytes k line is refused ends = let taken = told (before.files file) bytes _ is ends.answers in absurd (refused_or_taken k line bytes taken.0 refused taken.1)
 
 pub refusal_law : RefusalLaw
 refusal_law s words before now file bytes k line is told refused ends = refusal_ends s before now file bytes k line told refused (consulted s words before now file is ends)
 
 pub taking_law : TakingLaw
 taking_law k line words before now file bytes kb is held taken ends =
-    refused_or_taken k line bytes kb (told (before.files file) bytes _ held (consulted (status.KbRefused k line) words before now file is ends).2) taken
+    refused_or_taken k line bytes kb (told (before.files file) bytes _ held (consulted (status.KbRefused k line) words before now file is ends).0) taken
 
-length_ends : (s : Status) (before now : Outside) (file bytes script : List ℕ) (kb : FirstKb) → before.files file ≡ Some bytes → IsConsultable bytes kb → before.script ≡ Some script → 67108864 < length script
+length_ends : (s : Status) (before now : Outside) (file bytes script : List ℕ) (kb : FirstKb) → before.files file ≡ Some bytes → IsConsultable bytes kb → before.streams.script ≡ Some script → 67108864 < length script
     → ConsultationEnds s file before now → IsUnlessFailed status.ScriptTooLong s
 length_ends status.Done before now file bytes script kb is taken told' long ends =
-    let answered = told (before.files file) bytes _ is ends.2 in
-    let short = told before.script script _ told' answered.2 in
+    let answered = told (before.files file) bytes _ is ends.answers in
+    let short = told before.streams.script script _ told' answered.2 in
     absurd (omega (arith, short.0, long))
-length_ends (status.KbRefused k line) before now file bytes script kb is taken told' long ends = absurd (refused_or_taken k line bytes kb (told (before.files file) bytes _ is ends.2) taken)
+length_ends (status.KbRefused k line) before now file bytes script kb is taken told' long ends = absurd (refused_or_taken k line bytes kb (told (before.files file) bytes _ is ends.0) taken)
 length_ends status.Usage before now file bytes script kb is taken told' long ends = absurd ends
 length_ends status.ReadFault before now file bytes script kb is taken told' long ends = tt
 length_ends status.WriteFault before now file bytes script kb is taken told' long ends = tt
@@ -116,8 +116,8 @@ length_law s words before now file bytes script kb is held taken held' long ends
 
 pub short_law : ShortLaw
 short_law words before now file bytes script is held held' short ends =
-    let taken = told (before.files file) bytes _ held (consulted status.ScriptTooLong words before now file is ends).1 in
-    let answered = told before.script script _ held' taken.2 in
+    let taken = told (before.files file) bytes _ held (consulted status.ScriptTooLong words before now file is ends).answers in
+    let answered = told before.streams.script script _ held' taken.2 in
     omega (arith, answered.0, short)
 
 pub done_law : DoneLaw

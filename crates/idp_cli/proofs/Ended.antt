@@ -1,7 +1,8 @@
 -- Lines and the newlines behind them.
-use Rattle.std.proofs.Common.{◌≡◌, ℕ, suc, ◌+◌, List, [], ◌∷◌, ◌++◌, take, refl, sym, ◌∙◌, ap, arith, append_assoc}
+use Rattle.std.proofs.Common.{◌≡◌, ℕ, suc, ◌+◌, List, [], ◌∷◌, ◌++◌, take, refl, sym, ◌∙◌, ap, arith, append_assoc, append-nil}
 use Rattle.std.specs.List.{AllByRecursion}
-use Rattle.kb_io.specs.Lines.{newlines, newlines-append, command_lines, ended, first_line}
+use Rattle.kb_io.specs.Lines.{newlines, command_lines, ended}
+use Rattle.kb_io.proofs.LineLemmas.{newlines-append, first_line}
 use Rattle.idp_cli.specs.EndedLines.{ended_lines}
 
 -- no line has a newline
@@ -28,10 +29,17 @@ one_newline_more line rest none =
     let here : newlines (10 ∷ rest) ≡ 1 + newlines rest = newlines-append (10 ∷ []) rest in
     omega (arith, newlines-append line (10 ∷ rest), here, none)
 
--- where no newline follows, they are those that newlines end
-pub ended_are : (front : List (List ℕ)) (rest : List ℕ) → AreWhole front → newlines rest ≡ 0 → ended_lines (ended front ++ rest) ≡ front
-ended_are [] rest whole none = ap (λ n. take n (command_lines rest)) none
-ended_are (line ∷ front) rest whole none =
+-- they are the first of those that newlines end
+pub ended_after : (front : List (List ℕ)) (rest : List ℕ) → AreWhole front → ended_lines (ended front ++ rest) ≡ front ++ ended_lines rest
+ended_after [] rest whole = refl
+ended_after (line ∷ front) rest whole =
     let more : List ℕ = ended front ++ rest in
     ap ended_lines (append_assoc line (10 ∷ ended front) rest) ∙ ap (λ n. take n (command_lines (line ++ 10 ∷ more))) (one_newline_more line more whole.0)
-    ∙ ap (take (suc (newlines more))) (first_line line more whole.0) ∙ ap (λ (ls : List (List ℕ)). line ∷ ls) (ended_are front rest whole.1 none)
+    ∙ ap (take (suc (newlines more))) (first_line line more whole.0) ∙ ap (λ (ls : List (List ℕ)). line ∷ ls) (ended_after front rest whole.1)
+
+none_ended : (rest : List ℕ) → newlines rest ≡ 0 → ended_lines rest ≡ []
+none_ended rest none = ap (λ n. take n (command_lines rest)) none
+
+-- where no newline follows, they are all of those that newlines end
+pub ended_are : (front : List (List ℕ)) (rest : List ℕ) → AreWhole front → newlines rest ≡ 0 → ended_lines (ended front ++ rest) ≡ front
+ended_are front rest whole none = ended_after front rest whole ∙ ap (λ (ls : List (List ℕ)). front ++ ls) (none_ended rest none) ∙ append-nil front

@@ -7,3 +7,4 @@ mod Replying
 mod Consulting
 mod Elimination
 mod OneAnswer
+mod FewSymbols

@@ -1,16 +1,19 @@
 -- How far the lines of a script were taken.
-use Rattle.std.proofs.Common.{◌≡◌, ℕ, ◌+◌, ◌-◌, ◌<◌, ◌≤◌, ◌⊎◌, List, [], ◌∷◌, ◌++◌, length, take, drop, refl, sym, ◌∙◌, ap, arith, append_assoc, length-append, append-nil, take-append-drop, Option, Some, None, Ok, Err, inl, inr}
+use Rattle.std.proofs.Common.{◌≡◌, ℕ, ◌+◌, ◌-◌, ◌<◌, ◌≤◌, ◌⊎◌, List, [], ◌∷◌, ◌++◌, length, take, drop, refl, sym, ◌∙◌, ap, arith, append_assoc, length-append, append-nil, take-append-drop, Bool, true, false, cond, Option, Some, None, Ok, Err, inl, inr}
 use Rattle.std.proofs.lemmas.List.{take-append-le}
 use Rattle.std.proofs.Math.Seq.{take-append-add}
+use Rattle.std.specs.Prelude.{nat_le}
+use Rattle.std.proofs.lemmas.Bool.Decides.{leb_tells}
 use Rattle.std.specs.Io.KnownBytes.{Consumes}
-use Rattle.kb_io.specs.Lines.{newlines, newlines-append, command_lines, ended, last_line, IsNextLine, next_line_begins}
-use Rattle.kb_io.specs.Pending.{Pending, NextLine, most_bytes}
+use Rattle.kb_io.specs.Lines.{newlines, command_lines, ended, IsNextLine}
+use Rattle.kb_io.proofs.LineLemmas.{newlines-append, last_line}
+use Rattle.kb_io.specs.Pending.{Pending, TakesLine, NextLine, most_bytes}
 use Rattle.kb_io.specs.declared.lines.LineError.TheVariants as line_error
 use Rattle.kb_io.specs.declared.lines.Next.TheVariants as next
-use Rattle.idp_cli.specs.Files.{IfTold}
+use Rattle.idp_cli.specs.Files.{IfObservable}
 use Rattle.idp_cli.specs.EndedLines.{ended_lines, HaveEnded}
-use Rattle.idp_cli.specs.Turns.{TakesLine}
-use Rattle.idp_cli.proofs.Ended.{AreWhole, whole_more, ended_more, lines_after, ended_are}
+use Rattle.idp_cli.specs.Answering.{lines_within}
+use Rattle.idp_cli.proofs.Ended.{AreWhole, whole_more, ended_more, lines_after, ended_after, ended_are}
 
 -- a newline ended each of the lines, and the rest is ahead and left
 abbrev pub IsUnderWay : List ℕ → List ℕ → List (List ℕ) → Pending → Type 0
@@ -88,10 +91,10 @@ over_no_more script left left' bytes line front p p' over took next =
 pub line_given : (script left left' : Option (List ℕ)) (front : List (List ℕ)) (line : List ℕ) (p p' : Pending) → Given script left front p → TakesLine line p p' left left' → Given script left' (front ++ line ∷ []) p'
 line_given None left left' front line p p' so_far takes = tt
 line_given (Some script) None left' front line p p' so_far takes = absurd so_far
-line_given (Some script) (Some left) None front line p p' so_far takes = absurd takes.1
+line_given (Some script) (Some left) None front line p p' so_far takes = absurd takes.consumed
 line_given (Some script) (Some left) (Some left') front line p p' so_far takes = elim so_far [
-  | inl under ↦ under_way_more script left left' takes.0 line front p p' under takes.1 takes.2 takes.4
-  | inr over ↦ absurd (over_no_more script left left' takes.0 line front p p' over takes.1 takes.4)
+  | inl under ↦ under_way_more script left left' takes.bytes line front p p' under takes.consumed takes.count takes.cut
+  | inr over ↦ absurd (over_no_more script left left' takes.bytes line front p p' over takes.consumed takes.cut)
 ]
 
 -- the lines that were not given are ahead and left
@@ -101,20 +104,47 @@ lines_left script left front p (inr over) =
     let none : p.ahead ++ left ≡ [] = ap (λ (l : List ℕ). l ++ left) over.0 ∙ over.1 in
     over.2 ∙ sym (append-nil front) ∙ ap (λ (l : List ℕ). front ++ command_lines l) (sym none)
 
-pub some_given : (script left : Option (List ℕ)) (front : List (List ℕ)) (p : Pending) → Given script left front p → IfTold script (λ bytes. (rest : List (List ℕ)) × (command_lines bytes ≡ front ++ rest))
-some_given None left front p so_far = tt
-some_given (Some script) None front p so_far = absurd so_far
-some_given (Some script) (Some left) front p so_far = (command_lines (p.ahead ++ left), lines_left script left front p so_far)
+all_within : (script : List ℕ) → nat_le (length script) most_bytes ≡ true → lines_within script ≡ command_lines script
+all_within script short = ap (λ (b : Bool). cond b (command_lines script) (ended_lines (take most_bytes script))) short
 
--- the line that is taken next is one of the script
-pub next_given : (script left left' : Option (List ℕ)) (front : List (List ℕ)) (line : List ℕ) (p p' : Pending) → Given script left front p → TakesLine line p p' left left'
-    → IfTold script (λ bytes. (rest : List (List ℕ)) × (command_lines bytes ≡ front ++ line ∷ rest))
-next_given None left left' front line p p' so_far takes = tt
-next_given (Some script) None left' front line p p' so_far takes = absurd so_far
-next_given (Some script) (Some left) None front line p p' so_far takes = absurd takes.1
-next_given (Some script) (Some left) (Some left') front line p p' so_far takes =
-    let begins = next_line_begins p.ahead takes.0 line p'.ahead (Some left) (Some left') takes.1 takes.4 in
-    (command_lines (p'.ahead ++ left'), lines_left script left front p so_far ∙ ap (λ (ls : List (List ℕ)). front ++ ls) begins)
+some_ended : (script : List ℕ) → nat_le (length script) most_bytes ≡ false → lines_within script ≡ ended_lines (take most_bytes script)
+some_ended script long = ap (λ (b : Bool). cond b (command_lines script) (ended_lines (take most_bytes script))) long
+
+-- in a script beyond its limit, those that were given end within the bytes that may be taken
+given_ended : (script left : List ℕ) (front : List (List ℕ)) (p : Pending) → IsUnderWay script left front p → p.taken ≤ most_bytes
+    → (rest : List (List ℕ)) × (ended_lines (take most_bytes script) ≡ front ++ rest)
+given_ended script left front p under within =
+    let more : List ℕ = p.ahead ++ left in
+    let room : ℕ = most_bytes - length (ended front) in
+    let whole_size : length (ended front) + room ≡ most_bytes = omega (arith, under.2, within, length-append (ended front) p.ahead) in
+    let cut : take most_bytes script ≡ ended front ++ take room more =
+    ap (take most_bytes) under.1 ∙ ap (λ n. take n (ended front ++ more)) (sym whole_size) ∙ take-append-add (ended front) more room in
+    (ended_lines (take room more), ap ended_lines cut ∙ ended_after front (take room more) under.0)
+
+-- the lines that were given are the first of those within the limit
+given_within : (script left : List ℕ) (front : List (List ℕ)) (p : Pending) → IsUnderWay script left front p ⊎ IsOver script left front p → p.taken ≤ most_bytes
+    → (rest : List (List ℕ)) × (lines_within script ≡ front ++ rest)
+given_within script left front p so_far within = elim (leb_tells (length script) most_bytes) [
+  | inl short ↦ (command_lines (p.ahead ++ left), all_within script short.0 ∙ lines_left script left front p so_far)
+  | inr long ↦ elim so_far [
+    | inl under ↦ let ended = given_ended script left front p under within in (ended.0, some_ended script long.0 ∙ ended.1)
+    | inr over ↦ absurd (omega (arith, over.3, within, long.1))
+  ]
+]
+
+pub some_given : (script left : Option (List ℕ)) (front : List (List ℕ)) (p : Pending) → Given script left front p → p.taken ≤ most_bytes
+    → IfObservable script (λ bytes. (rest : List (List ℕ)) × (lines_within bytes ≡ front ++ rest))
+some_given None left front p so_far within = tt
+some_given (Some script) None front p so_far within = absurd so_far
+some_given (Some script) (Some left) front p so_far within = given_within script left front p so_far within
+
+-- the line that is taken next is one of them
+pub next_given : (script left left' : Option (List ℕ)) (front : List (List ℕ)) (line : List ℕ) (p p' : Pending) → Given script left front p → p.taken ≤ most_bytes → TakesLine line p p' left left'
+    → IfObservable script (λ bytes. (rest : List (List ℕ)) × (lines_within bytes ≡ front ++ line ∷ rest))
+next_given None left left' front line p p' so_far within takes = tt
+next_given (Some script) left left' front line p p' so_far within takes =
+    let later = some_given (Some script) left' (front ++ line ∷ []) p' (line_given (Some script) left left' front line p p' so_far takes) (omega (arith, within, takes.within)) in
+    (later.0, later.1 ∙ append_assoc front (line ∷ []) later.0)
 
 size_given : (script left : List ℕ) (front : List (List ℕ)) (p : Pending) → IsUnderWay script left front p ⊎ IsOver script left front p → p.ahead ≡ [] → left ≡ [] → length script ≡ p.taken
 size_given script left front p (inl under) none at_end =
@@ -123,14 +153,14 @@ size_given script left front p (inr over) none at_end = sym over.3
 
 -- all lines were given
 pub all_given : (script left left' : Option (List ℕ)) (front : List (List ℕ)) (p p' : Pending) (before now : ℕ) → Given script left front p → p.taken ≤ most_bytes
-    → NextLine (Ok next.End) p p' left left' before now → IfTold script (λ bytes. (length bytes ≤ most_bytes) × (command_lines bytes ≡ front))
+    → NextLine (Ok next.End) p p' left left' before now → IfObservable script (λ bytes. (length bytes ≤ most_bytes) × (command_lines bytes ≡ front))
 all_given None left left' front p p' before now so_far within next = tt
 all_given (Some script) None left' front p p' before now so_far within next = absurd so_far
-all_given (Some script) (Some left) None front p p' before now so_far within next = absurd next.0
+all_given (Some script) (Some left) None front p p' before now so_far within next = absurd next.1.consumed
 all_given (Some script) (Some left) (Some left') front p p' before now so_far within next =
-    let at_end : left ≡ [] = next.0 ∙ next.1 in
-    let none : p.ahead ++ left ≡ [] = ap (λ (l : List ℕ). l ++ left) next.2 ∙ at_end in (
-      omega (arith, size_given script left front p so_far next.2 at_end, within),
+    let at_end : left ≡ [] = next.1.consumed ∙ next.1.at_end in
+    let none : p.ahead ++ left ≡ [] = ap (λ (l : List ℕ). l ++ left) next.1.ahead ∙ at_end in (
+      omega (arith, size_given script left front p so_far next.1.ahead at_end, within),
       lines_left script left front p so_far ∙ ap (λ (l : List ℕ). front ++ command_lines l) none ∙ append-nil front,
     )
 
@@ -138,25 +168,38 @@ no_more : (bytes left left' : List ℕ) → left ≡ [] → left ≡ bytes ++ le
 no_more [] left left' none took = sym took ∙ none
 no_more (byte ∷ bytes) left left' none took = absurd (omega (arith, ap length none, ap length took))
 
+-- the lines are those that ended within the bytes taken
+pub record EndedWithin (script : List ℕ) (left : Option (List ℕ)) (lines : List (List ℕ)) : Type 0 where
+  pub taken : List ℕ
+  pub consumed : Consumes (Some script) left taken
+  pub within : length taken ≤ most_bytes
+  pub ended : HaveEnded lines taken left
+
 -- after a failing read the lines that ended were given
 pub ended_given : (script left left' : Option (List ℕ)) (front : List (List ℕ)) (p p' : Pending) (before now : ℕ) → Given script left front p → p.taken ≤ most_bytes
     → NextLine (Err line_error.Fault) p p' left left' before now
-    → IfTold script (λ bytes. (taken : List ℕ) × Consumes (Some bytes) left' taken × (length taken ≤ most_bytes) × HaveEnded front taken left')
+    → IfObservable script (λ bytes. EndedWithin bytes left' front)
 ended_given None left left' front p p' before now so_far within next = tt
 ended_given (Some script) None left' front p p' before now so_far within next = absurd so_far
-ended_given (Some script) (Some left) None front p p' before now so_far within next = absurd next.1
+ended_given (Some script) (Some left) None front p p' before now so_far within next = absurd next.2.consumed
 ended_given (Some script) (Some left) (Some left') front p p' before now so_far within next = elim so_far [
   | inl under ↦
-      let bytes = next.0 in
-      let begun : List ℕ = p.ahead ++ bytes in (
-        ended front ++ begun,
-        taken_next script (ended front) p.ahead bytes left left' under.1 next.1 ∙ sym (append_assoc (ended front) begun left'),
-        omega (arith, within, under.2, next.2, next.3, length-append (ended front) begun, length-append p.ahead bytes, length-append (ended front) p.ahead),
-        inl (sym (ended_are front begun under.0 next.6)),
-      )
+      let bytes = next.2.bytes in
+      let begun : List ℕ = p.ahead ++ bytes in
+      record {
+        taken = ended front ++ begun;
+        consumed = taken_next script (ended front) p.ahead bytes left left' under.1 next.2.consumed ∙ sym (append_assoc (ended front) begun left');
+        within = omega (arith, within, under.2, next.2.count, next.2.within, length-append (ended front) begun, length-append p.ahead bytes, length-append (ended front) p.ahead);
+        ended = inl (sym (ended_are front begun under.0 next.2.line.whole));
+      }
   | inr over ↦
-      let none : left' ≡ [] = no_more next.0 left left' over.1 next.1 in
-      (script, sym (append-nil script) ∙ ap (λ (l : List ℕ). script ++ l) (sym none), omega (arith, over.3, within), inr (none, sym over.2))
+      let none : left' ≡ [] = no_more next.2.bytes left left' over.1 next.2.consumed in
+      record {
+        taken = script;
+        consumed = sym (append-nil script) ∙ ap (λ (l : List ℕ). script ++ l) (sym none);
+        within = omega (arith, over.3, within);
+        ended = inr (none, sym over.2);
+      }
 ]
 
 -- the bytes begun hold no newline, so the lines of the allowed bytes are those before them
@@ -174,21 +217,21 @@ allowed_lines front begun beyond more script whole all sizes few short none =
 
 -- where too many bytes were offered, the lines that ended within the allowed ones were given
 pub ended_within : (script left left' : Option (List ℕ)) (front : List (List ℕ)) (p p' : Pending) (before now : ℕ) → Given script left front p → p.taken ≤ most_bytes
-    → NextLine (Err line_error.TooLong) p p' left left' before now → IfTold script (λ bytes. (most_bytes < length bytes) × (front ≡ ended_lines (take most_bytes bytes)))
+    → NextLine (Err line_error.TooLong) p p' left left' before now → IfObservable script (λ bytes. (most_bytes < length bytes) × (front ≡ ended_lines (take most_bytes bytes)))
 ended_within None left left' front p p' before now so_far within next = tt
 ended_within (Some script) None left' front p p' before now so_far within next = absurd so_far
-ended_within (Some script) (Some left) None front p p' before now so_far within next = absurd next.2
+ended_within (Some script) (Some left) None front p p' before now so_far within next = absurd next.1.consumed
 ended_within (Some script) (Some left) (Some left') front p p' before now so_far within next = elim so_far [
   | inl under ↦
-      let bytes = next.0 in
-      let beyond = next.1 in
+      let bytes = next.1.bytes in
+      let beyond = next.1.beyond in
       let begun : List ℕ = p.ahead ++ bytes in
       let more : List ℕ = beyond ++ left' in
-      let took : left ≡ bytes ++ more = next.2 ∙ append_assoc bytes beyond left' in
+      let took : left ≡ bytes ++ more = next.1.consumed ∙ append_assoc bytes beyond left' in
       let all : script ≡ ended front ++ (begun ++ more) = taken_next script (ended front) p.ahead bytes left more under.1 took in
-      let sizes : length (ended front) + length begun + length beyond ≡ most_bytes + 1 = omega (arith, under.2, next.3, next.4, length-append p.ahead bytes, length-append (ended front) p.ahead) in
+      let sizes : length (ended front) + length begun + length beyond ≡ most_bytes + 1 = omega (arith, under.2, next.1.count, next.1.all, length-append p.ahead bytes, length-append (ended front) p.ahead) in
       let long : most_bytes < length script = omega (arith, ap length all, length-append (ended front) (begun ++ more), length-append begun more, length-append beyond left', sizes) in
       let short : length (ended front) ≤ most_bytes = omega (arith, under.2, within, length-append (ended front) p.ahead) in
-      (long, allowed_lines front begun beyond more script under.0 all sizes next.5 short next.7)
-  | inr over ↦ absurd (omega (arith, over.3, within, next.3, next.4, ap length over.1, ap length next.2, length-append (next.0 ++ next.1) left', length-append next.0 next.1))
+      (long, allowed_lines front begun beyond more script under.0 all sizes next.1.few short next.1.line.whole)
+  | inr over ↦ absurd (omega (arith, over.3, within, next.1.count, next.1.all, ap length over.1, ap length next.1.consumed, length-append (next.1.bytes ++ next.1.beyond) left', length-append next.1.bytes next.1.beyond))
 ]

@@ -5,23 +5,23 @@ use Rattle.kb_io.specs.Lines.{newlines}
 use Rattle.kb_io.specs.Outside.{Rose}
 use Rattle.kb_logic.specs.declared.first.FirstKb.{FirstKb}
 use Rattle.kb_logic.specs.First.{open_atom_count}
-use Rattle.consultant_session.specs.Replies.{IsSmallFirstKb}
+use Rattle.consultant_session.specs.Sessions.{IsSmallFirstKb}
 use Rattle.kb_text.specs.Refusals.{text_of}
 use Rattle.kb_text.specs.declared.fault.K.{K}
 use Rattle.kb_text.specs.declared.fault.K.TheVariants as cause
 use Rattle.first_reader.specs.FirstFiles.{IsOfProfile}
 use Rattle.first_reader.specs.FirstReads.{IsReadAs}
-use Rattle.idp_cli.specs.declared.loading.Unloaded.{Unloaded}
-use Rattle.idp_cli.specs.declared.loading.Unloaded.TheVariants as unloaded
+use Rattle.idp_cli.specs.declared.load.LoadError.{LoadError}
+use Rattle.idp_cli.specs.declared.load.LoadError.TheVariants as load_error
 
 -- how many bytes a file may have
 abbrev pub most_file_bytes : ℕ
 most_file_bytes = 4194304
 
 -- a fact about what is told, where it is told
-abbrev pub IfTold : Option (List ℕ) → (List ℕ → Type 0) → Type 0
-IfTold None P = Unit {0}
-IfTold (Some bytes) P = P bytes
+abbrev pub IfObservable : Option (List ℕ) → (List ℕ → Type 0) → Type 0
+IfObservable None P = Unit {0}
+IfObservable (Some bytes) P = P bytes
 
 -- the file means this knowledge base, which the consultant takes
 pub record IsConsultable (bytes : List ℕ) (kb : FirstKb) : Type 0 where
@@ -38,7 +38,8 @@ abbrev pub IsRefused : K → ℕ → List ℕ → Type 0
 IsRefused cause.TooLong line bytes = (most_file_bytes < length bytes) × (line ≡ line_of most_file_bytes bytes)
 IsRefused cause.Unsupported line bytes = (length bytes ≤ most_file_bytes) × (line ≡ 1) × (IsOfProfile bytes → ⊥)
 IsRefused cause.TooLarge line bytes =
-    (length bytes ≤ most_file_bytes) × ((kb : FirstKb) × IsReadAs bytes kb × (20 < open_atom_count kb) × (line ≡ line_of kb.place bytes))
+    (length bytes ≤ most_file_bytes) × ((kb : FirstKb) × IsReadAs bytes kb × (20 < open_atom_count kb) ×
+    (line ≡ line_of kb.place bytes))
 IsRefused _ line bytes = ⊥
 
 -- the line that says so
@@ -46,15 +47,15 @@ abbrev pub refusal_text : K → ℕ → List ℕ
 refusal_text k line = codes "error " ++ (text_of k ++ (codes " line " ++ (decimal line ++ codes "\n")))
 
 -- how the file was loaded: what it means, or why it was not; `before` and `now` are the shelf's counts of faults
-abbrev pub Loads : Result FirstKb Unloaded → Option (List ℕ) → ℕ → ℕ → Type 0
-Loads (Ok kb) file before now = (now ≡ before) × IsSmallFirstKb kb × IfTold file (λ bytes. IsConsultable bytes kb)
-Loads (Err (unloaded.Refused k line)) file before now = (now ≡ before) × IfTold file (IsRefused k line)
-Loads (Err unloaded.ReadFault) file before now = Rose before now
-Loads (Err unloaded.Memory) file before now = now ≡ before
+abbrev pub Loads : Result FirstKb LoadError → Option (List ℕ) → ℕ → ℕ → Type 0
+Loads (Ok kb) file before now = (now ≡ before) × IsSmallFirstKb kb × IfObservable file (λ bytes. IsConsultable bytes kb)
+Loads (Err (load_error.Refused k line)) file before now = (now ≡ before) × IfObservable file (IsRefused k line)
+Loads (Err load_error.ReadFault) file before now = Rose before now
+Loads (Err load_error.Memory) file before now = now ≡ before
 
 -- the same for bytes that are at hand
-abbrev pub Takes : Result FirstKb Unloaded → List ℕ → Type 0
+abbrev pub Takes : Result FirstKb LoadError → List ℕ → Type 0
 Takes (Ok kb) bytes = IsConsultable bytes kb
-Takes (Err (unloaded.Refused k line)) bytes = IsRefused k line bytes
-Takes (Err unloaded.ReadFault) bytes = ⊥
-Takes (Err unloaded.Memory) bytes = Unit {0}
+Takes (Err (load_error.Refused k line)) bytes = IsRefused k line bytes
+Takes (Err load_error.ReadFault) bytes = ⊥
+Takes (Err load_error.Memory) bytes = Unit {0}

@@ -3,8 +3,8 @@ use Rattle.std.specs.Prelude.{◌≡◌, ◌<◌, ◌≤◌, ℕ, List, Some, le
 use Rattle.kb_text.specs.declared.fault.K.{K}
 use Rattle.kb_logic.specs.declared.first.FirstKb.{FirstKb}
 use Rattle.idp_cli.specs.Files.{IsRefused, IsConsultable}
-use Rattle.idp_cli.specs.Top.{Words, Outside, IsConsult, IsUsage, RunEnds}
-use Rattle.idp_cli.specs.Answering.{most_script_bytes}
+use Rattle.idp_cli.specs.Runs.{Words, Outside, IsConsult, IsUsage, RunEnds}
+use Rattle.kb_io.specs.Pending.{most_bytes}
 use Rattle.idp_cli.specs.declared.status.Status.{Status}
 use Rattle.idp_cli.specs.declared.status.Status.TheVariants as status
 
@@ -17,33 +17,42 @@ IsUnlessFailed wanted s = s ≡ wanted
 
 -- words that are no command line give Usage
 abbrev pub UsageLaw : Type 0
-UsageLaw = (s : Status) (words : Words) (before now : Outside) → IsUsage words → RunEnds s words before now → IsUnlessFailed status.Usage s
+UsageLaw = (s : Status) (words : Words) (before now : Outside) → IsUsage words → RunEnds s words before now
+    → IsUnlessFailed status.Usage s
 
 -- and no others do
 abbrev pub CommandLaw : Type 0
-CommandLaw = (words : Words) (before now : Outside) (file : List ℕ) → IsConsult words file → RunEnds status.Usage words before now → ⊥
+CommandLaw = (words : Words) (before now : Outside) (file : List ℕ) → IsConsult words file
+    → RunEnds status.Usage words before now → ⊥
 
 -- a file that is refused gives this refusal
 abbrev pub RefusalLaw : Type 0
-RefusalLaw = (s : Status) (words : Words) (before now : Outside) (file bytes : List ℕ) (k : K) (line : ℕ) → IsConsult words file → before.files file ≡ Some bytes → IsRefused k line bytes
+RefusalLaw = (s : Status) (words : Words) (before now : Outside) (file bytes : List ℕ) (k : K) (line : ℕ)
+    → IsConsult words file → before.files file ≡ Some bytes → IsRefused k line bytes
     → RunEnds s words before now → IsUnlessFailed (status.KbRefused k line) s
 
 -- and a file that is consulted about gives none
 abbrev pub TakingLaw : Type 0
-TakingLaw = (k : K) (line : ℕ) (words : Words) (before now : Outside) (file bytes : List ℕ) (kb : FirstKb) → IsConsult words file → before.files file ≡ Some bytes → IsConsultable bytes kb
+TakingLaw = (k : K) (line : ℕ) (words : Words) (before now : Outside) (file bytes : List ℕ) (kb : FirstKb)
+    → IsConsult words file → before.files file ≡ Some bytes → IsConsultable bytes kb
     → RunEnds (status.KbRefused k line) words before now → ⊥
 
 -- more commands than are read give ScriptTooLong
 abbrev pub LengthLaw : Type 0
-LengthLaw = (s : Status) (words : Words) (before now : Outside) (file bytes script : List ℕ) (kb : FirstKb) → IsConsult words file → before.files file ≡ Some bytes → IsConsultable bytes kb
-    → before.script ≡ Some script → most_script_bytes < length script → RunEnds s words before now → IsUnlessFailed status.ScriptTooLong s
+LengthLaw = (s : Status) (words : Words) (before now : Outside) (file bytes script : List ℕ) (kb : FirstKb)
+    → IsConsult words file → before.files file ≡ Some bytes → IsConsultable bytes kb
+    → before.streams.script ≡ Some script → most_bytes < length script → RunEnds s words before now
+    → IsUnlessFailed status.ScriptTooLong s
 
 -- and no others do
 abbrev pub ShortLaw : Type 0
-ShortLaw = (words : Words) (before now : Outside) (file bytes script : List ℕ) → IsConsult words file → before.files file ≡ Some bytes → before.script ≡ Some script → length script ≤ most_script_bytes
+ShortLaw = (words : Words) (before now : Outside) (file bytes script : List ℕ) → IsConsult words file
+    → before.files file ≡ Some bytes → before.streams.script ≡ Some script → length script ≤ most_bytes
     → RunEnds status.ScriptTooLong words before now → ⊥
 
 -- where a file is consulted about and the commands are within their limit, all of them are answered
 abbrev pub DoneLaw : Type 0
-DoneLaw = (s : Status) (words : Words) (before now : Outside) (file bytes script : List ℕ) (kb : FirstKb) → IsConsult words file → before.files file ≡ Some bytes → IsConsultable bytes kb
-    → before.script ≡ Some script → length script ≤ most_script_bytes → RunEnds s words before now → IsUnlessFailed status.Done s
+DoneLaw = (s : Status) (words : Words) (before now : Outside) (file bytes script : List ℕ) (kb : FirstKb)
+    → IsConsult words file → before.files file ≡ Some bytes → IsConsultable bytes kb
+    → before.streams.script ≡ Some script → length script ≤ most_bytes → RunEnds s words before now
+    → IsUnlessFailed status.Done s

@@ -4,7 +4,7 @@ pub mod Consultation
 pub mod EndedLines
 pub mod Answering
 pub mod Turns
-pub mod Top
+pub mod Runs
 pub mod Printing
 pub mod Laws
 pub mod OneAnswer

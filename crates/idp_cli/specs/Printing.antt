@@ -2,7 +2,7 @@
 use Rattle.std.specs.Prelude.{◌≡◌, ℕ, List, Option}
 use Rattle.std.specs.Io.KnownBytes.{Appends}
 use Rattle.kb_io.specs.Outside.{Rose}
-use Rattle.kb_io.specs.Whole.{AppendsFront}
+use Rattle.kb_io.specs.ReadWrite.{AppendsPrefix}
 use Rattle.kb_text.specs.declared.fault.K.{K}
 use Rattle.idp_cli.specs.Files.{refusal_text}
 use Rattle.idp_cli.specs.declared.status.Status.{Status}
@@ -10,9 +10,11 @@ use Rattle.idp_cli.specs.declared.status.Status.TheVariants as status
 
 -- the refusal is said, or could not be said whole; `before` and `now` are the output's counts of faults
 abbrev pub PrintsRefusal : Status → K → ℕ → Option (List ℕ) → Option (List ℕ) → ℕ → ℕ → Type 0
-PrintsRefusal (status.KbRefused cause place) k line old new before now = (now ≡ before) × (cause ≡ k) × (place ≡ line) × Appends old new (refusal_text k line)
-PrintsRefusal status.WriteFault k line old new before now = Rose before now × AppendsFront old new (refusal_text k line)
-PrintsRefusal status.Memory k line old new before now = new ≡ old
+PrintsRefusal (status.KbRefused cause place) k line old new before now = (now ≡ before) × (cause ≡ k) ×
+    (place ≡ line) × Appends old new (refusal_text k line)
+PrintsRefusal status.WriteFault k line old new before now = Rose before now × AppendsPrefix old new
+    (refusal_text k line)
+PrintsRefusal status.Memory k line old new before now = (now ≡ before) × (new ≡ old)
 PrintsRefusal status.Done k line old new before now = ⊥
 PrintsRefusal status.Usage k line old new before now = ⊥
 PrintsRefusal status.ReadFault k line old new before now = ⊥

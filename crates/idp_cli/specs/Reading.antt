@@ -3,13 +3,15 @@ use Rattle.std.specs.Prelude.{◌≡◌, ℕ, ◌<◌, ◌≤◌, List, length, 
 use Rattle.std.specs.declared.alloc.Global.{Global}
 use Rattle.kb_io.specs.Lines.{newlines}
 use Rattle.kb_io.specs.Outside.{Rose}
-use Rattle.kb_io.specs.declared.whole.ReadError.{ReadError}
-use Rattle.kb_io.specs.declared.whole.ReadError.TheVariants.{TooLong, Fault, Memory}
-use Rattle.idp_cli.specs.Files.{IfTold}
+use Rattle.kb_io.specs.declared.read_write.ReadError.{ReadError}
+use Rattle.kb_io.specs.declared.read_write.ReadError.TheVariants.{TooLong, Fault, Memory}
+use Rattle.idp_cli.specs.Files.{IfObservable}
 
 -- The file was read to its end, or why not. The shelf's count of faults rises at a fault alone.
 abbrev pub ReadsFile : Result (Vec ℕ Global) ReadError → ℕ → Option (List ℕ) → ℕ → ℕ → Type 0
-ReadsFile (Ok bytes) limit file before now = (now ≡ before) × (length bytes.items ≤ limit) × IfTold file (λ told. bytes.items ≡ told)
-ReadsFile (Err (TooLong n)) limit file before now = (now ≡ before) × (n ≤ limit) × IfTold file (λ told. (limit < length told) × (n ≡ newlines (take limit told)))
+ReadsFile (Ok bytes) limit file before now = (now ≡ before) × (length bytes.items ≤ limit) × IfObservable file
+    (λ told. bytes.items ≡ told)
+ReadsFile (Err (TooLong n)) limit file before now = (now ≡ before) × (n ≤ limit) × IfObservable file (λ told.
+    (limit < length told) × (n ≡ newlines (take limit told)))
 ReadsFile (Err Fault) limit file before now = Rose before now
 ReadsFile (Err Memory) limit file before now = now ≡ before

@@ -1,11 +1,11 @@
 //! Laws on how a run ends, and on what it prints. The functions do nothing else: their contracts are laws.
 ghost use Rattle.idp_cli.specs.Laws.{UsageLaw, CommandLaw, RefusalLaw, TakingLaw, LengthLaw, ShortLaw, DoneLaw};
-ghost use Rattle.idp_cli.specs.OneAnswer.{OneAnswerLaw, ChoicesLaw};
+ghost use Rattle.idp_cli.specs.OneAnswer.{OneAnswerLaw, OneConsultationLaw, ChoicesLaw};
 
 use consult_text::{commands_are_over_the_base, no_two_replies_have_one_text, one_meaning};
 use first_reader::laws::names_are_words;
 
-/// Usage, a refusal, ScriptTooLong and Done come exactly where they should, unless a device failed or memory was wanting.
+/// Usage, a refusal, ScriptTooLong and Done come exactly where they should, unless a device failed or memory ran out.
 pub fn statuses_come_where_they_should()
     ensures usage { UsageLaw }
     ensures command { CommandLaw }
@@ -16,10 +16,12 @@ pub fn statuses_come_where_they_should()
     ensures done { DoneLaw }
 {}
 
-/// The printed bytes determine what was answered: over the knowledge base of a file, two right answers to a line that have one text are
-/// one reply. The choices in force, which an answer may list, are always literals over it.
+/// The printed bytes determine what was answered: over the knowledge base of a file, two right answers to a line that
+/// have one text are one reply, and two consultations of the same lines that print the same bytes have the same
+/// replies. The choices in force, which an answer may list, are always literals over it.
 pub fn printed_bytes_determine_the_replies()
     ensures one { OneAnswerLaw }
+    ensures whole { OneConsultationLaw }
     ensures choices { ChoicesLaw }
 {
     names_are_words();

@@ -1,13 +1,14 @@
 -- How a line is put together of the pieces that come.
 use Rattle.std.proofs.Common.{◌≡◌, ℕ, ◌+◌, ◌-◌, ◌<◌, ◌≤◌, List, ◌∷◌, ◌++◌, length, take, drop, sym, ◌∙◌, ap, subst, arith, inl, inr, Some, take-append-drop, drop-drop, zero-add, length-append, length-take}
 use Rattle.std.proofs.lemmas.List.{drop-take}
-use Rattle.kb_io.specs.Lines.{newlines, longest_line, let_go, IsLong, StandsFor, newlines-append, let_go_is_long, long_more}
+use Rattle.kb_io.specs.Lines.{newlines, longest_line, let_go, IsLong, StandsFor}
+use Rattle.kb_io.proofs.LineLemmas.{newlines-append, let_go_is_long, long_more}
 use Rattle.kb_io.specs.Buffer.{begun, unread}
 use Rattle.kb_io.specs.Finishes.{Finishes, FinishesLast, Cuts}
 use Rattle.kb_io.specs.declared.lines.Next.{Next}
 use Rattle.kb_io.specs.declared.lines.Next.TheVariants.{Line, LongLine, End}
-use Rattle.kb_io.specs.declared.buffer.KeptLine.{KeptLine}
-use Rattle.kb_io.specs.declared.buffer.Buffer.{Buffer}
+use Rattle.kb_io.specs.declared.line_buffer.LineBuffer.{LineBuffer}
+use Rattle.kb_io.specs.declared.line_buffer.Buffer.{Buffer}
 
 -- a beginning that was let go stands for itself and what goes on
 pub let_go_goes_on : (piece : List ℕ) → newlines piece ≡ 0 → StandsFor let_go (let_go ++ piece)
@@ -30,7 +31,7 @@ pub cut_at_newline : (bytes rest : List ℕ) (n : ℕ) → drop n bytes ≡ 10 �
 cut_at_newline bytes rest n here after = sym (take-append-drop n bytes) ∙ ap (λ (l : List ℕ). take n bytes ++ l) (here ∙ ap (λ (l : List ℕ). 10 ∷ l) after)
 
 -- the line that ends within what is unread is answered
-pub cuts_some : (next : Next) (old new : Buffer) (kept : KeptLine) (piece : List ℕ) → Finishes next kept new.line → unread old ≡ piece ++ 10 ∷ unread new → newlines piece ≡ 0
+pub cuts_some : (next : Next) (old new : Buffer) (kept : LineBuffer) (piece : List ℕ) → Finishes next kept new.line → unread old ≡ piece ++ 10 ∷ unread new → newlines piece ≡ 0
     → StandsFor (begun kept) (begun old.line ++ piece) → Cuts (Some next) old new
 cuts_some Line old new kept piece finished cut none (inl same) =
     (piece, cut, none, finished.0, finished.1 ∙ same, subst (λ (l : List ℕ). length l ≤ longest_line) same finished.2)
@@ -39,7 +40,7 @@ cuts_some LongLine old new kept piece finished cut none (inl same) = (piece, cut
 cuts_some LongLine old new kept piece finished cut none (inr long) = (piece, cut, none, finished.0, finished.1, long.1)
 cuts_some End old new kept piece finished cut none stands = absurd finished
 
-pub finishes_last : (next : Next) (old new : KeptLine) → Finishes next old new → 0 < length (begun old) → FinishesLast next old new
+pub finishes_last : (next : Next) (old new : LineBuffer) → Finishes next old new → 0 < length (begun old) → FinishesLast next old new
 finishes_last Line old new finished some = (finished, some)
 finishes_last LongLine old new finished some = finished
 finishes_last End old new finished some = absurd finished

@@ -1,3 +1,6 @@
+pub mod KnownBytes
+pub mod LineLemmas
+pub mod FirstLines
 pub mod Pieces
 pub mod Named
 pub mod Cutting

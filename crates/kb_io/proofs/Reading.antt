@@ -4,7 +4,7 @@ use Rattle.std.specs.Io.KnownBytes.{Consumes}
 use Rattle.kb_io.specs.Lines.{newlines, StandsFor}
 use Rattle.kb_io.specs.Pending.{most_bytes}
 use Rattle.kb_io.specs.Buffer.{begun, unread}
-use Rattle.kb_io.specs.declared.buffer.Buffer.{Buffer}
+use Rattle.kb_io.specs.declared.line_buffer.Buffer.{Buffer}
 
 -- since `initial` these bytes were taken, and the line under way has come to `line`
 pub record Reads (initial now : Buffer) (left left' : Option (List ℕ)) : Type 0 where

@@ -3,40 +3,40 @@ use Rattle.std.specs.Prelude.{◌≡◌, ℕ, ◌+◌, ◌-◌, ◌≤◌, List,
 use Rattle.std.specs.Vec.{vec_capacity}
 use Rattle.kb_io.specs.Lines.{newlines, longest_line, let_go}
 use Rattle.kb_io.specs.Pending.{Pending, most_bytes}
-use Rattle.kb_io.specs.declared.buffer.Stage.{Stage}
-use Rattle.kb_io.specs.declared.buffer.Stage.TheVariants.{Begun, LetGo, Whole}
-use Rattle.kb_io.specs.declared.buffer.KeptLine.{KeptLine}
-use Rattle.kb_io.specs.declared.buffer.Buffer.{Buffer}
+use Rattle.kb_io.specs.declared.line_buffer.Stage.{Stage}
+use Rattle.kb_io.specs.declared.line_buffer.Stage.TheVariants.{Partial, Overlong, Complete}
+use Rattle.kb_io.specs.declared.line_buffer.LineBuffer.{LineBuffer}
+use Rattle.kb_io.specs.declared.line_buffer.Buffer.{Buffer}
 
 -- the beginning of the line under way
 abbrev pub begun_at : Stage → List ℕ → List ℕ
-begun_at Begun bytes = bytes
-begun_at LetGo bytes = let_go
-begun_at Whole bytes = []
+begun_at Partial bytes = bytes
+begun_at Overlong bytes = let_go
+begun_at Complete bytes = []
 
-abbrev pub begun : KeptLine → List ℕ
+abbrev pub begun : LineBuffer → List ℕ
 begun line = begun_at line.stage line.bytes.items
 
--- the line answered last
+-- the line returned last
 abbrev pub answered_at : Stage → List ℕ → List ℕ
-answered_at Begun bytes = []
-answered_at LetGo bytes = []
-answered_at Whole bytes = bytes
+answered_at Partial bytes = []
+answered_at Overlong bytes = []
+answered_at Complete bytes = bytes
 
-abbrev pub answered : KeptLine → List ℕ
+abbrev pub answered : LineBuffer → List ℕ
 answered line = answered_at line.stage line.bytes.items
 
 -- a line is under way
 abbrev pub IsUnderWayAt : Stage → Type 0
-IsUnderWayAt Begun = Unit {0}
-IsUnderWayAt LetGo = Unit {0}
-IsUnderWayAt Whole = ⊥
+IsUnderWayAt Partial = Unit {0}
+IsUnderWayAt Overlong = Unit {0}
+IsUnderWayAt Complete = ⊥
 
-abbrev pub IsUnderWay : KeptLine → Type 0
+abbrev pub IsUnderWay : LineBuffer → Type 0
 IsUnderWay line = IsUnderWayAt line.stage
 
 -- the line has no newline, and there is room for the longest
-pub record IsSoundLine (line : KeptLine) : Type 0 where
+pub record IsSoundLine (line : LineBuffer) : Type 0 where
   pub short : length line.bytes.items ≤ longest_line
   pub room : longest_line ≤ vec_capacity line.bytes
   pub whole : newlines line.bytes.items ≡ 0

@@ -9,17 +9,17 @@ use Rattle.kb_io.specs.declared.lines.Next.{Next}
 use Rattle.kb_io.specs.declared.lines.Next.TheVariants.{Line, LongLine, End}
 use Rattle.kb_io.specs.declared.lines.LineError.{LineError}
 use Rattle.kb_io.specs.declared.lines.LineError.TheVariants.{Fault, TooLong}
-use Rattle.kb_io.specs.declared.buffer.KeptLine.{KeptLine}
-use Rattle.kb_io.specs.declared.buffer.Buffer.{Buffer}
+use Rattle.kb_io.specs.declared.line_buffer.LineBuffer.{LineBuffer}
+use Rattle.kb_io.specs.declared.line_buffer.Buffer.{Buffer}
 
--- the line under way is answered
-abbrev pub Finishes : Next → KeptLine → KeptLine → Type 0
+-- the line under way is returned
+abbrev pub Finishes : Next → LineBuffer → LineBuffer → Type 0
 Finishes Line old new = (begun new ≡ []) × (answered new ≡ begun old) × (length (begun old) ≤ longest_line)
 Finishes LongLine old new = (begun new ≡ []) × (answered new ≡ []) × IsLong (begun old)
 Finishes End old new = ⊥
 
--- the line under way is answered where it is not empty
-abbrev pub FinishesLast : Next → KeptLine → KeptLine → Type 0
+-- the line under way is returned where it is not empty
+abbrev pub FinishesLast : Next → LineBuffer → LineBuffer → Type 0
 FinishesLast Line old new = Finishes Line old new × (0 < length (begun old))
 FinishesLast LongLine old new = Finishes LongLine old new
 FinishesLast End old new = (begun old ≡ []) × (new ≡ old)

@@ -1,7 +1,6 @@
 pub mod Outside
-pub mod KnownBytes
 pub mod Lines
-pub mod Whole
+pub mod ReadWrite
 pub mod Memory
 pub mod Files
 pub mod Pending

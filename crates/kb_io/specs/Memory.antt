@@ -1,4 +1,4 @@
--- What sources and sinks in memory do, by what they were told.
+-- What sources and sinks in memory do, by their script.
 use Rattle.std.specs.Prelude.{◌≡◌, ℕ, ◌+◌, ◌-◌, ◌^◌, min, max, List, length, Bool, true, ◌==◌, Option, Some, None, Result, IfOk, slice_get}
 use Rattle.std.specs.List.{list_any}
 use Rattle.std.specs.Result.{is_err, IsErr}
@@ -31,31 +31,31 @@ abbrev pub is_listed : List ℕ → ℕ → Bool
 is_listed failing call = list_any (λ n. n == call) failing
 
 -- the number of calls after one more, which stops at the greatest value of 64 bits
-abbrev pub counted : ℕ → ℕ
-counted calls = min (calls + 1) (2 ^ 64 - 1)
+abbrev pub saturating_succ : ℕ → ℕ
+saturating_succ calls = min (calls + 1) (2 ^ 64 - 1)
 
 -- a read fails exactly where its number is listed, and else gives as many bytes as its piece says
-pub record ReadsAsTold {E : Type 0} (old new : SourceState) (result : Result ℕ E) (room : ℕ) : Type 0 where
+pub record ReadsAsScripted {E : Type 0} (old new : SourceState) (result : Result ℕ E) (room : ℕ) : Type 0 where
   pub fails : is_err result ≡ is_listed old.failing old.calls
   pub gives : IfOk result (λ n. n ≡ piece (slice_get old.pieces old.calls) (min room (length old.left)))
-  pub calls : new.calls ≡ counted old.calls
+  pub calls : new.calls ≡ saturating_succ old.calls
   pub failing : new.failing ≡ old.failing
   pub pieces : new.pieces ≡ old.pieces
 
--- a write fails where its number is listed, or for want of memory, and else takes as many bytes as its piece says
-pub record WritesAsTold {E : Type 0} (old new : SinkState) (result : Result ℕ E) (room : ℕ) : Type 0 where
+-- a write fails where its number is listed, or where memory runs out, and else takes as many bytes as its piece says
+pub record WritesAsScripted {E : Type 0} (old new : SinkState) (result : Result ℕ E) (room : ℕ) : Type 0 where
   pub fails : is_listed old.failing_writes old.writes ≡ true → IsErr result
   pub takes : IfOk result (λ n. n ≡ piece (slice_get old.pieces old.writes) room)
-  pub writes : new.writes ≡ counted old.writes
+  pub writes : new.writes ≡ saturating_succ old.writes
   pub flushes : new.flushes ≡ old.flushes
   pub failing_writes : new.failing_writes ≡ old.failing_writes
   pub failing_flushes : new.failing_flushes ≡ old.failing_flushes
   pub pieces : new.pieces ≡ old.pieces
 
 -- a flush fails exactly where its number is listed
-pub record FlushesAsTold {T E : Type 0} (old new : SinkState) (result : Result T E) : Type 0 where
+pub record FlushesAsScripted {T E : Type 0} (old new : SinkState) (result : Result T E) : Type 0 where
   pub fails : is_err result ≡ is_listed old.failing_flushes old.flushes
-  pub flushes : new.flushes ≡ counted old.flushes
+  pub flushes : new.flushes ≡ saturating_succ old.flushes
   pub writes : new.writes ≡ old.writes
   pub failing_writes : new.failing_writes ≡ old.failing_writes
   pub failing_flushes : new.failing_flushes ≡ old.failing_flushes

@@ -1,4 +1,4 @@
--- What calls of the outside do to what it tells and to its counts of faults.
+-- What calls of devices do to what is observable of them and to their counts of faults.
 use Rattle.std.specs.Prelude.{◌≡◌, ℕ, ◌+◌, ◌-◌, ◌^◌, ◌<◌, ◌≤◌, min, List, [], ◌∷◌, ◌++◌, OnOk, OnErr, Option, Some, None, Result, Ok, Err}
 
 -- the count rose, or stands at its greatest value
@@ -11,31 +11,31 @@ pub record HasCause {T E : Type 0} (before now : ℕ) (result : Result T E) : Ty
   pub ok : OnOk result (now ≡ before)
   pub failed : OnErr result (Rose before now)
 
--- the list that is told after a call was told before, and grew by this name
+-- the list that is observable after a call was so before, and grew by this name
 abbrev pub GrewByName : Option (List (List ℕ)) → Option (List (List ℕ)) → List ℕ → Type 0
 GrewByName before None name = Unit {0}
 GrewByName None (Some now) name = ⊥
 GrewByName (Some before) (Some now) name = now ≡ before ++ name ∷ []
 
--- the list that is told after a call was told before, and is the same
+-- the list that is observable after a call was so before, and is the same
 abbrev pub KeptNames : Option (List (List ℕ)) → Option (List (List ℕ)) → Type 0
 KeptNames before None = Unit {0}
 KeptNames None (Some now) = ⊥
 KeptNames (Some before) (Some now) = now ≡ before
 
--- the number that is told after a call was told before, and is one more
+-- the number that is observable after a call was so before, and is one more
 abbrev pub RaisedByOne : Option ℕ → Option ℕ → Type 0
 RaisedByOne before None = Unit {0}
 RaisedByOne None (Some now) = ⊥
 RaisedByOne (Some before) (Some now) = now ≡ before + 1
 
--- the number that is told after a call was told before, and is one less
+-- the number that is observable after a call was so before, and is one less
 abbrev pub LoweredByOne : Option ℕ → Option ℕ → Type 0
 LoweredByOne before None = Unit {0}
 LoweredByOne None (Some now) = ⊥
 LoweredByOne (Some before) (Some now) = before ≡ now + 1
 
--- the number that is told after a call was told before, and is the same
+-- the number that is observable after a call was so before, and is the same
 abbrev pub KeptNumber : Option ℕ → Option ℕ → Type 0
 KeptNumber before None = Unit {0}
 KeptNumber None (Some now) = ⊥

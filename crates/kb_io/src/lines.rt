@@ -1,10 +1,11 @@
+//! Inputs by lines.
 ghost use Rattle.std.specs.Prelude.{◌≡◌, ◌<◌, IfOk, [], List, ℕ};
 ghost use Rattle.kb_io.specs.Lines.{newlines};
 ghost use Rattle.kb_io.specs.Pending.{NextLine, GivesLine};
 ghost use Rattle.kb_io.specs.declared.lines.LineError.TheVariants.{Fault};
 
-use crate::buffer::Buffer;
-use crate::outside::{Failed, Source};
+use crate::line_buffer::Buffer;
+use crate::traits::{Failed, Source};
 use std::alloc::{AllocError, Global};
 use std::marker::Model;
 use thiserror::Error;
@@ -39,17 +40,6 @@ impl From<Failed> for LineError {
     }
 }
 
-/// Want of memory.
-#[derive(Clone, Copy, Debug, Error)]
-#[error("no memory")]
-pub struct Memory;
-
-impl From<AllocError> for Memory {
-    fn from(_e: AllocError) -> Memory {
-        Memory
-    }
-}
-
 /// What is known of a source that is read by lines. It has all the memory that reading by lines takes.
 #[derive(Drop)]
 pub struct LineState {
@@ -70,7 +60,7 @@ impl Model for LineState {
 
 impl LineState {
     /// No byte was taken.
-    pub fn new(alloc: Global) -> Result<LineState, Memory>
+    pub fn new(alloc: Global) -> Result<LineState, AllocError>
         ensures { IfOk result (λ state. state ≡ record { taken = 0; ahead = []; line = [] }) }
     {
         Ok(LineState {
@@ -78,7 +68,7 @@ impl LineState {
         })
     }
 
-    /// The line that `next_line` answered last, without its newline. It is empty after any other answer.
+    /// The line that `next_line` returned last, without its newline. It is empty after any other result.
     pub fn line(&self) -> &[u8]
         ensures { result.now ≡ self.now.line }
     {
@@ -88,7 +78,8 @@ impl LineState {
 
 /// Reads the next line. The source is read only where no whole line was taken of it before.
 pub fn next_line<S: Source>(src: &mut S, state: &mut LineState) -> Result<Next, LineError>
-    ensures next { NextLine result state.old state.new (S.left src.old) (S.left src.new) (S.faults src.old) (S.faults src.new) }
+    ensures next { NextLine result state.old state.new (S.left src.old) (S.left src.new) (S.faults src.old)
+        (S.faults src.new) }
     ensures lines { GivesLine result state.old state.new (S.left src.old) (S.left src.new) }
     ensures still { 0 < newlines state.old.ahead → src.new ≡ src.old }
 {

@@ -1,10 +1,11 @@
+//! A shelf of files in memory.
 ghost use Rattle.std.specs.Prelude.{◌≡◌, ◌≢◌, ℕ, ◌+◌, ◌^◌, List, ◌<◌, ◌≤◌, None, IfOk, IfSome, MatchResult, Some, length};
 ghost use Rattle.std.specs.Option.{option_map};
 ghost use Rattle.kb_io.specs.Outside.{HasCause, GrewByName, KeptNames, Closes, OpensOne, RaisedByOne, LoweredByOne};
 ghost use Rattle.kb_io.specs.Files.{source_named, file_named, without, AreFresh, NamesDiffer, names_of};
 
-use crate::outside::{Failed, Shelf};
 use crate::source::{MemFile, MemSource};
+use crate::traits::{Failed, Shelf};
 use std::marker::Model;
 
 /// A shelf of files in memory, each of which it hands out once. Another name and a second opening are faults.
@@ -22,7 +23,13 @@ impl Model for MemShelf {
 
     ghost Value = { ShelfState };
 
-    ghost view = { λ s. record { files = s.files.items; asked = option_map (λ names. names_of names.items) s.asked; open_sources = s.open_sources; faults = s.faults } };
+    ghost view = { λ s. record {
+      files = s.files.items;
+      asked = option_map
+          (λ names. names_of names.items) s.asked;
+      open_sources = s.open_sources;
+      faults = s.faults;
+    } };
 
     ghost invariant = { λ s. NamesDiffer s.files.items × AreFresh s.files.items };
 }
@@ -32,7 +39,13 @@ impl MemShelf {
     pub fn new(files: Vec<MemFile>, asked: Vec<String>) -> MemShelf
         requires differ { NamesDiffer files.items }
         requires fresh { AreFresh files.items }
-        ensures { result ≡ record { files = files.items; asked = Some (names_of asked.items); open_sources = Some 0; faults = 0 } }
+        ensures { result ≡ record {
+          files = files.items;
+          asked = Some
+              (names_of asked.items);
+          open_sources = Some 0;
+          faults = 0;
+        } }
     {
         MemShelf {
             files,
@@ -59,7 +72,8 @@ fn take_named(files: &mut Vec<MemFile>, name: &str) -> Option<MemSource>
 
 // Writes the name down, or gives the list up where there is no memory.
 fn write_down(asked: &mut Option<Vec<String>>, name: &str)
-    ensures { GrewByName (option_map (λ names. names_of names.items) asked.old) (option_map (λ names. names_of names.items) asked.new) name.now }
+    ensures { GrewByName (option_map (λ names. names_of names.items) asked.old) (option_map
+        (λ names. names_of names.items) asked.new) name.now }
 {
     if let Some(mut names) = asked.take() {
         if let Ok(copy) = String::from_str(*names.allocator(), name) {
@@ -70,16 +84,16 @@ fn write_down(asked: &mut Option<Vec<String>>, name: &str)
     }
 }
 
-// One more, or no longer told where the number would not fit.
-fn one_more(count: Option<u64>) -> Option<u64>
+// One more, or no longer observable where the number would not fit.
+fn checked_succ(count: Option<u64>) -> Option<u64>
     ensures raised { RaisedByOne count result }
     ensures told { IfSome count (λ n. n + 1 < 2 ^ 64 → result ≡ Some (n + 1)) }
 {
     count?.checked_add(1)
 }
 
-// One less, or no longer told where there was none.
-fn one_less(count: Option<u64>) -> Option<u64>
+// One less, or no longer observable where there was none.
+fn checked_pred(count: Option<u64>) -> Option<u64>
     ensures lowered { LoweredByOne count result }
     ensures told { (n : ℕ) → count ≡ Some (n + 1) → result ≡ Some n }
 {
@@ -99,22 +113,26 @@ impl Shelf for MemShelf {
 
     fn open(&mut self, name: &str) -> Result<MemSource, Failed>
         ensures fresh { IfOk result (λ src. src.faults ≡ 0) }
-        ensures bytes { IfOk result (λ src. IfSome (file_named self.old.files name.now) (λ bytes. Some src.left ≡ Some bytes)) }
-        ensures others { (other : List ℕ) → other ≢ name.now → file_named self.new.files other ≡ file_named self.old.files other }
+        ensures bytes { IfOk result (λ src. IfSome (file_named self.old.files name.now)
+            (λ bytes. Some src.left ≡ Some bytes)) }
+        ensures others { (other : List ℕ) → other ≢ name.now
+            → file_named self.new.files other ≡ file_named self.old.files other }
         ensures names { GrewByName self.old.asked self.new.asked name.now }
         ensures handed_out { OpensOne result self.old.open_sources self.new.open_sources }
         ensures cause { HasCause self.old.faults self.new.faults result }
 
         // Each file is handed out once, as it lies there, and nothing else is.
-        ensures named { MatchResult result (λ src. source_named self.old.files name.now ≡ Some src) (λ _. source_named self.old.files name.now ≡ None) }
+        ensures named { MatchResult result (λ src. source_named self.old.files name.now ≡ Some src)
+            (λ _. source_named self.old.files name.now ≡ None) }
         ensures rest { self.new.files ≡ without name.now self.old.files }
         ensures once { source_named self.new.files name.now ≡ None }
-        ensures told { IfOk result (λ _. IfSome self.old.open_sources (λ n. n + 1 < 2 ^ 64 → self.new.open_sources ≡ Some (n + 1))) }
+        ensures told { IfOk result (λ _. IfSome self.old.open_sources (λ n. n + 1 < 2 ^ 64
+            → self.new.open_sources ≡ Some (n + 1))) }
     {
         write_down(&mut self.asked, name);
         match take_named(&mut self.files, name) {
             Some(source) => {
-                self.open_sources = one_more(self.open_sources);
+                self.open_sources = checked_succ(self.open_sources);
                 Ok(source)
             }
             None => {
@@ -135,7 +153,7 @@ impl Shelf for MemShelf {
         ensures asked { self.new.asked ≡ self.old.asked }
         ensures told { (n : ℕ) → self.old.open_sources ≡ Some (n + 1) → self.new.open_sources ≡ Some n }
     {
-        self.open_sources = one_less(self.open_sources);
+        self.open_sources = checked_pred(self.open_sources);
         if src.faults() > 0 {
             self.faults = self.faults.saturating_add(1);
         }

@@ -1,13 +1,14 @@
+//! Sinks in memory.
 ghost use Rattle.std.specs.Prelude.{◌≡◌, ◌<◌, ◌≤◌, ℕ, List, Option, Some, None, IfOk, length};
 ghost use Rattle.std.specs.Io.KnownBytes.{WriteAppends, Keeps};
 ghost use Rattle.kb_io.specs.Outside.{HasCause};
-ghost use Rattle.kb_io.specs.Memory.{SinkState, WritesAsTold, FlushesAsTold};
+ghost use Rattle.kb_io.specs.Memory.{SinkState, WritesAsScripted, FlushesAsScripted};
 
-use crate::outside::{Failed, Sink};
 use crate::source::piece_of;
+use crate::traits::{Failed, Sink};
 use std::marker::Model;
 
-/// A sink over memory, which fails and takes pieces as it is told to. Its writes and its flushes are counted
+/// A sink over memory, which fails and takes pieces exactly as scripted. Its writes and its flushes are counted
 /// apart, each from 0. A write that finds no memory is a fault too.
 #[derive(Drop)]
 pub struct MemSink {
@@ -25,7 +26,15 @@ impl Model for MemSink {
 
     ghost Value = { SinkState };
 
-    ghost view = { λ s. record { held = s.held.items; failing_writes = s.failing_writes.items; failing_flushes = s.failing_flushes.items; pieces = s.pieces.items; writes = s.writes; flushes = s.flushes; faults = s.faults } };
+    ghost view = { λ s. record {
+      held = s.held.items;
+      failing_writes = s.failing_writes.items;
+      failing_flushes = s.failing_flushes.items;
+      pieces = s.pieces.items;
+      writes = s.writes;
+      flushes = s.flushes;
+      faults = s.faults;
+    } };
 }
 
 impl MemSink {
@@ -37,7 +46,15 @@ impl MemSink {
         failing_flushes: Vec<u64>,
         pieces: Vec<usize>,
     ) -> MemSink
-        ensures { result ≡ record { held = held.items; failing_writes = failing_writes.items; failing_flushes = failing_flushes.items; pieces = pieces.items; writes = 0; flushes = 0; faults = 0 } }
+        ensures { result ≡ record {
+          held = held.items;
+          failing_writes = failing_writes.items;
+          failing_flushes = failing_flushes.items;
+          pieces = pieces.items;
+          writes = 0;
+          flushes = 0;
+          faults = 0;
+        } }
     {
         MemSink {
             held,
@@ -68,7 +85,7 @@ impl Sink for MemSink {
         ensures some { 0 < length piece.now → IfOk result (λ n. 0 < n) }
         ensures bytes { WriteAppends (Some self.old.held) (Some self.new.held) result piece.now }
         ensures cause { HasCause self.old.faults self.new.faults result }
-        ensures told { WritesAsTold self.old self.new result (length piece.now) }
+        ensures told { WritesAsScripted self.old self.new result (length piece.now) }
     {
         let call = self.writes;
         self.writes = call.saturating_add(1);
@@ -87,7 +104,7 @@ impl Sink for MemSink {
     fn flush(&mut self) -> Result<(), Failed>
         ensures bytes { Keeps (Some self.old.held) (Some self.new.held) }
         ensures cause { HasCause self.old.faults self.new.faults result }
-        ensures told { FlushesAsTold self.old self.new result }
+        ensures told { FlushesAsScripted self.old self.new result }
     {
         let call = self.flushes;
         self.flushes = call.saturating_add(1);

@@ -1,12 +1,13 @@
+//! Sources in memory.
 ghost use Rattle.std.specs.Prelude.{◌≡◌, ◌<◌, ◌≤◌, ℕ, List, Option, Some, IfOk, length, slice_get};
 ghost use Rattle.std.specs.Io.KnownBytes.{ReadConsumes};
 ghost use Rattle.kb_io.specs.Outside.{HasCause};
-ghost use Rattle.kb_io.specs.Memory.{SourceState, ReadsAsTold, piece};
+ghost use Rattle.kb_io.specs.Memory.{SourceState, ReadsAsScripted, piece};
 
-use crate::outside::{Failed, Source};
+use crate::traits::{Failed, Source};
 use std::marker::Model;
 
-/// A source over bytes in memory, which fails and gives pieces as it is told to. Its reads are counted from 0.
+/// A source over bytes in memory, which fails and gives pieces exactly as scripted. Its reads are counted from 0.
 #[derive(Drop)]
 pub struct MemSource {
     bytes: Vec<u8>,
@@ -23,7 +24,13 @@ impl Model for MemSource {
 
     ghost Value = { SourceState };
 
-    ghost view = { λ s. record { left = drop s.at s.bytes.items; failing = s.failing.items; pieces = s.pieces.items; calls = s.calls; faults = s.faults } };
+    ghost view = { λ s. record {
+      left = drop s.at s.bytes.items;
+      failing = s.failing.items;
+      pieces = s.pieces.items;
+      calls = s.calls;
+      faults = s.faults;
+    } };
 
     ghost invariant = { λ s. s.at ≤ length s.bytes.items };
 }
@@ -32,7 +39,13 @@ impl MemSource {
     /// All bytes are left, and no call was made. The calls whose numbers are in `failing` fail. Any other call
     /// gives at most as many bytes as the item of `pieces` at its number says.
     pub fn new(bytes: Vec<u8>, failing: Vec<u64>, pieces: Vec<usize>) -> MemSource
-        ensures { result ≡ record { left = bytes.items; failing = failing.items; pieces = pieces.items; calls = 0; faults = 0 } }
+        ensures { result ≡ record {
+          left = bytes.items;
+          failing = failing.items;
+          pieces = pieces.items;
+          calls = 0;
+          faults = 0;
+        } }
     {
         MemSource {
             bytes,
@@ -70,7 +83,7 @@ impl Source for MemSource {
         ensures bound { IfOk result (λ n. n ≤ length buf.new) }
         ensures bytes { ReadConsumes (Some self.old.left) (Some self.new.left) result buf.new }
         ensures cause { HasCause self.old.faults self.new.faults result }
-        ensures told { ReadsAsTold self.old self.new result (length buf.old) }
+        ensures told { ReadsAsScripted self.old self.new result (length buf.old) }
     {
         let call = self.calls;
         self.calls = call.saturating_add(1);

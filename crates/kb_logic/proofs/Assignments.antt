@@ -1,4 +1,4 @@
--- All assignments of some variables, by those of a front of the variables, and by their numbers.
+-- All assignments of some variables, by those of the first of the variables, and by their numbers.
 use Rattle.std.proofs.Common.{◌≡◌, ℕ, suc, ◌+◌, ◌*◌, ◌<◌, List, [], ◌∷◌, ◌++◌, map, length, get_or, take, refl, sym, ap, ◌∙◌, arith}
 use Rattle.std.specs.List.{AllByRecursion}
 use Rattle.std.proofs.lemmas.List.{map-append, map-id, append-nil, length-map, take_more}
@@ -30,7 +30,7 @@ tuples-append : (ds es : List (List Elem)) → tuples_over (ds ++ es) ≡ pairs 
 tuples-append [] es = sym (append-nil (map (joined []) (tuples_over es)) ∙ map-id (tuples_over es))
 tuples-append (d ∷ ds) es = ap (λ T. pairs before T d) (tuples-append ds es) ∙ pairs-joined (tuples_over es) (tuples_over ds) d
 
--- an assignment of all variables is one of the front with one of the rest
+-- an assignment of all variables is one of the first variables with one of the rest
 pub choices-append : (domains : List (List Elem)) (xs ys : List Bound) → choices domains (xs ++ ys) ≡ pairs joined (choices domains ys) (choices domains xs)
 choices-append domains xs ys =
     ap (tuples_of domains) (map-append (λ (b : Bound). b.ty) xs ys)
@@ -51,7 +51,7 @@ choice_length domains bs k h =
     let ds = map (domain_at domains) types in
     all_at (λ (a : List Elem). length a ≡ length ds) (tuples_over ds) k [] h (tuple_lengths ds) ∙ length-map types (domain_at domains) ∙ length-map bs (λ (b : Bound). b.ty)
 
--- one variable more at the end of a front
+-- one variable more at the end of the first ones
 pub count_more : (domains : List (List Elem)) (bs : List Bound) (i : ℕ) (b : Bound) → i < length bs → b ≡ get_or bs i b
     → length (choices domains (take (i + 1) bs)) ≡ length (choices domains (take i bs)) * length (domain_at domains b.ty)
 count_more domains bs i b h at =

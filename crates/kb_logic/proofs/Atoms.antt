@@ -5,6 +5,7 @@ use Rattle.std.proofs.lemmas.Bool.{cases_Bool, eqb-true}
 use Rattle.std.proofs.lemmas.Bool.Decides.{Decides-int_eq}
 use Rattle.std.proofs.lemmas.Slice.Eq.{bytes_eq-Decides}
 use Rattle.kb_logic.specs.declared.elements.Elem.{Elem}
+use Rattle.kb_logic.specs.declared.elements.Elem.TheVariants.{Named, Num}
 use Rattle.kb_logic.specs.declared.vocabularies.Symbol.{Symbol}
 use Rattle.kb_logic.specs.declared.structures.Table.{Table}
 use Rattle.kb_logic.specs.Structures.{domain_at, tuples_of, EachWith, IsRelation, predicates_of}
@@ -12,7 +13,7 @@ use Rattle.kb_logic.specs.Denotations.{Denotation, named, number, minus_infinity
 use Rattle.kb_logic.specs.Meaning.{rows_of, behind, is_end, has_row, values_of}
 use Rattle.kb_logic.specs.Laws.{AtomIsMembership, AtomIsInItsTypes}
 use Rattle.kb_logic.proofs.Assignments.{before}
-use Rattle.kb_logic.proofs.Members.{first, later, none_in, member_cases, from_filter, from_pairs}
+use Rattle.kb_logic.proofs.Members.{first, later, none_in, member_cases, from_filter, in_pairs, from_pairs}
 
 pub same_is : (a b : Denotation) → same_value a b ≡ true → a ≡ b
 same_is (named a) (named b) h = ap named ((bytes_eq-Decides a b).0 h)
@@ -22,7 +23,7 @@ same_is plus_infinity plus_infinity h = refl
 same_is undefined undefined h = refl
 same_is a b h = cc
 
-is_same : (a : Denotation) → same_value a a ≡ true
+pub is_same : (a : Denotation) → same_value a a ≡ true
 is_same (named n) = (bytes_eq-Decides n n).1 refl
 is_same (number z) = (Decides-int_eq z z).1 refl
 is_same minus_infinity = refl
@@ -49,7 +50,7 @@ either_row : (b : Bool) (rs : List (List Elem)) (vs : List Denotation) → cond 
 either_row true rs vs h = inl refl
 either_row false rs vs h = inr h
 
-row_in : (rows : List (List Elem)) (vs : List Denotation) → has_row rows vs ≡ true → (row : List Elem) × Contains rows row × (map denotation_of row ≡ vs)
+pub row_in : (rows : List (List Elem)) (vs : List Denotation) → has_row rows vs ≡ true → (row : List Elem) × Contains rows row × (map denotation_of row ≡ vs)
 row_in [] vs h = cc
 row_in (r ∷ rs) vs h = elim (either_row (is_end (behind r vs)) rs vs h) [
   | inl e ↦ (r, first r rs, row_is r vs e)
@@ -64,12 +65,31 @@ yes_second : (b c : Bool) → c ≡ true → cond b true c ≡ true
 yes_second true c h = refl
 yes_second false c h = h
 
-in_rows : (rows : List (List Elem)) (row : List Elem) → Contains rows row → has_row rows (map denotation_of row) ≡ true
+pub in_rows : (rows : List (List Elem)) (row : List Elem) → Contains rows row → has_row rows (map denotation_of row) ≡ true
 in_rows [] row at = absurd (none_in row at)
 in_rows (r ∷ rs) row at = elim (member_cases r row rs at) [
   | inl e ↦ yes_first (is_end (behind r (map denotation_of row))) (has_row rs (map denotation_of row)) (subst (λ s. is_end (behind s (map denotation_of row)) ≡ true) (sym e) (is_row row))
   | inr more ↦ yes_second (is_end (behind r (map denotation_of row))) (has_row rs (map denotation_of row)) (in_rows rs row more)
 ]
+
+pub denotes_one : (x y : Elem) → denotation_of x ≡ denotation_of y → x ≡ y
+denotes_one (Named a) (Named b) h = cc
+denotes_one (Named a) (Num z) h = cc
+denotes_one (Num y) (Named b) h = cc
+denotes_one (Num y) (Num z) h = cc
+
+denote_row : (a b : List Elem) → map denotation_of a ≡ map denotation_of b → a ≡ b
+denote_row [] [] h = refl
+denote_row [] (y ∷ b) h = cc
+denote_row (x ∷ a) [] h = cc
+denote_row (x ∷ a) (y ∷ b) h =
+    let one : denotation_of x ≡ denotation_of y = cc in
+    let rest : map denotation_of a ≡ map denotation_of b = cc in
+    ap (λ z. z ∷ a) (denotes_one x y one) ∙ ap (λ c. y ∷ c) (denote_row a b rest)
+
+-- a row passes the test exactly where it is among the rows
+pub among : (rows : List (List Elem)) (row : List Elem) → has_row rows (map denotation_of row) ≡ true → Contains rows row
+among rows row h = let r = row_in rows (map denotation_of row) h in subst (Contains rows) (denote_row r.0 row r.2) r.1
 
 pub atom_is_membership : AtomIsMembership
 atom_is_membership m n ts e = (
@@ -105,6 +125,12 @@ tuple_elements domains [] a at = elim (member_cases [] a [] at) [ inl e ↦ subs
 tuple_elements domains (ty ∷ types) a at =
     let r = from_pairs before (tuples_of domains types) (domain_at domains ty) a at in
     subst (EachWith (λ (ty : ℕ) (x : Elem). Contains (domain_at domains ty) x) (ty ∷ types)) r.4 (r.2, tuple_elements domains types r.1 r.3)
+
+pub elements_tuple : (domains : List (List Elem)) (types : List ℕ) (a : List Elem) → EachWith (λ ty x. Contains (domain_at domains ty) x) types a → Contains (tuples_of domains types) a
+elements_tuple domains [] [] h = first [] []
+elements_tuple domains [] (x ∷ a) h = absurd h
+elements_tuple domains (ty ∷ types) [] h = absurd h
+elements_tuple domains (ty ∷ types) (x ∷ a) h = in_pairs before (tuples_of domains types) (domain_at domains ty) x a h.0 (elements_tuple domains types a h.1)
 
 denoted : (domains : List (List Elem)) (types : List ℕ) (row : List Elem) → EachWith (λ ty x. Contains (domain_at domains ty) x) types row
     → EachWith (λ ty d. (x : Elem) × Contains (domain_at domains ty) x × (denotation_of x ≡ d)) types (map denotation_of row)

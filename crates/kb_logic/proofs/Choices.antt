@@ -32,7 +32,7 @@ choice_is m (b ∷ bs) (x ∷ a) h = in_pairs before (assignments m bs) (domain_
 pub assignments_are_choices : AssignmentsAreChoices
 assignments_are_choices m bs a = (is_choice m bs a, choice_is m bs a)
 
-domain_is_distinct : (domains : List (List Elem)) (ty : ℕ) → AllByRecursion IsDistinct domains → IsDistinct (domain_at domains ty)
+pub domain_is_distinct : (domains : List (List Elem)) (ty : ℕ) → AllByRecursion IsDistinct domains → IsDistinct (domain_at domains ty)
 domain_is_distinct [] ty h = tt
 domain_is_distinct (d ∷ domains) zero h = h.0
 domain_is_distinct (d ∷ domains) (suc ty) h = domain_is_distinct domains ty h.1

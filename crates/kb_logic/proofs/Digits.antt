@@ -44,7 +44,7 @@ same_at [] n x y h = absurd (omega arith)
 same_at (z ∷ xs) zero x y h = refl
 same_at (z ∷ xs) (suc n) x y h = same_at xs n x y (omega arith)
 
-whole : (domains : List (List Elem)) (bs : List Bound) (i : ℕ) (b : Bound) (dom : List Elem) → i < length bs → b ≡ get_or bs i b → dom ≡ domain_at domains b.ty
+pub whole : (domains : List (List Elem)) (bs : List Bound) (i : ℕ) (b : Bound) (dom : List Elem) → i < length bs → b ≡ get_or bs i b → dom ≡ domain_at domains b.ty
     → choices domains (drop i bs) ≡ pairs before (choices domains (drop (i + 1) bs)) dom
 whole domains bs i b dom h at is =
     at_drop_more (choices domains) bs i b h ∙ ap (λ y. choices domains (y ∷ drop (i + 1) bs)) (sym at) ∙ ap (pairs before (choices domains (drop (i + 1) bs))) (sym is)

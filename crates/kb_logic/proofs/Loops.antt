@@ -1,4 +1,4 @@
--- The loops over the assignments of a front of a binder's variables.
+-- The loops over the assignments of the first of a binder's variables.
 use Rattle.std.proofs.Common.{◌≡◌, ℕ, ◌<◌, List, [], ◌∷◌, ◌++◌, length, get_or, Bool, cond, sym, ap, ◌∙◌, append_assoc}
 use Rattle.std.specs.List.{list_all, list_any, count_by, sum_by, flat_map, fold, AllByRecursion}
 use Rattle.std.proofs.lemmas.List.Sums.{fold-append}
@@ -44,7 +44,7 @@ module _ (m : Structure) (bounds these others : List Bound) (split : bounds ≡ 
   pub values_by_front : (P : List Elem → Bool) (V : List Elem → Denotation) → values_where P V (assignments m bounds) ≡ flat_map (values_after m others P V) (assignments m these)
   values_by_front P V = ap (values_where P V) parts ∙ kept-pairs P V joined (assignments m others) (assignments m these)
 
-  -- what holds under all assignments holds under those that begin with the front's assignment number i
+  -- what holds under all assignments holds under those that begin with their assignment number i
   pub each_inside : (Q : List Elem → Type 0) (e inner : List Elem) (i : ℕ) → i < length (assignments m these) → inner ≡ e ++ get_or (assignments m these) i []
       → AllByRecursion (λ a. Q (e ++ a)) (assignments m bounds) → AllByRecursion (λ b. Q (inner ++ b)) (assignments m others)
   each_inside Q e inner i h is all =

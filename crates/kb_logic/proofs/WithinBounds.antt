@@ -17,7 +17,7 @@ use Rattle.kb_logic.specs.Structures.{domain_at, IsStructure}
 use Rattle.kb_logic.specs.Denotations.{Denotation, named, number, minus_infinity, plus_infinity, undefined, as_number, added, lower_value}
 use Rattle.kb_logic.specs.Meaning.{assignments, value_of, values_of, truth_of, sum_of, summand_plus, number_value, product_from, values_where, signed_of}
 use Rattle.kb_logic.specs.Arithmetic.{start, combined, NumberFits, FoldFits, ProductFits, TermFits, TermsFit, SummandsFit, ArithmeticFits, AllFit}
-use Rattle.kb_logic.specs.Bounds.{Interval, exactly, signed_interval, interval_sum, interval_product, below_zero, above_zero, aggregate_bounds, types_of, bounds_of, factor_bounds, summand_bounds, front_bounds, IsSmall, TermIsBounded, TermsAreBounded, SummandsAreBounded, IsBounded, AreBounded, HasTypes, IsWithin, ValueIsWithin, ValuesLieWithinBounds, SmallBoundsFit}
+use Rattle.kb_logic.specs.Bounds.{Interval, exactly, signed_interval, interval_sum, interval_product, below_zero, above_zero, aggregate_bounds, types_of, bounds_of, factor_bounds, summand_bounds, front_bounds, IsSmall, TermIsBounded, TermsAreBounded, SummandsAreBounded, IsBounded, AreBounded, HasTypes, IsWithin, ValueIsWithin, ValuesLieWithinBounds, SmallBoundsFit, SmallTermsFit}
 use Rattle.kb_logic.specs.Laws.{IsChoice}
 use Rattle.kb_logic.proofs.Aggregates.{aggregate_is_fold}
 use Rattle.kb_logic.proofs.Choices.{is_choice}
@@ -288,3 +288,6 @@ values_lie_within_bounds v m is t scope e h = value_within v m is t scope e h
 
 pub small_bounds_fit : SmallBoundsFit
 small_bounds_fit v m is f scope e h small = formula_fits v m is f scope e h small
+
+pub small_terms_fit : SmallTermsFit
+small_terms_fit v m is t scope e h small = term_fits v m is t scope e h small

@@ -13,7 +13,7 @@ use Rattle.kb_logic.specs.Trees.{TermTree, variable, integer, constructed, appli
 use Rattle.kb_logic.specs.Structures.{domain_at, choices, EachWith, IsStructure}
 use Rattle.kb_logic.specs.Denotations.{Denotation, number}
 use Rattle.kb_logic.specs.Meaning.{value_of}
-use Rattle.kb_logic.specs.Arithmetic.{ArithmeticFits}
+use Rattle.kb_logic.specs.Arithmetic.{ArithmeticFits, TermFits}
 
 -- the integers from low to high
 pub record Interval : Type 0 where
@@ -109,7 +109,7 @@ bound_limit = 1000000000000000
 abbrev pub IsSmall : Interval → Type 0
 IsSmall i = (neg_ℤ (pos bound_limit) ≤ℤ i.low) × (i.high ≤ℤ pos bound_limit)
 
--- the bounds of each front of a chain of operands, which counts as a term of its own
+-- the bounds of each prefix of a chain of operands, which counts as a term of its own
 abbrev pub front_bounds : (Interval → Interval → Interval) → Interval → List Interval → List Interval
 front_bounds step i [] = []
 front_bounds step i (j ∷ js) = step i j ∷ front_bounds step (step i j) js
@@ -190,3 +190,9 @@ abbrev pub SmallBoundsFit : Type 0
 SmallBoundsFit =
     (v : Vocabulary) (m : Structure) → IsStructure v m → (f : FormulaTree) (scope : List ℕ) (e : List Elem) → HasTypes m.domains scope e
     → IsBounded v m.domains f scope → ArithmeticFits m f e
+
+-- and so does a term, as that of a term block
+abbrev pub SmallTermsFit : Type 0
+SmallTermsFit =
+    (v : Vocabulary) (m : Structure) → IsStructure v m → (t : TermTree) (scope : List ℕ) (e : List Elem) → HasTypes m.domains scope e
+    → TermIsBounded v m.domains t scope → TermFits m t e

@@ -8,7 +8,7 @@ use Rattle.kb_logic.specs.declared.vocabularies.Vocabulary.{Vocabulary}
 use Rattle.kb_logic.specs.declared.structures.Structure.{Structure}
 use Rattle.kb_logic.specs.declared.syntax.Cmp.TheVariants as cmp
 use Rattle.kb_logic.specs.declared.syntax.AggKind.TheVariants as kind
-use Rattle.kb_logic.specs.Trees.{TermTree, variable, integer, constructed, application, summation, product, aggregate, no_terms, more_terms, no_summands, more_summands, FormulaTree, verum, falsum, atom, comparison, negation, conjunction, disjunction, implication, equivalence, universal, existential, numbered, no_formulas, more_formulas, RuleTree, TheoryTree}
+use Rattle.kb_logic.specs.Trees.{TermTree, variable, integer, constructed, application, summation, product, aggregate, no_terms, more_terms, no_summands, more_summands, FormulaTree, verum, falsum, atom, comparison, negation, conjunction, disjunction, implication, equivalence, universal, existential, numbered, no_formulas, more_formulas, RuleTree, DefinitionTree, TheoryTree}
 use Rattle.kb_logic.specs.Denotations.{Denotation, number, minus_infinity, plus_infinity, undefined}
 use Rattle.kb_logic.specs.Meaning.{value_of, truth_of}
 use Rattle.kb_logic.specs.Bounds.{Interval, bounds_of, width_of}
@@ -149,6 +149,28 @@ rule = record { vars = over 0; symbol = 0; args = x ∷ []; value = None; body =
 abbrev theory : TheoryTree
 theory = record { sentences = universal (over 0) (small x) ∷ []; definitions = [] }
 
+-- `sum{x : small(x) : weight(x)} = 5.`
+abbrev sum_sentence : FormulaTree
+sum_sentence = comparison cmp.Eq (aggregate kind.Sum (over 0) (small x) (weight x)) (integer (pos 5))
+
+-- `weight(x) = 2 <- small(x)`
+abbrev valued_rule : RuleTree
+valued_rule = record { vars = over 0; symbol = 1; args = x ∷ []; value = Some (integer (pos 2)); body = small x }
+
+abbrev weight_with : List FormulaTree → List DefinitionTree → List TermTree → ℕ
+weight_with sentences definitions terms = weight_of words sample.domains (record { sentences = sentences; definitions = definitions }) terms
+
+-- the weight of an aggregate with an application in its weight, of an application in another, of a number quantifier, of a
+-- definition of a function, of a term that may be asked for, and of a count
+abbrev pub Weights : Type 0
+Weights =
+    (weight_with (sum_sentence ∷ []) [] [] ≡ 64)
+    × (weight_with (small (weight (weight (integer (pos 1)))) ∷ []) [] [] ≡ 48)
+    × (weight_with (numbered cmp.Eq (pos 2) (over 0) (small x) ∷ []) [] [] ≡ 28)
+    × (weight_with [] (record { rules = valued_rule ∷ [] } ∷ []) [] ≡ 40)
+    × (weight_with [] [] (weight (integer (pos 1)) ∷ []) ≡ 24)
+    × (weight_with [] [] (aggregate kind.Count (over 0) (small x) (integer (pos 1)) ∷ []) ≡ 40)
+
 -- static bounds, a width, ground atoms (3 of small and 9 of weight), the occurrences of a rule, and the weight of a theory
 abbrev pub Sizes : Type 0
 Sizes =
@@ -165,4 +187,4 @@ Sizes =
     × (weight_of words sample.domains theory [] ≡ 28)
 
 abbrev pub WorkedExamples : Type 0
-WorkedExamples = Connectives × Atoms × Quantifiers × Arithmetic × Aggregates × Ends × Sizes
+WorkedExamples = Connectives × Atoms × Quantifiers × Arithmetic × Aggregates × Ends × Sizes × Weights

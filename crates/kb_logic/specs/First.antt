@@ -1,19 +1,23 @@
 -- Knowledge bases of the first profile: predicates that the data give whole or not at all, and sentences of connectives,
 -- quantifiers and atoms over variables.
-use Rattle.std.specs.Prelude.{◌≡◌, ◌≢◌, ◌<◌, ℕ, List, [], ◌∷◌, ◌++◌, map, length, sum_by, is_some, ◌||◌, if◌then◌else◌, ◌==◌, Bool, None, Some, slice_get, Contains, ⊤}
+use Rattle.std.specs.Prelude.{◌≡◌, ◌≢◌, ◌<◌, ◌↔◌, ℕ, List, [], ◌∷◌, ◌++◌, map, filter, length, sum_by, is_some, ◌&&◌, ◌||◌, not, if◌then◌else◌, ◌==◌, Bool, None, Some, slice_get, Contains, ⊤}
 use Rattle.std.specs.List.{AllByRecursion, list_any, enumerate_from}
 use Rattle.kb_logic.specs.declared.elements.Elem.{Elem}
 use Rattle.kb_logic.specs.declared.vocabularies.TypeDecl.{TypeDecl}
 use Rattle.kb_logic.specs.declared.vocabularies.Parent.TheVariants.{Root}
 use Rattle.kb_logic.specs.declared.vocabularies.Symbol.{Symbol}
+use Rattle.kb_logic.specs.declared.structures.Literal.{Literal}
 use Rattle.kb_logic.specs.declared.structures.Table.{Table}
 use Rattle.kb_logic.specs.declared.structures.Structure.{Structure}
 use Rattle.kb_logic.specs.declared.first.FirstKb.{FirstKb}
 use Rattle.kb_logic.specs.Trees.{TermTrees, no_terms, more_terms, variable, FormulaTree, verum, falsum, atom, comparison, negation, conjunction, disjunction, implication, equivalence, universal, existential, numbered, FormulaTrees, no_formulas, more_formulas}
 use Rattle.kb_logic.specs.Views.{formula_view, theory_view}
 use Rattle.kb_logic.specs.Structures.{domain_at, tuples_of, IsDistinct, EachWith, IsStructure}
-use Rattle.kb_logic.specs.Meaning.{rows_of}
-use Rattle.kb_logic.specs.Models.{ModelOfTheory}
+use Rattle.kb_logic.specs.Denotations.{denotation_of}
+use Rattle.kb_logic.specs.Meaning.{rows_of, has_row}
+use Rattle.kb_logic.specs.Models.{GroundAtom, HoldsIn, ModelOfTheory}
+use Rattle.kb_logic.specs.KnownAtoms.{KnownAtoms, atoms_over}
+use Rattle.kb_logic.specs.Bases.{Base, IsModelUnder}
 
 -- a type with no parent and no constructed names
 abbrev pub IsPlainType : TypeDecl → Type 0
@@ -90,6 +94,10 @@ pub record ModelOfFirst (kb : FirstKb) (m : Structure) : Type 0 where
   pub given : AllByRecursion (AgreesWith m) kb.given
   pub theory : ModelOfTheory kb.vocab m (theory_view kb.theory)
 
+-- the data say that the atom is true: its arguments are a row of its predicate's table
+abbrev pub is_in_data : List Table → GroundAtom → Bool
+is_in_data given a = has_row (rows_of a.symbol given) (map denotation_of a.args)
+
 -- the data give this predicate
 abbrev pub is_given : List Table → ℕ → Bool
 is_given ts s = list_any (λ t. t.symbol == s) ts
@@ -101,3 +109,23 @@ unknown_of kb s = if is_some s.1.value || is_given kb.given s.0 then 0 else leng
 -- the number of unknown atoms
 abbrev pub open_atom_count : FirstKb → ℕ
 open_atom_count kb = sum_by (unknown_of kb) (enumerate_from 0 kb.vocab.symbols)
+
+-- what the data make known: the rows of the given predicates are true atoms, and the other atoms of these predicates are
+-- false
+abbrev pub data_of_first : FirstKb → KnownAtoms
+data_of_first kb = record {
+  symbols = kb.vocab.symbols;
+  domains = kb.domains;
+  true_atoms = filter (is_in_data kb.given) (atoms_over kb.vocab.symbols kb.domains);
+  false_atoms = filter (λ a. is_given kb.given a.symbol && not (is_in_data kb.given a)) (atoms_over kb.vocab.symbols kb.domains);
+}
+
+-- a knowledge base of the first profile as any other
+abbrev pub base_of_first : FirstKb → Base
+base_of_first kb = record { vocabulary = kb.vocab; known = data_of_first kb; theory = theory_view kb.theory; terms = [] }
+
+-- its models that make some choices true are those of the knowledge base that it is
+abbrev pub FirstModelsAreModels : Type 0
+FirstModelsAreModels =
+    (kb : FirstKb) (choices : List Literal) (m : Structure) → IsFirstKb kb
+    → (ModelOfFirst kb m × AllByRecursion (HoldsIn m) choices) ↔ IsModelUnder (base_of_first kb) choices m

@@ -7,9 +7,16 @@ pub mod Values
 pub mod Environments
 pub mod Arithmetic
 pub mod Bounds
+pub mod Typing
+pub mod TypingExamples
 pub mod Weights
 pub mod Laws
 pub mod Models
+pub mod Derivations
+pub mod KnownAtoms
+pub mod Bases
+pub mod Domains
+pub mod DomainExamples
 pub mod First
 pub mod Plain
 pub mod Decimals

@@ -19,7 +19,7 @@ abbrev pub rows_of : ℕ → List Table → List (List Elem)
 rows_of s [] = []
 rows_of s (t ∷ ts) = if t.symbol == s then t.rows else rows_of s ts
 
--- what a row has behind these values, if it begins with them
+-- what follows these values in a row, if it begins with them
 abbrev pub behind : List Elem → List Denotation → Option (List Elem)
 behind row [] = Some row
 behind [] (v ∷ vs) = None

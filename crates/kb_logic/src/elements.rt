@@ -1,5 +1,5 @@
 //! Elements of domains, and integers with infinities.
-ghost use Rattle.std.specs.Prelude.{◌≡◌, IfOk};
+ghost use Rattle.std.specs.Prelude.{◌≡◌, ◌↔◌, IfOk, IsTrue};
 
 use crate::errors::Memory;
 use crate::lists::Copied;
@@ -20,6 +20,19 @@ impl Elem {
         match self {
             Elem::Named(name) => Ok(Elem::Named(name.copy(alloc)?)),
             Elem::Num(n) => Ok(Elem::Num(*n)),
+        }
+    }
+}
+
+impl Elem {
+    /// Whether both are the same element.
+    pub fn same(&self, other: &Elem) -> bool
+        ensures { IsTrue result ↔ (self.now ≡ other.now) }
+    {
+        match (self, other) {
+            (Elem::Named(a), Elem::Named(b)) => a.text() == b.text(),
+            (Elem::Num(a), Elem::Num(b)) => a == b,
+            _ => false,
         }
     }
 }

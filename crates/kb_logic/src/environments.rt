@@ -3,7 +3,7 @@
 //! The variables of one binder have one frame, however many they are: it holds their assignment as one
 //! number, with a digit for each variable in the base of its type's size. Frames lie on the stack, each with
 //! a reference to the one around it.
-ghost use Rattle.std.specs.Prelude.{◌≡◌, ◌<◌, ◌++◌, [], Some, length, slice_get, slice_index_or, take, ◌≤◌};
+ghost use Rattle.std.specs.Prelude.{◌≡◌, ◌<◌, ◌++◌, ◌↔◌, [], IsTrue, Some, length, slice_get, slice_index_or, take, ◌≤◌};
 ghost use Rattle.kb_logic.specs.Structures.{choices};
 ghost use Rattle.kb_logic.specs.Meaning.{element_value};
 ghost use Rattle.kb_logic.specs.Values.{value_view};
@@ -23,7 +23,8 @@ pub enum Env<'a> {
     Bound(Frame<'a>, &'a Env<'a>),
 }
 
-/// The variables of a binder in two parts: a longest front whose assignments a `u64` can count, and the rest.
+/// The variables of a binder in two parts: first the most whose assignments a `u64` can count, and the rest. Where some
+/// type is empty, and so all have no assignment, the first part has them all.
 pub fn split_in<'a>(domains: &'a [ElemList], bounds: &'a [Bound]) -> (Block<'a>, &'a [Bound])
     requires { 0 < length bounds.now }
     ensures parts { bounds.now ≡ result.0.bounds.now ++ result.1.now }
@@ -41,7 +42,22 @@ pub fn split_in<'a>(domains: &'a [ElemList], bounds: &'a [Bound]) -> (Block<'a>,
     (block, others)
 }
 
-/// How many variables from the front on a `u64` can count the assignments of, and their number.
+/// Whether the variables have no assignment, since the type of one of them is empty.
+fn have_no_assignment(domains: &[ElemList], bounds: &[Bound]) -> bool
+    ensures { IsTrue result ↔ (length (choices domains.now bounds.now) ≡ 0) }
+{
+    for bound in bounds {
+        if domain_in(domains, bound.ty).is_empty() {
+            return true;
+        }
+    }
+    false
+}
+
+// One variable over an empty type leaves no assignment, however many the variables before it have. So where a `u64`
+// cannot count those, the types of all variables are examined before the variables are parted: otherwise 64 variables
+// over two elements and one over an empty type would take 2^63 turns of a loop, each around an empty one.
+/// How many of the first variables a `u64` can count the assignments of, and their number.
 fn countable(domains: &[ElemList], bounds: &[Bound]) -> (usize, u64)
     requires { 0 < length bounds.now }
     ensures some { 0 < result.0 }
@@ -53,7 +69,13 @@ fn countable(domains: &[ElemList], bounds: &[Bound]) -> (usize, u64)
         let size = domain_in(domains, bounds[len].ty).len();
         match count.checked_mul(size as u64) {
             Some(product) => count = product,
-            None => return (len, count),
+            None => {
+                return if have_no_assignment(domains, bounds) {
+                    (bounds.len(), 0)
+                } else {
+                    (len, count)
+                };
+            }
         }
     }
     (bounds.len(), count)

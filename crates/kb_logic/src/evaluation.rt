@@ -16,7 +16,10 @@ use crate::frames::Block;
 use crate::lists::ElemList;
 use crate::structures::Structure;
 use crate::syntax::{AggKind, Formula, Signed, Term};
-use crate::values::{Total, Value, compare, elem_value, made_value, rows, same};
+use crate::totals::{combine, signed, start};
+use crate::values::{
+    Total, Value, compare, count_value, elem_value, made_value, number, rows, same, total_value,
+};
 use crate::vocabularies::Bound;
 
 /// The variables of a binder in two parts, as `split_in` cuts them over the structure's domains.
@@ -39,92 +42,6 @@ fn only(rest: &[Elem]) -> Value<'_>
     }
 }
 
-/// A number of assignments. What is too large for an `i64` is above each of them.
-fn count_value(count: u64) -> Value<'static>
-    ensures { value_view result ≡ count_up_to count }
-{
-    if count <= i64::MAX as u64 {
-        Value::Num(count as i64)
-    } else {
-        Value::PosInf
-    }
-}
-
-fn signed(minus: bool, n: i64) -> i128
-    ensures value { result ≡ signed_of minus n }
-    ensures low { neg_ℤ (pos (2 ^ 63)) ≤ℤ result }
-    ensures high { result ≤ℤ pos (2 ^ 63) }
-{
-    let n = i128::from(n);
-    if minus { -n } else { n }
-}
-
-fn first(kind: AggKind) -> Total
-    ensures { total_view result ≡ start kind }
-{
-    match kind {
-        AggKind::Count | AggKind::Sum => Total::Num(0),
-        AggKind::Min => Total::PosInf,
-        AggKind::Max => Total::NegInf,
-    }
-}
-
-fn total_value(total: Total) -> Value<'static>
-    ensures { value_view result ≡ total_view total }
-{
-    match total {
-        Total::Num(n) => Value::Num(n),
-        Total::NegInf => Value::NegInf,
-        Total::PosInf => Value::PosInf,
-        Total::Nothing => Value::Nothing,
-    }
-}
-
-fn number(value: Value<'_>) -> Total
-    ensures { total_view result ≡ as_number (value_view value.entry) }
-{
-    match value {
-        Value::Num(n) => Total::Num(n),
-        Value::NegInf => Total::NegInf,
-        Value::PosInf => Total::PosInf,
-        _ => Total::Nothing,
-    }
-}
-
-fn plus(a: Total, b: Total) -> Total
-    requires { NumberFits (added (total_view a) (total_view b)) }
-    ensures { total_view result ≡ added (total_view a) (total_view b) }
-{
-    match (a, b) {
-        (Total::Num(x), Total::Num(y)) => Total::Num(x + y),
-        _ => Total::Nothing,
-    }
-}
-
-fn is_less(a: Total, b: Total) -> bool
-    ensures { result ≡ lower_value (total_view a) (total_view b) }
-{
-    match (a, b) {
-        (Total::Num(x), Total::Num(y)) => x < y,
-        (Total::NegInf, Total::Num(_)) => true,
-        (Total::NegInf, Total::PosInf) => true,
-        (Total::Num(_), Total::PosInf) => true,
-        _ => false,
-    }
-}
-
-fn combine(kind: AggKind, a: Total, b: Total) -> Total
-    requires { NumberFits (combined kind (total_view a) (total_view b)) }
-    ensures { total_view result ≡ combined kind (total_view a) (total_view b) }
-{
-    match kind {
-        AggKind::Count => plus(a, Total::Num(1)),
-        AggKind::Sum => plus(a, b),
-        AggKind::Min => { if is_less(b, a) { b } else { a } }
-        AggKind::Max => { if is_less(a, b) { b } else { a } }
-    }
-}
-
 #[cycle(eval)]
 fn term_value<'a>(m: &'a Structure, term: &'a Term, env: &'a Env<'a>) -> Value<'a>
     requires { TermFits m.now (term_view term.now) (env_view env.now) }
@@ -133,7 +50,7 @@ fn term_value<'a>(m: &'a Structure, term: &'a Term, env: &'a Env<'a>) -> Value<'
     match term {
         Term::Var(n) => variable_value(env, *n as usize),
         Term::Int(n) => Value::Num(*n),
-        Term::Made(ty, n) => made_value(m, *ty, *n),
+        Term::Made(ty, n) => made_value(m.domains.as_slice(), *ty, *n),
         Term::Product(factors) => match product(m, factors, env) {
             Some(total) => Value::Num(total),
             None => Value::Nothing,
@@ -155,7 +72,7 @@ fn term_value<'a>(m: &'a Structure, term: &'a Term, env: &'a Env<'a>) -> Value<'
             formula,
             weight,
             env,
-            first(*kind),
+            start(*kind),
         )),
     }
 }
@@ -191,7 +108,7 @@ fn product<'a>(m: &'a Structure, factors: &'a [Term], env: &'a Env<'a>) -> Optio
     Some(total)
 }
 
-/// What the row has behind the values of the arguments, if it begins with them.
+/// What follows the values of the arguments in the row, if it begins with them.
 #[cycle(eval)]
 fn strip<'a>(
     m: &'a Structure,

@@ -1,7 +1,11 @@
 //! What the definitions say, in the subject's own words. The functions are empty: their contracts are laws.
 ghost use Rattle.kb_logic.specs.Arithmetic.{NoArithmeticFits};
-ghost use Rattle.kb_logic.specs.Bounds.{ValuesLieWithinBounds, SmallBoundsFit};
+ghost use Rattle.kb_logic.specs.Bounds.{ValuesLieWithinBounds, SmallBoundsFit, SmallTermsFit};
+ghost use Rattle.kb_logic.specs.Derivations.{DerivedIsDecided, DefinitionExamples};
+ghost use Rattle.kb_logic.specs.DomainExamples.{DomainExamples};
 ghost use Rattle.kb_logic.specs.Examples.{WorkedExamples};
+ghost use Rattle.kb_logic.specs.First.{FirstModelsAreModels};
+ghost use Rattle.kb_logic.specs.TypingExamples.{TypingExamples};
 ghost use Rattle.kb_logic.specs.Laws.{EveryIsForAll, SomeIsThereIs, NumberComparesCount, AssignmentsAreChoices, AssignmentsAreDistinct, AggregateIsOverAssignments, CountIsLength, SumAddsEach, LeastIsAttained, GreatestIsAttained, AtomIsMembership, AtomIsInItsTypes};
 
 /// A formula without sums, products and aggregates meets the condition of `truth` in every structure.
@@ -83,4 +87,30 @@ pub fn small_bounds_fit()
 /// Truth and value in a small structure, as worked out by hand.
 pub fn worked_examples()
     ensures { WorkedExamples }
+{}
+
+/// Which domains are as a vocabulary asks, as worked out by hand.
+pub fn domain_examples()
+    ensures { DomainExamples }
+{}
+
+/// A knowledge base of the first profile has the models of the knowledge base that it is, under any choices.
+pub fn first_models_are_models()
+    ensures { FirstModelsAreModels }
+{}
+
+/// A term with static bounds from -10^15 to 10^15 has a value whose integers fit 64 bits.
+pub fn small_terms_fit()
+    ensures { SmallTermsFit }
+{}
+
+/// Whether an atom is derived can be tested, and which small structures are models of definitions.
+pub fn definitions_derive()
+    ensures decided { DerivedIsDecided }
+    ensures examples { DefinitionExamples }
+{}
+
+/// Which formulas are well typed, as worked out by hand.
+pub fn typing_examples()
+    ensures { TypingExamples }
 {}

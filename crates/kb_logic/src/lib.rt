@@ -18,8 +18,8 @@ mod lists;
 mod names;
 mod structures;
 mod syntax;
-#[cfg(test)]
-mod tests;
+pub mod totals;
+pub mod tuples;
 pub mod values;
 mod vocabularies;
 

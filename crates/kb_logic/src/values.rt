@@ -1,20 +1,20 @@
-//! The values of terms, and the parts of a structure that they come from.
+//! The values of terms, and the parts of a structure that they come from. Evaluators over structures and over partial
+//! structures share them.
 ghost use Rattle.std.specs.Prelude.{◌≡◌, slice_get};
 ghost use Rattle.kb_logic.specs.Structures.{domain_at};
-ghost use Rattle.kb_logic.specs.Denotations.{denotation_of, same_value, lower_value, compared};
+ghost use Rattle.kb_logic.specs.Denotations.{as_number, denotation_of, same_value, lower_value, compared};
 ghost use Rattle.kb_logic.specs.Meaning.{element_value, rows_of};
-ghost use Rattle.kb_logic.specs.Values.{value_view};
+ghost use Rattle.kb_logic.specs.Values.{value_view, total_view, count_up_to};
 
 use crate::elements::Elem;
 use crate::lists::ElemList;
-use crate::names::Name;
-use crate::structures::{Structure, Table};
+use crate::structures::Table;
 use crate::syntax::Cmp;
 
 /// The value of a term. It is `Nothing` where the term is not well typed.
 #[derive(Clone, Copy)]
 pub enum Value<'a> {
-    Named(&'a Name),
+    Named(&'a [u8]),
     Num(i64),
     NegInf,
     PosInf,
@@ -35,7 +35,7 @@ pub fn elem_value(elem: &Elem) -> Value<'_>
     ensures { value_view result ≡ denotation_of elem.now }
 {
     match elem {
-        Elem::Named(name) => Value::Named(name),
+        Elem::Named(name) => Value::Named(name.text()),
         Elem::Num(n) => Value::Num(*n),
     }
 }
@@ -45,7 +45,7 @@ pub fn same(a: Value<'_>, b: Value<'_>) -> bool
     ensures { result ≡ same_value (value_view a.entry) (value_view b.entry) }
 {
     match (a, b) {
-        (Value::Named(x), Value::Named(y)) => x.text() == y.text(),
+        (Value::Named(x), Value::Named(y)) => x == y,
         (Value::Num(x), Value::Num(y)) => x == y,
         (Value::NegInf, Value::NegInf) => true,
         (Value::PosInf, Value::PosInf) => true,
@@ -81,13 +81,6 @@ pub fn compare(cmp: Cmp, a: Value<'_>, b: Value<'_>) -> bool
     }
 }
 
-/// The domain of a type in a structure.
-pub fn domain(m: &Structure, ty: u32) -> &[Elem]
-    ensures { result.now ≡ domain_at m.now.domains ty }
-{
-    domain_in(m.domains.as_slice(), ty)
-}
-
 /// The domain of a type, which is empty where there is no such type.
 pub fn domain_in(domains: &[ElemList], ty: u32) -> &[Elem]
     ensures { result.now ≡ domain_at domains.now ty }
@@ -99,10 +92,10 @@ pub fn domain_in(domains: &[ElemList], ty: u32) -> &[Elem]
 }
 
 /// The element at a position of a type's domain: that of a constructed name.
-pub fn made_value(m: &Structure, ty: u32, n: u32) -> Value<'_>
-    ensures { value_view result ≡ element_value (slice_get (domain_at m.now.domains ty) n) }
+pub fn made_value(domains: &[ElemList], ty: u32, n: u32) -> Value<'_>
+    ensures { value_view result ≡ element_value (slice_get (domain_at domains.now ty) n) }
 {
-    match domain(m, ty).get(n as usize) {
+    match domain_in(domains, ty).get(n as usize) {
         Some(elem) => elem_value(elem),
         None => Value::Nothing,
     }
@@ -118,4 +111,39 @@ pub fn rows(tables: &[Table], symbol: u32) -> &[ElemList]
         }
     }
     &[]
+}
+
+/// A number of assignments. What is too large for an `i64` is above each of them.
+pub fn count_value(count: u64) -> Value<'static>
+    ensures { value_view result ≡ count_up_to count }
+{
+    if count <= i64::MAX as u64 {
+        Value::Num(count as i64)
+    } else {
+        Value::PosInf
+    }
+}
+
+/// An aggregate's value.
+pub fn total_value(total: Total) -> Value<'static>
+    ensures { value_view result ≡ total_view total }
+{
+    match total {
+        Total::Num(n) => Value::Num(n),
+        Total::NegInf => Value::NegInf,
+        Total::PosInf => Value::PosInf,
+        Total::Nothing => Value::Nothing,
+    }
+}
+
+/// What a value counts as where a number is meant.
+pub fn number(value: Value<'_>) -> Total
+    ensures { total_view result ≡ as_number (value_view value.entry) }
+{
+    match value {
+        Value::Num(n) => Total::Num(n),
+        Value::NegInf => Total::NegInf,
+        Value::PosInf => Total::PosInf,
+        _ => Total::Nothing,
+    }
 }

@@ -9,8 +9,7 @@ use Rattle.partial_structures.specs.Certainty.{both_certain, either_certain, all
 use Rattle.partial_structures.specs.Laws.{KnownAtomsHold, EveryIsConjunction, SomeIsDisjunction}
 use Rattle.partial_structures.specs.declared.truths.Truth.{Truth}
 use Rattle.partial_structures.specs.declared.truths.Truth.TheVariants.{Yes, No, Unknown}
-use Rattle.partial_structures.proofs.Members.{Has, has_from}
-use Rattle.partial_structures.proofs.TestLemmas.{contains_from}
+use Rattle.kb_logic.proofs.Has.{Has, has_from, contains_from}
 use Rattle.partial_structures.proofs.Sames.{atom_is}
 
 at_listed : (a : GroundAtom) (P : GroundAtom → Type 0) (xs : List GroundAtom) → list_any (same_atom a) xs ≡ true → AllByRecursion P xs → P a

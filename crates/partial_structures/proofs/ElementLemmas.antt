@@ -19,7 +19,7 @@ use Rattle.partial_structures.specs.contracts.elements.TypedPartialEq.TheImpl.{g
 use Rattle.partial_structures.proofs.Growth.{same_label_refl}
 use Rattle.partial_structures.proofs.Labelled.{typed_labelled}
 use Rattle.partial_structures.proofs.Labels.{label_test}
-use Rattle.partial_structures.proofs.Members.{has_from}
+use Rattle.kb_logic.proofs.Has.{has_from}
 use Rattle.partial_structures.proofs.Nodes.{same_label_is}
 use Rattle.partial_structures.proofs.Walks.{stands, stands_is, value_injective, label_same}
 

@@ -19,11 +19,10 @@ use Rattle.partial_structures.specs.Words.{words_in}
 use Rattle.partial_structures.specs.declared.partial.Partial.TheInside.{Inside}
 use Rattle.partial_structures.specs.declared.truths.Truth.{Truth}
 use Rattle.partial_structures.specs.declared.truths.Truth.TheVariants.{Yes, No, Unknown}
-use Rattle.partial_structures.proofs.Members.{Has, has_from, has_left, has_right, has_either, has_flat_map, flat_map_has}
-use Rattle.partial_structures.proofs.TestLemmas.{contains_from}
-use Rattle.partial_structures.proofs.Distinct.{mapped, tuples_distinct, atoms_distinct}
-use Rattle.partial_structures.proofs.Listed.{atom_listed}
-use Rattle.partial_structures.proofs.Structures.{each_left, rows_at, row_table, relation_symbols, function_symbols, relation_of, function_of, distinct_filter, passes_filter}
+use Rattle.kb_logic.proofs.Has.{Has, has_from, has_left, has_right, has_either, has_flat_map, flat_map_has, contains_from}
+use Rattle.kb_logic.proofs.DistinctAtoms.{mapped, tuples_distinct, atoms_distinct}
+use Rattle.kb_logic.proofs.AllAtoms.{atom_listed}
+use Rattle.kb_logic.proofs.Tables.{each_left, rows_at, row_table, relation_symbols, function_symbols, relation_of, function_of, distinct_filter, passes_filter}
 use Rattle.partial_structures.proofs.Tallies.{parts_are, row_atoms, parts_atoms, table_atoms, atoms_in, NoneFalse, yes_count, left_is, is_left, left_after-append, tables_leave, at_most, all_there}
 
 first_kept : (b : Bool) (x a : GroundAtom) (ys : List GroundAtom) → b ≡ true → x ≡ a → Has (cond b (x ∷ ys) ys) a

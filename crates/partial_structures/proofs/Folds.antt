@@ -1,4 +1,4 @@
--- The loops over the assignments of a front of a binder's variables, from what was found before.
+-- The loops over the assignments of the first of a binder's variables, from what was found before.
 use Rattle.std.proofs.Common.{◌≡◌, ℕ, ◌+◌, ◌<◌, ◌≤◌, List, [], ◌∷◌, ◌++◌, map, length, drop, get_or, fold, false, Option, None, Some, refl, sym, ap, ◌∙◌, subst, append_assoc, is_some}
 use Rattle.std.specs.List.{AllByRecursion}
 use Rattle.std.proofs.lemmas.List.{at_drop_more, at_drop_all, append-nil}
@@ -33,7 +33,7 @@ module _ (domains : List (List Elem)) (bounds these others : List Bound) (split 
   pub fold_by_front : {S : Type 0} (F : S → List Elem → S) (s : S) → fold F s (choices domains bounds) ≡ fold (after_front F (choices domains others)) s (choices domains these)
   fold_by_front F s = ap (fold F s) by_front ∙ fold-pairs F joined (choices domains others) (choices domains these) s
 
-  -- what holds under all assignments holds under those that begin with the front's assignment number i
+  -- what holds under all assignments holds under those that begin with their assignment number i
   pub each_after : (Q : List Elem → Type 0) (e inner : List Elem) (i : ℕ) → i < length (choices domains these) → inner ≡ e ++ get_or (choices domains these) i []
       → AllByRecursion (λ a. Q (e ++ a)) (choices domains bounds) → AllByRecursion (λ b. Q (inner ++ b)) (choices domains others)
   each_after Q e inner i h is all = each_inside (record { domains = domains; relations = []; functions = [] }) bounds these others split Q e inner i h is all
@@ -41,7 +41,7 @@ module _ (domains : List (List Elem)) (bounds these others : List Bound) (split 
 pub inner_fold : {S : Type 0} (G : S → List Elem → S) (rest : List (List Elem)) (e inner a : List Elem) (s : S) → inner ≡ e ++ a → fold (λ t b. G t (inner ++ b)) s rest ≡ after_front (λ t b. G t (e ++ b)) rest s a
 inner_fold G rest e inner a s is = rw is (simp append_assoc)
 
--- one assignment of the front more
+-- one assignment of the first variables more
 pub fold_next : {S : Type 0} (F : S → List Elem → S) (xs : List (List Elem)) (i : ℕ) (s t : S) → i < length xs → t ≡ F s (get_or xs i []) → fold F t (drop (i + 1) xs) ≡ fold F s (drop i xs)
 fold_next F xs i s t h e = sym (at_drop_more (fold F s) xs i [] h ∙ ap (λ u. fold F u (drop (i + 1) xs)) (sym e))
 
@@ -69,7 +69,7 @@ gathered-map : {X Y : Type 0} (kind : AggKind) (P : X → Truth) (V : X → Opti
 gathered-map kind P V h acc [] f = tt
 gathered-map kind P V h acc (y ∷ ys) f = (f.0, gathered-map kind P V h (gathered kind acc (P (h y)) (V (h y))) ys f.1)
 
--- what fits over all assignments fits over those that begin with the front's assignment number i, and after them
+-- what fits over all assignments fits over those that begin with their assignment number i, and after them
 pub gathered_front : (kind : AggKind) (P : List Elem → Truth) (V : List Elem → Option Denotation) (rest cs : List (List Elem)) (i : ℕ) (acc : Option Denotation) → i < length cs
     → GatheredFits kind P V acc (pairs joined rest (drop i cs))
     → GatheredFits kind (λ b. P (get_or cs i [] ++ b)) (λ b. V (get_or cs i [] ++ b)) acc rest

@@ -25,7 +25,7 @@ use Rattle.partial_structures.specs.KnownAtoms.{KnownAtoms}
 use Rattle.partial_structures.specs.Certainty.{known_cons, chosen, known_weights, given_value, applied_known, known_value, known_values, known_sum, certain_truth}
 use Rattle.partial_structures.specs.Consistency.{IsConsistent}
 use Rattle.partial_structures.specs.KnownArithmetic.{gathered, GatheredFits, known_front, ValueFits, ValuesFit, OperandsFit, CertaintyFits, PartsFit}
-use Rattle.partial_structures.specs.Laws.{SmallBoundsFit}
+use Rattle.partial_structures.specs.Laws.{SmallBoundsFit, SmallTermsFit}
 use Rattle.partial_structures.specs.declared.truths.Truth.{Truth}
 use Rattle.partial_structures.specs.declared.truths.Truth.TheVariants.{Yes, No, Unknown}
 use Rattle.partial_structures.proofs.Monotony.{given_result}
@@ -245,3 +245,6 @@ module _ (v : Vocabulary) (k : KnownAtoms) (symbols : v.symbols ≡ k.symbols) (
 
 pub small_bounds_fit : SmallBoundsFit
 small_bounds_fit v k symbols whole f scope e h small = formula_fits v k symbols whole f scope e h small
+
+pub small_terms_fit : SmallTermsFit
+small_terms_fit v k symbols whole t scope e h small = term_fits v k symbols whole t scope e h small

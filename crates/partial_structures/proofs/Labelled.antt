@@ -16,7 +16,7 @@ use Rattle.partial_structures.specs.KnownAtoms.{IsAtomOver}
 use Rattle.partial_structures.specs.Words.{place, with_element, words_of}
 use Rattle.partial_structures.specs.Rows.{has_label}
 use Rattle.partial_structures.specs.declared.rows.Label.TheVariants.{Word}
-use Rattle.partial_structures.proofs.Members.{Has, has_from, has_get, flat_map_has, map_has}
+use Rattle.kb_logic.proofs.Has.{Has, has_from, has_get, flat_map_has, map_has}
 
 abbrev knows : List (List ℕ) → List ℕ → Bool
 knows ws q = list_any (bytes_eq q) ws

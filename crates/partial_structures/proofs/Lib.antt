@@ -4,16 +4,13 @@ pub mod Nodes
 pub mod Growth
 pub mod Changes
 pub mod WordLemmas
-pub mod Members
 pub mod Sames
 pub mod Listed
 pub mod Labelled
 pub mod Statuses
 pub mod Views
-pub mod TestLemmas
 pub mod Distinct
 pub mod Tallies
-pub mod Structures
 pub mod Extensions
 pub mod Folds
 pub mod Connected
@@ -24,7 +21,10 @@ pub mod Monotony
 pub mod Totality
 pub mod KnownBounds
 pub mod Consistent
+pub mod Contained
 pub mod Plain
 pub mod Certain
 pub mod ElementLemmas
 pub mod Worked
+pub mod Total
+pub mod Typed

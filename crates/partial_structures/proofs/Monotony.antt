@@ -20,8 +20,7 @@ use Rattle.partial_structures.specs.Consistency.{IsConsistent, KnowsMore}
 use Rattle.partial_structures.specs.Laws.{CertaintyIsMonotone}
 use Rattle.partial_structures.specs.declared.truths.Truth.{Truth}
 use Rattle.partial_structures.specs.declared.truths.Truth.TheVariants.{Yes, No, Unknown}
-use Rattle.partial_structures.proofs.Members.{has_from}
-use Rattle.partial_structures.proofs.TestLemmas.{contains_from}
+use Rattle.kb_logic.proofs.Has.{has_from, contains_from}
 use Rattle.partial_structures.proofs.Sames.{row_itself, atom_by}
 use Rattle.partial_structures.proofs.Walks.{given_found, given_some, row_denotes, stands_is}
 use Rattle.partial_structures.proofs.Soundness.{same_sym, denotes, rows_same}

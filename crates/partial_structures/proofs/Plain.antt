@@ -13,7 +13,7 @@ all_hold P [] h = tt
 all_hold P (a ∷ as') h = (h a, all_hold P as' h)
 
 mutual
-  plain_value_fits : (k : KnownAtoms) (t : TermTree) (e : List Elem) → IsPlainTerm t → ValueFits k t e
+  pub plain_value_fits : (k : KnownAtoms) (t : TermTree) (e : List Elem) → IsPlainTerm t → ValueFits k t e
   plain_value_fits k (variable n) e h = h
   plain_value_fits k (integer z) e h = h
   plain_value_fits k (constructed ty n) e h = h

@@ -24,13 +24,12 @@ use Rattle.partial_structures.specs.Certainty.{truth_if, not_certain, both_certa
 use Rattle.partial_structures.specs.Laws.{CertaintyIsSound}
 use Rattle.partial_structures.specs.declared.truths.Truth.{Truth}
 use Rattle.partial_structures.specs.declared.truths.Truth.TheVariants.{Yes, No, Unknown}
-use Rattle.partial_structures.proofs.Members.{Has, has_from}
-use Rattle.partial_structures.proofs.TestLemmas.{contains_from}
+use Rattle.kb_logic.proofs.Has.{Has, has_from, contains_from}
 use Rattle.partial_structures.proofs.Sames.{row_is, same_element, element_itself, row_itself}
-use Rattle.partial_structures.proofs.Distinct.{tuples_distinct}
+use Rattle.kb_logic.proofs.DistinctAtoms.{tuples_distinct}
 use Rattle.partial_structures.proofs.Tallies.{parts_are}
 use Rattle.partial_structures.specs.Tally.{parts_of}
-use Rattle.partial_structures.proofs.Structures.{each_left, each_right, rows_at, row_table, function_symbols, relation_of, function_of, function_has}
+use Rattle.kb_logic.proofs.Tables.{each_left, each_right, rows_at, row_table, function_symbols, relation_of, function_of, function_has}
 use Rattle.partial_structures.proofs.Walks.{given_found, row_denotes, typed_tuple, tuple_from, stands_is}
 
 -- ---- what is known, where it is known
@@ -296,7 +295,7 @@ module _ (m : Structure) (k : KnownAtoms) (v : Vocabulary) (symbols : v.symbols 
 
   -- ---- functions
 
-  held_value : (s : ℕ) (xs : List Elem) (x : Elem) → Contains (rows_of s m.functions) (xs ++ x ∷ []) → applied (rows_of s m.functions) (map denotation_of xs) ≡ denotation_of x
+  pub held_value : (s : ℕ) (xs : List Elem) (x : Elem) → Contains (rows_of s m.functions) (xs ++ x ∷ []) → applied (rows_of s m.functions) (map denotation_of xs) ≡ denotation_of x
   held_value s xs x at =
       let t = row_table m.functions s (xs ++ x ∷ []) (has_from (rows_of s m.functions) (xs ++ x ∷ []) at) in
       let q = function_of v m is t.0 t.1 in

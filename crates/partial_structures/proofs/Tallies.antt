@@ -15,8 +15,7 @@ use Rattle.partial_structures.specs.declared.rows.Edge.{Edge}
 use Rattle.partial_structures.specs.declared.rows.Mark.{Mark}
 use Rattle.partial_structures.specs.declared.truths.Truth.{Truth}
 use Rattle.partial_structures.specs.declared.truths.Truth.TheVariants.{Yes, No, Unknown}
-use Rattle.partial_structures.proofs.Members.{Has}
-use Rattle.partial_structures.proofs.TestLemmas.{contains_from}
+use Rattle.kb_logic.proofs.Has.{Has, contains_from}
 
 pub parts_are : (args : List Elem) (x : Elem) → parts_of (args ++ x ∷ []) ≡ Some (args, x)
 parts_are [] x = refl

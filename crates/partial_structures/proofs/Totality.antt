@@ -23,7 +23,7 @@ use Rattle.partial_structures.specs.Consistency.{KnowsAll, IsDefinedAt, IsNoFunc
 use Rattle.partial_structures.specs.Laws.{CertaintyIsTruth}
 use Rattle.partial_structures.specs.declared.truths.Truth.{Truth}
 use Rattle.partial_structures.specs.declared.truths.Truth.TheVariants.{Yes, No, Unknown}
-use Rattle.partial_structures.proofs.Members.{has_from}
+use Rattle.kb_logic.proofs.Has.{has_from}
 use Rattle.partial_structures.proofs.Sames.{atom_is}
 use Rattle.partial_structures.proofs.Certain.{known_atoms_hold}
 use Rattle.partial_structures.proofs.Walks.{given_some, tuple_from}

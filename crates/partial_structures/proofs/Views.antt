@@ -13,10 +13,12 @@ use Rattle.partial_structures.specs.Status.{is_yes, is_no, status, known_atoms}
 use Rattle.partial_structures.specs.declared.partial.Partial.TheInside.{Inside}
 use Rattle.partial_structures.specs.declared.truths.Truth.{Truth}
 use Rattle.partial_structures.specs.declared.truths.Truth.TheVariants.{Yes, No, Unknown}
-use Rattle.partial_structures.proofs.Members.{Has, filter-same, filter-none}
-use Rattle.partial_structures.proofs.Listed.{atom_listed, atom_kind, is_function, listed, value_is}
+use Rattle.kb_logic.proofs.Has.{Has, filter-same, filter-none}
+use Rattle.kb_logic.proofs.AllAtoms.{atom_listed, atom_kind, is_function}
+use Rattle.partial_structures.proofs.Listed.{listed, value_is}
 use Rattle.partial_structures.proofs.Labelled.{atom_labelled}
-use Rattle.partial_structures.proofs.Distinct.{atoms_distinct, length_more}
+use Rattle.kb_logic.proofs.DistinctAtoms.{atoms_distinct}
+use Rattle.partial_structures.proofs.Distinct.{length_more}
 use Rattle.partial_structures.proofs.Statuses.{TrueAfter, FalseAfter, ClosedAfter, true_after, false_after, flag_after, same_marks, empty_status}
 
 pub value_from : (p : Inside) (k : KnownAtoms) (a : GroundAtom) (r : Truth) → known_atoms p ≡ k → IsAtomOver k.symbols k.domains a → r ≡ status p a → r ≡ value_at k a

@@ -10,7 +10,7 @@ use Rattle.kb_logic.specs.declared.vocabularies.Symbol.{Symbol}
 use Rattle.kb_logic.specs.Structures.{domain_at, tuples_of}
 use Rattle.kb_logic.specs.Denotations.{Denotation, named, number, minus_infinity, plus_infinity, undefined, denotation_of, same_value}
 use Rattle.kb_logic.specs.Models.{GroundAtom, HasValueIn}
-use Rattle.kb_logic.proofs.Atoms.{same_is}
+use Rattle.kb_logic.proofs.Atoms.{same_is, tuple_elements}
 use Rattle.partial_structures.specs.KnownAtoms.{IsAtomOver, atoms_with, atoms_over, same_row, same_option, value_of_row}
 use Rattle.partial_structures.specs.Certainty.{stands_in, are_typed, arguments_typed, given_value}
 use Rattle.partial_structures.specs.Rows.{child_by, node_of, label_of}
@@ -34,37 +34,18 @@ use Rattle.partial_structures.proofs.Labels.{label_test}
 use Rattle.partial_structures.specs.contracts.rows.LabelPartialEq.TheImpl.{ghosts as label_equality}
 use Rattle.kb_logic.specs.Structures.{EachWith}
 use Rattle.kb_logic.proofs.Members.{from_filter}
-use Rattle.kb_logic.proofs.Atoms.{tuple_elements}
 use Rattle.partial_structures.proofs.Nodes.{same_label_is, label_injective}
 use Rattle.partial_structures.proofs.Growth.{same_label_refl}
 use Rattle.partial_structures.proofs.Sames.{row_itself, atom_by, element_itself}
 use Rattle.partial_structures.proofs.Statuses.{never_yes}
-use Rattle.partial_structures.proofs.Structures.{passes_filter}
+use Rattle.kb_logic.proofs.Tables.{passes_filter}
 use Rattle.partial_structures.proofs.Extensions.{kept_has}
-use Rattle.partial_structures.proofs.Listed.{atom_kind}
-use Rattle.partial_structures.proofs.Members.{Has, has_from, map_has, flat_map_has, enumerated_has}
-use Rattle.partial_structures.proofs.TestLemmas.{contains_from, longer_tuple}
-use Rattle.partial_structures.proofs.Listed.{atom_listed, value_is}
+use Rattle.kb_logic.proofs.AllAtoms.{atom_kind, atom_listed, listed_over}
+use Rattle.kb_logic.proofs.Has.{Has, has_from, map_has, flat_map_has, enumerated_has, contains_from}
+use Rattle.partial_structures.proofs.Contained.{longer_tuple}
+use Rattle.partial_structures.proofs.Listed.{value_is}
 
 -- ---- the atoms
-
-with_over : (domains : List (List Elem)) (i : ℕ) (ts : List (List Elem)) (ty : Option ℕ) (a : GroundAtom) → Has (atoms_with domains i ts ty) a → (a.symbol ≡ i) × Has ts a.args × HasValueIn domains ty a.value
-with_over domains i ts None a m =
-    let r = map_has _ ts a m in
-    subst (λ (b : GroundAtom). (b.symbol ≡ i) × Has ts b.args × HasValueIn domains None b.value) r.2 (refl, r.1, tt)
-with_over domains i ts (Some ty) a m =
-    let r = flat_map_has (λ t. map (λ y. record { symbol = i; args = t; value = Some y }) (domain_at domains ty)) ts a m in
-    let q = map_has _ (domain_at domains ty) a r.2 in
-    subst (λ (b : GroundAtom). (b.symbol ≡ i) × Has ts b.args × HasValueIn domains (Some ty) b.value) q.2 (refl, r.1, contains_from (domain_at domains ty) q.0 q.1)
-
--- one of the atoms is over the domains
-pub listed_over : (symbols : List Symbol) (domains : List (List Elem)) (a : GroundAtom) → Has (atoms_over symbols domains) a → IsAtomOver symbols domains a
-listed_over symbols domains a m =
-    let r = flat_map_has (λ (s : ℕ × Symbol). atoms_with domains s.0 (tuples_of domains s.1.args) s.1.value) (enumerate_from 0 symbols) a m in
-    let at = enumerated_has 0 symbols r.0.0 r.0.1 r.1 in
-    let w = with_over domains r.0.0 (tuples_of domains r.0.1.args) r.0.1.value a r.2 in
-    let same : a.symbol ≡ at.0 = w.0 ∙ at.1 ∙ omega arith in
-    (r.0.1, ap (slice_get symbols) same ∙ at.2, contains_from (tuples_of domains r.0.1.args) a.args w.1, w.2)
 
 -- ---- types
 

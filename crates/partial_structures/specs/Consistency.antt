@@ -1,6 +1,6 @@
 -- What a partial structure always keeps, and what it is to know more than another, or everything.
-use Rattle.std.specs.Prelude.{◌≡◌, ℕ, List, ◌++◌, true, Option, None, Some, is_some, slice_get, Contains, ⊤}
-use Rattle.std.specs.List.{AllByRecursion}
+use Rattle.std.specs.Prelude.{◌≡◌, ℕ, List, ◌++◌, filter, true, Option, None, Some, is_some, slice_get, Contains, IsTrue, ⊤}
+use Rattle.std.specs.List.{AllByRecursion, list_any}
 use Rattle.kb_logic.specs.declared.elements.Elem.{Elem}
 use Rattle.kb_logic.specs.declared.vocabularies.Symbol.{Symbol}
 use Rattle.kb_logic.specs.declared.structures.Structure.{Structure}
@@ -8,7 +8,8 @@ use Rattle.kb_logic.specs.Trees.{TermTree, variable, integer, constructed, appli
 use Rattle.kb_logic.specs.Denotations.{Denotation}
 use Rattle.kb_logic.specs.Meaning.{assignments, values_of}
 use Rattle.kb_logic.specs.Models.{GroundAtom}
-use Rattle.partial_structures.specs.KnownAtoms.{KnownAtoms, IsAtomOver, value_at}
+use Rattle.kb_logic.specs.Structures.{IsDistinct}
+use Rattle.partial_structures.specs.KnownAtoms.{KnownAtoms, IsAtomOver, atoms_over, same_atom, is_rival, value_at}
 use Rattle.partial_structures.specs.Certainty.{are_typed}
 use Rattle.partial_structures.specs.declared.truths.Truth.TheVariants as truth
 
@@ -18,6 +19,16 @@ pub record IsConsistent (k : KnownAtoms) : Type 0 where
   pub over : AllByRecursion (IsAtomOver k.symbols k.domains) k.true_atoms
   pub single : (a b : GroundAtom) → Contains k.true_atoms a → Contains k.true_atoms b → a.symbol ≡ b.symbol → a.args ≡ b.args → a ≡ b
   pub apart : (a : GroundAtom) → Contains k.true_atoms a → Contains k.false_atoms a → ⊥
+
+-- how a partial structure lists what it knows: no domain has an element twice; both lists have atoms over the domains,
+-- each once and in the order of all atoms; and where an atom is true that gives a function a value, every atom that
+-- gives it another value at the same arguments is false
+pub record IsListed (k : KnownAtoms) : Type 0 where
+  pub distinct : AllByRecursion IsDistinct k.domains
+  pub false_over : AllByRecursion (IsAtomOver k.symbols k.domains) k.false_atoms
+  pub true_listed : k.true_atoms ≡ filter (λ a. list_any (same_atom a) k.true_atoms) (atoms_over k.symbols k.domains)
+  pub false_listed : k.false_atoms ≡ filter (λ a. list_any (same_atom a) k.false_atoms) (atoms_over k.symbols k.domains)
+  pub rivals : (a b : GroundAtom) → Contains k.true_atoms a → IsAtomOver k.symbols k.domains b → IsTrue (is_rival a b) → Contains k.false_atoms b
 
 -- what is known in k is known in j too
 pub record KnowsMore (k j : KnownAtoms) : Type 0 where

@@ -1,40 +1,14 @@
 -- What is known of the atoms over symbols and domains, and what a change of it makes known.
-use Rattle.std.specs.Prelude.{◌≡◌, ℕ, List, [], ◌∷◌, map, filter, flat_map, slice_get, Bool, true, false, not, ◌&&◌, ◌||◌, ◌==◌, if◌then◌else◌, Option, None, Some, option_map, Contains}
-use Rattle.std.specs.List.{list_any, enumerate_from}
+use Rattle.std.specs.Prelude.{ℕ, List, [], ◌∷◌, map, filter, Bool, true, false, not, ◌&&◌, ◌||◌, ◌==◌, if◌then◌else◌, Option, None, Some, option_map}
+use Rattle.std.specs.List.{list_any}
 use Rattle.kb_logic.specs.declared.elements.Elem.{Elem}
-use Rattle.kb_logic.specs.declared.structures.Literal.{Literal}
 use Rattle.kb_logic.specs.declared.vocabularies.Symbol.{Symbol}
-use Rattle.kb_logic.specs.Structures.{domain_at, tuples_of}
 use Rattle.kb_logic.specs.Denotations.{Denotation, denotation_of, same_value}
-use Rattle.kb_logic.specs.Models.{GroundAtom, HasValueIn}
+use Rattle.kb_logic.specs.Models.{GroundAtom}
+pub use Rattle.kb_logic.specs.Models.{IsAtomOver, atom_of}
+pub use Rattle.kb_logic.specs.KnownAtoms.{KnownAtoms, atoms_with, atoms_over}
 use Rattle.partial_structures.specs.declared.truths.Truth.{Truth}
 use Rattle.partial_structures.specs.declared.truths.Truth.TheVariants as truth
-
--- the symbols with their types, the domains, and the atoms that are certainly true and those that are certainly false,
--- each list in the order of all atoms
-pub record KnownAtoms : Type 0 where
-  pub symbols : List Symbol
-  pub domains : List (List Elem)
-  pub true_atoms : List GroundAtom
-  pub false_atoms : List GroundAtom
-
--- the atom that a literal affirms or denies
-abbrev pub atom_of : Literal → GroundAtom
-atom_of l = record { symbol = l.symbol; args = l.args; value = l.value }
-
--- an atom of one of the symbols over the domains of its types
-abbrev pub IsAtomOver : List Symbol → List (List Elem) → GroundAtom → Type 0
-IsAtomOver symbols domains a =
-    (s : Symbol) × (slice_get symbols a.symbol ≡ Some s) × Contains (tuples_of domains s.args) a.args × HasValueIn domains s.value a.value
-
--- the atoms of symbol i with these tuples: one for each, or for a function one for each tuple and each value
-abbrev pub atoms_with : List (List Elem) → ℕ → List (List Elem) → Option ℕ → List GroundAtom
-atoms_with domains i ts None = map (λ t. record { symbol = i; args = t; value = None }) ts
-atoms_with domains i ts (Some ty) = flat_map (λ t. map (λ x. record { symbol = i; args = t; value = Some x }) (domain_at domains ty)) ts
-
--- all atoms: the symbols as declared, the tuples of each in domain order, then the values in domain order
-abbrev pub atoms_over : List Symbol → List (List Elem) → List GroundAtom
-atoms_over symbols domains = flat_map (λ s. atoms_with domains s.0 (tuples_of domains s.1.args) s.1.value) (enumerate_from 0 symbols)
 
 -- these elements are these values, one by one
 abbrev pub same_row : List Elem → List Denotation → Bool

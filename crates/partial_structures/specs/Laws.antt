@@ -1,20 +1,24 @@
 -- What the definitions say, in the subject's own words.
 use Rattle.std.specs.Prelude.{◌≡◌, ◌↔◌, ℕ, List, ◌++◌, Some, Contains, IsTrue, IsFalse}
+use Rattle.std.specs.List.{AllByRecursion}
 use Rattle.kb_logic.specs.declared.elements.Elem.{Elem}
 use Rattle.kb_logic.specs.declared.vocabularies.Bound.{Bound}
 use Rattle.kb_logic.specs.declared.vocabularies.Vocabulary.{Vocabulary}
 use Rattle.kb_logic.specs.declared.structures.Structure.{Structure}
 use Rattle.kb_logic.specs.Trees.{TermTree, FormulaTree, universal, existential}
-use Rattle.kb_logic.specs.Denotations.{Denotation}
+use Rattle.kb_logic.specs.Denotations.{Denotation, denotation_of}
 use Rattle.kb_logic.specs.Meaning.{value_of, truth_of}
-use Rattle.kb_logic.specs.Structures.{choices}
+use Rattle.kb_logic.specs.Structures.{choices, domain_at, IsStructure}
+use Rattle.kb_logic.specs.Domains.{AreDomainsOf}
+use Rattle.kb_logic.specs.Typing.{IsTypedOver, TermIsTypedOver, element_of, sort_of}
+use Rattle.kb_logic.specs.KnownAtoms.{known_of}
 use Rattle.kb_logic.specs.Models.{GroundAtom, AtomHolds}
-use Rattle.partial_structures.specs.KnownAtoms.{KnownAtoms, value_at}
+use Rattle.partial_structures.specs.KnownAtoms.{KnownAtoms, IsAtomOver, value_at}
 use Rattle.partial_structures.specs.Extension.{ExtendsData, IsStructureOver}
-use Rattle.kb_logic.specs.Bounds.{HasTypes, IsBounded}
+use Rattle.kb_logic.specs.Bounds.{HasTypes, IsBounded, TermIsBounded}
 use Rattle.partial_structures.specs.Certainty.{truth_if, known_value, certain_truth}
 use Rattle.partial_structures.specs.Consistency.{IsConsistent, KnowsMore, KnowsAll, AppliesWell, IsWellApplied}
-use Rattle.partial_structures.specs.KnownArithmetic.{CertaintyFits}
+use Rattle.partial_structures.specs.KnownArithmetic.{CertaintyFits, ValueFits}
 use Rattle.partial_structures.specs.declared.truths.Truth.TheVariants as truth
 
 -- what is known of an atom is so in every structure that extends the data
@@ -61,3 +65,33 @@ abbrev pub SmallBoundsFit : Type 0
 SmallBoundsFit =
     (v : Vocabulary) (k : KnownAtoms) → v.symbols ≡ k.symbols → IsConsistent k → (f : FormulaTree) (scope : List ℕ) (e : List Elem) → HasTypes k.domains scope e
     → IsBounded v k.domains f scope → CertaintyFits k f e
+
+-- and so does a term
+abbrev pub SmallTermsFit : Type 0
+SmallTermsFit =
+    (v : Vocabulary) (k : KnownAtoms) → v.symbols ≡ k.symbols → IsConsistent k → (t : TermTree) (scope : List ℕ) (e : List Elem) → HasTypes k.domains scope e
+    → TermIsBounded v k.domains t scope → ValueFits k t e
+
+-- a structure, as what makes every atom known, is consistent, leaves no atom unknown and extends itself
+abbrev pub StructuresKnowAll : Type 0
+StructuresKnowAll =
+    (v : Vocabulary) (m : Structure) → IsStructure v m
+    → KnowsAll (known_of v.symbols m) × IsConsistent (known_of v.symbols m) × ExtendsData m (known_of v.symbols m)
+
+-- it extends what is known exactly where it knows more
+abbrev pub ExtendsIsKnowsMore : Type 0
+ExtendsIsKnowsMore =
+    (v : Vocabulary) (m : Structure) → IsStructure v m → (k : KnownAtoms) → k.symbols ≡ v.symbols
+    → AllByRecursion (IsAtomOver k.symbols k.domains) k.false_atoms
+    → ExtendsData m k ↔ KnowsMore k (known_of v.symbols m)
+
+-- over domains as the vocabulary asks for them, what is well typed applies each function within its types, and a term of
+-- a type has an element of the type as its value
+abbrev pub TypedIsWellApplied : Type 0
+TypedIsWellApplied =
+    (v : Vocabulary) (m : Structure) → IsStructure v m → AreDomainsOf v m.domains
+    → (scope : List ℕ) (e : List Elem) → HasTypes m.domains scope e
+    → ((f : FormulaTree) → IsTypedOver v m.domains f scope → IsWellApplied v.symbols m f e)
+    × ((t : TermTree) → TermIsTypedOver v m.domains t scope → AppliesWell v.symbols m t e)
+    × ((t : TermTree) (ty : ℕ) → TermIsTypedOver v m.domains t scope → sort_of v t scope ≡ Some (element_of ty)
+    → (x : Elem) × Contains (domain_at m.domains ty) x × (value_of m t e ≡ denotation_of x))

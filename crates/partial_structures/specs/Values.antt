@@ -1,19 +1,12 @@
--- What the evaluator's values stand for, and the labels that lead to them.
+-- The labels that lead to values.
 use Rattle.std.specs.Prelude.{◌≡◌, ℕ, List, Option, None, Some, option_map}
 use Rattle.std.specs.Str.{bytes_eq}
 use Rattle.kb_logic.specs.Denotations.{Denotation, named, number, minus_infinity, plus_infinity, undefined}
 use Rattle.partial_structures.specs.Words.{place}
 use Rattle.partial_structures.specs.declared.rows.Label.{Label}
 use Rattle.partial_structures.specs.declared.rows.Label.TheVariants.{Word, Number}
-use Rattle.partial_structures.specs.declared.values.Value.{Value}
-use Rattle.partial_structures.specs.declared.values.Value.TheVariants as value
-
-abbrev pub value_view : Value → Denotation
-value_view (value.Named n) = named n.now
-value_view (value.Num z) = number z
-value_view value.NegInf = minus_infinity
-value_view value.PosInf = plus_infinity
-value_view value.Nothing = undefined
+use Rattle.kb_logic.specs.declared.values.Value.{Value}
+pub use Rattle.kb_logic.specs.Values.{value_view}
 
 -- what stands for a value that is an element
 abbrev pub value_label : List (List ℕ) → Denotation → Option Label

@@ -21,15 +21,14 @@ use crate::known::Known;
 use crate::lookups::{atom_truth, given_value, next, start};
 use crate::sides::{Side, compare_sides, weight_of};
 use crate::spots::Place;
-use crate::totals::{first, gather, product_more, sum_more, tally};
+use crate::totals::{gather, product_more, sum_more, tally};
 use crate::truths::Truth;
-use crate::values::{Value, compare, count_value, made_value, number, total_value, variable_value};
-use kb_logic::environments::{Env, extend, split_in};
-use kb_logic::values::Total;
-use kb_logic::{AggKind, Bound, Elem, Formula, Signed, Term};
+use kb_logic::environments::{Env, extend, split_in, variable_value};
+use kb_logic::values::{Total, Value, compare, count_value, made_value, number, total_value};
+use kb_logic::{AggKind, Bound, Elem, Formula, Signed, Term, totals};
 
 #[cycle(certain)]
-fn known<'a>(s: Known<'a>, term: &'a Term, env: &'a Env<'a>) -> Option<Value<'a>>
+pub(crate) fn known<'a>(s: Known<'a>, term: &'a Term, env: &'a Env<'a>) -> Option<Value<'a>>
     requires { ValueFits (known_in s) (term_view term.now) (env_view env.now) }
     ensures { option_map value_view result ≡ known_value (known_in s.entry) (term_view term.now) (env_view env.now) }
 {
@@ -52,7 +51,7 @@ fn known<'a>(s: Known<'a>, term: &'a Term, env: &'a Env<'a>) -> Option<Value<'a>
             Some(None) => Some(Value::Nothing),
         },
         Term::Agg(kind, bounds, formula, weight) => {
-            let before = Some(first(*kind));
+            let before = Some(totals::start(*kind));
             match aggregate(s, *kind, bounds, formula, weight, env, before) {
                 None => None,
                 Some(total) => Some(total_value(total)),

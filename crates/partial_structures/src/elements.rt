@@ -9,7 +9,7 @@ use kb_logic::{ElemList, Memory};
 use std::alloc::Global;
 
 /// An element of the type with this number.
-#[derive(Clone, Copy, PartialEq, Eq, Hash, Debug)]
+#[derive(Clone, Copy, PartialEq, Eq, Hash)]
 pub(crate) struct Typed {
     pub ty: usize,
     pub label: Label,

@@ -6,13 +6,11 @@ ghost use Rattle.std.specs.Prelude.{◌≡◌, ◌↔◌, IsTrue};
 ghost use Rattle.partial_structures.specs.Words.{words_in};
 ghost use Rattle.partial_structures.specs.Flags.{is_closed};
 ghost use Rattle.partial_structures.specs.Tally.{row_status as status_of_row, taken, left_after, tables_left};
-ghost use Rattle.kb_logic.specs.Denotations.{denotation_of, same_value};
 
 use crate::atoms::{function_status, predicate_status};
 use crate::flags::flag;
 use crate::rows::Rows;
 use crate::truths::Truth;
-use kb_logic::values::{elem_value, same};
 use kb_logic::{Elem, ElemList, Table};
 
 fn row_status(rows: &Rows, closed: bool, function: bool, symbol: u32, row: &[Elem]) -> Truth
@@ -89,12 +87,6 @@ pub(crate) fn left_over(
     Some(left)
 }
 
-fn is_same_element(a: &Elem, b: &Elem) -> bool
-    ensures { IsTrue result ↔ (a.now ≡ b.now) }
-{
-    same(elem_value(a), elem_value(b))
-}
-
 fn is_same_domain(a: &[Elem], b: &[Elem]) -> bool
     ensures { IsTrue result ↔ (a.now ≡ b.now) }
 {
@@ -102,7 +94,7 @@ fn is_same_domain(a: &[Elem], b: &[Elem]) -> bool
         return false;
     }
     for i in 0..a.len() {
-        if !is_same_element(&a[i], &b[i]) {
+        if !a[i].same(&b[i]) {
             return false;
         }
     }

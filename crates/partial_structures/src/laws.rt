@@ -1,7 +1,7 @@
 //! What the definitions say, in the subject's own words. The functions are empty: their contracts are laws.
 ghost use Rattle.partial_structures.specs.Examples.{WorkedExamples};
 ghost use Rattle.partial_structures.specs.KnownArithmetic.{NoArithmeticFits};
-ghost use Rattle.partial_structures.specs.Laws.{KnownAtomsHold, EveryIsConjunction, SomeIsDisjunction, CertaintyIsSound, CertaintyIsMonotone, CertaintyIsTruth, SmallBoundsFit};
+ghost use Rattle.partial_structures.specs.Laws.{KnownAtomsHold, EveryIsConjunction, SomeIsDisjunction, CertaintyIsSound, CertaintyIsMonotone, CertaintyIsTruth, ExtendsIsKnowsMore, SmallBoundsFit, SmallTermsFit, StructuresKnowAll, TypedIsWellApplied};
 
 /// What is known of an atom is so in every structure that extends the data.
 pub fn known_atoms_hold()
@@ -47,4 +47,22 @@ pub fn no_arithmetic_fits()
 /// Certain truth and known values over a few known atoms, as worked out by hand.
 pub fn worked_examples()
     ensures { WorkedExamples }
+{}
+
+/// A term with static bounds from -10^15 to 10^15 meets the condition of `known_term`.
+pub fn small_terms_fit()
+    ensures { SmallTermsFit }
+{}
+
+/// A structure can be seen as what makes every atom known, and it extends what is known exactly where it then
+/// knows more.
+pub fn structures_know_all()
+    ensures all { StructuresKnowAll }
+    ensures more { ExtendsIsKnowsMore }
+{}
+
+/// Over domains as the vocabulary asks for them, what is well typed applies each function within its types, and a
+/// term of a type has an element of the type as its value.
+pub fn typed_is_well_applied()
+    ensures { TypedIsWellApplied }
 {}

@@ -16,14 +16,11 @@ mod partial;
 mod rows;
 mod sides;
 mod spots;
-#[cfg(test)]
-mod tests;
 mod totals;
 mod truths;
-mod values;
 mod words;
 
 pub use errors::SetError;
 pub use kb_logic::Memory;
-pub use partial::{Partial, extends, kleene};
+pub use partial::{Partial, extends, kleene, known_term};
 pub use truths::Truth;

@@ -12,7 +12,7 @@ use crate::flags::flag;
 use crate::known::Known;
 use crate::spots::Place;
 use crate::truths::Truth;
-use crate::values::Value;
+use kb_logic::values::Value;
 
 /// Whether the value is an element of the type.
 fn is_element(s: Known<'_>, ty: u32, value: Value<'_>) -> bool

@@ -2,18 +2,22 @@
 ghost use Rattle.std.specs.Prelude.{◌≡◌, ◌↔◌, ◌<◌, ◌+◌, length, IfOk, IfSome, IsTrue, OnOk, OnErr, IsErrOf};
 ghost use Rattle.std.specs.List.{AllByRecursion};
 ghost use Rattle.kb_logic.specs.Structures.{IsDistinct};
-ghost use Rattle.kb_logic.specs.Views.{formula_view};
-ghost use Rattle.partial_structures.specs.Certainty.{certain_truth};
-ghost use Rattle.partial_structures.specs.KnownArithmetic.{CertaintyFits};
+ghost use Rattle.std.specs.Option.{option_map};
+ghost use Rattle.kb_logic.specs.Environments.{env_view};
+ghost use Rattle.kb_logic.specs.Values.{value_view};
+ghost use Rattle.kb_logic.specs.Views.{formula_view, term_view};
+ghost use Rattle.partial_structures.specs.Certainty.{certain_truth, known_value};
+ghost use Rattle.partial_structures.specs.Known.{known_in};
+ghost use Rattle.partial_structures.specs.KnownArithmetic.{CertaintyFits, ValueFits};
 ghost use Rattle.partial_structures.specs.KnownAtoms.{IsAtomOver, atom_of, nothing_known, value_at, with_closed, with_false, with_true};
-ghost use Rattle.partial_structures.specs.Consistency.{IsConsistent};
+ghost use Rattle.partial_structures.specs.Consistency.{IsConsistent, IsListed};
 ghost use Rattle.partial_structures.specs.Counts.{added_by};
 ghost use Rattle.partial_structures.specs.Extension.{ExtendsData, IsStructureOver};
 ghost use Rattle.partial_structures.specs.declared.truths.Truth.TheVariants.{Yes, No};
 ghost use Rattle.partial_structures.specs.declared.errors.SetError.TheVariants.{DataClash};
 
 use crate::atoms::{make_false, make_true, status};
-use crate::certainty::certainty;
+use crate::certainty::{certainty, known};
 use crate::elements::Elements;
 use crate::errors::SetError;
 use crate::extension::{are_same_domains, left_over};
@@ -22,7 +26,11 @@ use crate::known::Known;
 use crate::rows::{Mark, Rows};
 use crate::truths::Truth;
 use crate::words::Words;
-use kb_logic::{DomainList, Elem, Formula, Literal, Memory, Structure, SymbolList, Vocabulary};
+use kb_logic::environments::Env;
+use kb_logic::values::Value;
+use kb_logic::{
+    DomainList, Elem, Formula, Literal, Memory, Structure, SymbolList, Term, Vocabulary,
+};
 use std::alloc::Global;
 use std::marker::Model;
 
@@ -104,11 +112,13 @@ impl Partial {
     }
 
     /// What is known is consistent: no function has two values at the same arguments, and no atom is both
-    /// true and false. It does nothing.
+    /// true and false. It is listed in the order of all atoms, and a function's other values are false where
+    /// one is true. It does nothing.
     pub fn consistency(&self)
-        ensures { IsConsistent self.now }
+        ensures consistent { IsConsistent self.now }
+        ensures listed { IsListed self.now }
     {
-        // Its parts are looked at, so that what it keeps is known here.
+        // Brings the invariant of the type into scope.
         let _count = self.count;
     }
 
@@ -181,14 +191,28 @@ impl Partial {
         requires { CertaintyFits self.now (formula_view f.now) env.now }
         ensures { result ≡ certain_truth self.now (formula_view f.now) env.now }
     {
-        let known = Known {
+        certainty(self.lent(), f, env)
+    }
+
+    /// As `known_term`.
+    fn term<'a>(&'a self, t: &'a Term, env: &'a Env<'a>) -> Option<Value<'a>>
+        requires { ValueFits self.now (term_view t.now) (env_view env.now) }
+        ensures { option_map value_view result ≡ known_value self.now (term_view t.now) (env_view env.now) }
+    {
+        known(self.lent(), t, env)
+    }
+
+    /// What is known, as the evaluator takes it.
+    fn lent(&self) -> Known<'_>
+        ensures { known_in result ≡ self.now }
+    {
+        Known {
             symbols: self.symbols.as_slice(),
             domains: self.domains.as_slice(),
             closed: &self.closed,
             rows: &self.rows,
             elements: &self.elements,
-        };
-        certainty(known, f, env)
+        }
     }
 
     /// Makes every atom of the symbol that is unknown certainly false, which takes no memory.
@@ -200,7 +224,7 @@ impl Partial {
     }
 }
 
-/// How many atoms are true once one more is, of which so much is known; None where they cannot be counted.
+/// How many atoms are true once one more is, whose truth before is `known`; None where they cannot be counted.
 fn counted(known: Truth, count: u64) -> Option<u64>
     ensures { IfSome result (λ n. n ≡ count + added_by known) }
 {
@@ -224,4 +248,13 @@ pub fn kleene<'a>(s: &'a Partial, f: &'a Formula, env: &'a [Elem]) -> Truth
     ensures { result ≡ certain_truth s.now (formula_view f.now) env.now }
 {
     s.certainty(f, env)
+}
+
+/// The value of the term, whose free variables have the elements of `env`, where it is known. It is `Nothing` where the
+/// term is not well typed.
+pub fn known_term<'a>(s: &'a Partial, t: &'a Term, env: &'a Env<'a>) -> Option<Value<'a>>
+    requires { ValueFits s.now (term_view t.now) (env_view env.now) }
+    ensures { option_map value_view result ≡ known_value s.now (term_view t.now) (env_view env.now) }
+{
+    s.term(t, env)
 }

@@ -1,19 +1,21 @@
-//! A tree of rows whose branches are hashed, so that a row is found by its elements one after another.
+//! A trie of rows with hashed edges: a row is found by its elements one after another, without memory and whatever its
+//! length.
 ghost use Rattle.std.specs.Prelude.{◌≡◌, ◌<◌, ◌||◌, ◌++◌, ◌∷◌, None, Some, [], List, ℕ, length, reverse, nat_lt, true, IsTrue, IsSome, All, OnOk, OnErr, IfOk};
 ghost use Rattle.indexmap.specs.IndexMap.{set_value_at};
 ghost use Rattle.partial_structures.specs.Words.{words_in};
 ghost use Rattle.partial_structures.specs.Rows.{Grows, child_of, child_by, has_label, is_symbol, is_tree, label_of, mark_at, node_of};
-ghost use Rattle.partial_structures.specs.Values.{IsValueOf, value_label, value_view};
+ghost use Rattle.partial_structures.specs.Values.{IsValueOf, value_label};
+ghost use Rattle.kb_logic.specs.Values.{value_view};
 
 use crate::truths::Truth;
-use crate::values::Value;
 use crate::words::Words;
 use indexmap::IndexMap;
+use kb_logic::values::Value;
 use kb_logic::{Elem, Memory};
 use std::alloc::Global;
 
 /// What leads from one node to the next: a symbol from the root, then elements.
-#[derive(Clone, Copy, PartialEq, Eq, Hash, Debug)]
+#[derive(Clone, Copy, PartialEq, Eq, Hash)]
 pub(crate) enum Label {
     Symbol(u32),
     Word(usize),
@@ -21,7 +23,7 @@ pub(crate) enum Label {
 }
 
 /// The way to a node from the node before it.
-#[derive(Clone, Copy, PartialEq, Eq, Hash, Debug)]
+#[derive(Clone, Copy, PartialEq, Eq, Hash)]
 pub(crate) struct Edge {
     pub parent: usize,
     pub label: Label,
@@ -42,7 +44,7 @@ impl Mark {
     };
 }
 
-/// Rows by their symbols and elements. Each node of the tree stands for the front of a row.
+/// Rows by their symbols and elements. Each node of the trie stands for a prefix of a row.
 #[derive(Drop)]
 pub(crate) struct Rows {
     pub words: Words,

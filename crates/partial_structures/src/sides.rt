@@ -16,9 +16,8 @@ use crate::known::Known;
 use crate::lookups::value_truth;
 use crate::spots::Place;
 use crate::truths::Truth;
-use crate::values::{Value, compare, number};
 use kb_logic::Cmp;
-use kb_logic::values::Total;
+use kb_logic::values::{Total, Value, compare, number};
 
 /// What is known of a term that is compared: its value, and where its arguments lead where it is an
 /// application.

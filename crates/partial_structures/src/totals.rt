@@ -11,18 +11,9 @@ ghost use Rattle.partial_structures.specs.KnownArithmetic.{gathered};
 ghost use Rattle.partial_structures.specs.Evaluation.{tallied, summed, multiplied, total_of};
 
 use crate::truths::Truth;
-use crate::values::Value;
 use kb_logic::AggKind;
-use kb_logic::values::Total;
-
-fn signed(minus: bool, n: i64) -> i128
-    ensures value { result ≡ signed_of minus n }
-    ensures low { neg_ℤ (pos (2 ^ 63)) ≤ℤ result }
-    ensures high { result ≤ℤ pos (2 ^ 63) }
-{
-    let n = i128::from(n);
-    if minus { -n } else { n }
-}
+use kb_logic::totals::{combine, signed};
+use kb_logic::values::{Total, Value};
 
 fn add(sum: i128, part: i128) -> i128
     requires { FitsSigned w128 (sum +ℤ part) }
@@ -59,51 +50,6 @@ pub(crate) fn product_more(total: Option<i64>, value: Value<'_>) -> Option<i64>
     match (total, value) {
         (Some(product), Value::Num(n)) => Some(product * n),
         _ => None,
-    }
-}
-
-/// An aggregate of nothing.
-pub(crate) fn first(kind: AggKind) -> Total
-    ensures { total_view result ≡ start kind }
-{
-    match kind {
-        AggKind::Count | AggKind::Sum => Total::Num(0),
-        AggKind::Min => Total::PosInf,
-        AggKind::Max => Total::NegInf,
-    }
-}
-
-fn plus(a: Total, b: Total) -> Total
-    requires { NumberFits (added (total_view a) (total_view b)) }
-    ensures { total_view result ≡ added (total_view a) (total_view b) }
-{
-    match (a, b) {
-        (Total::Num(x), Total::Num(y)) => Total::Num(x + y),
-        _ => Total::Nothing,
-    }
-}
-
-fn is_less(a: Total, b: Total) -> bool
-    ensures { result ≡ lower_value (total_view a) (total_view b) }
-{
-    match (a, b) {
-        (Total::Num(x), Total::Num(y)) => x < y,
-        (Total::NegInf, Total::Num(_)) => true,
-        (Total::NegInf, Total::PosInf) => true,
-        (Total::Num(_), Total::PosInf) => true,
-        _ => false,
-    }
-}
-
-fn combine(kind: AggKind, a: Total, b: Total) -> Total
-    requires { NumberFits (combined kind (total_view a) (total_view b)) }
-    ensures { total_view result ≡ combined kind (total_view a) (total_view b) }
-{
-    match kind {
-        AggKind::Count => plus(a, Total::Num(1)),
-        AggKind::Sum => plus(a, b),
-        AggKind::Min => { if is_less(b, a) { b } else { a } }
-        AggKind::Max => { if is_less(a, b) { b } else { a } }
     }
 }
 

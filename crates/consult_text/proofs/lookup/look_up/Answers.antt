@@ -1,5 +1,6 @@
 use Rattle.std.proofs.Common.{◌∙◌, ap, sym, length, subst}
 use Rattle.kb_logic.specs.declared.structures.Literal.{Literal}
+use Rattle.kb_logic.specs.First.{base_of_first}
 use Rattle.consult_text.specs.Literals.{IsLiteralOver}
 use Rattle.consult_text.proofs.Forms.{none_named, first_named, args_length}
 use Rattle.consult_text.proofs.lookup.look_up.Goals as goal
@@ -14,4 +15,4 @@ pub is_literal_over-requires-clause-args : goal.is_literal_over-requires-clause-
 is_literal_over-requires-clause-args c = args_length c.in-Some.symbol.now c.in-Some.number c.args.text.now c.if-not-has_form.ensures ∙ ap (λ (l : Literal). length l.args) (sym c.in_ok-literal.ensures)
 
 pub returns-else-is_literal_over : goal.returns-else-is_literal_over
-returns-else-is_literal_over c = (c.in-Some.number, c.in-Some.symbol.now, first_named c.as_slice.result.now c.args.kb.now.vocab.symbols c.args.text.now c.in-Some.number c.in-Some.symbol.now c.as_slice.ensures c.in-Some.ensures, c.if-not-has_form.ensures, λ h. c.if-is_literal_over.ensures (subst (IsLiteralOver c.args.kb.now) (sym c.in_ok-literal.ensures) h))
+returns-else-is_literal_over c = (c.in-Some.number, c.in-Some.symbol.now, first_named c.as_slice.result.now c.args.kb.now.vocab.symbols c.args.text.now c.in-Some.number c.in-Some.symbol.now c.as_slice.ensures c.in-Some.ensures, c.if-not-has_form.ensures, λ h. c.if-is_literal_over.ensures (subst (IsLiteralOver (base_of_first c.args.kb.now)) (sym c.in_ok-literal.ensures) h))

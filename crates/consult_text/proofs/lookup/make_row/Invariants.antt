@@ -1,6 +1,6 @@
 use Rattle.std.proofs.Common.{◌≡◌, take, map}
 use Rattle.consult_text.specs.Literals.{elem_of}
-use Rattle.consult_text.specs.Cuts.{elem_views}
+use Rattle.consult_text.specs.Parse.{elem_views}
 use Rattle.consult_text.proofs.lookup.make_row.Given as goal
 
 abbrev pub invariant-loop-text : goal.invariant-loop-text

@@ -1,5 +1,5 @@
 use Rattle.std.proofs.Common.{◌≡◌, drop}
-use Rattle.consultant_session.specs.DomainOrder.{same_row}
+use Rattle.consult_text.specs.States.{same_row}
 use Rattle.consultant_session.proofs.elements.are_same_rows.Given as goal
 
 abbrev pub invariant-loop-i : goal.invariant-loop-i

@@ -1,5 +1,5 @@
 use Rattle.std.proofs.Common.{sym, ◌∙◌, ap, Bool, ◌&&◌}
-use Rattle.consultant_session.specs.DomainOrder.{same_elem}
+use Rattle.consult_text.specs.States.{same_elem}
 use Rattle.consultant_session.proofs.LiteralLemmas.{pushed_entry}
 use Rattle.consultant_session.proofs.literals.is_entry.Goals as goal
 

@@ -1,4 +1,4 @@
-use Rattle.kb_io.specs.Lines.{lines_are_cut}
+use Rattle.kb_io.proofs.LineLemmas.{lines_are_cut}
 use Rattle.kb_io.proofs.laws.lines_are_cut_at_newlines.Goals as goal
 
 pub returns : goal.returns

@@ -1,4 +1,4 @@
-use Rattle.kb_io.specs.Pending.{next_line_is_first}
+use Rattle.kb_io.proofs.FirstLines.{next_line_is_first}
 use Rattle.kb_io.proofs.lines.next_line.Goals as goal
 
 pub returns-clause-lines : goal.returns-clause-lines

@@ -47,7 +47,7 @@ term_value-aggregate-requires t c =
     let opened : TermFits w (aggregate c.in-Agg.kind c.in-Agg.bounds.items (formula_view c.in-Agg.formula.value) (term_view c.in-Agg.weight.value)) e =
     rw (term_view-Agg c.in-Agg.kind c.in-Agg.bounds c.in-Agg.formula c.in-Agg.weight) at fits in (
       omega (arith, size-Agg c.in-Agg.kind c.in-Agg.bounds c.in-Agg.formula c.in-Agg.weight, ap size-Term c.in-Agg.is, ap size-Formula c.deref-in-Agg-2.ensures, ap size-Term c.deref-in-Agg-3.ensures),
-      rw (c.deref-in-Agg.ensures.value, c.deref-in-Agg-2.ensures, c.deref-in-Agg-3.ensures, c.first.ensures) opened,
+      rw (c.deref-in-Agg.ensures.value, c.deref-in-Agg-2.ensures, c.deref-in-Agg-3.ensures, c.start.ensures) opened,
     )
 
 pub term_value-returns-in-Agg : goal.term_value-returns-in-Agg
@@ -57,7 +57,7 @@ term_value-returns-in-Agg t c =
     let k = c.in-Agg.kind in
     let vs = values_where (λ (a : List Elem). truth_of m (formula_view c.deref-in-Agg-2.result.now) (e ++ a)) (λ (a : List Elem). as_number (value_of m (term_view c.deref-in-Agg-3.result.now) (e ++ a))) (assignments m c.deref-in-Agg.result.now) in
     rw (c.in-Agg.is, term_view-Agg, ← c.deref-in-Agg.ensures.value, ← c.deref-in-Agg-2.ensures, ← c.deref-in-Agg-3.ensures)
-    (c.total_value.ensures ∙ c.aggregate.ensures ∙ ap (λ s. fold (combined k) s vs) c.first.ensures ∙ sym (aggregate_is_fold k vs))
+    (c.total_value.ensures ∙ c.aggregate.ensures ∙ ap (λ s. fold (combined k) s vs) c.start.ensures ∙ sym (aggregate_is_fold k vs))
 
 pub is_every-is_every-requires : goal.is_every-is_every-requires
 is_every-is_every-requires t c =

@@ -1,5 +1,5 @@
 use Rattle.kb_logic.specs.First.{unknown_of}
-use Rattle.kb_logic.proofs.Tuples.{next_sum, whole_sum}
+use Rattle.kb_logic.proofs.TupleCounts.{next_sum, whole_sum}
 use Rattle.kb_logic.proofs.first.open_atoms.Goals as goal
 
 pub loop-number-preserved : goal.loop-number-preserved

@@ -1,5 +1,5 @@
 use Rattle.std.proofs.Common.{◌∙◌, arith}
-use Rattle.kb_logic.proofs.Tuples.{next_product}
+use Rattle.kb_logic.proofs.TupleCounts.{next_product}
 use Rattle.kb_logic.proofs.first.tuple_count.Goals as goal
 
 pub loop-ty-preserved : goal.loop-ty-preserved

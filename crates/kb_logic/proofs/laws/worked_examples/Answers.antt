@@ -10,4 +10,5 @@ returns c = (
   (refl, refl, refl, refl, refl, refl, refl, refl, refl),
   (refl, refl, refl, refl),
   (refl, refl, refl, refl, refl, refl, refl, refl, refl, refl, refl),
+  (refl, refl, refl, refl, refl, refl),
 )

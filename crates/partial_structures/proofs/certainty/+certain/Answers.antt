@@ -255,7 +255,7 @@ known-aggregate-requires t c =
     let opened : ValueFits k (aggregate c.in-Agg.kind c.in-Agg.bounds.items (formula_view c.in-Agg.formula.value) (term_view c.in-Agg.weight.value)) e =
     rw (term_view-Agg c.in-Agg.kind c.in-Agg.bounds c.in-Agg.formula c.in-Agg.weight) at fits in (
       omega (arith, size-Agg c.in-Agg.kind c.in-Agg.bounds c.in-Agg.formula c.in-Agg.weight, ap size-Term c.in-Agg.is, ap size-Formula c.deref-in-Agg-2.ensures, ap size-Term c.deref-in-Agg-3.ensures),
-      rw (c.deref-in-Agg.ensures.value, c.deref-in-Agg-2.ensures, c.deref-in-Agg-3.ensures, c.first.ensures) opened,
+      rw (c.deref-in-Agg.ensures.value, c.deref-in-Agg-2.ensures, c.deref-in-Agg-3.ensures, c.start.ensures) opened,
     )
 
 pub known-returns-in-None-aggregate : goal.known-returns-in-None-aggregate
@@ -266,7 +266,7 @@ known-returns-in-None-aggregate t c =
     let V = λ (a : List Elem). option_map as_number (known_value k (term_view c.deref-in-Agg-3.result.now) (e ++ a)) in
     let cs = choices c.args.s.domains.now c.deref-in-Agg.result.now in
     rw (c.in-Agg.is, term_view-Agg, ← c.deref-in-Agg.ensures.value, ← c.deref-in-Agg-2.ensures, ← c.deref-in-Agg-3.ensures)
-    (ap total_of (sym c.in-None-aggregate.is) ∙ c.aggregate.ensures ∙ ap (λ d. fold (λ u a. gathered c.in-Agg.kind u (P a) (V a)) (Some d) cs) c.first.ensures ∙ fold_aggregate P c.in-Agg.kind V cs)
+    (ap total_of (sym c.in-None-aggregate.is) ∙ c.aggregate.ensures ∙ ap (λ d. fold (λ u a. gathered c.in-Agg.kind u (P a) (V a)) (Some d) cs) c.start.ensures ∙ fold_aggregate P c.in-Agg.kind V cs)
 
 pub known-returns-in-Some-aggregate : goal.known-returns-in-Some-aggregate
 known-returns-in-Some-aggregate t c =
@@ -276,7 +276,7 @@ known-returns-in-Some-aggregate t c =
     let V = λ (a : List Elem). option_map as_number (known_value k (term_view c.deref-in-Agg-3.result.now) (e ++ a)) in
     let cs = choices c.args.s.domains.now c.deref-in-Agg.result.now in
     rw (c.in-Agg.is, term_view-Agg, ← c.deref-in-Agg.ensures.value, ← c.deref-in-Agg-2.ensures, ← c.deref-in-Agg-3.ensures)
-    (ap Some c.total_value.ensures ∙ ap total_of (sym c.in-Some-aggregate.is) ∙ c.aggregate.ensures ∙ ap (λ d. fold (λ u a. gathered c.in-Agg.kind u (P a) (V a)) (Some d) cs) c.first.ensures ∙ fold_aggregate P c.in-Agg.kind V cs)
+    (ap Some c.total_value.ensures ∙ ap total_of (sym c.in-Some-aggregate.is) ∙ c.aggregate.ensures ∙ ap (λ d. fold (λ u a. gathered c.in-Agg.kind u (P a) (V a)) (Some d) cs) c.start.ensures ∙ fold_aggregate P c.in-Agg.kind V cs)
 
 pub certain-returns-in-All : goal.certain-returns-in-All
 certain-returns-in-All t c =

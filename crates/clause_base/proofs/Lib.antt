@@ -1,0 +1,11 @@
+pub mod ArenaFacts
+pub mod DecisionFacts
+pub mod EachOnce
+pub mod LinkFacts
+pub mod ListFacts
+pub mod ListsChange
+pub mod PropagateFacts
+pub mod StoreFacts
+pub mod TrailCut
+pub mod TrailFacts
+pub mod TrailGrowth

@@ -1,0 +1,9 @@
+pub mod ClauseDbFields
+pub mod ClauseDbState
+pub mod Links
+pub mod ListsFields
+pub mod ListsState
+pub mod StoreState
+pub mod TrailFields
+pub mod TrailLaws
+pub mod TrailState

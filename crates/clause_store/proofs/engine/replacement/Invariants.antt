@@ -1,6 +1,0 @@
-use Rattle.std.proofs.Common.{◌≡◌, ◌⊎◌, All, Some, false, take}
-use Rattle.lit_core.specs.Literals.{value_in}
-use Rattle.clause_store.proofs.engine.replacement.Given as goal
-
-abbrev pub invariant-loop-lit : goal.invariant-loop-lit
-invariant-loop-lit l = All (λ m. (m ≡ l.other) ⊎ (value_in l.assignment m ≡ Some false)) (take l.lit-index l.lits)

@@ -1,8 +1,0 @@
-use Rattle.std.proofs.Common.{sym, subst, All}
-use Rattle.lit_core.specs.Literals.{negated}
-use Rattle.clause_store.specs.StoreState.{StoreState}
-use Rattle.clause_store.specs.TrailLaws.{IsFixed}
-use Rattle.clause_store.proofs.stores.Store.push_clause.Goals as goal
-
-pub push_clause-requires-clause-unopposed : goal.push_clause-requires-clause-unopposed
-push_clause-requires-clause-unopposed c = subst (λ (s : StoreState). All (λ l. IsFixed s.trail (negated l) → ⊥) c.args.lits.now) (sym c.self.view_is) c.requires.unopposed

@@ -1,9 +1,0 @@
-use Rattle.std.proofs.Common.{length}
-use Rattle.clause_store.specs.TrailFields.{IsBeingCut}
-use Rattle.clause_store.proofs.trails.Trail.back_to.Given as goal
-
-abbrev pub invariant-loop : goal.invariant-loop
-invariant-loop l = IsBeingCut l.fn.self l.level l.self-inside
-
-abbrev pub decreases-loop : goal.decreases-loop
-decreases-loop l = length l.self-inside.steps.items

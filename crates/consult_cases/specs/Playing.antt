@@ -1,0 +1,51 @@
+-- What is printed of the cases.
+use Rattle.std.specs.Prelude.{◌≡◌, ◌++◌, ℕ, List, [], codes, Option, Some, None}
+use Rattle.std.specs.Fmt.{decimal}
+use Rattle.memchr.specs.Find.{FindsNeedle}
+use Rattle.idp_cli.specs.Codes.{code_of}
+use Rattle.idp_cli.specs.Runs.{Words, Outside, RunEnds}
+use Rattle.idp_cli.specs.declared.status.Status.{Status}
+use Rattle.consult_cases.specs.Cases.{IsCutAt, IsCase}
+
+-- the name of the one file
+abbrev pub kb : List ℕ
+kb = codes "kb"
+
+-- A run by these words, over a shelf whose file `kb` has these bytes, and with these commands, ended in this status
+-- and left
+-- this text in an output that held nothing.
+pub record Leaves (words : Words) (file script : List ℕ) (status : Status) (text : List ℕ) : Type 0 where
+  pub before : Outside
+  pub now : Outside
+  pub is_file : before.files kb ≡ Some file
+  pub is_script : before.streams.script ≡ Some script
+  pub empty : before.streams.out ≡ Some []
+  pub ends : RunEnds status words before now
+  pub left : now.streams.out ≡ Some text
+
+abbrev pub status_text : Status → List ℕ
+status_text status = codes "status " ++ (decimal (code_of status) ++ codes "\n")
+
+-- the replies, and the line of the status
+abbrev pub outcome_text : Status → List ℕ → List ℕ
+outcome_text status text = text ++ status_text status
+
+-- what is printed of a case is what a run over its file and commands left
+abbrev pub IsPlayed : List ℕ → List ℕ → Type 0
+IsPlayed text printed =
+    (head : List ℕ) × (file : List ℕ) × (script : List ℕ) × IsCase text head file script
+    × ((words : Words) × (status : Status) × (left : List ℕ) × Leaves words file script status left ×
+    (printed ≡ outcome_text status left))
+
+abbrev pub marker : List ℕ
+marker = codes "\n====\n"
+
+-- such a piece is added for the text
+abbrev pub Adds : (List ℕ → List ℕ → Type 0) → List ℕ → List ℕ → List ℕ → Type 0
+Adds IsOne text old new = (piece : List ℕ) × IsOne text piece × (new ≡ old ++ piece)
+
+-- what is printed of all cases
+pub data IsReport : List ℕ → List ℕ → Type 0 where
+  last : {texts printed : List ℕ} → FindsNeedle texts marker 0 None → IsPlayed texts printed → IsReport texts printed
+  next : {texts printed more : List ℕ} (text rest : List ℕ) → IsCutAt marker texts text rest
+      → IsPlayed text printed → IsReport rest more → IsReport texts (printed ++ more)

@@ -1,9 +1,0 @@
-use Rattle.consult_text.specs.Cuts.{toks, elem_views, elem_view, CutsHead}
-use Rattle.consult_text.proofs.Cut.{no_positive}
-use Rattle.consult_text.proofs.cuts.cut_positive.Goals as goal
-
-pub returns : goal.returns
-returns c =
-    let head : CutsHead (toks c.args.tokens.now) c.in-Some.head.name.now (elem_views c.in-Some.head.args.items) (toks c.in-Some.rest.now) = rw c.in-Some.is at c.in_ok-head.ensures in
-    let cut = c.in-Some-cut_elem.ensures.cut in
-    no_positive (toks c.args.tokens.now) c.in-Some.head.name.now (elem_views c.in-Some.head.args.items) (toks c.in-Some.rest.now) (toks c.in-Some-cut_equality.behind.now) (toks c.in-Some-cut_elem.rest.now) c.in-Some-cut_equality.positive (elem_view c.in-Some-cut_elem.value) head c.if-is_dot.ensures c.in-Some-cut_equality.ensures cut.0 c.if-is_dot-2.ensures

@@ -1,0 +1,98 @@
+//! What the adapters hand on, and that each error is counted.
+
+use super::{CountedReader, CountedWriter, FileSystem};
+use kb_io::{Shelf, Sink, Source};
+use std::io::{self, ErrorKind, Read, Write};
+use std::test::Fail;
+
+/// A stream each of whose calls fails.
+#[derive(Drop)]
+struct Broken;
+
+impl Read for Broken {
+    fn read(&mut self, _buf: &mut [u8]) -> io::Result<usize> {
+        Err(io::Error::from(ErrorKind::Other))
+    }
+}
+
+impl Write for Broken {
+    fn write(&mut self, _buf: &[u8]) -> io::Result<usize> {
+        Err(io::Error::from(ErrorKind::Other))
+    }
+
+    fn flush(&mut self) -> io::Result<()> {
+        Err(io::Error::from(ErrorKind::Other))
+    }
+}
+
+/// A stream that takes nothing.
+#[derive(Drop)]
+struct Full;
+
+impl Write for Full {
+    fn write(&mut self, _buf: &[u8]) -> io::Result<usize> {
+        Ok(0)
+    }
+
+    fn flush(&mut self) -> io::Result<()> {
+        Ok(())
+    }
+}
+
+#[test]
+fn failing_reads_are_counted(rt: HostRuntime) -> Result<(), Fail> {
+    let mut broken = CountedReader::new(Broken);
+    assert!(rt; broken.read(&mut [0u8; 4]).is_err());
+    assert!(rt; broken.read(&mut [0u8; 4]).is_err());
+    assert_eq!(rt; broken.faults, 2);
+    Ok(())
+}
+
+#[test]
+fn bytes_are_read(rt: HostRuntime) -> Result<(), Fail> {
+    let mut text = CountedReader::new(b"text".as_slice());
+    let mut buf = [0u8; 8];
+    assert_eq!(rt; text.read(&mut buf)?, 4);
+    assert_eq!(rt; &buf[..4], b"text".as_slice());
+    assert_eq!(rt; text.faults, 0);
+    Ok(())
+}
+
+#[test]
+fn failing_writes_and_flushes_are_counted(rt: HostRuntime) -> Result<(), Fail> {
+    let mut broken = CountedWriter::new(Broken);
+    assert!(rt; broken.write(b"text").is_err());
+    assert!(rt; broken.flush().is_err());
+    assert_eq!(rt; broken.faults, 2);
+    Ok(())
+}
+
+#[test]
+fn taking_nothing_is_a_fault(rt: HostRuntime) -> Result<(), Fail> {
+    let mut full = CountedWriter::new(Full);
+    assert!(rt; full.write(b"text").is_err());
+    assert_eq!(rt; full.write(b"")?, 0);
+    full.flush()?;
+    assert_eq!(rt; full.faults, 1);
+    Ok(())
+}
+
+#[test]
+fn a_file_that_is_not_there_is_a_fault(rt: HostRuntime) -> Result<(), Fail> {
+    let mut files = FileSystem::new(&rt);
+    assert!(rt; files.open("no such file").is_err());
+    assert_eq!(rt; files.faults, 1);
+    Ok(())
+}
+
+#[test]
+fn faults_of_a_file_reach_the_files_when_it_is_closed(rt: HostRuntime) -> Result<(), Fail> {
+    let mut files = FileSystem::new(&rt);
+    // A folder is opened, and cannot be read.
+    let mut folder = files.open("/")?;
+    assert!(rt; folder.read(&mut [0u8; 4]).is_err());
+    assert_eq!(rt; files.faults, 0);
+    files.close(folder);
+    assert_eq!(rt; files.faults, 1);
+    Ok(())
+}

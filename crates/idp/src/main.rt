@@ -1,0 +1,47 @@
+//! The consultant's program: the words of the process, its files and its standard streams, handed to `run`.
+#![tactic(auto)]
+
+mod adapters;
+#[cfg(test)]
+mod tests;
+
+use adapters::{CountedReader, CountedWriter, FileSystem};
+use idp_cli::laws::{printed_bytes_determine_the_replies, statuses_come_where_they_should};
+use idp_cli::{Status, run};
+use kb_io::NullSink;
+use std::alloc::AllocError;
+use std::env::{self, Env};
+use std::io::ErrorKind;
+use std::process::ExitCode;
+
+/// The words after the program's name. A word that is no text makes them none, which is no command line.
+fn words_of<R: Env + AllocGlobal>(rt: &R) -> Result<Vec<String>, AllocError> {
+    let mut words = Vec::new(rt.alloc());
+    match env::args(rt) {
+        Ok(args) => {
+            for word in args.skip(1) {
+                words.push(word)?;
+            }
+        }
+        Err(e) if e.kind() == ErrorKind::OutOfMemory => return Err(AllocError),
+        Err(_) => {}
+    }
+    Ok(words)
+}
+
+fn main(rt: HostRuntime) -> ExitCode {
+    statuses_come_where_they_should();
+    printed_bytes_determine_the_replies();
+    let status = match words_of(&rt) {
+        Ok(words) => run(
+            rt.alloc(),
+            &words,
+            &mut FileSystem::new(&rt),
+            &mut CountedReader::new(rt.stdin()),
+            &mut CountedWriter::new(rt.stdout()),
+            &mut NullSink,
+        ),
+        Err(_) => Status::Memory,
+    };
+    ExitCode::from(status.code())
+}

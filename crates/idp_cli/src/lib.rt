@@ -1,0 +1,11 @@
+//! The top call: one run of the program, over devices that the caller hands in.
+#![tactic(auto)]
+
+mod consultation;
+pub mod laws;
+mod load;
+mod runs;
+mod status;
+
+pub use runs::run;
+pub use status::Status;
