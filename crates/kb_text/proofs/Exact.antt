@@ -11,7 +11,7 @@ use Rattle.kb_text.proofs.Fronts.{same_length, same_token, same_cause, gap_or_to
 refusal : K → ℕ → KbFault
 refusal c p = record { cause = c; place = p }
 
--- what goes on behind this token
+-- what goes on after this token
 Behind : Around → ℕ → ℕ → List ℕ → Kind → Outcome → Type 0
 Behind s p n bytes k (Ok us) = (ts : List Lexeme) × (us ≡ lexeme bytes p k n ∷ ts) × TokensFrom (after_token s k (take n bytes)) (p + n) (drop n bytes) (Ok ts)
 Behind s p n bytes k (Err f) = TokensFrom (after_token s k (take n bytes)) (p + n) (drop n bytes) (Err f)

@@ -39,7 +39,7 @@ ends_by : (fuel d : ℕ) (bytes : List ℕ) → length bytes < fuel → Ends d b
 ends_by zero d bytes few = absurd (omega arith)
 ends_by (suc fuel) d bytes few = ends_step d bytes (λ e rest shorter. ends_by fuel e rest (omega (arith, few, shorter))) (step_of d (passage_at bytes)) refl
 
--- ---- the front
+-- ---- the start
 
 data Front (in_braces : Bool) (bytes : List ℕ) : Type 0 where
   front_gap : (x : Piece) (n : ℕ) → IsGap x → IsLongest bytes x n → Front in_braces bytes

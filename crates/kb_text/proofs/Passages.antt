@@ -116,7 +116,7 @@ only_end (passes {bytes = bytes} next n e rest) s (passes {r = t} next' n' f res
     let moved : ClosesAfter next (drop n bytes) t = rw (same_next, same) at rest' in
     rw same (ap (later_by n) (only_end rest t moved))
 
--- with so many braces open behind so many bytes, whatever the rest gives, the whole gives
+-- with so many braces open after so many bytes, whatever the rest gives, the whole gives
 pub record Reaches (bytes : List ℕ) (d i : ℕ) : Type 0 where
   pub within : i ≤ length bytes
   pub few : d ≤ i

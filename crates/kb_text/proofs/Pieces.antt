@@ -30,7 +30,7 @@ opens_with WordText b bs h = h.0
 opens_with IntText b bs h = h.0
 opens_with SignText b bs h = h.0
 
--- a front of bytes that pass is no longer than their run
+-- a prefix of bytes that pass is no longer than their run
 run_longest : (p : ℕ → Bool) (m : ℕ) (xs : List ℕ) → m ≤ length xs → list_all p (take m xs) ≡ true → m ≤ prefix_len p xs
 run_longest p zero xs le h = omega arith
 run_longest p (suc m) [] le h = absurd (omega arith)

@@ -1,4 +1,4 @@
--- What the scan finds at the front of a text.
+-- What the scan finds at the start of a text.
 use Rattle.std.specs.Prelude.{ℕ, List, Bool}
 use Rattle.kb_text.specs.declared.piece.Found.{Found}
 use Rattle.kb_text.specs.declared.piece.Found.TheVariants as found

@@ -39,12 +39,12 @@ IsUpTo first second [] = ⊥
 IsUpTo first second (a ∷ []) = ⊥
 IsUpTo first second (a ∷ b ∷ bs) = MatchBool (is_end first second a b) (bs ≡ []) (IsUpTo first second (b ∷ bs))
 
--- behind the first slash: another slash, and the rest of the line
+-- after the first slash: another slash, and the rest of the line
 abbrev pub IsLineTail : List ℕ → Type 0
 IsLineTail [] = ⊥
 IsLineTail (b ∷ bs) = (b ≡ 47) × (list_all is_line_byte bs ≡ true)
 
--- behind the first slash: a star, and all up to the first star with a slash
+-- after the first slash: a star, and all up to the first star with a slash
 abbrev pub IsBlockTail : List ℕ → Type 0
 IsBlockTail [] = ⊥
 IsBlockTail (b ∷ bs) = (b ≡ 42) × IsUpTo 42 47 bs
@@ -58,7 +58,7 @@ IsPiece WordText (b ∷ bs) = (class_of b ≡ Letter) × (list_all is_word_byte 
 IsPiece IntText (b ∷ bs) = (class_of b ≡ Digit) × (list_all is_digit_byte bs ≡ true)
 IsPiece SignText (b ∷ bs) = (class_of b ≡ Mark) × IsSignTail b bs
 
--- the first n bytes are this piece, and no longer front is a piece
+-- the first n bytes are this piece, and no longer prefix is a piece
 pub record IsLongest (bytes : List ℕ) (x : Piece) (n : ℕ) : Type 0 where
   pub within : n ≤ length bytes
   pub piece : IsPiece x (take n bytes)

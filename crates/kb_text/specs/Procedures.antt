@@ -41,7 +41,7 @@ pub data ClosesAfter : ℕ → List ℕ → Option ℕ → Type 0 where
   stops : {d : ℕ} {bytes : List ℕ} → step_of d (passage_at bytes) ≡ Stop → ClosesAfter d bytes None
   passes : {d : ℕ} {bytes : List ℕ} {r : Option ℕ} (e n : ℕ) → step_of d (passage_at bytes) ≡ Next e n → ClosesAfter e (drop n bytes) r → ClosesAfter d bytes (later_by n r)
 
--- the length of the word at the front
+-- the length of the word at the start
 abbrev pub word_end : List ℕ → ℕ
 word_end bytes = prefix_len is_word_byte bytes
 
@@ -52,7 +52,7 @@ is_procedure_word in_braces text = if in_braces then false else bytes_eq text (c
 abbrev pub begins_procedure : Bool → List ℕ → Bool
 begins_procedure in_braces bytes = is_procedure_word in_braces (take (word_end bytes) bytes)
 
--- the length of the procedure at the front, if it is closed
+-- the length of the procedure at the start, if it is closed
 abbrev pub ProcedureEnds : List ℕ → Option ℕ → Type 0
 ProcedureEnds bytes r = ClosesAfter 0 (drop (word_end bytes) bytes) r
 

@@ -6,7 +6,7 @@ use Rattle.kb_text.specs.declared.fault.LexError.{LexError}
 use Rattle.kb_text.specs.declared.fault.LexError.TheVariants as errors
 use Rattle.kb_text.specs.declared.fault.K.TheVariants.{Syntax, UnknownName, Redeclared, WrongArity, TypeClash, Untyped, TypeNotGiven, NotAnElement, DataClash, Unsupported, BadHead, OutOfRange, TooLarge, TooLong, TooDeep, BlockChoice}
 
--- the number behind the letter K
+-- the number after the letter K
 abbrev pub number_of : K → ℕ
 number_of Syntax = 1
 number_of UnknownName = 2

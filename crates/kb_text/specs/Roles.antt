@@ -1,4 +1,4 @@
--- What each sign does to the depth of the tokens behind it.
+-- What each sign does to the depth of the tokens after it.
 use Rattle.std.specs.Prelude.{ℕ, List, [], ◌∷◌, ◌==◌, if◌then◌else◌, codes}
 use Rattle.kb_text.specs.declared.role.Role.{Role}
 use Rattle.kb_text.specs.declared.role.Role.TheVariants.{Open, Close, Count, Stop, Prefix, Other}
@@ -15,7 +15,7 @@ single_role b =
     else (if one_of (codes "~-") b then Prefix
     else Other))))))
 
--- what a sign does to the depth of those behind it
+-- what a sign does to the depth of those after it
 abbrev pub role_of : List ℕ → Role
 role_of [] = Other
 role_of (a ∷ []) = single_role a

@@ -31,14 +31,14 @@ lexemes ts = map lexeme_of ts
 abbrev pub Outcome : Type 0
 Outcome = Result (List Lexeme) KbFault
 
--- the token at the front: the longest piece, but a procedure goes on to its closing brace
+-- the token at the start: the longest piece, but a procedure goes on to its closing brace
 abbrev pub IsTokenAt : Bool → List ℕ → Kind → ℕ → Type 0
 IsTokenAt in_braces bytes Word n = IsLongest bytes WordText n × (begins_procedure in_braces bytes ≡ false)
 IsTokenAt in_braces bytes Int n = IsLongest bytes IntText n
 IsTokenAt in_braces bytes Sign n = IsLongest bytes SignText n
 IsTokenAt in_braces bytes Procedure n = (begins_procedure in_braces bytes ≡ true) × ((m : ℕ) × ProcedureEnds bytes (Some m) × (n ≡ word_end bytes + m))
 
--- why neither a token nor a gap is at the front
+-- why neither a token nor a gap is at the start
 abbrev pub NoTokenAt : Bool → List ℕ → K → Type 0
 NoTokenAt in_braces bytes cause = (NothingBegins bytes × (cause ≡ cause_at bytes)) ⊎ ((begins_procedure in_braces bytes ≡ true) × ProcedureEnds bytes None × (cause ≡ Syntax))
 
@@ -57,7 +57,7 @@ unsupported_call_words = codes "abs" ∷ []
 abbrev pub is_word_of : List (List ℕ) → List ℕ → Bool
 is_word_of words text = list_any (λ w. bytes_eq w text) words
 
--- a word that is refused, alone or by the byte behind it
+-- a word that is refused, alone or by the byte after it
 abbrev pub is_unsupported : List ℕ → List ℕ → Bool
 is_unsupported text behind =
     if is_word_of unsupported_words text then true
@@ -72,7 +72,7 @@ decimal bs = fold (λ n b. 10 * n + (b - 48)) 0 bs
 abbrev pub is_too_large : List ℕ → Bool
 is_too_large text = nat_le (2 ^ 63) (decimal text)
 
--- why a token is refused for its own sake, with the bytes behind it
+-- why a token is refused for its own sake, with the bytes after it
 abbrev pub own_refusal_of : Kind → List ℕ → List ℕ → Option K
 own_refusal_of Word text behind = if is_unsupported text behind then Some Unsupported else None
 own_refusal_of Int text behind = if is_too_large text then Some OutOfRange else None
@@ -99,7 +99,7 @@ pub data TokensFrom : Around → ℕ → List ℕ → Outcome → Type 0 where
   refused : {s : Around} {p : ℕ} {bytes : List ℕ} {c : K} (n : ℕ) (k : Kind) → IsTokenAt s.layer.in_braces bytes k n → refusal_of s k (take n bytes) (drop n bytes) ≡ Some c → TokensFrom s p bytes (Err (record { cause = c; place = p }))
   stuck : {s : Around} {p b : ℕ} {bs : List ℕ} {c : K} → NoTokenAt s.layer.in_braces (b ∷ bs) c → TokensFrom s p (b ∷ bs) (Err (record { cause = c; place = p }))
 
--- what the call answers, unless memory ran out
+-- what the call returns, unless memory ran out
 abbrev pub Fails : LexError → List ℕ → Type 0
 Fails errors.Memory src = Unit {0}
 Fails (errors.Refused f) src = TokensFrom outermost 0 src (Err f)

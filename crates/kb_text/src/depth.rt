@@ -1,3 +1,7 @@
+//! How deep the next token stands: what K16 bounds.
+//!
+//! The depth counts all constructs that are open at a place: brackets, the quantifiers and arrows since the last dot of
+//! the same bracket, and the signs `~` and `-` just before. So no reader of the tokens recurses deeper than that.
 ghost use Rattle.std.specs.Prelude.{◌≡◌, ◌≤◌, ◌+◌, OnOk};
 
 use crate::role::{Role, role_of};
@@ -9,8 +13,11 @@ use std::alloc::{AllocError, Global};
 pub struct Level {
     /// The bracket, or 0 outside of all.
     bracket: u8,
+    /// The depth of what stands in it.
     base: u32,
+    /// The quantifiers and arrows since the last dot.
     count: u32,
+    /// Whether it or one around it is a brace.
     in_braces: bool,
     ghost bounded: { base + count ≤ 201 },
 }
@@ -19,7 +26,9 @@ pub struct Level {
 #[derive(Drop)]
 pub struct Nesting {
     level: Level,
+    /// The levels around it, the outermost first.
     outer: Vec<Level>,
+    /// The signs `~` and `-` just before.
     run: u32,
     ghost short: { run ≤ 201 },
 }
@@ -117,7 +126,7 @@ impl Nesting {
         }
     }
 
-    /// Goes on behind a token.
+    /// Goes on after a token.
     pub fn pass(&mut self, kind: Kind, text: &[u8]) -> Result<(), AllocError>
         requires { depth_of (around_of self.old) ≤ 200 }
         ensures { OnOk result (around_of self.new ≡ after_token (around_of self.old) kind text.now) }

@@ -1,3 +1,4 @@
+//! Where quoted texts and long brackets of Lua end.
 ghost use Rattle.std.specs.Prelude.{◌≡◌, ◌≤◌, length, false, IfSome};
 ghost use Rattle.kb_text.specs.Ends.{close_of, is_end, is_unescaped, quoted_of};
 

@@ -1,3 +1,4 @@
+//! The refusals of every stage of reading, with their numbers and names.
 ghost use Rattle.std.specs.Prelude.{◌≡◌, Some};
 ghost use Rattle.kb_text.specs.Refusals.{number_of, name_of, text_of, error_text_of};
 ghost use Rattle.kb_text.specs.declared.fault.LexError.TheVariants.{Memory};
@@ -8,7 +9,7 @@ use std::fmt;
 
 /// Why a knowledge base is refused.
 ///
-/// Every stage of reading answers one of these. The numbers 11 and 18 are not used.
+/// Every stage of reading returns one of these. The numbers 11 and 18 are not used.
 #[derive(Clone, Copy, Debug, PartialEq, Eq)]
 pub enum K {
     /// A byte begins no token, something is not closed, or the tokens are no text of the grammar.
@@ -46,7 +47,7 @@ pub enum K {
 }
 
 impl K {
-    /// The number that is printed behind the letter K.
+    /// The number that is printed after the letter K.
     pub fn number(self) -> u8
         ensures { result ≡ number_of self }
     {
@@ -70,7 +71,7 @@ impl K {
         }
     }
 
-    /// The name that is printed behind the number.
+    /// The name that is printed after the number.
     pub fn name(self) -> &'static str
         ensures { result.now ≡ name_of self }
     {

@@ -13,8 +13,6 @@ mod procedure;
 mod refusal;
 mod role;
 mod scan;
-#[cfg(test)]
-mod tests;
 mod token;
 
 pub use bytes::only_spaces;

@@ -1,3 +1,4 @@
+//! The piece of a text that begins at a place: spaces, a comment or a token.
 ghost use Rattle.std.specs.Prelude.{◌≡◌, ◌<◌, length};
 ghost use Rattle.kb_text.specs.Pieces.{IsLongest, SignText, OpensWith};
 ghost use Rattle.kb_text.specs.Found.{FoundAt};
@@ -9,7 +10,7 @@ use crate::fault::K;
 use crate::procedure::{is_procedure_word, procedure_len};
 use crate::token::Kind;
 
-/// What begins at the front of a text, and how many bytes it takes.
+/// What begins at the start of a text, and how many bytes it takes.
 pub enum Found {
     Gap(usize),
     Token(Kind, usize),
@@ -66,7 +67,7 @@ fn word(in_braces: bool, bytes: &[u8]) -> Found
     }
 }
 
-/// What begins at the front, where some brace is open or none.
+/// What begins at the start, where some brace is open or none.
 pub fn piece(in_braces: bool, bytes: &[u8]) -> Found
     requires { 0 < length bytes.now }
     ensures { FoundAt in_braces bytes.now result }

@@ -1,3 +1,4 @@
+//! Where a procedure ends: the Lua texts in it are passed over, braces in them not counted.
 ghost use Rattle.std.specs.Prelude.{◌≡◌, ◌≤◌, ◌<◌, ◌+◌, ◌^◌, length, IfSome};
 ghost use Rattle.kb_text.specs.Procedures.{passage_at, passed, step_of, FitsIn, ClosesAfter, is_procedure_word};
 
@@ -20,7 +21,7 @@ pub enum Step {
     Last,
     /// It never will be.
     Stop,
-    /// So many braces are open behind so many bytes.
+    /// So many braces are open after so many bytes.
     Next(usize, usize),
 }
 

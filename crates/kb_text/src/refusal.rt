@@ -1,3 +1,4 @@
+//! Tokens that are refused for their own sake: words of the manual that are not read, and integers out of range.
 ghost use Rattle.std.specs.Prelude.{◌≡◌, ◌≤◌, ◌^◌, IfNone};
 ghost use Rattle.std.specs.List.{list_any};
 ghost use Rattle.std.specs.Str.{bytes_eq};

@@ -1,9 +1,10 @@
+//! What signs do to the depth of the tokens after them.
 ghost use Rattle.std.specs.Prelude.{◌≡◌};
 ghost use Rattle.kb_text.specs.Roles.{role_of, single_role};
 
 use crate::bytes::{is_arrow, is_triple};
 
-/// What a sign does to the depth of the tokens behind it.
+/// What a sign does to the depth of the tokens after it.
 #[derive(Clone, Copy)]
 pub enum Role {
     /// This bracket opens.

@@ -1,3 +1,4 @@
+//! The tokens of a whole text, or its first refusal.
 ghost use Rattle.std.specs.Prelude.{◌≡◌, ℕ, List, IfOk, All};
 ghost use Rattle.kb_text.specs.Depth.{outermost};
 ghost use Rattle.kb_text.specs.Tokens.{AreShallow, IsSpelled, Outcome, SpansRise, TokensFrom, TokensOf, lexemes};

@@ -1,3 +1,4 @@
+//! Tokens.
 /// What a token is.
 #[derive(Clone, Copy, Debug, PartialEq, Eq)]
 pub enum Kind {
@@ -19,6 +20,6 @@ pub struct Token<'a> {
     pub text: &'a [u8],
     /// The number of bytes before its first one.
     pub start: usize,
-    /// The number of bytes before the one behind its last.
+    /// The number of bytes before the one after its last.
     pub end: usize,
 }
