@@ -9,7 +9,7 @@ ghost use Rattle.reading_stages.specs.Names.{text_of};
 ghost use Rattle.fo_syntax.specs.View.{name_view};
 ghost use Rattle.block_choice.specs.Choices.{word_given};
 
-use crate::blocks::{Headed, choose, is_again_among, note_further, note_unless_named};
+use crate::blocks::{Headed, choose, is_again_among, note_unless_named};
 use fo_syntax::{RawHeader, RawKb, RawName, RawVocabulary};
 use kb_text::{K, KbFault};
 use reading_stages::Earliest;

@@ -56,7 +56,7 @@ names_parts_law = then_law name_law (each_law name_tails_several) (λ s h. tt)
 pub names_law : Law names_format
 names_law = same_law names_same names_parts_law
 
--- behind the opening bracket
+-- after the opening bracket
 abbrev pub inner_positions : Format (Option Names × ℕ)
 inner_positions = then (option names_format (Is t.Close)) (sign_format t.Close)
 
@@ -185,7 +185,7 @@ separated_tails = each separated_format (Is t.CloseBrace)
 pub separated_several : Several separated_format (Is t.CloseBrace)
 separated_several = record { law = separated_law; ends = λ s h. tt; apart = separated_apart; follows = λ s h. tt }
 
--- behind "constructed"
+-- after "constructed"
 abbrev pub more_names : Format (List (Separator × ℕ × Name) × ℕ)
 more_names = then separated_tails (sign_format t.CloseBrace)
 

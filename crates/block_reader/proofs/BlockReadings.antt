@@ -1,4 +1,4 @@
--- What the readers of signs and words answer, as formats.
+-- What the readers of signs and words return, as formats.
 use Rattle.std.proofs.Common.{ℕ, List, [], ◌∷◌, Option, ◌⊎◌, inl, inr, Result, Ok, Err}
 use Rattle.std.specs.Borrow.{Bor}
 use Rattle.fo_syntax.specs.declared.stops.ReadError.{ReadError}

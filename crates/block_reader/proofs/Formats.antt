@@ -1,4 +1,4 @@
--- How parts are written, how they begin and what may come behind them; and what follows for parts that are made of parts.
+-- How parts are written, how they begin and what may follow them; and what follows for parts that are made of parts.
 use Rattle.std.proofs.Common.{◌≡◌, ℕ, List, [], ◌∷◌, ◌++◌, append-nil, Option, Some, None, ◌⊎◌, inl, inr, refl, sym, ap, ap₂, subst, ◌∙◌}
 use Rattle.fo_syntax.specs.declared.stops.ReadError.{ReadError}
 use Rattle.fo_syntax.specs.declared.stops.ReadError.TheVariants.{Memory, Stuck}
@@ -28,7 +28,7 @@ pub record Law {A : Type 0} (F : Format A) : Type 0 where
 abbrev pub Here : {A : Type 0} → Format A → List Tok → List Tok → Type 0
 Here F ts rest = StuckIn F.put F.Fine F.Next ts rest
 
--- what begins the one may come behind the other
+-- what begins the one may follow the other
 abbrev pub Into : (Option Symbol → Type 0) → (Option Symbol → Type 0) → Type 0
 Into P Q = (s : Option Symbol) → P s → Q s
 
@@ -47,7 +47,7 @@ pub front_next : (front rest more : List Tok) → next rest ≡ next more → ne
 front_next [] rest more h = h
 front_next (tok_at s p ∷ front) rest more h = refl
 
--- what comes here also comes where the text goes on otherwise behind it
+-- what comes here also comes where the text goes on otherwise after it
 pub comes_too : (ts front rest more : List Tok) → ts ≡ front ++ rest → SameHead rest more → next ts ≡ next (front ++ more)
 comes_too ts front rest more e same = ap next e ∙ front_next front rest more (same_next rest more same)
 
@@ -123,7 +123,7 @@ then_first {A} {B} {F} {G} lf lg into ts rest h = record {
   viable = λ after. let v = h.viable (G.put lg.some after) in ((v.0, lg.some), v.1, (v.2, lg.some_fine), v.3);
 }
 
--- stuck behind it
+-- stuck after it
 pub then_second : {A B : Type 0} {F : Format A} {G : Format B} → Law F → Law G → Into G.First F.Next → (a : A) → F.Fine a → (ts us rest : List Tok) → ts ≡ F.put a us → F.Next (next us) → Here G us rest → Here (then F G) ts rest
 then_second {A} {B} {F} {G} lf lg into a fine_a ts us rest is may h = record {
   front = F.put a h.front;
@@ -143,7 +143,7 @@ FineOption Fine (Some a) = Fine a
 abbrev pub option : {A : Type 0} → Format A → (Option Symbol → Type 0) → Format (Option A)
 option F N = record { put = put_option F.put; Fine = FineOption F.Fine; First = λ s. F.First s ⊎ N s; Next = N }
 
--- an item or what stands behind the last one: N may follow an item, and begins none
+-- an item or what follows the last one: N may follow an item, and begins none
 pub record Optional {A : Type 0} (F : Format A) (N : Option Symbol → Type 0) : Type 0 where
   pub law : Law F
   pub ends : Into N F.Next
@@ -186,7 +186,7 @@ option_in o ts rest never h = record {
   viable = λ after. let v = h.viable after in (Some v.0, v.1, v.2, v.3);
 }
 
--- ---- any number of a part, where N says what comes behind the last
+-- ---- any number of a part, where N says what follows the last
 
 abbrev pub each : {A : Type 0} → Format A → (Option Symbol → Type 0) → Format (List A)
 each F N = record { put = put_each F.put; Fine = FineEach F.Fine; First = λ s. F.First s ⊎ N s; Next = N }
@@ -209,7 +209,7 @@ each_first : {A : Type 0} {F : Format A} {N : Option Symbol → Type 0} → Seve
 each_first o [] ts h n = inr n
 each_first {A} {F} o (a ∷ xs) ts h n = inl (o.law.first a (put_each F.put xs ts) h.0 (each_next o xs ts h.1 (o.ends (next ts) n)))
 
--- of the same text, these are the first and what stands behind them is written by the others
+-- of the same text, these are the first and what follows them is written by the others
 pub each_cut : {A : Type 0} {F : Format A} {N : Option Symbol → Type 0} → Several F N → (xs ys : List A) (m n : List Tok) → FineEach F.Fine xs → FineEach F.Fine ys → F.Next (next m) → N (next n)
     → put_each F.put xs m ≡ put_each F.put ys n → (zs : List A) × (ys ≡ xs ++ zs) × FineEach F.Fine zs × (m ≡ put_each F.put zs n)
 each_cut o [] ys m n h k z w e = (ys, refl, k, e)
@@ -247,7 +247,7 @@ pub push_put : {A : Type 0} (F : Format A) → (xs : List A) (a : A) (ts : List 
 push_put F [] a ts = refl
 push_put F (x ∷ xs) a ts = ap (F.put x) (push_put F xs a ts)
 
--- stuck in an item behind these
+-- stuck in an item after these
 pub each_in : {A : Type 0} {F : Format A} {N : Option Symbol → Type 0} → Several F N → (xs : List A) → FineEach F.Fine xs → (ts us rest : List Tok) → ts ≡ put_each F.put xs us → F.Next (next us) → (N (next us) → ⊥) → Here F us rest → Here (each F N) ts rest
 each_in {A} {F} {N} o xs fine_xs ts us rest is may never h = record {
   front = put_each F.put xs h.front;
@@ -387,7 +387,7 @@ sharpened_law l h = record {
   only = l.only;
 }
 
--- less may come behind it
+-- less may follow it
 abbrev pub narrowed : {A : Type 0} → Format A → (Option Symbol → Type 0) → Format A
 narrowed F N = record F { Next = N }
 
@@ -408,7 +408,7 @@ narrowed_in l ends ts rest h = record {
   viable = h.viable;
 }
 
--- read, and what comes may not come behind it
+-- read, and what comes may not follow it
 pub stuck_behind : {A : Type 0} {F : Format A} {N : Option Symbol → Type 0} → Law F → Into N F.Next → (a : A) → F.Fine a → (ts us : List Tok) → ts ≡ F.put a us → F.Next (next us) → (N (next us) → ⊥) → Here (narrowed F N) ts us
 stuck_behind {A} {F} {N} l ends a fine_a ts us is may never = record {
   front = F.put a [];
@@ -423,7 +423,7 @@ stuck_behind {A} {F} {N} l ends a fine_a ts us is may never = record {
 narrow_optional : {A : Type 0} {F : Format A} {N : Option Symbol → Type 0} → Optional F N → Optional (narrowed F N) N
 narrow_optional o = record { law = narrowed_law o.law o.ends; ends = λ s h. h; apart = o.apart }
 
--- it was read where it may be left out, and what comes may not come behind it
+-- it was read where it may be left out, and what comes may not follow it
 pub option_ends : {A : Type 0} {F : Format A} {N : Option Symbol → Type 0} → Optional F N → (a : A) → F.Fine a → (ts us : List Tok) → ts ≡ F.put a us → F.Next (next us) → (N (next us) → ⊥) → (N (next ts) → ⊥) → Here (option F N) ts us
 option_ends o a fine_a ts us is may never first = option_in (narrow_optional o) ts us first (stuck_behind o.law o.ends a fine_a ts us is may never)
 
@@ -441,7 +441,7 @@ pub whole_either : {A B : Type 0} {P : A → Type 0} {Q : B → Type 0} → ((a 
 whole_either f g (inl a) = f a
 whole_either f g (inr b) = g b
 
--- ---- a sign and a part behind it
+-- ---- a sign and a part after it
 
 abbrev pub behind : {A : Type 0} → Terminal → Format A → Format (ℕ × A)
 behind t F = then (sign_format t) F
@@ -458,7 +458,7 @@ optional_behind t l ends apart = record { law = behind_law t l; ends = ends; apa
 pub several_behind : {A : Type 0} {F : Format A} {N : Option Symbol → Type 0} (t : Terminal) → Law F → Into N F.Next → Into N (No t) → F.Next (Some (mark t)) → Several (behind t F) N
 several_behind {A} {F} t l ends apart follows = record { law = behind_law t l; ends = ends; apart = apart; follows = λ s e. subst F.Next (sym e) follows }
 
--- ---- what a reader answers
+-- ---- what a reader returns
 
 pub at_same : {A B : Type 0} (F : Format A) (G : Format B) (ts us : List Tok) → ((rest : List Tok) → Here F us rest → Here G ts rest) → (len : ℕ) (e : ReadError) → StuckAt F.put F.Fine F.Next us len e → StuckAt G.put G.Fine G.Next ts len e
 at_same F G ts us f len Memory h = tt

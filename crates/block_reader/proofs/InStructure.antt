@@ -166,7 +166,7 @@ tails_put xs us = tails_written xs None us
 tails_front : (xs : List (ℕ × Row)) (x y : List Tok) → put_each (put_behind (t.Outer o.Semicolon) put_row) xs (x ++ y) ≡ put_each (put_behind (t.Outer o.Semicolon) put_row) xs x ++ y
 tails_front xs x y = tails_put xs (x ++ y) ∙ (each_law row_tails_several).law.appends (tails_to xs None) x y ∙ ap (λ (z : List Tok). z ++ y) (sym (tails_put xs x))
 
--- a semicolon without a row stands behind all others
+-- a semicolon without a row follows all others
 abbrev pub EndsThere : Option Row → List (ℕ × Option Row) → Type 0
 EndsThere None (z ∷ zs) = ⊥
 EndsThere r zs = Unit {0}

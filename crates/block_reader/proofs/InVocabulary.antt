@@ -20,7 +20,7 @@ use Rattle.block_reader.proofs.Plain.{not_first, sign_law, name_law, then_first,
 use Rattle.block_reader.proofs.BlockReadings.{absent_at, neither}
 use Rattle.block_reader.proofs.BlockFormats.{name_tails, name_tails_several, names_format, names_same, names_parts_law, names_law, names_optional, inner_positions, inner_positions_law, positions_format, positions_same, arguments_format, arguments_optional, Separates, separated_format, separated_tails, separated_several, more_names, more_names_law, constructed_names, constructed_names_law, in_braces, in_braces_law, from_law, from_names, from_names_law, construction, construction_law, isa_format, isa_optional, type_alternatives, type_tail_law, named_type, named_type_law, result_format, result_optional, symbol_tail_law, symbol_parts, symbol_parts_law, declaration_format, declaration_alternatives, declaration_parts_law, declaration_same, declarations_format, declarations_several, closed_declarations_law, braced_declarations_law, named_vocabulary, named_vocabulary_law, vocabulary_format, vocabulary_same}
 
--- ---- names behind commas
+-- ---- names after commas
 
 pub in_name_tails : (xs : List (ℕ × Name)) (p : ℕ) (ts us vs : List Tok) (len : ℕ) (e : ReadError) → ts ≡ put_each (put_behind t.Comma put_name) xs us → us ≡ sign t.Comma p ∷ vs → Absent AWord vs len e → StuckAt (put_each (put_behind t.Comma put_name)) Whole (No t.Comma) ts len e
 in_name_tails xs p ts us vs len e is comma h =
@@ -58,7 +58,7 @@ arguments_in begin ts us len e is h =
 pub arguments_behind : (ps : Positions) (begin : ℕ) (ts us vs : List Tok) (len : ℕ) (e : ReadError) → ts ≡ sign t.Open begin ∷ us → sign t.Open begin ∷ us ≡ put_positions ps vs → Absent EndsArguments vs len e → StuckAt (put_option put_positions) Whole EndsArguments ts len e
 arguments_behind ps begin ts us vs len e is read h = absent_at EndsArguments arguments_format ts vs len e (λ none. option_ends arguments_optional ps ts vs (is ∙ read) tt none (λ n. arguments_optional.apart (next ts) n (ap next is))) h
 
--- ---- a name behind a sign, at the end of a declaration
+-- ---- a name after a sign, at the end of a declaration
 
 named_optional : (w : Terminal) → (w ≡ t.CloseBrace → ⊥) → (w ≡ t.Outer o.Type → ⊥) → Optional (behind w name_format) EndsDeclaration
 named_optional w brace another = optional_behind w name_law (λ s h. tt) apart
@@ -102,7 +102,7 @@ separated_in xs s p ts us vs len e is comes h = absent_at AWord separated_tails 
 pub separated_ends : (xs : List (Separator × ℕ × Name)) (ts us : List Tok) (len : ℕ) (e : ReadError) → ts ≡ put_each put_separated xs us → NoSeparator (next us) → Absent (Is t.CloseBrace) us len e → StuckAt (put_each put_separated) Whole (Is t.CloseBrace) ts len e
 separated_ends xs ts us len e is never h = absent_at (Is t.CloseBrace) separated_tails ts us len e (λ none. each_ends separated_several xs ts us is tt none (neither never.0 never.1)) h
 
--- behind "constructed"
+-- after "constructed"
 constructed_in : (place : ℕ) (n : Name) (c : ℕ) (us rest : List Tok) → Here construction (sign (t.Outer o.Constructed) c ∷ us) rest → Here declaration_format (sign (t.Outer o.Type) place ∷ put_name n (sign (t.Outer o.Constructed) c ∷ us)) rest
 constructed_in place n c us rest h =
     let cs = sign (t.Outer o.Constructed) c ∷ us in

@@ -157,7 +157,7 @@ same_law s l = record { law = f.same_law (same_fully s l) l.law; total = λ a. t
 pub same_in : {A B : Type 0} {F : Format A} {G : Format B} → Same F G → Law G → (ts rest : List Tok) → Here G ts rest → Here (plainly F) ts rest
 same_in s l ts rest h = f.same_in (same_fully s l) ts rest h
 
--- ---- less may come behind it
+-- ---- less may follow it
 
 pub narrowed_law : {A : Type 0} {F : Format A} {N : Option Symbol → Type 0} → Law F → Into N F.Next → Law (f.narrowed F N)
 narrowed_law l ends = record { law = f.narrowed_law l.law ends; total = l.total }
@@ -168,7 +168,7 @@ narrowed_in l ends ts rest h = f.narrowed_in l.law ends ts rest h
 pub stuck_behind : {A : Type 0} {F : Format A} {N : Option Symbol → Type 0} → Law F → Into N F.Next → (a : A) (ts us : List Tok) → ts ≡ F.put a us → F.Next (next us) → (N (next us) → ⊥) → Here (f.narrowed F N) ts us
 stuck_behind l ends a ts us is may never = f.stuck_behind l.law ends a (l.total a) ts us is may never
 
--- ---- a sign and a part behind it
+-- ---- a sign and a part after it
 
 abbrev pub behind : {A : Type 0} → Terminal → Format A → Format (ℕ × A)
 behind t F = then (sign_format t) F
@@ -188,10 +188,10 @@ several_behind {A} {F} t l ends apart follows = record { law = behind_law t l; e
 pub narrow_optional : {A : Type 0} {F : Format A} {N : Option Symbol → Type 0} → Optional F N → Optional (f.narrowed F N) N
 narrow_optional o = record { law = narrowed_law o.law o.ends; ends = λ s h. h; apart = o.apart }
 
--- it was read, and what comes may not come behind it
+-- it was read, and what comes may not follow it
 pub option_ends : {A : Type 0} {F : Format A} {N : Option Symbol → Type 0} → Optional F N → (a : A) (ts us : List Tok) → ts ≡ F.put a us → F.Next (next us) → (N (next us) → ⊥) → (N (next ts) → ⊥) → Here (option F N) ts us
 option_ends o a ts us is may never first = option_in (narrow_optional o) ts us first (stuck_behind o.law o.ends a ts us is may never)
 
--- these were read, and neither another one comes nor what may stand behind all
+-- these were read, and neither another one comes nor what may follow all
 pub each_ends : {A : Type 0} {F : Format A} {N : Option Symbol → Type 0} → Several F N → (xs : List A) (ts us : List Tok) → ts ≡ put_each F.put xs us → F.Next (next us) → (N (next us) → ⊥) → (F.First (next us) → ⊥) → Here (each F N) ts us
 each_ends o xs ts us is may never first = each_in o xs ts us us is may never (not_first o.law us first)

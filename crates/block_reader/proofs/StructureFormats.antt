@@ -178,7 +178,7 @@ plain_parts = then items_format arrow_format
 pub plain_law : Law plain_parts
 plain_law = then_law items_law (option_law arrow_optional) (λ s h. inr h)
 
--- behind the items of a row in brackets
+-- after the items of a row in brackets
 abbrev pub closed_arrow : Format (ℕ × Arrowed)
 closed_arrow = behind t.Close arrow_format
 
@@ -276,7 +276,7 @@ row_parts_law = either_law row_alternatives
 pub row_law : Law row_format
 row_law = same_law row_same row_parts_law
 
--- ---- rows between semicolons: each semicolon has a row behind it, but the last one may stand alone
+-- ---- rows between semicolons: each semicolon has a row after it, but the last one may stand alone
 
 abbrev pub row_tail : Format (ℕ × Option Row)
 row_tail = behind (t.Outer o.Semicolon) (option row_format EndsRow)

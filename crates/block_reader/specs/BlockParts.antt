@@ -1,4 +1,4 @@
--- What a reader of a part of a block answers.
+-- What a reader of a part of a block returns.
 use Rattle.std.specs.Prelude.{◌≡◌, ℕ, List, [], ◌∷◌, ◌++◌, Option, Some, None, ◌⊎◌, Result, Ok, Err}
 use Rattle.std.specs.Borrow.{Bor}
 use Rattle.fo_syntax.specs.declared.stops.ReadError.{ReadError}
@@ -45,11 +45,11 @@ abbrev pub AWord : Option Symbol → Type 0
 AWord (Some (word w)) = Unit {0}
 AWord _ = ⊥
 
--- what may come behind a declaration: another one, or the closing brace
+-- what may follow a declaration: another one, or the closing brace
 abbrev pub EndsDeclaration : Option Symbol → Type 0
 EndsDeclaration s = Is t.CloseBrace s ⊎ (Is (t.Outer o.Type) s ⊎ AWord s)
 
--- what may come behind the arguments of a symbol: its result, or what comes behind its declaration
+-- what may follow the arguments of a symbol: its result, or what follows its declaration
 abbrev pub EndsArguments : Option Symbol → Type 0
 EndsArguments s = Is t.Colon s ⊎ EndsDeclaration s
 
@@ -62,27 +62,27 @@ abbrev pub NoTruth : Option Symbol → Type 0
 NoTruth (Some (mark (t.Truth b))) = ⊥
 NoTruth _ = Unit {0}
 
--- what may come behind a row: a semicolon or the closing brace
+-- what may follow a row: a semicolon or the closing brace
 abbrev pub EndsRow : Option Symbol → Type 0
 EndsRow s = Is (t.Outer o.Semicolon) s ⊎ Is t.CloseBrace s
 
--- what may come behind the items of a row: a bracket, an arrow, or what comes behind a row
+-- what may follow the items of a row: a bracket, an arrow, or what follows a row
 abbrev pub EndsItems : Option Symbol → Type 0
 EndsItems s = Is t.Close s ⊎ (Is (t.Outer o.To) s ⊎ EndsRow s)
 
--- what may come behind an item: a comma, or what comes behind all
+-- what may follow an item: a comma, or what follows all
 abbrev pub EndsItem : Option Symbol → Type 0
 EndsItem s = Is t.Comma s ⊎ EndsItems s
 
--- what may come behind a head: its body, or the end of the rule
+-- what may follow a head: its body, or the end of the rule
 abbrev pub EndsHead : Option Symbol → Type 0
 EndsHead s = Is (t.Outer o.If) s ⊎ Is (t.Outer o.Dot) s
 
--- No A is a front of another one, if what comes behind it is as Next says: the longest at a place is the only one there.
+-- No A is a prefix of another one, if what follows it is as Next says: the longest at a place is the only one there.
 abbrev pub OneAtAPlace : {A : Type 0} → (A → List Tok → List Tok) → (A → Type 0) → (Option Symbol → Type 0) → Type 0
 OneAtAPlace {A} put Fine Next = (a b : A) (m n : List Tok) → Fine a → Fine b → Next (next m) → Next (next n) → put a m ≡ put b n → (a ≡ b) × (m ≡ n)
 
--- The first of rest is the first token with which no text of an A goes on, if what comes behind it is as Next says.
+-- The first of rest is the first token with which no text of an A goes on, if what follows it is as Next says.
 pub record StuckIn {A : Type 0} (put : A → List Tok → List Tok) (Fine : A → Type 0) (Next : Option Symbol → Type 0) (ts rest : List Tok) : Type 0 where
   pub front : List Tok
   pub split : ts ≡ front ++ rest
@@ -93,7 +93,7 @@ abbrev pub StuckAt : {A : Type 0} → (A → List Tok → List Tok) → (A → T
 StuckAt put Fine Next ts len Memory = Unit {0}
 StuckAt put Fine Next ts len (Stuck place) = (rest : List Tok) × StuckIn put Fine Next ts rest × (place ≡ place_of rest len)
 
--- an A and the tokens behind it, which are as Next says; or where its text is stuck
+-- an A and the tokens after it, which are as Next says; or where its text is stuck
 abbrev pub PartRead : {R A : Type 0} → (R → A) → (A → List Tok → List Tok) → (A → Type 0) → (Option Symbol → Type 0) → List Tok → ℕ → Result (R × Bor (List Item)) ReadError → Type 0
 PartRead view put Fine Next ts len (Ok p) = (ts ≡ put (view p.0) (toks p.1.now)) × Fine (view p.0) × Next (next (toks p.1.now))
 PartRead view put Fine Next ts len (Err e) = StuckAt put Fine Next ts len e
@@ -108,7 +108,7 @@ abbrev pub EndsAs : (Option Symbol → Type 0) → List Tok → ℕ → Result (
 EndsAs P ts len (Ok u) = P (next ts)
 EndsAs P ts len (Err e) = Absent P ts len e
 
--- a token that P allows, and those behind it; or it is refused
+-- a token that P allows, and those after it; or it is refused
 abbrev pub TokenRead : {R A : Type 0} → (R → A) → (A → List Tok → List Tok) → (Option Symbol → Type 0) → List Tok → ℕ → Result (R × Bor (List Item)) ReadError → Type 0
 TokenRead view put P ts len (Ok p) = ts ≡ put (view p.0) (toks p.1.now)
 TokenRead view put P ts len (Err e) = Absent P ts len e

@@ -1,4 +1,4 @@
--- What the readers of the parts of vocabularies and structures answer.
+-- What the readers of the parts of vocabularies and structures return.
 use Rattle.std.specs.Prelude.{◌≡◌, ℕ, List, ◌∷◌, map, Option, Some, Result}
 use Rattle.std.specs.Option.{option_map}
 use Rattle.std.specs.Borrow.{Bor}
@@ -63,7 +63,7 @@ ArgumentsOf = PartRead (option_map positions_view) (put_option put_positions) Wh
 abbrev pub placed_name : ℕ × RawName → ℕ × Name
 placed_name x = (x.0, name_view x.1)
 
--- a sign and a name behind it, if the sign comes
+-- a sign and a name after it, if the sign comes
 abbrev pub NamedRead : Terminal → List Tok → ℕ → Result (Option (ℕ × RawName) × Bor (List Item)) ReadError → Type 0
 NamedRead t = PartRead (option_map placed_name) (put_option (put_behind t put_name)) Whole EndsDeclaration
 
@@ -111,7 +111,7 @@ ArrowRead = PartRead (option_map to_view) (put_option put_to) Whole EndsRow
 abbrev pub RowRead : List Tok → ℕ → Result (RawRow × Bor (List Item)) ReadError → Type 0
 RowRead = PartRead row_view put_row Whole EndsRow
 
--- rows behind semicolons, and the place of one that stands alone behind them
+-- rows after semicolons, and the place of one that stands alone after them
 abbrev pub row_tails_view : List RawRowTail × Option ℕ → List (ℕ × Row) × Option ℕ
 row_tails_view x = (map row_tail_view x.0, x.1)
 

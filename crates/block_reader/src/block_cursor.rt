@@ -38,7 +38,7 @@ fn is(terminal: Terminal, sign: Terminal) -> bool
     }
 }
 
-/// Behind this sign, if it comes: its place.
+/// The tokens after this sign, if it is next, and its place.
 pub fn skip<'a>(sign: Terminal, items: &'a [Item<'a>]) -> Option<(usize, &'a [Item<'a>])>
     requires { IsSign sign }
     ensures some { IfSome result (λ p. toks items.now ≡ terminals.sign sign p.0 ∷ toks p.1.now) }

@@ -24,7 +24,7 @@ use sqlite_items::Items;
 use std::alloc::Global;
 use token_reader::cursor::{Found, after_minus, place_at, split, start};
 
-/// How a theory, a structure or a term begins, behind its word.
+/// How a theory, a structure or a term begins, after its word.
 pub fn header<'a>(
     alloc: Global,
     with: Outer,
@@ -49,7 +49,7 @@ pub fn header<'a>(
     Ok((found, last))
 }
 
-// Behind an integer, if it comes.
+// The tokens after an integer, if it is next.
 fn integer<'a>(items: &'a [Item<'a>]) -> Option<(RawInteger, &'a [Item<'a>])>
     ensures some { IfSome result (λ p. toks items.now ≡ terminals.sign (t.Integer p.0.value) p.0.place ∷ toks p.1.now) }
     ensures shorter { IfSome result (λ p. length p.1.now < length items.now) }
@@ -68,7 +68,7 @@ fn integer<'a>(items: &'a [Item<'a>]) -> Option<(RawInteger, &'a [Item<'a>])>
     }
 }
 
-// An integer behind `-`.
+// An integer after `-`.
 fn negative<'a>(place: usize, items: &'a [Item<'a>], end: usize) -> Found<'a, RawElement>
     ensures reads { ElementRead (terminals.sign (t.Add Minus) place ∷ toks items.now) end result }
     ensures shorter { IfOk result (λ p. length p.1.now < length items.now) }
@@ -110,7 +110,7 @@ fn item<'a>(alloc: Global, items: &'a [Item<'a>], end: usize) -> Found<'a, RawIt
     Ok((RawItem { first, to }, behind))
 }
 
-// The commas that come, with an item behind each.
+// The commas that come, with an item after each.
 fn item_tails<'a>(alloc: Global, items: &'a [Item<'a>], end: usize) -> Found<'a, Items<RawItemTail>>
     requires { EndsItem (next (toks items.now)) }
     ensures reads { ItemTailsRead (toks items.now) end result }
@@ -150,7 +150,7 @@ fn arrow<'a>(alloc: Global, items: &'a [Item<'a>], end: usize) -> Found<'a, Opti
     Ok((Some(RawTo { place, element }), last))
 }
 
-// A row in brackets, behind the opening one.
+// A row in brackets, after the opening one.
 fn bracketed<'a>(
     alloc: Global,
     begin: usize,
@@ -166,7 +166,7 @@ fn bracketed<'a>(
     Ok((RawRow::Bracketed(begin, found, close, to), last))
 }
 
-// A row that is an arrow and an element, behind the arrow.
+// A row that is an arrow and an element, after the arrow.
 fn lone<'a>(alloc: Global, place: usize, items: &'a [Item<'a>], end: usize) -> Found<'a, RawRow>
     ensures reads { RowRead (terminals.sign (t.Outer o.To) place ∷ toks items.now) end result }
     ensures shorter { IfOk result (λ p. length p.1.now ≤ length items.now) }
@@ -186,7 +186,7 @@ fn plain<'a>(alloc: Global, items: &'a [Item<'a>], end: usize) -> Found<'a, RawR
     Ok((RawRow::Plain(found, to), last))
 }
 
-// A row, with what may stand behind one behind it.
+// A row, with what may follow one after it.
 fn row<'a>(alloc: Global, items: &'a [Item<'a>], end: usize) -> Found<'a, RawRow>
     ensures reads { RowRead (toks items.now) end result }
     ensures shorter { IfOk result (λ p. length p.1.now < length items.now) }
@@ -200,7 +200,7 @@ fn row<'a>(alloc: Global, items: &'a [Item<'a>], end: usize) -> Found<'a, RawRow
     }
 }
 
-// The semicolons that come, with a row behind each; the last one may stand alone.
+// The semicolons that come, with a row after each; the last one may stand alone.
 fn row_tails<'a>(
     alloc: Global,
     items: &'a [Item<'a>],
@@ -223,7 +223,7 @@ fn row_tails<'a>(
     Ok(((more, None), rest))
 }
 
-// Rows in braces, behind the opening one.
+// Rows in braces, after the opening one.
 fn table<'a>(alloc: Global, begin: usize, items: &'a [Item<'a>], end: usize) -> Found<'a, RawValue>
     ensures reads { ValueRead (terminals.sign t.OpenBrace begin ∷ toks items.now) end result }
     ensures shorter { IfOk result (λ p. length p.1.now ≤ length items.now) }
@@ -280,7 +280,7 @@ fn truth<'a>(items: &'a [Item<'a>]) -> Option<(bool, usize, &'a [Item<'a>])>
     }
 }
 
-// A mark, behind its `<`, and the `=` behind it.
+// A mark, after its `<`, and the `=` after it.
 fn mark<'a>(
     alloc: Global,
     begin: usize,
@@ -358,7 +358,7 @@ fn entries<'a>(alloc: Global, items: &'a [Item<'a>], end: usize) -> Found<'a, It
     Ok((found, rest))
 }
 
-/// A structure, behind its word.
+/// A structure, after its word.
 pub fn structure<'a>(
     alloc: Global,
     place: usize,

@@ -23,7 +23,7 @@ use sqlite_items::Items;
 use std::alloc::Global;
 use token_reader::cursor::{Found, split, start};
 
-// The commas that come, with a name behind each.
+// The commas that come, with a name after each.
 fn name_tails<'a>(alloc: Global, items: &'a [Item<'a>], end: usize) -> Found<'a, Items<RawNameTail>>
     ensures reads { NameTailsRead (toks items.now) end result }
     ensures shorter { IfOk result (λ p. length p.1.now ≤ length items.now) }
@@ -48,7 +48,7 @@ fn empty(begin: usize, close: usize) -> RawPositions
     }
 }
 
-// The types of arguments, behind the opening bracket.
+// The types of arguments, after the opening bracket.
 fn positions<'a>(
     alloc: Global,
     begin: usize,
@@ -90,7 +90,7 @@ fn arguments<'a>(
     Ok((Some(found), rest))
 }
 
-// This sign and a name behind it, if it comes, at the end of a declaration.
+// This sign and a name after it, if it comes, at the end of a declaration.
 fn named<'a>(
     alloc: Global,
     with: Terminal,
@@ -112,7 +112,7 @@ fn named<'a>(
     Ok((Some((place, found)), rest))
 }
 
-// Behind a comma or a semicolon, if one comes.
+// The tokens after a comma or a semicolon, if it is next.
 fn separated<'a>(items: &'a [Item<'a>]) -> Option<(Separator, usize, &'a [Item<'a>])>
     ensures some { IfSome result (λ p. toks items.now ≡ terminals.sign (separator p.0) p.1 ∷ toks p.2.now) }
     ensures shorter { IfSome result (λ p. length p.2.now < length items.now) }
@@ -166,7 +166,7 @@ fn from_word<'a>(items: &'a [Item<'a>], end: usize) -> Found<'a, usize>
     }
 }
 
-// A type that is constructed from names, behind "constructed".
+// A type that is constructed from names, after "constructed".
 fn construction<'a>(
     alloc: Global,
     place: usize,
@@ -197,7 +197,7 @@ fn construction<'a>(
     Ok((RawDeclaration::Constructed(found), last))
 }
 
-// A declaration of a type, behind its word.
+// A declaration of a type, after its word.
 fn type_declaration<'a>(
     alloc: Global,
     place: usize,
@@ -284,7 +284,7 @@ fn declarations<'a>(
     Ok((found, rest))
 }
 
-/// A vocabulary, behind its word.
+/// A vocabulary, after its word.
 pub fn vocabulary<'a>(
     alloc: Global,
     place: usize,

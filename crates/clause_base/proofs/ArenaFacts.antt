@@ -1,14 +1,14 @@
 -- Clauses that stand in an arena.
-use Rattle.std.proofs.Common.{◌≡◌, ℕ, zero, suc, ◌<◌, ◌≤◌, ◌+◌, ◌-◌, ◌^◌, Bool, true, false, cond, Option, Some, None, List, [], ◌∷◌, ◌++◌, length, length-append, map, set, take, drop, refl, sym, ap, ◌∙◌, ⊎_elim, arith, slice_get, subst, vec_len, vec_capacity}
+use Rattle.std.proofs.Common.{◌≡◌, ℕ, zero, suc, ◌<◌, ◌≤◌, ◌+◌, ◌-◌, ◌^◌, Bool, true, false, cond, Option, Some, None, List, [], ◌∷◌, ◌++◌, length, length-append, get_or, min, map, set, take, drop, refl, sym, ap, ◌∙◌, ⊎_elim, ◌⊎◌, arith, slice_get, subst, vec_len, vec_capacity}
 use Rattle.std.specs.List.{dedup, dedup_from}
-use Rattle.std.proofs.lemmas.Option.{slice_get_within, same_Some}
-use Rattle.std.proofs.lemmas.List.{take-append-le, drop-append-le, length-drop, take_all, map_push}
+use Rattle.std.proofs.lemmas.Option.{slice_get-get_or, slice_get_within, same_Some}
+use Rattle.std.proofs.lemmas.List.{take-append-le, drop-append-le, drop-take, length-drop, length-take, take_all, take-take, map_push, length-map, length-set}
 use Rattle.std.proofs.Math.Seq.{drop-append_seam}
-use Rattle.std.proofs.lemmas.Bool.{cases_eq}
+use Rattle.std.proofs.lemmas.Bool.{cases_eq, cases_lt}
 use Rattle.lit_core.specs.declared.literals.Lit.{Lit}
 use Rattle.clause_base.specs.declared.clause_db.Entry.{Entry}
 use Rattle.clause_base.specs.declared.clause_db.ClauseDb.TheInside.{Inside}
-use Rattle.clause_base.specs.ClauseDbFields.{IsKept, HasRoom, clause_of, part_of, state_of}
+use Rattle.clause_base.specs.ClauseDbFields.{AreRemoved, EndsAt, EndsBy, IsOrdered, IsKept, HasRoom, clause_of, part_of}
 use Rattle.clause_base.proofs.ListFacts.{slice_get-mapped, slice_get-set_same, slice_get-set_other, slice_get-push_cases}
 
 -- taking repetitions out makes no list longer
@@ -53,10 +53,10 @@ part-longer lits more start (suc n) within =
     let taken : take n (drop start lits ++ more) ≡ take n (drop start lits) = take-append-le n (drop start lits) more (omega arith) in
     ap Some (ap (take n) cut ∙ taken)
 
-pub clauses-longer : (lits more : List Lit) (entries : List Entry) → ((id : ℕ) (e : Entry) (n : ℕ) → slice_get entries id ≡ Some e → e.size ≡ suc n → e.start + n ≤ length lits) → map (clause_of (lits ++ more)) entries ≡ map (clause_of lits) entries
+pub clauses-longer : (lits more : List Lit) (entries : List Entry) → ((id : ℕ) (e : Entry) → slice_get entries id ≡ Some e → EndsBy e (length lits)) → map (clause_of (lits ++ more)) entries ≡ map (clause_of lits) entries
 clauses-longer lits more [] within = refl
 clauses-longer lits more (e ∷ es) within =
-    let head : clause_of (lits ++ more) e ≡ clause_of lits e = part-longer lits more e.start e.size (λ n. within 0 e n refl) in
+    let head : clause_of (lits ++ more) e ≡ clause_of lits e = part-longer lits more e.start e.size (within 0 e refl) in
     let tail = clauses-longer lits more es (λ id. within (suc id)) in
     rw (head, tail) refl
 
@@ -67,10 +67,13 @@ part-last lits more =
     rw size (ap Some (ap (take (length more)) (drop-append_seam lits more) ∙ take_all (length more) more (omega arith)))
 
 -- the same clauses in other memory
-pub kept-same : (a b : Inside) → IsKept a → b.lits.items ≡ a.lits.items → b.entries.items ≡ a.entries.items → b.buffer.items ≡ [] → ((n : ℕ) → b.spare ≡ Some n → HasRoom b n) → IsKept b
-kept-same a b h lits entries buffer room = record {
+pub kept-same : (a b : Inside) → IsKept a → b.lits.items ≡ a.lits.items → b.entries.items ≡ a.entries.items → b.live ≡ a.live → b.buffer.items ≡ [] → ((n : ℕ) → b.spare ≡ Some n → HasRoom b n) → IsKept b
+kept-same a b h lits entries live buffer room = record {
   empty = buffer;
-  within = λ id e n at size. rw lits (h.within id e n (ap (λ (xs : List Entry). slice_get xs id) (sym entries) ∙ at) size);
+  within = λ id e at. rw lits (h.within id e (ap (λ (xs : List Entry). slice_get xs id) (sym entries) ∙ at));
+  ordered = subst IsOrdered (sym entries) h.ordered;
+  live = rw (live, entries) h.live;
+  removed = λ id e le at. h.removed id e (omega (arith, live)) (ap (λ (xs : List Entry). slice_get xs id) (sym entries) ∙ at);
   room = room;
 }
 
@@ -82,38 +85,148 @@ room-more a b n h buffer len entries len2 lits = record {
   small = let x : vec_len a.lits + n + 1 < 2 ^ 32 = h.small in omega arith;
 }
 
--- one entry is another, of no more than its part
-pub kept-set : (a b : Inside) (id : ℕ) (e f : Entry) → IsKept a → slice_get a.entries.items id ≡ Some e → f.start ≡ e.start → ((n : ℕ) → f.size ≡ suc n → e.size ≡ suc n) → b.lits ≡ a.lits → b.entries.items ≡ set a.entries.items id f → b.buffer ≡ a.buffer → ((n : ℕ) → b.spare ≡ Some n → HasRoom b n) → IsKept b
-kept-set a b id e f h at start size lits entries buffer room = record {
-  empty = ap (λ x. x.items) buffer ∙ h.empty;
-  within = λ i g n here is.
-      let here2 : slice_get (set a.entries.items id f) i ≡ Some g = ap (λ (xs : List Entry). slice_get xs i) (sym entries) ∙ here in
-      rw lits (⊎_elim
-      (λ same.
-      let fg : f ≡ g = same_Some f g (sym (slice_get-set_same a.entries.items id f (slice_get_within a.entries.items id e at)) ∙ ap (slice_get (set a.entries.items id f)) (sym same) ∙ here2) in
-      let old : e.start + n ≤ length a.lits.items = h.within id e n at (size n (ap (λ (x : Entry). x.size) fg ∙ is)) in
-      let s : g.start ≡ e.start = ap (λ (x : Entry). x.start) (sym fg) ∙ start in omega arith)
-      (λ ne. h.within i g n (sym (slice_get-set_other a.entries.items id i f ne) ∙ here2) is)
-      (cases_eq i id));
-  room = room;
+-- room stays in an arena that was cut
+pub room-less : (a b : Inside) (n : ℕ) → HasRoom a n → b.buffer.capacity ≡ a.buffer.capacity → vec_len b.entries ≡ vec_len a.entries → vec_capacity b.entries ≡ vec_capacity a.entries → vec_len b.lits ≤ vec_len a.lits → vec_capacity b.lits ≡ vec_capacity a.lits → HasRoom b n
+room-less a b n h buffer len entries len2 lits = record {
+  buffer = let x : n ≤ a.buffer.capacity = h.buffer in omega arith;
+  entry = let x : vec_len a.entries < vec_capacity a.entries = h.entry in omega arith;
+  arena = let x : vec_len a.lits + n ≤ vec_capacity a.lits = h.arena in omega arith;
+  small = let x : vec_len a.lits + n + 1 < 2 ^ 32 = h.small in omega arith;
 }
 
+-- an entry that begins where another does, and has its part or none
+pub record Narrows (e f : Entry) : Type 0 where
+  pub start : f.start ≡ e.start
+  pub size : (n : ℕ) → f.size ≡ suc n → e.size ≡ suc n
+
+-- each entry after a write narrows the one before it
+narrows : (entries : List Entry) (id : ℕ) (e f : Entry) → slice_get entries id ≡ Some e → Narrows e f → (i : ℕ) (g : Entry) → slice_get (set entries id f) i ≡ Some g → (o : Entry) × (slice_get entries i ≡ Some o) × Narrows o g
+narrows entries id e f at n i g here = ⊎_elim
+    (λ same.
+    let fg : f ≡ g = same_Some f g (sym (slice_get-set_same entries id f (slice_get_within entries id e at)) ∙ ap (slice_get (set entries id f)) (sym same) ∙ here) in
+    (e, ap (slice_get entries) same ∙ at, subst (Narrows e) fg n))
+    (λ ne. (g, sym (slice_get-set_other entries id i f ne) ∙ here, record { start = refl; size = λ k is. is }))
+    (cases_eq i id)
+
+pub narrows-ordered : (entries : List Entry) (id : ℕ) (e f : Entry) → slice_get entries id ≡ Some e → Narrows e f → IsOrdered entries → IsOrdered (set entries id f)
+narrows-ordered entries id e f at narrow h i j g k lt here there n is =
+    let o = narrows entries id e f at narrow i g here in
+    let p = narrows entries id e f at narrow j k there in
+    let all : o.0.start + n ≤ p.0.start = h i j o.0 p.0 lt o.1 p.1 n (o.2.size n is) in
+    let s : g.start ≡ o.0.start = o.2.start in
+    let t : k.start ≡ p.0.start = p.2.start in
+    omega arith
+
+-- one entry narrows, and the arena ends no earlier than the last that is not removed
+pub kept-set : (a b : Inside) (id end : ℕ) (e f : Entry) → IsKept a → slice_get a.entries.items id ≡ Some e → Narrows e f → b.lits.items ≡ take end a.lits.items → b.entries.items ≡ set a.entries.items id f → b.live ≤ length b.entries.items → AreRemoved b.entries.items b.live → ((i : ℕ) (g : Entry) → slice_get b.entries.items i ≡ Some g → EndsBy g end) → b.buffer.items ≡ [] → ((n : ℕ) → b.spare ≡ Some n → HasRoom b n) → IsKept b
+kept-set a b id end e f h at narrow lits entries live removed ends buffer room =
+    let old : (i : ℕ) (g : Entry) → slice_get b.entries.items i ≡ Some g → (o : Entry) × (slice_get a.entries.items i ≡ Some o) × Narrows o g = λ i g here. narrows a.entries.items id e f at narrow i g (ap (λ (xs : List Entry). slice_get xs i) (sym entries) ∙ here) in
+    record {
+      empty = buffer;
+      within = λ i g here n is.
+          let o = old i g here in
+          let all : o.0.start + n ≤ length a.lits.items = h.within i o.0 o.1 n (o.2.size n is) in
+          let start : g.start ≡ o.0.start = o.2.start in
+          let short : g.start + n ≤ end = ends i g here n is in
+          let len : length (take end a.lits.items) ≡ min end (length a.lits.items) = length-take end a.lits.items in
+          rw (lits, len) (omega arith);
+      ordered = subst IsOrdered (sym entries) (narrows-ordered a.entries.items id e f at narrow h.ordered);
+      live = live;
+      removed = removed;
+      room = room;
+    }
+
+-- an entry that tells the same part
+pub kept-place : (a b : Inside) (id : ℕ) (e f : Entry) → IsKept a → slice_get a.entries.items id ≡ Some e → f.start ≡ e.start → f.size ≡ e.size → b.lits ≡ a.lits → b.entries.items ≡ set a.entries.items id f → b.live ≡ a.live → b.buffer ≡ a.buffer → ((n : ℕ) → b.spare ≡ Some n → HasRoom b n) → IsKept b
+kept-place a b id e f h at start size lits entries live buffer room =
+    let narrow : Narrows e f = record { start = start; size = λ n is. sym size ∙ is } in
+    let old : (i : ℕ) (g : Entry) → slice_get b.entries.items i ≡ Some g → (o : Entry) × (slice_get a.entries.items i ≡ Some o) × Narrows o g × (g.size ≡ o.size) = λ i g here. same-size i g (ap (λ (xs : List Entry). slice_get xs i) (sym entries) ∙ here) in
+    kept-set a b id (length a.lits.items) e f h at narrow (ap (λ x. x.items) lits ∙ sym (take_all (length a.lits.items) a.lits.items (omega arith))) entries (rw (live, entries, length-set) h.live)
+    (λ i g le here. let o = old i g here in o.3 ∙ h.removed i o.0 (omega (arith, live)) o.1)
+    (λ i g here n is. let o = old i g here in let le : o.0.start + n ≤ length a.lits.items = h.within i o.0 o.1 n (o.2.size n is) in let s : g.start ≡ o.0.start = o.2.start in omega arith)
+    (ap (λ x. x.items) buffer ∙ h.empty) room
+  where
+    same-size : (i : ℕ) (g : Entry) → slice_get (set a.entries.items id f) i ≡ Some g → (o : Entry) × (slice_get a.entries.items i ≡ Some o) × Narrows o g × (g.size ≡ o.size)
+    same-size i g here = ⊎_elim
+        (λ same.
+        let fg : f ≡ g = same_Some f g (sym (slice_get-set_same a.entries.items id f (slice_get_within a.entries.items id e at)) ∙ ap (slice_get (set a.entries.items id f)) (sym same) ∙ here) in
+        (e, ap (slice_get a.entries.items) same ∙ at, subst (Narrows e) fg (record { start = start; size = λ n is. sym size ∙ is }), ap (λ (x : Entry). x.size) (sym fg) ∙ size))
+        (λ ne. (g, sym (slice_get-set_other a.entries.items id i f ne) ∙ here, record { start = refl; size = λ k is. is }, refl))
+        (cases_eq i id)
+
+-- where the last entry that may be live ends, all end
+pub all-end : (entries : List Entry) (live end : ℕ) → IsOrdered entries → live ≤ length entries → AreRemoved entries live → EndsAt entries live end → (i : ℕ) (g : Entry) → slice_get entries i ≡ Some g → EndsBy g end
+all-end entries live end ordered within removed ends i g at n is = ⊎_elim
+    (λ lt. by_last (last-within live (omega arith) within) lt)
+    (λ ge. absurd (let z : g.size ≡ 0 = removed i g ge at in omega arith))
+    (cases_lt i live)
+  where
+    last-within : (k : ℕ) → 0 < k → k ≤ length entries → (m : ℕ) × (e : Entry) × (m + 1 ≡ k) × (slice_get entries m ≡ Some e)
+    last-within zero pos le = absurd (omega arith)
+    last-within (suc m) pos le = (m, get_or entries m g, omega arith, slice_get-get_or entries m g (omega arith))
+
+    by_last : ((k : ℕ) × (e : Entry) × (k + 1 ≡ live) × (slice_get entries k ≡ Some e)) → i < live → g.start + n ≤ end
+    by_last l lt = ⊎_elim
+        (λ before. let a : g.start + n ≤ l.1.start = ordered i l.0 g l.1 before at l.3 n is in let b : l.1.start ≤ end = ends.begins l.0 l.1 l.2 l.3 in omega arith)
+        (λ last. let k : l.0 + 1 ≡ live = l.2 in ends.ends i g (omega arith) at n is)
+        (cases_lt i l.0)
+
+-- an arena that is cut behind every clause has the same clauses
+part-cut : (lits : List Lit) (end start size : ℕ) → ((n : ℕ) → size ≡ suc n → start + n ≤ end) → part_of (take end lits) start size ≡ part_of lits start size
+part-cut lits end start zero within = refl
+part-cut lits end start (suc n) within =
+    let le : start + n ≤ end = within n refl in
+    let split : end ≡ start + (end - start) = omega arith in
+    let cut : drop start (take end lits) ≡ take (end - start) (drop start lits) = ap (λ k. drop start (take k lits)) split ∙ drop-take start (end - start) lits in
+    ap Some (ap (take n) cut ∙ take-take n (end - start) (drop start lits) (omega arith))
+
+pub clauses-cut : (lits : List Lit) (end : ℕ) (entries : List Entry) → ((i : ℕ) (e : Entry) → slice_get entries i ≡ Some e → EndsBy e end) → map (clause_of (take end lits)) entries ≡ map (clause_of lits) entries
+clauses-cut lits end [] within = refl
+clauses-cut lits end (e ∷ es) within =
+    let head : clause_of (take end lits) e ≡ clause_of lits e = part-cut lits end e.start e.size (within 0 e refl) in
+    let tail = clauses-cut lits end es (λ i. within (suc i)) in
+    rw (head, tail) refl
+
 -- one more entry, of what stands at the end of the arena
-pub clauses-push : (lits more : List Lit) (entries : List Entry) (e : Entry) → ((id : ℕ) (f : Entry) (n : ℕ) → slice_get entries id ≡ Some f → f.size ≡ suc n → f.start + n ≤ length lits) → e.start ≡ length lits → e.size ≡ length more + 1 → map (clause_of (lits ++ more)) (entries ++ e ∷ []) ≡ map (clause_of lits) entries ++ Some more ∷ []
+pub clauses-push : (lits more : List Lit) (entries : List Entry) (e : Entry) → ((id : ℕ) (f : Entry) → slice_get entries id ≡ Some f → EndsBy f (length lits)) → e.start ≡ length lits → e.size ≡ length more + 1 → map (clause_of (lits ++ more)) (entries ++ e ∷ []) ≡ map (clause_of lits) entries ++ Some more ∷ []
 clauses-push lits more entries e within start size =
     let last : clause_of (lits ++ more) e ≡ Some more = ap (λ s. part_of (lits ++ more) s e.size) start ∙ ap (part_of (lits ++ more) (length lits)) size ∙ part-last lits more in
     map_push (clause_of (lits ++ more)) entries e ∙ ap (λ (xs : List (Option (List Lit))). xs ++ clause_of (lits ++ more) e ∷ []) (clauses-longer lits more entries within) ∙ ap (λ o. map (clause_of lits) entries ++ o ∷ []) last
 
-pub kept-push : (a b : Inside) (more : List Lit) (e : Entry) → IsKept a → b.lits.items ≡ a.lits.items ++ more → b.entries.items ≡ a.entries.items ++ e ∷ [] → b.buffer.items ≡ [] → b.spare ≡ None → e.start ≡ length a.lits.items → e.size ≡ length more + 1 → IsKept b
-kept-push a b more e h lits entries buffer spare start size =
+pub kept-push : (a b : Inside) (more : List Lit) (e : Entry) → IsKept a → b.lits.items ≡ a.lits.items ++ more → b.entries.items ≡ a.entries.items ++ e ∷ [] → b.buffer.items ≡ [] → b.spare ≡ None → b.live ≡ length b.entries.items → e.start ≡ length a.lits.items → e.size ≡ length more + 1 → IsKept b
+kept-push a b more e h lits entries buffer spare live start size =
+    let was : (i : ℕ) (f : Entry) → slice_get b.entries.items i ≡ Some f → (slice_get a.entries.items i ≡ Some f) ⊎ ((i ≡ length a.entries.items) × (f ≡ e)) = λ i f at. slice_get-push_cases a.entries.items e i f (ap (λ (xs : List Entry). slice_get xs i) (sym entries) ∙ at) in
     let len : length (a.lits.items ++ more) ≡ length a.lits.items + length more = length-append a.lits.items more in
     record {
       empty = buffer;
-      within = λ id f n at is. rw (lits, len) (⊎_elim
-          (λ old. let le : f.start + n ≤ length a.lits.items = h.within id f n old is in omega arith)
+      within = λ id f at n is. rw (lits, len) (⊎_elim
+          (λ old. let le : f.start + n ≤ length a.lits.items = h.within id f old n is in omega arith)
           (λ new.
           let s : f.start ≡ length a.lits.items = ap (λ (x : Entry). x.start) new.1 ∙ start in
           let k : f.size ≡ length more + 1 = ap (λ (x : Entry). x.size) new.1 ∙ size in omega arith)
-          (slice_get-push_cases a.entries.items e id f (ap (λ (xs : List Entry). slice_get xs id) (sym entries) ∙ at)));
+          (was id f at));
+      ordered = λ i j f g lt at later n is. ⊎_elim
+          (λ old. ⊎_elim
+          (λ both. h.ordered i j f g lt old both n is)
+          (λ new. let le : f.start + n ≤ length a.lits.items = h.within i f old n is in let s : g.start ≡ length a.lits.items = ap (λ (x : Entry). x.start) new.1 ∙ start in omega arith)
+          (was j g later))
+          (λ new. absurd (⊎_elim
+          (λ old. let k : j < length a.entries.items = slice_get_within a.entries.items j g old in let m : i ≡ length a.entries.items = new.0 in omega arith)
+          (λ both. let k : j ≡ length a.entries.items = both.0 in let m : i ≡ length a.entries.items = new.0 in omega arith)
+          (was j g later)))
+          (was i f at);
+      live = omega (arith, live);
+      removed = λ id f le at. absurd (let lt : id < length b.entries.items = slice_get_within b.entries.items id f at in omega (arith, live));
       room = λ n is. (let z : None ≡ Some n = sym spare ∙ is in cc);
     }
+
+-- an entry of size 0 has no clause
+pub removed-held : (lits : List Lit) (entries : List Entry) (live : ℕ) → AreRemoved entries live → (id : ℕ) (c : List Lit) → live ≤ id → slice_get (map (clause_of lits) entries) id ≡ Some (Some c) → ⊥
+removed-held lits entries live removed id c le h =
+    let none : Entry = record { start = 0; size = 0; first = 0; second = 0 } in
+    let len : length (map (clause_of lits) entries) ≡ length entries = length-map entries (clause_of lits) in
+    let lt : id < length (map (clause_of lits) entries) = slice_get_within (map (clause_of lits) entries) id (Some c) h in
+    let at : slice_get entries id ≡ Some (get_or entries id none) = slice_get-get_or entries id none (omega arith) in
+    let gone : clause_of lits (get_or entries id none) ≡ None = part-none lits (get_or entries id none).start (get_or entries id none).size (removed id (get_or entries id none) le at) in
+    let is : clause_of lits (get_or entries id none) ≡ Some c = same_Some (clause_of lits (get_or entries id none)) (Some c) (sym (held-at lits entries id (get_or entries id none) at) ∙ h) in
+    (let z : None ≡ Some c = sym gone ∙ is in cc)

@@ -1,16 +1,14 @@
 -- Adding literals with reasons, one after another.
-use Rattle.std.proofs.Common.{◌≡◌, ℕ, ◌<◌, ◌≤◌, ◌+◌, min, Some, List, [], ◌∷◌, ◌++◌, length, take, refl, sym, ap, ◌∙◌, ⊎_elim, arith, slice_get, subst}
+use Rattle.std.proofs.Common.{◌≡◌, ◌<◌, ◌≤◌, min, Some, List, [], ◌∷◌, length, take, refl, sym, ap, ◌∙◌, ⊎_elim, arith, slice_get}
 use Rattle.std.specs.Prelude.{IsSome}
 use Rattle.std.proofs.lemmas.Option.{slice_get_within}
-use Rattle.std.proofs.lemmas.List.{length-set, length_push, length-take, take_all, take-take, take-append-le}
+use Rattle.std.proofs.lemmas.List.{length-set, length-take, take_all, take-take, take-append-le}
 use Rattle.std.proofs.lemmas.Bool.{cases_lt}
 use Rattle.std.proofs.lemmas.List.Sums.{count_by-le-length}
 use Rattle.std.specs.Prelude.{is_some}
-use Rattle.lit_core.specs.declared.literals.Lit.{Lit}
-use Rattle.lit_core.specs.Truth.{IsSettled}
 use Rattle.clause_base.specs.declared.trail.Step.{Step}
 use Rattle.clause_base.specs.TrailLaws.{with_step}
-use Rattle.clause_base.specs.StoreState.{StoreState, IsStore, IsHeld, Propagates, with_trail}
+use Rattle.clause_base.specs.StoreState.{StoreState, IsStore, Propagates, with_trail}
 use Rattle.clause_base.proofs.ListFacts.{slice_get-push_cases, slice_get-take-below}
 
 -- a front is no longer than the list

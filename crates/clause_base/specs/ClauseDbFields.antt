@@ -29,8 +29,28 @@ pub record HasRoom (a : Inside) (n : ℕ) : Type 0 where
   pub arena : vec_len a.lits + n ≤ vec_capacity a.lits
   pub small : vec_len a.lits + n + 1 < 2 ^ 32
 
+-- the clause of an entry, if it was not removed, ends at this place of the arena or before
+abbrev pub EndsBy : Entry → ℕ → Type 0
+EndsBy e end = (n : ℕ) → e.size ≡ suc n → e.start + n ≤ end
+
+-- the entries from this number on are of clauses that were removed
+abbrev pub AreRemoved : List Entry → ℕ → Type 0
+AreRemoved entries live = (id : ℕ) (e : Entry) → live ≤ id → slice_get entries id ≡ Some e → e.size ≡ 0
+
+-- each clause ends before any later one begins
+abbrev pub IsOrdered : List Entry → Type 0
+IsOrdered entries = (i j : ℕ) (e f : Entry) → i < j → slice_get entries i ≡ Some e → slice_get entries j ≡ Some f → EndsBy e f.start
+
+-- the last of so many entries ends at this place of the arena
+pub record EndsAt (entries : List Entry) (live end : ℕ) : Type 0 where
+  pub begins : (id : ℕ) (e : Entry) → id + 1 ≡ live → slice_get entries id ≡ Some e → e.start ≤ end
+  pub ends : (id : ℕ) (e : Entry) → id + 1 ≡ live → slice_get entries id ≡ Some e → EndsBy e end
+
 pub record IsKept (a : Inside) : Type 0 where
   pub empty : a.buffer.items ≡ []
-  -- each clause stands inside the arena
-  pub within : (id : ℕ) (e : Entry) (n : ℕ) → slice_get a.entries.items id ≡ Some e → e.size ≡ suc n → e.start + n ≤ length a.lits.items
+  -- each clause stands inside the arena, and ends before any later one begins
+  pub within : (id : ℕ) (e : Entry) → slice_get a.entries.items id ≡ Some e → EndsBy e (length a.lits.items)
+  pub ordered : IsOrdered a.entries.items
+  pub live : a.live ≤ length a.entries.items
+  pub removed : AreRemoved a.entries.items a.live
   pub room : (n : ℕ) → a.spare ≡ Some n → HasRoom a n

@@ -1,9 +1,10 @@
 //! The clause database: the literals of all clauses stand in one arena, one clause after another.
 //!
-//! A clause is told by an entry of sixteen bytes, so that four of them fill a cache line, and its literals stand side by
-//! side. A push sorts its literals in a buffer, which keeps its memory from push to push.
-ghost use Rattle.std.specs.Prelude.{◌≡◌, ◌<◌, ◌≤◌, ◌+◌, ◌*◌, ◌^◌, ◌++◌, ◌∷◌, [], length, max, Some, None, Option, List, IfSome, IsOk, IsTrue, OnOk, OnErr, MatchOption, ◌↔◌, slice_get, slice_set, vec_capacity};
+//! A clause is told by an entry of sixteen bytes, so that four of them fill a cache line, and its literals stand
+//! side by side. A push sorts its literals in a buffer, which keeps its memory from push to push.
+ghost use Rattle.std.specs.Prelude.{◌≡◌, ℕ, ◌<◌, ◌≤◌, ◌+◌, ◌*◌, ◌^◌, ◌++◌, ◌∷◌, [], length, max, Some, None, Option, List, IfSome, IsOk, IsTrue, OnOk, OnErr, MatchOption, ◌↔◌, slice_get, slice_set, vec_capacity};
 ghost use Rattle.lit_core.specs.declared.literals.Lit.{Lit};
+ghost use Rattle.clause_base.specs.ClauseDbFields.{AreRemoved, EndsAt};
 ghost use Rattle.clause_base.specs.StoreState.{IsEachOnceOf};
 
 use lit_core::{Lit, Memory};
@@ -32,6 +33,8 @@ pub struct ClauseDb {
     buffer: SmallVec<Lit, 3>,
     /// The length of a clause for which there is room.
     spare: Option<usize>,
+    /// The clauses from this number on were all removed.
+    live: usize,
 }
 
 impl Model for ClauseDb {
@@ -97,6 +100,33 @@ fn moved(entry: Entry, node: usize, place: usize) -> Entry
     }
 }
 
+/// How many entries there are up to the last that is not removed, where all from `live` on are.
+fn live_of(entries: &[Entry], live: usize) -> usize
+    requires within { live ≤ length entries.now }
+    requires removed { AreRemoved entries.now live }
+    ensures within { result ≤ length entries.now }
+    ensures removed { AreRemoved entries.now result }
+{
+    for id in (0..live).rev() {
+        if entries[id].size != 0 {
+            return id + 1;
+        }
+    }
+    0
+}
+
+/// Where the last of these entries ends.
+fn end_of(entries: &[Entry], live: usize) -> usize
+    requires { live ≤ length entries.now }
+    ensures { EndsAt entries.now live result }
+{
+    if live == 0 {
+        return 0;
+    }
+    let last = entries[live - 1];
+    last.start as usize + (last.size as usize).saturating_sub(1)
+}
+
 impl ClauseDb {
     /// No clause.
     pub fn new(alloc: Global) -> ClauseDb
@@ -107,6 +137,7 @@ impl ClauseDb {
             entries: Vec::new(alloc),
             buffer: SmallVec::new(alloc),
             spare: None,
+            live: 0,
         }
     }
 
@@ -115,6 +146,14 @@ impl ClauseDb {
         ensures { result ≡ length self.now.clauses }
     {
         self.entries.len()
+    }
+
+    /// How many clauses there are up to the last that is held: all after it were removed.
+    pub fn live(&self) -> usize
+        ensures within { result ≤ length self.now.clauses }
+        ensures removed { (id : ℕ) (c : List Lit) → result ≤ id → slice_get self.now.clauses id ≡ Some (Some c) → ⊥ }
+    {
+        self.live
     }
 
     /// Whether there is room for a clause of this length.
@@ -165,6 +204,7 @@ impl ClauseDb {
             second: 0,
         });
         self.spare = None;
+        self.live = self.entries.len();
     }
 
     /// The literals of a held clause, or None where it was removed.
@@ -215,12 +255,16 @@ impl ClauseDb {
         self.entries[node / 2] = moved(entry, node, place);
     }
 
-    /// Removes a clause.
+    /// Removes a clause. The arena ends with the last clause that is held, so that what was pushed last and is removed,
+    /// in whatever order, leaves no literal there.
     pub fn remove(&mut self, id: u64)
         requires { id < length self.old.clauses }
         ensures { self.new ≡ record { clauses = slice_set self.old.clauses id None; spare = self.old.spare } }
     {
         let entry = self.entries[id as usize];
         self.entries[id as usize] = Entry { size: 0, ..entry };
+        self.live = live_of(self.entries.as_slice(), self.live);
+        let end = end_of(self.entries.as_slice(), self.live);
+        self.lits.truncate(end);
     }
 }

@@ -1,5 +1,5 @@
-//! What a clause store is made of: the clause database, the trail of what is true, and the lists of watches; and what a
-//! store of them is, as its callers see it.
+//! What a clause store is made of: the clause database, the trail of what is true, and the lists of watches; and
+//! what a store of them is, as its callers see it.
 #![tactic(auto)]
 
 mod clause_db;

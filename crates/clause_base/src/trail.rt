@@ -186,7 +186,7 @@ impl Trail {
         self.add(Step { lit, level, reason });
     }
 
-    /// Makes a literal true for good, with no decision.
+    /// Fixes a literal at level 0, with no decision.
     pub fn fix(&mut self, lit: Lit)
         requires in_range { lit.var.0 < length self.old.values }
         requires unassigned { value_in self.old.values lit ≡ None }

@@ -1,7 +1,7 @@
 //! Linked lists of numbered nodes, in which a node changes its list without memory.
 //!
-//! A link and what is written on a node are numbers of 32 bits, side by side, so that a walk along a list reads both at
-//! once, and the two nodes of a clause stand in one cache line.
+//! A link and what is written on a node are numbers of 32 bits, side by side, so that a walk along a list reads both
+//! at once, and the two nodes of a clause stand in one cache line.
 ghost use Rattle.std.specs.Prelude.{◌≡◌, ◌≢◌, ℕ, ◌+◌, ◌^◌, ◌<◌, ◌≤◌, ◌++◌, ◌∷◌, [], length, Some, None, Option, List, Contains, OnOk, slice_get, slice_index, slice_set};
 ghost use Rattle.clause_base.specs.Links.{node_of, first_of, last_of};
 ghost use Rattle.clause_base.specs.ListsFields.{labels_of, links_of};
@@ -20,7 +20,8 @@ struct Node {
     label: u32,
 }
 
-/// Numbered lists of numbered nodes, with a number written on each node. A node is in at most one list, and there once.
+/// Numbered lists of numbered nodes, with a number written on each node. A node is in at most one list, and there
+/// once.
 #[derive(Debug, Drop)]
 pub struct LinkedLists {
     /// For each list its first node plus one, or 0.

@@ -1,7 +1,7 @@
 -- What holds of every solver.
 use Rattle.std.proofs.Common.{◌≡◌, ℕ, suc, zero, ◌<◌, Option, Some, None, List, [], ◌∷◌, slice_get, refl, sym, ◌∙◌, subst, ◌⊎◌, inl, inr, ⊎_elim, arith, All, Contains}
 use Rattle.std.specs.List.{AllZip}
-use Rattle.std.proofs.lemmas.List.Elements.{All-nil, All-cons, All-weaker}
+use Rattle.std.proofs.lemmas.List.Elements.{All-nil, All-cons, All-contains}
 use Rattle.std.proofs.lemmas.Option.{slice_get_within, same_Some}
 use Rattle.lit_core.specs.declared.literals.Lit.{Lit}
 use Rattle.lit_core.specs.Truth.{IsSatisfied}
@@ -9,10 +9,13 @@ use Rattle.lit_core.proofs.LiteralFacts.{Contains-cons_cases, Contains-head, Con
 use Rattle.clause_store.specs.StoreState.{IsEachOnceOf}
 use Rattle.ground_core.specs.Problems.{ProblemState}
 use Rattle.ground_core.specs.GateClauses.{clauses_of}
-use Rattle.clause_learning.specs.declared.engine.Engine.{Engine}
+use Rattle.search_engine.specs.declared.engine.Engine.{Engine}
+use Rattle.clause_learning.specs.declared.keeper.Keeper.{Keeper}
 use Rattle.clause_learning.specs.declared.solver.Solver.TheInside.{Inside}
-use Rattle.clause_learning.specs.Knowledge.{IsHeldAs, Knows}
-use Rattle.clause_learning.specs.Resting.{IsResting, held_of}
+use Rattle.ground_core.specs.Solving.{IsKept}
+use Rattle.search_engine.specs.Knowledge.{IsHeldAs, IsOneOf, IsOfConstraint, Knows}
+use Rattle.search_engine.specs.Resting.{held_of}
+use Rattle.clause_learning.specs.Keeping.{IsKeeper, kept_of}
 use Rattle.clause_learning.specs.SolverFields.{state_of}
 use Rattle.clause_learning.specs.SolverState.{HasClause, IsSolver}
 
@@ -43,28 +46,37 @@ zip-find cl (i ∷ ids) (c ∷ cs) z id has = ⊎_elim
     (λ more. let w = zip-find cl ids cs z.1 id more in (w.0, Contains-tail c cs w.0 w.1, w.2))
     (Contains-cons_cases i ids id has)
 
--- a held clause is one of the problem or was learnt
-comes-from : (p : ProblemState) (learnt : List (List Lit)) (ids : List ℕ) (cl : List (Option (List Lit))) → Knows p learnt ids cl → (id : ℕ) (k : List Lit) → slice_get cl id ≡ Some (Some k) → (c : List Lit) × (Contains (clauses_of p) c ⊎ Contains learnt c) × IsEachOnceOf c k
+-- a held clause is one of the problem or was learnt, or a constraint gave it
+comes-from : (p : ProblemState) (learnt : List (List Lit)) (ids : List ℕ) (cl : List (Option (List Lit))) → Knows p learnt ids cl → (id : ℕ) (k : List Lit) → slice_get cl id ≡ Some (Some k) → (IsOneOf (clauses_of p) k ⊎ IsOneOf learnt k) ⊎ IsOfConstraint p k
 comes-from p learnt ids cl h id k e = ⊎_elim
     (λ has.
     let w = zip-find cl ids learnt h.learnt_held id has in
     let same : w.2.0 ≡ k = same_Some w.2.0 k (same_Some (Some w.2.0) (Some k) (sym w.2.1 ∙ e)) in
-    (w.0, inr w.1, subst (IsEachOnceOf w.0) same w.2.2))
-    (λ w. (w.0, inl w.1, w.2))
+    inl (inr (w.0, w.1, subst (IsEachOnceOf w.0) same w.2.2)))
+    (λ way. ⊎_elim (λ w. inl (inl w)) (λ w. inr w) way)
     (h.from id k e)
 
-pub solver-laws : (a : Inside) → IsResting a.engine → IsSolver (state_of a)
+pub kept-laws : (a : Keeper) → IsKeeper a → IsKept (kept_of a)
+kept-laws a h = record {
+  problem = h.resting.engine.problem;
+  terms = h.terms;
+  learnt = h.resting.engine.learnt;
+  refuted = h.refuted;
+  counted = h.counted;
+}
+
+pub solver-laws : (a : Inside) → IsKeeper a.keeper → IsSolver (state_of a)
 solver-laws a h =
-    let e : Engine = a.engine in
+    let e : Engine = a.keeper.engine in
     let cl : List (Option (List Lit)) = e.store.clauses in
-    let knows : Knows e.problem e.learnt e.ids.items cl = h.engine.knows in
+    let knows : Knows e.problem e.learnt e.ids.items cl = h.resting.engine.knows in
     record {
-      problem = h.engine.problem;
-      plain = (h.engine.sums, h.engine.bounds);
+      kept = kept-laws a.keeper h;
+      plain = (h.resting.engine.sums, h.resting.engine.bounds, h.resting.engine.retired);
       implied = λ v sat. all-held (IsSatisfied v) cl (knows.implied v sat);
-      problem_held = All-weaker (λ c. (id : ℕ) × IsHeldAs cl id c × (Contains e.ids.items id → ⊥)) (HasClause (held_of cl)) (λ c w. (w.1.0, contains-held cl w.0 w.1.0 w.1.1, w.1.2)) (clauses_of e.problem) knows.problem;
+      said_held = λ c has live. let w = All-contains (λ d. (id : ℕ) × IsHeldAs cl id d × (Contains e.ids.items id → ⊥)) (clauses_of e.problem) c knows.problem has in (w.1.0, contains-held cl w.0 w.1.0 w.1.1, w.1.2);
       learnt_held = zip-has cl e.ids.items e.learnt knows.learnt_held;
-      from = all-held (λ k. (c : List Lit) × (Contains (clauses_of e.problem) c ⊎ Contains e.learnt c) × IsEachOnceOf c k) cl (comes-from e.problem e.learnt e.ids.items cl knows);
-      fewer = h.fewer;
-      once = h.once;
+      from = all-held (λ k. (IsOneOf (clauses_of e.problem) k ⊎ IsOneOf e.learnt k) ⊎ IsOfConstraint e.problem k) cl (comes-from e.problem e.learnt e.ids.items cl knows);
+      fewer = h.resting.fewer;
+      once = h.resting.once;
     }

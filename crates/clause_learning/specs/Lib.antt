@@ -1,10 +1,5 @@
-pub mod Potential
-pub mod Knowledge
-pub mod Joining
+pub mod CoreIndexes
+pub mod Keeping
 pub mod SolverState
-pub mod KeptFields
-pub mod Searching
-pub mod Cores
-pub mod Resting
 pub mod SolverFields
-pub mod Signs
+pub mod GoingOn

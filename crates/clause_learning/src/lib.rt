@@ -1,18 +1,9 @@
-//! A search for valuations that satisfy a ground problem, which learns clauses from its conflicts
-//! and keeps them.
+//! The solver that callers keep: it searches for valuations that satisfy a ground problem, learns clauses
+//! of it, and keeps these and the cores that it found.
 #![tactic(auto)]
 
-mod choices;
-mod cores;
-mod engine;
-mod growing;
-mod kept;
-mod levels;
-mod pushing;
-mod searching;
-mod signs;
+mod core_index;
+mod keeper;
 mod solver;
-#[cfg(test)]
-mod tests;
 
 pub use solver::Solver;

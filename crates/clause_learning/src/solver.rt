@@ -1,24 +1,28 @@
 //! The solver that callers keep.
-ghost use Rattle.std.specs.Prelude.{◌≡◌, ◌≤◌, ◌<◌, ◌+◌, None, [], length, IfOk, IfErr, OnOk, OnErr};
+ghost use Rattle.std.specs.Prelude.{◌≡◌, ◌≤◌, ◌<◌, ◌+◌, ℕ, [], length, IfOk, IfErr, OnOk, OnErr};
 ghost use Rattle.ground_core.specs.Problems.{AreLitsOf};
-ghost use Rattle.ground_core.specs.Solving.{Answers, HaltedAt, IsBudgetOf, Learns, Spends, one_more};
-ghost use Rattle.clause_learning.specs.Joining.{CanJoin};
-ghost use Rattle.clause_learning.specs.SolverState.{AddsProblem, Forgets, IsSolver, LearnsFresh, empty_solver};
+ghost use Rattle.ground_core.specs.Meaning.{HasTermsInRange};
+ghost use Rattle.ground_core.specs.Solving.{Answers, AreUnretired, HaltedAt, HasCoreWithin, IsBudgetOf, IsKept, IsKnown, KeepsCores, Spends, counted};
+ghost use Rattle.search_engine.specs.Joining.{CanJoin};
+ghost use Rattle.clause_learning.specs.GoingOn.{GoesOn};
+ghost use Rattle.clause_learning.specs.SolverState.{AddsProblem, Forgets, IsSolver, empty_solver};
 
-use crate::engine::Engine;
-use ground_core::{Budget, Halt, Memory, Problem, Solve, Verdict};
+use crate::keeper::Keeper;
+use ground_core::{Budget, Halt, LitList, Memory, Problem, Solve, Verdict};
 use lit_core::{ClauseList, Lit};
 use std::alloc::Global;
 use std::marker::Model;
 
-/// A solver that keeps a problem of gates and clauses, and the clauses that it learnt of it.
+/// A solver that keeps a problem of gates and clauses, the clauses that it learnt of it, and the
+/// cores that it found.
 ///
 /// It decides what is assumed, each at a level of its own, then the variable of least number.
 /// From a conflict it learns the clause of the first unique implication point, and goes back to
-/// where that clause is unit. There are no restarts.
+/// where that clause is unit. There are no restarts. What follows without assumptions stays
+/// assigned between searches, and so do the watches.
 #[derive(Drop)]
 pub struct Solver {
-    engine: Engine,
+    keeper: Keeper,
 }
 
 impl Model for Solver {
@@ -26,11 +30,11 @@ impl Model for Solver {
 
     ghost Value = { SolverState };
 
-    ghost use Rattle.clause_learning.specs.SolverFields.{state_of, IsKept};
+    ghost use Rattle.clause_learning.specs.SolverFields.{state_of, IsKeptSolver};
 
     ghost view = { state_of };
 
-    ghost invariant = { IsKept };
+    ghost invariant = { IsKeptSolver };
 }
 
 impl Solver {
@@ -40,36 +44,45 @@ impl Solver {
         ensures laws { IfOk result IsSolver }
     {
         Ok(Solver {
-            engine: Engine::new(alloc)?,
+            keeper: Keeper::new(alloc)?,
         })
     }
 
     /// Says all that another problem of gates and clauses says, too.
     pub fn add_problem(&mut self, more: &Problem) -> Result<(), Memory>
-        requires can { CanJoin self.old.problem more.now }
+        requires can { CanJoin self.old.kept.problem more.now }
         requires sums { more.now.sums ≡ [] }
         requires bounds { more.now.bounds ≡ [] }
+        requires terms { HasTermsInRange more.now }
         ensures ok { OnOk result (AddsProblem self.old more.now self.new) }
         ensures err { OnErr result (self.new ≡ self.old) }
         ensures laws { IsSolver self.new }
     {
-        self.engine.add_problem(more)
+        self.keeper.engine.add_problem(more)
     }
 
     /// The clauses that were learnt, in order.
     pub fn learnt(&self) -> &ClauseList
-        ensures value { result.now ≡ self.now.learnt }
+        ensures value { result.now ≡ self.now.kept.learnt }
         ensures laws { IsSolver self.now }
     {
-        &self.engine.learnt
+        &self.keeper.engine.learnt
+    }
+
+    /// The cores that were kept, in order.
+    pub fn cores(&self) -> &[LitList]
+        ensures value { result.now ≡ self.now.kept.cores }
+        ensures laws { IsSolver self.now }
+    {
+        &self.keeper.index.cores
     }
 
     /// How many searches were begun.
     pub fn searches(&self) -> u64
-        ensures value { result ≡ self.now.searches }
+        ensures value { result ≡ self.now.kept.searches }
         ensures laws { IsSolver self.now }
     {
-        self.engine.searches
+        self.keeper.engine.searches
     }
 
     /// How many conflicts the last search met above level 0.
@@ -77,7 +90,7 @@ impl Solver {
         ensures value { result ≡ self.now.conflicts }
         ensures laws { IsSolver self.now }
     {
-        self.engine.conflicts
+        self.keeper.engine.conflicts
     }
 
     /// How many conflicts the last search met at level 0.
@@ -85,49 +98,52 @@ impl Solver {
         ensures value { result ≡ self.now.root_conflicts }
         ensures laws { IsSolver self.now }
     {
-        self.engine.root_conflicts
+        self.keeper.engine.root_conflicts
     }
 
-    /// Gives up what was learnt.
+    /// Gives up what was learnt, and the kept cores.
     pub fn forget(&mut self)
         ensures forgotten { Forgets self.old self.new }
         ensures laws { IsSolver self.new }
     {
-        self.engine.forget();
+        self.keeper.engine.forget();
+        self.keeper.index.clear();
     }
 }
 
 impl Solve for Solver {
-    ghost problem = { λ s. s.problem };
+    ghost use Rattle.clause_learning.specs.GoingOn.{GoesOn, goes-itself, goes-twice};
 
-    ghost learnt = { λ s. s.learnt };
+    ghost state = { λ s. s.kept };
 
-    ghost free = { λ s. s.problem.vars };
+    ghost goes_on = { λ s t. GoesOn s.kept t.kept };
 
-    ghost searches = { λ s. s.searches };
+    fn known(&self) {
+        let _searches = self.keeper.engine.searches;
+    }
 
     fn solve(&mut self, assume: &[Lit], budget: &mut Budget) -> Result<Verdict, Halt>
-        requires literals { AreLitsOf self.old.problem.vars assume.now }
-        requires budget { IsBudgetOf self.old.learnt budget.old }
-        requires unlimited { budget.old.limit ≡ None }
-        ensures verdict { IfOk result (Answers self.old.problem assume.now) }
-        ensures problem { self.new.problem ≡ self.old.problem }
-        ensures free { self.new.problem.vars ≡ self.old.problem.vars }
-        ensures spends { Spends self.old.problem.vars self.old.learnt self.new.learnt budget.old budget.new }
-        ensures learns { Learns self.old.problem self.old.learnt self.new.learnt }
-        ensures searches { self.new.searches ≡ one_more self.old.searches }
+        requires literals { AreLitsOf self.old.kept.problem.vars assume.now }
+        requires unretired { AreUnretired self.old.kept.problem assume.now }
+        requires budget { IsBudgetOf self.old.kept.learnt budget.old }
+        ensures verdict { IfOk result (Answers self.old.kept.problem assume.now) }
         ensures halt { IfErr result (HaltedAt budget.new) }
-        ensures fresh { LearnsFresh self.new.problem (length self.old.learnt) self.new.learnt }
-        ensures counted { length self.new.learnt ≤ length self.old.learnt + self.new.conflicts }
+        ensures problem { self.new.kept.problem ≡ self.old.kept.problem }
+        ensures additions { self.new.kept.additions ≡ self.old.kept.additions }
+        ensures free { self.new.kept.free ≡ self.old.kept.free }
+        ensures searches { self.new.kept.searches ≡ counted (self.old.kept.searches + 1) }
+        ensures spends { Spends self.old.kept self.new.kept budget.old budget.new }
+        ensures cores { KeepsCores self.old.kept.cores result self.new.kept.cores }
+        ensures decided { HasCoreWithin self.old.kept.cores assume.now → IsKnown self.old.kept.learnt self.new.kept.learnt budget.old budget.new result }
+        ensures kept { IsKept self.new.kept }
+        ensures later { GoesOn self.old.kept self.new.kept }
+        ensures counted { length self.new.kept.learnt ≤ length self.old.kept.learnt + self.new.conflicts }
         ensures laws { IsSolver self.new }
     {
-        let before = self.engine.learnt.len();
-        let verdict = self.engine.solve(assume);
-        let after = self.engine.learnt.len();
-        budget.spent += (after - before) as u64;
-        match verdict {
-            Ok(verdict) => Ok(verdict),
-            Err(_) => Err(Halt::Memory),
-        }
+        self.keeper.solve(assume, budget)
     }
+
+    ghost goes_on_itself = { λ s. goes-itself s.kept };
+
+    ghost goes_on_twice = { λ r s t a b. goes-twice r.kept s.kept t.kept a b };
 }

@@ -1,8 +1,6 @@
 -- One more clause is watched.
-use Rattle.std.proofs.Common.{◌≡◌, ℕ, ◌<◌, ◌≤◌, ◌+◌, ◌*◌, true, false, Some, List, ◌∷◌, length, set, sym, ap, ◌∙◌, ◌⊎◌, inl, inr, ⊎_elim, arith, slice_get, subst, Contains}
-use Rattle.std.specs.Vec.{with_item}
-use Rattle.std.proofs.lemmas.Bool.{cases_eq}
-use Rattle.std.proofs.lemmas.List.{length-set}
+use Rattle.std.proofs.Common.{◌≡◌, ℕ, ◌<◌, ◌≤◌, ◌+◌, ◌*◌, true, false, Some, List, ◌∷◌, length, sym, ap, ◌∙◌, ◌⊎◌, inl, inr, ⊎_elim, arith, subst, Contains}
+use Rattle.std.proofs.lemmas.Bool.{cases_eq, cases_lt}
 use Rattle.lit_core.specs.declared.literals.Lit.{Lit}
 use Rattle.lit_core.specs.Literals.{value_in}
 use Rattle.lit_core.proofs.LiteralFacts.{Contains-cons_cases, Contains-head, Contains-tail}
@@ -14,7 +12,6 @@ use Rattle.clause_base.specs.StoreState.{IsHeld}
 use Rattle.clause_base.specs.TrailLaws.{IsMade}
 use Rattle.clause_store.specs.Watching.{code_of, store_of, HasWatch, IsWatcher, IsWatchNode, IsListed, IsNodeOf, IsWatched}
 use Rattle.clause_store.specs.Visits.{CanAttach, IsPartner, WatchChoiceGives}
-use Rattle.clause_base.proofs.ListFacts.{slice_get-set_same, slice_get-set_other}
 use Rattle.clause_store.proofs.WatchFacts.{guards-unfalse, same-held}
 use Rattle.clause_store.proofs.NodeFacts.{same-node}
 
@@ -121,6 +118,28 @@ skip-watcher e h more gone = record {
       (cases_eq i e.checked);
   owned = λ j n has. let g = h.owned j n has in let lt : g.id < e.checked = g.checked in record { id = g.id; of = g.of; checked = omega arith; watch = g.watch; is_watch = g.is_watch; first = g.first; second = g.second };
 }
+
+-- the rest of the clauses, all removed, is passed over
+pub rest-watcher : (e : Watcher) (n : ℕ) → IsWatcher e → n ≡ length e.held.clauses → ((id : ℕ) (c : List Lit) → e.checked ≤ id → IsHeld (store_of e) id c → ⊥) → IsWatcher (record { held = e.held; lists = e.lists; trail = e.trail; queue = e.queue; checked = n; stale = e.stale })
+rest-watcher e n h all gone =
+    let most : e.checked ≤ length e.held.clauses = h.checked in
+    record {
+      store = h.store;
+      lists = h.lists;
+      queue = h.queue;
+      checked = omega arith;
+      nodes = h.nodes;
+      count = h.count;
+      small = h.small;
+      room = h.room;
+      guarded = λ i c lt held. ⊎_elim (λ before. h.guarded i c before held) (λ ge. absurd (gone i c ge held)) (cases_lt i e.checked);
+      current = h.current;
+      listed = λ i c lt held. ⊎_elim
+          (λ before. let g = h.listed i c before held in record { watch = g.watch; is_watch = g.is_watch; first = g.first; second = g.second })
+          (λ ge. absurd (gone i c ge held))
+          (cases_lt i e.checked);
+      owned = λ j k has. let g = h.owned j k has in let lt : g.id < e.checked = g.checked in record { id = g.id; of = g.of; checked = omega arith; watch = g.watch; is_watch = g.is_watch; first = g.first; second = g.second };
+    }
 
 -- two literals that are not false may be watched
 pub two-attach : (e : Watcher) (w : Watch) → IsWatcher e → WatchChoiceGives e e.checked (Two w) → CanAttach e w

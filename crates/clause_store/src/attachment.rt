@@ -1,5 +1,5 @@
 //! How a clause that is not yet watched gets its two watched literals.
-ghost use Rattle.std.specs.Prelude.{◌≡◌, ◌<◌, ◌≤◌, ◌+◌, length, Option, Some, None, List, All, Contains, IfNone, IfSome, ◌⊎◌, ◌≢◌, true};
+ghost use Rattle.std.specs.Prelude.{◌≡◌, ℕ, ◌<◌, ◌≤◌, ◌+◌, length, Option, Some, None, List, All, Contains, IfNone, IfSome, ◌⊎◌, ◌≢◌, true};
 ghost use Rattle.lit_core.specs.declared.literals.Lit.{Lit};
 ghost use Rattle.lit_core.specs.Literals.{value_in};
 ghost use Rattle.clause_base.specs.StoreState.{IsHeld, IsConflict, Propagates};
@@ -69,6 +69,17 @@ impl Watcher {
         ensures checked { self.new.checked ≡ self.old.checked + 1 }
     {
         self.checked += 1;
+    }
+
+    /// Passes over the rest of the clauses, which were all removed.
+    fn skip_rest(&mut self)
+        requires watcher { IsWatcher self.old }
+        requires gone { (id : ℕ) (c : List Lit) → self.old.checked ≤ id → IsHeld (store_of self.old) id c → ⊥ }
+        ensures watcher { IsWatcher self.new }
+        ensures store { store_of self.new ≡ store_of self.old }
+        ensures checked { self.new.checked ≡ length self.new.held.clauses }
+    {
+        self.checked = self.held.len();
     }
 
     /// Which literals of a clause could be watched.
@@ -196,11 +207,12 @@ impl Watcher {
         ensures done { IfNone result (self.new.checked ≡ length self.new.held.clauses) }
         ensures conflict { IfSome result (λ id. IsConflict (store_of self.new) id) }
     {
-        while self.checked < self.held.len() {
+        while self.checked < self.held.live() {
             if let Some(id) = self.attach_next() {
                 return Some(id);
             }
         }
+        self.skip_rest();
         None
     }
 }

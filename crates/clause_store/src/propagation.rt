@@ -70,11 +70,12 @@ fn find_in(assignment: &Assignment, lits: &[Lit], other: Lit) -> Option<usize>
     None
 }
 
-/// The place of a literal that is not false and is not the other watched one, sought from this place on, round the clause.
+/// The place of a literal that is not false and is not the other watched one, sought from this place on, round the
+/// clause.
 ///
-/// The literals before the place were false when the watch came there, and mostly are still. A search that began with the
-/// first literal each time would pass over them again at each move of the watch, so that a long clause of which one literal
-/// after another becomes false, as one that excludes a model, would take the square of its length.
+/// The literals before the place were false when the watch came there, and mostly are still. A search that began
+/// with the first literal each time would pass over them again at each move of the watch, so that a long clause of
+/// which one literal after another becomes false, as one that excludes a model, would take the square of its length.
 pub fn find_replacement(
     assignment: &Assignment,
     lits: &[Lit],
@@ -96,8 +97,8 @@ impl Watcher {
 
     /// Looks at the other watched literal of a clause after one became false.
     ///
-    /// Its number stands on the node itself (a blocking literal), so that a clause of which it is true is passed by without a
-    /// look at the clause or its entry.
+    /// Its number stands on the node itself (a blocking literal), so that a clause of which it is true is passed by
+    /// without a look at the clause or its entry.
     fn look(&self, node: usize, falsified: Lit) -> Look
         requires watcher { IsWatcher self.now }
         requires falsified { IsNext self.now falsified }

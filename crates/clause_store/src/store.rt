@@ -13,10 +13,12 @@ use lit_core::{Assignment, Lit, Memory, Var};
 use std::alloc::Global;
 use std::marker::Model;
 
-/// Held clauses and what is true, with unit propagation by watched literals.
+/// A clause database and a trail, with unit propagation by watched literals.
 ///
-/// A search pushes clauses, makes decisions by `assign`, propagates, and on a false clause goes
-/// back to a lower level. Only `new`, the two `reserve` calls and `push_clause` take memory.
+/// A search pushes clauses, makes decisions by `assign`, propagates, and on a false clause goes back to a lower
+/// level. Only `new`, the two `reserve` calls and `push_clause` take memory: a clause of at most the length that
+/// `reserve_clause` was given is pushed without. More than 2^31 variables or clauses, or 2^32 literals of all
+/// clauses, are answered as out of memory.
 #[derive(Debug, Drop)]
 pub struct Store {
     watcher: Watcher,
@@ -63,7 +65,7 @@ impl Store {
         self.watcher.reserve_clause(len)
     }
 
-    /// Adds a clause and answers its number. It holds each of the literals once.
+    /// Adds a clause and returns its number. It holds each of the literals once.
     ///
     /// The trail may be any; what the clause makes true or false is found by `propagate`.
     pub fn push_clause(&mut self, lits: &[Lit]) -> Result<u64, Memory>
@@ -179,7 +181,8 @@ impl Store {
             .reason
     }
 
-    /// Makes a literal true: by a clause whose other literals are false, or as a decision that opens the next level.
+    /// Makes a literal true: by a clause whose other literals are false, or as a decision, which opens the next
+    /// level.
     pub fn assign(&mut self, lit: Lit, reason: Option<u64>)
         requires in_range { lit.var.0 < length self.old.trail.values }
         requires unassigned { value_in self.old.trail.values lit ≡ None }
@@ -190,7 +193,8 @@ impl Store {
         self.watcher.assign(lit, reason);
     }
 
-    /// Makes true what follows from one clause at a time, and answers a clause that is false by it, if there is one.
+    /// Unit propagation: makes true what follows from one clause at a time, and returns a clause that is false by
+    /// it, if there is one.
     pub fn propagate(&mut self) -> Option<u64>
         ensures same { Propagates self.old self.new }
         ensures quiet { IfNone result (IsQuiet self.new) }
@@ -200,7 +204,7 @@ impl Store {
         self.watcher.propagate()
     }
 
-    /// Takes back what was made true above the level.
+    /// Backtracks: takes back what was made true above the level.
     pub fn back_to(&mut self, level: u64)
         requires { level ≤ self.old.trail.level }
         ensures clauses { self.new.clauses ≡ self.old.clauses }
@@ -211,7 +215,7 @@ impl Store {
         self.watcher.back_to(level);
     }
 
-    /// Makes a literal true for good, with no decision, where no clause has its negation.
+    /// Fixes a literal at level 0, with no decision, where no clause has its negation.
     pub fn fix(&mut self, lit: Lit)
         requires level { self.old.trail.level ≡ 0 }
         requires in_range { lit.var.0 < length self.old.trail.values }

@@ -1,8 +1,22 @@
-//! Unit propagation by two watched literals a clause.
+//! Clauses that are watched by two of their literals, and what changes them.
 //!
-//! The clauses that watch a literal stand in its list. When the literal becomes false, each of them
-//! watches another literal, or its last one becomes true, or it is false (the watched literals of
-//! Chaff, with lists linked through the clauses, so that a watch moves without memory).
+//! The watched literals of Chaff (Moskewicz and others, 2001): a clause is looked at only when one of the two
+//! literals that it watches becomes false. It then watches another literal, or its last one becomes true, or it is
+//! false. The lists of watches are linked through the clauses' nodes, so that a watch moves without memory.
+//!
+//! What holds of the two literals over the propagated part of the trail: where one is false, the other is true, and
+//! became so at no higher level. So a step back that keeps the false one keeps the true one, and touches no watch. A
+//! clause with a literal that is true at level 0 may watch anything.
+//!
+//! Clauses are attached late. `push_clause` touches neither trail nor lists, so that it may come under any trail,
+//! and `propagate` begins with the clauses that were pushed since. A clause whose literals are false but for one is
+//! watched by that one and by a literal that became false at the same level or later. A learnt clause that is pushed
+//! after the step back has such a literal, so that the search pays nothing for it.
+//!
+//! Where a decision was made before all was propagated, or a pushed clause has no such literal, a literal may become
+//! true at a higher level than the one at which its clause forced it, and what holds of the levels is lost. `stale`
+//! says so: levels are compared no more, and the next step back empties the lists, after which each clause is
+//! watched anew. A search that propagates before each decision never pays for that.
 ghost use Rattle.std.specs.Prelude.{◌≡◌, ◌≢◌, ℕ, ◌+◌, ◌*◌, ◌^◌, ◌<◌, ◌≤◌, [], length, max, List, Option, Some, None, true, All, Contains, IsOk, IfOk, OnOk, OnErr, ◌⊎◌, slice_get, slice_index_or};
 ghost use Rattle.std.specs.Option.{ForSome};
 ghost use Rattle.lit_core.specs.declared.literals.Lit.{Lit};
@@ -117,7 +131,7 @@ impl Watcher {
         self.held.reserve(len)
     }
 
-    /// Adds a clause and answers its number. It holds each of the literals once.
+    /// Adds a clause and returns its number. It holds each of the literals once.
     pub fn push_clause(&mut self, lits: &[Lit]) -> Result<u64, Memory>
         requires watcher { IsWatcher self.old }
         requires in_range { All (λ l. l.var.0 < length self.old.trail.values) lits.now }
@@ -194,7 +208,7 @@ impl Watcher {
         self.assign_here(lit, reason);
     }
 
-    /// Takes back what was made true above the level.
+    /// Backtracks: takes back what was made true above the level.
     pub fn back_to(&mut self, level: u64)
         requires watcher { IsWatcher self.old }
         requires level { level ≤ self.old.trail.level }
@@ -214,7 +228,7 @@ impl Watcher {
         }
     }
 
-    /// Makes a literal true for good, with no decision, where no clause has its negation.
+    /// Fixes a literal at level 0, with no decision, where no clause has its negation.
     pub fn fix(&mut self, lit: Lit)
         requires watcher { IsWatcher self.old }
         requires level { self.old.trail.level ≡ 0 }

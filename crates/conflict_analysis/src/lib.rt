@@ -6,8 +6,6 @@ mod analysis;
 mod laws;
 mod refutations;
 mod resolvent;
-#[cfg(test)]
-mod tests;
 
 pub use analysis::{Analysis, analyse};
 pub use laws::learnt_is_unit_after_step_back;

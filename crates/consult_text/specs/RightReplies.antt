@@ -1,12 +1,7 @@
 -- Which reply to a command is right.
-use Rattle.std.specs.Prelude.{◌≡◌, ◌++◌, List, [], ◌∷◌, Contains, Bool, true, false, Option, Some, None}
-use Rattle.std.specs.List.{AllByRecursion}
-use Rattle.kb_logic.specs.declared.elements.Elem.{Elem}
+use Rattle.std.specs.Prelude.{◌≡◌, Option, Some, None}
 use Rattle.kb_logic.specs.declared.structures.Structure.{Structure}
-use Rattle.kb_logic.specs.declared.structures.Literal.{Literal}
 use Rattle.kb_logic.specs.Bases.{Base, IsModelUnder}
-use Rattle.kb_logic.specs.First.{ModelOfFirst}
-use Rattle.kb_logic.specs.Meaning.{rows_of}
 use Rattle.consult_text.specs.declared.refusals.F.{F}
 use Rattle.consult_text.specs.declared.commands.Command.{Command}
 use Rattle.consult_text.specs.declared.commands.Command.TheVariants as command

@@ -1,18 +1,18 @@
 -- What the data of the first profile make known: the atoms of the given predicates, and no others.
 use Rattle.std.proofs.Common.{◌≡◌, ℕ, List, [], ◌∷◌, filter, map, refl, sym, ◌∙◌, ap, inl, inr, Bool, true, false, cond, ◌&&◌, ◌||◌, ◌==◌, not, Option, None, Some}
 use Rattle.std.specs.Prelude.{MatchOption, is_some}
-use Rattle.std.specs.List.{list_any, Contains}
+use Rattle.std.specs.List.{list_any}
 use Rattle.std.proofs.lemmas.Bool.{false≢true, cases_Bool, eqb-true, eq-eqb}
 use Rattle.kb_logic.specs.declared.elements.Elem.{Elem}
 use Rattle.kb_logic.specs.declared.structures.Table.{Table}
 use Rattle.kb_logic.specs.declared.structures.Literal.{Literal}
 use Rattle.kb_logic.specs.declared.first.FirstKb.{FirstKb}
-use Rattle.kb_logic.specs.First.{IsFirstKb, is_given, is_in_data, base_of_first}
+use Rattle.kb_logic.specs.First.{is_given, is_in_data, base_of_first}
 use Rattle.kb_logic.specs.Denotations.{denotation_of}
 use Rattle.kb_logic.specs.Meaning.{rows_of, has_row}
-use Rattle.kb_logic.specs.Models.{GroundAtom, HasValueIn, IsAtomOver, atom_of}
+use Rattle.kb_logic.specs.Models.{GroundAtom, atom_of}
 use Rattle.kb_logic.specs.KnownAtoms.{atoms_over}
-use Rattle.kb_logic.proofs.Has.{Has, has_from}
+use Rattle.kb_logic.proofs.Has.{Has}
 use Rattle.kb_logic.proofs.Tables.{passes_filter, has_filter}
 use Rattle.kb_logic.proofs.AllAtoms.{atom_listed}
 use Rattle.consult_text.specs.Literals.{IsLiteralOver}

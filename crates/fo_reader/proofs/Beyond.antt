@@ -1,4 +1,4 @@
--- Where a formula, a term, an application or variables are stuck in a block, whatever comes behind them.
+-- Where a formula, a term, an application or variables are stuck in a block, whatever follows them.
 use Rattle.std.proofs.Common.{◌≡◌, ℕ, List, [], ◌∷◌, ◌++◌, append-nil, Some, None, ◌⊎◌, inl, inr, refl, sym, ap, ap₂, subst, ◌∙◌, arith}
 use Rattle.fo_syntax.specs.declared.stops.ReadError.{ReadError}
 use Rattle.fo_syntax.specs.declared.stops.ReadError.TheVariants.{Memory, Stuck}
@@ -33,7 +33,7 @@ stays : (σ : List Frame) (ts : List Tok) → run (on (beyond ∷ σ)) ts ≡ wh
 stays σ [] = refl
 stays σ (tok_at s p ∷ ts) = stays σ ts
 
--- stuck in an F, where each F with its end behind it is read to the end of some text
+-- stuck in an F, where each F with its end after it is read to the end of some text
 here_by : {A : Type 0} (F : Format A) (ts front rest : List Tok) → ts ≡ front ++ rest
     → ((a : A) (after : List Tok) → F.Fine a → F.Next (next after) → (σ : List Frame) × (run (on σ) ts ≡ stuck rest) × (run (on σ) (F.put a after) ≡ whole))
     → ((after : List Tok) → (a : A) × (more : List Tok) × F.Fine a × (front ++ more ≡ F.put a after)) → Here F ts rest
@@ -55,7 +55,7 @@ passes (mark t.Times) p ts h = elim h [ ]
 passes (mark (t.Add s)) p ts h = elim h [ ]
 passes (mark s) p ts h = stays [] ts
 
--- what a term stands on that has these tokens behind it
+-- what a term stands on that has these tokens after it
 abbrev under : List Tok → List Frame
 under [] = []
 under (x ∷ ts) = beyond ∷ []
@@ -73,7 +73,7 @@ pub term_fails : (ts : List Tok) (len : ℕ) (e : ReadError) → Fails at_factor
 term_fails ts len Memory h = tt
 term_fails ts len (Stuck place) h = (h.0, term_here ts h.0 h.1, h.2)
 
--- ---- formulas with a full stop behind them
+-- ---- formulas with a full stop after them
 
 dot_over : (f : Formula) → FineFormula f → (after : List Tok) → Is (t.Outer o.Dot) (next after) → run (on (need fresh ∷ dot ∷ [])) (put_formula f after) ≡ whole
 dot_over f h [] e = absurd (cc)
@@ -100,7 +100,7 @@ no_dot f ts rest h never = here_by formula_format ts (put_formula f []) rest (h.
     halts = ap (λ (v : List Tok). run (on (need fresh ∷ dot ∷ [])) v) h.spelled ∙ read_formula fresh tt f h.fine (dot ∷ []) rest h.no_args
         ∙ halted (t.Outer o.Dot) (mode_formula fresh f) (sort_formula f) formula (dot ∷ []) rest h.halts (ends_formula fresh tt f) refl (dot_shuts formula) (λ p us e. never (ap next e))
 
--- ---- variables and the colon behind them
+-- ---- variables and the colon after them
 
 binder_over : (x : Vars × ℕ) (after : List Tok) → run (on (vars_first ∷ colon ∷ beyond ∷ [])) (bound_vars.put x after) ≡ whole
 binder_over x after = run_vars x.0 x.1 (beyond ∷ []) after ∙ stays [] after
@@ -124,7 +124,7 @@ record Amid (ts rest : List Tok) : Type 0 where
   runs : (σ : List Frame) → run (on (want in_term ∷ σ)) ts ≡ stuck rest
   viable : (after : List Tok) → (a : App) × (more : List Tok) × FineApp a × (front ++ more ≡ put_app a after)
 
--- of one text, the one front is the longer or the other
+-- of one text, one prefix is the longer or the other
 abbrev Cut : List Tok → List Tok → List Tok → List Tok → Type 0
 Cut x y m n = ((z : List Tok) × (y ≡ x ++ z) × (m ≡ z ++ n)) ⊎ ((u : Tok) × (z : List Tok) × (x ≡ y ++ u ∷ z) × (n ≡ u ∷ z ++ m))
 
@@ -147,7 +147,7 @@ head_same (v ∷ rest) u x y h = h
 head_ends : (u : Tok) (x y : List Tok) → EndsApp (next (u ∷ x)) → EndsFactor (u ∷ y)
 head_ends (tok_at s p) x y h = app_ended (tok_at s p ∷ y) h
 
--- nothing is stuck in front of what may come behind an application
+-- nothing is stuck before what may follow an application
 goes : (s : Symbol) (p : ℕ) (ts : List Tok) → EndsApp (Some s) → run (on (done in_term term ∷ beyond ∷ [])) (tok_at s p ∷ ts) ≡ stuck (tok_at s p ∷ ts) → ⊥
 goes (word w) p ts h e = let f : whole ≡ stuck (tok_at (word w) p ∷ ts) = sym (stays [] ts) ∙ e in cc
 goes (mark t.Open) p ts h e = h
@@ -159,7 +159,7 @@ read_out : (rest : List Tok) → EndsApp (next rest) → run (on (done in_term t
 read_out [] h e = cc
 read_out (tok_at s p ∷ rest) h e = goes s p rest h e
 
--- the stop is in front of the application's end
+-- the stop is before the application's end
 inside : (ts rest : List Tok) (b : Amid ts rest) (a : App) → FineApp a → (u : Tok) (z : List Tok) → SameHead rest (u ∷ z) → put_app a [] ≡ b.front ++ u ∷ z → ⊥
 inside ts rest b a fine u z same e = unread (want in_term ∷ []) b.front rest (u ∷ z) same (ap (λ (v : List Tok). run (on (want in_term ∷ [])) v) (sym b.split) ∙ b.runs [])
     (ap (λ (v : List Tok). run (on (want in_term ∷ [])) v) (sym e) ∙ want_app in_term a fine [] [] tt)
@@ -171,7 +171,7 @@ at_end ts rest b a fine n e =
     let text : ts ≡ put_app a rest = b.split ∙ ap (λ (v : List Tok). v ++ rest) (sym e) ∙ sym (app-append a [] rest) in
     read_out rest n (sym (want_app in_term a fine σ rest (app_ended rest n)) ∙ ap (λ (v : List Tok). run (on (want in_term ∷ σ)) v) (sym text) ∙ b.runs σ)
 
--- it is behind it: then the tokens before the stop begin no application
+-- it is after it: then the tokens before the stop begin no application
 outside : (ts rest : List Tok) (b : Amid ts rest) (a : App) → FineApp a → (u : Tok) (z more : List Tok) → EndsApp (next (u ∷ z ++ more)) → b.front ≡ put_app a [] ++ u ∷ z → ⊥
 outside ts rest b a fine u z more n e =
     let v = b.viable [] in

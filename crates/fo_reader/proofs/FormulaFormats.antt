@@ -1,4 +1,4 @@
--- Variables, applications, terms and formulas as formats, by what stands behind them in a block.
+-- Variables, applications, terms and formulas as formats, by what follows them in a block.
 use Rattle.std.proofs.Common.{◌≡◌, ℕ, List, [], ◌∷◌, true, Option, Some, None, subst}
 use Rattle.fo_syntax.specs.declared.terminal.Terminal.TheVariants as t
 use Rattle.fo_syntax.specs.declared.terminal.Outer.TheVariants as o
@@ -159,7 +159,7 @@ begins_formula (linked a x p os) ts = begins_or x (sign (t.Arrow a) p ∷ put_li
 formula_ended : (ts : List Tok) → Is (t.Outer o.Dot) (next ts) → EndsFormula ts
 formula_ended ts e = came EndsFormula (mark (t.Outer o.Dot)) (λ p us. tt) ts e
 
--- with a . behind it
+-- with a . after it
 abbrev pub formula_format : Format Formula
 formula_format = record { put = put_formula; Fine = FineFormula; First = BeginsFormula; Next = Is (t.Outer o.Dot) }
 

@@ -79,7 +79,7 @@ first_stuck ts rest h =
       ended = λ a more same k. h.dead a more [] same k.1 refl k.0;
     }
 
--- behind these blocks more comes, and they do not go on with it
+-- after these blocks more comes, and they do not go on with it
 pub file_fails : (blocks : List Block) (ts us : List Tok) (len : ℕ) (e : ReadError) → ts ≡ put_file blocks us → FineFile blocks → (next us ≡ None → ⊥) → StuckAt put_block FineBlock Anything us len e → FileRead ts len (Err (refusal_of e))
 file_fails blocks ts us len Memory is fine more h = tt
 file_fails blocks ts us len (Stuck place) is fine more h = record {

@@ -40,7 +40,7 @@ no_statement f ts us len e found h = absent_at (Is (t.Outer o.Dot)) formula_form
 pub no_application : (ts : List Tok) (len : ℕ) (e : ReadError) → Absent AWord ts len e → StuckAt put_app FineApp EndsApp ts len e
 no_application ts len e h = absent_at AWord app_format ts ts len e (λ none. not_first app_law ts none) h
 
--- ---- the variables in front of a rule
+-- ---- the variables before a rule
 
 -- all of them: whatever comes then, it is none
 abbrev all_bindings : Format (List Binding)

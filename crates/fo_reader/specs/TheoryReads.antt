@@ -1,4 +1,4 @@
--- What the readers of the parts of theories and of terms in blocks answer.
+-- What the readers of the parts of theories and of terms in blocks return.
 use Rattle.std.specs.Prelude.{ℕ, List, map, Option, Some, Result}
 use Rattle.std.specs.Option.{option_map}
 use Rattle.std.specs.Borrow.{Bor}
@@ -29,12 +29,12 @@ use Rattle.fo_syntax.specs.BlockView.{binding_view, head_view, body_view, rule_v
 use Rattle.block_reader.specs.BlockParts.{PartRead, Anything, EndsHead, No, Is}
 use Rattle.block_reader.specs.BlockReads.{itself}
 
--- what may come behind an application: no arguments
+-- what may follow an application: no arguments
 abbrev pub EndsApp : Option Symbol → Type 0
 EndsApp (Some (mark t.Open)) = ⊥
 EndsApp _ = Unit {0}
 
--- what may come behind a term: neither arguments nor an operator
+-- what may follow a term: neither arguments nor an operator
 abbrev pub EndsSum : Option Symbol → Type 0
 EndsSum (Some (mark t.Open)) = ⊥
 EndsSum (Some (mark t.Times)) = ⊥
@@ -49,7 +49,7 @@ ApplicationRead = PartRead app_view put_app FineApp EndsApp
 abbrev pub InnerTermRead : List Tok → ℕ → Result (RawTermTree × Bor (List Item)) ReadError → Type 0
 InnerTermRead = PartRead term_view put_term FineTerm EndsSum
 
--- a formula with a full stop behind it
+-- a formula with a full stop after it
 abbrev pub StatementRead : List Tok → ℕ → Result (RawFormula × Bor (List Item)) ReadError → Type 0
 StatementRead = PartRead formula_view put_formula FineFormula (Is (t.Outer o.Dot))
 
@@ -64,7 +64,7 @@ HeadRead = PartRead head_view put_head FineHead EndsHead
 abbrev pub BodyRead : List Tok → ℕ → Result (Option RawBody × Bor (List Item)) ReadError → Type 0
 BodyRead = PartRead (option_map body_view) (put_option put_body) FineBody (Is (t.Outer o.Dot))
 
--- a body, and the full stop behind it
+-- a body, and the full stop after it
 abbrev pub ended_view : Option RawBody × ℕ → Option (ℕ × Option Formula) × ℕ
 ended_view x = (option_map body_view x.0, x.1)
 
@@ -77,7 +77,7 @@ FineEnded x = FineBody x.0 × Whole x.1
 abbrev pub EndedRead : List Tok → ℕ → Result ((Option RawBody × ℕ) × Bor (List Item)) ReadError → Type 0
 EndedRead = PartRead ended_view put_ended FineEnded Anything
 
--- a rule without the variables in front of it
+-- a rule without the variables before it
 abbrev pub clause_view : RawHead × (Option RawBody × ℕ) → Head × (Option (ℕ × Option Formula) × ℕ)
 clause_view x = (head_view x.0, ended_view x.1)
 
@@ -109,7 +109,7 @@ TheoryRead = PartRead theory_view put_theory FineTheory Anything
 
 -- ---- terms
 
--- the full stop behind a term, if there is one, and the closing brace ahead
+-- the full stop after a term, if there is one, and the closing brace ahead
 abbrev pub StopRead : List Tok → ℕ → Result (Option ℕ × Bor (List Item)) ReadError → Type 0
 StopRead = PartRead itself (put_option (put_sign (t.Outer o.Dot))) Whole (Is t.CloseBrace)
 

@@ -20,7 +20,7 @@ pub fn one_file_reading()
 {}
 
 /// What begins at a place is a whole item there or none: no block, declaration, sentence, definition, rule or entry is
-/// the front of a longer one, so that the longest is the only one.
+/// a prefix of a longer one, so that the longest is the only one.
 pub fn one_item()
     ensures blocks { OneAtAPlace put_block FineBlock Anything }
     ensures declarations { OneAtAPlace put_declaration Whole EndsDeclaration }

@@ -21,12 +21,12 @@ use std::alloc::Global;
 use token_reader::binders::binder;
 use token_reader::cursor::{Found, start};
 
-// A body and the place of the full stop behind it, and a head in front of them.
+// A body and the place of the full stop after it, and a head before them.
 type Ended = (Option<RawBody>, usize);
 
 type Clause = (RawHead, Ended);
 
-// The variables in front of a rule.
+// The variables before a rule.
 fn bindings<'a>(alloc: Global, items: &'a [Item<'a>], end: usize) -> Found<'a, Items<RawBinder>>
     ensures reads { BindingsRead (toks items.now) end result }
     ensures shorter { IfOk result (λ p. length p.1.now ≤ length items.now) }
@@ -132,7 +132,7 @@ fn rules<'a>(alloc: Global, items: &'a [Item<'a>], end: usize) -> Found<'a, Item
     Ok((found, rest))
 }
 
-// A definition, behind its brace.
+// A definition, after its brace.
 fn definition<'a>(
     alloc: Global,
     begin: usize,
@@ -184,7 +184,7 @@ fn theory_items<'a>(
     Ok((found, rest))
 }
 
-/// A theory, behind its word.
+/// A theory, after its word.
 pub fn theory<'a>(
     alloc: Global,
     place: usize,
@@ -205,7 +205,7 @@ pub fn theory<'a>(
     Ok((found, last))
 }
 
-// The full stop behind a term, if there is one, with the closing brace ahead.
+// The full stop after a term, if there is one, with the closing brace ahead.
 fn stop<'a>(items: &'a [Item<'a>], end: usize) -> Found<'a, Option<usize>>
     ensures reads { StopRead (toks items.now) end result }
     ensures shorter { IfOk result (λ p. length p.1.now ≤ length items.now) }
@@ -218,7 +218,7 @@ fn stop<'a>(items: &'a [Item<'a>], end: usize) -> Found<'a, Option<usize>>
     Ok((Some(dot), behind))
 }
 
-/// A term in a block of its own, behind the block's word.
+/// A term in a block of its own, after the block's word.
 pub fn term_block<'a>(
     alloc: Global,
     place: usize,

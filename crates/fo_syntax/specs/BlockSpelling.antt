@@ -23,7 +23,7 @@ abbrev pub put_each : {A : Type 0} → (A → List Tok → List Tok) → List A 
 put_each put [] ts = ts
 put_each put (x ∷ xs) ts = put x (put_each put xs ts)
 
--- this sign, and a part behind it
+-- this sign, and a part after it
 abbrev pub put_behind : {A : Type 0} → Terminal → (A → List Tok → List Tok) → ℕ × A → List Tok → List Tok
 put_behind s put x ts = sign s x.0 ∷ put x.1 ts
 
@@ -61,7 +61,7 @@ put_vocabulary (vocabulary p n b ds e) ts = sign (t.Outer o.Vocabulary) p ∷ pu
 
 -- ---- theories and terms
 
--- with this word in front
+-- with this word before it
 abbrev pub put_header : Outer → Header → List Tok → List Tok
 put_header w (header p n c v b) ts = sign (t.Outer w) p ∷ put_name n (sign t.Colon c ∷ put_name v (sign t.OpenBrace b ∷ ts))
 
@@ -117,7 +117,7 @@ put_value (truth_value b p) ts = sign (t.Truth b) p ∷ ts
 put_value (element_value e) ts = put_element e ts
 put_value (table b rs e) ts = sign t.OpenBrace b ∷ put_option put_rows rs (sign t.CloseBrace e ∷ ts)
 
--- a mark, and the = behind it
+-- a mark, and the = after it
 abbrev pub put_equal : Option Mark → ℕ → List Tok → List Tok
 put_equal None p ts = sign (t.Compare cmp.Equal) p ∷ ts
 put_equal (Some (closed_mark a n b)) p ts = sign (t.Compare cmp.Less) a ∷ put_name n (sign (t.Compare cmp.Greater) b ∷ sign (t.Compare cmp.Equal) p ∷ ts)

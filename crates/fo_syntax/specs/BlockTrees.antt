@@ -1,4 +1,4 @@
--- The trees of blocks: one type a nonterminal, with the place of every token. A pair of a place and a part is a sign and what stands behind it.
+-- The trees of blocks: one type a nonterminal, with the place of every token. A pair of a place and a part is a sign and what follows it.
 use Rattle.std.specs.Prelude.{ℕ, List, Option, Bool}
 use Rattle.fo_syntax.specs.declared.raw_blocks.Separator.{Separator}
 use Rattle.fo_syntax.specs.Trees.{Name, Vars, Formula, Term, App}
@@ -81,7 +81,7 @@ pub data Value : Type 0 where
   element_value : Element → Value
   table : ℕ → Option Rows → ℕ → Value
 
--- "<" W ">", or "<" W in front of a ">=" that stands for ">" and "="
+-- "<" W ">", or "<" W before a ">=" that stands for ">" and "="
 pub data Mark : Type 0 where
   closed_mark : ℕ → Name → ℕ → Mark
   open_mark : ℕ → Name → Mark

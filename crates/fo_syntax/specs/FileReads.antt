@@ -20,7 +20,7 @@ pub data KbReads (src : List ℕ) : Result (List Block) KbFault → Type 0 where
   too_long : most_bytes < length src → KbReads src (Err (record { cause = TooLong; place = most_bytes }))
   fits : (r : Result (List Block) KbFault) → length src ≤ most_bytes → Reads put_file FineFile src r → KbReads src r
 
--- that is what the reader answers, with the blocks by kind; want of memory alone is free
+-- that is what the reader returns, with the blocks by kind; running out of memory is always allowed
 abbrev pub KbRead : List ℕ → Result RawKb KbError → Type 0
 KbRead src (Ok kb) = (blocks : List Block) × KbReads src (Ok blocks) × IsKb blocks (length src) kb
 KbRead src (Err errors.Memory) = Unit {0}

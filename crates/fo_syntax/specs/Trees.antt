@@ -32,7 +32,7 @@ mutual
     alone : Or → Formula
     linked : Arrow → Or → ℕ → Links → Formula
 
-  -- the operands behind an arrow
+  -- the operands after an arrow
   pub data Links : Type 0 where
     last : Or → Links
     link : Or → ℕ → Links → Links

@@ -57,7 +57,7 @@ number_view number.Any = any
 number_view (number.Exactly n) = exactly n.value n.place
 number_view (number.Compared c p n) = compared c p n.value n.place
 
--- ---- chains: an operand, and the further ones with the sign in front of each
+-- ---- chains: an operand, and the further ones with the sign before each
 
 abbrev pub links_of : Or → List (ℕ × Or) → Links
 links_of o [] = last o

@@ -25,7 +25,7 @@ pub data Reads {A : Type 0} (put : A → List Tok → List Tok) (Fine : A → Ty
   unscanned : (f : KbFault) → TokensFrom outermost 0 src (Err f) → Reads put Fine src (Err f)
   ungrammatical : (ts : List Tok) (f : KbFault) → IsTokens src ts → IsStuck put Fine ts (length src) f → Reads put Fine src (Err f)
 
--- that is what a reader answers, with its own trees; want of memory alone is free
+-- that is what a reader returns, with its own trees; running out of memory is always allowed
 abbrev pub Answers : {R A : Type 0} → (R → A) → (A → List Tok → List Tok) → (A → Type 0) → List ℕ → Result R KbError → Type 0
 Answers view put Fine src (Ok r) = Reads put Fine src (Ok (view r))
 Answers view put Fine src (Err errors.Memory) = Unit {0}

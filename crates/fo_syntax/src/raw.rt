@@ -31,7 +31,7 @@ pub struct RawVar {
     pub of: Option<RawVarType>,
 }
 
-/// A further variable, with the comma in front of it, if there is one.
+/// A further variable, with the comma before it, if there is one.
 #[derive(Drop)]
 pub struct RawVarTail {
     pub comma: Option<usize>,

@@ -39,7 +39,7 @@ pub struct RawType {
     pub isa: Option<RawIsa>,
 }
 
-/// `isa` and the type behind it.
+/// `isa` and the type after it.
 #[derive(Drop)]
 pub struct RawIsa {
     pub place: usize,
@@ -60,7 +60,7 @@ pub struct RawConstructed {
     pub close: usize,
 }
 
-/// A further name of a constructed type, with the sign in front of it.
+/// A further name of a constructed type, with the sign before it.
 #[derive(Drop)]
 pub struct RawElementTail {
     pub sign: Separator,
@@ -98,14 +98,14 @@ pub struct RawNames {
     pub more: Items<RawNameTail>,
 }
 
-/// A comma and the name behind it.
+/// A comma and the name after it.
 #[derive(Drop)]
 pub struct RawNameTail {
     pub place: usize,
     pub name: RawName,
 }
 
-/// A colon and the type behind it.
+/// A colon and the type after it.
 #[derive(Drop)]
 pub struct RawResult {
     pub place: usize,
@@ -168,21 +168,21 @@ pub struct RawBinder {
     pub colon: usize,
 }
 
-/// An atom, or an application and its value behind `=`, whose place stands between them.
+/// An atom, or an application and its value after `=`, whose place stands between them.
 #[derive(Drop)]
 pub enum RawHead {
     Atom(RawApp),
     Value(RawApp, usize, RawTermTree),
 }
 
-/// `<-` and what stands behind it.
+/// `<-` and what follows it.
 #[derive(Drop)]
 pub struct RawBody {
     pub place: usize,
     pub formula: Option<RawFormula>,
 }
 
-/// `term W : W { .. }`, with the `.` behind the term, if there is one.
+/// `term W : W { .. }`, with the `.` after the term, if there is one.
 #[derive(Drop)]
 pub struct RawTerm {
     pub header: RawHeader,
@@ -209,7 +209,7 @@ pub struct RawEntry {
     pub value: RawValue,
 }
 
-/// `< W >`, without the place of `>` where `>=` stands for it and the `=` behind it.
+/// `< W >`, without the place of `>` where `>=` stands for it and the `=` after it.
 #[derive(Drop)]
 pub struct RawMark {
     pub open: usize,
@@ -232,7 +232,7 @@ pub struct RawTable {
     pub close: usize,
 }
 
-/// Rows between semicolons, and the place of the semicolon behind the last one, if there is one.
+/// Rows between semicolons, and the place of the semicolon after the last one, if there is one.
 #[derive(Drop)]
 pub struct RawRows {
     pub first: RawRow,
@@ -240,7 +240,7 @@ pub struct RawRows {
     pub last: Option<usize>,
 }
 
-/// A semicolon and the row behind it.
+/// A semicolon and the row after it.
 #[derive(Drop)]
 pub struct RawRowTail {
     pub place: usize,
@@ -255,7 +255,7 @@ pub enum RawRow {
     Only(RawTo),
 }
 
-/// `->` and the element behind it.
+/// `->` and the element after it.
 #[derive(Drop)]
 pub struct RawTo {
     pub place: usize,
@@ -269,7 +269,7 @@ pub struct RawItems {
     pub more: Items<RawItemTail>,
 }
 
-/// A comma and the item behind it.
+/// A comma and the item after it.
 #[derive(Drop)]
 pub struct RawItemTail {
     pub place: usize,
@@ -283,7 +283,7 @@ pub struct RawItem {
     pub to: Option<RawRange>,
 }
 
-/// `..` and the element behind it.
+/// `..` and the element after it.
 #[derive(Drop)]
 pub struct RawRange {
     pub place: usize,
@@ -294,6 +294,6 @@ pub struct RawRange {
 pub enum RawElement {
     Name(RawName),
     Integer(RawInteger),
-    /// With the place of the `-` in front.
+    /// With the place of the `-` before it.
     Negative(usize, RawInteger),
 }

@@ -10,7 +10,7 @@ ghost use Rattle.formula_names.specs.Meanings.{names_in};
 
 use crate::tables::Table;
 use crate::uses::position;
-use fo_syntax::{RawNameTail, RawNames, RawPositions, RawResult};
+use fo_syntax::{RawNameTail, RawPositions, RawResult};
 use kb_logic::{Memory, NumberList};
 use reading_stages::Earliest;
 use std::alloc::Global;

@@ -25,7 +25,7 @@ use Rattle.token_reader.proofs.Only.{only_prim}
 use Rattle.token_reader.proofs.Readings.{read_formula, read_or, read_and}
 use Rattle.token_reader.proofs.Inside.{Context, fails_in}
 
--- ---- what may come behind a chain
+-- ---- what may follow a chain
 
 tight_ands : (closed : Bool) (m : Mode) (k : Sort) (ts : List Tok) → Tight unaries m k ts → (closed ≡ true → NoAnd ts) → (closed ≡ false → Halts m k ts) → Tight ands m k ts
 tight_ands closed m k [] h n l = tt
@@ -85,7 +85,7 @@ and_push_sort : (u : Unary) (xs : List (ℕ × Unary)) (p : ℕ) (v : Unary) →
 and_push_sort u [] p v = refl
 and_push_sort u (x ∷ xs) p v = and_push_sort x.1 xs p v
 
--- the operands so far, behind which a connective may come
+-- the operands so far, after which a connective may come
 pub record AndsAre (ts : List Tok) (a : And) (closed : Bool) (rest : List Tok) : Type 0 where
   pub spelled : ts ≡ put_and a rest
   pub fine : FineAnd a

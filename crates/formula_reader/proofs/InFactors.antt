@@ -60,7 +60,7 @@ in_minuses ps ts us is = record {
   wraps = λ after. (after, λ a h. (negatives ps a, negatives_fine ps a h, sym (negatives_put ps a after)));
 }
 
--- ---- no arguments behind what has none
+-- ---- no arguments after what has none
 
 shut_open : (σ : List Frame) (k : Option Sort) → shut (mark t.Open) σ k ≡ None
 shut_open σ None = refl
@@ -177,7 +177,7 @@ in_count_formula p o items us is = record {
     closed : (o : Opening) (a : Formula) → FineFormula a → {after : List Tok} → (b : Factor) × FineFactor b × (sign t.Count p ∷ put_opening o (put_formula a (sign t.CloseBrace 0 ∷ after)) ≡ put_factor b after)
     closed (opening b vs c) a h = (count p b vs c a 0, h, refl)
 
--- behind a formula another token than the one that has to come
+-- after a formula another token than the one that has to come
 pub halted : (s : Terminal) (m : Mode) (k r : Sort) (τ : List Frame) (ts : List Tok) → Halts m k ts → ended m k ≡ Some r → finish (done m k ∷ τ) ≡ stuck []
     → ((x : Symbol) → (x ≡ mark s → ⊥) → shuts x τ r ≡ None) → ((p : ℕ) (us : List Tok) → ts ≡ sign s p ∷ us → ⊥) → run (on (done m k ∷ τ)) ts ≡ stuck ts
 halted s m k r τ [] h e f n l = f
@@ -233,7 +233,7 @@ in_fold_formula k p o items us is = record {
         × (sign (t.Aggregate k) p ∷ put_opening o (put_formula a (sign t.Colon 0 ∷ put_term (product (factor (integer 0 0))) (sign t.CloseBrace 0 ∷ after))) ≡ put_factor b after)
     closed after (opening b vs c) a h = (aggregate k p b vs c a 0 (product (factor (integer 0 0))) 0, (h, tt), refl)
 
--- the way to the place behind the formula
+-- the way to the place after the formula
 to_colon : (k : Aggregation) (p : ℕ) (o : Opening) (f : Formula) (items us rest : List Tok) → items ≡ put_opening o us → FormulaIs us fresh f rest → (m : Mode) (σ : List Frame)
     → run (on (want m ∷ σ)) (sign (t.Aggregate k) p ∷ items) ≡ run (on (done (mode_formula fresh f) (sort_formula f) ∷ fold_colon m ∷ σ)) rest
 to_colon k p o f items us rest is found m σ = ap (λ (v : List Tok). run (on (brace ∷ vars_first ∷ colon ∷ need fresh ∷ fold_colon m ∷ σ)) v) (is ∙ ap (λ (v : List Tok). put_opening o v) found.spelled)
@@ -253,7 +253,7 @@ fold_no_colon k p o f items us rest len e is found h = lacks_fails at_factor put
     closed : (o : Opening) (after : List Tok) → (b : Factor) × (more : List Tok) × FineFactor b × (sign (t.Aggregate k) p ∷ put_opening o (put_formula f more) ≡ put_factor b after)
     closed (opening b vs c) after = (aggregate k p b vs c f 0 (product (factor (integer 0 0))) 0, sign t.Colon 0 ∷ put_term (product (factor (integer 0 0))) (sign t.CloseBrace 0 ∷ after), (found.fine, tt), refl)
 
--- and behind the colon
+-- and after the colon
 to_term : (k : Aggregation) (p : ℕ) (o : Opening) (f : Formula) (d : ℕ) (items us rest vs : List Tok) → items ≡ put_opening o us → FormulaIs us fresh f rest → rest ≡ sign t.Colon d ∷ vs → (m : Mode) (σ : List Frame)
     → run (on (want m ∷ σ)) (sign (t.Aggregate k) p ∷ items) ≡ run (on (want in_term ∷ close_brace m ∷ σ)) vs
 to_term k p o f d items us rest vs is found next m σ = to_colon k p o f items us rest is found m σ ∙ ap (λ (v : List Tok). run (on (done (mode_formula fresh f) (sort_formula f) ∷ fold_colon m ∷ σ)) v) next

@@ -466,7 +466,7 @@ some_is p n vs q f items rest us last is fine next found = record {
   behind = quantified items f us last found;
 }
 
--- ---- signs in front of an operand
+-- ---- signs before an operand
 
 behind_nots : List ℕ → Chain → Chain
 behind_nots [] c = c

@@ -28,7 +28,7 @@ term_no_args [] h = tt
 term_no_args (tok_at (mark t.Open) p ∷ ts) h = elim h [ ]
 term_no_args (tok_at s p ∷ ts) h = tt
 
--- ---- behind a term another token than the one that has to come
+-- ---- after a term another token than the one that has to come
 
 pub paren_stuck : (o : Mode) (σ : List Frame) (ts : List Tok) → EndsTerm ts → ((p : ℕ) (us : List Tok) → ts ≡ sign t.Close p ∷ us → ⊥) → run (on (done in_term term ∷ paren o ∷ σ)) ts ≡ stuck ts
 paren_stuck o σ [] z h = refl
@@ -147,7 +147,7 @@ in_arguments n start items us is open_still = record {
   wraps = λ after. (sign t.Close 0 ∷ after, λ a h. (apply n start (final a) 0, h, refl));
 }
 
--- the way to the place behind some arguments
+-- the way to the place after some arguments
 to_terms : (n : Name) (start : ℕ) (xs : Terms) (items us : List Tok) → items ≡ sign t.Open start ∷ put_terms xs us → FineTerms xs → EndsFactor us
     → (i : Position) (σ : List Frame) → run (on (at_position i ∷ σ)) (put_name n items) ≡ run (on (done in_term term ∷ args (mode_at i) (sort_at i) ∷ σ)) us
 to_terms n start xs items us is h z i σ = either_name i n σ items ∙ ap (λ (v : List Tok). run (on (named (mode_at i) (sort_at i) ∷ σ)) v) is

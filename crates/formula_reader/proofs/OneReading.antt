@@ -43,7 +43,7 @@ cuts (x ∷ f) (y ∷ g) r s e =
     let tails : f ++ r ≡ g ++ s = cc in
     wider x y f g r s heads (cuts f g r s tails)
 
--- the longer front begins a text with a token that ends the shorter one
+-- the longer prefix begins a text with a token that ends the shorter one
 overtaken : {A : Type 0} (put : A → List Tok → List Tok) (Fine : A → Type 0) (ts us r s : List Tok) (h : FirstStuck put Fine ts r) (k : FirstStuck put Fine us s) (x : Tok) (m n : List Tok) → r ≡ x ∷ m → k.front ≡ h.front ++ (x ∷ n) → ⊥
 overtaken put Fine ts us r s h k x m n e d =
     let b = k.begun in

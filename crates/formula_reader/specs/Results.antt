@@ -1,4 +1,4 @@
--- What the readers of formulas and terms answer.
+-- What the readers of formulas and terms return.
 use Rattle.std.specs.Prelude.{◌≡◌, ◌<◌, ◌≤◌, ℕ, List, [], ◌∷◌, length, Bool, false, Result, Ok, Err, IfOk}
 use Rattle.std.specs.Borrow.{Bor}
 use Rattle.std.specs.declared.alloc.Global.{Global}
@@ -17,7 +17,6 @@ use Rattle.formula_reader.specs.declared.kinds.Operand.{Operand}
 use Rattle.formula_reader.specs.declared.kinds.Operand.TheVariants as operand
 use Rattle.formula_reader.specs.declared.kinds.Content.{Content}
 use Rattle.formula_reader.specs.declared.kinds.Content.TheVariants as content
-use Rattle.fo_syntax.specs.declared.stops.ReadError.TheVariants.{Memory, Stuck}
 use Rattle.fo_syntax.specs.declared.terminal.Terminal.TheVariants as t
 use Rattle.fo_syntax.specs.declared.raw.RawOpening.{RawOpening}
 use Rattle.fo_syntax.specs.declared.terminal.Adding.TheVariants.{Minus}
@@ -138,7 +137,7 @@ pub record Readers (left : ℕ)
 
 -- ---- the parts of terms
 
--- arguments may not come behind a word that has none
+-- arguments may not follow a word that has none
 abbrev pub Shut : App → List Tok → Type 0
 Shut (constant n) ts = EndsFactor ts
 Shut (empty n p q) ts = Unit {0}
@@ -148,7 +147,7 @@ abbrev pub ShutFactor : Factor → List Tok → Type 0
 ShutFactor (value a) ts = Shut a ts
 ShutFactor x ts = Unit {0}
 
--- no sign stands in front of it
+-- no sign stands before it
 abbrev pub IsUnsigned : Factor → Type 0
 IsUnsigned (negative p x) = ⊥
 IsUnsigned x = Unit {0}
@@ -195,7 +194,7 @@ abbrev pub ArgumentsRead : List Tok → ℕ → Result (RawApp × Bor (List Item
 ArgumentsRead ts len (Ok p) = ArgumentsAre ts (app_view p.0) (toks p.1.now)
 ArgumentsRead ts len (Err e) = Fails at_either put_app FineApp ts len e
 
--- how an aggregate begins, behind its word or #
+-- how an aggregate begins, after its word or #
 pub data Opening : Type 0 where
   opening : ℕ → Vars → ℕ → Opening
 
@@ -216,7 +215,7 @@ abbrev pub AggregateRead : List Tok → ℕ → Result (RawFactor × Bor (List I
 AggregateRead ts len (Ok p) = UnsignedIs ts (factor_view p.0) (toks p.1.now)
 AggregateRead ts len (Err e) = Fails at_factor put_factor FineFactor ts len e
 
--- ---- signs in front of a factor
+-- ---- signs before a factor
 
 abbrev pub negatives : List ℕ → Factor → Factor
 negatives [] x = x
@@ -233,7 +232,7 @@ abbrev pub SettledRead : List Tok → List Tok → ℕ → Result (RawUnary × B
 SettledRead ts rest len (Ok p) = UnaryIs ts (unary_view p.0) p.1 rest
 SettledRead ts rest len (Err e) = Fails at_unary put_unary FineUnary ts len e
 
--- an operand of | or of an arrow, behind it
+-- an operand of | or of an arrow, after it
 abbrev pub ConjunctionRead : List Tok → ℕ → Result (RawAnd × Bool × Bor (List Item)) ReadError → Type 0
 ConjunctionRead ts len (Ok p) = AndIs ts (and_view p.0) p.1 (toks p.2.now)
 ConjunctionRead ts len (Err e) = Fails at_unary put_and FineAnd ts len e

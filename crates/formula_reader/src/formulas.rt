@@ -25,7 +25,7 @@ use token_reader::cursor::{
     goes_on, place_at, sealed, split, start,
 };
 
-/// What was read, whether no quantified formula stands at its end, and the tokens behind it.
+/// What was read, whether no quantified formula stands at its end, and the tokens after it.
 type Chained<'a, T> = Result<(T, bool, &'a [Item<'a>]), ReadError>;
 
 // The formula that is this operand alone.
@@ -79,7 +79,7 @@ fn bracketed(
     Ok(found)
 }
 
-// The operand behind these signs, the outermost first.
+// The operand after these signs, the outermost first.
 fn negated(
     alloc: Global,
     mut signs: Items<usize>,
@@ -249,7 +249,7 @@ impl<
         Ok((Operand::Formula(found, false), last))
     }
 
-    // An operand without `~` in front.
+    // An operand without `~` before it.
     fn plain(&self, items: &'a [Item<'a>]) -> Found<'a, Operand>
         requires nests { Readers self.now.left (F.pre self.now.formula) (F.post self.now.formula) (G.pre self.now.content) (G.post self.now.content) (H.pre self.now.term) (H.post self.now.term) }
         requires fewer { length items.now ≤ self.now.left }
@@ -273,7 +273,7 @@ impl<
         }
     }
 
-    // An operand of whatever sort, with the signs in front of it.
+    // An operand of whatever sort, with the signs before it.
     fn operand(&self, items: &'a [Item<'a>]) -> Found<'a, Operand>
         requires nests { Readers self.now.left (F.pre self.now.formula) (F.post self.now.formula) (G.pre self.now.content) (G.post self.now.content) (H.pre self.now.term) (H.post self.now.term) }
         requires fewer { length items.now ≤ self.now.left }

@@ -10,7 +10,7 @@ use sqlite_items::Boxed;
 use std::alloc::Global;
 use token_reader::cursor::Found;
 
-/// A formula at the front of the tokens; the text ends at the place `end`.
+/// A formula at the start of the tokens; the text ends at the place `end`.
 #[cycle(nested)]
 pub fn formula<'a>(alloc: Global, items: &'a [Item<'a>], end: usize) -> Found<'a, Boxed<RawFormula>>
     ensures reads { FormulaRead (toks items.now) end result }
@@ -44,7 +44,7 @@ pub fn content<'a>(alloc: Global, items: &'a [Item<'a>], end: usize) -> Found<'a
     reader.whole_content(items)
 }
 
-/// A term at the front of the tokens; the text ends at the place `end`.
+/// A term at the start of the tokens; the text ends at the place `end`.
 #[cycle(nested)]
 pub fn term<'a>(alloc: Global, items: &'a [Item<'a>], end: usize) -> Found<'a, Boxed<RawTermTree>>
     ensures reads { TermRead (toks items.now) end result }

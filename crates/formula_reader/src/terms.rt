@@ -23,7 +23,7 @@ use token_reader::cursor::{
     close_brace, colon, open_brace, sealed, split, start,
 };
 
-// How an aggregate begins, behind its word or `#`.
+// How an aggregate begins, after its word or `#`.
 fn opening<'a>(
     alloc: Global,
     place: usize,
@@ -44,7 +44,7 @@ fn opening<'a>(
     Ok((opening, last))
 }
 
-// The factor behind these signs, the outermost first.
+// The factor after these signs, the outermost first.
 fn signed(
     alloc: Global,
     mut signs: Items<usize>,
@@ -65,7 +65,7 @@ impl<
     G: Fn(Global, &'a [Item<'a>], usize) -> Found<'a, Content>,
     H: Fn(Global, &'a [Item<'a>], usize) -> Found<'a, Boxed<RawTermTree>>,
 > Reader<F, G, H> {
-    /// The arguments behind a word, if it has any.
+    /// The arguments after a word, if it has any.
     pub fn arguments(&self, name: RawName, items: &'a [Item<'a>]) -> Found<'a, Boxed<RawApp>>
         requires nests { Readers self.now.left (F.pre self.now.formula) (F.post self.now.formula) (G.pre self.now.content) (G.post self.now.content) (H.pre self.now.term) (H.post self.now.term) }
         requires fewer { length items.now < self.now.left }

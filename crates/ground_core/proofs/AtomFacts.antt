@@ -7,7 +7,7 @@ use Rattle.kb_logic.specs.declared.structures.Literal.{Literal}
 use Rattle.kb_logic.specs.declared.vocabularies.Symbol.{Symbol}
 use Rattle.kb_logic.specs.Structures.{domain_at, tuples_of}
 use Rattle.ground_core.specs.Atoms.{atom_of, atoms_at, atoms_of_symbol}
-use Rattle.ground_core.proofs.TupleFacts.{flat_map_nothing}
+use Rattle.ground_core.proofs.ListFacts.{flat_map_nothing}
 
 no-atom : (domains : List (List Elem)) (number : ℕ) (value : Option ℕ) → IfSome value (λ ty. domain_at domains ty ≡ []) → IsSome value → (args : List Elem) → atoms_at domains number value args ≡ []
 no-atom domains number None empty some args = cc

@@ -4,10 +4,14 @@ pub mod Clauses
 pub mod Mores
 pub mod NormalFacts
 pub mod Views
-pub mod TrialFacts
+pub mod Valuations
+pub mod GrowthFacts
+pub mod CallFacts
 pub mod Whole
 pub mod Sublists
-pub mod TupleFacts
+pub mod ListFacts
 pub mod AtomFacts
 pub mod EachAtom
 pub mod RangeFacts
+pub mod CoreFacts
+pub mod AdditionFacts

@@ -20,6 +20,7 @@ use Rattle.ground_core.specs.More.{Agree, DefinesMore, Adds}
 use Rattle.ground_core.specs.Growth.{next_lit, with_gate, with_sum, with_same, clauses_of_same}
 use Rattle.ground_core.proofs.Locals.{agree-trans, literal-local, joined-local, value-local, satisfies-local}
 use Rattle.ground_core.proofs.Fronts.{All-front, All-back}
+use Rattle.ground_core.proofs.Valuations.{with_value, with_value-old, with_value-new}
 use Rattle.ground_core.proofs.Clauses.{clause_value, clauses-true, clauses-hold, same-true, true-same}
 
 pub more-trans : (p q r : ProblemState) → DefinesMore p q → DefinesMore q r → DefinesMore p r
@@ -33,10 +34,6 @@ more-trans p q r a b = record {
   unique = λ v w s t e. b.unique v w s t (a.unique v w (b.restricts v s) (b.restricts w t) e);
 }
 
--- the valuation with another value of one variable
-abbrev pub with_value : ℕ → Bool → (ℕ → Bool) → ℕ → Bool
-with_value n b v k = if eqb k n then b else v k
-
 module _ (p q : ProblemState) (value : (ℕ → Bool) → Bool) (fine : IsProblem p) (one : q.vars ≡ p.vars + 1)
     (local : (v w : ℕ → Bool) → Agree p.vars v w → value v ≡ value w)
     (gives : (v : ℕ → Bool) → Satisfies q v → Satisfies p v × (v (p.vars + 1) ≡ value v))
@@ -46,11 +43,11 @@ module _ (p q : ProblemState) (value : (ℕ → Bool) → Bool) (fine : IsProble
 
   extended-old : (v : ℕ → Bool) → Agree p.vars v (extended v)
   unfolding extended
-  extended-old v = λ k low high. sym (ap (λ (b : Bool). if b then value v else v k) (ne_eqb k (p.vars + 1) (λ e. omega (arith, e, high))))
+  extended-old v = with_value-old p.vars (value v) v
 
   extended-new : (v : ℕ → Bool) → extended v (p.vars + 1) ≡ value v
   unfolding extended
-  extended-new v = ap (λ (b : Bool). if b then value v else v (p.vars + 1)) (eq-eqb (p.vars + 1) (p.vars + 1) refl)
+  extended-new v = with_value-new (p.vars + 1) (value v) v
 
   pub defined : DefinesMore p q
   defined = record {
@@ -83,10 +80,10 @@ module _ (p : ProblemState) (all : Bool) (parts : List Lit) (fine : IsProblem p)
   gate-added = added p (with_gate p all parts) (λ v. joined all v parts) fine refl
       (λ v w e. joined-local p.vars v w e all parts within)
       (λ v s. (
-        record { gates = All-front (GateHolds v) p.gates (gate ∷ []) s.gates; clauses = s.clauses; sums = s.sums; bounds = s.bounds },
+        record { gates = All-front (GateHolds v) p.gates (gate ∷ []) s.gates; clauses = s.clauses; sums = s.sums; bounds = s.bounds; retired = s.retired },
         All-contains (GateHolds v) (p.gates ++ gate ∷ []) gate s.gates (Contains-push p.gates gate),
       ))
-      (λ v s e. record { gates = All-push (GateHolds v) p.gates gate s.gates e; clauses = s.clauses; sums = s.sums; bounds = s.bounds })
+      (λ v s e. record { gates = All-push (GateHolds v) p.gates gate s.gates e; clauses = s.clauses; sums = s.sums; bounds = s.bounds; retired = s.retired })
 
 module _ (p : ProblemState) (kind : AggKind) (parts : List Part) (least : ExtInt) (fine : IsProblem p) (within : ArePartsOf p.vars parts) where
   abbrev sum : AggCon
@@ -96,10 +93,10 @@ module _ (p : ProblemState) (kind : AggKind) (parts : List Part) (least : ExtInt
   sum-added = added p (with_sum p kind parts least) (λ v. compared cmp.Ge (parts_value v kind parts) (value_of_bound least)) fine refl
       (λ v w e. ap (λ d. compared cmp.Ge d (value_of_bound least)) (value-local p.vars v w e kind parts within))
       (λ v s. (
-        record { gates = s.gates; clauses = s.clauses; sums = All-front (SumHolds v) p.sums (sum ∷ []) s.sums; bounds = s.bounds },
+        record { gates = s.gates; clauses = s.clauses; sums = All-front (SumHolds v) p.sums (sum ∷ []) s.sums; bounds = s.bounds; retired = s.retired },
         All-contains (SumHolds v) (p.sums ++ sum ∷ []) sum s.sums (Contains-push p.sums sum),
       ))
-      (λ v s e. record { gates = s.gates; clauses = s.clauses; sums = All-push (SumHolds v) p.sums sum s.sums e; bounds = s.bounds })
+      (λ v s e. record { gates = s.gates; clauses = s.clauses; sums = All-push (SumHolds v) p.sums sum s.sums e; bounds = s.bounds; retired = s.retired })
 
 say_same : (o a b : Bool) → ((not o || (not a || (b || false))) && ((not o || (a || (not b || false))) && ((o || (a || (b || false))) && ((o || (not a || (not b || false))) && true)))) ≡ by_sign o (by_sign a b)
 say_same true true true = refl
@@ -127,7 +124,7 @@ module _ (p : ProblemState) (a b : Lit) (fine : IsProblem p) (a_in : IsLitOf p.v
   same-added = added p (with_same p a b) (λ v. by_sign (literal_value v a) (literal_value v b)) fine refl
       (λ v w e. let x = literal-local p.vars v w e a a_in in let y = literal-local p.vars v w e b b_in in cc)
       (λ v s. (
-        record { gates = s.gates; clauses = All-front (IsSatisfied v) p.clauses four s.clauses; sums = s.sums; bounds = s.bounds },
+        record { gates = s.gates; clauses = All-front (IsSatisfied v) p.clauses four s.clauses; sums = s.sums; bounds = s.bounds; retired = s.retired },
         same-true (v (p.vars + 1)) (by_sign (literal_value v a) (literal_value v b)) (sym (same-value v) ∙ clauses-true v four (All-back (IsSatisfied v) p.clauses four s.clauses)),
       ))
       (λ v s e. record {
@@ -135,4 +132,5 @@ module _ (p : ProblemState) (a b : Lit) (fine : IsProblem p) (a_in : IsLitOf p.v
         clauses = All-append (IsSatisfied v) p.clauses four s.clauses (clauses-hold v four (same-value v ∙ true-same (v (p.vars + 1)) (by_sign (literal_value v a) (literal_value v b)) e));
         sums = s.sums;
         bounds = s.bounds;
+        retired = s.retired;
       })

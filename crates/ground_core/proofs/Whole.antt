@@ -5,12 +5,11 @@ use Rattle.lit_core.specs.declared.literals.Lit.{Lit}
 use Rattle.lit_core.specs.Truth.{IsSatisfied}
 use Rattle.ground_core.specs.declared.parts.Gate.{Gate}
 use Rattle.ground_core.specs.Problems.{ProblemState, IsLitOf, AreLitsOf, IsGateOf}
-use Rattle.ground_core.specs.Meaning.{GateHolds, Satisfies}
+use Rattle.ground_core.specs.Meaning.{GateHolds, SumHolds, BoundHolds, Satisfies, AreAllFalse}
 use Rattle.ground_core.specs.GateClauses.{with_sign, gate_clauses, clauses_of}
 use Rattle.ground_core.specs.Laws.{ClauseIsAdded, ClausesSayTheProblem, ClausesAreOfTheProblem}
 use Rattle.ground_core.proofs.Fronts.{All-front, All-back}
 use Rattle.ground_core.proofs.Clauses.{gate-clauses}
-use Rattle.ground_core.proofs.TrialFacts.{satisfies-from}
 
 gates-hold : (v : ℕ → Bool) (gs : List Gate) → All (IsSatisfied v) (flat_map gate_clauses gs) → All (GateHolds v) gs
 gates-hold v [] h = All-nil (GateHolds v)
@@ -26,12 +25,15 @@ clauses-from v (g ∷ gs) h =
     ((gate-clauses v g).1 (All-head (GateHolds v) g gs h))
     (clauses-from v gs (All-tail (GateHolds v) g gs h))
 
--- where there are no sums and no bounds, what satisfies all clauses, those of the gates in order and then the others, satisfies the problem
-pub satisfies-by-clauses : (p : ProblemState) (v : ℕ → Bool) → p.sums ≡ [] → p.bounds ≡ [] → All (IsSatisfied v) (clauses_of p) → Satisfies p v
-satisfies-by-clauses p v sums bounds h =
-    satisfies-from p v sums bounds
-    (gates-hold v p.gates (All-front (IsSatisfied v) (flat_map gate_clauses p.gates) p.clauses h))
-    (All-back (IsSatisfied v) (flat_map gate_clauses p.gates) p.clauses h)
+-- where there are no sums and no bounds, what makes the retired selectors false and satisfies all clauses, those of the gates in order and then the others, satisfies the problem
+pub satisfies-by-clauses : (p : ProblemState) (v : ℕ → Bool) → p.sums ≡ [] → p.bounds ≡ [] → All (IsSatisfied v) (clauses_of p) → AreAllFalse v p.retired → Satisfies p v
+satisfies-by-clauses p v sums bounds h off = record {
+  gates = gates-hold v p.gates (All-front (IsSatisfied v) (flat_map gate_clauses p.gates) p.clauses h);
+  clauses = All-back (IsSatisfied v) (flat_map gate_clauses p.gates) p.clauses h;
+  sums = rw sums (All-nil (SumHolds v));
+  bounds = rw bounds (All-nil (BoundHolds v p.terms));
+  retired = off;
+}
 
 -- what satisfies a problem satisfies all clauses, those of the gates in order and then the others
 pub clauses-satisfied : (p : ProblemState) (v : ℕ → Bool) → Satisfies p v → All (IsSatisfied v) (clauses_of p)
@@ -71,8 +73,8 @@ clauses-within p h = All-append (AreLitsOf p.vars) (flat_map gate_clauses p.gate
 pub clause-added : ClauseIsAdded
 clause-added p c v = (
   λ s. (
-    record { gates = s.gates; clauses = All-front (IsSatisfied v) p.clauses (c ∷ []) s.clauses; sums = s.sums; bounds = s.bounds },
+    record { gates = s.gates; clauses = All-front (IsSatisfied v) p.clauses (c ∷ []) s.clauses; sums = s.sums; bounds = s.bounds; retired = s.retired },
     All-contains (IsSatisfied v) (p.clauses ++ c ∷ []) c s.clauses (Contains-push p.clauses c),
   ),
-  λ s t. record { gates = s.gates; clauses = All-push (IsSatisfied v) p.clauses c s.clauses t; sums = s.sums; bounds = s.bounds },
+  λ s t. record { gates = s.gates; clauses = All-push (IsSatisfied v) p.clauses c s.clauses t; sums = s.sums; bounds = s.bounds; retired = s.retired },
 )

@@ -1,12 +1,12 @@
 -- How a problem grows.
-use Rattle.std.specs.Prelude.{◌+◌, Bool, true, List, [], ◌∷◌, ◌++◌, length}
+use Rattle.std.specs.Prelude.{ℕ, zero, suc, ◌+◌, Bool, true, not, List, [], ◌∷◌, ◌++◌, length}
 use Rattle.kb_logic.specs.declared.elements.ExtInt.{ExtInt}
 use Rattle.kb_logic.specs.declared.structures.Literal.{Literal}
 use Rattle.kb_logic.specs.declared.syntax.AggKind.{AggKind}
 use Rattle.kb_logic.specs.declared.syntax.Cmp.TheVariants as cmp
 use Rattle.kb_logic.specs.Denotations.{compared}
 use Rattle.lit_core.specs.declared.literals.Lit.{Lit}
-use Rattle.lit_core.specs.Literals.{literal_value, negated, by_sign}
+use Rattle.lit_core.specs.Literals.{literal_value, negated, by_sign, valuation}
 use Rattle.ground_core.specs.declared.parts.Part.{Part}
 use Rattle.ground_core.specs.declared.parts.GroundTerm.{GroundTerm}
 use Rattle.ground_core.specs.Problems.{ProblemState}
@@ -15,11 +15,11 @@ use Rattle.ground_core.specs.More.{Adds}
 
 -- a variable for each ground atom, and nothing said
 abbrev pub empty_problem : List Literal → ProblemState
-empty_problem atoms = record { atoms = atoms; vars = length atoms; gates = []; clauses = []; sums = []; terms = []; bounds = [] }
+empty_problem atoms = record { atoms = atoms; vars = length atoms; gates = []; clauses = []; sums = []; terms = []; bounds = []; retired = [] }
 
 -- the problem with one more clause
 abbrev pub with_clause : ProblemState → List Lit → ProblemState
-with_clause p c = record { atoms = p.atoms; vars = p.vars; gates = p.gates; clauses = p.clauses ++ c ∷ []; sums = p.sums; terms = p.terms; bounds = p.bounds }
+with_clause p c = record { atoms = p.atoms; vars = p.vars; gates = p.gates; clauses = p.clauses ++ c ∷ []; sums = p.sums; terms = p.terms; bounds = p.bounds; retired = p.retired }
 
 -- the first literal that the problem does not have
 abbrev pub next_lit : ProblemState → Lit
@@ -35,6 +35,7 @@ with_gate p all parts = record {
   sums = p.sums;
   terms = p.terms;
   bounds = p.bounds;
+  retired = p.retired;
 }
 
 -- the problem with one more variable, the output of a constraint
@@ -47,11 +48,12 @@ with_sum p kind parts least = record {
   sums = p.sums ++ record { out = next_lit p; kind = kind; parts = parts; least = least } ∷ [];
   terms = p.terms;
   bounds = p.bounds;
+  retired = p.retired;
 }
 
 -- the problem with one more term
 abbrev pub with_term : ProblemState → GroundTerm → ProblemState
-with_term p t = record { atoms = p.atoms; vars = p.vars; gates = p.gates; clauses = p.clauses; sums = p.sums; terms = p.terms ++ t ∷ []; bounds = p.bounds }
+with_term p t = record { atoms = p.atoms; vars = p.vars; gates = p.gates; clauses = p.clauses; sums = p.sums; terms = p.terms ++ t ∷ []; bounds = p.bounds; retired = p.retired }
 
 -- the clauses that say that one literal is true exactly where two others have one value
 abbrev pub clauses_of_same : Lit → Lit → Lit → List (List Lit)
@@ -68,6 +70,42 @@ with_same p a b = record {
   sums = p.sums;
   terms = p.terms;
   bounds = p.bounds;
+  retired = p.retired;
+}
+
+-- the problem with these selectors retired
+abbrev pub retiring : ProblemState → List Lit → ProblemState
+retiring p ls = record { atoms = p.atoms; vars = p.vars; gates = p.gates; clauses = p.clauses; sums = p.sums; terms = p.terms; bounds = p.bounds; retired = ls }
+
+-- the problem with one more variable, under which the term is below the number
+abbrev pub with_bound : ProblemState → ℕ → ExtInt → ProblemState
+with_bound p term below = record {
+  atoms = p.atoms;
+  vars = p.vars + 1;
+  gates = p.gates;
+  clauses = p.clauses;
+  sums = p.sums;
+  terms = p.terms;
+  bounds = p.bounds ++ record { out = next_lit p; term = term; below = below } ∷ [];
+  retired = p.retired;
+}
+
+-- the literals of the first variables that these values make false
+abbrev pub falsified_by : List Bool → ℕ → List Lit
+falsified_by values zero = []
+falsified_by values (suc n) = falsified_by values n ++ record { var = record { 0 = suc n }; positive = not (valuation values (suc n)) } ∷ []
+
+-- the problem with one more variable, under which the ground atoms differ from these values somewhere
+abbrev pub with_exclusion : ProblemState → List Bool → ProblemState
+with_exclusion p values = record {
+  atoms = p.atoms;
+  vars = p.vars + 1;
+  gates = p.gates;
+  clauses = p.clauses ++ (negated (next_lit p) ∷ falsified_by values (length p.atoms)) ∷ [];
+  sums = p.sums;
+  terms = p.terms;
+  bounds = p.bounds;
+  retired = p.retired;
 }
 
 -- the new literal is true exactly where all, or any, of the parts are

@@ -1,7 +1,9 @@
 pub mod ProblemFields
 pub mod NormalForms
 pub mod Solving
-pub mod Trials
+pub mod Moments
+pub mod Growing
+pub mod Calls
 pub mod Problems
 pub mod Meaning
 pub mod More

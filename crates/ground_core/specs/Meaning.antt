@@ -67,12 +67,17 @@ IsInRange undefined = ⊥
 abbrev pub BoundHolds : (ℕ → Bool) → List GroundTerm → TermBound → Type 0
 BoundHolds v terms b = literal_value v b.out ≡ true → IfSome (slice_get terms b.term) (λ t. compared cmp.Lt (term_value v t) (value_of_bound b.below) ≡ true)
 
--- all that is said holds
+-- every one of these literals is false
+abbrev pub AreAllFalse : (ℕ → Bool) → List Lit → Type 0
+AreAllFalse v ls = All (λ l. literal_value v l ≡ false) ls
+
+-- all that is said holds, and the retired selectors are false
 pub record Satisfies (p : ProblemState) (v : ℕ → Bool) : Type 0 where
   pub gates : All (GateHolds v) p.gates
   pub clauses : All (IsSatisfied v) p.clauses
   pub sums : All (SumHolds v) p.sums
   pub bounds : All (BoundHolds v p.terms) p.bounds
+  pub retired : AreAllFalse v p.retired
 
 -- every one of these literals is true
 abbrev pub MakesTrue : (ℕ → Bool) → List Lit → Type 0

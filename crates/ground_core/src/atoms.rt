@@ -1,9 +1,10 @@
 //! The ground atoms, in their order.
-ghost use Rattle.std.specs.Prelude.{◌≡◌, ◌≤◌, ◌^◌, true, [], ◌∷◌, ◌++◌, Some, length, map, flat_map, IfOk, OnOk, IfSome, IsSome};
-ghost use Rattle.kb_logic.specs.Structures.{domain_at, tuples_of};
+ghost use Rattle.std.specs.Prelude.{◌≡◌, ◌≤◌, ◌^◌, true, [], ◌∷◌, ◌++◌, Some, length, map, IfOk, OnOk, IfSome, IsSome};
+ghost use Rattle.kb_logic.specs.Structures.{domain_at};
 ghost use Rattle.ground_core.specs.Atoms.{atom_of, atoms_at, atoms_of_symbol, ground_atoms};
 
 use crate::errors::Memory;
+use kb_logic::tuples::all_tuples;
 use kb_logic::{Elem, ElemList, Literal, LiteralList, Symbol};
 use std::alloc::Global;
 
@@ -15,73 +16,6 @@ fn domain_of(domains: &[ElemList], ty: u32) -> &[Elem]
         Some(domain) => domain.as_slice(),
         None => &[],
     }
-}
-
-/// Whether there is no tuple since a domain is empty.
-fn has_empty_domain(domains: &[ElemList], types: &[u32]) -> bool
-    ensures { result ≡ true → tuples_of domains.now types.now ≡ [] }
-{
-    for ty in types {
-        if domain_of(domains, *ty).is_empty() {
-            return true;
-        }
-    }
-    false
-}
-
-/// Pushes the tuple with each element at its end. The last one takes the tuple itself, so that a
-/// domain of one element copies none.
-fn push_longer(
-    alloc: Global,
-    tuple: ElemList,
-    domain: &[Elem],
-    longer: &mut Vec<ElemList>,
-) -> Result<(), Memory>
-    ensures { OnOk result (longer.new.items ≡ longer.old.items ++ map (λ x. tuple ++ x ∷ []) domain.now) }
-{
-    let Some((last, others)) = domain.split_last() else {
-        return Ok(());
-    };
-    for elem in others {
-        let mut copy = tuple.copy(alloc)?;
-        copy.push(elem.copy(alloc)?)?;
-        longer.push(copy)?;
-    }
-    let mut tuple = tuple;
-    tuple.push(last.copy(alloc)?)?;
-    longer.push(tuple)?;
-    Ok(())
-}
-
-/// Each tuple with each element at its end.
-fn longer_by_one(
-    alloc: Global,
-    tuples: Vec<ElemList>,
-    domain: &[Elem],
-) -> Result<Vec<ElemList>, Memory>
-    ensures { IfOk result (λ longer. longer.items ≡ flat_map (λ tuple. map (λ x. tuple ++ x ∷ []) domain.now) tuples.items) }
-{
-    let mut longer = Vec::new(alloc);
-    for tuple in tuples {
-        push_longer(alloc, tuple, domain, &mut longer)?;
-    }
-    Ok(longer)
-}
-
-/// All tuples of elements of these types, in domain order. Where no domain is empty, what it takes
-/// is linear in what it answers.
-fn all_tuples(alloc: Global, domains: &[ElemList], types: &[u32]) -> Result<Vec<ElemList>, Memory>
-    ensures { IfOk result (λ tuples. tuples.items ≡ tuples_of domains.now types.now) }
-{
-    let mut tuples = Vec::new(alloc);
-    if has_empty_domain(domains, types) {
-        return Ok(tuples);
-    }
-    tuples.push(ElemList::new(alloc))?;
-    for ty in types {
-        tuples = longer_by_one(alloc, tuples, domain_of(domains, *ty))?;
-    }
-    Ok(tuples)
 }
 
 fn atom(number: u32, args: ElemList, value: Option<Elem>) -> Literal

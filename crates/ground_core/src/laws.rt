@@ -1,5 +1,5 @@
 //! Laws of the definitions in `specs/`: each is the contract of a function that does nothing.
-ghost use Rattle.ground_core.specs.Laws.{ClausesSayTheGate, OnlyVariablesMatter, MoreInTwoSteps, MoreThanItself, NormalFormIsTrue, NormalFormIsNormal, ClauseIsAdded, ClausesSayTheProblem, ClausesAreOfTheProblem, EachAtomStandsOnce};
+ghost use Rattle.ground_core.specs.Laws.{ClausesSayTheGate, OnlyVariablesMatter, MoreInTwoSteps, MoreThanItself, NormalFormIsTrue, NormalFormIsNormal, ClauseIsAdded, ClausesSayTheProblem, ClausesAreOfTheProblem, EachAtomStandsOnce, BoundsSelect, BoundsSayNoMore, BoundsAreKept, ExclusionsSelect, ExclusionsAreKept, RetirementsAreKept, CallsAddUp, CountsAreCosts, RefusalsAreKept, RetiredBoundsAreAdditions};
 
 /// A gate's clauses hold exactly where the gate does.
 pub fn clauses_say_the_gate()
@@ -36,7 +36,8 @@ pub fn clause_is_added()
     ensures { ClauseIsAdded }
 {}
 
-/// A problem of gates and clauses alone is satisfied exactly where its clauses, with those of its gates, are.
+/// A problem without sums and bounds is satisfied exactly where its clauses, with those of its gates, are
+/// and its retired selectors are false.
 pub fn clauses_say_the_problem()
     ensures { ClausesSayTheProblem }
 {}
@@ -50,4 +51,54 @@ pub fn clauses_are_of_the_problem()
 /// element twice.
 pub fn each_atom_stands_once()
     ensures { EachAtomStandsOnce }
+{}
+
+/// Under a bound exactly the valuations remain in which its term is below its number.
+pub fn bounds_select()
+    ensures { BoundsSelect }
+{}
+
+/// A bound, and a bound whose selector is retired, leave what was said as it was.
+pub fn bounds_say_no_more()
+    ensures { BoundsSayNoMore }
+{}
+
+/// What holds of every solver holds of one with one more bound.
+pub fn bounds_are_kept()
+    ensures { BoundsAreKept }
+{}
+
+/// Under an exclusion exactly the valuations remain that differ from its values; it says nothing else.
+pub fn exclusions_select()
+    ensures { ExclusionsSelect }
+{}
+
+/// What holds of every solver holds of one with one more exclusion.
+pub fn exclusions_are_kept()
+    ensures { ExclusionsAreKept }
+{}
+
+/// What holds of every solver holds of one with one more retired selector.
+pub fn retirements_are_kept()
+    ensures { RetirementsAreKept }
+{}
+
+/// What two calls over a solver keep, and what they spend, put together.
+pub fn calls_add_up()
+    ensures { CallsAddUp }
+{}
+
+/// What so many searches can spend, where an addition may stand meanwhile.
+pub fn counts_are_costs()
+    ensures { CountsAreCosts }
+{}
+
+/// Literals that an answer refutes contain a kept core.
+pub fn refusals_are_kept()
+    ensures { RefusalsAreKept }
+{}
+
+/// A bound that is retired at once leaves a problem that grew by additions such a problem.
+pub fn retired_bounds_are_additions()
+    ensures { RetiredBoundsAreAdditions }
 {}

@@ -1,15 +1,16 @@
 //! Ground problems, and how they grow.
-ghost use Rattle.std.specs.Prelude.{◌≡◌, ◌≤◌, ◌^◌, [], ◌∷◌, ◌++◌, List, length, take, slice_get, IfOk, OnErr, OnOk};
+ghost use Rattle.std.specs.Prelude.{◌≡◌, ◌≤◌, ◌<◌, ◌^◌, not, [], ◌∷◌, ◌++◌, List, length, take, slice_get, IfOk, OnErr, OnOk};
 ghost use Rattle.std.specs.Option.{option_copied};
+ghost use Rattle.lit_core.specs.Literals.{negated, valuation};
 ghost use Rattle.ground_core.specs.Atoms.{ground_atoms};
 ghost use Rattle.ground_core.specs.Problems.{IsProblem, IsLitOf, AreLitsOf, ArePartsOf, IsTermOf};
-ghost use Rattle.ground_core.specs.Growth.{empty_problem, next_lit, with_clause, with_gate, with_sum, with_term, with_same, clauses_of_same, AddsGate, AddsSum, AddsSame};
+ghost use Rattle.ground_core.specs.Growth.{empty_problem, next_lit, with_clause, with_gate, with_sum, with_term, with_same, with_exclusion, falsified_by, clauses_of_same, AddsGate, AddsSum, AddsSame};
 
 use crate::atoms::all_atoms;
 use crate::errors::Memory;
 use crate::parts::{AggCon, Gate, GroundTerm, LitList, PartList, TermBound};
 use kb_logic::{AggKind, ElemList, ExtInt, ListOf, Literal, LiteralList, Symbol};
-use lit_core::{Clause, ClauseList, Lit, Var};
+use lit_core::{Clause, ClauseList, Lit, Values, Var};
 use std::alloc::Global;
 use std::marker::Model;
 
@@ -118,6 +119,7 @@ impl Problem {
     pub fn vars(&self) -> u64
         ensures value { result ≡ self.now.vars }
         ensures laws { IsProblem self.now }
+        ensures unretired { self.now.retired ≡ [] }
     {
         self.vars
     }
@@ -247,6 +249,47 @@ impl Problem {
                 Err(error)
             }
         }
+    }
+
+    /// Adds a variable under which the ground atoms differ from these values somewhere.
+    pub fn add_exclusion(&mut self, alloc: Global, values: &Values) -> Result<Lit, Memory>
+        requires { length self.old.atoms < length values.now }
+        ensures made { IfOk result (λ out. (out ≡ next_lit self.old) × (self.new ≡ with_exclusion self.old values.now)) }
+        ensures err { OnErr result (self.new ≡ self.old) }
+    {
+        let out = self.next()?;
+        let clause = exclusion(alloc, out, values, self.atoms.len())?;
+        self.clauses.push(clause)?;
+        self.vars = out.var.0;
+        Ok(out)
+    }
+}
+
+/// Under the literal one of the first variables has another value.
+fn exclusion(alloc: Global, out: Lit, values: &Values, atoms: usize) -> Result<Clause, Memory>
+    requires { atoms < length values.now }
+    ensures { IfOk result (λ c. c ≡ negated out ∷ falsified_by values.now atoms) }
+{
+    let mut clause = Clause::new(alloc);
+    clause.push(out.negated())?;
+    for i in 0..atoms {
+        clause.push(falsified(values, i as u64 + 1))?;
+    }
+    Ok(clause)
+}
+
+/// The variable's literal that the values make false.
+fn falsified(values: &Values, var: u64) -> Lit
+    requires { var < length values.now }
+    ensures { result ≡ record { var = record { 0 = var }; positive = not (valuation values.now var) } }
+{
+    let lit = Lit {
+        var: Var(var),
+        positive: true,
+    };
+    Lit {
+        var: Var(var),
+        positive: !values.holds(lit),
     }
 }
 

@@ -1,13 +1,13 @@
 -- How the answers to the commands go on and end.
 use Rattle.std.proofs.Common.{◌≡◌, ℕ, ◌+◌, ◌-◌, ◌<◌, ◌≤◌, ◌++◌, List, ◌∷◌, [], length, refl, sym, ◌∙◌, ap, subst, arith, length-append, true, false, Option, Some, None, Ok, Err, inl, inr}
 use Rattle.kb_io.specs.Outside.{Rose}
-use Rattle.kb_io.specs.Pending.{Pending, most_bytes}
+use Rattle.kb_io.specs.Pending.{Pending, TakesLine, most_bytes}
 use Rattle.kb_logic.specs.Bases.{Base}
 use Rattle.consult_text.specs.States.{State, first_state}
 use Rattle.idp_cli.specs.Files.{IfObservable}
 use Rattle.idp_cli.specs.Consultation.{AnswersTo}
 use Rattle.idp_cli.specs.Answering.{Streams, IsWithoutFault, AnswersCommands}
-use Rattle.idp_cli.specs.Turns.{Turns, TakesLine}
+use Rattle.idp_cli.specs.Turns.{Turns}
 use Rattle.idp_cli.specs.declared.status.Status.{Status}
 use Rattle.idp_cli.specs.declared.status.Status.TheVariants as status
 use Rattle.idp_cli.proofs.Answered.{answers_none, answers_more}
@@ -60,7 +60,7 @@ still kb s p before mid now so_far same = subst (AnswersTo kb so_far.lines s bef
 pub ends_done : (kb kb' : Base) (s t : State) (p p' : Pending) (before mid now : Streams) → kb' ≡ kb → IsSoFar kb s p before mid → Turns (Ok false) kb' s t p p' mid now → AnswersCommands status.Done kb before now
 ends_done kb kb' s t p p' before mid now same so_far turn =
     let answered = still kb s p before mid now so_far turn.out in (
-      (record { script = turn.ends.4 ∙ so_far.faults.script; out = turn.out_faults ∙ so_far.faults.out }, turn.ends.1),
+      (record { script = turn.ends.0 ∙ so_far.faults.script; out = turn.out_faults ∙ so_far.faults.out }, turn.ends.1.at_end),
       map_told before.script _ _ (λ bytes given. (given.0, (s, subst (λ (ls : List (List ℕ)). AnswersTo kb ls s before.out now.out) (sym given.1) answered)))
           (all_given before.script mid.script now.script so_far.lines p p' mid.script_faults now.script_faults so_far.given so_far.within turn.ends),
     )
@@ -69,7 +69,7 @@ ends_done kb kb' s t p p' before mid now same so_far turn =
 pub ends_early : (why : Status) (kb kb' : Base) (s t : State) (p p' : Pending) (before mid now : Streams) → kb' ≡ kb → IsSoFar kb s p before mid → Turns (Err why) kb' s t p p' mid now → AnswersCommands why kb before now
 ends_early status.ReadFault kb kb' s t p p' before mid now same so_far turn =
     let answered = still kb s p before mid now so_far turn.out in (
-      (subst (λ n. Rose n now.script_faults) so_far.faults.script turn.ends.5, turn.out_faults ∙ so_far.faults.out),
+      (subst (λ n. Rose n now.script_faults) so_far.faults.script turn.ends.1, turn.out_faults ∙ so_far.faults.out),
       map_told before.script _ _ (λ bytes (given : EndedWithin bytes now.script so_far.lines).
           record { taken = given.taken; consumed = given.consumed; within = given.within; lines = so_far.lines; ended = given.ended; answered = (s, answered) })
           (ended_given before.script mid.script now.script so_far.lines p p' mid.script_faults now.script_faults so_far.given so_far.within turn.ends),
@@ -97,7 +97,7 @@ ends_early status.Memory kb kb' s t p p' before mid now same so_far turn =
     )
 ends_early status.ScriptTooLong kb kb' s t p p' before mid now same so_far turn =
     let answered = still kb s p before mid now so_far turn.out in (
-      record { script = turn.ends.6 ∙ so_far.faults.script; out = turn.out_faults ∙ so_far.faults.out },
+      record { script = turn.ends.0 ∙ so_far.faults.script; out = turn.out_faults ∙ so_far.faults.out },
       map_told before.script _ _ (λ bytes given. (given.0, (s, subst (λ (ls : List (List ℕ)). AnswersTo kb ls s before.out now.out) given.1 answered)))
           (ended_within before.script mid.script now.script so_far.lines p p' mid.script_faults now.script_faults so_far.given so_far.within turn.ends),
     )

@@ -1,16 +1,15 @@
 -- A file declares no more symbols than it has bytes.
-use Rattle.std.proofs.Common.{◌≡◌, ℕ, suc, ◌+◌, ◌-◌, ◌<◌, ◌≤◌, List, [], ◌∷◌, ◌++◌, length, drop, take, map, flat_map, refl, sym, ◌∙◌, ap, subst, arith, length-append, Bool, true, false, cond, Option, Some, None}
+use Rattle.std.proofs.Common.{◌≡◌, ℕ, suc, ◌+◌, ◌<◌, ◌≤◌, List, [], ◌∷◌, length, drop, take, flat_map, refl, sym, ap, arith, length-append, Bool, true, false, cond, Option, Some, None}
 use Rattle.std.specs.Prelude.{option_map, min, ◌==◌, ◌&&◌}
 use Rattle.std.specs.List.{prefix_len}
 use Rattle.std.proofs.lemmas.List.{length-drop, length-map}
 use Rattle.kb_logic.specs.declared.vocabularies.Vocabulary.{Vocabulary}
-use Rattle.kb_logic.specs.declared.vocabularies.Symbol.{Symbol}
 use Rattle.kb_logic.specs.declared.first.FirstKb.{FirstKb}
 use Rattle.first_reader.specs.declared.token.Sign.{Sign}
 use Rattle.first_reader.specs.declared.token.Sign.TheVariants.{Implies, ImpliedBy, Equivalent, CloseParen, CloseBrace}
 use Rattle.first_reader.specs.FirstTokens.{Tok, name, reserved, sign, Lexeme, AreTokens, first_token, first_sign, alone, longer_arrow, single_sign, is_other_sign, word_token, is_refused, is_reserved, begins_word, is_in_word, is_space, skip_spaces}
-use Rattle.first_reader.specs.FirstLists.{put_all, put_further, put_commas, put_parens, put_word}
-use Rattle.first_reader.specs.FirstFiles.{Declaration, of_type, of_symbol, Declared, a_type, a_symbol, put_declaration, put_theory, put_structure, put_file, declared, declared_by, type_names, predicate_of, predicates, File}
+use Rattle.first_reader.specs.FirstLists.{put_all, put_further, put_parens, put_word}
+use Rattle.first_reader.specs.FirstFiles.{Declaration, of_type, of_symbol, Declared, a_type, a_symbol, put_declaration, put_theory, put_structure, declared, declared_by, type_names, predicate_of, predicates, File}
 use Rattle.first_reader.specs.FirstReads.{IsReadAs}
 use Rattle.kb_logic.specs.First.{open_atom_count}
 use Rattle.idp_cli.specs.Files.{most_file_bytes, IsConsultable}

@@ -8,4 +8,3 @@ mod Consulting
 mod Elimination
 mod OneAnswer
 mod FewSymbols
-mod Taking

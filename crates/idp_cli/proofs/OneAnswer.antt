@@ -1,11 +1,9 @@
 -- The printed bytes determine what was answered.
-use Rattle.std.proofs.Common.{◌≡◌, ℕ, map, ◌<◌, ◌≤◌, List, [], ◌∷◌, ◌++◌, refl, sym, ap, ◌∙◌, subst, append_assoc, Bool, true, false, cond, not, filter, length, arith, Option, Some, None, Ok, Err}
+use Rattle.std.proofs.Common.{◌≡◌, ℕ, List, [], ◌∷◌, ◌++◌, refl, sym, ap, ◌∙◌, subst, Bool, true, false, cond, not, filter, length, arith, Option, Some, None, Ok, Err}
 use Rattle.std.specs.List.{AllByRecursion}
 use Rattle.std.proofs.lemmas.List.{append_cancel_left}
-use Rattle.kb_io.specs.Lines.{longest_line}
 use Rattle.kb_logic.specs.declared.elements.Elem.{Elem}
 use Rattle.kb_logic.specs.declared.elements.Elem.TheVariants.{Named, Num}
-use Rattle.kb_logic.specs.declared.structures.Literal.{Literal}
 use Rattle.kb_logic.specs.declared.first.FirstKb.{FirstKb}
 use Rattle.kb_logic.specs.Bases.{Base}
 use Rattle.kb_logic.specs.First.{IsFirstKb, IsPlainPredicate, base_of_first}

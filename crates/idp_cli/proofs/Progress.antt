@@ -6,13 +6,12 @@ use Rattle.std.specs.Prelude.{nat_le}
 use Rattle.std.proofs.lemmas.Bool.Decides.{leb_tells}
 use Rattle.std.specs.Io.KnownBytes.{Consumes}
 use Rattle.kb_io.specs.Lines.{newlines, command_lines, ended, IsNextLine}
-use Rattle.kb_io.proofs.LineLemmas.{newlines-append, last_line, next_line_begins}
-use Rattle.kb_io.specs.Pending.{Pending, NextLine, most_bytes}
+use Rattle.kb_io.proofs.LineLemmas.{newlines-append, last_line}
+use Rattle.kb_io.specs.Pending.{Pending, TakesLine, NextLine, most_bytes}
 use Rattle.kb_io.specs.declared.lines.LineError.TheVariants as line_error
 use Rattle.kb_io.specs.declared.lines.Next.TheVariants as next
 use Rattle.idp_cli.specs.Files.{IfObservable}
 use Rattle.idp_cli.specs.EndedLines.{ended_lines, HaveEnded}
-use Rattle.idp_cli.specs.Turns.{TakesLine}
 use Rattle.idp_cli.specs.Answering.{lines_within}
 use Rattle.idp_cli.proofs.Ended.{AreWhole, whole_more, ended_more, lines_after, ended_after, ended_are}
 
@@ -157,11 +156,11 @@ pub all_given : (script left left' : Option (List ℕ)) (front : List (List ℕ)
     → NextLine (Ok next.End) p p' left left' before now → IfObservable script (λ bytes. (length bytes ≤ most_bytes) × (command_lines bytes ≡ front))
 all_given None left left' front p p' before now so_far within next = tt
 all_given (Some script) None left' front p p' before now so_far within next = absurd so_far
-all_given (Some script) (Some left) None front p p' before now so_far within next = absurd next.0
+all_given (Some script) (Some left) None front p p' before now so_far within next = absurd next.1.consumed
 all_given (Some script) (Some left) (Some left') front p p' before now so_far within next =
-    let at_end : left ≡ [] = next.0 ∙ next.1 in
-    let none : p.ahead ++ left ≡ [] = ap (λ (l : List ℕ). l ++ left) next.2 ∙ at_end in (
-      omega (arith, size_given script left front p so_far next.2 at_end, within),
+    let at_end : left ≡ [] = next.1.consumed ∙ next.1.at_end in
+    let none : p.ahead ++ left ≡ [] = ap (λ (l : List ℕ). l ++ left) next.1.ahead ∙ at_end in (
+      omega (arith, size_given script left front p so_far next.1.ahead at_end, within),
       lines_left script left front p so_far ∙ ap (λ (l : List ℕ). front ++ command_lines l) none ∙ append-nil front,
     )
 
@@ -182,19 +181,19 @@ pub ended_given : (script left left' : Option (List ℕ)) (front : List (List �
     → IfObservable script (λ bytes. EndedWithin bytes left' front)
 ended_given None left left' front p p' before now so_far within next = tt
 ended_given (Some script) None left' front p p' before now so_far within next = absurd so_far
-ended_given (Some script) (Some left) None front p p' before now so_far within next = absurd next.1
+ended_given (Some script) (Some left) None front p p' before now so_far within next = absurd next.2.consumed
 ended_given (Some script) (Some left) (Some left') front p p' before now so_far within next = elim so_far [
   | inl under ↦
-      let bytes = next.0 in
+      let bytes = next.2.bytes in
       let begun : List ℕ = p.ahead ++ bytes in
       record {
         taken = ended front ++ begun;
-        consumed = taken_next script (ended front) p.ahead bytes left left' under.1 next.1 ∙ sym (append_assoc (ended front) begun left');
-        within = omega (arith, within, under.2, next.2, next.3, length-append (ended front) begun, length-append p.ahead bytes, length-append (ended front) p.ahead);
-        ended = inl (sym (ended_are front begun under.0 next.6));
+        consumed = taken_next script (ended front) p.ahead bytes left left' under.1 next.2.consumed ∙ sym (append_assoc (ended front) begun left');
+        within = omega (arith, within, under.2, next.2.count, next.2.within, length-append (ended front) begun, length-append p.ahead bytes, length-append (ended front) p.ahead);
+        ended = inl (sym (ended_are front begun under.0 next.2.line.whole));
       }
   | inr over ↦
-      let none : left' ≡ [] = no_more next.0 left left' over.1 next.1 in
+      let none : left' ≡ [] = no_more next.2.bytes left left' over.1 next.2.consumed in
       record {
         taken = script;
         consumed = sym (append-nil script) ∙ ap (λ (l : List ℕ). script ++ l) (sym none);
@@ -221,18 +220,18 @@ pub ended_within : (script left left' : Option (List ℕ)) (front : List (List �
     → NextLine (Err line_error.TooLong) p p' left left' before now → IfObservable script (λ bytes. (most_bytes < length bytes) × (front ≡ ended_lines (take most_bytes bytes)))
 ended_within None left left' front p p' before now so_far within next = tt
 ended_within (Some script) None left' front p p' before now so_far within next = absurd so_far
-ended_within (Some script) (Some left) None front p p' before now so_far within next = absurd next.2
+ended_within (Some script) (Some left) None front p p' before now so_far within next = absurd next.1.consumed
 ended_within (Some script) (Some left) (Some left') front p p' before now so_far within next = elim so_far [
   | inl under ↦
-      let bytes = next.0 in
-      let beyond = next.1 in
+      let bytes = next.1.bytes in
+      let beyond = next.1.beyond in
       let begun : List ℕ = p.ahead ++ bytes in
       let more : List ℕ = beyond ++ left' in
-      let took : left ≡ bytes ++ more = next.2 ∙ append_assoc bytes beyond left' in
+      let took : left ≡ bytes ++ more = next.1.consumed ∙ append_assoc bytes beyond left' in
       let all : script ≡ ended front ++ (begun ++ more) = taken_next script (ended front) p.ahead bytes left more under.1 took in
-      let sizes : length (ended front) + length begun + length beyond ≡ most_bytes + 1 = omega (arith, under.2, next.3, next.4, length-append p.ahead bytes, length-append (ended front) p.ahead) in
+      let sizes : length (ended front) + length begun + length beyond ≡ most_bytes + 1 = omega (arith, under.2, next.1.count, next.1.all, length-append p.ahead bytes, length-append (ended front) p.ahead) in
       let long : most_bytes < length script = omega (arith, ap length all, length-append (ended front) (begun ++ more), length-append begun more, length-append beyond left', sizes) in
       let short : length (ended front) ≤ most_bytes = omega (arith, under.2, within, length-append (ended front) p.ahead) in
-      (long, allowed_lines front begun beyond more script under.0 all sizes next.5 short next.7)
-  | inr over ↦ absurd (omega (arith, over.3, within, next.3, next.4, ap length over.1, ap length next.2, length-append (next.0 ++ next.1) left', length-append next.0 next.1))
+      (long, allowed_lines front begun beyond more script under.0 all sizes next.1.few short next.1.line.whole)
+  | inr over ↦ absurd (omega (arith, over.3, within, next.1.count, next.1.all, ap length over.1, ap length next.1.consumed, length-append (next.1.bytes ++ next.1.beyond) left', length-append next.1.bytes next.1.beyond))
 ]

@@ -1,9 +1,8 @@
 -- The answer to one line.
-use Rattle.std.specs.Prelude.{◌≡◌, ℕ, ◌+◌, ◌≤◌, max, List, [], ◌++◌, length, Bool, true, false, Option, Some, None, Result, Ok, Err}
-use Rattle.std.specs.Io.KnownBytes.{Appends, Consumes}
-use Rattle.kb_io.specs.Lines.{IsNextLine}
+use Rattle.std.specs.Prelude.{◌≡◌, ℕ, List, [], Bool, true, false, Option, Some, None, Result, Ok, Err}
+use Rattle.std.specs.Io.KnownBytes.{Appends}
 use Rattle.kb_io.specs.Outside.{Rose}
-use Rattle.kb_io.specs.Pending.{Pending, NextLine, most_bytes}
+use Rattle.kb_io.specs.Pending.{Pending, TakesLine, NextLine}
 use Rattle.kb_io.specs.ReadWrite.{AppendsPrefix}
 use Rattle.kb_io.specs.declared.lines.LineError.{LineError}
 use Rattle.kb_io.specs.declared.lines.LineError.TheVariants as line_error
@@ -48,14 +47,6 @@ AnswersLine (Ok x) kb s t line old new before now = (now ≡ before) × IsAnswer
 AnswersLine (Err status.WriteFault) kb s t line old new before now = Rose before now × AnswersPrefix kb s line old new
 AnswersLine (Err status.Memory) kb s t line old new before now = (now ≡ before) × (new ≡ old)
 AnswersLine (Err _) kb s t line old new before now = ⊥
-
--- this line was taken of the commands
-pub record TakesLine (line : List ℕ) (old new : Pending) (left left' : Option (List ℕ)) : Type 0 where
-  pub bytes : List ℕ
-  pub consumed : Consumes left left' bytes
-  pub count : new.taken ≡ old.taken + length bytes
-  pub within : new.taken ≤ max old.taken most_bytes
-  pub cut : IsNextLine (old.ahead ++ bytes) line new.ahead left'
 
 -- no line is left, or none is read, for this reason; nothing was written
 pub record TakesNone (result : Result Next LineError) (old new : Pending) (before now : Streams) : Type 0 where

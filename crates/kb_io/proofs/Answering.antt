@@ -6,7 +6,7 @@ use Rattle.kb_io.specs.Outside.{Rose}
 use Rattle.kb_io.proofs.KnownBytes.{consumes_none, consumes_more, consumes_kept}
 use Rattle.kb_io.specs.Lines.{newlines, longest_line, IsLong, StandsFor}
 use Rattle.kb_io.proofs.LineLemmas.{newlines-append, let_go_is_long, long_more}
-use Rattle.kb_io.specs.Pending.{NextLine, most_bytes}
+use Rattle.kb_io.specs.Pending.{GoesOn, NextLine, most_bytes}
 use Rattle.kb_io.specs.Buffer.{begun, begun_at, answered, answered_at, unread, pending, IsSoundLine, IsUnderWay, IsUnderWayAt}
 use Rattle.kb_io.specs.Finishes.{Cuts, Refills, FinishesLast}
 use Rattle.kb_io.specs.declared.lines.Next.{Next}
@@ -121,26 +121,30 @@ pub answers_cut : (next : Next) (initial old new : Buffer) (left left' : Option 
     → NextLine (Ok next) (pending initial) (pending new) left left' before now
 answers_cut Line initial old new left left' before now reads (piece, cut, none, begins, is, short) taken same =
     let whole : begun old.line ++ piece ≡ reads.line ++ piece = ap (λ (l : List ℕ). l ++ piece) (kept_as_is _ _ piece reads.stands short) in (
-      reads.bytes,
-      reads.consumed,
-      taken ∙ reads.taken,
-      subst (λ n. n ≤ max initial.taken most_bytes) (sym taken) reads.most,
       same,
-      (
-        ap newlines (is ∙ whole) ∙ newlines_both reads.line piece reads.whole none,
-        inl (ahead_cut _ _ _ _ _ _ reads.ahead cut begins ∙ ap (λ (l : List ℕ). l ++ 10 ∷ (begun new.line ++ unread new)) (sym (is ∙ whole))),
-      ),
+      record {
+        bytes = reads.bytes;
+        consumed = reads.consumed;
+        count = taken ∙ reads.taken;
+        within = subst (λ n. n ≤ max initial.taken most_bytes) (sym taken) reads.most;
+        cut = (
+          ap newlines (is ∙ whole) ∙ newlines_both reads.line piece reads.whole none,
+          inl (ahead_cut _ _ _ _ _ _ reads.ahead cut begins ∙ ap (λ (l : List ℕ). l ++ 10 ∷ (begun new.line ++ unread new)) (sym (is ∙ whole))),
+        );
+      },
       subst (λ (l : List ℕ). length l ≤ longest_line) (sym is) short,
     )
 answers_cut LongLine initial old new left left' before now reads (piece, cut, none, begins, is, long) taken same = (
-  reads.bytes,
-  reads.consumed,
-  taken ∙ reads.taken,
-  subst (λ n. n ≤ max initial.taken most_bytes) (sym taken) reads.most,
   same,
   (
     reads.line ++ piece,
-    (newlines_both reads.line piece reads.whole none, inl (ahead_cut _ _ _ _ _ _ reads.ahead cut begins)),
+    record {
+      bytes = reads.bytes;
+      consumed = reads.consumed;
+      count = taken ∙ reads.taken;
+      within = subst (λ n. n ≤ max initial.taken most_bytes) (sym taken) reads.most;
+      cut = (newlines_both reads.line piece reads.whole none, inl (ahead_cut _ _ _ _ _ _ reads.ahead cut begins));
+    },
     (still_long _ _ piece reads.stands none long).1,
   ),
   is,
@@ -155,31 +159,40 @@ still_ahead initial old new left left' reads at_end at_end' same =
     subst (λ (l : List ℕ). StandsFor l (begun initial.line ++ unread initial ++ reads.bytes)) kept
     (subst (λ (l : List ℕ). StandsFor (begun old.line) l) (sym (all_is_line initial old left left' reads at_end)) reads.stands)
 
+-- the line that was under way is under way still
+goes_on : (initial old new : Buffer) (left left' : Option (List ℕ)) (reads : Reads initial old left left') → old.at ≡ old.end → new.at ≡ new.end → IsUnderWay old.line → new.line ≡ old.line
+    → GoesOn reads.bytes (pending initial) (pending new)
+goes_on initial old new left left' reads at_end at_end' on same = record {
+  whole = none_ahead initial old left left' reads at_end;
+  ahead = still_ahead initial old new left left' reads at_end at_end' same;
+  line = ap answered same ∙ answered_none old.line on;
+}
+
 -- the source gave nothing
 pub answers_err : (e : LineError) (initial old new : Buffer) (left left' left'' : Option (List ℕ)) (before mid now : ℕ) → Reads initial old left left' → old.at ≡ old.end → IsUnderWay old.line
     → new.line ≡ old.line → Refills (Err e) old new left' left'' mid now → mid ≡ before → NextLine (Err e) (pending initial) (pending new) left left'' before now
 answers_err Fault initial old new left left' left'' before mid now reads at_end on same refills counted = (
-  reads.bytes,
-  consumes_kept _ _ _ _ reads.consumed refills.1,
-  refills.2 ∙ reads.taken,
-  omega (arith, refills.3),
   omega (arith, refills.4, counted),
   subst (λ n. Rose n now) counted refills.5,
-  none_ahead initial old left left' reads at_end,
-  still_ahead initial old new left left' reads at_end refills.0 same,
-  ap answered same ∙ answered_none old.line on,
+  record {
+    bytes = reads.bytes;
+    consumed = consumes_kept _ _ _ _ reads.consumed refills.1;
+    count = refills.2 ∙ reads.taken;
+    within = omega (arith, refills.3);
+    line = goes_on initial old new left left' reads at_end refills.0 on same;
+  },
 )
 answers_err TooLong initial old new left left' left'' before mid now reads at_end on same refills counted = (
-  reads.bytes,
-  refills.0,
-  consumes_more _ _ _ _ _ reads.consumed refills.2,
-  refills.3 ∙ ap (λ n. n + length refills.0) reads.taken,
-  refills.4,
-  refills.5,
   refills.6 ∙ counted,
-  none_ahead initial old left left' reads at_end,
-  still_ahead initial old new left left' reads at_end refills.1 same,
-  ap answered same ∙ answered_none old.line on,
+  record {
+    bytes = reads.bytes;
+    beyond = refills.0;
+    consumed = consumes_more _ _ _ _ _ reads.consumed refills.2;
+    count = refills.3 ∙ ap (λ n. n + length refills.0) reads.taken;
+    all = refills.4;
+    few = refills.5;
+    line = goes_on initial old new left left' reads at_end refills.1 on same;
+  },
 )
 
 nothing_before : (xs ys : List ℕ) → xs ++ ys ≡ [] → (xs ≡ []) × (ys ≡ [])
@@ -199,40 +212,44 @@ answers_end Line initial old line left left' before now reads none at_end same o
     let finished = finishes.0 in
     let short : length (begun old.line ++ []) ≤ longest_line = subst (λ (l : List ℕ). length l ≤ longest_line) (sym (append-nil _)) finished.2 in
     let whole : answered line ≡ reads.line = finished.1 ∙ kept_as_is _ _ [] reads.stands short in (
-      reads.bytes,
-      reads.consumed,
-      reads.taken,
-      reads.most,
       same,
-      (
-        ap newlines whole ∙ reads.whole,
-        inr (
-          reads.ahead ∙ ap (λ (l : List ℕ). reads.line ++ l) none ∙ append-nil _ ∙ sym whole,
-          subst (λ (l : List ℕ). 0 < length l) (sym finished.1) finishes.1,
-          ap (λ (l : List ℕ). l ++ unread old) finished.0 ∙ none,
-          at_end,
-        ),
-      ),
+      record {
+        bytes = reads.bytes;
+        consumed = reads.consumed;
+        count = reads.taken;
+        within = reads.most;
+        cut = (
+          ap newlines whole ∙ reads.whole,
+          inr (
+            reads.ahead ∙ ap (λ (l : List ℕ). reads.line ++ l) none ∙ append-nil _ ∙ sym whole,
+            subst (λ (l : List ℕ). 0 < length l) (sym finished.1) finishes.1,
+            ap (λ (l : List ℕ). l ++ unread old) finished.0 ∙ none,
+            at_end,
+          ),
+        );
+      },
       subst (λ (l : List ℕ). length l ≤ longest_line) (sym finished.1) finished.2,
     )
 answers_end LongLine initial old line left left' before now reads none at_end same on finishes =
     let long : IsLong reads.line = subst IsLong (append-nil _) (still_long _ _ [] reads.stands refl (subst IsLong (sym (append-nil _)) finishes.2)) in (
-      reads.bytes,
-      reads.consumed,
-      reads.taken,
-      reads.most,
       same,
       (
         reads.line,
-        (
-          reads.whole,
-          inr (
-            reads.ahead ∙ ap (λ (l : List ℕ). reads.line ++ l) none ∙ append-nil _,
-            omega (arith, long.1),
-            ap (λ (l : List ℕ). l ++ unread old) finishes.0 ∙ none,
-            at_end,
-          ),
-        ),
+        record {
+          bytes = reads.bytes;
+          consumed = reads.consumed;
+          count = reads.taken;
+          within = reads.most;
+          cut = (
+            reads.whole,
+            inr (
+              reads.ahead ∙ ap (λ (l : List ℕ). reads.line ++ l) none ∙ append-nil _,
+              omega (arith, long.1),
+              ap (λ (l : List ℕ). l ++ unread old) finishes.0 ∙ none,
+              at_end,
+            ),
+          );
+        },
         long.1,
       ),
       finishes.1,
@@ -243,4 +260,4 @@ answers_end End initial old line left left' before now reads none at_end same on
     let ahead : begun line ++ unread old ≡ [] = ap (λ (k : LineBuffer). begun k ++ unread old) finishes.1 ∙ ap (λ (l : List ℕ). l ++ unread old) finishes.0 ∙ none in
     let given : answered line ≡ [] = ap answered finishes.1 ∙ answered_none old.line on in
     let taken : old.taken ≡ initial.taken = omega (arith, reads.taken, ap length all.1) in
-    (subst (Consumes left left') all.1 reads.consumed, at_end, all.0, rw (taken, ahead, given) refl, same)
+    (same, record { consumed = subst (Consumes left left') all.1 reads.consumed; at_end = at_end; ahead = all.0; state = rw (taken, ahead, given) refl })

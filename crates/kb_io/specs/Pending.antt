@@ -19,23 +19,55 @@ pub record Pending : Type 0 where
 abbrev pub most_bytes : ℕ
 most_bytes = 67108864
 
--- What the next line is. `left` and `left'` are what is observed to be left of the source before and after, `before` and `now`
--- its counts of faults.
+-- The bytes that were taken of the source follow those that were ahead, and all of them begin with this line. `left` and
+-- `left'` are what is observed to be left of the source before and after.
+pub record TakesLine (line : List ℕ) (old new : Pending) (left left' : Option (List ℕ)) : Type 0 where
+  pub bytes : List ℕ
+  pub consumed : Consumes left left' bytes
+  pub count : new.taken ≡ old.taken + length bytes
+  pub within : new.taken ≤ max old.taken most_bytes
+  pub cut : IsNextLine (old.ahead ++ bytes) line new.ahead left'
+
+-- nothing was ahead, and nothing is left of the source
+pub record FindsEnd (old new : Pending) (left left' : Option (List ℕ)) : Type 0 where
+  pub consumed : Consumes left left' []
+  pub at_end : IsAtEnd left'
+  pub ahead : old.ahead ≡ []
+  pub state : new ≡ record { taken = old.taken; ahead = []; line = [] }
+
+-- with these bytes the line that was ahead has not ended, and it is ahead still
+pub record GoesOn (bytes : List ℕ) (old new : Pending) : Type 0 where
+  pub whole : newlines (old.ahead ++ bytes) ≡ 0
+  pub ahead : StandsFor new.ahead (old.ahead ++ bytes)
+  pub line : new.line ≡ []
+
+-- the source failed before the line ended
+pub record BreaksOff (old new : Pending) (left left' : Option (List ℕ)) : Type 0 where
+  pub bytes : List ℕ
+  pub consumed : Consumes left left' bytes
+  pub count : new.taken ≡ old.taken + length bytes
+  pub within : new.taken ≤ max old.taken most_bytes
+  pub line : GoesOn bytes old new
+
+-- the source gave a byte more than may be taken before the line ended
+pub record GoesBeyond (old new : Pending) (left left' : Option (List ℕ)) : Type 0 where
+  pub bytes : List ℕ
+  pub beyond : List ℕ
+  pub consumed : Consumes left left' (bytes ++ beyond)
+  pub count : new.taken ≡ old.taken + length bytes + length beyond
+  pub all : new.taken ≡ most_bytes + 1
+  pub few : length beyond ≤ 1
+  pub line : GoesOn bytes old new
+
+-- what the next line is; `before` and `now` are the source's counts of faults
 abbrev pub NextLine : Result Next LineError → Pending → Pending → Option (List ℕ) → Option (List ℕ) → ℕ → ℕ → Type 0
 NextLine (Ok Line) old new left left' before now =
-    (bytes : List ℕ) × Consumes left left' bytes × (new.taken ≡ old.taken + length bytes) × (new.taken ≤ max old.taken most_bytes) × (now ≡ before)
-    × IsNextLine (old.ahead ++ bytes) new.line new.ahead left' × (length new.line ≤ longest_line)
+    (now ≡ before) × TakesLine new.line old new left left' × (length new.line ≤ longest_line)
 NextLine (Ok LongLine) old new left left' before now =
-    (bytes : List ℕ) × Consumes left left' bytes × (new.taken ≡ old.taken + length bytes) × (new.taken ≤ max old.taken most_bytes) × (now ≡ before)
-    × ((line : List ℕ) × IsNextLine (old.ahead ++ bytes) line new.ahead left' × (longest_line < length line)) × (new.line ≡ [])
-NextLine (Ok End) old new left left' before now =
-    Consumes left left' [] × IsAtEnd left' × (old.ahead ≡ []) × (new ≡ record { taken = old.taken; ahead = []; line = [] }) × (now ≡ before)
-NextLine (Err Fault) old new left left' before now =
-    (bytes : List ℕ) × Consumes left left' bytes × (new.taken ≡ old.taken + length bytes) × (new.taken ≤ max old.taken most_bytes) × (before ≤ now) × Rose before now
-    × (newlines (old.ahead ++ bytes) ≡ 0) × StandsFor new.ahead (old.ahead ++ bytes) × (new.line ≡ [])
-NextLine (Err TooLong) old new left left' before now =
-    (bytes : List ℕ) × (beyond : List ℕ) × Consumes left left' (bytes ++ beyond) × (new.taken ≡ old.taken + length bytes + length beyond) × (new.taken ≡ most_bytes + 1)
-    × (length beyond ≤ 1) × (now ≡ before) × (newlines (old.ahead ++ bytes) ≡ 0) × StandsFor new.ahead (old.ahead ++ bytes) × (new.line ≡ [])
+    (now ≡ before) × ((line : List ℕ) × TakesLine line old new left left' × (longest_line < length line)) × (new.line ≡ [])
+NextLine (Ok End) old new left left' before now = (now ≡ before) × FindsEnd old new left left'
+NextLine (Err Fault) old new left left' before now = (before ≤ now) × Rose before now × BreaksOff old new left left'
+NextLine (Err TooLong) old new left left' before now = (now ≡ before) × GoesBeyond old new left left'
 
 -- The same, said of the lines of all bytes, where they are observable: the returned line is the first of those that
 -- were ahead and left, and the others are ahead and left then.

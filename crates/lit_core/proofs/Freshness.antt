@@ -6,6 +6,7 @@ use Rattle.lit_core.specs.declared.literals.Lit.{Lit}
 use Rattle.lit_core.specs.Literals.{negated}
 use Rattle.lit_core.specs.Refutation.{IsOpenUnder, IsUnitUnder}
 use Rattle.lit_core.specs.Freshness.{IsConsistent, IsClosedUnder, IsFreshAt, Derives, AreOthersNegated, StaysOpenAt}
+use Rattle.lit_core.specs.Laws.{FreshAgainstFewer}
 use Rattle.lit_core.proofs.LiteralFacts.{decide_literal, decide_member, negated-negated, negated-differs, Contains-cons_cases, Contains-head, Contains-tail, nothing_in_none}
 use Rattle.lit_core.proofs.Closure.{closure}
 
@@ -109,3 +110,20 @@ fresh-from_stays_open clauses c l s =
       closed = record { no_false = λ d h no. s.no_conflict r.0 r.1 d h no; no_unit = λ d m h u. r.2 d m h u };
       opened = s.no_value r.0 r.1;
     }
+
+-- what is fresh against clauses is fresh against fewer of them: the same literals in force serve
+pub fresh-fewer : FreshAgainstFewer
+fresh-fewer more fewer c f among = (
+  f.0,
+  record {
+    member = f.1.member;
+    inforce = f.1.inforce;
+    consistent = f.1.consistent;
+    others = f.1.others;
+    closed = record {
+      no_false = λ d in_ h. f.1.closed.no_false d (among d in_) h;
+      no_unit = λ d l in_ h. f.1.closed.no_unit d l (among d in_) h;
+    };
+    opened = f.1.opened;
+  },
+)

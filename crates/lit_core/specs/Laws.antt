@@ -4,7 +4,7 @@ use Rattle.lit_core.specs.declared.literals.Lit.{Lit}
 use Rattle.lit_core.specs.Literals.{value_in}
 use Rattle.lit_core.specs.Truth.{IsSatisfied, IsSettled}
 use Rattle.lit_core.specs.Refutation.{FollowsInOrder}
-use Rattle.lit_core.specs.Freshness.{IsFreshAt, StaysOpenAt}
+use Rattle.lit_core.specs.Freshness.{FreshAgainst, IsFreshAt, StaysOpenAt}
 
 -- a clause that follows from clauses in order is true wherever they are
 abbrev pub RefutationIsSound : Type 0
@@ -17,3 +17,7 @@ FreshnessIsClosure = (clauses : List (List Lit)) (c : List Lit) (l : Lit) → (I
 -- where no clause is false or unit, a clause that would be unit is fresh
 abbrev pub QuietLeavesFresh : Type 0
 QuietLeavesFresh = (a : List (Option Bool)) (clauses : List (List Lit)) (c : List Lit) (l : Lit) → All (IsSettled a) clauses → Contains c l → value_in a l ≡ None → All (λ m. (m ≡ l) ⊎ (value_in a m ≡ Some false)) c → IsFreshAt clauses c l
+
+-- a clause that is fresh against clauses is fresh against any of them
+abbrev pub FreshAgainstFewer : Type 0
+FreshAgainstFewer = (more fewer : List (List Lit)) (c : List Lit) → FreshAgainst more c → ((d : List Lit) → Contains fewer d → Contains more d) → FreshAgainst fewer c

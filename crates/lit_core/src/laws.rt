@@ -1,5 +1,5 @@
 //! Laws of the definitions in `specs/`: each is the contract of a function that does nothing.
-ghost use Rattle.lit_core.specs.Laws.{RefutationIsSound, FreshnessIsClosure, QuietLeavesFresh};
+ghost use Rattle.lit_core.specs.Laws.{RefutationIsSound, FreshnessIsClosure, QuietLeavesFresh, FreshAgainstFewer};
 
 /// What follows from clauses in order holds wherever those clauses hold.
 pub fn refutation_is_sound()
@@ -16,4 +16,9 @@ pub fn freshness_is_closure()
 /// is unassigned is fresh.
 pub fn quiet_leaves_fresh()
     ensures { QuietLeavesFresh }
+{}
+
+/// What is fresh against clauses is fresh against fewer of them.
+pub fn fresh_against_fewer()
+    ensures { FreshAgainstFewer }
 {}

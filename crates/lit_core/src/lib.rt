@@ -6,12 +6,12 @@ mod clauses;
 mod errors;
 mod laws;
 mod literals;
-#[cfg(test)]
-mod tests;
 mod valuations;
 
 pub use clauses::{Clause, ClauseList};
 pub use errors::Memory;
-pub use laws::{freshness_is_closure, quiet_leaves_fresh, refutation_is_sound};
+pub use laws::{
+    fresh_against_fewer, freshness_is_closure, quiet_leaves_fresh, refutation_is_sound,
+};
 pub use literals::{Lit, Var};
 pub use valuations::{Assignment, Values, satisfies};

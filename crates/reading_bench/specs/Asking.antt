@@ -1,4 +1,4 @@
--- What the words behind the program's name ask for.
+-- What the words after the program's name ask for.
 use Rattle.std.specs.Prelude.{◌≡◌, ℕ, List, [], ◌∷◌, map}
 use Rattle.std.specs.String.{string_bytes}
 use Rattle.std.specs.declared.string.String.{String}

@@ -30,7 +30,7 @@ IsRefused part.File src fault = KbReads src (Err fault)
 IsRefused part.Formula src fault = Reads put_formula FineFormula src (Err fault)
 IsRefused part.Term src fault = Reads put_term FineTerm src (Err fault)
 
--- which of the two; want of memory alone is free
+-- which of the two; running out of memory is always allowed
 abbrev pub IsFound : Part → List ℕ → Result (Unit {0}) KbError → Type 0
 IsFound p src (Ok u) = IsPart p src
 IsFound p src (Err errors.Memory) = Unit {0}

@@ -26,7 +26,7 @@ fn part_of(word: &str) -> Option<Part>
     }
 }
 
-/// The file and the part that the words behind the program's name ask for.
+/// The file and the part that the words after the program's name ask for.
 pub fn asked(words: &[String]) -> Option<(&str, Part)>
     ensures { MatchOption result (IsUsage words.now) (λ asked. IsAsked words.now asked.0.now asked.1) }
 {

@@ -31,7 +31,7 @@ fn refusal_line(alloc: Global, text: &[u8], fault: KbFault) -> Result<String, Al
     format!(in alloc; "{cause} line {line} place {place}\n")
 }
 
-/// Reads the text, and answers what is printed of it; nothing where there is no memory.
+/// Reads the text, and returns what is printed of it; nothing where there is no memory.
 pub fn printed(alloc: Global, part: Part, text: &[u8]) -> Option<String>
     ensures { IfSome result (λ line. IsPrinted part text.now (string_bytes line)) }
 {

@@ -16,6 +16,17 @@ pub mod TypedTrees
 pub mod TermPlaces
 pub mod TypedFiles
 pub mod TypesStage
+pub mod TheoryItems
+pub mod Elements
+pub mod DataEntries
+pub mod DataDomains
+pub mod DataFacts
+pub mod IntegerArguments
+pub mod DataStage
+pub mod DataAnswer
+pub mod ClampedBounds
+pub mod Sizes
+pub mod SizesStage
 pub mod StageExamples
 pub mod NamedViews
 pub mod FileViews

@@ -40,7 +40,7 @@ pub record IsHeader (n m : ℕ) (line : List ℕ) : Type 0 where
 
 -- the problem with these clauses behind its own
 abbrev pub with_clauses : ProblemState → List (List Lit) → ProblemState
-with_clauses p cs = record { atoms = p.atoms; vars = p.vars; gates = p.gates; clauses = p.clauses ++ cs; sums = p.sums; terms = p.terms; bounds = p.bounds }
+with_clauses p cs = record { atoms = p.atoms; vars = p.vars; gates = p.gates; clauses = p.clauses ++ cs; sums = p.sums; terms = p.terms; bounds = p.bounds; retired = p.retired }
 
 -- the line adds these clauses: none where it says nothing, or else its own
 abbrev pub AddsOfLine : ℕ → List ℕ → List (List Lit) → Type 0
@@ -63,7 +63,7 @@ pub record IsDimacs (lines : List (List ℕ)) (n : ℕ) (cs : List (List Lit)) :
 
 -- nothing but clauses is said
 abbrev pub HasClausesAlone : ProblemState → Type 0
-HasClausesAlone p = (p.gates ≡ []) × (p.sums ≡ []) × (p.bounds ≡ [])
+HasClausesAlone p = (p.gates ≡ []) × (p.sums ≡ []) × (p.terms ≡ []) × (p.bounds ≡ []) × (p.retired ≡ [])
 
 -- the lines write the problem
 abbrev pub AreLinesOf : List (List ℕ) → ProblemState → Type 0

@@ -1,5 +1,6 @@
 //! The solver that is measured.
-ghost use Rattle.std.specs.Prelude.{◌≡◌, [], IfOk};
+ghost use Rattle.std.specs.Prelude.{◌≡◌, IfOk};
+ghost use Rattle.search_bench.specs.Dimacs.{HasClausesAlone};
 
 use clause_learning::Solver;
 use ground_core::{Memory, Problem};
@@ -7,9 +8,8 @@ use std::alloc::Global;
 
 /// A solver of the problem. Which one is measured is said here alone.
 pub fn solver_of(alloc: Global, problem: Problem) -> Result<Solver, Memory>
-    requires sums { problem.sums ≡ [] }
-    requires bounds { problem.bounds ≡ [] }
-    ensures { IfOk result (λ solver. solver.problem ≡ problem) }
+    requires alone { HasClausesAlone problem }
+    ensures { IfOk result (λ solver. solver.kept.problem ≡ problem) }
 {
     let mut solver = Solver::new(alloc)?;
     solver.add_problem(&problem)?;

@@ -1,5 +1,5 @@
 //! Decides problems, and prints the verdicts.
-ghost use Rattle.std.specs.Prelude.{◌≡◌, ◌++◌, IfOk, OnOk};
+ghost use Rattle.std.specs.Prelude.{◌≡◌, ◌++◌, [], IfOk, OnOk};
 ghost use Rattle.search_bench.specs.Verdicts.{value_text, model_text, IsVerdictOn};
 
 use ground_core::{Budget, Memory, Solve, Verdict};
@@ -37,7 +37,8 @@ fn text_of(alloc: Global, values: &Values) -> Result<Vec<u8>, Memory>
 
 /// What the solver answers, as it is printed.
 pub fn verdict<S: Solve>(alloc: Global, solver: &mut S) -> Result<Vec<u8>, Memory>
-    ensures { IfOk result (λ text. IsVerdictOn (S.problem solver.old) text.items) }
+    requires { (S.state solver.old).problem.retired ≡ [] }
+    ensures { IfOk result (λ text. IsVerdictOn (S.state solver.old).problem text.items) }
 {
     let mut budget = Budget {
         limit: None,

@@ -112,3 +112,39 @@ const REMOVED: [Act; 9] = [
 fn a_removed_clause_is_forgotten(rt: HostRuntime) -> Result<(), Fail> {
     play(&rt, rt.alloc(), 4, &REMOVED)
 }
+
+const REMOVED_LAST: [Act; 11] = [
+    Push(&[-1, 2], 2),
+    Push(&[-2, 3], 2),
+    Push(&[-3, 4], 2),
+    Remove(1),
+    Remove(2),
+    Push(&[-2, 4], 2),
+    Decide(1),
+    Propagate(true),
+    Found(2, 1, Some(0)),
+    Found(4, 1, Some(3)),
+    Untrue(3),
+];
+
+#[test]
+fn clauses_follow_where_the_last_were_removed(rt: HostRuntime) -> Result<(), Fail> {
+    play(&rt, rt.alloc(), 5, &REMOVED_LAST)
+}
+
+const ALL_REMOVED: [Act; 9] = [
+    Push(&[1, 2, 3], 3),
+    Push(&[-1], 1),
+    Remove(1),
+    Remove(0),
+    Push(&[-2], 1),
+    Push(&[2, 3], 2),
+    Propagate(true),
+    Trail(&[-2, 3]),
+    Found(3, 0, Some(3)),
+];
+
+#[test]
+fn an_emptied_store_is_used_again(rt: HostRuntime) -> Result<(), Fail> {
+    play(&rt, rt.alloc(), 4, &ALL_REMOVED)
+}

@@ -11,7 +11,7 @@ pub data Depth : Type 0 where
   outer : Depth
   under : Depth → Depth
 
--- the tokens behind the bracket that closes it
+-- the tokens after the bracket that closes it
 abbrev pub behind_close : Depth → List Tok → List Tok
 behind_close d [] = []
 behind_close d (tok_at (mark t.Open) p ∷ ts) = behind_close (under d) ts

@@ -1,4 +1,4 @@
--- What may come behind a tree.
+-- What may follow a tree.
 use Rattle.std.proofs.Common.{◌≡◌, Some, Bool, true, false, refl, ap, ◌∙◌}
 use Rattle.fo_syntax.specs.declared.terminal.Arrow.{Arrow}
 use Rattle.fo_syntax.specs.declared.terminal.Arrow.TheVariants as arrow
@@ -23,7 +23,7 @@ link_same arrow.Implies = refl
 link_same arrow.ImpliedBy = refl
 link_same arrow.Equivalent = refl
 
--- ---- a connective may come behind what does not end in a quantified formula
+-- ---- a connective may follow what does not end in a quantified formula
 
 connects_group : (c : Chain) (b : Bool) → connects (in_formula c) (formula_sort b) ≡ Some (need (settled c))
 connects_group c true = refl

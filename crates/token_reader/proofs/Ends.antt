@@ -1,4 +1,4 @@
--- What may stand behind a tree, and what it begins with.
+-- What may follow a tree, and what it begins with.
 use Rattle.std.proofs.Common.{◌≡◌, ℕ, List, [], ◌∷◌, true, refl, sym, ap, subst, ◌∙◌}
 use Rattle.fo_syntax.specs.declared.terminal.Comparison.{Comparison}
 use Rattle.fo_syntax.specs.declared.terminal.Adding.{Adding}
@@ -529,7 +529,7 @@ abbrev behind_args : List Tok → List Tok
 behind_args (tok_at (mark t.Open) p ∷ ts) = behind_close outer ts
 behind_args ts = ts
 
--- the tokens behind the first operand
+-- the tokens after the first operand
 abbrev behind_first : List Tok → List Tok
 behind_first (tok_at (word w) p ∷ ts) = behind_args ts
 behind_first (tok_at (mark t.Open) p ∷ ts) = behind_close outer ts

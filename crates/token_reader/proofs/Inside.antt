@@ -37,7 +37,7 @@ pub fails_in : {I J A B : Type 0} {stack : I → List Frame → List Frame} {put
 fails_in len Memory c h = tt
 fails_in len (Stuck place) c h = (h.0, broken_in h.0 c h.1, h.2)
 
--- stuck at rest, in front of which the tokens before make each text that is meant
+-- stuck at rest, where the tokens before it make each text that is meant
 pub fails_at : {J B : Type 0} (outer : J → List Frame → List Frame) (whole : B → List Tok → List Tok) (FineWhole : B → Type 0) (ts rest : List Tok) (len place : ℕ)
     (before : List Tok → List Tok) → ((x y : List Tok) → before (x ++ y) ≡ before x ++ y) → ts ≡ before rest
     → ((j : J) (σ : List Frame) → run (on (outer j σ)) ts ≡ stuck rest)
@@ -54,7 +54,7 @@ fails_at outer whole FineWhole ts rest len place before appends split runs viabl
   is,
 )
 
--- the same for what a reader of one token answers
+-- the same for what a reader of one token returns
 pub lacks_fails : {J B : Type 0} (outer : J → List Frame → List Frame) (whole : B → List Tok → List Tok) (FineWhole : B → Type 0) (s : Terminal) (ts us : List Tok) (len : ℕ) (e : ReadError)
     (before : List Tok → List Tok) → ((x y : List Tok) → before (x ++ y) ≡ before x ++ y) → ts ≡ before us
     → (((p : ℕ) (vs : List Tok) → us ≡ tok_at (mark s) p ∷ vs → ⊥) → (j : J) (σ : List Frame) → run (on (outer j σ)) ts ≡ stuck us)

@@ -1,4 +1,4 @@
--- What the readers of names, variables and numbers answer.
+-- What the readers of names, variables and numbers return.
 use Rattle.std.specs.Prelude.{◌≡◌, ℕ, List, ◌∷◌, Option, Some, None, Result, Ok, Err}
 use Rattle.std.specs.Borrow.{Bor}
 use Rattle.fo_syntax.specs.declared.stops.ReadError.{ReadError}
@@ -27,7 +27,7 @@ NameRead ts len (Ok p) = ts ≡ put_name (name_view p.0) (toks p.1.now)
 NameRead ts len (Err Memory) = Unit {0}
 NameRead ts len (Err (Stuck place)) = NoWord ts × (place ≡ place_of ts len)
 
--- variables, and the colon behind them
+-- variables, and the colon after them
 pub data Binder : Type 0 where
   binder : Vars → ℕ → Binder
 
@@ -45,7 +45,7 @@ abbrev pub BinderRead : List Tok → ℕ → Result (RawVars × ℕ × Bor (List
 BinderRead ts len (Ok p) = ts ≡ put_binder (binder (vars_view p.0) p.1) (toks p.2.now)
 BinderRead ts len (Err e) = Fails at_vars put_binder Whole ts len e
 
--- a number of instances in front of them
+-- a number of instances before them
 pub data Counted : Type 0 where
   counted : Number → Binder → Counted
 
@@ -59,7 +59,7 @@ abbrev pub NumberRead : List Tok → ℕ → Result (RawNumber × Bor (List Item
 NumberRead ts len (Ok p) = (ts ≡ put_number (number_view p.0) (toks p.1.now)) × FineNumber (number_view p.0) × ((σ : List Frame) → run (on (number_first ∷ σ)) ts ≡ run (on (vars_first ∷ σ)) (toks p.1.now))
 NumberRead ts len (Err e) = Fails at_number put_counted FineCounted ts len e
 
--- the comma in front of a variable, if there is one
+-- the comma before a variable, if there is one
 abbrev pub put_comma : Option ℕ → List Tok → List Tok
 put_comma None ts = ts
 put_comma (Some p) ts = sign t.Comma p ∷ ts
@@ -69,7 +69,7 @@ abbrev pub IsWord : List Tok → Type 0
 IsWord (tok_at (word w) p ∷ ts) = Unit {0}
 IsWord _ = ⊥
 
--- a further variable is ahead, behind a comma or not
+-- a further variable is ahead, after a comma or not
 abbrev pub VarAhead : List Tok → Option ℕ → List Tok → Type 0
 VarAhead ts None us = (ts ≡ us) × IsWord us
 VarAhead ts (Some p) us = ts ≡ sign t.Comma p ∷ us

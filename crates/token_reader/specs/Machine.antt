@@ -30,7 +30,7 @@ pub data Frame : Type 0 where
   -- an operand is needed: of a connective, or of an operator
   need : Chain → Frame
   want : Mode → Frame
-  -- one was read; behind its word arguments may come
+  -- one was read; after its word arguments may come
   done : Mode → Sort → Frame
   named : Mode → Sort → Frame
   args_first : Mode → Sort → Frame
@@ -41,7 +41,7 @@ pub data Frame : Type 0 where
   fold_colon : Mode → Frame
   brace : Frame
   colon : Frame
-  -- variables, and the number in front of them
+  -- variables, and the number before them
   vars_first : Frame
   vars_on : Frame
   vars_end : Frame
@@ -49,7 +49,7 @@ pub data Frame : Type 0 where
   type_close : Frame
   number_first : Frame
   number_last : Frame
-  -- a sentence's full stop, and whatever comes behind it or behind a term
+  -- a sentence's full stop, and whatever follows it or a term
   dot : Frame
   beyond : Frame
 
@@ -78,7 +78,7 @@ begin_operand (mark t.Some) c σ = Some (number_first ∷ colon ∷ need fresh �
 begin_operand (mark t.Open) c σ = Some (need unsettled ∷ paren (in_formula c) ∷ σ)
 begin_operand s c σ = begin_factor s (in_formula c) σ
 
--- an operator, a comparison or a connective behind an operand
+-- an operator, a comparison or a connective after an operand
 abbrev pub operates : Mode → Sort → Option Frame
 operates m formula = None
 operates m k = Some (want m)
@@ -199,7 +199,7 @@ step (number_first ∷ σ) s = begin_number s σ
 step (beyond ∷ σ) s = Some (beyond ∷ σ)
 step (f ∷ σ) s = expects f s σ
 
--- on the way, or stuck in front of these tokens, or at the end of a text
+-- on the way, or stuck before these tokens, or at the end of a text
 pub data State : Type 0 where
   on : List Frame → State
   stuck : List Tok → State

@@ -1,4 +1,4 @@
--- Where the machine stands behind a tree.
+-- Where the machine stands after a tree.
 use Rattle.std.specs.Prelude.{Bool, true, false}
 use Rattle.fo_syntax.specs.declared.terminal.Arrow.{Arrow}
 use Rattle.fo_syntax.specs.Trees.{Formula, alone, linked, Links, last, link, Or, one, or, And, single, and, Unary, not, every, some, prim, Prim, group, truth, atom, compare}

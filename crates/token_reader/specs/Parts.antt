@@ -1,4 +1,4 @@
--- What a part of the reader answers.
+-- What a part of the reader returns.
 use Rattle.std.specs.Prelude.{◌≡◌, ℕ, List, [], ◌∷◌, ◌++◌, None, Bool, false}
 use Rattle.fo_syntax.specs.declared.stops.ReadError.{ReadError}
 use Rattle.fo_syntax.specs.declared.stops.ReadError.TheVariants.{Memory, Stuck}
@@ -121,7 +121,7 @@ TermsOnly (tok_at (mark t.Some) p ∷ ts) = ⊥
 TermsOnly (tok_at (mark t.Open) p ∷ ts) = ⊥
 TermsOnly _ = Unit {0}
 
--- the text does not go on behind an operand
+-- the text does not go on after an operand
 abbrev pub Halts : Mode → Sort → List Tok → Type 0
 Halts m k [] = Unit {0}
 Halts m k (tok_at s p ∷ ts) = goes_on s m k ≡ None
@@ -141,7 +141,7 @@ Tight ands m k (tok_at (mark t.Or) p ∷ ts) = Unit {0}
 Tight unaries m k (tok_at (mark t.And) p ∷ ts) = Unit {0}
 Tight l m k (tok_at s p ∷ ts) = goes_on s m k ≡ None
 
--- what stands behind a tree that ends in a quantified formula, or not
+-- what follows a tree that ends in a quantified formula, or not
 pub record Behind (l : Level) (closed : Bool) (mode : Chain → Mode) (k : Sort) (ts : List Tok) : Type 0 where
   pub no_args : EndsFactor ts
   pub tight : (c : Chain) → Tight l (mode c) k ts

@@ -1,4 +1,4 @@
-//! Variables where they are bound, and the number of instances in front of them.
+//! Variables where they are bound, and the number of instances before them.
 ghost use Rattle.std.specs.Prelude.{◌≡◌, ◌∷◌, ◌≤◌, ◌<◌, length, map, IfOk, IfSome, IfNone};
 ghost use Rattle.fo_syntax.specs.Trees as tree;
 ghost use Rattle.fo_syntax.specs.Terminals.{tok, toks};
@@ -84,7 +84,7 @@ fn listed(
     Boxed::new(alloc, RawVars { first, more })
 }
 
-// Where the next variable begins, if one comes, with the comma in front of it.
+// Where the next variable begins, if one comes, with the comma before it.
 fn ahead<'a>(items: &'a [Item<'a>]) -> Option<(Option<usize>, &'a [Item<'a>])>
     ensures some { IfSome result (λ p. VarAhead (toks items.now) p.0 (toks p.1.now)) }
     ensures shorter { IfSome result (λ p. length p.1.now ≤ length items.now) }
@@ -98,7 +98,7 @@ fn ahead<'a>(items: &'a [Item<'a>]) -> Option<(Option<usize>, &'a [Item<'a>])>
     }
 }
 
-/// One or more variables and the colon behind them: its place.
+/// One or more variables and the colon after them: its place.
 pub fn binder<'a>(
     alloc: Global,
     items: &'a [Item<'a>],

@@ -1,4 +1,4 @@
-//! The next token, and what stands behind it.
+//! The next token, and what follows it.
 ghost use Rattle.std.specs.Prelude.{◌≡◌, ◌∷◌, [], ◌≤◌, ◌<◌, length, IfOk, IfErr, IfSome, IfNone, true, false};
 ghost use Rattle.fo_syntax.specs.Terminals.{tok, toks, sign, place_of};
 ghost use Rattle.token_reader.specs.Parts.{Connects, NoConnective, NoNot, EndsPrim, Lacks, NoAnd, NoOr, NoArrows, NoArrow, NoTimes, NoAdd, NoCompare, NoComma, NoSquare, NoClose, NoMinus, EndsFactor};
@@ -107,7 +107,7 @@ pub fn close_square<'a>(
     }
 }
 
-/// Behind `&`, if it comes: its place. Behind an open end no connective is looked for.
+/// The tokens after `&`, if it is next, and its place. After an open end no connective is looked for.
 pub fn after_and<'a>(closed: bool, items: &'a [Item<'a>]) -> Option<(usize, &'a [Item<'a>])>
     ensures some { IfSome result (λ p. toks items.now ≡ sign t.And p.0 ∷ toks p.1.now) }
     ensures closed { IfSome result (λ p. closed ≡ true) }
@@ -124,7 +124,7 @@ pub fn after_and<'a>(closed: bool, items: &'a [Item<'a>]) -> Option<(usize, &'a 
     }
 }
 
-/// Behind `|`, if it comes: its place. Behind an open end no connective is looked for.
+/// The tokens after `|`, if it is next, and its place. After an open end no connective is looked for.
 pub fn after_or<'a>(closed: bool, items: &'a [Item<'a>]) -> Option<(usize, &'a [Item<'a>])>
     ensures some { IfSome result (λ p. toks items.now ≡ sign t.Or p.0 ∷ toks p.1.now) }
     ensures closed { IfSome result (λ p. closed ≡ true) }
@@ -141,7 +141,7 @@ pub fn after_or<'a>(closed: bool, items: &'a [Item<'a>]) -> Option<(usize, &'a [
     }
 }
 
-/// Behind `*`, if it comes: its place.
+/// The tokens after `*`, if it is next, and its place.
 pub fn after_times<'a>(items: &'a [Item<'a>]) -> Option<(usize, &'a [Item<'a>])>
     ensures some { IfSome result (λ p. toks items.now ≡ sign t.Times p.0 ∷ toks p.1.now) }
     ensures shorter { IfSome result (λ p. length p.1.now < length items.now) }
@@ -154,7 +154,7 @@ pub fn after_times<'a>(items: &'a [Item<'a>]) -> Option<(usize, &'a [Item<'a>])>
     }
 }
 
-/// Behind a comma, if it comes: its place.
+/// The tokens after a comma, if it is next, and its place.
 pub fn after_comma<'a>(items: &'a [Item<'a>]) -> Option<(usize, &'a [Item<'a>])>
     ensures some { IfSome result (λ p. toks items.now ≡ sign t.Comma p.0 ∷ toks p.1.now) }
     ensures shorter { IfSome result (λ p. length p.1.now < length items.now) }
@@ -167,7 +167,7 @@ pub fn after_comma<'a>(items: &'a [Item<'a>]) -> Option<(usize, &'a [Item<'a>])>
     }
 }
 
-/// Behind an opening bracket, if it comes: its place.
+/// The tokens after an opening bracket, if it is next, and its place.
 pub fn after_open<'a>(items: &'a [Item<'a>]) -> Option<(usize, &'a [Item<'a>])>
     ensures some { IfSome result (λ p. toks items.now ≡ sign t.Open p.0 ∷ toks p.1.now) }
     ensures shorter { IfSome result (λ p. length p.1.now < length items.now) }
@@ -180,7 +180,7 @@ pub fn after_open<'a>(items: &'a [Item<'a>]) -> Option<(usize, &'a [Item<'a>])>
     }
 }
 
-/// Behind an opening square bracket, if it comes: its place.
+/// The tokens after an opening square bracket, if it is next, and its place.
 pub fn after_square<'a>(items: &'a [Item<'a>]) -> Option<(usize, &'a [Item<'a>])>
     ensures some { IfSome result (λ p. toks items.now ≡ sign t.OpenSquare p.0 ∷ toks p.1.now) }
     ensures shorter { IfSome result (λ p. length p.1.now < length items.now) }
@@ -193,7 +193,7 @@ pub fn after_square<'a>(items: &'a [Item<'a>]) -> Option<(usize, &'a [Item<'a>])
     }
 }
 
-/// Behind an arrow, if one comes.
+/// The tokens after an arrow, if it is next.
 pub fn after_arrow<'a>(
     closed: bool,
     items: &'a [Item<'a>],
@@ -213,7 +213,7 @@ pub fn after_arrow<'a>(
     }
 }
 
-/// Behind this arrow, if it comes.
+/// The tokens after this arrow, if it is next.
 pub fn after_same<'a>(
     arrow: Arrow,
     closed: bool,
@@ -232,7 +232,7 @@ pub fn after_same<'a>(
     }
 }
 
-/// Behind `+` or `-`, if one comes.
+/// The tokens after `+` or `-`, if it is next.
 pub fn after_add<'a>(items: &'a [Item<'a>]) -> Option<(Adding, usize, &'a [Item<'a>])>
     ensures some { IfSome result (λ p. toks items.now ≡ sign (t.Add p.0) p.1 ∷ toks p.2.now) }
     ensures shorter { IfSome result (λ p. length p.2.now < length items.now) }
@@ -245,7 +245,7 @@ pub fn after_add<'a>(items: &'a [Item<'a>]) -> Option<(Adding, usize, &'a [Item<
     }
 }
 
-/// Behind a comparison, if one comes.
+/// The tokens after a comparison, if it is next.
 pub fn after_compare<'a>(items: &'a [Item<'a>]) -> Option<(Comparison, usize, &'a [Item<'a>])>
     ensures some { IfSome result (λ p. toks items.now ≡ sign (t.Compare p.0) p.1 ∷ toks p.2.now) }
     ensures shorter { IfSome result (λ p. length p.2.now < length items.now) }
@@ -258,7 +258,7 @@ pub fn after_compare<'a>(items: &'a [Item<'a>]) -> Option<(Comparison, usize, &'
     }
 }
 
-/// Behind a closing bracket, if it comes: its place.
+/// The tokens after a closing bracket, if it is next, and its place.
 pub fn after_close<'a>(items: &'a [Item<'a>]) -> Option<(usize, &'a [Item<'a>])>
     ensures some { IfSome result (λ p. toks items.now ≡ sign t.Close p.0 ∷ toks p.1.now) }
     ensures shorter { IfSome result (λ p. length p.1.now < length items.now) }
@@ -271,7 +271,7 @@ pub fn after_close<'a>(items: &'a [Item<'a>]) -> Option<(usize, &'a [Item<'a>])>
     }
 }
 
-/// Behind an operand no arguments may come but those that it has.
+/// After an operand no arguments may follow but those that it has.
 pub fn sealed(items: &[Item<'_>]) -> Result<(), ReadError>
     ensures ok { IfOk result (λ u. EndsFactor (toks items.now)) }
     ensures err { IfErr result (λ e. Unsealed (toks items.now) e) }
@@ -292,7 +292,7 @@ pub fn place_at(items: &[Item<'_>], end: usize) -> usize
     }
 }
 
-/// Behind `-`, if it comes.
+/// The tokens after `-`, if it is next.
 pub fn after_minus<'a>(items: &'a [Item<'a>]) -> Option<(usize, &'a [Item<'a>])>
     ensures some { IfSome result (λ p. toks items.now ≡ sign (t.Add Minus) p.0 ∷ toks p.1.now) }
     ensures shorter { IfSome result (λ p. length p.1.now < length items.now) }
@@ -313,7 +313,7 @@ pub fn start<'a>(items: &'a [Item<'a>]) -> (usize, &'a [Item<'a>])
     (items.len(), items)
 }
 
-/// Behind `~`, if it comes: its place.
+/// The tokens after `~`, if it is next, and its place.
 pub fn after_not<'a>(items: &'a [Item<'a>]) -> Option<(usize, &'a [Item<'a>])>
     ensures some { IfSome result (λ p. toks items.now ≡ sign t.Not p.0 ∷ toks p.1.now) }
     ensures shorter { IfSome result (λ p. length p.1.now < length items.now) }

@@ -1,4 +1,4 @@
-use Rattle.std.proofs.Common.{◌≡◌, ◌≤◌, Bool, true, false, eqb, List, length, refl, sym, ap, ◌∙◌, subst, IsPermutation}
+use Rattle.std.proofs.Common.{◌≡◌, Bool, true, false, eqb, List, length, refl, sym, ap, ◌∙◌, subst, IsPermutation}
 use Rattle.std.specs.Bool.{beq}
 use Rattle.std.specs.List.{dedup, refill}
 use Rattle.std.proofs.lemmas.Bool.{and_parts, and_from, eqb-true, eq-eqb}

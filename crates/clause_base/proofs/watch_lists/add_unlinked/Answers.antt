@@ -1,6 +1,6 @@
-use Rattle.std.proofs.Common.{◌≡◌, ℕ, zero, suc, List, [], ◌∷◌, ◌++◌, Some, get_or, map, replicate, refl, sym, ap, ◌∙◌, slice_get, ◌-◌, take, arith, vec_len}
+use Rattle.std.proofs.Common.{◌≡◌, ℕ, zero, suc, List, [], ◌∷◌, ◌++◌, get_or, map, replicate, refl, ap, ◌∙◌, ◌-◌, take, arith, vec_len}
 use Rattle.std.proofs.lemmas.List.{map-append, take_all}
-use Rattle.clause_base.specs.ListsFields.{labels_of, links_of}
+use Rattle.clause_base.specs.ListsFields.{labels_of}
 use Rattle.clause_base.specs.declared.watch_lists.Node.{Node}
 use Rattle.clause_base.proofs.ListFacts.{slice_get-append_left}
 use Rattle.clause_base.proofs.watch_lists.add_unlinked.Goals as goal

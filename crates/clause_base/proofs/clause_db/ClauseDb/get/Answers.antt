@@ -1,9 +1,9 @@
-use Rattle.std.proofs.Common.{rules, ◌≡◌, ◌<◌, ◌≤◌, ◌+◌, ◌-◌, ℕ, suc, Some, List, Option, length, take, drop, refl, sym, ap, ◌∙◌, subst, arith, slice_get, map}
+use Rattle.std.proofs.Common.{◌≡◌, ◌≤◌, ◌+◌, ◌-◌, Some, List, length, take, drop, refl, sym, ap, ◌∙◌, arith, slice_get}
 use Rattle.std.proofs.lemmas.Option.{slice_get_read}
 use Rattle.std.proofs.lemmas.List.{length-map}
 use Rattle.lit_core.specs.declared.literals.Lit.{Lit}
 use Rattle.clause_base.specs.ClauseDbState.{ClauseDbState}
-use Rattle.clause_base.specs.ClauseDbFields.{clause_of, part_of, state_of}
+use Rattle.clause_base.specs.ClauseDbFields.{clause_of, part_of}
 use Rattle.clause_base.specs.declared.clause_db.Entry.{Entry}
 use Rattle.clause_base.specs.declared.clause_db.ClauseDb.TheInside.{Inside}
 use Rattle.clause_base.proofs.ArenaFacts.{held-at, part-is}
@@ -15,7 +15,7 @@ slice_bounds-result-end c =
     let e : Entry = c.index-entry.result.now in
     let len : length a.entries.items ≡ length c.args.self.now.clauses = sym (length-map a.entries.items (clause_of a.lits.items)) ∙ ap (λ (s : ClauseDbState). length s.clauses) c.self.view_is in
     let at : slice_get a.entries.items c.args.id ≡ Some e = slice_get_read a.entries.items (length a.entries.items) c.args.id e refl (omega arith) c.index-entry.ensures in
-    let le : e.start + (e.size - 1) ≤ length a.lits.items = c.self.invariant.within c.args.id e (e.size - 1) at (omega arith) in
+    let le : e.start + (e.size - 1) ≤ length a.lits.items = c.self.invariant.within c.args.id e at (e.size - 1) (omega arith) in
     let same : length c.deref.result.now ≡ length a.lits.items = ap length c.deref.ensures.value in
     omega arith
 

@@ -1,4 +1,4 @@
-use Rattle.std.proofs.Common.{◌≡◌, ℕ, ◌+◌, ◌++◌, ◌∷◌, [], Some, None, List, Option, length, map, refl, sym, ap, ◌∙◌, subst}
+use Rattle.std.proofs.Common.{◌≡◌, ◌+◌, ◌++◌, ◌∷◌, [], Some, None, List, Option, map, refl, ap, ◌∙◌, subst}
 use Rattle.lit_core.specs.declared.literals.Lit.{Lit}
 use Rattle.clause_base.specs.ClauseDbState.{ClauseDbState}
 use Rattle.clause_base.specs.ClauseDbFields.{clause_of}
@@ -13,8 +13,8 @@ invariant_of-self c =
     let a : Inside = c.self.inside in
     let more : List Lit = c.sort_once.new.buffer.items in
     let e : Entry = record { start = c.len-start.result; size = c.len.result + 1; first = 0; second = 0 } in
-    let b : Inside = record { lits = c.append.new.arena; entries = c.push_reserved.new.self; buffer = c.clear.new.self; spare = None } in
-    kept-push a b more e c.self.invariant (c.append.ensures.items ∙ ap (λ (xs : List Lit). a.lits.items ++ xs) c.as_slice.ensures) c.push_reserved.ensures.items c.clear.ensures.items refl (c.len-start.ensures ∙ a.lits.ok.0) (ap (λ n. n + 1) c.len.ensures.value)
+    let b : Inside = record { lits = c.append.new.arena; entries = c.push_reserved.new.self; buffer = c.clear.new.self; spare = None; live = c.len-self-inside.result } in
+    kept-push a b more e c.self.invariant (c.append.ensures.items ∙ ap (λ (xs : List Lit). a.lits.items ++ xs) c.as_slice.ensures) c.push_reserved.ensures.items c.clear.ensures.items refl (c.len-self-inside.ensures ∙ c.push_reserved.new.self.ok.0) (c.len-start.ensures ∙ a.lits.ok.0) (ap (λ n. n + 1) c.len.ensures.value)
 
 pub returns : goal.returns
 returns c =

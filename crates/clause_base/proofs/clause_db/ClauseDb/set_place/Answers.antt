@@ -1,4 +1,4 @@
-use Rattle.std.proofs.Common.{◌≡◌, ℕ, ◌<◌, ◌/◌, Some, List, Option, length, map, set, refl, sym, ap, ◌∙◌, arith, slice_get, get_or}
+use Rattle.std.proofs.Common.{◌≡◌, ℕ, ◌<◌, ◌/◌, Some, List, Option, length, refl, sym, ap, ◌∙◌, arith, slice_get, get_or}
 use Rattle.std.specs.Vec.{with_item}
 use Rattle.std.proofs.lemmas.Option.{slice_get_read}
 use Rattle.std.proofs.lemmas.List.{length-map}
@@ -8,7 +8,7 @@ use Rattle.clause_base.specs.ClauseDbState.{ClauseDbState}
 use Rattle.clause_base.specs.ClauseDbFields.{clause_of, spare_of, state_of}
 use Rattle.clause_base.specs.declared.clause_db.Entry.{Entry}
 use Rattle.clause_base.specs.declared.clause_db.ClauseDb.TheInside.{Inside}
-use Rattle.clause_base.proofs.ArenaFacts.{kept-set, same-part, room-more}
+use Rattle.clause_base.proofs.ArenaFacts.{kept-place, same-part, room-more}
 use Rattle.clause_base.proofs.clause_db.ClauseDb.set_place.Goals as goal
 
 entry-at : (a : Inside) (s : ClauseDbState) → state_of a ≡ s → (node : ℕ) → node / 2 < length s.clauses → (e : Entry) → e ≡ get_or a.entries.items (node / 2) e → slice_get a.entries.items (node / 2) ≡ Some e
@@ -21,9 +21,9 @@ invariant_of-self c =
     let a : Inside = c.self.inside in
     let e : Entry = c.index-entry.result.now in
     let f : Entry = c.moved.result in
-    let b : Inside = record { lits = a.lits; entries = with_item a.entries (c.args.node / 2) f; buffer = a.buffer; spare = a.spare } in
+    let b : Inside = record { lits = a.lits; entries = with_item a.entries (c.args.node / 2) f; buffer = a.buffer; spare = a.spare; live = a.live } in
     let at = entry-at a c.args.self.now c.self.view_is c.args.node (omega arith) e c.index-entry.ensures in
-    kept-set a b (c.args.node / 2) e f c.self.invariant at c.moved.ensures.0 (λ n is. sym c.moved.ensures.1 ∙ is) refl refl refl (λ n is. let r = c.self.invariant.room n is in room-more a b n r (omega arith) (omega arith) (omega arith) (omega arith) (omega arith))
+    kept-place a b (c.args.node / 2) e f c.self.invariant at c.moved.ensures.0 c.moved.ensures.1 refl refl refl refl (λ n is. let r = c.self.invariant.room n is in room-more a b n r (omega arith) (omega arith) (omega arith) (omega arith) (omega arith))
 
 pub returns : goal.returns
 returns c =

@@ -1,6 +1,6 @@
-use Rattle.std.proofs.Common.{◌≡◌, ℕ, ap, ◌∙◌, refl, arith, length}
+use Rattle.std.proofs.Common.{◌≡◌, ℕ, ap, ◌∙◌, refl, arith}
 use Rattle.clause_base.specs.ListsState.{ListsState, nodes_of}
-use Rattle.clause_base.specs.ListsFields.{IsKept, IsLinkage, linkage_of, listed_at, state_of}
+use Rattle.clause_base.specs.ListsFields.{IsKept, IsLinkage, linkage_of, listed_at}
 use Rattle.clause_base.specs.declared.watch_lists.LinkedLists.TheInside.{Inside}
 use Rattle.clause_base.proofs.ListsChange.{laws-of, kept-longer}
 use Rattle.clause_base.proofs.watch_lists.LinkedLists.add_lists.Goals as goal

@@ -1,11 +1,9 @@
-use Rattle.std.proofs.Common.{◌≡◌, ℕ, ◌<◌, ◌++◌, ◌∷◌, List, length, Contains, sym, ap, ◌∙◌, subst, arith, get_or, slice_get}
-use Rattle.std.proofs.lemmas.Option.{slice_get_read}
+use Rattle.std.proofs.Common.{◌≡◌, ℕ, ◌<◌, ◌++◌, ◌∷◌, List, length, Contains, sym, ap, ◌∙◌, subst, arith, get_or}
 use Rattle.std.proofs.lemmas.List.Elements.{Contains-append_right}
 use Rattle.lit_core.proofs.LiteralFacts.{Contains-head}
 use Rattle.clause_base.specs.Links.{node_of}
 use Rattle.clause_base.specs.ListsState.{ListsState, nodes_of}
 use Rattle.clause_base.specs.ListsFields.{linkage_of, links_of, state_of}
-use Rattle.clause_base.specs.declared.watch_lists.Node.{Node}
 use Rattle.clause_base.specs.declared.watch_lists.LinkedLists.TheInside.{Inside}
 use Rattle.clause_base.specs.ListsFields.{IsKept}
 use Rattle.clause_base.proofs.ListsChange.{laws-of, after-is, nodes-length, link-read}

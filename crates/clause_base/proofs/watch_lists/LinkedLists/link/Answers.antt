@@ -1,8 +1,8 @@
-use Rattle.std.proofs.Common.{◌≡◌, ℕ, ◌<◌, ◌+◌, ◌∷◌, ◌^◌, length, set, get_or, Contains, List, sym, ap, ◌∙◌, subst, refl, arith}
+use Rattle.std.proofs.Common.{◌≡◌, ℕ, ◌<◌, ◌+◌, ◌∷◌, ◌^◌, length, set, get_or, Contains, ap, ◌∙◌, subst, refl, arith}
 use Rattle.std.specs.Vec.{with_item}
 use Rattle.std.proofs.lemmas.List.{get_or_read, length-map, length-set}
 use Rattle.clause_base.specs.ListsState.{ListsState, nodes_of}
-use Rattle.clause_base.specs.ListsFields.{Linkage, IsKept, IsLinkage, linkage_of, links_of, listed_at, state_of}
+use Rattle.clause_base.specs.ListsFields.{IsKept, linkage_of, links_of, listed_at, state_of}
 use Rattle.clause_base.specs.declared.watch_lists.LinkedLists.TheInside.{Inside}
 use Rattle.clause_base.specs.declared.watch_lists.Node.{Node}
 use Rattle.clause_base.proofs.ListsChange.{laws-of, link-kept, link-sees, link-sees-other, nodes-length, heads-length, links-length}

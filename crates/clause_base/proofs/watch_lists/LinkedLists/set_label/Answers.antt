@@ -1,9 +1,9 @@
-use Rattle.std.proofs.Common.{◌≡◌, ◌<◌, ◌^◌, ℕ, List, length, map, set, refl, sym, ap, ◌∙◌, subst}
+use Rattle.std.proofs.Common.{◌≡◌, ℕ, List, map, set, sym, ap, ◌∙◌, subst}
 use Rattle.std.specs.Vec.{with_item}
 use Rattle.std.proofs.lemmas.List.{map-set, length-set}
 use Rattle.std.proofs.Math.Seq.{map-set_same}
 use Rattle.clause_base.specs.ListsState.{ListsState}
-use Rattle.clause_base.specs.ListsFields.{Linkage, IsKept, IsLinkage, labels_of, links_of, linkage_of, nodes_from, state_of}
+use Rattle.clause_base.specs.ListsFields.{IsKept, IsLinkage, labels_of, links_of, nodes_from, state_of}
 use Rattle.clause_base.specs.declared.watch_lists.Node.{Node}
 use Rattle.clause_base.specs.declared.watch_lists.LinkedLists.TheInside.{Inside}
 use Rattle.clause_base.proofs.ListsChange.{laws-of}

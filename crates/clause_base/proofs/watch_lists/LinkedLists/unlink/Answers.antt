@@ -5,11 +5,11 @@ use Rattle.std.proofs.lemmas.List.Elements.{Contains-append_left, Contains-appen
 use Rattle.lit_core.proofs.LiteralFacts.{Contains-head}
 use Rattle.clause_base.specs.Links.{last_of}
 use Rattle.clause_base.specs.ListsState.{ListsState, nodes_of}
-use Rattle.clause_base.specs.ListsFields.{Linkage, IsKept, IsLinkage, linkage_of, links_of, listed_at, state_of}
+use Rattle.clause_base.specs.ListsFields.{IsKept, linkage_of, links_of, state_of}
 use Rattle.clause_base.specs.declared.watch_lists.LinkedLists.TheInside.{Inside}
 use Rattle.clause_base.specs.declared.watch_lists.Node.{Node}
 use Rattle.clause_base.proofs.LinkFacts.{last-in}
-use Rattle.clause_base.proofs.ListsChange.{laws-of, Unlinks, unlinks-first, unlinks-later, nodes-length, heads-length, links-length, link-read}
+use Rattle.clause_base.proofs.ListsChange.{laws-of, Unlinks, unlinks-first, unlinks-later, heads-length, links-length, link-read}
 use Rattle.clause_base.proofs.watch_lists.LinkedLists.unlink.Goals as goal
 
 -- where the node stands, in the words of the fields

@@ -1,20 +1,23 @@
-use Rattle.std.proofs.Common.{◌≡◌, length, drop, ap, ◌∙◌, subst, All}
-use Rattle.std.proofs.lemmas.List.Elements.{All-drop}
-use Rattle.ground_core.specs.Problems.{ProblemState}
-use Rattle.ground_core.specs.Solving.{Entails}
-use Rattle.clause_learning.specs.declared.engine.Engine.{Engine}
+use Rattle.std.proofs.Common.{◌≡◌, refl, subst}
+use Rattle.clause_learning.specs.declared.keeper.Keeper.{Keeper}
+use Rattle.clause_learning.specs.Keeping.{kept_of}
 use Rattle.clause_learning.specs.SolverState.{SolverState}
-use Rattle.clause_learning.proofs.SolveFacts.{all-entailed}
+use Rattle.clause_learning.specs.GoingOn.{GoesOn, prefix-itself}
+use Rattle.clause_learning.proofs.KeeperFacts.{cores-prefix}
 use Rattle.clause_learning.proofs.SolverFacts.{solver-laws}
 use Rattle.clause_learning.proofs.solver.SolverSolve.solve.Goals as goal
 
-pub returns-clause-learns : goal.returns-clause-learns
-returns-clause-learns c =
-    let f : Engine = c.solve-verdict.new.self in
-    let same : f.problem ≡ c.args.self.now.problem = c.solve-verdict.ensures.problem ∙ ap (λ (s : SolverState). s.problem) c.self.view_is in
-    let all : All (Entails f.problem) f.learnt = all-entailed f.problem f.learnt f.ids.items f.store.clauses c.solve-verdict.ensures.resting.engine.knows in
-    let more : All (Entails f.problem) (drop (length c.args.self.now.learnt) f.learnt) = All-drop (Entails f.problem) (length c.args.self.now.learnt) f.learnt all in
-    subst (λ (p : ProblemState). All (Entails p) (drop (length c.args.self.now.learnt) f.learnt)) same more
+pub returns-clause-later : goal.returns-clause-later
+returns-clause-later c =
+    let a : Keeper = c.self.inside.keeper in
+    let b : Keeper = c.solve.new.self in
+    let goes : GoesOn (kept_of a) (kept_of b) = record {
+      learnt = c.solve.ensures.spends.prefix;
+      moments = (_, c.solve.ensures.spends.moments);
+      cores = cores-prefix a.index.cores.items b.index.cores.items c.solve.result c.solve.ensures.cores;
+      additions = prefix-itself (kept_of a).additions;
+    } in
+    subst (λ (s : SolverState). GoesOn s.kept (kept_of b)) c.self.view_is goes
 
 pub returns-clause-laws : goal.returns-clause-laws
-returns-clause-laws c = solver-laws (record { engine = c.solve-verdict.new.self }) c.solve-verdict.ensures.resting
+returns-clause-laws c = solver-laws (record { keeper = c.solve.new.self }) c.solve.ensures.keeper

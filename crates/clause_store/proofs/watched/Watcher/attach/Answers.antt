@@ -1,4 +1,4 @@
-use Rattle.std.proofs.Common.{◌≡◌, ℕ, ◌<◌, ◌≤◌, ◌+◌, ◌*◌, ◌^◌, ◌∷◌, length, set, inl, inr, refl, sym, ap, ◌∙◌, subst, arith, ⊎_elim, List}
+use Rattle.std.proofs.Common.{◌≡◌, ℕ, ◌≤◌, ◌+◌, ◌*◌, length, set, inl, inr, refl, sym, ap, ◌∙◌, subst, arith, ⊎_elim, List}
 use Rattle.std.proofs.lemmas.List.{length-set}
 use Rattle.clause_base.specs.ListsState.{ListsState, nodes_of}
 use Rattle.clause_store.specs.declared.watched.Watch.{Watch}

@@ -9,7 +9,7 @@ use Rattle.clause_base.specs.ListsState.{ListsState, HasLaws, nodes_of}
 use Rattle.clause_base.specs.StoreState.{Propagates}
 use Rattle.clause_store.specs.Watching.{code_of, store_of, HasWatch, IsWatcher}
 use Rattle.clause_store.specs.Visits.{CanMove, IsAt, Keeps, VisitGives}
-use Rattle.clause_store.proofs.NodeFacts.{code-fits, code-small, label-other, literal-within, same-node}
+use Rattle.clause_store.proofs.NodeFacts.{code-fits, code-small, label-other, literal-within}
 use Rattle.clause_store.proofs.MoveFacts.{Moves, moved, moved-first, moved-second, moved-label, moves, move-apart, move-watcher, move-same, move-keeps, move-done}
 use Rattle.clause_store.proofs.WalkFacts.{next-in-range}
 use Rattle.clause_store.proofs.watched.Watcher.move_watch.Goals as goal

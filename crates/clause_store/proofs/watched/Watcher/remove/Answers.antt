@@ -1,4 +1,4 @@
-use Rattle.std.proofs.Common.{◌≡◌, ◌<◌, ◌≤◌, ◌+◌, ◌*◌, length, List, Option, Some, None, set, refl, sym, subst, arith}
+use Rattle.std.proofs.Common.{◌≡◌, ◌≤◌, ◌+◌, ◌*◌, length, List, Option, Some, None, set, refl, sym, subst, arith}
 use Rattle.std.proofs.lemmas.List.{length-set}
 use Rattle.lit_core.specs.declared.literals.Lit.{Lit}
 use Rattle.clause_base.specs.ClauseDbState.{ClauseDbState}

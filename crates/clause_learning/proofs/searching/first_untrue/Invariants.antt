@@ -1,7 +1,0 @@
-use Rattle.std.proofs.Common.{take}
-use Rattle.clause_learning.specs.Searching.{AreTrue}
-use Rattle.clause_learning.proofs.searching.first_untrue.Given as goal
-
--- the assumptions so far are true
-abbrev pub invariant-loop-place : goal.invariant-loop-place
-invariant-loop-place l = AreTrue l.store.trail.values (take l.from l.assume) → AreTrue l.store.trail.values (take l.place l.assume)

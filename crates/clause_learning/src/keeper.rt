@@ -1,0 +1,117 @@
+//! A search engine with the cores that it found.
+ghost use Rattle.std.specs.Prelude.{◌≡◌, ◌≤◌, ◌<◌, ◌+◌, ℕ, [], length, IfOk, IfErr};
+ghost use Rattle.ground_core.specs.declared.solving.Halt.TheVariants as halt;
+ghost use Rattle.ground_core.specs.Problems.{AreLitsOf};
+ghost use Rattle.ground_core.specs.Solving.{Answers, HaltedAt, HasCoreWithin, IsBudgetOf, IsKnown, KeepsCores, Spends, counted};
+ghost use Rattle.clause_learning.specs.Keeping.{IsKeeper, IsMost, IsNewRefusal, IsNewKeeper, kept_of};
+
+use crate::core_index::CoreIndex;
+use ground_core::{Budget, Halt, Memory, Verdict};
+use lit_core::Lit;
+use search_engine::Engine;
+use std::alloc::Global;
+
+/// An engine, and the cores of its answers.
+#[derive(Drop)]
+pub struct Keeper {
+    pub alloc: Global,
+    pub engine: Engine,
+    pub index: CoreIndex,
+}
+
+/// How long the learnt list may become, which has so many clauses now; None where no number of 64
+/// bits limits it.
+fn most_of(known: usize, budget: &Budget) -> Option<u64>
+    requires { budget.now.spent ≤ known }
+    ensures { IsMost known budget.now result }
+{
+    match budget.limit {
+        Some(limit) => limit.checked_add(known as u64 - budget.spent),
+        None => None,
+    }
+}
+
+impl Keeper {
+    /// No variables, and nothing said.
+    pub fn new(alloc: Global) -> Result<Keeper, Memory>
+        ensures keeper { IfOk result IsKeeper }
+        ensures empty { IfOk result IsNewKeeper }
+    {
+        Ok(Keeper {
+            alloc,
+            engine: Engine::new(alloc)?,
+            index: CoreIndex::new(alloc),
+        })
+    }
+
+    /// Searches within the budget.
+    fn search(&mut self, assume: &[Lit], budget: &mut Budget) -> Result<Verdict, Halt>
+        requires keeper { IsKeeper self.old }
+        requires literals { AreLitsOf self.old.engine.problem.vars assume.now }
+        requires budget { IsBudgetOf self.old.engine.learnt budget.old }
+        ensures keeper { IsKeeper self.new }
+        ensures index { self.new.index ≡ self.old.index }
+        ensures verdict { IfOk result (Answers self.old.engine.problem assume.now) }
+        ensures halt { IfErr result (HaltedAt budget.new) }
+        ensures problem { self.new.engine.problem ≡ self.old.engine.problem }
+        ensures searches { self.new.engine.searches ≡ counted (self.old.engine.searches + 1) }
+        ensures spends { Spends (kept_of self.old) (kept_of self.new) budget.old budget.new }
+        ensures counted { length self.new.engine.learnt ≤ length self.old.engine.learnt + self.new.engine.conflicts }
+    {
+        let before = self.engine.learnt.len();
+        let verdict = self.engine.solve(assume, most_of(before, budget));
+        let after = self.engine.learnt.len();
+        budget.spent += (after - before) as u64;
+        verdict
+    }
+
+    /// Keeps the core of an answer.
+    fn keep(&mut self, verdict: Verdict) -> Result<Verdict, Halt>
+        requires keeper { IsKeeper self.old }
+        requires new { IsNewRefusal self.old verdict }
+        ensures keeper { IsKeeper self.new }
+        ensures engine { self.new.engine ≡ self.old.engine }
+        ensures same { IfOk result (λ answer. answer ≡ verdict) }
+        ensures halt { IfErr result (λ stop. stop ≡ halt.Memory) }
+        ensures cores { KeepsCores self.old.index.cores.items result self.new.index.cores.items }
+    {
+        match verdict {
+            Verdict::Sat(values) => Ok(Verdict::Sat(values)),
+            Verdict::Unsat(core) => match self.index.keep(self.alloc, core.as_slice()) {
+                Ok(()) => Ok(Verdict::Unsat(core)),
+                Err(_) => Err(Halt::Memory),
+            },
+        }
+    }
+
+    /// Answers from a kept core where one is contained in the assumptions, and searches where none is.
+    pub fn solve(&mut self, assume: &[Lit], budget: &mut Budget) -> Result<Verdict, Halt>
+        requires keeper { IsKeeper self.old }
+        requires literals { AreLitsOf self.old.engine.problem.vars assume.now }
+        requires budget { IsBudgetOf self.old.engine.learnt budget.old }
+        ensures keeper { IsKeeper self.new }
+        ensures verdict { IfOk result (Answers self.old.engine.problem assume.now) }
+        ensures halt { IfErr result (HaltedAt budget.new) }
+        ensures problem { self.new.engine.problem ≡ self.old.engine.problem }
+        ensures searches { self.new.engine.searches ≡ counted (self.old.engine.searches + 1) }
+        ensures spends { Spends (kept_of self.old) (kept_of self.new) budget.old budget.new }
+        ensures cores { KeepsCores self.old.index.cores.items result self.new.index.cores.items }
+        ensures decided { HasCoreWithin self.old.index.cores.items assume.now → IsKnown self.old.engine.learnt self.new.engine.learnt budget.old budget.new result }
+        ensures counted { length self.new.engine.learnt ≤ length self.old.engine.learnt + self.new.engine.conflicts }
+    {
+        match self.index.contained(self.alloc, assume) {
+            Ok(None) => match self.search(assume, budget) {
+                Ok(verdict) => self.keep(verdict),
+                Err(halt) => Err(halt),
+            },
+            Ok(Some(core)) => {
+                self.engine.count_search();
+                Ok(Verdict::Unsat(core))
+            }
+            Err(_) => {
+                self.engine.count_search();
+                Err(Halt::Memory)
+            }
+        }
+    }
+}

@@ -1,0 +1,254 @@
+-- What is said stays said: a problem that grows keeps its atoms, and its clauses stay the first ones.
+use Rattle.std.proofs.Common.{◌≡◌, Bool, true, false, List, [], ◌∷◌, ◌++◌, map, if◌then◌else◌, Option, Some, None, refl}
+use Rattle.std.proofs.Common.{sym, ap, ◌∙◌}
+use Rattle.std.specs.List.{list_all}
+use Rattle.std.proofs.lemmas.List.{append-nil, append_assoc}
+use Rattle.kb_logic.specs.declared.elements.Elem.{Elem}
+use Rattle.kb_logic.specs.declared.syntax.Cmp.{Cmp}
+use Rattle.kb_logic.specs.Structures.{choices}
+use Rattle.kb_logic.specs.Denotations.{Denotation}
+use Rattle.kb_logic.specs.Trees.{FormulaTree, verum, falsum, atom, comparison, negation, conjunction, disjunction}
+use Rattle.kb_logic.specs.Trees.{implication, equivalence, universal, existential, numbered, FormulaTrees, no_formulas}
+use Rattle.kb_logic.specs.Trees.{more_formulas}
+use Rattle.lit_core.specs.declared.literals.Lit.{Lit}
+use Rattle.ground_core.specs.Problems.{ProblemState}
+use Rattle.ground_core.specs.Growth.{next_lit, with_clause, clauses_of_same}
+use Rattle.term_values.specs.GroundBases.{GroundBase}
+use Rattle.term_values.specs.Rows.{rows_of_term, rows_of_terms}
+use Rattle.def_ground.specs.declared.answers.Answer.{Answer}
+use Rattle.def_ground.specs.declared.answers.Answer.TheVariants.{Constant, Literal}
+use Rattle.def_ground.specs.Answers.{GroundResult, gate_of}
+use Rattle.def_ground.specs.Cases.{Case, is_always, plain_answer, answer_or_cases, clauses_of_cases, cases_of}
+use Rattle.def_ground.specs.Comparisons.{guard_answers, comparison_case, comparison_of}
+use Rattle.def_ground.specs.Forms.{Parts, settles, with_answer, next_parts, no_more_parts, parts_each, close_parts}
+use Rattle.def_ground.specs.Forms.{opposite_result, signed_result, same_of, atom_case, form_of, parts_of}
+use Rattle.def_ground.specs.Sentences.{or_clause, parts_clause, assert_each, assert_of, assert_all, assert_any}
+use Rattle.def_ground.specs.Sentences.{assert_sentences}
+
+-- q has p's atoms, and p's clauses first
+pub record Keeps (p q : ProblemState) : Type 0 where
+  pub atoms : q.atoms ≡ p.atoms
+  pub more : List (List Lit)
+  pub clauses : q.clauses ≡ p.clauses ++ more
+
+pub keeps-all : (p : ProblemState) → Keeps p p
+keeps-all p = record { atoms = refl; more = []; clauses = sym (append-nil p.clauses) }
+
+pub keeps-on : (p q r : ProblemState) → Keeps p q → Keeps q r → Keeps p r
+keeps-on p q r h k = record {
+  atoms = k.atoms ∙ h.atoms;
+  more = h.more ++ k.more;
+  clauses = k.clauses ∙ ap (λ cs. cs ++ k.more) h.clauses ∙ append_assoc p.clauses h.more k.more;
+}
+
+keeps-clause : (p : ProblemState) (c : List Lit) → Keeps p (with_clause p c)
+keeps-clause p c = record { atoms = refl; more = c ∷ []; clauses = refl }
+
+gate-keeps : (all : Bool) (ls : List Lit) (p : ProblemState) → Keeps p (gate_of all ls p).problem
+gate-keeps all [] p = keeps-all p
+gate-keeps all (l ∷ []) p = keeps-all p
+gate-keeps all (l ∷ m ∷ ls) p = record { atoms = refl; more = []; clauses = sym (append-nil p.clauses) }
+
+close-keeps : (all s : Bool) (ls : List Lit) (p q : ProblemState) → Keeps p q
+    → Keeps p (close_parts all (record { settled = s; lits = ls; problem = q })).problem
+close-keeps all true ls p q h = h
+close-keeps all false ls p q h = keeps-on p q (gate_of all ls q).problem h (gate-keeps all ls q)
+
+next-keeps : (s : Bool) (ls : List Lit) (p q : ProblemState) (rest : Parts) → Keeps p q → Keeps q rest.problem
+    → Keeps p (if s then record { settled = true; lits = ls; problem = q } else rest).problem
+next-keeps true ls p q rest h k = h
+next-keeps false ls p q rest h k = keeps-on p q rest.problem h k
+
+answer-keeps : (o : Option Answer) (cs : List Case) (p : ProblemState) → Keeps p (answer_or_cases o cs p).problem
+answer-keeps (Some a) cs p = keeps-all p
+answer-keeps None cs p = record { atoms = refl; more = clauses_of_cases (next_lit p) cs; clauses = refl }
+
+cases-by : (a c : Bool) (o : Option Answer) (cs : List Case) (p : ProblemState)
+    → (let g : GroundResult = (if a then record { answer = Constant true; problem = p } else
+    (if c then record { answer = Constant false; problem = p } else answer_or_cases o cs p)) in Keeps p g.problem)
+cases-by true c o cs p = keeps-all p
+cases-by false true o cs p = keeps-all p
+cases-by false false o cs p = answer-keeps o cs p
+
+cases-keep : (cs : List Case) (p : ProblemState) → Keeps p (cases_of cs p).problem
+cases-keep cs p =
+    cases-by (list_all (λ (c : Case). is_always c.yes) cs) (list_all (λ (c : Case). is_always c.no) cs)
+    (plain_answer cs) cs p
+
+guards-keep : (bs : List (List Lit × Denotation)) (p : ProblemState) → Keeps p (guard_answers bs p).problem
+guards-keep [] p = keeps-all p
+guards-keep (r ∷ rs) p =
+    let q = (gate_of true r.0 p).problem in
+    keeps-on p q (guard_answers rs q).problem (gate-keeps true r.0 p) (guards-keep rs q)
+
+comparison-keeps : (c : Cmp) (xs ys : List (List Lit × Denotation)) (p : ProblemState)
+    → Keeps p (comparison_of c xs ys p).problem
+comparison-keeps c [] ys p = keeps-all p
+comparison-keeps c (x ∷ xs) ys p =
+    let s = guard_answers ys p in
+    let cs = map (comparison_case c s.rows) (x ∷ xs) in
+    keeps-on p s.problem (cases_of cs s.problem).problem (guards-keep ys p) (cases-keep cs s.problem)
+
+same-keeps : (x y : Answer) (p : ProblemState) → Keeps p (same_of x y p).problem
+same-keeps (Constant true) y p = keeps-all p
+same-keeps (Constant false) y p = keeps-all p
+same-keeps (Literal l) (Constant true) p = keeps-all p
+same-keeps (Literal l) (Constant false) p = keeps-all p
+same-keeps (Literal l) (Literal m) p = record { atoms = refl; more = clauses_of_same (next_lit p) l m; clauses = refl }
+
+each-keeps : (G : List Elem → ProblemState → GroundResult)
+    → ((a : List Elem) (p : ProblemState) → Keeps p (G a p).problem)
+    → (all : Bool) (xs : List (List Elem)) (ls : List Lit) (p : ProblemState)
+    → Keeps p (parts_each G all xs ls p).problem
+each-keeps G h all [] ls p = keeps-all p
+each-keeps G h all (a ∷ xs) ls p =
+    let g = G a p in
+    next-keeps (settles all g.answer) (with_answer g.answer ls) p g.problem
+    (parts_each G all xs (with_answer g.answer ls) g.problem) (h a p)
+    (each-keeps G h all xs (with_answer g.answer ls) g.problem)
+
+module _ (b : GroundBase) where
+  mutual
+    pub form-keeps : (f : FormulaTree) (e : List Elem) (p : ProblemState) → Keeps p (form_of b f e p).problem
+    form-keeps verum e p = keeps-all p
+    form-keeps falsum e p = keeps-all p
+    form-keeps (atom s ts) e p = cases-keep (map (atom_case b s) (rows_of_terms b ts e)) p
+    form-keeps (comparison c x y) e p = comparison-keeps c (rows_of_term b x e) (rows_of_term b y e) p
+    form-keeps (negation f) e p = form-keeps f e p
+    form-keeps (conjunction fs) e p =
+        let r = parts_of b true fs e [] p in close-keeps true r.settled r.lits p r.problem (parts-keep true fs e [] p)
+    form-keeps (disjunction fs) e p =
+        let r = parts_of b false fs e [] p in
+        close-keeps false r.settled r.lits p r.problem (parts-keep false fs e [] p)
+    form-keeps (implication f g) e p =
+        let x = form_of b f e p in
+        let a = opposite_result x in
+        let ls = with_answer a.answer [] in
+        let y = form_of b g e x.problem in
+        let last = next-keeps (settles false y.answer) (with_answer y.answer ls) x.problem y.problem
+        (no_more_parts (with_answer y.answer ls) y.problem) (form-keeps g e x.problem) (keeps-all y.problem) in
+        let both = next-keeps (settles false a.answer) ls p x.problem (next_parts false y ls no_more_parts)
+        (form-keeps f e p) last in
+        let r = next_parts false a [] (λ xs q. next_parts false (form_of b g e q) xs no_more_parts) in
+        close-keeps false r.settled r.lits p r.problem both
+    form-keeps (equivalence f g) e p =
+        let x = form_of b f e p in
+        let y = form_of b g e x.problem in
+        keeps-on p x.problem (same_of x.answer y.answer y.problem).problem (form-keeps f e p)
+        (keeps-on x.problem y.problem (same_of x.answer y.answer y.problem).problem (form-keeps g e x.problem)
+        (same-keeps x.answer y.answer y.problem))
+    form-keeps (universal bs f) e p =
+        let r = parts_each (λ a q. form_of b f (e ++ a) q) true (choices b.domains bs) [] p in
+        close-keeps true r.settled r.lits p r.problem
+        (each-keeps (λ a q. form_of b f (e ++ a) q) (λ a q. form-keeps f (e ++ a) q) true (choices b.domains bs) [] p)
+    form-keeps (existential bs f) e p =
+        let r = parts_each (λ a q. form_of b f (e ++ a) q) false (choices b.domains bs) [] p in
+        close-keeps false r.settled r.lits p r.problem
+        (each-keeps (λ a q. form_of b f (e ++ a) q) (λ a q. form-keeps f (e ++ a) q) false (choices b.domains bs) [] p)
+    form-keeps (numbered c n bs f) e p = keeps-all p
+
+    parts-keep : (all : Bool) (fs : FormulaTrees) (e : List Elem) (ls : List Lit) (p : ProblemState)
+        → Keeps p (parts_of b all fs e ls p).problem
+    parts-keep all no_formulas e ls p = keeps-all p
+    parts-keep all (more_formulas f fs) e ls p =
+        let g = form_of b f e p in
+        next-keeps (settles all g.answer) (with_answer g.answer ls) p g.problem
+        (parts_of b all fs e (with_answer g.answer ls) g.problem) (form-keeps f e p)
+        (parts-keep all fs e (with_answer g.answer ls) g.problem)
+
+-- assertions
+signed-keeps : (sign : Bool) (p : ProblemState) (g : GroundResult) → Keeps p g.problem
+    → Keeps p (signed_result sign g).problem
+signed-keeps true p g h = h
+signed-keeps false p g h = h
+
+unless-keeps : (s : Bool) (p q r : ProblemState) → Keeps p q → Keeps q r → Keeps p (if s then q else r)
+unless-keeps true p q r h k = h
+unless-keeps false p q r h k = keeps-on p q r h k
+
+or-keeps : (ls : List Lit) (p : ProblemState) (g : GroundResult) → Keeps p g.problem → Keeps p (or_clause ls g)
+or-keeps ls p g h =
+    unless-keeps (settles false g.answer) p g.problem (with_clause g.problem (with_answer g.answer ls)) h
+    (keeps-clause g.problem (with_answer g.answer ls))
+
+parts-clause-keeps : (p : ProblemState) (r : Parts) → Keeps p r.problem → Keeps p (parts_clause r)
+parts-clause-keeps p r h =
+    unless-keeps r.settled p r.problem (with_clause r.problem r.lits) h (keeps-clause r.problem r.lits)
+
+assert-each-keeps : (A : List Elem → ProblemState → ProblemState)
+    → ((a : List Elem) (p : ProblemState) → Keeps p (A a p)) → (xs : List (List Elem)) (p : ProblemState)
+    → Keeps p (assert_each A xs p)
+assert-each-keeps A h [] p = keeps-all p
+assert-each-keeps A h (a ∷ xs) p =
+    keeps-on p (A a p) (assert_each A xs (A a p)) (h a p) (assert-each-keeps A h xs (A a p))
+
+module _ (b : GroundBase) where
+  leaf-keeps : (sign : Bool) (f : FormulaTree) (e : List Elem) (ls : List Lit) (p : ProblemState)
+      → Keeps p (or_clause ls (signed_result sign (form_of b f e p)))
+  leaf-keeps sign f e ls p =
+      or-keeps ls p (signed_result sign (form_of b f e p)) (signed-keeps sign p (form_of b f e p) (form-keeps b f e p))
+
+  instances-keep : (sign : Bool) (f : FormulaTree) (e : List Elem) (ls : List Lit) (xs : List (List Elem))
+      (p : ProblemState)
+      → Keeps p (parts_clause (parts_each (λ a q. signed_result sign (form_of b f (e ++ a) q)) false xs ls p))
+  instances-keep sign f e ls xs p =
+      parts-clause-keeps p (parts_each (λ a q. signed_result sign (form_of b f (e ++ a) q)) false xs ls p)
+      (each-keeps (λ a q. signed_result sign (form_of b f (e ++ a) q))
+      (λ a q. signed-keeps sign q (form_of b f (e ++ a) q) (form-keeps b f (e ++ a) q)) false xs ls p)
+
+  mutual
+    assert-keeps : (sign : Bool) (f : FormulaTree) (e : List Elem) (ls : List Lit) (p : ProblemState)
+        → Keeps p (assert_of b sign f e ls p)
+    assert-keeps true verum e ls p = keeps-all p
+    assert-keeps false verum e ls p = keeps-clause p ls
+    assert-keeps true falsum e ls p = keeps-clause p ls
+    assert-keeps false falsum e ls p = keeps-all p
+    assert-keeps sign (atom s ts) e ls p = leaf-keeps sign (atom s ts) e ls p
+    assert-keeps sign (comparison c x y) e ls p = leaf-keeps sign (comparison c x y) e ls p
+    assert-keeps sign (equivalence f g) e ls p = leaf-keeps sign (equivalence f g) e ls p
+    assert-keeps sign (numbered c n bs f) e ls p = leaf-keeps sign (numbered c n bs f) e ls p
+    assert-keeps true (negation f) e ls p = assert-keeps false f e ls p
+    assert-keeps false (negation f) e ls p = assert-keeps true f e ls p
+    assert-keeps true (conjunction fs) e ls p = all-keep true fs e ls p
+    assert-keeps false (conjunction fs) e ls p = any-keep false fs e ls p
+    assert-keeps true (disjunction fs) e ls p = any-keep true fs e ls p
+    assert-keeps false (disjunction fs) e ls p = all-keep false fs e ls p
+    assert-keeps true (implication f g) e ls p =
+        let x = signed_result false (form_of b f e p) in
+        unless-keeps (settles false x.answer) p x.problem (assert_of b true g e (with_answer x.answer ls) x.problem)
+        (form-keeps b f e p) (assert-keeps true g e (with_answer x.answer ls) x.problem)
+    assert-keeps false (implication f g) e ls p =
+        let q = assert_of b true f e ls p in
+        keeps-on p q (assert_of b false g e ls q) (assert-keeps true f e ls p) (assert-keeps false g e ls q)
+    assert-keeps true (universal bs f) e ls p =
+        assert-each-keeps (λ a q. assert_of b true f (e ++ a) ls q) (λ a q. assert-keeps true f (e ++ a) ls q)
+        (choices b.domains bs) p
+    assert-keeps false (universal bs f) e ls p = instances-keep false f e ls (choices b.domains bs) p
+    assert-keeps true (existential bs f) e ls p = instances-keep true f e ls (choices b.domains bs) p
+    assert-keeps false (existential bs f) e ls p =
+        assert-each-keeps (λ a q. assert_of b false f (e ++ a) ls q) (λ a q. assert-keeps false f (e ++ a) ls q)
+        (choices b.domains bs) p
+
+    all-keep : (sign : Bool) (fs : FormulaTrees) (e : List Elem) (ls : List Lit) (p : ProblemState)
+        → Keeps p (assert_all b sign fs e ls p)
+    all-keep sign no_formulas e ls p = keeps-all p
+    all-keep sign (more_formulas f fs) e ls p =
+        let q = assert_of b sign f e ls p in
+        keeps-on p q (assert_all b sign fs e ls q) (assert-keeps sign f e ls p) (all-keep sign fs e ls q)
+
+    any-keep : (sign : Bool) (fs : FormulaTrees) (e : List Elem) (ls : List Lit) (p : ProblemState)
+        → Keeps p (assert_any b sign fs e ls p)
+    any-keep sign no_formulas e ls p = keeps-clause p ls
+    any-keep sign (more_formulas f no_formulas) e ls p = assert-keeps sign f e ls p
+    any-keep sign (more_formulas f (more_formulas g fs)) e ls p =
+        let x = signed_result sign (form_of b f e p) in
+        unless-keeps (settles false x.answer) p x.problem
+        (assert_any b sign (more_formulas g fs) e (with_answer x.answer ls) x.problem)
+        (signed-keeps sign p (form_of b f e p) (form-keeps b f e p))
+        (any-keep sign (more_formulas g fs) e (with_answer x.answer ls) x.problem)
+
+  pub sentences-keep : (fs : List FormulaTree) (p : ProblemState) → Keeps p (assert_sentences b fs p)
+  sentences-keep [] p = keeps-all p
+  sentences-keep (f ∷ fs) p =
+      let q = assert_of b true f [] [] p in
+      keeps-on p q (assert_sentences b fs q) (assert-keeps true f [] [] p) (sentences-keep fs q)

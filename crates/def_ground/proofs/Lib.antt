@@ -1,0 +1,13 @@
+pub mod Growing
+pub mod CaseLaws
+pub mod FormLaws
+pub mod LeafLaws
+pub mod Leaves
+pub mod AssertLaws
+pub mod SentenceLaws
+pub mod TypedForms
+pub mod StartLaws
+pub mod KeepLaws
+pub mod ProblemLaws
+pub mod Counting
+pub mod FewLaws

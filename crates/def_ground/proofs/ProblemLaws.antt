@@ -1,0 +1,166 @@
+-- The problem of a theory: its valuations are the models that extend the data.
+use Rattle.std.proofs.Common.{◌≡◌, ℕ, zero, suc, ◌<◌, ◌≤◌, get_or, Bool, true, false, List, [], ◌∷◌, length, IsTrue}
+use Rattle.std.proofs.Common.{refl, sym, subst, ◌∙◌, arith}
+use Rattle.std.specs.List.{list_all, AllByRecursion}
+use Rattle.std.proofs.lemmas.Bool.{and_parts, and_from}
+use Rattle.std.proofs.lemmas.List.{length-map}
+use Rattle.std.proofs.lemmas.Option.{slice_get-get_or}
+use Rattle.kb_logic.specs.declared.structures.Structure.{Structure}
+use Rattle.kb_logic.specs.Trees.{FormulaTree}
+use Rattle.kb_logic.specs.Meaning.{truth_of}
+use Rattle.kb_logic.specs.Models.{GroundAtom, AtomHolds, ModelOfDefinition}
+use Rattle.kb_logic.specs.KnownAtoms.{ExtendsData, atoms_over}
+use Rattle.kb_logic.specs.Bases.{Base, IsModelUnder}
+use Rattle.partial_structures.specs.KnownAtoms.{value_at}
+use Rattle.ground_core.specs.Atoms.{ground_atoms}
+use Rattle.ground_core.specs.Meaning.{Satisfies}
+use Rattle.ground_core.specs.More.{Agree}
+use Rattle.term_values.specs.GroundBases.{GroundBase, structure_of}
+use Rattle.term_values.specs.KnownBases.{IsGroundBase, known_truth, base_of_data}
+use Rattle.term_values.proofs.StructureAtoms.{atom-true}
+use Rattle.term_values.proofs.StructureLaws.{structure-is, structure-same, one-value-each, valuation-of}
+use Rattle.term_values.proofs.KnownLaws.{ground-base, known-extends, extends-known}
+use Rattle.def_ground.specs.Problems.{fact_of, start_problem, problem_of}
+use Rattle.def_ground.specs.Meanings.{AssertsMore, HasRoom}
+use Rattle.def_ground.specs.Groundings.{IsGroundTheory, IsGroundingOf, ProblemIsRight}
+use Rattle.def_ground.specs.GroundForms.{IsGroundForm, HasNoCounting}
+use Rattle.kb_logic.specs.Typing.{IsTypedOver, IsIntegerIn}
+use Rattle.def_ground.proofs.TypedForms.{ground-form}
+use Rattle.def_ground.proofs.SentenceLaws.{sentences-said}
+use Rattle.def_ground.proofs.StartLaws.{atoms-length, start-fine, start-room, start-atoms, start-satisfied}
+use Rattle.def_ground.proofs.StartLaws.{fact-in-start}
+use Rattle.def_ground.proofs.KeepLaws.{Keeps, sentences-keep}
+use Rattle.kb_logic.proofs.Has.{Has, has_left, contains_from}
+
+all-one : (p : FormulaTree → Bool) (fs : List FormulaTree) → list_all p fs ≡ true
+    → AllByRecursion (λ f. IsTrue (p f)) fs
+all-one p [] h = tt
+all-one p (f ∷ fs) h = let both = and_parts (p f) (list_all p fs) h in (both.0, all-one p fs both.1)
+
+one-all : (p : FormulaTree → Bool) (fs : List FormulaTree) → AllByRecursion (λ f. IsTrue (p f)) fs
+    → list_all p fs ≡ true
+one-all p [] h = refl
+one-all p (f ∷ fs) h = and_from (p f) (list_all p fs) h.0 (one-all p fs h.1)
+
+same-bits : (a c : Bool) → (a ≡ true → c ≡ true) → (c ≡ true → a ≡ true) → a ≡ c
+same-bits true c f g = sym (f refl)
+same-bits false true f g = g refl
+same-bits false false f g = refl
+
+all-ground : (base : Base) (theory : IsGroundTheory base) (fs : List FormulaTree)
+    → AllByRecursion (λ f. IsTypedOver base.vocabulary base.known.domains f []) fs → AllByRecursion HasNoCounting fs
+    → AllByRecursion (IsGroundForm (base_of_data base.vocabulary base.known)) fs
+all-ground base theory [] h k = tt
+all-ground base theory (f ∷ fs) h k = (
+  ground-form (base_of_data base.vocabulary base.known)
+      (IsIntegerIn base.known.domains) f [] h.0 k.0,
+  all-ground base theory fs h.1 k.1,
+)
+
+module _ (base : Base) (theory : IsGroundTheory base) where
+  abbrev b : GroundBase
+  b = base_of_data base.vocabulary base.known
+
+  abbrev known-size : length (base_of_data base.vocabulary base.known).known ≤ length
+      (ground_atoms base.vocabulary.symbols base.known.domains)
+  known-size =
+      let all = atoms-length base.vocabulary.symbols base.known.domains in
+      let mapped = length-map (atoms_over base.vocabulary.symbols base.known.domains)
+      (λ a. known_truth (value_at base.known a)) in
+      omega (arith, all, mapped)
+
+  is : IsGroundBase (base_of_data base.vocabulary base.known)
+  is = ground-base base.vocabulary base.known theory.known (λ k. true)
+
+  room : HasRoom (base_of_data base.vocabulary base.known) (start_problem (base_of_data base.vocabulary base.known))
+  room = start-room (base_of_data base.vocabulary base.known) is
+
+  asserts : AssertsMore (start_problem (base_of_data base.vocabulary base.known))
+      (problem_of (base_of_data base.vocabulary base.known) base.theory.sentences)
+      (λ v. list_all (λ f. truth_of
+      (structure_of (base_of_data base.vocabulary base.known) v) f []) base.theory.sentences)
+  asserts =
+      sentences-said (base_of_data base.vocabulary base.known) base.theory.sentences
+      (start_problem (base_of_data base.vocabulary base.known))
+      (start-fine (base_of_data base.vocabulary base.known) is known-size)
+      (start-atoms (base_of_data base.vocabulary base.known) is) room
+      (all-ground base theory base.theory.sentences theory.typed theory.plain)
+
+  -- one variable of an atom in two valuations with one structure
+  same-at : (v w : ℕ → Bool)
+      → structure_of (base_of_data base.vocabulary base.known) v ≡ structure_of
+      (base_of_data base.vocabulary base.known) w
+      → Agree (length (ground_atoms base.vocabulary.symbols base.known.domains)) v w
+  same-at v w same zero low high = absurd (omega (arith, low))
+  same-at v w same (suc n) low high =
+      let all = atoms-length base.vocabulary.symbols base.known.domains in
+      let atoms = atoms_over base.vocabulary.symbols base.known.domains in
+      let a = first-atom atoms n (omega (arith, all, high)) in
+      let at = slice_get-get_or atoms n a (omega (arith, all, high)) in
+      let x = atom-true (base_of_data base.vocabulary base.known) is v n (get_or atoms n a) at in
+      let y = atom-true (base_of_data base.vocabulary base.known) is w n (get_or atoms n a) at in
+      same-bits (v (suc n)) (w (suc n))
+      (λ h. y.0 (subst (λ m. AtomHolds m (get_or atoms n a)) same (x.1 h)))
+      (λ h. x.0 (subst (λ m. AtomHolds m (get_or atoms n a)) (sym same) (y.1 h)))
+    where
+      first-atom : (as' : List GroundAtom) (j : ℕ) → j < length as' → GroundAtom
+      first-atom [] j h = absurd (omega (arith, h))
+      first-atom (x ∷ as') j h = x
+
+  model-gives : (m : Structure) → IsModelUnder base [] m
+      → (v : ℕ → Bool) × Satisfies (problem_of (base_of_data base.vocabulary base.known) base.theory.sentences) v
+      × (structure_of (base_of_data base.vocabulary base.known) v ≡ m)
+  model-gives m model =
+      let gb = base_of_data base.vocabulary base.known in
+      let v = valuation-of gb m in
+      let same : structure_of gb v ≡ m = structure-same gb is m model.structure model.extends.domains in
+      let known = extends-known base.vocabulary base.known theory.known v
+      (subst (λ n. ExtendsData n base.known) (sym same) model.extends) in
+      let start = start-satisfied gb is v
+      (record { one = one-value-each gb is m model.structure model.extends.domains; known = known }) in
+      let true-in = one-all (λ f. truth_of (structure_of gb v) f []) base.theory.sentences
+      (subst (λ n. AllByRecursion (λ f. IsTrue (truth_of n f [])) base.theory.sentences)
+      (sym same) model.theory.sentences) in
+      let w = asserts.extends v start true-in in
+      (w.0, w.2, sym (room.same v w.0 w.1) ∙ same)
+
+  valuation-gives : (v : ℕ → Bool)
+      → Satisfies (problem_of (base_of_data base.vocabulary base.known) base.theory.sentences) v
+      → IsModelUnder base [] (structure_of (base_of_data base.vocabulary base.known) v)
+  valuation-gives v s =
+      let gb = base_of_data base.vocabulary base.known in
+      let both = asserts.gives v s in
+      let over = start-atoms gb is v both.0 in
+      record {
+        structure = structure-is gb is v over.one;
+        extends = known-extends base.vocabulary base.known theory.known v over.known;
+        theory = record {
+          sentences = all-one (λ f. truth_of (structure_of gb v) f []) base.theory.sentences both.1;
+          definitions =
+              subst (λ ds. AllByRecursion (ModelOfDefinition base.vocabulary (structure_of gb v)) ds)
+              (sym theory.definitions) tt;
+        };
+        chosen = tt;
+      }
+
+  keeps : Keeps (start_problem (base_of_data base.vocabulary base.known))
+      (problem_of (base_of_data base.vocabulary base.known) base.theory.sentences)
+  keeps =
+      sentences-keep (base_of_data base.vocabulary base.known) base.theory.sentences
+      (start_problem (base_of_data base.vocabulary base.known))
+
+  pub problem-right : IsGroundingOf base (problem_of (base_of_data base.vocabulary base.known) base.theory.sentences)
+  problem-right = record {
+    atoms = keeps.atoms;
+    facts = λ n x known.
+        let gb = base_of_data base.vocabulary base.known in
+        contains_from (problem_of gb base.theory.sentences).clauses (fact_of n x ∷ [])
+        (subst (λ cs. Has cs (fact_of n x ∷ [])) (sym keeps.clauses)
+        (has_left (start_problem gb).clauses keeps.more (fact_of n x ∷ []) (fact-in-start gb is n x known)));
+    extends = model-gives;
+    unique = λ v w s t same. asserts.unique v w s t (same-at v w same);
+    gives = valuation-gives;
+  }
+
+pub problem-is-right : ProblemIsRight
+problem-is-right base theory = problem-right base theory

@@ -1,0 +1,77 @@
+-- Ground problems worked out by hand.
+use Rattle.std.specs.Prelude.{◌≡◌, ℕ, pos, List, [], ◌∷◌, true, false, Some, None}
+use Rattle.kb_logic.specs.declared.elements.Elem.TheVariants.{Named, Num}
+use Rattle.kb_logic.specs.declared.syntax.Cmp.TheVariants as cmp
+use Rattle.kb_logic.specs.Trees.{variable, application, no_terms, more_terms, FormulaTree, atom, comparison}
+use Rattle.kb_logic.specs.Trees.{negation}
+use Rattle.kb_logic.specs.Trees.{conjunction, disjunction, universal, no_formulas, more_formulas}
+use Rattle.lit_core.specs.declared.literals.Lit.{Lit}
+use Rattle.term_values.specs.GroundBases.{GroundBase}
+use Rattle.def_ground.specs.Problems.{fact_of, problem_of}
+
+-- the literal that a variable is true, or that it is false
+abbrev yes_ : ℕ → Lit
+yes_ n = fact_of n true
+
+abbrev no_ : ℕ → Lit
+no_ n = fact_of n false
+
+-- predicates P and Q over the type {a; b}; P(a) is known to be true and P(b) to be false
+abbrev predicates : GroundBase
+predicates = record {
+  vocabulary =
+      record {
+        name = [];
+        types = [];
+        symbols = record { name = []; args = 0 ∷ []; value = None }
+            ∷ record { name = []; args = 0 ∷ []; value = None } ∷ [];
+      };
+  domains = (Named (97 ∷ []) ∷ Named (98 ∷ []) ∷ []) ∷ [];
+  known = Some true ∷ Some false ∷ None ∷ None ∷ [];
+}
+
+abbrev each : FormulaTree → FormulaTree
+each f = universal (record { name = []; ty = 0 } ∷ []) f
+
+abbrev holds : ℕ → FormulaTree
+holds s = atom s (more_terms (variable 0) no_terms)
+
+-- each element has exactly one of P and Q
+abbrev one_of_both : List FormulaTree
+one_of_both =
+    each (disjunction (more_formulas (holds 0) (more_formulas (holds 1) no_formulas)))
+    ∷ each (negation (conjunction (more_formulas (holds 0) (more_formulas (holds 1) no_formulas)))) ∷ []
+
+-- constants c and d of the type {1; 2}
+abbrev constants : GroundBase
+constants = record {
+  vocabulary =
+      record {
+        name = [];
+        types = [];
+        symbols = record { name = []; args = []; value = Some 0 }
+            ∷ record { name = []; args = []; value = Some 0 } ∷ [];
+      };
+  domains = (Num (pos 1) ∷ Num (pos 2) ∷ []) ∷ [];
+  known = None ∷ None ∷ None ∷ None ∷ [];
+}
+
+-- c is less than d
+abbrev in_order : List FormulaTree
+in_order = comparison cmp.Lt (application 0 no_terms) (application 1 no_terms) ∷ []
+
+-- P(a), P(b), Q(a) and Q(b) are the variables 1 to 4: the facts, then Q(b) and not Q(a), with no gate.
+-- c = 1, c = 2, d = 1 and d = 2 are the variables 1 to 4 too: one value each, and one variable more for the comparison,
+-- which
+-- says for each value of c which values d has
+pub record ProblemsAsWorkedOut : Type 0 where
+  pub plain_vars : (problem_of predicates one_of_both).vars ≡ 4
+  pub plain_gates : (problem_of predicates one_of_both).gates ≡ []
+  pub plain_clauses :
+      (problem_of predicates one_of_both).clauses ≡ (yes_ 1 ∷ []) ∷ (no_ 2 ∷ []) ∷ (yes_ 4 ∷ []) ∷ (no_ 3 ∷ []) ∷ []
+  pub order_vars : (problem_of constants in_order).vars ≡ 5
+  pub order_gates : (problem_of constants in_order).gates ≡ []
+  pub order_clauses :
+      (problem_of constants in_order).clauses
+      ≡ (yes_ 1 ∷ yes_ 2 ∷ []) ∷ (no_ 1 ∷ no_ 2 ∷ []) ∷ (yes_ 3 ∷ yes_ 4 ∷ []) ∷ (no_ 3 ∷ no_ 4 ∷ [])
+      ∷ (no_ 5 ∷ no_ 1 ∷ yes_ 4 ∷ []) ∷ (yes_ 5 ∷ no_ 1 ∷ yes_ 3 ∷ []) ∷ (no_ 5 ∷ no_ 2 ∷ []) ∷ (yes_ 5 ∷ []) ∷ []

@@ -1,0 +1,11 @@
+pub mod Answers
+pub mod Cases
+pub mod Comparisons
+pub mod Forms
+pub mod Sentences
+pub mod Problems
+pub mod GroundForms
+pub mod Meanings
+pub mod Groundings
+pub mod Laws
+pub mod Examples

@@ -1,0 +1,42 @@
+-- What calls over a solver keep, one after another.
+use Rattle.std.specs.Prelude.{◌≡◌, ℕ, ◌+◌, ◌-◌, ◌*◌, ◌^◌, ◌<◌, ◌≤◌, length, IfSome, Contains, ◌⊎◌}
+use Rattle.lit_core.specs.declared.literals.Lit.{Lit}
+use Rattle.ground_core.specs.declared.solving.Budget.{Budget}
+use Rattle.ground_core.specs.Problems.{ProblemState}
+use Rattle.ground_core.specs.Growing.{Conserves}
+use Rattle.ground_core.specs.Solving.{SolveState, IsPrefix, counted}
+
+-- the limit stays, the lists grow at their ends, and what was spent rises by what was learnt, up to the limit
+pub record Keeps (old new : SolveState) (b c : Budget) : Type 0 where
+  pub limit : c.limit ≡ b.limit
+  pub rises : b.spent ≤ c.spent
+  pub learnt : IsPrefix old.learnt new.learnt
+  pub growth : length new.learnt ≡ length old.learnt + (c.spent - b.spent)
+  pub moments : IsPrefix old.moments new.moments
+  pub cores : IsPrefix old.cores new.cores
+  pub within : IfSome c.limit (λ most. c.spent ≤ most)
+
+-- so many searches were begun, none with more than so many free variables
+pub record Counts (top k : ℕ) (old new : SolveState) (b c : Budget) : Type 0 where
+  pub searches : new.searches ≡ counted (old.searches + k)
+  pub fewer : c.spent + k ≤ b.spent + k * 2 ^ top
+
+-- at most so many
+abbrev pub CountsUpTo : ℕ → ℕ → SolveState → SolveState → Budget → Budget → Type 0
+CountsUpTo top m old new b c = (k : ℕ) × (k ≤ m) × Counts top k old new b c
+
+-- nothing was added, and nothing retired
+pub record Stays (old new : SolveState) : Type 0 where
+  pub problem : new.problem ≡ old.problem
+  pub additions : new.additions ≡ old.additions
+  pub free : new.free ≡ old.free
+
+-- a call begins at most m searches, and spends less than they could
+pub record Costs (m : ℕ) (old new : SolveState) (b c : Budget) : Type 0 where
+  pub searches : (k : ℕ) × (k ≤ m) × (new.searches ≡ counted (old.searches + k))
+  pub spent : c.spent - b.spent < m * 2 ^ (old.free + m)
+
+-- the problem grew by additions, and only selectors of these were retired
+pub record GrowsByAdditions (p q : ProblemState) : Type 0 where
+  pub conserves : Conserves p q
+  pub retired : (l : Lit) → Contains q.retired l → Contains p.retired l ⊎ (p.vars < l.var.0)

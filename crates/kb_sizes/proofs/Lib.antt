@@ -1,0 +1,6 @@
+mod Capping
+mod Fair
+mod Steps
+mod Widening
+mod Walks
+mod Noting

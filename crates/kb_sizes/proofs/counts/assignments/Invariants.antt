@@ -1,0 +1,9 @@
+use Rattle.std.proofs.Common.{◌≡◌, length, ◌*◌, drop}
+use Rattle.kb_logic.specs.Structures.{choices}
+use Rattle.reading_stages.specs.SizesStage.{capped}
+use Rattle.kb_sizes.proofs.Capping.{Same}
+use Rattle.kb_sizes.proofs.counts.assignments.Given as goal
+
+abbrev pub invariant-loop-bound : goal.invariant-loop-bound
+invariant-loop-bound l =
+    Same (l.count * length (choices l.domains (drop l.bound-index l.bounds))) (length (choices l.domains l.bounds)) × (l.count ≡ capped l.count)

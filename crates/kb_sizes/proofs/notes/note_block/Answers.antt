@@ -1,0 +1,14 @@
+use Rattle.std.proofs.Common.{◌∙◌, [], fold, ap}
+use Rattle.std.specs.Prelude.{zip}
+use Rattle.kb_logic.specs.Views.{term_view}
+use Rattle.reading_stages.specs.Sizes.{term_bounds}
+use Rattle.kb_sizes.specs.Notes.{wide_noted}
+use Rattle.kb_sizes.proofs.Noting.{terms_noted}
+use Rattle.kb_sizes.proofs.notes.note_block.Goals as goal
+
+pub returns : goal.returns
+returns c =
+    let o = c.args.earliest.now.first in
+    let ps = c.args.places.now in
+    let bounds = term_bounds c.args.vocab.now c.args.domains.now (term_view c.args.block.now.value) [] in
+    c.note_terms.ensures ∙ ap (λ ws. fold wide_noted o (zip ps ws)) (c.deref.ensures.value ∙ c.in_ok-wide.ensures) ∙ terms_noted o ps bounds

@@ -1,0 +1,9 @@
+use Rattle.std.proofs.Common.{◌∙◌, drop, fold, sym, ap}
+use Rattle.kb_sizes.specs.Notes.{wide_noted}
+use Rattle.kb_sizes.proofs.Noting.{nothing_right}
+use Rattle.kb_sizes.proofs.notes.note_terms.Goals as goal
+
+pub returns-then-i-wide : goal.returns-then-i-wide
+returns-then-i-wide c =
+    let i = c.loop-i.i in
+    ap (fold wide_noted c.loop-i.earliest.first) (sym (nothing_right (drop i c.args.places.now) c.args.wide.now i c.if-i-wide.true)) ∙ c.loop-i.invariant

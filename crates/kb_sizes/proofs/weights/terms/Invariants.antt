@@ -1,0 +1,12 @@
+use Rattle.std.proofs.Common.{◌≡◌, ◌+◌, drop, map}
+use Rattle.std.specs.Prelude.{sum_by}
+use Rattle.kb_logic.specs.Weights.{asked_occurrences}
+use Rattle.type_derivation.specs.TypedViews.{named_term_view}
+use Rattle.reading_stages.specs.SizesStage.{capped}
+use Rattle.kb_sizes.proofs.Capping.{Same}
+use Rattle.kb_sizes.proofs.weights.terms.Given as goal
+
+abbrev pub invariant-loop-one : goal.invariant-loop-one
+invariant-loop-one l =
+    Same (l.count + sum_by (asked_occurrences l.vocab l.domains) (map (λ t. t.term) (map named_term_view (drop l.one-index l.all)))) (sum_by (asked_occurrences l.vocab l.domains) (map (λ t. t.term) (map named_term_view l.all)))
+    × (l.count ≡ capped l.count)

@@ -1,0 +1,3 @@
+pub mod Ranges
+pub mod Notes
+pub mod Measures

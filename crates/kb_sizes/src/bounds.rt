@@ -1,0 +1,302 @@
+//! The static bounds of each term of a formula or a term, and which of them are too wide.
+//!
+//! A term is noted before its parts, since the places of terms are kept in this order; what is noted of it is known
+//! only after them, so its place in the list is taken first and set then.
+ghost use Rattle.std.specs.Prelude.{◌≡◌, ◌++◌, ◌||◌, not, pos, [], ◌∷◌, map, fold, slice_get, IfOk, OnOk};
+ghost use Rattle.kb_logic.specs.Bounds.{exactly, front_bounds};
+ghost use Rattle.kb_logic.specs.Trees.{formulas_of, summands_of, terms_of};
+ghost use Rattle.kb_logic.specs.Views.{formula_view, signed_view, term_view};
+ghost use Rattle.reading_stages.specs.ClampedBounds.{
+  clamped_bounds,
+  clamped_factors,
+  clamped_summands,
+  clamping_product,
+  clamping_sum,
+};
+ghost use Rattle.reading_stages.specs.Sizes.{
+  bounds_at,
+  formula_bounds,
+  formulas_bounds,
+  is_small,
+  summands_bounds,
+  term_bounds,
+  terms_bounds,
+};
+ghost use Rattle.kb_logic.specs.Bounds.{types_of};
+ghost use Rattle.kb_sizes.specs.Ranges.{is_wide, part_bounds, range_view, ranges_in, wide_at};
+
+use crate::counts::{assignments, value_type};
+use crate::domain_integers::{range_if, type_range};
+use crate::ranges::Range;
+use crate::scopes::enter;
+use kb_logic::{Bound, DomainList, Formula, Memory, Signed, Term, Vocabulary};
+
+/// The bounds of a term, and whether these or those of a prefix of it are too wide.
+#[derive(Clone, Copy)]
+pub struct TermRange {
+    pub range: Range,
+    pub wide: bool,
+}
+
+/// The bounds of a term that is no chain.
+fn single(range: Range) -> TermRange
+    ensures range { range_view result.range ≡ range_view range }
+    ensures wide { result.wide ≡ is_wide (range_view range ∷ []) }
+{
+    TermRange {
+        range,
+        wide: !range.is_small(),
+    }
+}
+
+/// The type of a variable.
+fn type_in(scope: &[u32], n: u32) -> Option<u32>
+    ensures { result ≡ slice_get scope.now n }
+{
+    match scope.get(n as usize) {
+        Some(ty) => Some(*ty),
+        None => None,
+    }
+}
+
+fn or_wide(wide: bool, range: Range) -> bool
+    ensures { result ≡ (wide || not (is_small (range_view range))) }
+{
+    wide || !range.is_small()
+}
+
+/// Notes a term and its parts, and returns the term's bounds.
+#[cycle(bounds)]
+pub fn term(
+    vocab: &Vocabulary,
+    domains: &DomainList,
+    ranges: &[Range],
+    scope: &mut Vec<u32>,
+    wide: &mut Vec<bool>,
+    of: &Term,
+) -> Result<Range, Memory>
+    requires known { map range_view ranges.now ≡ ranges_in domains.now }
+    ensures range { IfOk result (λ r. range_view r ≡ clamped_bounds vocab.now domains.now (term_view of.now)
+        scope.old.items) }
+    ensures scope { OnOk result (scope.new.items ≡ scope.old.items) }
+    ensures wide { OnOk result (wide.new.items ≡ wide.old.items ++ wide_at (term_bounds vocab.now domains.now (term_view
+        of.now) scope.old.items)) }
+{
+    let at = wide.len();
+    wide.push(false)?;
+    let found = node(vocab, domains, ranges, scope, wide, of)?;
+    wide[at] = found.wide;
+    Ok(found.range)
+}
+
+/// Notes the parts of a term.
+#[cycle(bounds)]
+fn node(
+    vocab: &Vocabulary,
+    domains: &DomainList,
+    ranges: &[Range],
+    scope: &mut Vec<u32>,
+    wide: &mut Vec<bool>,
+    of: &Term,
+) -> Result<TermRange, Memory>
+    requires known { map range_view ranges.now ≡ ranges_in domains.now }
+    ensures range { IfOk result (λ r. range_view r.range ≡ clamped_bounds vocab.now domains.now (term_view of.now)
+        scope.old.items) }
+    ensures own { IfOk result (λ r. r.wide ≡ is_wide
+        (bounds_at vocab.now domains.now (term_view of.now) scope.old.items)) }
+    ensures scope { OnOk result (scope.new.items ≡ scope.old.items) }
+    ensures wide { OnOk result (wide.new.items ≡ wide.old.items ++ wide_at (part_bounds vocab.now domains.now (term_view
+        of.now) scope.old.items)) }
+{
+    match of {
+        Term::Var(n) => Ok(single(range_if(domains, ranges, type_in(scope, *n)))),
+        Term::Int(n) => Ok(single(Range::exactly(*n))),
+        Term::Made(ty, _) => Ok(single(type_range(domains, ranges, *ty))),
+        Term::Apply(symbol, args) => {
+            terms(vocab, domains, ranges, scope, wide, args)?;
+            Ok(single(range_if(domains, ranges, value_type(vocab, *symbol))))
+        }
+        Term::Sum(parts) => sum(vocab, domains, ranges, scope, wide, parts),
+        Term::Product(factors) => product(vocab, domains, ranges, scope, wide, factors),
+        Term::Agg(kind, bounds, condition, weight) => {
+            let outer = scope.len();
+            enter(scope, bounds)?;
+            formula(vocab, domains, ranges, scope, wide, condition)?;
+            let range = term(vocab, domains, ranges, scope, wide, weight)?;
+            scope.truncate(outer);
+            Ok(single(range.aggregated(*kind, assignments(domains, bounds))))
+        }
+    }
+}
+
+#[cycle(bounds)]
+fn sum(
+    vocab: &Vocabulary,
+    domains: &DomainList,
+    ranges: &[Range],
+    scope: &mut Vec<u32>,
+    wide: &mut Vec<bool>,
+    parts: &[Signed],
+) -> Result<TermRange, Memory>
+    requires known { map range_view ranges.now ≡ ranges_in domains.now }
+    ensures range { IfOk result (λ r. range_view r.range
+        ≡ fold clamping_sum (exactly (pos 0)) (clamped_summands vocab.now
+        domains.now (summands_of (map signed_view parts.now)) scope.old.items)) }
+    ensures own { IfOk result (λ r. r.wide ≡ is_wide
+        (front_bounds clamping_sum (exactly (pos 0)) (clamped_summands vocab.now
+        domains.now (summands_of (map signed_view parts.now)) scope.old.items))) }
+    ensures scope { OnOk result (scope.new.items ≡ scope.old.items) }
+    ensures wide { OnOk result (wide.new.items ≡ wide.old.items ++ wide_at
+        (summands_bounds vocab.now domains.now (summands_of
+        (map signed_view parts.now)) scope.old.items)) }
+{
+    let mut range = Range::exactly(0);
+    let mut any = false;
+    for part in parts {
+        let next = term(vocab, domains, ranges, scope, wide, &part.term)?;
+        range = range.plus(next.signed(part.minus));
+        any = or_wide(any, range);
+    }
+    Ok(TermRange { range, wide: any })
+}
+
+#[cycle(bounds)]
+fn product(
+    vocab: &Vocabulary,
+    domains: &DomainList,
+    ranges: &[Range],
+    scope: &mut Vec<u32>,
+    wide: &mut Vec<bool>,
+    factors: &[Term],
+) -> Result<TermRange, Memory>
+    requires known { map range_view ranges.now ≡ ranges_in domains.now }
+    ensures range { IfOk result (λ r. range_view r.range
+        ≡ fold clamping_product (exactly (pos 1)) (clamped_factors vocab.now
+        domains.now (terms_of (map term_view factors.now)) scope.old.items)) }
+    ensures own { IfOk result (λ r. r.wide ≡ is_wide (front_bounds clamping_product (exactly (pos 1)) (clamped_factors
+        vocab.now domains.now (terms_of (map term_view factors.now)) scope.old.items))) }
+    ensures scope { OnOk result (scope.new.items ≡ scope.old.items) }
+    ensures wide { OnOk result (wide.new.items ≡ wide.old.items ++ wide_at
+        (terms_bounds vocab.now domains.now (terms_of (map
+        term_view factors.now)) scope.old.items)) }
+{
+    let mut range = Range::exactly(1);
+    let mut any = false;
+    for factor in factors {
+        let next = term(vocab, domains, ranges, scope, wide, factor)?;
+        range = range.times(next);
+        any = or_wide(any, range);
+    }
+    Ok(TermRange { range, wide: any })
+}
+
+/// Notes some terms and their parts.
+#[cycle(bounds)]
+fn terms(
+    vocab: &Vocabulary,
+    domains: &DomainList,
+    ranges: &[Range],
+    scope: &mut Vec<u32>,
+    wide: &mut Vec<bool>,
+    all: &[Term],
+) -> Result<(), Memory>
+    requires known { map range_view ranges.now ≡ ranges_in domains.now }
+    ensures scope { OnOk result (scope.new.items ≡ scope.old.items) }
+    ensures wide { OnOk result (wide.new.items ≡ wide.old.items ++ wide_at
+        (terms_bounds vocab.now domains.now (terms_of (map
+        term_view all.now)) scope.old.items)) }
+{
+    for one in all {
+        term(vocab, domains, ranges, scope, wide, one)?;
+    }
+    Ok(())
+}
+
+/// Notes the terms of a formula.
+#[cycle(bounds)]
+pub fn formula(
+    vocab: &Vocabulary,
+    domains: &DomainList,
+    ranges: &[Range],
+    scope: &mut Vec<u32>,
+    wide: &mut Vec<bool>,
+    of: &Formula,
+) -> Result<(), Memory>
+    requires known { map range_view ranges.now ≡ ranges_in domains.now }
+    ensures scope { OnOk result (scope.new.items ≡ scope.old.items) }
+    ensures wide { OnOk result (wide.new.items ≡ wide.old.items ++ wide_at
+        (formula_bounds vocab.now domains.now (formula_view
+        of.now) scope.old.items)) }
+{
+    match of {
+        Formula::True => Ok(()),
+        Formula::False => Ok(()),
+        Formula::Atom(_, args) => terms(vocab, domains, ranges, scope, wide, args),
+        Formula::Compare(_, left, right) => {
+            term(vocab, domains, ranges, scope, wide, left)?;
+            term(vocab, domains, ranges, scope, wide, right)?;
+            Ok(())
+        }
+        Formula::Not(inner) => formula(vocab, domains, ranges, scope, wide, inner),
+        Formula::And(parts) => formulas(vocab, domains, ranges, scope, wide, parts),
+        Formula::Or(parts) => formulas(vocab, domains, ranges, scope, wide, parts),
+        Formula::Implies(left, right) => {
+            formula(vocab, domains, ranges, scope, wide, left)?;
+            formula(vocab, domains, ranges, scope, wide, right)
+        }
+        Formula::Iff(left, right) => {
+            formula(vocab, domains, ranges, scope, wide, left)?;
+            formula(vocab, domains, ranges, scope, wide, right)
+        }
+        Formula::All(bounds, inner) => under(vocab, domains, ranges, scope, wide, bounds, inner),
+        Formula::Any(bounds, inner) => under(vocab, domains, ranges, scope, wide, bounds, inner),
+        Formula::Number(_, _, bounds, inner) => under(
+            vocab, domains, ranges, scope, wide, bounds, inner,
+        ),
+    }
+}
+
+/// Notes the terms of a formula that stands under a binder.
+#[cycle(bounds)]
+fn under(
+    vocab: &Vocabulary,
+    domains: &DomainList,
+    ranges: &[Range],
+    scope: &mut Vec<u32>,
+    wide: &mut Vec<bool>,
+    bounds: &[Bound],
+    of: &Formula,
+) -> Result<(), Memory>
+    requires known { map range_view ranges.now ≡ ranges_in domains.now }
+    ensures scope { OnOk result (scope.new.items ≡ scope.old.items) }
+    ensures wide { OnOk result (wide.new.items ≡ wide.old.items ++ wide_at
+        (formula_bounds vocab.now domains.now (formula_view
+        of.now) (scope.old.items ++ types_of bounds.now))) }
+{
+    let outer = scope.len();
+    enter(scope, bounds)?;
+    formula(vocab, domains, ranges, scope, wide, of)?;
+    scope.truncate(outer);
+    Ok(())
+}
+
+#[cycle(bounds)]
+fn formulas(
+    vocab: &Vocabulary,
+    domains: &DomainList,
+    ranges: &[Range],
+    scope: &mut Vec<u32>,
+    wide: &mut Vec<bool>,
+    all: &[Formula],
+) -> Result<(), Memory>
+    requires known { map range_view ranges.now ≡ ranges_in domains.now }
+    ensures scope { OnOk result (scope.new.items ≡ scope.old.items) }
+    ensures wide { OnOk result (wide.new.items ≡ wide.old.items ++ wide_at
+        (formulas_bounds vocab.now domains.now (formulas_of
+        (map formula_view all.now)) scope.old.items)) }
+{
+    for one in all {
+        formula(vocab, domains, ranges, scope, wide, one)?;
+    }
+    Ok(())
+}

@@ -1,0 +1,54 @@
+//! How many elements, values and assignments there are.
+ghost use Rattle.std.specs.Prelude.{◌≡◌, length};
+ghost use Rattle.kb_logic.specs.Bounds.{domain_if, value_type_of};
+ghost use Rattle.kb_logic.specs.Structures.{choices, domain_at};
+ghost use Rattle.reading_stages.specs.SizesStage.{capped};
+
+use crate::capped::times;
+use kb_logic::{Bound, DomainList, Vocabulary};
+
+pub fn elements(domains: &DomainList, ty: u32) -> u64
+    ensures { result ≡ length (domain_at domains.now ty) }
+{
+    match domains.get(ty as usize) {
+        Some(domain) => domain.len() as u64,
+        None => 0,
+    }
+}
+
+fn elements_if(domains: &DomainList, ty: Option<u32>) -> u64
+    ensures { result ≡ length (domain_if domains.now ty) }
+{
+    match ty {
+        Some(ty) => elements(domains, ty),
+        None => 0,
+    }
+}
+
+/// The type of a function's values.
+pub fn value_type(vocab: &Vocabulary, symbol: u32) -> Option<u32>
+    ensures { result ≡ value_type_of vocab.now symbol }
+{
+    match vocab.symbols.get(symbol as usize) {
+        Some(symbol) => symbol.value,
+        None => None,
+    }
+}
+
+/// How many values a function may have.
+pub fn values(vocab: &Vocabulary, domains: &DomainList, symbol: u32) -> u64
+    ensures { result ≡ length (domain_if domains.now (value_type_of vocab.now symbol)) }
+{
+    elements_if(domains, value_type(vocab, symbol))
+}
+
+/// How many assignments of elements to these variables there are.
+pub fn assignments(domains: &DomainList, bounds: &[Bound]) -> u64
+    ensures { result ≡ capped (length (choices domains.now bounds.now)) }
+{
+    let mut count = 1u64;
+    for bound in bounds {
+        count = times(count, elements(domains, bound.ty));
+    }
+    count
+}

@@ -1,0 +1,145 @@
+//! The number of ground atoms, and the weight.
+ghost use Rattle.std.specs.Prelude.{◌≡◌, ◌*◌, ◌+◌, length, map, sum_by};
+ghost use Rattle.kb_logic.specs.Structures.{domain_at, tuples_of};
+ghost use Rattle.kb_logic.specs.Views.{definition_view, formula_view, rule_view, term_view, theory_view};
+ghost use Rattle.kb_logic.specs.Weights.{
+  asked_occurrences,
+  atom_count,
+  body_occurrences,
+  definition_occurrences,
+  occurrences,
+  rule_occurrences,
+  value_count,
+  weight_of,
+};
+ghost use Rattle.type_derivation.specs.TypedViews.{named_term_view};
+ghost use Rattle.reading_stages.specs.SizesStage.{capped};
+
+use crate::capped::{plus, times};
+use crate::counts::{assignments, elements};
+use crate::occurrences::{asked, formula_in, formula_occurrences};
+use kb_logic::{Definition, DomainList, Formula, Rule, Symbol, Term, Theory, Vocabulary};
+use type_derivation::Named;
+
+fn type_size(domains: &DomainList, ty: &u32) -> u64
+    ensures { result ≡ length (domain_at domains.now ty.now) }
+{
+    elements(domains, *ty)
+}
+
+/// How many tuples of elements of these types there are.
+fn tuples(domains: &DomainList, types: &[u32]) -> u64
+    ensures { result ≡ capped (length (tuples_of domains.now types.now)) }
+{
+    let mut count = 1u64;
+    for ty in types {
+        count = times(count, type_size(domains, ty));
+    }
+    count
+}
+
+fn values_of(domains: &DomainList, value: Option<u32>) -> u64
+    ensures { result ≡ value_count domains.now value }
+{
+    match value {
+        Some(ty) => elements(domains, ty),
+        None => 1,
+    }
+}
+
+/// The ground atoms of a symbol.
+pub fn atoms_of(domains: &DomainList, symbol: &Symbol) -> u64
+    ensures { result ≡ capped (length (tuples_of domains.now symbol.now.args) * value_count domains.now
+        symbol.now.value) }
+{
+    times(
+        tuples(domains, symbol.args.as_slice()),
+        values_of(domains, symbol.value),
+    )
+}
+
+/// The ground atoms of all symbols.
+pub fn atoms(vocab: &Vocabulary, domains: &DomainList) -> u64
+    ensures { result ≡ capped (atom_count vocab.now domains.now) }
+{
+    let mut count = 0u64;
+    for symbol in vocab.symbols.as_slice() {
+        count = plus(count, atoms_of(domains, symbol));
+    }
+    count
+}
+
+fn sentences(vocab: &Vocabulary, domains: &DomainList, all: &[Formula]) -> u64
+    ensures { result ≡ capped (sum_by (λ f. occurrences vocab.now domains.now f 1) (map formula_view all.now)) }
+{
+    let mut count = 0u64;
+    for one in all {
+        count = plus(count, formula_occurrences(vocab, domains, one));
+    }
+    count
+}
+
+/// A body that is `true` counts nothing.
+fn body(vocab: &Vocabulary, domains: &DomainList, of: &Formula, n: u64) -> u64
+    ensures { result ≡ capped (body_occurrences vocab.now domains.now (formula_view of.now) n) }
+{
+    match of {
+        Formula::True => 0,
+        _ => formula_in(vocab, domains, of, n),
+    }
+}
+
+fn terms(vocab: &Vocabulary, domains: &DomainList, all: &[Named<Term>]) -> u64
+    ensures { result ≡ capped (sum_by (asked_occurrences vocab.now domains.now) (map (λ t. t.term) (map named_term_view
+        all.now))) }
+{
+    let mut count = 0u64;
+    for one in all {
+        count = plus(count, asked(vocab, domains, &one.value));
+    }
+    count
+}
+
+fn rule_weight(vocab: &Vocabulary, domains: &DomainList, rule: &Rule) -> u64
+    ensures { result ≡ capped (rule_occurrences vocab.now domains.now (rule_view rule.now)) }
+{
+    let heads = assignments(domains, rule.vars.as_slice());
+    plus(plus(1, heads), body(vocab, domains, &rule.body, heads))
+}
+
+fn rules(vocab: &Vocabulary, domains: &DomainList, all: &[Rule]) -> u64
+    ensures { result ≡ capped (sum_by (rule_occurrences vocab.now domains.now) (map rule_view all.now)) }
+{
+    let mut count = 0u64;
+    for one in all {
+        count = plus(count, rule_weight(vocab, domains, one));
+    }
+    count
+}
+
+fn definitions(vocab: &Vocabulary, domains: &DomainList, all: &[Definition]) -> u64
+    ensures { result ≡ capped (sum_by (definition_occurrences vocab.now domains.now) (map definition_view all.now)) }
+{
+    let mut count = 0u64;
+    for one in all {
+        count = plus(count, rules(vocab, domains, one.rules.as_slice()));
+    }
+    count
+}
+
+/// The weight of a theory, with all term blocks.
+pub fn weight(
+    vocab: &Vocabulary,
+    domains: &DomainList,
+    theory: &Theory,
+    blocks: &[Named<Term>],
+) -> u64
+    ensures { result ≡ capped (weight_of vocab.now domains.now (theory_view theory.now) (map (λ t. t.term) (map
+        named_term_view blocks.now))) }
+{
+    let in_sentences = sentences(vocab, domains, theory.sentences.as_slice());
+    let in_definitions = definitions(vocab, domains, theory.definitions.as_slice());
+    let in_terms = terms(vocab, domains, blocks);
+    let all = plus(plus(in_sentences, in_definitions), in_terms);
+    plus(atoms(vocab, domains), times(4, all))
+}

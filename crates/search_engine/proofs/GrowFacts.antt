@@ -1,0 +1,165 @@
+-- How what is held grows, and is taken back.
+use Rattle.std.proofs.Common.{◌≡◌, ℕ, suc, zero, ◌+◌, ◌-◌, ◌*◌, ◌^◌, ◌<◌, ◌≤◌, Option, Some, None, List, [], ◌∷◌, ◌++◌, length, take, drop, slice_get, get_or, refl, sym, ap, ◌∙◌, subst, ⊎_elim, arith, Contains}
+use Rattle.std.specs.List.{AllZip}
+use Rattle.std.proofs.lemmas.Bool.{cases_lt}
+use Rattle.std.proofs.lemmas.List.{take-append-drop, append-nil, length-drop, get_or-drop}
+use Rattle.std.proofs.lemmas.List.Elements.{All-weaker}
+use Rattle.std.proofs.lemmas.Option.{slice_get_within, slice_get-get_or, get_or_from_slice_get}
+use Rattle.lit_core.specs.declared.literals.Lit.{Lit}
+use Rattle.std.proofs.Math.Nat.{pow-suc}
+use Rattle.clause_store.specs.declared.trails.Step.{Step}
+use Rattle.clause_store.specs.TrailState.{TrailState}
+use Rattle.clause_store.specs.StoreState.{IsStore}
+use Rattle.clause_store.proofs.ListFacts.{slice_get-take-below}
+use Rattle.ground_core.specs.Problems.{ProblemState, IsProblem}
+use Rattle.search_engine.specs.declared.engine.Engine.{Engine}
+use Rattle.search_engine.specs.Joining.{CanJoin, joined_problem}
+use Rattle.ground_core.specs.GateClauses.{clauses_of}
+use Rattle.search_engine.specs.Knowledge.{IsHeldAs, Knows, Pushes, RemovesAll, RemovesFrom}
+use Rattle.search_engine.specs.Resting.{IsResting, held_of}
+use Rattle.search_engine.proofs.Joined.{joined-laws, joined-sums, joined-bounds}
+use Rattle.search_engine.specs.Searching.{IsOrderly}
+use Rattle.search_engine.proofs.LearntLists.{learnt-joined, learnt-none}
+use Rattle.search_engine.proofs.Known.{known-added, known-forgets}
+
+slice_get-drop : {X : Type 0} (n : ℕ) (xs : List X) (k : ℕ) (x : X) → slice_get (drop n xs) k ≡ Some x → slice_get xs (n + k) ≡ Some x
+slice_get-drop n xs k x e =
+    let lt : k < length (drop n xs) = slice_get_within (drop n xs) k x e in
+    let len : length (drop n xs) ≡ length xs - n = length-drop n xs in
+    let is : get_or (drop n xs) k x ≡ x = get_or_from_slice_get (drop n xs) k x x e in
+    let same : get_or (drop n xs) k x ≡ get_or xs (n + k) x = get_or-drop n xs k x in
+    slice_get-get_or xs (n + k) x (omega (arith, lt, len)) ∙ ap Some (sym same ∙ is)
+
+held-append : (xs ys : List (Option (List Lit))) → held_of (xs ++ ys) ≡ held_of xs ++ held_of ys
+held-append [] ys = refl
+held-append (None ∷ xs) ys = held-append xs ys
+held-append (Some c ∷ xs) ys = ap (λ cs. c ∷ cs) (held-append xs ys)
+
+held-none : (xs : List (Option (List Lit))) → ((k : ℕ) (c : List Lit) → slice_get xs k ≡ Some (Some c) → ⊥) → held_of xs ≡ []
+held-none [] h = refl
+held-none (None ∷ xs) h = held-none xs (λ k c e. h (suc k) c e)
+held-none (Some c ∷ xs) h = absurd (h 0 c refl)
+
+zip-held : (a b : List (Option (List Lit))) → ((id : ℕ) (k : List Lit) → slice_get a id ≡ Some (Some k) → slice_get b id ≡ Some (Some k)) → (ids : List ℕ) (learnt : List (List Lit)) → AllZip (IsHeldAs a) ids learnt → AllZip (IsHeldAs b) ids learnt
+zip-held a b h [] [] z = tt
+zip-held a b h [] (c ∷ cs) z = z
+zip-held a b h (i ∷ ids) [] z = z
+zip-held a b h (i ∷ ids) (c ∷ cs) z = ((z.0.0, h i z.0.0 z.0.1, z.0.2), zip-held a b h ids cs z.1)
+
+-- the same clauses are held
+pub known-same : (p : ProblemState) (learnt : List (List Lit)) (ids : List ℕ) (a b : List (Option (List Lit))) → ((id : ℕ) (k : List Lit) → slice_get b id ≡ Some (Some k) → slice_get a id ≡ Some (Some k)) → ((id : ℕ) (k : List Lit) → slice_get a id ≡ Some (Some k) → slice_get b id ≡ Some (Some k)) → Knows p learnt ids a → Knows p learnt ids b
+known-same p learnt ids a b back there h = record {
+  implied = λ v s id k e. h.implied v s id k (back id k e);
+  within = λ id k e. h.within id k (back id k e);
+  from = λ id k e. h.from id k (back id k e);
+  problem = All-weaker (λ c. (id : ℕ) × IsHeldAs a id c × (Contains ids id → ⊥)) (λ c. (id : ℕ) × IsHeldAs b id c × (Contains ids id → ⊥)) (λ c w. (w.0, (w.1.0, there w.0 w.1.0 w.1.1, w.1.2), w.2)) (clauses_of p) h.problem;
+  learnt_held = zip-held a b there ids learnt h.learnt_held;
+}
+
+-- what was pushed behind the old clauses was removed
+module _ (old mid new : List (Option (List Lit))) (front : old ≡ take (length old) mid) (removed : RemovesFrom (length old) mid new) where
+  new-front : take (length old) new ≡ old
+  new-front = removed.front ∙ sym front
+
+  pub removed-back : (id : ℕ) (k : List Lit) → slice_get new id ≡ Some (Some k) → slice_get old id ≡ Some (Some k)
+  removed-back id k e = ⊎_elim
+      (λ lt. ap (λ xs. slice_get xs id) (sym new-front) ∙ (slice_get-take-below (length old) new id lt ∙ e))
+      (λ ge. absurd (removed.none id k ge e))
+      (cases_lt id (length old))
+
+  pub removed-there : (id : ℕ) (k : List Lit) → slice_get old id ≡ Some (Some k) → slice_get new id ≡ Some (Some k)
+  removed-there id k e =
+      let lt : id < length old = slice_get_within old id (Some k) e in
+      sym (slice_get-take-below (length old) new id lt) ∙ (ap (λ xs. slice_get xs id) new-front ∙ e)
+
+  pub removed-held : held_of new ≡ held_of old
+  removed-held =
+      let split : held_of new ≡ held_of (take (length old) new) ++ held_of (drop (length old) new) = ap held_of (sym (take-append-drop (length old) new)) ∙ held-append (take (length old) new) (drop (length old) new) in
+      let none : held_of (drop (length old) new) ≡ [] = held-none (drop (length old) new) (λ k c e. removed.none (length old + k) c (omega arith) (slice_get-drop (length old) new k (Some c) e)) in
+      split ∙ (ap (λ xs. held_of xs ++ held_of (drop (length old) new)) new-front ∙ (ap (λ ys. held_of old ++ ys) none ∙ append-nil (held_of old)))
+
+pow-up : (m k : ℕ) → 2 ^ m ≤ 2 ^ (m + k)
+pow-up m zero = let e : 2 ^ (m + zero) ≡ 2 ^ m = ap (λ (n : ℕ). 2 ^ n) (omega arith) in omega (arith, e)
+pow-up m (suc k) =
+    let r : 2 ^ m ≤ 2 ^ (m + k) = pow-up m k in
+    let e : 2 ^ (m + suc k) ≡ 2 ^ (suc (m + k)) = ap (λ (n : ℕ). 2 ^ n) (omega arith) in
+    let t : 2 ^ (suc (m + k)) ≡ 2 ^ (m + k) * 2 = pow-suc 2 (m + k) in
+    omega (arith, r, e, t)
+
+pow-le : (m n : ℕ) → m ≤ n → 2 ^ m ≤ 2 ^ n
+pow-le m n le = let e : 2 ^ (m + (n - m)) ≡ 2 ^ n = ap (λ (j : ℕ). 2 ^ j) (omega (arith, le)) in let u : 2 ^ m ≤ 2 ^ (m + (n - m)) = pow-up m (n - m) in omega (arith, e, u)
+
+-- there is nothing on the trail
+pub orderly-none : (vars : ℕ) (steps : List Step) → steps ≡ [] → IsOrderly vars steps
+orderly-none vars steps none = record { named = λ k t at. absurd (nothing k t at); decided = λ k t at e. absurd (nothing k t at) }
+  where
+    nothing : (k : ℕ) (t : Step) → slice_get steps k ≡ Some t → ⊥
+    nothing k t at = let lt : k < length steps = slice_get_within steps k t at in let zero-is : length steps ≡ 0 = ap length none in omega (arith, lt, zero-is)
+
+-- another problem was joined, and its clauses are held
+pub resting-joined : (e f : Engine) (q : ProblemState) → IsResting e → e.store.trail.steps ≡ [] → CanJoin e.problem q → q.sums ≡ [] → q.bounds ≡ [] → IsProblem q → Pushes e.store.clauses f.store.clauses (clauses_of q) → f.store.trail ≡ e.store.trail → IsStore f.store → q.vars < length e.store.trail.values → f.learnt ≡ e.learnt → f.ids ≡ e.ids → f.moments ≡ e.moments → f.conflicts ≡ e.conflicts → f.root_conflicts ≡ e.root_conflicts → f.problem ≡ joined_problem e.problem q → IsResting f
+resting-joined e f q h cleared can sums bounds laws pushed trail store sized learnt ids moments conflicts root problem =
+    let le : e.problem.vars ≤ q.vars = can.vars in
+    let up : 2 ^ e.problem.vars ≤ 2 ^ q.vars = pow-le e.problem.vars q.vars le in
+    let few : e.conflicts < 2 ^ e.problem.vars = h.fewer in
+    let fewer : e.conflicts < 2 ^ q.vars = omega (arith, up, few) in
+    let longer : q.vars < length f.store.trail.values = subst (λ (t : TrailState). q.vars < length t.values) (sym trail) sized in
+    let knows : Knows (joined_problem e.problem q) e.learnt e.ids.items f.store.clauses = known-added e.problem q e.learnt e.ids.items e.store.clauses f.store.clauses h.engine.knows pushed h.engine.sums h.engine.bounds sums bounds can laws in
+    record {
+      engine = record {
+        problem = subst IsProblem (sym problem) (joined-laws e.problem q h.engine.sums h.engine.bounds sums bounds h.engine.problem laws can);
+        sums = ap (λ (p : ProblemState). p.sums) problem ∙ joined-sums e.problem q h.engine.sums h.engine.bounds sums bounds;
+        bounds = ap (λ (p : ProblemState). p.bounds) problem ∙ joined-bounds e.problem q h.engine.sums h.engine.bounds sums bounds;
+        retired = ap (λ (p : ProblemState). p.retired) problem ∙ h.engine.retired;
+        learnt = rw (problem, learnt, moments) (learnt-joined e.problem q e.learnt e.moments.items e.ids.items e.store.clauses h.engine.sums h.engine.bounds sums bounds can h.engine.knows h.engine.learnt);
+        knows = rw (problem, learnt, ids) knows;
+        store = store;
+        sized = subst (λ (p : ProblemState). p.vars < length f.store.trail.values) (sym problem) longer;
+      };
+      level = ap (λ (t : TrailState). t.level) trail ∙ h.level;
+      orderly = orderly-none f.problem.vars f.store.trail.steps (ap (λ (t : TrailState). t.steps) trail ∙ cleared);
+      fewer = rw conflicts (subst (λ (p : ProblemState). e.conflicts < 2 ^ p.vars) (sym problem) fewer);
+      once = rw root h.once;
+    }
+
+-- what was half done was taken back
+pub resting-back : (e f : Engine) (mid : List (Option (List Lit))) → IsResting e → e.store.clauses ≡ take (length e.store.clauses) mid → RemovesFrom (length e.store.clauses) mid f.store.clauses → f.store.trail.steps ≡ [] → f.store.trail.level ≡ 0 → IsStore f.store → e.problem.vars < length f.store.trail.values → f.problem ≡ e.problem → f.learnt ≡ e.learnt → f.ids ≡ e.ids → f.moments ≡ e.moments → f.conflicts ≡ e.conflicts → f.root_conflicts ≡ e.root_conflicts → IsResting f
+resting-back e f mid h front removed steps level store sized problem learnt ids moments conflicts root =
+    let knows : Knows e.problem e.learnt e.ids.items f.store.clauses = known-same e.problem e.learnt e.ids.items e.store.clauses f.store.clauses (removed-back e.store.clauses mid f.store.clauses front removed) (removed-there e.store.clauses mid f.store.clauses front removed) h.engine.knows in
+    record {
+      engine = record {
+        problem = rw problem h.engine.problem;
+        sums = rw problem h.engine.sums;
+        bounds = rw problem h.engine.bounds;
+        retired = rw problem h.engine.retired;
+        learnt = rw (problem, learnt, moments) h.engine.learnt;
+        knows = rw (problem, learnt, ids) knows;
+        store = store;
+        sized = rw problem sized;
+      };
+      level = level;
+      orderly = orderly-none f.problem.vars f.store.trail.steps steps;
+      fewer = rw (problem, conflicts) h.fewer;
+      once = rw root h.once;
+    }
+
+-- what was learnt was removed
+pub resting-forgets : (e f : Engine) → IsResting e → RemovesAll e.ids.items e.store.clauses f.store.clauses → f.store.trail.steps ≡ [] → f.store.trail.level ≡ 0 → length f.store.trail.values ≡ length e.store.trail.values → IsStore f.store → f.problem ≡ e.problem → f.learnt ≡ [] → f.ids.items ≡ [] → f.moments.items ≡ [] → f.conflicts ≡ e.conflicts → f.root_conflicts ≡ e.root_conflicts → IsResting f
+resting-forgets e f h removed steps level size store problem learnt ids moments conflicts root =
+    let knows : Knows e.problem [] [] f.store.clauses = known-forgets e.problem e.learnt e.ids.items e.store.clauses f.store.clauses h.engine.knows removed.back removed.there removed.gone in
+    record {
+      engine = record {
+        problem = rw problem h.engine.problem;
+        sums = rw problem h.engine.sums;
+        bounds = rw problem h.engine.bounds;
+        retired = rw problem h.engine.retired;
+        learnt = rw (learnt, moments) (learnt-none f.problem);
+        knows = rw (problem, learnt, ids) knows;
+        store = store;
+        sized = rw (problem, size) h.engine.sized;
+      };
+      level = level;
+      orderly = orderly-none f.problem.vars f.store.trail.steps steps;
+      fewer = rw (problem, conflicts) h.fewer;
+      once = rw root h.once;
+    }

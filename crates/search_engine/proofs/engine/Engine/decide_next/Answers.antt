@@ -1,0 +1,74 @@
+use Rattle.std.proofs.Common.{◌≡◌, ℕ, ◌+◌, ◌^◌, ◌<◌, Bool, List, None, length, refl, ap, ◌∙◌, subst, inr, arith}
+use Rattle.clause_store.specs.declared.trails.Step.{Step}
+use Rattle.clause_store.specs.StoreState.{StoreState}
+use Rattle.ground_core.specs.Problems.{IsLitOf}
+use Rattle.search_engine.specs.declared.decider.Decider.{Decider}
+use Rattle.search_engine.specs.declared.engine.Engine.{Engine}
+use Rattle.search_engine.specs.Searching.{GivesValues}
+use Rattle.search_engine.proofs.AnswerFacts.{values-satisfy, values-make}
+use Rattle.search_engine.proofs.DecideFacts.{SameBut, decide-goes, decide-search, decide-turn}
+use Rattle.search_engine.proofs.engine.Engine.decide_next.Goals as goal
+
+abbrev with_choice : Engine → StoreState → Decider → Engine
+with_choice e s decider = record {
+  alloc = e.alloc;
+  problem = e.problem;
+  store = s;
+  learnt = e.learnt;
+  ids = e.ids;
+  moments = e.moments;
+  decider = decider;
+  searches = e.searches;
+  known = e.known;
+  conflicts = e.conflicts;
+  root_conflicts = e.root_conflicts;
+  assumed = e.assumed;
+}
+
+same-but : (e : Engine) (s : StoreState) (decider : Decider) → SameBut e (with_choice e s decider)
+same-but e s decider = record { problem = refl; learnt = refl; ids = refl; moments = refl; known = refl; searches = refl; conflicts = refl; root_conflicts = refl; assumed = refl }
+
+pub overflow_add-end : goal.overflow_add-end
+overflow_add-end c =
+    let sized : c.args.self.now.problem.vars < length c.args.self.now.store.trail.values = c.requires.search.engine.sized in
+    let vars : c.vars-end.result ≡ c.args.self.now.problem.vars = c.vars-end.ensures.value in
+    let len : c.len-count.result ≡ length c.args.self.now.store.trail.values = c.len-count.ensures ∙ ap length c.assignment.ensures.value in
+    let small : c.len-count.result < 2 ^ 64 = c.len-count.type_inv in
+    omega (arith, sized, vars, len, small)
+
+module _ (c : goal.After-assign) where
+  abbrev old : Engine
+  old = c.args.self.now
+
+  abbrev new : Engine
+  new = with_choice old c.assign.new.self c.next_decision.new.self
+
+  same : SameBut old new
+  same = same-but old c.assign.new.self c.next_decision.new.self
+
+  abbrev step : Step
+  step = record { lit = c.in-Some.lit; level = old.store.trail.level + 1; reason = None }
+
+  within : IsLitOf old.problem.vars c.in-Some.lit
+  within =
+      let w = c.in-Some.ensures.found in
+      let high : c.in-Some.lit.var.0 < c.vars-end.result + 1 = w.1 in
+      let vars : c.vars-end.result ≡ old.problem.vars = c.vars-end.ensures.value in
+      (w.0, omega (arith, high, vars))
+
+pub returns-in-Some-clause-search : goal.returns-in-Some-clause-search
+returns-in-Some-clause-search c = decide-search (old c) (new c) (same c) c.requires.search (step c) c.assign.ensures.step c.assign.ensures.laws (within c) refl (omega arith)
+
+pub returns-in-Some-clause-turn : goal.returns-in-Some-clause-turn
+returns-in-Some-clause-turn c = decide-turn (old c) (new c) (same c) c.requires.search (step c) c.assign.ensures.step c.assign.ensures.laws (within c) refl (omega arith) c.args.assume.now c.requires.turn (inr c.requires.trues)
+
+pub returns-in-Some-clause-answer : goal.returns-in-Some-clause-answer
+returns-in-Some-clause-answer c = (c.requires.unrefuted, λ goal-of a. decide-goes (old c) (new c) (same c) c.requires.search (step c) c.assign.ensures.step c.assign.ensures.laws (within c) refl (omega arith) goal-of a)
+
+pub returns-in_ok-values-in-None-clause-answer : goal.returns-in_ok-values-in-None-clause-answer
+returns-in_ok-values-in-None-clause-answer c =
+    let e : Engine = c.args.self.now in
+    let values : List Bool = c.in_ok-values-in-None.values in
+    let vars : c.vars-end.result ≡ e.problem.vars = c.vars-end.ensures.value in
+    let given : GivesValues e.store.trail.values (e.problem.vars + 1) values = subst (λ xs. GivesValues xs (e.problem.vars + 1) values) c.assignment-in-None.ensures.value (subst (λ (n : ℕ). GivesValues c.assignment-in-None.result.now (n + 1) values) vars c.in_ok-values-in-None.ensures) in
+    (given.size, values-satisfy e c.requires.search c.requires.quiet values given, values-make e c.requires.search c.requires.quiet values given c.args.assume.now c.requires.literals c.requires.trues)

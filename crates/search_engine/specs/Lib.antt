@@ -1,0 +1,9 @@
+pub mod Potential
+pub mod Knowledge
+pub mod Joining
+pub mod KeptFields
+pub mod Searching
+pub mod LitSets
+pub mod Cores
+pub mod Resting
+pub mod Phases

@@ -1,0 +1,178 @@
+//! Learning from conflicts.
+ghost use Rattle.std.specs.Prelude.{◌≡◌, ℕ, ◌+◌, ◌≤◌, Some, None, length, IfOk, OnOk, MatchOption};
+ghost use Rattle.clause_store.specs.StoreState.{IsConflict, IsQuiet};
+ghost use Rattle.search_engine.specs.Searching.{Continues, Extends, IsFirstAssigned, IsFirstOpen, IsLesson, IsSearch, KeepsAssumed, LessonGives, SameCounts, SettleGives, StandsAt, TurnGives};
+
+use crate::decider::Decider;
+use crate::kept::KeptProblem;
+use crate::levels::conflict_level;
+use clause_store::Store;
+use conflict_analysis::analyse;
+use ground_core::{Memory, Moment};
+use lit_core::{Clause, ClauseList, Lit};
+use std::alloc::Global;
+
+/// What became of a conflict.
+#[derive(Clone, Copy, Debug, PartialEq, Eq)]
+pub enum Turn {
+    /// The problem is refuted.
+    Refuted,
+    /// This clause is false now.
+    Conflict(u64),
+    /// A literal follows in place of a decision.
+    Follows,
+}
+
+/// A problem, the clauses that are held of it, and the state of a search.
+#[derive(Drop)]
+pub struct Engine {
+    pub alloc: Global,
+    pub problem: KeptProblem,
+    pub store: Store,
+    pub learnt: ClauseList,
+    /// When each of them was learnt.
+    pub moments: Vec<Moment>,
+    /// The numbers of the learnt clauses in the store.
+    pub ids: Vec<u64>,
+    pub decider: Decider,
+    /// How many searches were begun.
+    pub searches: u64,
+    /// How many clauses had been learnt when the search began.
+    pub known: usize,
+    /// How many conflicts the search met above level 0.
+    pub conflicts: u64,
+    /// How many it met at level 0.
+    pub root_conflicts: u64,
+    /// The assumptions before this place are true.
+    pub assumed: usize,
+}
+
+impl Engine {
+    /// Learns from a false clause, and goes back to where the learnt clause is unit.
+    ///
+    /// The false clause may be false at a lower level already.
+    fn learn_from(&mut self, conflict: u64) -> Result<Option<Vec<Lit>>, Memory>
+        requires search { IsSearch self.old }
+        requires conflict { IsConflict self.old.store conflict }
+        requires unrefuted { self.old.root_conflicts ≡ 0 }
+        requires stands { StandsAt self.old 0 }
+        ensures search { IsSearch self.new }
+        ensures same { Continues self.old self.new }
+        ensures decisions { KeepsAssumed self.old.store.trail.steps self.new.store.trail.steps }
+        ensures assumed { self.new.assumed ≡ 0 }
+        ensures learnt { self.new.learnt ≡ self.old.learnt }
+        ensures lesson { IfOk result (λ lesson. MatchOption lesson (LessonGives self.old self.new None) (λ c. LessonGives self.old self.new (Some c.items))) }
+    {
+        let level = conflict_level(&self.store, conflict);
+        self.assumed = 0;
+        if level == 0 {
+            self.root_conflicts += 1;
+            return Ok(None);
+        }
+        self.decider.takes_back(&self.store, level);
+        self.store.back_to(level);
+        let analysis = analyse(self.alloc, &self.store, conflict)?;
+        self.conflicts = self.conflicts.saturating_add(1);
+        self.decider.takes_back(&self.store, analysis.level);
+        self.store.back_to(analysis.level);
+        Ok(Some(analysis.clause))
+    }
+
+    /// Holds a clause that is unit, and makes its first literal true.
+    fn learn(&mut self, clause: &[Lit]) -> Result<(), Memory>
+        requires search { IsSearch self.old }
+        requires quiet { IsQuiet self.old.store }
+        requires lesson { IsLesson self.old clause.now }
+        requires first { IsFirstOpen self.old.store.trail.values clause.now }
+        ensures search { IsSearch self.new }
+        ensures same { Continues self.old self.new }
+        ensures counts { SameCounts self.old self.new }
+        ensures steps { Extends self.old.store.trail.steps self.new.store.trail.steps }
+        ensures one { length self.new.learnt ≤ length self.old.learnt + 1 }
+        ensures first { OnOk result (IsFirstAssigned self.new.store.trail.values clause.now) }
+    {
+        let copy = Clause::from_slice(self.alloc, clause)?;
+        self.store.reserve_clause(clause.len())?;
+        self.ids.reserve(1)?;
+        self.moments.reserve(1)?;
+        self.learnt.push(copy)?;
+        let _count = self.learnt.len();
+        let id = match self.store.push_clause(clause) {
+            Ok(id) => id,
+            Err(_) => unreachable!(),
+        };
+        self.ids.push_reserved(id);
+        self.moments.push_reserved(self.problem.moment());
+        self.store.assign(clause[0], Some(id));
+        Ok(())
+    }
+
+    /// Learns the clause, unless its first literal has got a value.
+    fn learn_if_open(&mut self, clause: &[Lit]) -> Result<(), Memory>
+        requires search { IsSearch self.old }
+        requires quiet { IsQuiet self.old.store }
+        requires lesson { IsLesson self.old clause.now }
+        ensures search { IsSearch self.new }
+        ensures same { Continues self.old self.new }
+        ensures counts { SameCounts self.old self.new }
+        ensures steps { Extends self.old.store.trail.steps self.new.store.trail.steps }
+        ensures one { length self.new.learnt ≤ length self.old.learnt + 1 }
+        ensures first { OnOk result (IsFirstAssigned self.new.store.trail.values clause.now) }
+    {
+        match self.store.assignment().value(clause[0]) {
+            Some(_) => Ok(()),
+            None => self.learn(clause),
+        }
+    }
+
+    /// Learns from a conflict, and makes true what follows after the step back.
+    ///
+    /// The learnt clause is fresh where its first literal is still unassigned once the others
+    /// were propagated without it.
+    fn handle_conflict(&mut self, conflict: u64) -> Result<Turn, Memory>
+        requires search { IsSearch self.old }
+        requires conflict { IsConflict self.old.store conflict }
+        requires unrefuted { self.old.root_conflicts ≡ 0 }
+        requires stands { StandsAt self.old 0 }
+        ensures search { IsSearch self.new }
+        ensures same { Continues self.old self.new }
+        ensures decisions { KeepsAssumed self.old.store.trail.steps self.new.store.trail.steps }
+        ensures assumed { self.new.assumed ≡ 0 }
+        ensures one { length self.new.learnt ≤ length self.old.learnt + 1 }
+        ensures turn { IfOk result (TurnGives self.old self.new) }
+    {
+        let Some(clause) = self.learn_from(conflict)? else {
+            return Ok(Turn::Refuted);
+        };
+        match self.store.propagate() {
+            Some(next) => Ok(Turn::Conflict(next)),
+            None => {
+                self.learn_if_open(&clause)?;
+                Ok(Turn::Follows)
+            }
+        }
+    }
+
+    /// Learns from a conflict and from those that it leads to; answers whether the search goes on.
+    pub fn settle(&mut self, first: u64) -> Result<bool, Memory>
+        requires search { IsSearch self.old }
+        requires conflict { IsConflict self.old.store first }
+        requires unrefuted { self.old.root_conflicts ≡ 0 }
+        requires stands { StandsAt self.old 0 }
+        ensures search { IsSearch self.new }
+        ensures same { Continues self.old self.new }
+        ensures decisions { KeepsAssumed self.old.store.trail.steps self.new.store.trail.steps }
+        ensures assumed { self.new.assumed ≡ 0 }
+        ensures one { length self.new.learnt ≤ length self.old.learnt + 1 }
+        ensures settled { IfOk result (SettleGives self.old self.new) }
+    {
+        let mut conflict = first;
+        loop {
+            match self.handle_conflict(conflict)? {
+                Turn::Refuted => return Ok(false),
+                Turn::Conflict(next) => conflict = next,
+                Turn::Follows => return Ok(true),
+            }
+        }
+    }
+}

@@ -1,0 +1,18 @@
+//! The engine of a solver of ground problems: it holds the clauses of a problem, searches for valuations
+//! under assumptions, and learns clauses from its conflicts.
+#![tactic(auto)]
+
+mod cores;
+mod decider;
+mod engine;
+mod growing;
+mod kept;
+mod levels;
+mod lit_sets;
+mod phases;
+mod pushing;
+mod searching;
+
+pub use cores::chosen;
+pub use engine::Engine;
+pub use lit_sets::LitSet;

@@ -1,0 +1,84 @@
+//! Holding the clauses of a problem.
+ghost use Rattle.std.specs.Prelude.{◌≡◌, ◌≤◌, ◌<◌, [], length, flat_map, take, All, OnOk};
+ghost use Rattle.clause_store.specs.StoreState.{IsStore};
+ghost use Rattle.ground_core.specs.GateClauses.{clauses_of, gate_clauses};
+ghost use Rattle.search_engine.specs.Knowledge.{Pushes, RemovesAll, RemovesFrom};
+
+use clause_store::Store;
+use ground_core::{Gate, Memory, Problem, clauses_of_gate};
+use lit_core::Clause;
+use std::alloc::Global;
+
+/// Holds the clauses in order.
+fn push_clauses(store: &mut Store, clauses: &[Clause]) -> Result<(), Memory>
+    requires laws { IsStore store.old }
+    requires in_range { All (All (λ l. l.var.0 < length store.old.trail.values)) clauses.now }
+    requires cleared { store.old.trail.steps ≡ [] }
+    ensures trail { store.new.trail ≡ store.old.trail }
+    ensures front { store.old.clauses ≡ take (length store.old.clauses) store.new.clauses }
+    ensures ok { OnOk result (Pushes store.old.clauses store.new.clauses clauses.now) }
+    ensures laws { IsStore store.new }
+{
+    for clause in clauses {
+        store.push_clause(clause.as_slice())?;
+    }
+    Ok(())
+}
+
+/// Holds the clauses of the gates in order.
+fn push_gates(alloc: Global, store: &mut Store, gates: &[Gate]) -> Result<(), Memory>
+    requires laws { IsStore store.old }
+    requires in_range { All (All (λ l. l.var.0 < length store.old.trail.values)) (flat_map gate_clauses gates.now) }
+    requires cleared { store.old.trail.steps ≡ [] }
+    ensures trail { store.new.trail ≡ store.old.trail }
+    ensures front { store.old.clauses ≡ take (length store.old.clauses) store.new.clauses }
+    ensures ok { OnOk result (Pushes store.old.clauses store.new.clauses (flat_map gate_clauses gates.now)) }
+    ensures laws { IsStore store.new }
+{
+    for gate in gates {
+        let clauses = clauses_of_gate(alloc, gate)?;
+        push_clauses(store, clauses.as_slice())?;
+    }
+    Ok(())
+}
+
+/// Holds all clauses of the problem: those of its gates in order, then its own.
+pub fn push_problem(alloc: Global, store: &mut Store, more: &Problem) -> Result<(), Memory>
+    requires laws { IsStore store.old }
+    requires in_range { more.now.vars < length store.old.trail.values }
+    requires cleared { store.old.trail.steps ≡ [] }
+    ensures trail { store.new.trail ≡ store.old.trail }
+    ensures front { store.old.clauses ≡ take (length store.old.clauses) store.new.clauses }
+    ensures ok { OnOk result (Pushes store.old.clauses store.new.clauses (clauses_of more.now)) }
+    ensures laws { IsStore store.new }
+{
+    push_gates(alloc, store, more.gates())?;
+    push_clauses(store, more.clauses().as_slice())
+}
+
+/// Removes the clauses from a number on.
+pub fn remove_from(store: &mut Store, first: usize)
+    requires laws { IsStore store.old }
+    requires cleared { store.old.trail.steps ≡ [] }
+    ensures trail { store.new.trail ≡ store.old.trail }
+    ensures removed { RemovesFrom first store.old.clauses store.new.clauses }
+    ensures laws { IsStore store.new }
+{
+    for id in first..store.len() {
+        store.remove(id as u64);
+    }
+}
+
+/// Removes the clauses with these numbers.
+pub fn remove_all(store: &mut Store, ids: &[u64])
+    requires laws { IsStore store.old }
+    requires cleared { store.old.trail.steps ≡ [] }
+    requires within { All (λ id. id < length store.old.clauses) ids.now }
+    ensures trail { store.new.trail ≡ store.old.trail }
+    ensures removed { RemovesAll ids.now store.old.clauses store.new.clauses }
+    ensures laws { IsStore store.new }
+{
+    for id in ids {
+        store.remove(*id);
+    }
+}

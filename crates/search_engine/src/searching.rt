@@ -1,0 +1,291 @@
+//! The search for a valuation under assumptions.
+ghost use Rattle.std.specs.Prelude.{◌≡◌, ◌≢◌, ℕ, ◌≤◌, ◌<◌, ◌+◌, Some, true, false, None, List, length, take, All, Contains, slice_get, IfOk, IfErr, IfSome, IsSome, IsTrue};
+ghost use Rattle.lit_core.specs.declared.literals.Lit.{Lit};
+ghost use Rattle.lit_core.specs.Literals.{value_in};
+ghost use Rattle.clause_store.specs.StoreState.{IsConflict, IsQuiet, IsStore};
+ghost use Rattle.ground_core.specs.Problems.{AreLitsOf};
+ghost use Rattle.ground_core.specs.Solving.{Answers, counted};
+ghost use Rattle.search_engine.specs.Resting.{IsResting};
+ghost use Rattle.search_engine.specs.Searching.{AdvanceGives, AheadAt, AreTrue, Continues, GivesValues, HaltsAt, HasRoom, HaveValues, IsSearch, IsTurn, LearnsNow, OutcomeGives, StandsAt, TurnEnds};
+
+use crate::cores::core_of;
+use crate::engine::Engine;
+use clause_store::Store;
+use conflict_analysis::final_core;
+use ground_core::{Halt, Memory, Verdict};
+use kb_logic::ListOf;
+use lit_core::{Assignment, Lit, Values, Var};
+use std::alloc::Global;
+
+/// The place of the first assumption from `from` on that is not true, or their number.
+fn first_untrue(store: &Store, assume: &[Lit], from: usize) -> usize
+    requires laws { IsStore store.now }
+    requires in_range { All (λ l. l.var.0 < length store.now.trail.values) assume.now }
+    ensures trues { AreTrue store.now.trail.values (take from assume.now) → AreTrue store.now.trail.values (take result assume.now) }
+    ensures untrue { (l : Lit) → slice_get assume.now result ≡ Some l → value_in store.now.trail.values l ≢ Some true }
+{
+    for place in from..assume.len() {
+        if store.assignment().value(assume[place]) != Some(true) {
+            return place;
+        }
+    }
+    assume.len()
+}
+
+/// The values of the variables below `end`, and false for 0.
+fn values_of(alloc: Global, assignment: &Assignment, end: u64) -> Result<Values, Memory>
+    requires some { 1 ≤ end }
+    requires end { end ≤ length assignment.now }
+    requires total { HaveValues assignment.now 1 end }
+    ensures { IfOk result (λ values. GivesValues assignment.now end values) }
+{
+    let mut values = Vec::new(alloc);
+    values.push(false)?;
+    for number in 1..end {
+        let lit = Lit {
+            var: Var(number),
+            positive: true,
+        };
+        values.push(assignment.value(lit) == Some(true))?;
+    }
+    Ok(Values::from_vec(values))
+}
+
+/// What a turn of a search came to.
+#[derive(Drop)]
+pub enum Outcome {
+    /// The search is over.
+    Answered(Verdict),
+    /// The search has gone further.
+    Further,
+    /// What is assumed is true, and nothing follows: a variable is to be decided.
+    Open,
+    /// A clause was to be learnt, and as many are as may be.
+    Spent,
+}
+
+/// Whether the list is as long as it may be.
+fn is_full(len: usize, most: Option<u64>) -> bool
+    ensures full { IsTrue result → IfSome most (λ m. m ≤ len) × IsSome most }
+    ensures room { result ≡ false → IfSome most (λ m. len < m) }
+{
+    match most {
+        Some(most) => most <= len as u64,
+        None => false,
+    }
+}
+
+impl Engine {
+    /// Decides an assumption that is not true, or finds why it is false.
+    fn assume_next(&mut self, assume: &[Lit], lit: Lit) -> Result<Outcome, Memory>
+        requires search { IsSearch self.old }
+        requires quiet { IsQuiet self.old.store }
+        requires unrefuted { self.old.root_conflicts ≡ 0 }
+        requires turn { IsTurn assume.now self.old }
+        requires literals { AreLitsOf self.old.problem.vars assume.now }
+        requires assumed { Contains assume.now lit }
+        requires untrue { value_in self.old.store.trail.values lit ≢ Some true }
+        ensures search { IsSearch self.new }
+        ensures same { Continues self.old self.new }
+        ensures turn { IsTurn assume.now self.new }
+        ensures answer { IfOk result (OutcomeGives assume.now self.old self.new) }
+        ensures learnt { self.new.learnt ≡ self.old.learnt }
+    {
+        if self.store.assignment().value(lit).is_none() {
+            self.store.assign(lit, None);
+            return Ok(Outcome::Further);
+        }
+        let refuted = final_core(self.alloc, &self.store, lit)?;
+        let core = core_of(self.alloc, assume, lit, &refuted.lits)?;
+        Ok(Outcome::Answered(Verdict::Unsat(core)))
+    }
+
+    /// Decides a variable, or answers the values where all have one.
+    fn decide_next(&mut self, assume: &[Lit]) -> Result<Option<Verdict>, Memory>
+        requires search { IsSearch self.old }
+        requires quiet { IsQuiet self.old.store }
+        requires unrefuted { self.old.root_conflicts ≡ 0 }
+        requires turn { IsTurn assume.now self.old }
+        requires literals { AreLitsOf self.old.problem.vars assume.now }
+        requires trues { AreTrue self.old.store.trail.values assume.now }
+        ensures search { IsSearch self.new }
+        ensures same { Continues self.old self.new }
+        ensures turn { IsTurn assume.now self.new }
+        ensures answer { IfOk result (AdvanceGives assume.now self.old self.new) }
+        ensures learnt { self.new.learnt ≡ self.old.learnt }
+    {
+        // So the sum below fits.
+        let _count = self.store.assignment().len();
+        let end = self.problem.vars() + 1;
+        let salt = self.searches.wrapping_add(self.conflicts / 32);
+        match self
+            .decider
+            .next_decision(&self.problem, &self.store, end, salt)
+        {
+            Some(lit) => {
+                self.store.assign(lit, None);
+                Ok(None)
+            }
+            None => {
+                let values = values_of(self.alloc, self.store.assignment(), end)?;
+                self.decider.phases.note_answer(&values);
+                Ok(Some(Verdict::Sat(values)))
+            }
+        }
+    }
+
+    /// Decides what is assumed in its order, up to where all of it is true.
+    fn advance(&mut self, assume: &[Lit]) -> Result<Outcome, Memory>
+        requires search { IsSearch self.old }
+        requires quiet { IsQuiet self.old.store }
+        requires unrefuted { self.old.root_conflicts ≡ 0 }
+        requires turn { IsTurn assume.now self.old }
+        requires literals { AreLitsOf self.old.problem.vars assume.now }
+        ensures search { IsSearch self.new }
+        ensures same { Continues self.old self.new }
+        ensures turn { IsTurn assume.now self.new }
+        ensures answer { IfOk result (OutcomeGives assume.now self.old self.new) }
+        ensures learnt { self.new.learnt ≡ self.old.learnt }
+    {
+        self.assumed = first_untrue(&self.store, assume, self.assumed);
+        match assume.get(self.assumed) {
+            Some(lit) => self.assume_next(assume, *lit),
+            None => Ok(Outcome::Open),
+        }
+    }
+
+    /// Learns from a conflict, where one more clause may be learnt.
+    fn settle_within(&mut self, conflict: u64, most: Option<u64>) -> Result<Outcome, Memory>
+        requires search { IsSearch self.old }
+        requires conflict { IsConflict self.old.store conflict }
+        requires unrefuted { self.old.root_conflicts ≡ 0 }
+        requires stands { StandsAt self.old 0 }
+        requires room { HasRoom most self.old }
+        ensures search { IsSearch self.new }
+        ensures same { Continues self.old self.new }
+        ensures turn { (assume : List Lit) → IsTurn assume self.old → IsTurn assume self.new }
+        ensures room { HasRoom most self.new }
+        ensures answer { IfOk result (λ outcome. (assume : List Lit) → TurnEnds assume most self.old self.new outcome) }
+    {
+        if is_full(self.learnt.len(), most) {
+            return Ok(Outcome::Spent);
+        }
+        if self.settle(conflict)? {
+            Ok(Outcome::Further)
+        } else {
+            Ok(Outcome::Answered(Verdict::Unsat(ListOf::new(self.alloc))))
+        }
+    }
+
+    /// Propagates, and learns from a conflict or assumes further.
+    fn turn(&mut self, assume: &[Lit], most: Option<u64>) -> Result<Outcome, Memory>
+        requires search { IsSearch self.old }
+        requires unrefuted { self.old.root_conflicts ≡ 0 }
+        requires ahead { AheadAt self.old 0 }
+        requires turn { IsTurn assume.now self.old }
+        requires literals { AreLitsOf self.old.problem.vars assume.now }
+        requires room { HasRoom most self.old }
+        ensures search { IsSearch self.new }
+        ensures same { Continues self.old self.new }
+        ensures turn { IsTurn assume.now self.new }
+        ensures room { HasRoom most self.new }
+        ensures answer { IfOk result (TurnEnds assume.now most self.old self.new) }
+    {
+        match self.store.propagate() {
+            None => self.advance(assume),
+            Some(conflict) => self.settle_within(conflict, most),
+        }
+    }
+
+    /// Goes a turn further, and decides a variable where nothing else is to be done.
+    fn step(&mut self, assume: &[Lit], most: Option<u64>) -> Result<Option<Verdict>, Halt>
+        requires search { IsSearch self.old }
+        requires unrefuted { self.old.root_conflicts ≡ 0 }
+        requires ahead { AheadAt self.old 0 }
+        requires turn { IsTurn assume.now self.old }
+        requires literals { AreLitsOf self.old.problem.vars assume.now }
+        requires room { HasRoom most self.old }
+        ensures search { IsSearch self.new }
+        ensures same { Continues self.old self.new }
+        ensures turn { IsTurn assume.now self.new }
+        ensures room { HasRoom most self.new }
+        ensures answer { IfOk result (AdvanceGives assume.now self.old self.new) }
+        ensures halt { IfErr result (HaltsAt most self.new) }
+    {
+        match self.turn(assume, most) {
+            Ok(Outcome::Answered(verdict)) => Ok(Some(verdict)),
+            Ok(Outcome::Further) => Ok(None),
+            Ok(Outcome::Open) => match self.decide_next(assume) {
+                Ok(verdict) => Ok(verdict),
+                Err(_) => Err(Halt::Memory),
+            },
+            Ok(Outcome::Spent) => Err(Halt::Spent),
+            Err(_) => Err(Halt::Memory),
+        }
+    }
+
+    /// Searches until there is a verdict, or as many clauses are learnt as may be.
+    pub fn search(&mut self, assume: &[Lit], most: Option<u64>) -> Result<Verdict, Halt>
+        requires search { IsSearch self.old }
+        requires unrefuted { self.old.root_conflicts ≡ 0 }
+        requires ahead { AheadAt self.old 0 }
+        requires turn { IsTurn assume.now self.old }
+        requires literals { AreLitsOf self.old.problem.vars assume.now }
+        requires room { HasRoom most self.old }
+        ensures search { IsSearch self.new }
+        ensures same { Continues self.old self.new }
+        ensures room { HasRoom most self.new }
+        ensures verdict { IfOk result (Answers self.old.problem assume.now) }
+        ensures halt { IfErr result (HaltsAt most self.new) }
+    {
+        loop {
+            match self.step(assume, most)? {
+                Some(verdict) => return Ok(verdict),
+                None => {}
+            }
+        }
+    }
+
+    /// Counts a search, in which no conflict was met yet.
+    pub fn count_search(&mut self)
+        requires resting { IsResting self.old }
+        ensures resting { IsResting self.new }
+        ensures store { self.new.store ≡ self.old.store }
+        ensures problem { self.new.problem ≡ self.old.problem }
+        ensures learnt { self.new.learnt ≡ self.old.learnt }
+        ensures moments { self.new.moments ≡ self.old.moments }
+        ensures searches { self.new.searches ≡ counted (self.old.searches + 1) }
+        ensures conflicts { self.new.conflicts ≡ 0 }
+        ensures root_conflicts { self.new.root_conflicts ≡ 0 }
+    {
+        self.searches = self.searches.saturating_add(1);
+        self.conflicts = 0;
+        self.root_conflicts = 0;
+    }
+
+    /// Begins a search, and takes back at its end what does not follow.
+    pub fn solve(&mut self, assume: &[Lit], most: Option<u64>) -> Result<Verdict, Halt>
+        requires resting { IsResting self.old }
+        requires literals { AreLitsOf self.old.problem.vars assume.now }
+        requires room { HasRoom most self.old }
+        ensures resting { IsResting self.new }
+        ensures problem { self.new.problem ≡ self.old.problem }
+        ensures searches { self.new.searches ≡ counted (self.old.searches + 1) }
+        ensures learnt { self.old.learnt ≡ take (length self.old.learnt) self.new.learnt }
+        ensures now { LearnsNow self.old self.new }
+        ensures counted { length self.new.learnt ≤ length self.old.learnt + self.new.conflicts }
+        ensures room { HasRoom most self.new }
+        ensures verdict { IfOk result (Answers self.old.problem assume.now) }
+        ensures halt { IfErr result (HaltsAt most self.new) }
+    {
+        self.searches = self.searches.saturating_add(1);
+        self.known = self.learnt.len();
+        self.conflicts = 0;
+        self.root_conflicts = 0;
+        self.assumed = 0;
+        self.decider.begin();
+        let verdict = self.search(assume, most);
+        self.store.back_to(0);
+        verdict
+    }
+}

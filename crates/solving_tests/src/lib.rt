@@ -1,0 +1,13 @@
+//! Tests of the solver and of the crates below it.
+#![tactic(auto)]
+
+#[cfg(test)]
+mod conflicts;
+#[cfg(test)]
+mod fixtures;
+#[cfg(test)]
+mod problems;
+#[cfg(test)]
+mod searches;
+#[cfg(test)]
+mod values;

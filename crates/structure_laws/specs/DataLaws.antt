@@ -1,0 +1,53 @@
+-- Laws of the stage of data.
+use Rattle.std.specs.Prelude.{ℕ, ◌≡◌, ◌↔◌, ◌⊎◌, true, false, List, None, length}
+use Rattle.kb_text.specs.declared.fault.KbFault.{KbFault}
+use Rattle.kb_logic.specs.declared.vocabularies.Vocabulary.{Vocabulary}
+use Rattle.kb_logic.specs.Models.{GroundAtom}
+use Rattle.kb_logic.specs.KnownAtoms.{KnownAtoms}
+use Rattle.kb_logic.specs.Domains.{AreDomainsOf}
+use Rattle.fo_syntax.specs.BlockTrees as raw
+use Rattle.reading_stages.specs.Files.{File}
+use Rattle.reading_stages.specs.NamedTrees.{NamedFormula, NamedTerm}
+use Rattle.reading_stages.specs.Numbering.{NamedFile, IsNamed}
+use Rattle.reading_stages.specs.TermPlaces.{terms_begin, term_begins}
+use Rattle.reading_stages.specs.TypedTrees.{typed_sentence, typed_block_term}
+use Rattle.reading_stages.specs.TypedFiles.{TypedFile}
+use Rattle.reading_stages.specs.TypesStage.{IsTyped}
+use Rattle.reading_stages.specs.DataEntries.{said_in}
+use Rattle.reading_stages.specs.DataFacts.{is_said_true, is_said_false}
+use Rattle.reading_stages.specs.IntegerArguments.{formula_integers, term_integers}
+use Rattle.reading_stages.specs.DataStage.{EntriesRefuse, ArgumentsRefuse, StructureRefuses}
+use Rattle.reading_stages.specs.DataAnswer.{IsDataOf}
+
+-- a refusal is one of what the structure says by itself, or one of an integer beside it
+abbrev pub RefusalsAreParted : Type 0
+RefusalsAreParted =
+    (f : TypedFile) (theory : ℕ) (s : raw.Structure) (q : KbFault)
+    → StructureRefuses f theory s q ↔ (EntriesRefuse f.vocabulary f.places.types s q ⊎ ArgumentsRefuse f theory s q)
+
+-- where nothing is refused, no atom is said to be true and false
+abbrev pub GivenIsConsistent : Type 0
+GivenIsConsistent =
+    (v : Vocabulary) (places : List ℕ) (s : raw.Structure) → ((q : KbFault) → EntriesRefuse v places s q → ⊥)
+    → (a : GroundAtom) → is_said_true (said_in v s) a ≡ true → is_said_false (said_in v s) a ≡ false
+
+-- what the stages of names, types and data accept has domains as they are asked for
+abbrev pub AcceptedHaveDomains : Type 0
+AcceptedHaveDomains =
+    (file : File) (named : NamedFile) (typed : TypedFile) → IsNamed file named → IsTyped named typed
+    → (theory : ℕ) (s : raw.Structure) (answer : KnownAtoms) → IsDataOf typed theory s answer
+    → AreDomainsOf typed.vocabulary answer.domains
+
+-- ---- places
+
+-- there is one item for each place of a term in a sentence
+abbrev pub SentencesHavePlaces : Type 0
+SentencesHavePlaces =
+    (v : Vocabulary) (f : NamedFormula) → length (formula_integers v.symbols (typed_sentence v f))
+    ≡ length (terms_begin f)
+
+-- and for each in a term block
+abbrev pub BlocksHavePlaces : Type 0
+BlocksHavePlaces =
+    (v : Vocabulary) (t : NamedTerm) → length (term_integers v.symbols None (typed_block_term v t))
+    ≡ length (term_begins t)

@@ -1,0 +1,53 @@
+-- Laws of the stage of sizes.
+use Rattle.std.specs.Prelude.{ℕ, ◌≡◌, true, List, [], length, Some, slice_get}
+use Rattle.std.specs.List.{list_all, AllByRecursion}
+use Rattle.kb_logic.specs.declared.elements.Elem.{Elem}
+use Rattle.kb_logic.specs.declared.vocabularies.Vocabulary.{Vocabulary}
+use Rattle.kb_logic.specs.Trees.{TermTree, FormulaTree}
+use Rattle.kb_logic.specs.Structures.{tuples_of}
+use Rattle.kb_logic.specs.Bounds.{IsBounded, TermIsBounded, TheoryIsBounded}
+use Rattle.reading_stages.specs.NamedTrees.{NamedFormula, NamedTerm}
+use Rattle.reading_stages.specs.Numbering.{NamedFile}
+use Rattle.reading_stages.specs.TermPlaces.{terms_begin, term_begins}
+use Rattle.reading_stages.specs.TypedTrees.{typed_sentence, typed_block_term}
+use Rattle.reading_stages.specs.TypedFiles.{TypedTheoryTree, TypedFile}
+use Rattle.reading_stages.specs.TypesStage.{IsTyped}
+use Rattle.reading_stages.specs.Sizes.{size_product, is_small, formula_bounds, term_bounds}
+use Rattle.reading_stages.specs.SizesStage.{Sizes, AreSizesOf}
+
+-- the product of the sizes of domains counts their tuples
+abbrev pub ProductCountsTuples : Type 0
+ProductCountsTuples = (domains : List (List Elem)) (types : List ℕ) → length (tuples_of domains types)
+    ≡ size_product domains types
+
+-- there are bounds for each place of a term in a sentence
+abbrev pub SentencesHaveBounds : Type 0
+SentencesHaveBounds =
+    (v : Vocabulary) (domains : List (List Elem)) (f : NamedFormula)
+    → length (formula_bounds v domains (typed_sentence v f) []) ≡ length (terms_begin f)
+
+-- and for each in a term block
+abbrev pub BlocksHaveBounds : Type 0
+BlocksHaveBounds =
+    (v : Vocabulary) (domains : List (List Elem)) (t : NamedTerm)
+    → length (term_bounds v domains (typed_block_term v t) []) ≡ length (term_begins t)
+
+-- where all these bounds are small, the formula's terms are bounded
+abbrev pub SmallIsBounded : Type 0
+SmallIsBounded =
+    (v : Vocabulary) (domains : List (List Elem)) (f : FormulaTree) (scope : List ℕ)
+    → list_all (list_all is_small) (formula_bounds v domains f scope) ≡ true → IsBounded v domains f scope
+
+-- and so is a term
+abbrev pub SmallTermIsBounded : Type 0
+SmallTermIsBounded =
+    (v : Vocabulary) (domains : List (List Elem)) (t : TermTree) (scope : List ℕ)
+    → list_all (list_all is_small) (term_bounds v domains t scope) ≡ true → TermIsBounded v domains t scope
+
+-- what the stage of sizes accepts is bounded: the chosen theory, and the term of each term block
+abbrev pub AcceptedAreBounded : Type 0
+AcceptedAreBounded =
+    (named : NamedFile) (f : TypedFile) → IsTyped named f → (theory : ℕ) (domains : List (List Elem)) (answer : Sizes)
+    → AreSizesOf f theory domains answer
+    → ((t : TypedTheoryTree) → slice_get f.theories theory ≡ Some t → TheoryIsBounded f.vocabulary domains t.theory)
+    × AllByRecursion (λ b. TermIsBounded f.vocabulary domains b.term []) f.terms

@@ -1,0 +1,27 @@
+//! Laws of the stage of data.
+ghost use Rattle.structure_laws.specs.DataLaws.{AcceptedHaveDomains, BlocksHavePlaces, GivenIsConsistent, RefusalsAreParted, SentencesHavePlaces};
+
+/// A refusal is one of what the structure says by itself, or one of an integer beside it.
+pub fn refusals_are_parted()
+    ensures { RefusalsAreParted }
+{}
+
+/// Where nothing is refused, no atom is said to be true and false.
+pub fn given_is_consistent()
+    ensures { GivenIsConsistent }
+{}
+
+/// What is accepted has domains as they are asked for.
+pub fn accepted_have_domains()
+    ensures { AcceptedHaveDomains }
+{}
+
+/// Each term of a sentence has its place.
+pub fn sentences_have_places()
+    ensures { SentencesHavePlaces }
+{}
+
+/// Each term of a term block has its place.
+pub fn blocks_have_places()
+    ensures { BlocksHavePlaces }
+{}

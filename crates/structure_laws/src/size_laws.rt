@@ -1,0 +1,32 @@
+//! Laws of the stage of sizes.
+ghost use Rattle.structure_laws.specs.SizeLaws.{AcceptedAreBounded, BlocksHaveBounds, ProductCountsTuples, SentencesHaveBounds, SmallIsBounded, SmallTermIsBounded};
+
+/// The product of the sizes of domains counts their tuples.
+pub fn product_counts_tuples()
+    ensures { ProductCountsTuples }
+{}
+
+/// Each term of a sentence has its bounds.
+pub fn sentences_have_bounds()
+    ensures { SentencesHaveBounds }
+{}
+
+/// Each term of a term block has its bounds.
+pub fn blocks_have_bounds()
+    ensures { BlocksHaveBounds }
+{}
+
+/// Where all bounds are small, a formula is bounded.
+pub fn small_is_bounded()
+    ensures { SmallIsBounded }
+{}
+
+/// Where all bounds are small, a term is bounded.
+pub fn small_term_is_bounded()
+    ensures { SmallTermIsBounded }
+{}
+
+/// What is accepted is bounded: the chosen theory and each term block.
+pub fn accepted_are_bounded()
+    ensures { AcceptedAreBounded }
+{}

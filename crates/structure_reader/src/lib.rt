@@ -1,0 +1,7 @@
+//! The stages of data and sizes: what a structure gives, and how large it makes a knowledge base.
+#![tactic(auto)]
+
+mod sizes;
+
+pub use kb_sizes::Measure;
+pub use sizes::measure;

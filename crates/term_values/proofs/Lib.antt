@@ -1,0 +1,11 @@
+pub mod RowFacts
+pub mod RowLaws
+pub mod Offsets
+pub mod Places
+pub mod Chosen
+pub mod StructureAtoms
+pub mod StructureLaws
+pub mod ArgumentTypes
+pub mod TypedLaws
+pub mod KnownLaws
+pub mod FewRows

@@ -1,0 +1,5 @@
+pub mod GroundBases
+pub mod Rows
+pub mod KnownBases
+pub mod GroundTerms
+pub mod Laws
