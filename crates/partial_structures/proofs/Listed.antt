@@ -1,16 +1,14 @@
 -- Which atoms there are, and what the lists of known atoms say.
-use Rattle.std.proofs.Common.{◌≡◌, ℕ, List, map, Bool, false, Option, None, Some, if◌then◌else◌, refl, sym, ap, ◌∙◌, arith, slice_get, filter, is_some, subst}
-use Rattle.std.specs.List.{list_any, enumerate_from}
-use Rattle.std.specs.Option.{option_map_or}
+use Rattle.std.proofs.Common.{◌≡◌, List, Bool, if◌then◌else◌, refl, ap, ◌∙◌, filter}
+use Rattle.std.specs.List.{list_any}
 use Rattle.kb_logic.specs.declared.elements.Elem.{Elem}
 use Rattle.kb_logic.specs.declared.vocabularies.Symbol.{Symbol}
-use Rattle.kb_logic.specs.Structures.{domain_at, tuples_of}
-use Rattle.kb_logic.specs.Models.{GroundAtom, HasValueIn}
-use Rattle.partial_structures.specs.KnownAtoms.{IsAtomOver, atoms_with, atoms_over, same_atom, value_at}
+use Rattle.kb_logic.specs.Models.{GroundAtom}
+use Rattle.partial_structures.specs.KnownAtoms.{atoms_over, same_atom, value_at}
 use Rattle.partial_structures.specs.Status.{is_yes, is_no}
 use Rattle.partial_structures.specs.declared.truths.Truth.{Truth}
 use Rattle.partial_structures.specs.declared.truths.Truth.TheVariants as truth
-use Rattle.kb_logic.proofs.Has.{Has, has_from, has_map, map_has, has_flat_map, flat_map_has, has_enumerated, enumerated_has, any_kept}
+use Rattle.kb_logic.proofs.Has.{Has, any_kept}
 use Rattle.partial_structures.proofs.Sames.{atom_is, atom_itself}
 
 -- the atom is listed exactly where its status is the list's

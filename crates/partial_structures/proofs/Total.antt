@@ -1,5 +1,5 @@
 -- A structure makes every atom known.
-use Rattle.std.proofs.Common.{◌≡◌, ℕ, List, [], ◌∷◌, ◌++◌, map, filter, Bool, true, false, not, if◌then◌else◌, Option, Some, None, refl, sym, ap, ◌∙◌, subst, inl, inr, slice_get}
+use Rattle.std.proofs.Common.{◌≡◌, ℕ, List, [], ◌∷◌, ◌++◌, filter, Bool, true, false, not, if◌then◌else◌, Option, Some, None, refl, sym, ap, ◌∙◌, subst, inl, inr, slice_get}
 use Rattle.std.specs.List.{Contains, AllByRecursion, list_any}
 use Rattle.std.proofs.lemmas.Bool.{cases_Bool}
 use Rattle.kb_logic.specs.declared.elements.Elem.{Elem}
@@ -7,19 +7,17 @@ use Rattle.kb_logic.specs.declared.vocabularies.Symbol.{Symbol}
 use Rattle.kb_logic.specs.declared.vocabularies.Vocabulary.{Vocabulary}
 use Rattle.kb_logic.specs.declared.structures.Structure.{Structure}
 use Rattle.kb_logic.specs.Structures.{IsStructure}
-use Rattle.kb_logic.specs.Denotations.{denotation_of}
 use Rattle.kb_logic.specs.Meaning.{rows_of}
 use Rattle.kb_logic.specs.Models.{GroundAtom, HasValueIn, IsAtomOver, AtomHolds}
 use Rattle.kb_logic.specs.KnownAtoms.{KnownAtoms, atoms_over, ExtendsData, is_true_atom, known_of}
-use Rattle.kb_logic.proofs.AllAtoms.{atom_listed, listed_over}
+use Rattle.kb_logic.proofs.AllAtoms.{atom_listed}
 use Rattle.kb_logic.proofs.Atoms.{among, in_rows, denotes_one, some_same}
-use Rattle.kb_logic.proofs.Has.{Has, has_from, contains_from}
-use Rattle.kb_logic.proofs.Members.{all_in, in_all, from_filter}
+use Rattle.kb_logic.proofs.Has.{has_from, contains_from}
+use Rattle.kb_logic.proofs.Members.{all_in, in_all}
 use Rattle.kb_logic.proofs.Tables.{passes_filter, has_filter}
 use Rattle.partial_structures.specs.KnownAtoms.{value_at, same_atom}
 use Rattle.partial_structures.specs.Consistency.{IsConsistent, KnowsMore, KnowsAll}
 use Rattle.partial_structures.specs.Laws.{StructuresKnowAll, ExtendsIsKnowsMore}
-use Rattle.partial_structures.specs.declared.truths.Truth.{Truth}
 use Rattle.partial_structures.specs.declared.truths.Truth.TheVariants.{Yes, No, Unknown}
 use Rattle.partial_structures.proofs.Extensions.{listed_holds, holds_listed}
 use Rattle.partial_structures.proofs.Listed.{listed}

@@ -1,14 +1,12 @@
 -- Well-typed terms have values in their types, and each of their functions is applied within its types.
-use Rattle.std.proofs.Common.{◌≡◌, ◌<◌, ◌⊎◌, ◌&&◌, ◌+ℤ◌, ℕ, zero, suc, ℤ, pos, neg_ℤ, List, [], ◌∷◌, ◌++◌, map, length, true, Option, Some, None, option_map, unwrap_or, is_some, refl, sym, ap, ◌∙◌, subst, arith, inl, inr, slice_get}
-use Rattle.std.specs.List.{Contains, AllByRecursion}
+use Rattle.std.proofs.Common.{◌≡◌, ◌<◌, ◌⊎◌, ◌+ℤ◌, ℕ, zero, suc, pos, neg_ℤ, List, [], ◌∷◌, ◌++◌, map, length, true, Option, Some, None, option_map, refl, sym, ap, ◌∙◌, subst, arith, inl, inr, slice_get}
+use Rattle.std.specs.List.{Contains}
 use Rattle.std.specs.Option.{option_and_then}
 use Rattle.std.proofs.lemmas.Bool.{and_from}
 use Rattle.std.proofs.lemmas.Int.{ints}
 use Rattle.kb_logic.specs.declared.elements.Elem.{Elem}
 use Rattle.kb_logic.specs.declared.elements.Elem.TheVariants.{Named, Num}
 use Rattle.kb_logic.specs.declared.vocabularies.Bound.{Bound}
-use Rattle.kb_logic.specs.declared.vocabularies.Parent.{Parent}
-use Rattle.kb_logic.specs.declared.vocabularies.Parent.TheVariants.{Of}
 use Rattle.kb_logic.specs.declared.vocabularies.Symbol.{Symbol}
 use Rattle.kb_logic.specs.declared.vocabularies.TypeDecl.{TypeDecl}
 use Rattle.kb_logic.specs.declared.vocabularies.Vocabulary.{Vocabulary}
@@ -26,7 +24,7 @@ use Rattle.kb_logic.proofs.Has.{has_from, has_get, contains_from}
 use Rattle.kb_logic.proofs.Members.{all_in, in_all}
 use Rattle.kb_logic.proofs.WithinBounds.{choice_types, types-append}
 use Rattle.partial_structures.specs.Certainty.{stands_in, are_typed}
-use Rattle.partial_structures.specs.Consistency.{IsDefinedAt, IsNoFunction, AppliesWell, AllApplyWell, OperandsApplyWell, IsWellApplied, AreWellApplied}
+use Rattle.partial_structures.specs.Consistency.{IsNoFunction, AppliesWell, AllApplyWell, OperandsApplyWell, IsWellApplied, AreWellApplied}
 use Rattle.partial_structures.specs.Laws.{TypedIsWellApplied}
 use Rattle.partial_structures.proofs.Soundness.{held_value, row_at}
 use Rattle.partial_structures.proofs.Total.{extends_itself}

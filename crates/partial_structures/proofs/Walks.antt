@@ -1,6 +1,6 @@
 -- Where the arguments of an application lead, and what is known there.
-use Rattle.std.proofs.Common.{◌≡◌, ℕ, List, [], ◌∷◌, map, fold, reverse, Bool, true, false, ◌&&◌, ◌||◌, ◌==◌, if◌then◌else◌, Option, None, Some, is_some, refl, sym, ap, ◌∙◌, ◌⊎◌, inl, inr, filter, subst, slice_get, arith}
-use Rattle.std.specs.List.{list_any, enumerate_from, Contains}
+use Rattle.std.proofs.Common.{◌≡◌, ℕ, List, [], ◌∷◌, map, fold, reverse, Bool, true, false, ◌&&◌, ◌||◌, ◌==◌, if◌then◌else◌, Option, None, Some, is_some, refl, sym, ap, ◌∙◌, ◌⊎◌, inl, inr, filter, subst, slice_get}
+use Rattle.std.specs.List.{list_any, Contains}
 use Rattle.std.specs.Option.{option_map, option_map_or, option_eq}
 use Rattle.std.specs.Str.{bytes_eq}
 use Rattle.std.proofs.lemmas.Bool.{cases_Bool, true≢false, or_cases, or_left, or_right, and_parts, and_from, eqb-true, eq-eqb, and_left, and_right, false_from_ne_true}
@@ -11,7 +11,7 @@ use Rattle.kb_logic.specs.Structures.{domain_at, tuples_of}
 use Rattle.kb_logic.specs.Denotations.{Denotation, named, number, minus_infinity, plus_infinity, undefined, denotation_of, same_value}
 use Rattle.kb_logic.specs.Models.{GroundAtom, HasValueIn}
 use Rattle.kb_logic.proofs.Atoms.{same_is, tuple_elements}
-use Rattle.partial_structures.specs.KnownAtoms.{IsAtomOver, atoms_with, atoms_over, same_row, same_option, value_of_row}
+use Rattle.partial_structures.specs.KnownAtoms.{IsAtomOver, atoms_over, same_row, same_option, value_of_row}
 use Rattle.partial_structures.specs.Certainty.{stands_in, are_typed, arguments_typed, given_value}
 use Rattle.partial_structures.specs.Rows.{child_by, node_of, label_of}
 use Rattle.partial_structures.specs.Words.{words_in, place}
@@ -41,7 +41,7 @@ use Rattle.partial_structures.proofs.Statuses.{never_yes}
 use Rattle.kb_logic.proofs.Tables.{passes_filter}
 use Rattle.partial_structures.proofs.Extensions.{kept_has}
 use Rattle.kb_logic.proofs.AllAtoms.{atom_kind, atom_listed, listed_over}
-use Rattle.kb_logic.proofs.Has.{Has, has_from, map_has, flat_map_has, enumerated_has, contains_from}
+use Rattle.kb_logic.proofs.Has.{Has, has_from, contains_from}
 use Rattle.partial_structures.proofs.Contained.{longer_tuple}
 use Rattle.partial_structures.proofs.Listed.{value_is}
 
