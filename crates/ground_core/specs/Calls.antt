@@ -1,7 +1,9 @@
 -- What calls over a solver keep, one after another.
-use Rattle.std.specs.Prelude.{◌≡◌, ℕ, ◌+◌, ◌-◌, ◌*◌, ◌^◌, ◌<◌, ◌≤◌, length, IfSome, Contains, ◌⊎◌}
+use Rattle.std.specs.Prelude.{◌≡◌, ℕ, ◌+◌, ◌-◌, ◌*◌, ◌^◌, ◌<◌, ◌≤◌, length, IfSome, Contains, ◌⊎◌, Option, Some, None, Result, Ok, Err}
 use Rattle.lit_core.specs.declared.literals.Lit.{Lit}
 use Rattle.ground_core.specs.declared.solving.Budget.{Budget}
+use Rattle.ground_core.specs.declared.solving.Halt.{Halt}
+use Rattle.ground_core.specs.declared.solving.Halt.TheVariants.{Spent, Memory}
 use Rattle.ground_core.specs.Problems.{ProblemState}
 use Rattle.ground_core.specs.Growing.{Conserves}
 use Rattle.ground_core.specs.Solving.{SolveState, IsPrefix, counted}
@@ -40,3 +42,15 @@ pub record Costs (m : ℕ) (old new : SolveState) (b c : Budget) : Type 0 where
 pub record GrowsByAdditions (p q : ProblemState) : Type 0 where
   pub conserves : Conserves p q
   pub retired : (l : Lit) → Contains q.retired l → Contains p.retired l ⊎ (p.vars < l.var.0)
+
+-- nothing was found, or there was no memory
+abbrev pub IsNone : {T : Type 0} → Result (Option T) Halt → Type 0
+IsNone (Ok None) = Unit {0}
+IsNone (Ok (Some x)) = ⊥
+IsNone (Err Spent) = ⊥
+IsNone (Err Memory) = Unit {0}
+
+-- what a kept core refutes is answered at once
+pub record IsAnsweredAtOnce {T : Type 0} (old new : SolveState) (result : Result (Option T) Halt) : Type 0 where
+  pub answer : IsNone result
+  pub learnt : new.learnt ≡ old.learnt

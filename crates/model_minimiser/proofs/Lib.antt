@@ -1,0 +1,3 @@
+pub mod TurnFacts
+pub mod Order
+pub mod DescentFacts
