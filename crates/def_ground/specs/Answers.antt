@@ -1,5 +1,5 @@
 -- What a formula comes to under an assignment: a constant, or a literal that the problem defines.
-use Rattle.std.specs.Prelude.{ℕ, List, [], ◌∷◌, Bool, not}
+use Rattle.std.specs.Prelude.{◌≡◌, ℕ, List, [], ◌∷◌, Bool, not}
 use Rattle.lit_core.specs.declared.literals.Lit.{Lit}
 use Rattle.lit_core.specs.Literals.{literal_value, negated}
 use Rattle.ground_core.specs.Problems.{ProblemState, IsLitOf}
@@ -32,3 +32,7 @@ abbrev pub gate_of : Bool → List Lit → ProblemState → GroundResult
 gate_of all [] p = record { answer = Constant all; problem = p }
 gate_of all (l ∷ []) p = record { answer = Literal l; problem = p }
 gate_of all (l ∷ m ∷ ls) p = record { answer = Literal (next_lit p); problem = with_gate p all (l ∷ m ∷ ls) }
+
+-- the call came to what the definition says: its answer, and its problem
+abbrev pub Makes : GroundResult → Answer → ProblemState → Type 0
+Makes g a q = (a ≡ g.answer) × (q ≡ g.problem)

@@ -3,9 +3,11 @@
 #![tactic(auto)]
 
 mod answers;
+mod gates;
 mod laws;
 
 pub use answers::Answer;
+pub use gates::{gate, push_answer, same};
 pub use laws::{
     assertion_is_right, cases_are_right, few_variables, form_is_right, one_each_by_clauses,
     problem_is_right, problem_is_small, problems_as_worked_out, sentences_are_asserted,
