@@ -23,7 +23,7 @@ use Rattle.structure_laws.specs.SizeLaws.{AcceptedAreBounded}
 use Rattle.structure_laws.proofs.Members.{here, there, some_in, image_in}
 use Rattle.structure_laws.proofs.IntegerPlaces.{lengths}
 use Rattle.structure_laws.proofs.BoundPlaces.{sentences_have_bounds, blocks_have_bounds}
-use Rattle.structure_laws.proofs.Bounded.{formula_bounded, small_term_is_bounded}
+use Rattle.structure_laws.proofs.Bounded.{formula_bounded, term_is_bounded}
 
 -- ---- lists that go together
 
@@ -59,7 +59,7 @@ are_all_small (p ∷ ps) (b ∷ bs) e h =
 
 block_bounded : (v : Vocabulary) (domains : List (List Elem)) (b : NamedTermTree) → AreSmall (uses_of_block v domains (typed_block v b, term_begins b.term)) → TermIsBounded v domains (typed_block v b).term []
 block_bounded v domains b h =
-    small_term_is_bounded v domains (typed_block_term v b.term) []
+    term_is_bounded v domains (typed_block_term v b.term) []
     (are_all_small (term_begins b.term) (term_bounds v domains (typed_block_term v b.term) []) (blocks_have_bounds v domains b.term) h)
 
 each_block : (v : Vocabulary) (domains : List (List Elem)) (bs : List NamedTermTree) → ((b : NamedTermTree) → Contains bs b → TermIsBounded v domains (typed_block v b).term [])

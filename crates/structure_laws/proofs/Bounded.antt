@@ -264,8 +264,147 @@ mutual
             ∙ ap (λ is. own ∷ is) rest.1,
       )
 
+-- ---- the other way: what is bounded is small where it is clamped
+
+not_below : (a b : ℤ) (t : Bool) → int_lt a b ≡ t → b ≤ℤ a → not t ≡ true
+not_below a b true e h = absurd (omega (arith, ints, h))
+not_below a b false e h = refl
+
+small_test : (i : Interval) → IsSmall i → is_small i ≡ true
+small_test i h =
+    both_true (not (int_lt i.low (neg_ℤ (pos bound_limit)))) (not (int_lt (pos bound_limit) i.high))
+    (not_below i.low (neg_ℤ (pos bound_limit)) (int_lt i.low (neg_ℤ (pos bound_limit))) refl h.0)
+    (not_below (pos bound_limit) i.high (int_lt (pos bound_limit) i.high) refl h.1)
+  where
+    both_true : (a b : Bool) → a ≡ true → b ≡ true → (a && b) ≡ true
+    both_true a b h k = ap (λ x. x && b) h ∙ k
+
+abbrev PassAll : List (List Interval) → Type 0
+PassAll bs = list_all (list_all is_small) bs ≡ true
+
+all_tests : (is : List Interval) → AllByRecursion IsSmall is → list_all is_small is ≡ true
+all_tests [] h = refl
+all_tests (i ∷ is) h = ap (λ b. b && list_all is_small is) (small_test i h.0) ∙ all_tests is h.1
+
+passes_first : (is : List Interval) (rest : List (List Interval)) → list_all is_small is ≡ true → PassAll rest → PassAll (is ∷ rest)
+passes_first is rest h k = ap (λ b. b && list_all (list_all is_small) rest) h ∙ k
+
+passes_one : (i : Interval) (rest : List (List Interval)) → IsSmall i → PassAll rest → PassAll ((i ∷ []) ∷ rest)
+passes_one i rest h k = passes_first (i ∷ []) rest (all_tests (i ∷ []) (h, tt)) k
+
+passes_both : (xs ys : List (List Interval)) → PassAll xs → PassAll ys → PassAll (xs ++ ys)
+passes_both xs ys h k = list_all-append (list_all is_small) xs ys ∙ ap (λ b. b && list_all (list_all is_small) ys) h ∙ k
+
+-- the prefixes of a chain that are small are not clamped
+kept_prefixes : (step : Interval → Interval → Interval) → KeepsProper step → (i : Interval) (js : List Interval) → IsProper i → AllByRecursion IsProper js → IsSmall i
+    → AllByRecursion IsSmall (front_bounds step i js)
+    → (front_bounds (λ a b. clamp_interval (step a b)) i js ≡ front_bounds step i js) × (fold (λ a b. clamp_interval (step a b)) i js ≡ fold step i js) × IsSmall (fold step i js)
+kept_prefixes step keeps i [] order orders small h = (refl, refl, small)
+kept_prefixes step keeps i (j ∷ js) order orders small h =
+    let next = keeps i j order orders.0 in
+    let same = small_kept (step i j) next h.0 in
+    let rest = kept_prefixes step keeps (step i j) js next orders.1 h.0 h.1 in
+    (ap (λ (k : Interval). k ∷ front_bounds (λ a b. clamp_interval (step a b)) k js) same ∙ ap (λ ks. step i j ∷ ks) rest.0,
+    ap (λ (k : Interval). fold (λ a b. clamp_interval (step a b)) k js) same ∙ rest.1,
+    rest.2)
+
+-- a term whose clamped bounds are all small, and exact
+record IsExact (v : Vocabulary) (domains : List (List Elem)) (t : TermTree) (scope : List ℕ) : Type 0 where
+  passes : PassAll (term_bounds v domains t scope)
+  same : clamped_bounds v domains t scope ≡ bounds_of v domains t scope
+  small : IsSmall (bounds_of v domains t scope)
+
+mutual
+  formula_exact : (v : Vocabulary) (domains : List (List Elem)) (f : FormulaTree) (scope : List ℕ) → IsBounded v domains f scope → PassAll (formula_bounds v domains f scope)
+  formula_exact v domains verum scope h = refl
+  formula_exact v domains falsum scope h = refl
+  formula_exact v domains (atom s ts) scope h = (terms_exact v domains ts scope h).0
+  formula_exact v domains (comparison c a b) scope h =
+      passes_both (term_bounds v domains a scope) (term_bounds v domains b scope) (term_exact v domains a scope h.0).passes (term_exact v domains b scope h.1).passes
+  formula_exact v domains (negation f) scope h = formula_exact v domains f scope h
+  formula_exact v domains (conjunction fs) scope h = formulas_exact v domains fs scope h
+  formula_exact v domains (disjunction fs) scope h = formulas_exact v domains fs scope h
+  formula_exact v domains (implication f g) scope h =
+      passes_both (formula_bounds v domains f scope) (formula_bounds v domains g scope) (formula_exact v domains f scope h.0) (formula_exact v domains g scope h.1)
+  formula_exact v domains (equivalence f g) scope h =
+      passes_both (formula_bounds v domains f scope) (formula_bounds v domains g scope) (formula_exact v domains f scope h.0) (formula_exact v domains g scope h.1)
+  formula_exact v domains (universal bs f) scope h = formula_exact v domains f (scope ++ types_of bs) h
+  formula_exact v domains (existential bs f) scope h = formula_exact v domains f (scope ++ types_of bs) h
+  formula_exact v domains (numbered c k bs f) scope h = formula_exact v domains f (scope ++ types_of bs) h
+
+  formulas_exact : (v : Vocabulary) (domains : List (List Elem)) (fs : FormulaTrees) (scope : List ℕ) → AreBounded v domains fs scope → PassAll (formulas_bounds v domains fs scope)
+  formulas_exact v domains no_formulas scope h = refl
+  formulas_exact v domains (more_formulas f fs) scope h =
+      passes_both (formula_bounds v domains f scope) (formulas_bounds v domains fs scope) (formula_exact v domains f scope h.0) (formulas_exact v domains fs scope h.1)
+
+  term_exact : (v : Vocabulary) (domains : List (List Elem)) (t : TermTree) (scope : List ℕ) → TermIsBounded v domains t scope → IsExact v domains t scope
+  term_exact v domains (variable n) scope h = record { passes = passes_one (clamped_bounds v domains (variable n) scope) [] h refl; same = refl; small = h }
+  term_exact v domains (integer z) scope h = record { passes = passes_one (exactly z) [] h refl; same = refl; small = h }
+  term_exact v domains (constructed ty n) scope h = record { passes = passes_one (clamped_bounds v domains (constructed ty n) scope) [] h refl; same = refl; small = h }
+  term_exact v domains (application s ts) scope h = record {
+    passes = passes_one (clamped_bounds v domains (application s ts) scope) (terms_bounds v domains ts scope) h.0 (terms_exact v domains ts scope h.1).0;
+    same = refl;
+    small = h.0;
+  }
+  term_exact v domains (summation ss) scope h =
+      let inner = summands_exact v domains ss scope h.1 in
+      let chain = kept_prefixes interval_sum sum_proper (exactly (pos 0)) (summand_bounds v domains ss scope) (exactly_proper (pos 0)) (summands_proper v domains ss scope) (exactly_small 0 (omega arith)) h.0 in
+      let own = ap (front_bounds clamping_sum (exactly (pos 0))) inner.1 ∙ chain.0 in
+      record {
+        passes = passes_first (bounds_at v domains (summation ss) scope) (summands_bounds v domains ss scope) (ap (list_all is_small) own ∙ all_tests (front_bounds interval_sum (exactly (pos 0)) (summand_bounds v domains ss scope)) h.0) inner.0;
+        same = ap (fold clamping_sum (exactly (pos 0))) inner.1 ∙ chain.1;
+        small = chain.2;
+      }
+  term_exact v domains (product ts) scope h =
+      let inner = terms_exact v domains ts scope h.1 in
+      let chain = kept_prefixes interval_product product_proper (exactly (pos 1)) (factor_bounds v domains ts scope) (exactly_proper (pos 1)) (factors_proper v domains ts scope) (exactly_small 1 (omega arith)) h.0 in
+      let own = ap (front_bounds clamping_product (exactly (pos 1))) inner.1 ∙ chain.0 in
+      record {
+        passes = passes_first (bounds_at v domains (product ts) scope) (terms_bounds v domains ts scope) (ap (list_all is_small) own ∙ all_tests (front_bounds interval_product (exactly (pos 1)) (factor_bounds v domains ts scope)) h.0) inner.0;
+        same = ap (fold clamping_product (exactly (pos 1))) inner.1 ∙ chain.1;
+        small = chain.2;
+      }
+  term_exact v domains (aggregate k bs f t) scope h =
+      let inner = scope ++ types_of bs in
+      let n = length (choices domains bs) in
+      let weight = term_exact v domains t inner h.2 in
+      let exact = aggregate_bounds k n (bounds_of v domains t inner) in
+      let kept = small_kept exact (aggregate_proper k n (bounds_of v domains t inner) (bounds_proper v domains t inner)) h.0 in
+      let same = ap (λ (i : Interval). clamp_interval (aggregate_bounds k n i)) weight.same ∙ kept in
+      record {
+        passes = passes_one (clamped_bounds v domains (aggregate k bs f t) scope) (formula_bounds v domains f inner ++ term_bounds v domains t inner) (subst IsSmall (sym same) h.0)
+        (passes_both (formula_bounds v domains f inner) (term_bounds v domains t inner) (formula_exact v domains f inner h.1) weight.passes);
+        same = same;
+        small = h.0;
+      }
+
+  terms_exact : (v : Vocabulary) (domains : List (List Elem)) (ts : TermTrees) (scope : List ℕ) → TermsAreBounded v domains ts scope
+      → PassAll (terms_bounds v domains ts scope) × (clamped_factors v domains ts scope ≡ factor_bounds v domains ts scope)
+  terms_exact v domains no_terms scope h = (refl, refl)
+  terms_exact v domains (more_terms t ts) scope h =
+      let first = term_exact v domains t scope h.0 in
+      let rest = terms_exact v domains ts scope h.1 in
+      (passes_both (term_bounds v domains t scope) (terms_bounds v domains ts scope) first.passes rest.0,
+      ap (λ (i : Interval). i ∷ clamped_factors v domains ts scope) first.same ∙ ap (λ is. bounds_of v domains t scope ∷ is) rest.1)
+
+  summands_exact : (v : Vocabulary) (domains : List (List Elem)) (ss : SummandTrees) (scope : List ℕ) → SummandsAreBounded v domains ss scope
+      → PassAll (summands_bounds v domains ss scope) × (clamped_summands v domains ss scope ≡ summand_bounds v domains ss scope)
+  summands_exact v domains no_summands scope h = (refl, refl)
+  summands_exact v domains (more_summands minus t ss) scope h =
+      let first = term_exact v domains t scope h.0 in
+      let rest = summands_exact v domains ss scope h.1 in
+      let own = signed_interval minus (bounds_of v domains t scope) in
+      let kept = small_kept own (signed_proper minus (bounds_of v domains t scope) (bounds_proper v domains t scope)) (signed_small minus (bounds_of v domains t scope) first.small) in
+      (passes_both (term_bounds v domains t scope) (summands_bounds v domains ss scope) first.passes rest.0,
+      ap (λ (i : Interval). clamp_interval (signed_interval minus i) ∷ clamped_summands v domains ss scope) first.same
+      ∙ ap (λ (i : Interval). i ∷ clamped_summands v domains ss scope) kept
+      ∙ ap (λ is. own ∷ is) rest.1)
+
 pub small_is_bounded : SmallIsBounded
-small_is_bounded = formula_bounded
+small_is_bounded v domains f scope = (formula_bounded v domains f scope, formula_exact v domains f scope)
+
+pub term_is_bounded : (v : Vocabulary) (domains : List (List Elem)) (t : TermTree) (scope : List ℕ) → PassAll (term_bounds v domains t scope) → TermIsBounded v domains t scope
+term_is_bounded v domains t scope h = (term_bounded v domains t scope h).bounded
 
 pub small_term_is_bounded : SmallTermIsBounded
-small_term_is_bounded v domains t scope h = (term_bounded v domains t scope h).bounded
+small_term_is_bounded v domains t scope = (term_is_bounded v domains t scope, λ h. (term_exact v domains t scope h).passes)

@@ -1,5 +1,5 @@
 -- Laws of the stage of sizes.
-use Rattle.std.specs.Prelude.{ℕ, ◌≡◌, true, List, [], length, Some, slice_get}
+use Rattle.std.specs.Prelude.{ℕ, ◌≡◌, ◌↔◌, true, List, [], length, Some, slice_get}
 use Rattle.std.specs.List.{list_all, AllByRecursion}
 use Rattle.kb_logic.specs.declared.elements.Elem.{Elem}
 use Rattle.kb_logic.specs.declared.vocabularies.Vocabulary.{Vocabulary}
@@ -32,17 +32,17 @@ BlocksHaveBounds =
     (v : Vocabulary) (domains : List (List Elem)) (t : NamedTerm)
     → length (term_bounds v domains (typed_block_term v t) []) ≡ length (term_begins t)
 
--- where all these bounds are small, the formula's terms are bounded
+-- these bounds are small exactly where the formula's terms are bounded: what is clamped is refused in any case
 abbrev pub SmallIsBounded : Type 0
 SmallIsBounded =
     (v : Vocabulary) (domains : List (List Elem)) (f : FormulaTree) (scope : List ℕ)
-    → list_all (list_all is_small) (formula_bounds v domains f scope) ≡ true → IsBounded v domains f scope
+    → list_all (list_all is_small) (formula_bounds v domains f scope) ≡ true ↔ IsBounded v domains f scope
 
 -- and so is a term
 abbrev pub SmallTermIsBounded : Type 0
 SmallTermIsBounded =
     (v : Vocabulary) (domains : List (List Elem)) (t : TermTree) (scope : List ℕ)
-    → list_all (list_all is_small) (term_bounds v domains t scope) ≡ true → TermIsBounded v domains t scope
+    → list_all (list_all is_small) (term_bounds v domains t scope) ≡ true ↔ TermIsBounded v domains t scope
 
 -- what the stage of sizes accepts is bounded: the chosen theory, and the term of each term block
 abbrev pub AcceptedAreBounded : Type 0

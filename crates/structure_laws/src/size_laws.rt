@@ -16,12 +16,12 @@ pub fn blocks_have_bounds()
     ensures { BlocksHaveBounds }
 {}
 
-/// Where all bounds are small, a formula is bounded.
+/// All bounds in 64 bits are small exactly where a formula is bounded.
 pub fn small_is_bounded()
     ensures { SmallIsBounded }
 {}
 
-/// Where all bounds are small, a term is bounded.
+/// All bounds in 64 bits are small exactly where a term is bounded.
 pub fn small_term_is_bounded()
     ensures { SmallTermIsBounded }
 {}
