@@ -7,7 +7,7 @@ use Rattle.std.proofs.lemmas.List.{append_assoc, append-nil}
 use Rattle.ground_core.specs.declared.solving.Budget.{Budget}
 use Rattle.ground_core.specs.Solving.{SolveState, IsPrefix, IsBudgetOf, counted}
 use Rattle.ground_core.specs.Laws.{CallsAddUp}
-use Rattle.ground_core.specs.Calls.{Keeps, Counts, CountsUpTo, Costs}
+use Rattle.ground_core.specs.Calls.{Keeps, Counts, CountsUpTo, Costs, Stays}
 
 pub none-yet : (top : ℕ) (s : SolveState) (b : Budget) → s.searches < 2 ^ 64 → Counts top 0 s s b b
 none-yet top s b small = record { searches = omega (arith, small); fewer = omega arith }
@@ -86,6 +86,20 @@ cost-after n r s t a b c free x y rises =
 -- one search alone
 pub cost-once : (n : ℕ) (r s : SolveState) (a b : Budget) → Counts r.free 1 r s a b → a.spent ≤ b.spent → Costs (n + 3) r s a b
 cost-once n r s a b x rises = cost 1 (n + 3) r s a b (omega arith) (omega arith) rises (counts-more r.free (r.free + 1) 1 r s a b (omega arith) x)
+
+pub stays-twice : (r s t : SolveState) → Stays r s → Stays s t → Stays r t
+stays-twice r s t a b = record { problem = b.problem ∙ a.problem; additions = b.additions ∙ a.additions; free = b.free ∙ a.free }
+
+-- one search, and then more
+pub costs-after : (m : ℕ) (r s t : SolveState) (a b c : Budget) → s.free ≡ r.free → Counts r.free 1 r s a b → CountsUpTo s.free m s t b c → a.spent ≤ c.spent → Costs (m + 1) r t a c
+costs-after m r s t a b c free x y rises =
+    let z : Counts r.free y.0 s t b c = subst (λ (f : ℕ). Counts f y.0 s t b c) free y.2 in
+    let w : Counts r.free (1 + y.0) r t a c = counts-twice r.free 1 y.0 r s t a b c x z in
+    cost (1 + y.0) (m + 1) r t a c (omega arith) (omega (arith, y.1)) rises (counts-more r.free (r.free + 1) (1 + y.0) r t a c (omega arith) w)
+
+-- one search alone
+pub costs-once : (m : ℕ) (r s : SolveState) (a b : Budget) → Counts r.free 1 r s a b → a.spent ≤ b.spent → Costs (m + 1) r s a b
+costs-once m r s a b x rises = cost 1 (m + 1) r s a b (omega arith) (omega arith) rises (counts-more r.free (r.free + 1) 1 r s a b (omega arith) x)
 
 pub calls-add-up : CallsAddUp
 calls-add-up r s t a b c = (keeps-twice r s t a b c, λ top k j x y. counts-twice top k j r s t a b c x y)

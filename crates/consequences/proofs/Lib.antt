@@ -1,0 +1,3 @@
+pub mod TestFacts
+pub mod Numbers
+pub mod ForcingFacts
