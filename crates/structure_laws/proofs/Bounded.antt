@@ -303,10 +303,11 @@ kept_prefixes step keeps i [] order orders small h = (refl, refl, small)
 kept_prefixes step keeps i (j ∷ js) order orders small h =
     let next = keeps i j order orders.0 in
     let same = small_kept (step i j) next h.0 in
-    let rest = kept_prefixes step keeps (step i j) js next orders.1 h.0 h.1 in
-    (ap (λ (k : Interval). k ∷ front_bounds (λ a b. clamp_interval (step a b)) k js) same ∙ ap (λ ks. step i j ∷ ks) rest.0,
-    ap (λ (k : Interval). fold (λ a b. clamp_interval (step a b)) k js) same ∙ rest.1,
-    rest.2)
+    let rest = kept_prefixes step keeps (step i j) js next orders.1 h.0 h.1 in (
+      ap (λ (k : Interval). k ∷ front_bounds (λ a b. clamp_interval (step a b)) k js) same ∙ ap (λ ks. step i j ∷ ks) rest.0,
+      ap (λ (k : Interval). fold (λ a b. clamp_interval (step a b)) k js) same ∙ rest.1,
+      rest.2,
+    )
 
 -- a term whose clamped bounds are all small, and exact
 record IsExact (v : Vocabulary) (domains : List (List Elem)) (t : TermTree) (scope : List ℕ) : Type 0 where
@@ -373,7 +374,7 @@ mutual
       let same = ap (λ (i : Interval). clamp_interval (aggregate_bounds k n i)) weight.same ∙ kept in
       record {
         passes = passes_one (clamped_bounds v domains (aggregate k bs f t) scope) (formula_bounds v domains f inner ++ term_bounds v domains t inner) (subst IsSmall (sym same) h.0)
-        (passes_both (formula_bounds v domains f inner) (term_bounds v domains t inner) (formula_exact v domains f inner h.1) weight.passes);
+            (passes_both (formula_bounds v domains f inner) (term_bounds v domains t inner) (formula_exact v domains f inner h.1) weight.passes);
         same = same;
         small = h.0;
       }
@@ -383,9 +384,10 @@ mutual
   terms_exact v domains no_terms scope h = (refl, refl)
   terms_exact v domains (more_terms t ts) scope h =
       let first = term_exact v domains t scope h.0 in
-      let rest = terms_exact v domains ts scope h.1 in
-      (passes_both (term_bounds v domains t scope) (terms_bounds v domains ts scope) first.passes rest.0,
-      ap (λ (i : Interval). i ∷ clamped_factors v domains ts scope) first.same ∙ ap (λ is. bounds_of v domains t scope ∷ is) rest.1)
+      let rest = terms_exact v domains ts scope h.1 in (
+        passes_both (term_bounds v domains t scope) (terms_bounds v domains ts scope) first.passes rest.0,
+        ap (λ (i : Interval). i ∷ clamped_factors v domains ts scope) first.same ∙ ap (λ is. bounds_of v domains t scope ∷ is) rest.1,
+      )
 
   summands_exact : (v : Vocabulary) (domains : List (List Elem)) (ss : SummandTrees) (scope : List ℕ) → SummandsAreBounded v domains ss scope
       → PassAll (summands_bounds v domains ss scope) × (clamped_summands v domains ss scope ≡ summand_bounds v domains ss scope)
@@ -394,11 +396,12 @@ mutual
       let first = term_exact v domains t scope h.0 in
       let rest = summands_exact v domains ss scope h.1 in
       let own = signed_interval minus (bounds_of v domains t scope) in
-      let kept = small_kept own (signed_proper minus (bounds_of v domains t scope) (bounds_proper v domains t scope)) (signed_small minus (bounds_of v domains t scope) first.small) in
-      (passes_both (term_bounds v domains t scope) (summands_bounds v domains ss scope) first.passes rest.0,
-      ap (λ (i : Interval). clamp_interval (signed_interval minus i) ∷ clamped_summands v domains ss scope) first.same
-      ∙ ap (λ (i : Interval). i ∷ clamped_summands v domains ss scope) kept
-      ∙ ap (λ is. own ∷ is) rest.1)
+      let kept = small_kept own (signed_proper minus (bounds_of v domains t scope) (bounds_proper v domains t scope)) (signed_small minus (bounds_of v domains t scope) first.small) in (
+        passes_both (term_bounds v domains t scope) (summands_bounds v domains ss scope) first.passes rest.0,
+        ap (λ (i : Interval). clamp_interval (signed_interval minus i) ∷ clamped_summands v domains ss scope) first.same
+            ∙ ap (λ (i : Interval). i ∷ clamped_summands v domains ss scope) kept
+            ∙ ap (λ is. own ∷ is) rest.1,
+      )
 
 pub small_is_bounded : SmallIsBounded
 small_is_bounded v domains f scope = (formula_bounded v domains f scope, formula_exact v domains f scope)
