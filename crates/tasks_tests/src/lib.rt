@@ -1,0 +1,7 @@
+//! Tests of the tasks over a solver.
+#![tactic(auto)]
+
+#[cfg(test)]
+mod fixtures;
+#[cfg(test)]
+mod forcing;
