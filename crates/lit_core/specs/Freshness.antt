@@ -22,7 +22,8 @@ pub record IsFreshAt (clauses : List (List Lit)) (c : List Lit) (l : Lit) : Type
   pub closed : IsClosedUnder clauses inforce
   pub opened : IsOpenUnder inforce l
 
--- the clause is fresh against these clauses: none of its literals follows from the negations of the others by unit propagation
+-- the clause is fresh against these clauses: some literal of it does not follow from the negations of the others by unit
+-- propagation
 abbrev pub FreshAgainst : List (List Lit) → List Lit → Type 0
 FreshAgainst clauses c = (l : Lit) × IsFreshAt clauses c l
 
