@@ -1,4 +1,4 @@
-use Rattle.std.proofs.Common.{◌≡◌, ◌++◌, List, Bool, Option, sym, ap, ◌∙◌, subst}
+use Rattle.std.proofs.Common.{◌++◌, List, Bool, Option, sym, ap, ◌∙◌, subst}
 use Rattle.lit_core.specs.declared.literals.Lit.{Lit}
 use Rattle.lit_core.specs.Literals.{valuation}
 use Rattle.ground_core.specs.Problems.{AreLitsOf}

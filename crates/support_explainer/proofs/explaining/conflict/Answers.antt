@@ -1,8 +1,8 @@
-use Rattle.std.proofs.Common.{ℕ, ◌++◌, ◌+◌, ◌≤◌, [], List, Option, length, sym, subst, arith}
+use Rattle.std.proofs.Common.{ℕ, ◌+◌, ◌≤◌, [], List, Option, length, sym, subst, arith}
 use Rattle.std.proofs.lemmas.List.{append-nil}
 use Rattle.lit_core.specs.declared.literals.Lit.{Lit}
 use Rattle.ground_core.specs.Problems.{ProblemState, AreLitsOf}
-use Rattle.ground_core.specs.Solving.{SolveState, AreUnretired}
+use Rattle.ground_core.specs.Solving.{AreUnretired}
 use Rattle.ground_core.specs.Calls.{Keeps, Costs}
 use Rattle.ground_core.proofs.CallFacts.{stays-twice, keeps-twice, costs-after, costs-once}
 use Rattle.support_explainer.specs.Reasons.{FindsCore, IsRefuted, IsIrreducible}

@@ -1,4 +1,4 @@
-use Rattle.std.proofs.Common.{◌≡◌, ◌++◌, ◌+◌, ◌-◌, List, IfOk, take, drop, length, sym, ap, ◌∙◌, subst}
+use Rattle.std.proofs.Common.{◌≡◌, ◌++◌, ◌+◌, List, IfOk, take, ap, ◌∙◌, subst}
 use Rattle.lit_core.specs.declared.literals.Lit.{Lit}
 use Rattle.support_explainer.proofs.ItemFacts.{without-parts, take-rest}
 use Rattle.support_explainer.proofs.lists.without_at.Goals as goal
