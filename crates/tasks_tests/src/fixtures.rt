@@ -72,11 +72,20 @@ fn say_all(alloc: Global, problem: &mut Problem, clauses: &[[Lit; 2]]) -> Result
 }
 
 /// The problem of these clauses, with so many ground atoms.
-pub fn said(alloc: Global, atoms: u32, clauses: &[[Lit; 2]]) -> Result<Problem, Memory>
+fn said(alloc: Global, atoms: u32, clauses: &[[Lit; 2]]) -> Result<Problem, Memory>
     ensures plain { IfOk result (λ p. (p.sums ≡ []) × (p.bounds ≡ [])) }
     ensures unnamed { IfOk result (λ p. (p.terms ≡ []) × (p.retired ≡ [])) }
 {
     let mut problem = problem_of(alloc, atoms)?;
     say_all(alloc, &mut problem, clauses)?;
     Ok(problem)
+}
+
+/// 1 or 2, not both of 2 and 3, and 3 where 1 is.
+pub fn example(alloc: Global) -> Result<Problem, Memory>
+    ensures plain { IfOk result (λ p. (p.sums ≡ []) × (p.bounds ≡ [])) }
+    ensures unnamed { IfOk result (λ p. (p.terms ≡ []) × (p.retired ≡ [])) }
+{
+    let clauses = [[yes(1), yes(2)], [no(2), no(3)], [no(1), yes(3)]];
+    said(alloc, 3, &clauses)
 }

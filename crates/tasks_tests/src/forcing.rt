@@ -1,7 +1,7 @@
 //! Which literals are forced.
-ghost use Rattle.std.specs.Prelude.{◌≡◌, [], length, IfOk};
+ghost use Rattle.std.specs.Prelude.{◌≡◌, [], length};
 
-use crate::fixtures::{are_over, no, said, yes};
+use crate::fixtures::{are_over, example, no, yes};
 use brute_force::BruteForce;
 use consequences::{KeptList, forced};
 use ground_core::{Budget, Halt, Memory, Problem, Solve};
@@ -60,15 +60,6 @@ fn forced_by(
         Ok(found) => Ok(found),
         Err(_) => Err(Memory),
     }
-}
-
-/// 1 or 2, not both of 2 and 3, and 3 where 1 is.
-fn example(alloc: Global) -> Result<Problem, Memory>
-    ensures plain { IfOk result (λ p. (p.sums ≡ []) × (p.bounds ≡ [])) }
-    ensures unnamed { IfOk result (λ p. (p.terms ≡ []) × (p.retired ≡ [])) }
-{
-    let clauses = [[yes(1), yes(2)], [no(2), no(3)], [no(1), yes(3)]];
-    said(alloc, 3, &clauses)
 }
 
 #[test]

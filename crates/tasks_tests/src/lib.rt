@@ -5,3 +5,5 @@
 mod fixtures;
 #[cfg(test)]
 mod forcing;
+#[cfg(test)]
+mod reasons;

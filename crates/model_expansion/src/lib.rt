@@ -1,0 +1,6 @@
+//! Models of a problem under assumptions.
+#![tactic(auto)]
+
+mod expansion;
+
+pub use expansion::expand;
