@@ -13,7 +13,7 @@ use Rattle.search_engine.specs.declared.engine.Engine.{Engine}
 use Rattle.clause_learning.specs.declared.keeper.Keeper.{Keeper}
 use Rattle.clause_learning.specs.declared.solver.Solver.TheInside.{Inside}
 use Rattle.ground_core.specs.Solving.{IsKept}
-use Rattle.search_engine.specs.Knowledge.{IsHeldAs, IsOneOf, IsOfConstraint, Knows}
+use Rattle.search_engine.specs.Knowledge.{IsHeldAs, IsOneOf, IsOfConstraint, Occurs, Knows}
 use Rattle.search_engine.specs.Resting.{held_of}
 use Rattle.clause_learning.specs.Keeping.{IsKeeper, kept_of}
 use Rattle.clause_learning.specs.SolverFields.{state_of}
@@ -77,6 +77,7 @@ solver-laws a h =
       said_held = λ c has live. let w = All-contains (λ d. (id : ℕ) × IsHeldAs cl id d × (Contains e.ids.items id → ⊥)) (clauses_of e.problem) c knows.problem has in (w.1.0, contains-held cl w.0 w.1.0 w.1.1, w.1.2);
       learnt_held = zip-has cl e.ids.items e.learnt knows.learnt_held;
       from = all-held (λ k. (IsOneOf (clauses_of e.problem) k ⊎ IsOneOf e.learnt k) ⊎ IsOfConstraint e.problem k) cl (comes-from e.problem e.learnt e.ids.items cl knows);
+      occurs = all-held (All (Occurs e.problem)) cl knows.occurs;
       fewer = h.resting.fewer;
       once = h.resting.once;
     }

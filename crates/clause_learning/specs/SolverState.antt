@@ -9,7 +9,7 @@ use Rattle.ground_core.specs.GateClauses.{clauses_of}
 use Rattle.ground_core.specs.Growth.{empty_problem}
 use Rattle.ground_core.specs.Solving.{SolveState, IsKept, IsLive}
 use Rattle.search_engine.specs.Joining.{joined_problem}
-use Rattle.search_engine.specs.Knowledge.{IsOneOf, IsOfConstraint}
+use Rattle.search_engine.specs.Knowledge.{IsOneOf, IsOfConstraint, Occurs}
 
 pub record SolverState : Type 0 where
   -- what contracts see of every solver
@@ -35,6 +35,8 @@ pub record IsSolver (s : SolverState) : Type 0 where
   pub learnt_held : All (HasClause s.held) s.kept.learnt
   -- and what is held is one of these, or holds wherever one constraint of the problem does
   pub from : All (λ k. (IsOneOf (clauses_of s.kept.problem) k ⊎ IsOneOf s.kept.learnt k) ⊎ IsOfConstraint s.kept.problem k) s.held
+  -- each literal of a held clause stands in a clause of the problem, or a constraint or a term has its variable
+  pub occurs : All (All (Occurs s.kept.problem)) s.held
   pub fewer : s.conflicts < 2 ^ s.kept.problem.vars
   pub once : s.root_conflicts ≤ 1
 

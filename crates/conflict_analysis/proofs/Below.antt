@@ -16,7 +16,7 @@ use Rattle.clause_store.specs.StoreState.{StoreState, IsStore, IsHeld, IsMadeBef
 use Rattle.clause_store.proofs.WatchFacts.{same-held}
 use Rattle.conflict_analysis.specs.declared.resolvent.Resolvent.{Resolvent}
 use Rattle.conflict_analysis.specs.Resolvents.{IsMarked, IsUpper, IsLower, IsNew, Absorbs, TakesLast}
-use Rattle.conflict_analysis.specs.Tracing.{IsRefutedBelow, IsNeeded, IsResolvent, IsTaken}
+use Rattle.conflict_analysis.specs.Tracing.{IsRefutedBelow, IsNeeded, IsSourced, IsResolvent, IsTaken}
 use Rattle.conflict_analysis.proofs.Places.{same-step}
 
 pub map-contains : (xs : List Lit) (m : Lit) → Contains xs m → Contains (map negated xs) (negated m)
@@ -76,6 +76,13 @@ held-more s hints id c cs held h =
     let e : reverse (hints ++ id ∷ []) ≡ id ∷ reverse hints = reverse-append hints (id ∷ []) ∙ ap (λ (ids : List ℕ). ids ++ reverse hints) (reverse-one id) in
     subst (λ (ids : List ℕ). AllZip (IsHeld s) ids (c ∷ cs)) (sym e) (held, h)
 
+-- what is marked comes from held clauses
+pub sourced-more : (s : StoreState) (id : ℕ) (old new : Resolvent) → ((k : ℕ) → IsMarked old k → IsSourced s k) → Absorbs s old id new → (k : ℕ) → IsMarked new k → IsSourced s k
+sourced-more s id old new h a k marked = ⊎_elim
+    (λ u. ⊎_elim (λ o. h k (inl o)) (λ w. (id, a.clause, w.2.0, a.held, w.2.1, w.2.2)) (a.gathers.from_upper k u))
+    (λ l. ⊎_elim (λ o. h k (inr o)) (λ w. (id, a.clause, w.1.0, a.held, w.1.1, w.1.2)) (a.gathers.from_lower k l))
+    marked
+
 -- a resolution begins with a clause that is false
 pub resolvent-start : (s : StoreState) (end floor id : ℕ) (beside : Lit → Type 0) (fresh r : Resolvent) → IsNew floor end fresh → (a : Absorbs s fresh id r) → ((m : Lit) → Contains a.clause m → IsMadeBefore s.trail.steps end (negated m) ⊎ beside (negated m)) → IsResolvent s end beside r
 resolvent-start s end floor id beside fresh r n a made =
@@ -95,8 +102,9 @@ resolvent-start s end floor id beside fresh r n a made =
           (a.gathers.from_upper k has);
       lower = λ k has. ⊎_elim
           (λ old. absurd (nothing_in_none k (subst (λ (ks : List ℕ). Contains ks k) n.lower old)))
-          (λ w. subst (λ (f : ℕ). IsLower s.trail.steps f k) (sym a.gathers.floor) w)
+          (λ w. subst (λ (f : ℕ). IsLower s.trail.steps f k) (sym a.gathers.floor) w.0)
           (a.gathers.from_lower k has);
+      sourced = sourced-more s id fresh r (λ k marked. absurd (⊎_elim (λ u. nothing_in_none k (subst (λ (ks : List ℕ). Contains ks k) n.upper u)) (λ l. nothing_in_none k (subst (λ (ks : List ℕ). Contains ks k) n.lower l)) marked)) a;
     }
 
 -- the last place is taken off
@@ -123,6 +131,13 @@ resolvent-take s end beside place old new h t =
       taken = subst (λ (f : ℕ). IsUpper s.trail.steps f place) (sym t.floor) (h.upper place has).1;
       upper = λ k u. (subst (λ (e : ℕ). k < e) (sym t.top) (t.below k u), subst (λ (f : ℕ). IsUpper s.trail.steps f k) (sym t.floor) (h.upper k (subst (λ (ks : List ℕ). Contains ks k) (sym t.upper) (Contains-append_left new.upper.keys (place ∷ []) k u))).1);
       lower = λ k l. subst (λ (f : ℕ). IsLower s.trail.steps f k) (sym t.floor) (h.lower k (subst (λ (ks : List ℕ). Contains ks k) t.lower l));
+      sourced = λ k way. ⊎_elim
+          (λ (e : k ≡ place). subst (IsSourced s) (sym e) (h.sourced place (inl has)))
+          (λ m. ⊎_elim
+          (λ u. h.sourced k (inl (subst (λ (ks : List ℕ). Contains ks k) (sym t.upper) (Contains-append_left new.upper.keys (place ∷ []) k u))))
+          (λ l. h.sourced k (inr (subst (λ (ks : List ℕ). Contains ks k) t.lower l)))
+          m)
+          way;
     }
 
 -- the place that is taken off is on the trail
@@ -165,8 +180,9 @@ resolvent-resolve s store end beside place id old new t at is h a =
           (a.gathers.from_upper k has);
       lower = λ k has. ⊎_elim
           (λ o. subst (λ (f : ℕ). IsLower s.trail.steps f k) (sym a.gathers.floor) (h.lower k o))
-          (λ w. subst (λ (f : ℕ). IsLower s.trail.steps f k) (sym a.gathers.floor) w)
+          (λ w. subst (λ (f : ℕ). IsLower s.trail.steps f k) (sym a.gathers.floor) w.0)
           (a.gathers.from_lower k has);
+      sourced = sourced-more s id old new (λ k m. h.sourced k (inr m)) a;
     }
 
 -- the place that was taken off is put beside the marks
@@ -189,4 +205,5 @@ resolvent-beside s end beside more place r t at weaker new h =
       within = omega (arith, top, within);
       upper = h.upper;
       lower = h.lower;
+      sourced = λ k m. h.sourced k (inr m);
     }

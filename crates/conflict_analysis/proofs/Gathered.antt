@@ -3,7 +3,7 @@ use Rattle.std.proofs.Common.{◌≡◌, ℕ, ◌<◌, ◌≤◌, Option, Some, 
 use Rattle.std.specs.Ordering.{nat_cmp}
 use Rattle.std.specs.BTreeSet.{insert_key}
 use Rattle.std.specs.Option.{IsSome}
-use Rattle.std.proofs.lemmas.List.Elements.{Contains-push_cases}
+use Rattle.std.proofs.lemmas.List.Elements.{Contains-append_left, Contains-push, Contains-push_cases}
 use Rattle.lit_core.specs.declared.literals.Lit.{Lit}
 use Rattle.lit_core.specs.Literals.{negated}
 use Rattle.lit_core.proofs.LiteralFacts.{nothing_in_none}
@@ -12,7 +12,7 @@ use Rattle.clause_store.specs.TrailState.{TrailState}
 use Rattle.clause_store.specs.TrailLaws.{IsTrail, IsFixed}
 use Rattle.clause_store.specs.StoreState.{IsMadeBefore}
 use Rattle.conflict_analysis.specs.declared.resolvent.Resolvent.{Resolvent}
-use Rattle.conflict_analysis.specs.Resolvents.{IsMadeAt, IsUpper, IsLower, Gathers}
+use Rattle.conflict_analysis.specs.Resolvents.{IsMadeAt, IsOfOne, IsUpper, IsLower, Gathers}
 use Rattle.conflict_analysis.proofs.Keys.{inserted-old, inserted-new, inserted-cases}
 use Rattle.conflict_analysis.proofs.Places.{made-below, variable-of}
 
@@ -40,14 +40,20 @@ gathers-more steps old mid new lits lit h g = record {
   kept_upper = λ k o. g.kept_upper k (h.kept_upper k o);
   kept_lower = λ k o. g.kept_lower k (h.kept_lower k o);
   from_upper = λ k has. ⊎_elim
-      (λ o. h.from_upper k o)
-      (λ n. inr (subst (λ (x : ℕ). k < x) h.top n.0, subst (λ (f : ℕ). IsUpper steps f k) h.floor n.1))
+      (λ o. ⊎_elim (λ u. inl u) (λ w. inr (w.0, w.1, more-of k w.2)) (h.from_upper k o))
+      (λ n. inr (subst (λ (x : ℕ). k < x) h.top n.0, subst (λ (f : ℕ). IsUpper steps f k) h.floor n.1, last-of k n.2))
       (g.from_upper k has);
   from_lower = λ k has. ⊎_elim
-      (λ o. h.from_lower k o)
-      (λ n. inr (subst (λ (f : ℕ). IsLower steps f k) h.floor n))
+      (λ o. ⊎_elim (λ u. inl u) (λ w. inr (w.0, more-of k w.1)) (h.from_lower k o))
+      (λ n. inr (subst (λ (f : ℕ). IsLower steps f k) h.floor n.0, last-of k n.1))
       (g.from_lower k has);
 }
+  where
+    more-of : (k : ℕ) → IsOfOne steps (Contains lits) k → IsOfOne steps (Contains (lits ++ lit ∷ [])) k
+    more-of k w = (w.0, Contains-append_left lits (lit ∷ []) w.0 w.1, w.2)
+
+    last-of : (k : ℕ) → IsOfOne steps (λ m. m ≡ lit) k → IsOfOne steps (Contains (lits ++ lit ∷ [])) k
+    last-of k w = (w.0, subst (Contains (lits ++ lit ∷ [])) (sym w.1) (Contains-push lits lit), w.2)
 
 module _ (s : TrailState) (trail : IsTrail s) (old new : Resolvent) (lit : Lit) (made : IsMadeBefore s.steps old.top (negated lit) ⊎ IsMadeAt s.steps old.top lit) (place : ℕ) (t : Step) (at : slice_get s.steps place ≡ Some t) (same : t.lit.var ≡ lit.var) where
   var-same : t.lit.var.0 ≡ lit.var.0
@@ -69,15 +75,19 @@ module _ (s : TrailState) (trail : IsTrail s) (old new : Resolvent) (lit : Lit) 
     from_lower = λ k h. inl h;
   }
 
-  pub gathers-lower : new.floor ≡ old.floor → new.top ≡ old.top → new.upper.keys ≡ old.upper.keys → new.lower.keys ≡ insert_key nat_cmp old.lower.keys place → t.level < old.floor → Gathers s.steps old (λ m. m ≡ lit) new
-  gathers-lower floor top upper lower lt = record {
+  -- the step there made the literal false
+  of-this : {k : ℕ} → place ≡ k → place < old.top → IsOfOne s.steps (λ m. m ≡ lit) k
+  of-this {k} e lt = (lit, refl, subst (λ (n : ℕ). IsMadeAt s.steps n (negated lit)) e (t, at, made-below s.values s.steps trail.coherent lit old.top place t made at var-same lt))
+
+  pub gathers-lower : new.floor ≡ old.floor → new.top ≡ old.top → new.upper.keys ≡ old.upper.keys → new.lower.keys ≡ insert_key nat_cmp old.lower.keys place → t.level < old.floor → place < old.top → Gathers s.steps old (λ m. m ≡ lit) new
+  gathers-lower floor top upper lower lt below-top = record {
     floor = floor;
     top = top;
     marked = λ m e k below w. inr (subst (λ (ks : List ℕ). Contains ks k) (sym lower) (subst (Contains (insert_key nat_cmp old.lower.keys place)) (is-place m e k w) (inserted-new old.lower.keys place)));
     kept_upper = λ k h. subst (λ (ks : List ℕ). Contains ks k) (sym upper) h;
     kept_lower = λ k h. subst (λ (ks : List ℕ). Contains ks k) (sym lower) (inserted-old old.lower.keys place k h);
     from_upper = λ k h. inl (subst (λ (ks : List ℕ). Contains ks k) upper h);
-    from_lower = λ k h. ⊎_elim (λ o. inl o) (λ e. inr (subst (IsLower s.steps old.floor) e (t, at, lt))) (inserted-cases old.lower.keys place k (subst (λ (ks : List ℕ). Contains ks k) lower h));
+    from_lower = λ k h. ⊎_elim (λ o. inl o) (λ e. inr (subst (IsLower s.steps old.floor) e (t, at, lt), of-this e below-top)) (inserted-cases old.lower.keys place k (subst (λ (ks : List ℕ). Contains ks k) lower h));
   }
 
   reasoned : (o : Option ℕ) → t.reason ≡ o → (IsFixed s (negated lit) → ⊥) → place < old.top → t.level ≡ 0 → IsSome o
@@ -91,6 +101,6 @@ module _ (s : TrailState) (trail : IsTrail s) (old new : Resolvent) (lit : Lit) 
     marked = λ m e k below w. inl (subst (λ (ks : List ℕ). Contains ks k) (sym upper) (subst (Contains (insert_key nat_cmp old.upper.keys place)) (is-place m e k w) (inserted-new old.upper.keys place)));
     kept_upper = λ k h. subst (λ (ks : List ℕ). Contains ks k) (sym upper) (inserted-old old.upper.keys place k h);
     kept_lower = λ k h. subst (λ (ks : List ℕ). Contains ks k) (sym lower) h;
-    from_upper = λ k h. ⊎_elim (λ o. inl o) (λ e. inr (subst (λ (n : ℕ). n < old.top) e lt, subst (IsUpper s.steps old.floor) e (t, at, le, reasoned t.reason refl unfixed lt))) (inserted-cases old.upper.keys place k (subst (λ (ks : List ℕ). Contains ks k) upper h));
+    from_upper = λ k h. ⊎_elim (λ o. inl o) (λ e. inr (subst (λ (n : ℕ). n < old.top) e lt, subst (IsUpper s.steps old.floor) e (t, at, le, reasoned t.reason refl unfixed lt), of-this e lt)) (inserted-cases old.upper.keys place k (subst (λ (ks : List ℕ). Contains ks k) upper h));
     from_lower = λ k h. inl (subst (λ (ks : List ℕ). Contains ks k) lower h);
   }

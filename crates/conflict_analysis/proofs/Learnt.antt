@@ -13,10 +13,10 @@ use Rattle.clause_store.proofs.ListFacts.{slice_get-push_old}
 use Rattle.clause_store.proofs.WatchFacts.{same-held, made-false}
 use Rattle.conflict_analysis.specs.declared.analysis.Analysis.{Analysis}
 use Rattle.conflict_analysis.specs.declared.resolvent.Resolvent.{Resolvent}
-use Rattle.conflict_analysis.specs.Analyses.{IsFalseSince, IsFalseUpTo, HasCurrent, FollowsFrom, IsUnitBackAt, IsAnalysis}
+use Rattle.conflict_analysis.specs.Analyses.{IsFalseSince, IsFalseUpTo, HasCurrent, FollowsFrom, IsHeldLiteral, IsUnitBackAt, IsAnalysis}
 use Rattle.conflict_analysis.specs.Learning.{IsLastLevel, IsClauseOf, IsClauseAbove}
 use Rattle.conflict_analysis.specs.Resolvents.{IsMadeAt, IsMarked, IsNew, Absorbs, TakesLast}
-use Rattle.conflict_analysis.specs.Tracing.{IsNeeded, IsTaken, NoLiteral, HasUpper, IsCurrent, IsLast}
+use Rattle.conflict_analysis.specs.Tracing.{IsNeeded, IsSourced, IsTaken, NoLiteral, HasUpper, IsCurrent, IsLast}
 use Rattle.conflict_analysis.proofs.Places.{same-step, variable-of, of-conflict, lower-place}
 use Rattle.conflict_analysis.proofs.Below.{below-finish, resolvent-start, resolvent-take, resolvent-resolve}
 use Rattle.conflict_analysis.proofs.Traced.{once-push, once-single}
@@ -40,9 +40,9 @@ current-start s store id fresh r conflict current n a =
           (λ l. ⊎_elim
           (λ o. absurd (nothing_in_none false_by.0 (subst (λ (ks : List ℕ). Contains ks false_by.0) n.lower o)))
           (λ w.
-          let one : w.0.level ≡ false_by.1.level = ap (λ (x : Step). x.level) (same-step s.trail.steps false_by.0 w.0 false_by.1 w.1 false_by.2) in
+          let one : w.0.0.level ≡ false_by.1.level = ap (λ (x : Step). x.level) (same-step s.trail.steps false_by.0 w.0.0 false_by.1 w.0.1 false_by.2) in
           let at : false_by.1.level ≡ s.trail.level = false_by.4 in
-          let low : w.0.level < fresh.floor = w.2 in
+          let low : w.0.0.level < fresh.floor = w.0.2 in
           absurd (omega (arith, one, at, low, floor)))
           (a.gathers.from_lower false_by.0 l))
           (a.gathers.marked current.2.0 (subst (λ (c : List Lit). Contains c current.2.0) (same-held s id current.0 a.clause current.1 a.held) current.2.1) false_by.0 (omega (arith, within, top)) (false_by.1, false_by.2, false_by.3));
@@ -237,6 +237,20 @@ module _ (s : StoreState) (store : IsStore s) (high : 0 < s.trail.level) (place 
       (λ w. made-false s.trail.values s.trail.steps m store.trail.coherent w.0 w.2.0 w.2.1 w.2.2)
       (clause.from m has)
 
+  -- each literal stands in a held clause
+  of-held : (m : Lit) (k : ℕ) → IsMadeAt s.trail.steps k (negated m) → IsSourced s k → IsHeldLiteral s m
+  of-held m k w o =
+      let one : w.0 ≡ o.5.0 = same-step s.trail.steps k w.0 o.5.0 w.1 o.5.1 in
+      let same : negated m ≡ negated o.2 = sym w.2 ∙ (ap (λ (x : Step). x.lit) one ∙ o.5.2) in
+      let lit : o.2 ≡ m = sym (negated-negated o.2) ∙ (ap negated (sym same) ∙ negated-negated m) in
+      (o.0, o.1, o.3, subst (Contains o.1) lit o.4)
+
+  is-held : (m : Lit) → Contains c m → IsHeldLiteral s m
+  is-held m has = ⊎_elim
+      (λ (e : m ≡ clause.asserting). subst (IsHeldLiteral s) (sym e) (of-held clause.asserting place clause.made (h.taken.sourced place (inl refl))))
+      (λ w. of-held m w.0 w.2 (h.taken.sourced w.0 (inr (inr w.1))))
+      (clause.from m has)
+
   pub learnt : (a : Analysis) → a.clause.items ≡ c → a.level ≡ level → a.hints.items ≡ reverse r.hints.items → IsAnalysis s a
   learnt a same_clause same_level same_hints = record {
     follows = subst (λ (x : List Lit). FollowsFrom s x a.hints.items) (sym same_clause) (learnt-from a.hints.items same_hints);
@@ -250,4 +264,5 @@ module _ (s : StoreState) (store : IsStore s) (high : 0 < s.trail.level) (place 
     }));
     falsified = subst (λ (x : List Lit). All (λ (l : Lit). value_in s.trail.values l ≡ Some false) x) (sym same_clause) (λ k d lt. is-false (get_or c k d) (Contains-get_or c k d lt));
     once = subst HasEachOnce (sym same_clause) clause.once;
+    held = subst (All (IsHeldLiteral s)) (sym same_clause) (λ k d lt. is-held (get_or c k d) (Contains-get_or c k d lt));
   }

@@ -38,12 +38,17 @@ pub record IsUnitBackAt (s : TrailState) (level : ℕ) (c : List Lit) : Type 0 w
   pub others : All (λ m. (m ≡ asserting) ⊎ IsFalseUpTo s level m) c
   pub least : (level ≡ 0) ⊎ ((m : Lit) × Contains c m × IsFalseSince s level m)
 
--- the clause is false, follows from held clauses, and is unit once the trail is back at the level
+-- the literal stands in a held clause
+abbrev pub IsHeldLiteral : StoreState → Lit → Type 0
+IsHeldLiteral s m = (id : ℕ) × (c : List Lit) × IsHeld s id c × Contains c m
+
+-- the clause is false, follows from held clauses, of whose literals it is made, and is unit once the trail is back at the level
 pub record IsAnalysis (s : StoreState) (a : Analysis) : Type 0 where
   pub follows : FollowsFrom s a.clause.items a.hints.items
   pub unit_back : IsUnitBackAt s.trail a.level a.clause.items
   pub falsified : IsFalsified s.trail.values a.clause.items
   pub once : HasEachOnce a.clause.items
+  pub held : All (IsHeldLiteral s) a.clause.items
 
 -- a decision made the literal true
 abbrev pub IsDecided : TrailState → Lit → Type 0

@@ -22,6 +22,10 @@ IsUpper steps floor k = (t : Step) × (slice_get steps k ≡ Some t) × (floor �
 abbrev pub IsLower : List Step → ℕ → ℕ → Type 0
 IsLower steps floor k = (t : Step) × (slice_get steps k ≡ Some t) × (t.level < floor)
 
+-- the step at this place made one of these literals false
+abbrev pub IsOfOne : List Step → (Lit → Type 0) → ℕ → Type 0
+IsOfOne steps has k = (m : Lit) × has m × IsMadeAt steps k (negated m)
+
 -- nothing is marked yet
 pub record IsNew (floor top : ℕ) (r : Resolvent) : Type 0 where
   pub floor_is : r.floor ≡ floor
@@ -50,8 +54,8 @@ pub record Gathers (steps : List Step) (old : Resolvent) (has : Lit → Type 0) 
   pub marked : (m : Lit) → has m → (k : ℕ) → k < old.top → IsMadeAt steps k (negated m) → IsMarked new k
   pub kept_upper : (k : ℕ) → Contains old.upper.keys k → Contains new.upper.keys k
   pub kept_lower : (k : ℕ) → Contains old.lower.keys k → Contains new.lower.keys k
-  pub from_upper : (k : ℕ) → Contains new.upper.keys k → Contains old.upper.keys k ⊎ ((k < old.top) × IsUpper steps old.floor k)
-  pub from_lower : (k : ℕ) → Contains new.lower.keys k → Contains old.lower.keys k ⊎ IsLower steps old.floor k
+  pub from_upper : (k : ℕ) → Contains new.upper.keys k → Contains old.upper.keys k ⊎ ((k < old.top) × IsUpper steps old.floor k × IsOfOne steps has k)
+  pub from_lower : (k : ℕ) → Contains new.lower.keys k → Contains old.lower.keys k ⊎ (IsLower steps old.floor k × IsOfOne steps has k)
 
 -- a held clause whose literals were made false before the place, but for the one that the step there made true
 abbrev pub IsOfStep : StoreState → ℕ → ℕ → Type 0

@@ -23,6 +23,10 @@ IsRefutedBelow steps top end needed clauses = (inforce : List Lit) → ((l : Lit
 abbrev pub IsNeeded : List Step → (Lit → Type 0) → (ℕ → Type 0) → Lit → Type 0
 IsNeeded steps beside marked l = beside l ⊎ ((k : ℕ) × marked k × IsMadeAt steps k l)
 
+-- the step at this place made a literal of a held clause false
+abbrev pub IsSourced : StoreState → ℕ → Type 0
+IsSourced s k = (id : ℕ) × (c : List Lit) × (m : Lit) × IsHeld s id c × Contains c m × IsMadeAt s.trail.steps k (negated m)
+
 -- the hints, last first, refute what is marked
 pub record IsResolvent (s : StoreState) (end : ℕ) (beside : Lit → Type 0) (r : Resolvent) : Type 0 where
   pub hinted : List (List Lit)
@@ -31,6 +35,7 @@ pub record IsResolvent (s : StoreState) (end : ℕ) (beside : Lit → Type 0) (r
   pub within : r.top ≤ end
   pub upper : (k : ℕ) → Contains r.upper.keys k → (k < r.top) × IsUpper s.trail.steps r.floor k
   pub lower : (k : ℕ) → Contains r.lower.keys k → IsLower s.trail.steps r.floor k
+  pub sourced : (k : ℕ) → IsMarked r k → IsSourced s k
 
 -- the same with a place that was taken off
 pub record IsTaken (s : StoreState) (end : ℕ) (beside : Lit → Type 0) (place : ℕ) (r : Resolvent) : Type 0 where
@@ -42,6 +47,7 @@ pub record IsTaken (s : StoreState) (end : ℕ) (beside : Lit → Type 0) (place
   pub taken : IsUpper s.trail.steps r.floor place
   pub upper : (k : ℕ) → Contains r.upper.keys k → (k < r.top) × IsUpper s.trail.steps r.floor k
   pub lower : (k : ℕ) → Contains r.lower.keys k → IsLower s.trail.steps r.floor k
+  pub sourced : (k : ℕ) → (k ≡ place) ⊎ IsMarked r k → IsSourced s k
 
 -- no literal
 abbrev pub NoLiteral : Lit → Type 0

@@ -51,6 +51,7 @@ pub known-same : (p : ProblemState) (learnt : List (List Lit)) (ids : List ℕ) 
 known-same p learnt ids a b back there h = record {
   implied = λ v s id k e. h.implied v s id k (back id k e);
   within = λ id k e. h.within id k (back id k e);
+  occurs = λ id k e. h.occurs id k (back id k e);
   from = λ id k e. h.from id k (back id k e);
   problem = All-weaker (λ c. (id : ℕ) × IsHeldAs a id c × (Contains ids id → ⊥)) (λ c. (id : ℕ) × IsHeldAs b id c × (Contains ids id → ⊥)) (λ c w. (w.0, (w.1.0, there w.0 w.1.0 w.1.1, w.1.2), w.2)) (clauses_of p) h.problem;
   learnt_held = zip-held a b there ids learnt h.learnt_held;

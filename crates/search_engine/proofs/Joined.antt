@@ -1,6 +1,6 @@
 -- Two problems together.
-use Rattle.std.proofs.Common.{◌≡◌, ℕ, ◌+◌, ◌<◌, ◌≤◌, Bool, false, List, [], ◌∷◌, ◌++◌, length, length-append, flat_map, refl, sym, ap, ◌∙◌, subst, ⊎_elim, arith, All, Any, Contains, append_assoc}
-use Rattle.std.proofs.lemmas.List.Elements.{All-append, All-weaker, All-nil, All-contains, All-contains_itself}
+use Rattle.std.proofs.Common.{◌≡◌, ℕ, ◌+◌, ◌<◌, ◌≤◌, Bool, false, List, [], ◌∷◌, ◌++◌, length, length-append, flat_map, refl, sym, ap, ◌∙◌, subst, inl, inr, ◌⊎◌, ⊎_elim, arith, All, Any, Contains, append_assoc}
+use Rattle.std.proofs.lemmas.List.Elements.{All-append, All-weaker, All-nil, All-contains, All-contains_itself, Contains-append_left}
 use Rattle.lit_core.specs.declared.literals.Lit.{Lit}
 use Rattle.lit_core.specs.Literals.{literal_value}
 use Rattle.lit_core.specs.Truth.{IsSatisfied}
@@ -11,7 +11,8 @@ use Rattle.ground_core.specs.Problems.{ProblemState, IsProblem, IsLitOf, AreLits
 use Rattle.ground_core.specs.Meaning.{Satisfies, GateHolds, SumHolds, BoundHolds, AreAllFalse}
 use Rattle.ground_core.specs.GateClauses.{clauses_of, gate_clauses}
 use Rattle.ground_core.proofs.Fronts.{All-front, All-back}
-use Rattle.search_engine.specs.Knowledge.{IsOfConstraint}
+use Rattle.search_engine.specs.Knowledge.{IsOfConstraint, IsOfSum, IsConstrained, Occurs}
+use Rattle.ground_core.specs.declared.parts.TermBound.{TermBound}
 use Rattle.search_engine.specs.Joining.{joined_problem, CanJoin}
 
 pub lit-wider : (m n : ℕ) → m ≤ n → (l : Lit) → IsLitOf m l → IsLitOf n l
@@ -121,3 +122,19 @@ module _ (p q : ProblemState) (c : List Lit) where
 
   pub joined-has-second : Contains (clauses_of q) c → Contains (clauses_of (joined_problem p q)) c
   joined-has-second h = All-contains (Contains (clauses_of (joined_problem p q))) (clauses_of q) c (all-second p q (Contains (clauses_of (joined_problem p q))) (All-contains_itself (clauses_of (joined_problem p q)))) h
+
+any-front : {X : Type 0} (P : X → Type 0) (xs ys : List X) → Any P xs → Any P (xs ++ ys)
+any-front P xs ys w = let has = Contains-append_left xs ys w.1 (w.0, w.2, w.3) in (has.0, w.1, has.1, has.2, w.4)
+
+-- a literal of the first is one of both
+pub joined-occurs : (p q : ProblemState) → (l : Lit) → Occurs p l → Occurs (joined_problem p q) l
+joined-occurs p q l way = ⊎_elim
+    (λ (w : Any (λ c. Contains c l) (clauses_of p)). let has = joined-has-first p q w.1 (w.0, w.2, w.3) in inl (has.0, w.1, has.1, has.2, w.4))
+    (λ (w : IsConstrained p l). inr (⊎_elim
+    (λ (s : Any (IsOfSum l) p.sums). inl (any-front (IsOfSum l) p.sums q.sums s))
+    (λ (r : Any (λ (b : TermBound). b.out.var.0 ≡ l.var.0) p.bounds ⊎ Any (λ (t : GroundTerm). Any (λ (u : Part). u.lit.var.0 ≡ l.var.0) t.parts) p.terms). inr (⊎_elim
+    (λ (b : Any (λ (b : TermBound). b.out.var.0 ≡ l.var.0) p.bounds). inl (any-front (λ (b : TermBound). b.out.var.0 ≡ l.var.0) p.bounds q.bounds b))
+    (λ (t : Any (λ (t : GroundTerm). Any (λ (u : Part). u.lit.var.0 ≡ l.var.0) t.parts) p.terms). inr (any-front (λ (t : GroundTerm). Any (λ (u : Part). u.lit.var.0 ≡ l.var.0) t.parts) p.terms q.terms t))
+    r))
+    w))
+    way

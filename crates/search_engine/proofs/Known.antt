@@ -2,7 +2,7 @@
 use Rattle.std.proofs.Common.{◌≡◌, ℕ, suc, zero, ◌<◌, ◌≤◌, Bool, Option, Some, List, [], ◌∷◌, ◌++◌, length, take, slice_get, get_or, refl, sym, subst, ◌⊎◌, inl, inr, ⊎_elim, arith, All, Contains}
 use Rattle.std.specs.List.{AllZip}
 use Rattle.std.proofs.lemmas.Bool.{cases_lt}
-use Rattle.std.proofs.lemmas.List.Elements.{All-weaker, All-contains, Contains-append_left, Contains-push, Contains-push_cases}
+use Rattle.std.proofs.lemmas.List.Elements.{All-weaker, All-contains, Contains-get_or, Contains-append_left, Contains-push, Contains-push_cases}
 use Rattle.std.proofs.lemmas.Option.{slice_get_within, same_Some}
 use Rattle.lit_core.specs.declared.literals.Lit.{Lit}
 use Rattle.lit_core.specs.Truth.{IsSatisfied}
@@ -15,8 +15,8 @@ use Rattle.ground_core.specs.Solving.{Entails}
 use Rattle.ground_core.specs.GateClauses.{clauses_of}
 use Rattle.ground_core.proofs.Whole.{clauses-satisfied, clauses-within}
 use Rattle.search_engine.specs.Joining.{joined_problem, CanJoin}
-use Rattle.search_engine.specs.Knowledge.{IsHeldAs, IsOneOf, IsOfConstraint, Knows, Pushes}
-use Rattle.search_engine.proofs.Joined.{lits-wider, joined-first, joined-second, joined-all, joined-has-first, joined-has-second, joined-constraint}
+use Rattle.search_engine.specs.Knowledge.{IsHeldAs, IsOneOf, IsOfConstraint, Occurs, Knows, Pushes}
+use Rattle.search_engine.proofs.Joined.{lits-wider, joined-first, joined-second, joined-all, joined-has-first, joined-has-second, joined-constraint, joined-occurs}
 use Rattle.search_engine.proofs.Pushed.{front-back, front-push, held-later, held-from-each}
 
 -- the same literals have the same truth
@@ -82,6 +82,12 @@ module _ (p q : ProblemState) (learnt : List (List Lit)) (ids : List ℕ) (cl ne
       (λ ge. let w = pushed.from id k ge e in inr (inl (w.0, joined-has-second p q w.0 w.1, w.2)))
       (cases_lt id (length cl))
 
+  added-occurs : (id : ℕ) (k : List Lit) → slice_get new id ≡ Some (Some k) → All (Occurs both) k
+  added-occurs id k e = ⊎_elim
+      (λ lt. All-weaker (Occurs p) (Occurs both) (joined-occurs p q) k (h.occurs id k (front-back cl new pushed.front id (Some k) lt e)))
+      (λ ge. let w = pushed.from id k ge e in let has = joined-has-second p q w.0 w.1 in once-all (Occurs both) w.0 k w.2 (λ i d lt. inl (has.0, w.0, has.1, has.2, Contains-get_or w.0 i d lt)))
+      (cases_lt id (length cl))
+
   abbrev Apart : List Lit → Type 0
   Apart c = (id : ℕ) × IsHeldAs new id c × (Contains ids id → ⊥)
 
@@ -96,6 +102,7 @@ module _ (p q : ProblemState) (learnt : List (List Lit)) (ids : List ℕ) (cl ne
     implied = added-implied;
     within = added-within;
     from = added-from;
+    occurs = added-occurs;
     problem = joined-all p q Apart
         (All-weaker (λ c. (id : ℕ) × IsHeldAs cl id c × (Contains ids id → ⊥)) Apart old-apart (clauses_of p) h.problem)
         (held-from-each Apart new (length cl) (clauses_of q) (λ n c le x. new-apart c (n, le, x)) pushed.held);
@@ -103,7 +110,7 @@ module _ (p q : ProblemState) (learnt : List (List Lit)) (ids : List ℕ) (cl ne
   }
 
 -- a learnt clause was pushed
-module _ (p : ProblemState) (learnt : List (List Lit)) (ids : List ℕ) (cl : List (Option (List Lit))) (c k : List Lit) (h : Knows p learnt ids cl) (entailed : Entails p c) (lits : AreLitsOf p.vars c) (once : IsEachOnceOf c k) where
+module _ (p : ProblemState) (learnt : List (List Lit)) (ids : List ℕ) (cl : List (Option (List Lit))) (c k : List Lit) (h : Knows p learnt ids cl) (entailed : Entails p c) (lits : AreLitsOf p.vars c) (occurs : All (Occurs p) c) (once : IsEachOnceOf c k) where
   abbrev more : List (Option (List Lit))
   more = cl ++ Some k ∷ []
 
@@ -125,6 +132,10 @@ module _ (p : ProblemState) (learnt : List (List Lit)) (ids : List ℕ) (cl : Li
         (λ o. h.within id j o)
         (λ n. subst (AreLitsOf p.vars) (sym (same_Some j k n.1)) (once-all (IsLitOf p.vars) c k once lits))
         (slice_get-push_cases cl (Some k) id (Some j) e);
+    occurs = λ id j e. ⊎_elim
+        (λ o. h.occurs id j o)
+        (λ n. subst (All (Occurs p)) (sym (same_Some j k n.1)) (once-all (Occurs p) c k once occurs))
+        (slice_get-push_cases cl (Some k) id (Some j) e);
     from = λ id j e. ⊎_elim
         (λ o. ⊎_elim (λ has. inl (Contains-append_left ids (length cl ∷ []) id has)) (λ w. inr w) (h.from id j o))
         (λ n. inl (subst (Contains more-ids) (sym n.0) (Contains-push ids (length cl))))
@@ -138,6 +149,7 @@ pub known-forgets : (p : ProblemState) (learnt : List (List Lit)) (ids : List �
 known-forgets p learnt ids cl new h was stays gone = record {
   implied = λ v s id k e. h.implied v s id k (was id k e);
   within = λ id k e. h.within id k (was id k e);
+  occurs = λ id k e. h.occurs id k (was id k e);
   from = λ id k e. ⊎_elim (λ has. absurd (gone id k has e)) (λ w. inr w) (h.from id k (was id k e));
   problem = All-weaker (λ d. (id : ℕ) × IsHeldAs cl id d × (Contains ids id → ⊥)) (λ d. (id : ℕ) × IsHeldAs new id d × (Contains [] id → ⊥)) (λ d w. (w.0, (w.1.0, stays w.0 w.1.0 w.1.1 w.2, w.1.2), λ has. nothing_in_none w.0 has)) (clauses_of p) h.problem;
   learnt_held = tt;

@@ -55,7 +55,7 @@ module _ (e f : Engine) (h : IsSearch e) (quiet : IsQuiet e.store) (lits held : 
     bounds = rw problem h.engine.bounds;
     retired = rw problem h.engine.retired;
     learnt = rw (problem, learnt, moments) (learnt-push e.problem e.learnt e.moments.items lits h.engine.learnt (lesson-learnt e.problem e.learnt lits h.engine.retired lesson.entailed (lesson-fresh e.problem e.learnt e.ids.items e.store h.engine.knows quiet lits lesson.others open-first)));
-    knows = rw (problem, learnt, ids, clauses) (known-learnt e.problem e.learnt e.ids.items e.store.clauses lits held h.engine.knows lesson.entailed lesson.within once);
+    knows = rw (problem, learnt, ids, clauses) (known-learnt e.problem e.learnt e.ids.items e.store.clauses lits held h.engine.knows lesson.entailed lesson.within lesson.occurs once);
     store = laws;
     sized = rw (problem, size) h.engine.sized;
   }

@@ -1,6 +1,7 @@
 -- How a search moves.
 use Rattle.std.proofs.Common.{◌≡◌, ℕ, ◌+◌, ◌-◌, ◌^◌, ◌<◌, ◌≤◌, min, Bool, false, Option, Some, List, [], ◌∷◌, ◌++◌, length, take, drop, replicate, slice_get, get_or, refl, sym, ap, ◌∙◌, subst, inr, ⊎_elim, arith, append_assoc}
 use Rattle.std.proofs.lemmas.Bool.{cases_lt}
+use Rattle.std.proofs.lemmas.List.Elements.{All-weaker, All-contains}
 use Rattle.std.proofs.lemmas.List.{take-append-drop, append-nil}
 use Rattle.lit_core.specs.declared.literals.Lit.{Lit}
 use Rattle.lit_core.specs.Literals.{value_in, negated}
@@ -13,7 +14,7 @@ use Rattle.clause_store.proofs.ListFacts.{slice_get-take-below}
 use Rattle.clause_store.proofs.StoreFacts.{negated-true}
 use Rattle.clause_store.proofs.WatchFacts.{made-false}
 use Rattle.conflict_analysis.specs.declared.analysis.Analysis.{Analysis}
-use Rattle.conflict_analysis.specs.Analyses.{IsAnalysis, IsFalseUpTo, HasCurrent}
+use Rattle.conflict_analysis.specs.Analyses.{IsAnalysis, IsHeldLiteral, IsFalseUpTo, HasCurrent}
 use Rattle.conflict_analysis.proofs.UnitBack.{unit-after-step-back}
 use Rattle.ground_core.specs.Problems.{ProblemState, IsProblem, IsLitOf, AreLitsOf}
 use Rattle.ground_core.specs.Meaning.{Satisfies, RefutesAll}
@@ -21,6 +22,7 @@ use Rattle.ground_core.specs.declared.moments.Moment.{Moment}
 use Rattle.ground_core.specs.Moments.{moment_of}
 use Rattle.ground_core.specs.Solving.{Entails}
 use Rattle.search_engine.specs.declared.engine.Engine.{Engine}
+use Rattle.search_engine.specs.Knowledge.{Occurs}
 use Rattle.search_engine.specs.Potential.{implied_of, Behind, Stands}
 use Rattle.search_engine.specs.Searching.{IsOrderly, IsEngine, IsSearch, Continues, KeepsAssumed, IsLevelOf, IsLesson, IsFirstOpen, LessonGives, StandsAt, BehindAt}
 use Rattle.search_engine.proofs.Pushed.{front-refl, front-trans}
@@ -190,9 +192,13 @@ module _ (e f : Engine) (m : Moves e f) (search : IsSearch e) (t : StoreState) (
   unit-after : (l : Lit) × (slice_get a.clause.items 0 ≡ Some l) × IsUnitAt f.store.trail.values a.clause.items l
   unit-after = unit-after-step-back t.trail f.store.trail a.level a.clause.items laws.trail after.trail is.unit_back second
 
+  occurs-held : (l : Lit) → IsHeldLiteral t l → Occurs e.problem l
+  occurs-held l w = All-contains (Occurs e.problem) w.1 l (search.engine.knows.occurs w.0 w.1 (ap (λ (xs : List (Option (List Lit))). slice_get xs w.0) (sym clauses) ∙ w.2)) w.3
+
   pub lesson : IsLesson f a.clause.items
   lesson = record {
     within = rw m.problem (false-within e.problem.vars t.trail laws.trail orderly-mid a.clause.items is.falsified);
+    occurs = rw m.problem (All-weaker (IsHeldLiteral t) (Occurs e.problem) occurs-held a.clause.items is.held);
     entailed = subst (λ (p : ProblemState). Entails p a.clause.items) (sym m.problem) entailed-mid;
     others = (unit-after.0, unit-after.1, unit-after.2.others);
     owed = let c : length e.learnt ≤ e.known + e.conflicts = search.counted in rw (m.learnt, m.known) (omega (arith, c, counts));

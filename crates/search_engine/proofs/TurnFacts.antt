@@ -95,6 +95,7 @@ module _ (e f : Engine) (same : SameBut e f) (h : IsSearch e) (p : Propagates e.
   pub prop-lesson : (c : List Lit) → IsLesson e c → IsLesson f c
   prop-lesson c l = record {
     within = rw same.problem l.within;
+    occurs = rw same.problem l.occurs;
     entailed = rw same.problem l.entailed;
     others =
         let w = l.others in (

@@ -4,6 +4,10 @@ use Rattle.std.specs.List.{AllZip}
 use Rattle.lit_core.specs.declared.literals.Lit.{Lit}
 use Rattle.lit_core.specs.Truth.{IsSatisfied}
 use Rattle.clause_store.specs.StoreState.{IsEachOnceOf}
+use Rattle.ground_core.specs.declared.parts.AggCon.{AggCon}
+use Rattle.ground_core.specs.declared.parts.GroundTerm.{GroundTerm}
+use Rattle.ground_core.specs.declared.parts.Part.{Part}
+use Rattle.ground_core.specs.declared.parts.TermBound.{TermBound}
 use Rattle.ground_core.specs.Problems.{ProblemState, AreLitsOf}
 use Rattle.ground_core.specs.Meaning.{Satisfies, SumHolds, BoundHolds}
 use Rattle.ground_core.specs.GateClauses.{clauses_of}
@@ -20,12 +24,26 @@ IsOneOf cs k = (c : List Lit) × Contains cs c × IsEachOnceOf c k
 abbrev pub IsOfConstraint : ProblemState → List Lit → Type 0
 IsOfConstraint p k = Any (λ s. (v : ℕ → Bool) → SumHolds v s → IsSatisfied v k) p.sums ⊎ Any (λ b. (v : ℕ → Bool) → BoundHolds v p.terms b → IsSatisfied v k) p.bounds
 
+-- the constraint has the literal's variable
+abbrev pub IsOfSum : Lit → AggCon → Type 0
+IsOfSum l s = (s.out.var.0 ≡ l.var.0) ⊎ Any (λ (t : Part). t.lit.var.0 ≡ l.var.0) s.parts
+
+-- a sum, a bound or a term of the problem has the literal's variable
+abbrev pub IsConstrained : ProblemState → Lit → Type 0
+IsConstrained p l = Any (IsOfSum l) p.sums ⊎ (Any (λ (b : TermBound). b.out.var.0 ≡ l.var.0) p.bounds ⊎ Any (λ (t : GroundTerm). Any (λ (u : Part). u.lit.var.0 ≡ l.var.0) t.parts) p.terms)
+
+-- the literal stands in a clause of the problem, or a constraint or a term has its variable
+abbrev pub Occurs : ProblemState → Lit → Type 0
+Occurs p l = Any (λ c. Contains c l) (clauses_of p) ⊎ IsConstrained p l
+
 -- the held clauses are the problem's, those of its constraints and the learnt ones, which have these numbers, and all follow from the problem
 pub record Knows (p : ProblemState) (learnt : List (List Lit)) (ids : List ℕ) (clauses : List (Option (List Lit))) : Type 0 where
   pub implied : (v : ℕ → Bool) → Satisfies p v → (id : ℕ) (k : List Lit) → slice_get clauses id ≡ Some (Some k) → IsSatisfied v k
   pub within : (id : ℕ) (k : List Lit) → slice_get clauses id ≡ Some (Some k) → AreLitsOf p.vars k
   pub from : (id : ℕ) (k : List Lit) → slice_get clauses id ≡ Some (Some k) → Contains ids id ⊎ (IsOneOf (clauses_of p) k ⊎ IsOfConstraint p k)
   pub problem : All (λ c. (id : ℕ) × IsHeldAs clauses id c × (Contains ids id → ⊥)) (clauses_of p)
+  -- learning brings no literal that was not there
+  pub occurs : (id : ℕ) (k : List Lit) → slice_get clauses id ≡ Some (Some k) → All (Occurs p) k
   pub learnt_held : AllZip (IsHeldAs clauses) ids learnt
 
 -- the clauses are held in their order, from this number on

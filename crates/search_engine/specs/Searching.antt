@@ -17,7 +17,7 @@ use Rattle.search_engine.specs.declared.engine.Turn.{Turn}
 use Rattle.search_engine.specs.declared.searching.Outcome.{Outcome}
 use Rattle.search_engine.specs.declared.searching.Outcome.TheVariants.{Answered, Further, Open, Spent}
 use Rattle.search_engine.specs.declared.engine.Turn.TheVariants.{Refuted, Conflict, Follows}
-use Rattle.search_engine.specs.Knowledge.{Knows}
+use Rattle.search_engine.specs.Knowledge.{Knows, Occurs}
 use Rattle.search_engine.specs.Potential.{implied_of, Ahead, Behind, Stands}
 
 -- each step names a variable of the problem, and each without a clause is a decision
@@ -105,6 +105,7 @@ IsFirstAssigned values c = (l : Lit) × (slice_get c 0 ≡ Some l) × (value_in 
 -- a clause that may be learnt: the problem entails it, all its literals but the first are false, and its conflict was counted
 pub record IsLesson (e : Engine) (c : List Lit) : Type 0 where
   pub within : AreLitsOf e.problem.vars c
+  pub occurs : All (Occurs e.problem) c
   pub entailed : Entails e.problem c
   pub others : AreOthersFalse e.store.trail.values c
   pub owed : min (length e.learnt + 1) (2 ^ 64 - 1) ≤ e.known + e.conflicts

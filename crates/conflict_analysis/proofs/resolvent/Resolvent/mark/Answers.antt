@@ -32,7 +32,7 @@ returns-then-step-self-clause-ok c =
     let same : c.step.result.lit.var ≡ c.args.lit.var = ap (λ (x : Step). x.lit.var) (same-step s.trail.steps c.place_of-place.result c.step.result w.0 at w.1) ∙ w.2 in
     let lt : c.step.result.level < c.args.self.now.floor = omega arith in
     let new : Resolvent = record { floor = c.args.self.now.floor; top = c.args.self.now.top; upper = c.args.self.now.upper; lower = c.insert.new.self; hints = c.args.self.now.hints } in
-    gathers-lower s.trail c.requires.laws.trail c.args.self.now new c.args.lit c.requires.made c.place_of-place.result c.step.result at same refl refl refl c.in_ok-insert.ensures.keys lt
+    gathers-lower s.trail c.requires.laws.trail c.args.self.now new c.args.lit c.requires.made c.place_of-place.result c.step.result at same refl refl refl c.in_ok-insert.ensures.keys lt (omega arith)
 
 pub returns-clause-ok : goal.returns-clause-ok
 returns-clause-ok c =
