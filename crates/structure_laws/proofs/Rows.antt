@@ -9,7 +9,7 @@ use Rattle.kb_logic.specs.declared.vocabularies.TypeDecl.{TypeDecl}
 use Rattle.reading_stages.specs.Earliest.{refusal, IsRowOf, row}
 use Rattle.reading_stages.specs.DataEntries.{Said, said_in}
 use Rattle.reading_stages.specs.DataStage.{DataUse, place_of_data_use, structure_uses, argument_uses, is_data_refused, data_causes, DataRefuse}
-use Rattle.structure_laws.specs.DataLaws.{RefusalsAreParted}
+use Rattle.structure_laws.specs.DataLaws.{AcceptedIsGiven, RefusalsAreParted}
 
 -- ---- the causes
 
@@ -74,3 +74,12 @@ refusals_are_parted f theory s q =
         | inr r ↦ from_second (is_data_refused types es) place_of_data_use data_causes own beside q r
       ],
     )
+
+pub accepted_is_given : AcceptedIsGiven
+accepted_is_given f theory s answer given_data =
+    let types = f.vocabulary.types in
+    let es = said_in f.vocabulary s in
+    record {
+      accepted = λ q h. given_data.accepted q (from_first (is_data_refused types es) place_of_data_use data_causes (structure_uses types f.places.types es) (argument_uses f theory) q h);
+      given = given_data.given;
+    }

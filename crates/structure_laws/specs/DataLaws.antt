@@ -17,13 +17,19 @@ use Rattle.reading_stages.specs.DataEntries.{said_in}
 use Rattle.reading_stages.specs.DataFacts.{is_said_true, is_said_false}
 use Rattle.reading_stages.specs.IntegerArguments.{formula_integers, term_integers}
 use Rattle.reading_stages.specs.DataStage.{EntriesRefuse, ArgumentsRefuse, StructureRefuses}
-use Rattle.reading_stages.specs.DataAnswer.{IsDataOf}
+use Rattle.reading_stages.specs.DataAnswer.{IsDataOf, IsGivenBy}
 
 -- a refusal is one of what the structure says by itself, or one of an integer beside it
 abbrev pub RefusalsAreParted : Type 0
 RefusalsAreParted =
     (f : TypedFile) (theory : ℕ) (s : raw.Structure) (q : KbFault)
     → StructureRefuses f theory s q ↔ (EntriesRefuse f.vocabulary f.places.types s q ⊎ ArgumentsRefuse f theory s q)
+
+-- what the stage of data returns is what the structure gives by itself, under the vocabulary alone
+abbrev pub AcceptedIsGiven : Type 0
+AcceptedIsGiven =
+    (f : TypedFile) (theory : ℕ) (s : raw.Structure) (answer : KnownAtoms) → IsDataOf f theory s answer
+    → IsGivenBy f.vocabulary f.places.types s answer
 
 -- where nothing is refused, no atom is said to be true and false
 abbrev pub GivenIsConsistent : Type 0

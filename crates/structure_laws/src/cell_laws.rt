@@ -1,5 +1,12 @@
 //! What the tests of cells and tuples mean.
-ghost use Rattle.structure_laws.specs.CellLaws.{CoveredIsEach, ListedAreAmong, ListedAreCounted, ListedAreDistinct, MissedIsSome, SharedIsSome};
+ghost use Rattle.structure_laws.specs.CellLaws.{
+  CoveredIsEach,
+  ListedAreAmong,
+  ListedAreCounted,
+  ListedAreDistinct,
+  MissedIsSome,
+  SharedIsSome,
+};
 
 /// An element is among some cells exactly where it is listed.
 pub fn listed_are_among()

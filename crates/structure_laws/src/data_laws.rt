@@ -1,9 +1,21 @@
 //! Laws of the stage of data.
-ghost use Rattle.structure_laws.specs.DataLaws.{AcceptedHaveDomains, BlocksHavePlaces, GivenIsConsistent, RefusalsAreParted, SentencesHavePlaces};
+ghost use Rattle.structure_laws.specs.DataLaws.{
+  AcceptedHaveDomains,
+  AcceptedIsGiven,
+  BlocksHavePlaces,
+  GivenIsConsistent,
+  RefusalsAreParted,
+  SentencesHavePlaces,
+};
 
 /// A refusal is one of what the structure says by itself, or one of an integer beside it.
 pub fn refusals_are_parted()
     ensures { RefusalsAreParted }
+{}
+
+/// What is returned is what the structure gives by itself, under the vocabulary alone.
+pub fn accepted_is_given()
+    ensures { AcceptedIsGiven }
 {}
 
 /// Where nothing is refused, no atom is said to be true and false.

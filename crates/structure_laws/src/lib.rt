@@ -11,8 +11,8 @@ pub use cell_laws::{
     shared_is_some,
 };
 pub use data_laws::{
-    accepted_have_domains, blocks_have_places, given_is_consistent, refusals_are_parted,
-    sentences_have_places,
+    accepted_have_domains, accepted_is_given, blocks_have_places, given_is_consistent,
+    refusals_are_parted, sentences_have_places,
 };
 pub use examples::{
     areas_worked_out, cells_worked_out, files_worked_out, numbers_worked_out, sizes_worked_out,

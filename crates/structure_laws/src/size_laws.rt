@@ -1,5 +1,12 @@
 //! Laws of the stage of sizes.
-ghost use Rattle.structure_laws.specs.SizeLaws.{AcceptedAreBounded, BlocksHaveBounds, ProductCountsTuples, SentencesHaveBounds, SmallIsBounded, SmallTermIsBounded};
+ghost use Rattle.structure_laws.specs.SizeLaws.{
+  AcceptedAreBounded,
+  BlocksHaveBounds,
+  ProductCountsTuples,
+  SentencesHaveBounds,
+  SmallIsBounded,
+  SmallTermIsBounded,
+};
 
 /// The product of the sizes of domains counts their tuples.
 pub fn product_counts_tuples()
