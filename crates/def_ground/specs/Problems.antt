@@ -14,6 +14,10 @@ use Rattle.term_values.specs.GroundBases.{GroundBase, tuples_at, values_at, firs
 use Rattle.term_values.specs.Rows.{positive_lit}
 use Rattle.def_ground.specs.Sentences.{assert_sentences}
 
+-- the problem with more clauses
+abbrev pub with_clauses : ProblemState → List (List Lit) → ProblemState
+with_clauses p cs = record p { clauses = p.clauses ++ cs }
+
 -- no two of these
 abbrev pub pair_clauses : List Lit → List (List Lit)
 pair_clauses [] = []
