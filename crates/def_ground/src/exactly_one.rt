@@ -4,7 +4,7 @@ ghost use Rattle.std.specs.Prelude.{◌≡◌, ◌≤◌, ◌+◌, ◌^◌, ◌�
 ghost use Rattle.lit_core.specs.declared.literals.Lit.{Lit};
 ghost use Rattle.lit_core.specs.Literals.{negated};
 ghost use Rattle.ground_core.specs.Problems.{IsLitOf, AreLitsOf};
-ghost use Rattle.def_ground.specs.Problems.{variables_from, pair_clauses, one_of_clauses, with_clauses};
+ghost use Rattle.def_ground.specs.Problems.{variables_from, pairs_with, pair_clauses, one_of_clauses, with_clauses};
 
 use ground_core::{LitList, Memory, Problem};
 use kb_logic::Elem;
@@ -35,7 +35,7 @@ fn push_pairs_with(
 ) -> Result<(), Memory>
     requires first { IsLitOf problem.old.vars lit }
     requires second { AreLitsOf problem.old.vars others.now }
-    ensures { OnOk result (problem.new ≡ with_clauses problem.old (map (λ (m : Lit). negated lit ∷ negated m ∷ []) others.now)) }
+    ensures { OnOk result (problem.new ≡ with_clauses problem.old (pairs_with lit others.now)) }
 {
     for other in others {
         let lits = [lit.negated(), other.negated()];

@@ -7,4 +7,5 @@ use Rattle.def_ground.proofs.exactly_one.push_pairs_with.Given as goal
 -- the clauses with the others so far
 abbrev pub invariant-loop-other : goal.invariant-loop-other
 invariant-loop-other l =
-    l.problem ≡ with_clauses l.fn.problem (map (λ (m : Lit). negated l.lit ∷ negated m ∷ []) (take l.other-index l.others))
+    l.problem
+    ≡ with_clauses l.fn.problem (map (λ (m : Lit). negated l.lit ∷ negated m ∷ []) (take l.other-index l.others))
