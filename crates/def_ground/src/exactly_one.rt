@@ -1,8 +1,6 @@
 //! That exactly one of some variables is true. Each two of them take a clause, which is as good as anything for
 //! small domains, and quadratic.
-ghost use Rattle.std.specs.Prelude.{◌≡◌, ◌≤◌, ◌+◌, ◌^◌, ◌∷◌, [], List, map, length, IfOk, OnOk};
-ghost use Rattle.lit_core.specs.declared.literals.Lit.{Lit};
-ghost use Rattle.lit_core.specs.Literals.{negated};
+ghost use Rattle.std.specs.Prelude.{◌≡◌, ◌≤◌, ◌+◌, ◌^◌, length, IfOk, OnOk};
 ghost use Rattle.ground_core.specs.Problems.{IsLitOf, AreLitsOf};
 ghost use Rattle.def_ground.specs.Problems.{variables_from, pairs_with, pair_clauses, one_of_clauses, with_clauses};
 
