@@ -11,3 +11,4 @@ pub mod KeepLaws
 pub mod ProblemLaws
 pub mod Counting
 pub mod FewLaws
+pub mod WithClauses

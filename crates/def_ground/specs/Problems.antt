@@ -14,10 +14,18 @@ use Rattle.term_values.specs.GroundBases.{GroundBase, tuples_at, values_at, firs
 use Rattle.term_values.specs.Rows.{positive_lit}
 use Rattle.def_ground.specs.Sentences.{assert_sentences}
 
+-- the problem with more clauses
+abbrev pub with_clauses : ProblemState → List (List Lit) → ProblemState
+with_clauses p cs = record p { clauses = p.clauses ++ cs }
+
+-- not the literal together with one of these
+abbrev pub pairs_with : Lit → List Lit → List (List Lit)
+pairs_with l ls = map (λ m. negated l ∷ negated m ∷ []) ls
+
 -- no two of these
 abbrev pub pair_clauses : List Lit → List (List Lit)
 pair_clauses [] = []
-pair_clauses (l ∷ ls) = map (λ m. negated l ∷ negated m ∷ []) ls ++ pair_clauses ls
+pair_clauses (l ∷ ls) = pairs_with l ls ++ pair_clauses ls
 
 -- exactly one of these
 abbrev pub one_of_clauses : List Lit → List (List Lit)
