@@ -140,7 +140,7 @@ impl Grow for BruteForce {
     }
 }
 
-/// The most variables that are tried. Each takes a call in another, so more of them is want of memory.
+/// The most variables that are tried. Each takes a call in another, so more of them is out of memory.
 const MOST_VARS: u64 = 1_000;
 
 /// The value false for each variable up to `vars`, and for 0.
