@@ -15,6 +15,7 @@ pub mod Typing
 pub mod TypedTrees
 pub mod TermPlaces
 pub mod TypedFiles
+pub mod FileBases
 pub mod TypesStage
 pub mod TheoryItems
 pub mod Elements
