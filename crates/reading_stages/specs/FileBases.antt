@@ -8,7 +8,7 @@ use Rattle.reading_stages.specs.TypedFiles.{TypedTermTree, TypedFile}
 -- what the theory with this number says; where there is none, nothing is said
 abbrev pub theory_at : TypedFile → ℕ → TheoryTree
 theory_at f theory = elim (slice_get f.theories theory) [
-    None ↦ record { sentences = []; definitions = [] }
+  | None ↦ record { sentences = []; definitions = [] }
   | Some t ↦ t.theory
 ]
 
