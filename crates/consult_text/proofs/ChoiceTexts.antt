@@ -78,7 +78,7 @@ choice_of kb l first names h = record {
 abbrev pub line_end : List ℕ → List ℕ
 line_end r = 10 ∷ r
 
-line_stops : (r : List ℕ) → Stopped (line_end r)
+pub line_stops : (r : List ℕ) → Stopped (line_end r)
 line_stops r = stop_at 10 r (λ b i. i.line)
 
 args_stopped : (xs : List Elem) (r : List ℕ) → Stopped (args_text xs ++ line_end r)

@@ -79,7 +79,7 @@ all_digits : (ds : List ℕ) → AllDigits 10 ds → AllByRecursion Inner ds
 all_digits [] h = tt
 all_digits (d ∷ ds) h = (let r = digit_from_value d h.0 in digit_byte d (omega arith) (omega arith), all_digits ds h.1)
 
-decimal_inner : (n : ℕ) → n < 2 ^ 64 → AllByRecursion Inner (decimal n)
+pub decimal_inner : (n : ℕ) → n < 2 ^ 64 → AllByRecursion Inner (decimal n)
 decimal_inner n h = all_digits (decimal n) (decimal_is_IsNumeral n h).0.1
 
 pub elem_inner : (x : Elem) → CanBeWritten x → AllByRecursion Inner (elem_text x)

@@ -1,11 +1,10 @@
 pub mod Spelling
 pub mod Cut
 pub mod Rows
-pub mod Digits
+pub mod DigitValues
 pub mod Symbols
 pub mod Forms
 pub mod Parses
-pub mod Blanks
 pub mod Meanings
 pub mod InnerBytes
 pub mod RowTexts

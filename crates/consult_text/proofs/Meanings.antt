@@ -1,5 +1,5 @@
 -- A line means at most one thing.
-use Rattle.std.proofs.Common.{◌≡◌, ◌≢◌, ℕ, ◌<◌, List, [], ◌∷◌, map, Bool, true, false, Ok, Err, Some, None, refl, sym, ap, ◌∙◌, subst, codes, arith}
+use Rattle.std.proofs.Common.{◌≡◌, ◌≢◌, ℕ, ◌<◌, List, [], ◌∷◌, map, Bool, true, false, Ok, Err, Option, Some, None, refl, sym, ap, ◌∙◌, subst, codes, arith}
 use Rattle.std.specs.Str.{bytes_eq}
 use Rattle.std.specs.List.{Contains}
 use Rattle.std.proofs.lemmas.Option.{slice_get_within, get_or_from_slice_get}
@@ -21,7 +21,6 @@ use Rattle.consult_text.specs.Parse.{dot, IsClosed}
 use Rattle.consult_text.specs.Laws.{HasOneMeaning, CommandsAreOverTheBase}
 use Rattle.consult_text.proofs.Spelling.{elem_same, args_same, sign_above, dot_closed, equals_closed}
 use Rattle.consult_text.proofs.Parses.{HasOneOutcome, same_lexemes}
-use Rattle.consult_text.proofs.Blanks.{no_tokens}
 
 behind_same : {x y : Tok} {a b : List Tok} → x ∷ a ≡ y ∷ b → a ≡ b
 behind_same q = cc
@@ -39,6 +38,9 @@ no_equals_dot false q = sign_above 126 46 (omega arith) (sym q)
 
 no_sign_word : {x y : List ℕ} {a b : List Tok} → sign x ∷ a ≡ word y ∷ b → ⊥
 no_sign_word q = absurd (cc)
+
+no_digits_word : {x y : List ℕ} {a b : List Tok} → digits x ∷ a ≡ word y ∷ b → ⊥
+no_digits_word q = absurd (cc)
 
 same_equals : (p p' : Bool) {a b : List Tok} → sign (equals p) ∷ a ≡ sign (equals p') ∷ b → p ≡ p'
 same_equals true true q = refl
@@ -84,26 +86,65 @@ command_same (written.assert l) (written.retract l') q = absurd (words_apart (co
 command_same (written.assert l) written.reset q = absurd (words_apart (codes "assert") (codes "reset") refl q)
 command_same (written.assert l) written.choices q = absurd (words_apart (codes "assert") (codes "choices") refl q)
 command_same (written.assert l) written.model q = absurd (words_apart (codes "assert") (codes "model") refl q)
+command_same (written.assert l) (written.budget t') q = absurd (words_apart (codes "assert") (codes "budget") refl q)
+command_same (written.assert l) written.unlimited q = absurd (words_apart (codes "assert") (codes "budget") refl q)
+command_same (written.assert l) written.forget q = absurd (words_apart (codes "assert") (codes "forget") refl q)
 command_same (written.retract l) (written.assert l') q = absurd (words_apart (codes "retract") (codes "assert") refl q)
 command_same (written.retract l) (written.retract l') q = ap (λ (x : WrittenLiteral). written.retract x) (literal_same l l' (behind_same q))
 command_same (written.retract l) written.reset q = absurd (words_apart (codes "retract") (codes "reset") refl q)
 command_same (written.retract l) written.choices q = absurd (words_apart (codes "retract") (codes "choices") refl q)
 command_same (written.retract l) written.model q = absurd (words_apart (codes "retract") (codes "model") refl q)
+command_same (written.retract l) (written.budget t') q = absurd (words_apart (codes "retract") (codes "budget") refl q)
+command_same (written.retract l) written.unlimited q = absurd (words_apart (codes "retract") (codes "budget") refl q)
+command_same (written.retract l) written.forget q = absurd (words_apart (codes "retract") (codes "forget") refl q)
 command_same written.reset (written.assert l') q = absurd (words_apart (codes "reset") (codes "assert") refl q)
 command_same written.reset (written.retract l') q = absurd (words_apart (codes "reset") (codes "retract") refl q)
 command_same written.reset written.reset q = refl
 command_same written.reset written.choices q = absurd (words_apart (codes "reset") (codes "choices") refl q)
 command_same written.reset written.model q = absurd (words_apart (codes "reset") (codes "model") refl q)
+command_same written.reset (written.budget t') q = absurd (words_apart (codes "reset") (codes "budget") refl q)
+command_same written.reset written.unlimited q = absurd (words_apart (codes "reset") (codes "budget") refl q)
+command_same written.reset written.forget q = absurd (words_apart (codes "reset") (codes "forget") refl q)
 command_same written.choices (written.assert l') q = absurd (words_apart (codes "choices") (codes "assert") refl q)
 command_same written.choices (written.retract l') q = absurd (words_apart (codes "choices") (codes "retract") refl q)
 command_same written.choices written.reset q = absurd (words_apart (codes "choices") (codes "reset") refl q)
 command_same written.choices written.choices q = refl
 command_same written.choices written.model q = absurd (words_apart (codes "choices") (codes "model") refl q)
+command_same written.choices (written.budget t') q = absurd (words_apart (codes "choices") (codes "budget") refl q)
+command_same written.choices written.unlimited q = absurd (words_apart (codes "choices") (codes "budget") refl q)
+command_same written.choices written.forget q = absurd (words_apart (codes "choices") (codes "forget") refl q)
 command_same written.model (written.assert l') q = absurd (words_apart (codes "model") (codes "assert") refl q)
 command_same written.model (written.retract l') q = absurd (words_apart (codes "model") (codes "retract") refl q)
 command_same written.model written.reset q = absurd (words_apart (codes "model") (codes "reset") refl q)
 command_same written.model written.choices q = absurd (words_apart (codes "model") (codes "choices") refl q)
 command_same written.model written.model q = refl
+command_same written.model (written.budget t') q = absurd (words_apart (codes "model") (codes "budget") refl q)
+command_same written.model written.unlimited q = absurd (words_apart (codes "model") (codes "budget") refl q)
+command_same written.model written.forget q = absurd (words_apart (codes "model") (codes "forget") refl q)
+command_same (written.budget t) (written.assert l') q = absurd (words_apart (codes "budget") (codes "assert") refl q)
+command_same (written.budget t) (written.retract l') q = absurd (words_apart (codes "budget") (codes "retract") refl q)
+command_same (written.budget t) written.reset q = absurd (words_apart (codes "budget") (codes "reset") refl q)
+command_same (written.budget t) written.choices q = absurd (words_apart (codes "budget") (codes "choices") refl q)
+command_same (written.budget t) written.model q = absurd (words_apart (codes "budget") (codes "model") refl q)
+command_same (written.budget t) (written.budget t') q = cc
+command_same (written.budget t) written.unlimited q = absurd (no_digits_word (behind_same q))
+command_same (written.budget t) written.forget q = absurd (words_apart (codes "budget") (codes "forget") refl q)
+command_same written.unlimited (written.assert l') q = absurd (words_apart (codes "budget") (codes "assert") refl q)
+command_same written.unlimited (written.retract l') q = absurd (words_apart (codes "budget") (codes "retract") refl q)
+command_same written.unlimited written.reset q = absurd (words_apart (codes "budget") (codes "reset") refl q)
+command_same written.unlimited written.choices q = absurd (words_apart (codes "budget") (codes "choices") refl q)
+command_same written.unlimited written.model q = absurd (words_apart (codes "budget") (codes "model") refl q)
+command_same written.unlimited (written.budget t') q = absurd (no_digits_word (sym (behind_same q)))
+command_same written.unlimited written.unlimited q = refl
+command_same written.unlimited written.forget q = absurd (words_apart (codes "budget") (codes "forget") refl q)
+command_same written.forget (written.assert l') q = absurd (words_apart (codes "forget") (codes "assert") refl q)
+command_same written.forget (written.retract l') q = absurd (words_apart (codes "forget") (codes "retract") refl q)
+command_same written.forget written.reset q = absurd (words_apart (codes "forget") (codes "reset") refl q)
+command_same written.forget written.choices q = absurd (words_apart (codes "forget") (codes "choices") refl q)
+command_same written.forget written.model q = absurd (words_apart (codes "forget") (codes "model") refl q)
+command_same written.forget (written.budget t') q = absurd (words_apart (codes "forget") (codes "budget") refl q)
+command_same written.forget written.unlimited q = absurd (words_apart (codes "forget") (codes "budget") refl q)
+command_same written.forget written.forget q = refl
 
 -- a line has at most one written command
 written_same : {line : List ℕ} (w w' : WrittenCommand) → HasOneOutcome line → IsWritten line w → IsWritten line w' → w ≡ w'
@@ -117,13 +158,12 @@ some_token (written.retract l) q = absurd (cc)
 some_token written.reset q = absurd (cc)
 some_token written.choices q = absurd (cc)
 some_token written.model q = absurd (cc)
+some_token (written.budget t) q = absurd (cc)
+some_token written.unlimited q = absurd (cc)
+some_token written.forget q = absurd (cc)
 
-blank_by : {line : List ℕ} (w : WrittenCommand) (ls : List Lexeme) → IsBlank line → TokensFrom outermost 0 line (Ok ls) → map tok_of ls ≡ put_command w → ⊥
-blank_by w [] blank h q = some_token w q
-blank_by w (l ∷ ls) blank h q = no_tokens l ls blank h
-
-blank_written : {line : List ℕ} (w : WrittenCommand) → IsBlank line → IsWritten line w → ⊥
-blank_written w blank h = blank_by w h.lexemes blank h.tokens h.spelled
+blank_written : {line : List ℕ} (w : WrittenCommand) → HasOneOutcome line → IsBlank line → IsWritten line w → ⊥
+blank_written w one blank h = some_token w (ap (map tok_of) (same_lexemes [] h.lexemes one blank h.tokens) ∙ h.spelled)
 
 -- a name has one first symbol
 first_same : (xs : List Symbol) (name : List ℕ) (n m : ℕ) (s t : Symbol) → IsFirstNamed xs name n s → IsFirstNamed xs name m t → (n ≡ m) × (s ≡ t)
@@ -191,11 +231,17 @@ asks_same kb (written.retract w) (command.Retract l) (command.Retract l') h h' =
 asks_same kb written.reset command.Reset command.Reset h h' = refl
 asks_same kb written.choices command.Choices command.Choices h h' = refl
 asks_same kb written.model command.Model command.Model h h' = refl
+asks_same kb (written.budget t) (command.Budget b) (command.Budget b') h h' = ap (λ (x : Option ℕ). command.Budget x) (h ∙ sym h')
+asks_same kb written.unlimited (command.Budget b) (command.Budget b') h h' = ap (λ (x : Option ℕ). command.Budget x) (h ∙ sym h')
+asks_same kb written.forget command.Forget command.Forget h h' = refl
 asks_same kb (written.assert w) (command.Assert l) d h h' = absurd h'
 asks_same kb (written.retract w) (command.Retract l) d h h' = absurd h'
 asks_same kb written.reset command.Reset d h h' = absurd h'
 asks_same kb written.choices command.Choices d h h' = absurd h'
 asks_same kb written.model command.Model d h h' = absurd h'
+asks_same kb (written.budget t) (command.Budget b) d h h' = absurd h'
+asks_same kb written.unlimited (command.Budget b) d h h' = absurd h'
+asks_same kb written.forget command.Forget d h h' = absurd h'
 asks_same kb w c d h h' = absurd h
 
 no_refusal : (kb : Base) (w : WrittenCommand) (c : Command) (f : F) → Asks kb w c → RefusesFor kb w f → ⊥
@@ -204,6 +250,9 @@ no_refusal kb (written.retract w) (command.Retract l) f h r = no_cause kb w l f 
 no_refusal kb written.reset c f h r = r
 no_refusal kb written.choices c f h r = r
 no_refusal kb written.model c f h r = r
+no_refusal kb (written.budget t) c f h r = r
+no_refusal kb written.unlimited c f h r = r
+no_refusal kb written.forget c f h r = r
 no_refusal kb w c f h r = h
 
 refuses_same : (kb : Base) (w : WrittenCommand) (f g : F) → RefusesFor kb w f → RefusesFor kb w g → f ≡ g
@@ -212,6 +261,9 @@ refuses_same kb (written.retract w) f g h h' = cause_same kb w f g (cause_of kb 
 refuses_same kb written.reset f g h h' = absurd h
 refuses_same kb written.choices f g h h' = absurd h
 refuses_same kb written.model f g h h' = absurd h
+refuses_same kb (written.budget t) f g h h' = absurd h
+refuses_same kb written.unlimited f g h h' = absurd h
+refuses_same kb written.forget f g h h' = absurd h
 
 -- a refused line is no command, or has one whose literal is refused
 data Refusal (kb : Base) (line : List ℕ) : F → Type 0 where
@@ -239,19 +291,19 @@ not_refused : (kb : Base) (line : List ℕ) (c : Command) (f : F) → HasOneOutc
 not_refused kb line c f one h (none no_command) = no_command.1 h.0 h.1
 not_refused kb line c f one h (some w is r) = no_refusal kb h.0 c f h.2 (subst (λ (x : WrittenCommand). RefusesFor kb x f) (written_same w h.0 one is h.1) r)
 
-not_blank : (kb : Base) (line : List ℕ) (f : F) → IsBlank line → Refusal kb line f → ⊥
-not_blank kb line f blank (none h) = h.0 blank
-not_blank kb line f blank (some w is r) = blank_written w blank is
+not_blank : (kb : Base) (line : List ℕ) (f : F) → HasOneOutcome line → IsBlank line → Refusal kb line f → ⊥
+not_blank kb line f one blank (none h) = h.0 blank
+not_blank kb line f one blank (some w is r) = blank_written w one blank is
 
 pub one_meaning : (kb : Base) (line : List ℕ) → HasOneOutcome line → HasOneMeaning kb line
 one_meaning kb line one (Ok None) (Ok None) h h' = refl
-one_meaning kb line one (Ok None) (Ok (Some d)) h h' = absurd (blank_written h'.0 h h'.1)
-one_meaning kb line one (Ok None) (Err g) h h' = absurd (not_blank kb line g h (refusal_of kb line g h'))
-one_meaning kb line one (Ok (Some c)) (Ok None) h h' = absurd (blank_written h.0 h' h.1)
+one_meaning kb line one (Ok None) (Ok (Some d)) h h' = absurd (blank_written h'.0 one h h'.1)
+one_meaning kb line one (Ok None) (Err g) h h' = absurd (not_blank kb line g one h (refusal_of kb line g h'))
+one_meaning kb line one (Ok (Some c)) (Ok None) h h' = absurd (blank_written h.0 one h' h.1)
 one_meaning kb line one (Ok (Some c)) (Ok (Some d)) h h' =
     ap (λ (x : Command). Ok (Some x)) (asks_same kb h.0 c d h.2 (subst (λ (x : WrittenCommand). Asks kb x d) (written_same h'.0 h.0 one h'.1 h.1) h'.2))
 one_meaning kb line one (Ok (Some c)) (Err g) h h' = absurd (not_refused kb line c g one h (refusal_of kb line g h'))
-one_meaning kb line one (Err f) (Ok None) h h' = absurd (not_blank kb line f h' (refusal_of kb line f h))
+one_meaning kb line one (Err f) (Ok None) h h' = absurd (not_blank kb line f one h' (refusal_of kb line f h))
 one_meaning kb line one (Err f) (Ok (Some d)) h h' = absurd (not_refused kb line d f one h' (refusal_of kb line f h))
 one_meaning kb line one (Err f) (Err g) h h' = ap (λ (x : F). Err x) (refusal_same kb line f g one (refusal_of kb line f h) (refusal_of kb line g h'))
 
@@ -261,6 +313,8 @@ over_by kb (written.retract w) (command.Retract l) h = h.5
 over_by kb w command.Reset h = tt
 over_by kb w command.Choices h = tt
 over_by kb w command.Model h = tt
+over_by kb w (command.Budget b) h = tt
+over_by kb w command.Forget h = tt
 over_by kb w c h = absurd h
 
 pub commands_over : CommandsAreOverTheBase

@@ -1,5 +1,5 @@
 -- Lines and the commands that are written in them.
-use Rattle.std.proofs.Common.{◌≡◌, ℕ, suc, ◌<◌, ◌^◌, List, [], ◌∷◌, map, Bool, true, false, Ok, Err, Option, Some, None, refl, sym, ap, ◌∙◌, subst, arith}
+use Rattle.std.proofs.Common.{◌≡◌, ℕ, suc, ◌<◌, ◌^◌, List, [], ◌∷◌, map, length, Bool, true, false, Ok, Err, Option, Some, None, refl, sym, ap, ◌∙◌, subst, arith}
 use Rattle.std.specs.List.{All, AllByRecursion}
 use Rattle.kb_text.specs.declared.fault.KbFault.{KbFault}
 use Rattle.kb_text.specs.declared.token.Kind.{Kind}
@@ -9,8 +9,8 @@ use Rattle.kb_text.specs.Depth.{outermost}
 use Rattle.kb_text.specs.Tokens.{Lexeme, Outcome, TokensFrom, IsSpelled, lexemes, decimal}
 use Rattle.consult_text.specs.declared.written.CommandText.{CommandText}
 use Rattle.consult_text.specs.Written as written
-use Rattle.consult_text.specs.Written.{Tok, word, digits, sign, procedure, WrittenElem, named, integer, WrittenLiteral, atom, equation, WrittenCommand, put_elem, put_further, put_args, put_literal, put_command, equals, IsNamedWell}
-use Rattle.consult_text.specs.Lines.{tok, tok_of, has_spaces_alone, IsWritten}
+use Rattle.consult_text.specs.Written.{Tok, word, digits, sign, procedure, WrittenElem, named, integer, WrittenLiteral, atom, equation, WrittenCommand, put_elem, put_further, put_args, put_literal, put_command, equals, IsWellFormed}
+use Rattle.consult_text.specs.Lines.{tok, tok_of, IsWritten, IsBlank}
 use Rattle.consult_text.specs.Parse.{toks, close, dot, ParsesCommand, command_view}
 use Rattle.consult_text.specs.Ranges.{IsInRange, HasRange, HasRanges}
 
@@ -29,16 +29,10 @@ same_lexemes ls ls' one h h' = let e = one.only (Ok ls) h in let e' = one.only (
 pub refused_tokens : {line : List ℕ} (f : KbFault) → HasOneOutcome line → TokensFrom outermost 0 line (Err f) → (w : WrittenCommand) → IsWritten line w → ⊥
 refused_tokens f one h w is = let e = one.only (Err f) h in let e' = one.only (Ok is.lexemes) is.tokens in absurd (cc)
 
-pub no_spaces : {line : List ℕ} (ts slice : List Token) (test : Bool) → HasOneOutcome line → TokensFrom outermost 0 line (Ok (lexemes ts)) → slice ≡ ts → test ≡ has_spaces_alone 0 line (lexemes slice) → test ≡ false → (w : WrittenCommand) → IsWritten line w → ⊥
-no_spaces {line} ts slice test one h same is no_space w written =
-    let e : has_spaces_alone 0 line written.lexemes ≡ test = ap (has_spaces_alone 0 line) (same_lexemes written.lexemes (lexemes ts) one written.tokens h) ∙ (ap (λ (x : List Token). has_spaces_alone 0 line (lexemes x)) (sym same) ∙ sym is) in
-    let f : true ≡ false = sym written.spaces ∙ (e ∙ no_space) in
-    absurd (cc)
-
 pub no_spelling : {line : List ℕ} (ts slice : List Token) (found : Option CommandText) → HasOneOutcome line → TokensFrom outermost 0 line (Ok (lexemes ts)) → slice ≡ ts → ParsesCommand (toks slice) found → found ≡ None → (w : WrittenCommand) → IsWritten line w → ⊥
 no_spelling ts slice found one h same cut is w written =
     let none = subst (ParsesCommand (toks slice)) is cut in
-    none w written.named (ap toks same ∙ (ap (map tok_of) (sym (same_lexemes written.lexemes (lexemes ts) one written.tokens h)) ∙ written.spelled))
+    none w written.formed (ap toks same ∙ (ap (map tok_of) (sym (same_lexemes written.lexemes (lexemes ts) one written.tokens h)) ∙ written.spelled))
 
 -- an integer's digits have a value of 63 bits
 abbrev FitsTok : Tok → Type 0
@@ -89,11 +83,34 @@ command_fits (written.retract l) h = literal_fits l h.1
 command_fits written.reset h = tt
 command_fits written.choices h = tt
 command_fits written.model h = tt
+command_fits (written.budget text) h = h.1.0
+command_fits written.unlimited h = tt
+command_fits written.forget h = tt
 
-pub is_written : {line : List ℕ} (ts slice slice' : List Token) (test : Bool) (found : Option CommandText) (c : CommandText) → TokensFrom outermost 0 line (Ok (lexemes ts)) → All IsSpelled (lexemes ts) → slice ≡ ts → slice' ≡ ts → test ≡ has_spaces_alone 0 line (lexemes slice) → test ≡ true → ParsesCommand (toks slice') found → found ≡ Some c → IsWritten line (command_view c) × HasRanges (command_view c)
-is_written {line} ts slice slice' test found c h spelled same same' is space cut some =
-    let spell = subst (ParsesCommand (toks slice')) some cut in
-    let whole : toks ts ≡ put_command (command_view c) = ap toks (sym same') ∙ spell.0 in (
-      record { lexemes = lexemes ts; tokens = h; spaces = ap (λ (x : List Token). has_spaces_alone 0 line (lexemes x)) (sym same) ∙ (sym is ∙ space); spelled = whole; named = spell.1 },
+pub is_written : {line : List ℕ} (ts slice : List Token) (found : Option CommandText) (c : CommandText)
+    → TokensFrom outermost 0 line (Ok (lexemes ts)) → All IsSpelled (lexemes ts) → slice ≡ ts
+    → ParsesCommand (toks slice) found → found ≡ Some c
+    → IsWritten line (command_view c) × HasRanges (command_view c)
+is_written {line} ts slice found c h spelled same cut some =
+    let spell = subst (ParsesCommand (toks slice)) some cut in
+    let whole : toks ts ≡ put_command (command_view c) = ap toks (sym same) ∙ spell.0 in (
+      record { lexemes = lexemes ts; tokens = h; spelled = whole; formed = spell.1 },
       command_fits (command_view c) (subst (AllByRecursion FitsTok) whole (fits_all (lexemes ts) spelled)),
     )
+
+no_tokens : (ts : List Token) → length ts ≡ 0 → lexemes ts ≡ []
+no_tokens [] e = refl
+no_tokens (t ∷ ts) e = absurd (omega (arith, e))
+
+-- a line without tokens is blank
+pub is_blank : {line : List ℕ} (ts : List Token) → TokensFrom outermost 0 line (Ok (lexemes ts)) → length ts ≡ 0 → IsBlank line
+is_blank {line} ts h none = subst (λ (ls : List Lexeme). TokensFrom outermost 0 line (Ok ls)) (no_tokens ts none) h
+
+-- and one with some is not
+pub not_blank : {line : List ℕ} (ts : List Token) → HasOneOutcome line → TokensFrom outermost 0 line (Ok (lexemes ts)) → (length ts ≡ 0 → ⊥) → IsBlank line → ⊥
+not_blank [] one h some blank = some refl
+not_blank (t ∷ ts) one h some blank = let e = same_lexemes (lexemes (t ∷ ts)) [] one h blank in absurd (cc)
+
+-- nor is one whose tokens are refused
+pub refused_blank : {line : List ℕ} (f : KbFault) → HasOneOutcome line → TokensFrom outermost 0 line (Err f) → IsBlank line → ⊥
+refused_blank f one h blank = let e = one.only (Err f) h in let e' = one.only (Ok []) blank in absurd (cc)

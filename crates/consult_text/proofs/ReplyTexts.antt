@@ -1,8 +1,9 @@
 -- No two replies over a knowledge base have one text.
-use Rattle.std.proofs.Common.{◌≡◌, ℕ, zero, suc, ◌+◌, ◌<◌, List, [], ◌∷◌, ◌++◌, flat_map, refl, sym, ap, ◌∙◌, codes, append_assoc, arith}
+use Rattle.std.proofs.Common.{◌≡◌, ℕ, zero, suc, ◌+◌, ◌<◌, ◌^◌, List, [], ◌∷◌, ◌++◌, flat_map, refl, sym, ap, ◌∙◌, codes, append_assoc, arith}
 use Rattle.std.specs.List.{AllByRecursion}
 use Rattle.std.proofs.lemmas.List.{append_cancel_left}
-use Rattle.std.proofs.lemmas.Fmt.{decimal_digit}
+use Rattle.std.proofs.lemmas.Fmt.{decimal_digit, decimal_injective}
+use Rattle.std.specs.Fmt.{decimal}
 use Rattle.kb_logic.specs.declared.structures.Literal.{Literal}
 use Rattle.kb_logic.specs.declared.structures.Structure.{Structure}
 use Rattle.kb_logic.specs.declared.vocabularies.Vocabulary.{Vocabulary}
@@ -16,7 +17,8 @@ use Rattle.consult_text.specs.Literals.{IsLiteralOver}
 use Rattle.consult_text.specs.Texts.{choice_line, symbol_lines, reply_text}
 use Rattle.consult_text.specs.OneText.{HasPredicatesAlone, HasWordNames, IsReplyOver, NoTwoRepliesHaveOneText}
 use Rattle.consult_text.proofs.RowTexts.{byte_above, rest_same}
-use Rattle.consult_text.proofs.ChoiceTexts.{choices_same}
+use Rattle.consult_text.proofs.InnerBytes.{split_same, decimal_inner}
+use Rattle.consult_text.proofs.ChoiceTexts.{choices_same, line_stops}
 use Rattle.consult_text.proofs.ModelTexts.{models_same}
 
 small_number : (f : F) → number_of f < 10
@@ -90,32 +92,52 @@ module _ (kb : Base) (first : HasPredicatesAlone kb) (names : HasWordNames kb) w
       let cut = refusals_same f g a b (append_cancel_left (codes "refused ") ((text_of f ++ codes "\n") ++ a) ((text_of g ++ codes "\n") ++ b) q) in
       (ap (λ (x : F). reply.Refused x) cut.0, cut.1)
 
+  two_undecided : (n n' : ℕ) (a b : List ℕ) → n < 2 ^ 64 → n' < 2 ^ 64
+      → reply_text kb.vocabulary (reply.Undecided n) ++ a ≡ reply_text kb.vocabulary (reply.Undecided n') ++ b
+      → (reply.Undecided n ≡ reply.Undecided n') × (a ≡ b)
+  two_undecided n n' a b h k q =
+      let tails = append_cancel_left (codes "undecided ") ((decimal n ++ codes "\n") ++ a) ((decimal n' ++ codes "\n") ++ b) q in
+      let cut = split_same (decimal n) (decimal n') (10 ∷ a) (10 ∷ b) (decimal_inner n h) (decimal_inner n' k) (line_stops a) (line_stops b)
+      (sym (append_assoc (decimal n) (codes "\n") a) ∙ (tails ∙ append_assoc (decimal n') (codes "\n") b)) in
+      (ap (λ (x : ℕ). reply.Undecided x) (decimal_injective n n' h k cut.0), rest_same cut.1)
+
   same : (r s : Reply) (a b : List ℕ) → IsReplyOver kb r → IsReplyOver kb s → reply_text kb.vocabulary r ++ a ≡ reply_text kb.vocabulary s ++ b → (r ≡ s) × (a ≡ b)
   same reply.Fine reply.Fine a b h k q = (refl, append_cancel_left (codes "ok\n") a b q)
   same reply.Fine (reply.Refused g) a b h k q = absurd (byte_above 114 111 (omega arith) (sym q))
   same reply.Fine (reply.Choices ks) a b h k q = absurd (low_byte kb.vocabulary ks b 111 (omega arith) (sym q))
-  same reply.Fine (reply.Model m) a b h k q = absurd (byte_above 111 109 (omega arith) q)
+  same reply.Fine (reply.Model m') a b h k q = absurd (byte_above 111 109 (omega arith) q)
   same reply.Fine reply.Inconsistent a b h k q = absurd (byte_above 111 105 (omega arith) q)
+  same reply.Fine (reply.Undecided n') a b h k q = absurd (byte_above 117 111 (omega arith) (sym q))
   same (reply.Refused f) reply.Fine a b h k q = absurd (byte_above 114 111 (omega arith) q)
   same (reply.Refused f) (reply.Refused g) a b h k q = two_refusals f g a b q
   same (reply.Refused f) (reply.Choices ks) a b h k q = absurd (low_byte kb.vocabulary ks b 114 (omega arith) (sym q))
-  same (reply.Refused f) (reply.Model m) a b h k q = absurd (byte_above 114 109 (omega arith) q)
+  same (reply.Refused f) (reply.Model m') a b h k q = absurd (byte_above 114 109 (omega arith) q)
   same (reply.Refused f) reply.Inconsistent a b h k q = absurd (byte_above 114 105 (omega arith) q)
+  same (reply.Refused f) (reply.Undecided n') a b h k q = absurd (byte_above 117 114 (omega arith) (sym q))
   same (reply.Choices ls) reply.Fine a b h k q = absurd (low_byte kb.vocabulary ls a 111 (omega arith) q)
   same (reply.Choices ls) (reply.Refused g) a b h k q = absurd (low_byte kb.vocabulary ls a 114 (omega arith) q)
   same (reply.Choices ls) (reply.Choices ks) a b h k q = two_choices ls ks a b h k q
-  same (reply.Choices ls) (reply.Model m) a b h k q = absurd (low_byte kb.vocabulary ls a 109 (omega arith) q)
+  same (reply.Choices ls) (reply.Model m') a b h k q = absurd (low_byte kb.vocabulary ls a 109 (omega arith) q)
   same (reply.Choices ls) reply.Inconsistent a b h k q = absurd (low_byte kb.vocabulary ls a 105 (omega arith) q)
+  same (reply.Choices ls) (reply.Undecided n') a b h k q = absurd (low_byte kb.vocabulary ls a 117 (omega arith) q)
   same (reply.Model m) reply.Fine a b h k q = absurd (byte_above 111 109 (omega arith) (sym q))
   same (reply.Model m) (reply.Refused g) a b h k q = absurd (byte_above 114 109 (omega arith) (sym q))
   same (reply.Model m) (reply.Choices ks) a b h k q = absurd (low_byte kb.vocabulary ks b 109 (omega arith) (sym q))
   same (reply.Model m) (reply.Model m') a b h k q = two_models m m' a b h k q
   same (reply.Model m) reply.Inconsistent a b h k q = absurd (byte_above 109 105 (omega arith) q)
+  same (reply.Model m) (reply.Undecided n') a b h k q = absurd (byte_above 117 109 (omega arith) (sym q))
   same reply.Inconsistent reply.Fine a b h k q = absurd (byte_above 111 105 (omega arith) (sym q))
   same reply.Inconsistent (reply.Refused g) a b h k q = absurd (byte_above 114 105 (omega arith) (sym q))
   same reply.Inconsistent (reply.Choices ks) a b h k q = absurd (low_byte kb.vocabulary ks b 105 (omega arith) (sym q))
-  same reply.Inconsistent (reply.Model m) a b h k q = absurd (byte_above 109 105 (omega arith) (sym q))
+  same reply.Inconsistent (reply.Model m') a b h k q = absurd (byte_above 109 105 (omega arith) (sym q))
   same reply.Inconsistent reply.Inconsistent a b h k q = (refl, append_cancel_left (codes "inconsistent\n") a b q)
+  same reply.Inconsistent (reply.Undecided n') a b h k q = absurd (byte_above 117 105 (omega arith) (sym q))
+  same (reply.Undecided n) reply.Fine a b h k q = absurd (byte_above 117 111 (omega arith) q)
+  same (reply.Undecided n) (reply.Refused g) a b h k q = absurd (byte_above 117 114 (omega arith) q)
+  same (reply.Undecided n) (reply.Choices ks) a b h k q = absurd (low_byte kb.vocabulary ks b 117 (omega arith) (sym q))
+  same (reply.Undecided n) (reply.Model m') a b h k q = absurd (byte_above 117 109 (omega arith) q)
+  same (reply.Undecided n) reply.Inconsistent a b h k q = absurd (byte_above 117 105 (omega arith) q)
+  same (reply.Undecided n) (reply.Undecided n') a b h k q = two_undecided n n' a b h k q
 
 pub replies_same : NoTwoRepliesHaveOneText
 replies_same kb first names c r s a b to_r to_s h k q = same kb first names r s a b h k q

@@ -1,5 +1,7 @@
 pub mod Refusals
 pub mod Literals
+pub mod Budgets
+pub mod Searches
 pub mod Written
 pub mod Lines
 pub mod Parse

@@ -1,15 +1,14 @@
 -- What a command line means.
-use Rattle.std.specs.Prelude.{◌≡◌, ◌≢◌, ℕ, List, [], ◌∷◌, length, map, Bool, ◌&&◌, true, slice_range, Contains, Option, Some, None, Result, Ok, Err, ⊤}
+use Rattle.std.specs.Prelude.{◌≡◌, ◌≢◌, ℕ, List, [], ◌∷◌, map, Contains, Option, Some, None, Result, Ok, Err, ⊤}
 use Rattle.kb_logic.specs.declared.vocabularies.Symbol.{Symbol}
 use Rattle.kb_logic.specs.declared.structures.Literal.{Literal}
 use Rattle.kb_logic.specs.Bases.{Base}
-use Rattle.kb_text.specs.Bytes.{only_spaces}
 use Rattle.kb_text.specs.Depth.{outermost}
 use Rattle.kb_text.specs.declared.token.Kind.{Kind}
 use Rattle.kb_text.specs.declared.token.Kind.TheVariants.{Word, Int, Sign, Procedure}
-use Rattle.kb_text.specs.Tokens.{Lexeme, TokensFrom}
+use Rattle.kb_text.specs.Tokens.{Lexeme, TokensFrom, decimal}
 use Rattle.consult_text.specs.Written as written
-use Rattle.consult_text.specs.Written.{Tok, word, digits, sign, procedure, WrittenLiteral, WrittenCommand, put_command, IsNamedWell}
+use Rattle.consult_text.specs.Written.{Tok, word, digits, sign, procedure, WrittenLiteral, WrittenCommand, put_command, IsWellFormed}
 use Rattle.consult_text.specs.Literals.{IsLiteralOver, IsFirstNamed, HasFormOf, literal_of, name_of}
 use Rattle.consult_text.specs.declared.commands.Command.{Command}
 use Rattle.consult_text.specs.declared.commands.Command.TheVariants as command
@@ -27,22 +26,16 @@ tok Procedure text = procedure
 abbrev pub tok_of : Lexeme → Tok
 tok_of l = tok l.kind l.text
 
--- only spaces stand before, between and behind the tokens, where the first may begin at this place
-abbrev pub has_spaces_alone : ℕ → List ℕ → List Lexeme → Bool
-has_spaces_alone from line [] = only_spaces (slice_range line from (length line))
-has_spaces_alone from line (l ∷ ls) = only_spaces (slice_range line from l.start) && has_spaces_alone l.stop line ls
-
--- the line has this command, and no comment
+-- the line's tokens are this command; spaces and comments may stand between them
 pub record IsWritten (line : List ℕ) (w : WrittenCommand) : Type 0 where
   pub lexemes : List Lexeme
   pub tokens : TokensFrom outermost 0 line (Ok lexemes)
-  pub spaces : has_spaces_alone 0 line lexemes ≡ true
   pub spelled : map tok_of lexemes ≡ put_command w
-  pub named : IsNamedWell w
+  pub formed : IsWellFormed w
 
--- the line has nothing but spaces
+-- the line has no token: nothing but spaces and comments
 abbrev pub IsBlank : List ℕ → Type 0
-IsBlank line = only_spaces line ≡ true
+IsBlank line = TokensFrom outermost 0 line (Ok [])
 
 -- the line is neither blank nor a command
 abbrev pub IsNoCommand : List ℕ → Type 0
@@ -69,6 +62,9 @@ Asks kb (written.retract w) (command.Retract l) = StandsFor kb w l
 Asks kb written.reset command.Reset = ⊤
 Asks kb written.choices command.Choices = ⊤
 Asks kb written.model command.Model = ⊤
+Asks kb (written.budget text) (command.Budget b) = b ≡ Some (decimal text)
+Asks kb written.unlimited (command.Budget b) = b ≡ None
+Asks kb written.forget command.Forget = ⊤
 Asks kb _ _ = ⊥
 
 -- why it is refused
@@ -93,6 +89,8 @@ IsCommandOver kb (command.Retract l) = IsLiteralOver kb l
 IsCommandOver kb command.Reset = ⊤
 IsCommandOver kb command.Choices = ⊤
 IsCommandOver kb command.Model = ⊤
+IsCommandOver kb (command.Budget b) = ⊤
+IsCommandOver kb command.Forget = ⊤
 
 -- what a line is read as, unless memory ran out: nothing, a command, or a refusal
 abbrev pub Reads : Base → List ℕ → Result (Option Command) CommandError → Type 0

@@ -28,13 +28,15 @@ pub record HasWordNames (kb : Base) : Type 0 where
   pub apart : IsDistinct (map (λ s. s.name) kb.vocabulary.symbols)
   pub elements : AllByRecursion (AllByRecursion CanBeWritten) kb.known.domains
 
--- a reply over the knowledge base: choices are literals over it, and a model is a structure over its domains
+-- a reply over the knowledge base: choices are literals over it, a model is a structure over its domains, and a budget
+-- has 64 bits
 abbrev pub IsReplyOver : Base → Reply → Type 0
 IsReplyOver kb reply.Fine = ⊤
 IsReplyOver kb (reply.Refused f) = ⊤
 IsReplyOver kb (reply.Choices ls) = AllByRecursion (IsLiteralOver kb) ls
 IsReplyOver kb (reply.Model m) = IsStructure kb.vocabulary m × (m.domains ≡ kb.known.domains)
 IsReplyOver kb reply.Inconsistent = ⊤
+IsReplyOver kb (reply.Undecided k) = k < 2 ^ 64
 
 -- the replies that there are to a command: each may be refused, a change is answered by `ok`, and a query by what it
 -- asks for
@@ -46,6 +48,9 @@ IsReplyTo command.Reset reply.Fine = ⊤
 IsReplyTo command.Choices (reply.Choices ls) = ⊤
 IsReplyTo command.Model (reply.Model m) = ⊤
 IsReplyTo command.Model reply.Inconsistent = ⊤
+IsReplyTo command.Model (reply.Undecided k) = ⊤
+IsReplyTo (command.Budget b) reply.Fine = ⊤
+IsReplyTo command.Forget reply.Fine = ⊤
 IsReplyTo _ _ = ⊥
 
 -- No two replies to one command have one text, and none has a text that begins that of another: where two texts with

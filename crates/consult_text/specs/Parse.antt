@@ -5,8 +5,9 @@ use Rattle.std.specs.List.{AllByRecursion}
 use Rattle.kb_text.specs.declared.token.Token.{Token}
 use Rattle.kb_text.specs.Tokens.{lexemes}
 use Rattle.consult_text.specs.Written as written
-use Rattle.consult_text.specs.Written.{Tok, word, digits, sign, WrittenElem, WrittenLiteral, WrittenCommand, named, integer, atom, equation, put_elem, put_further, put_args, put_literal, put_command, equals, IsName, HasName, HasNames, IsNamedWell}
+use Rattle.consult_text.specs.Written.{Tok, word, digits, sign, WrittenElem, WrittenLiteral, WrittenCommand, named, integer, atom, equation, put_elem, put_further, put_args, put_literal, put_command, equals, IsName, HasName, HasNames, IsWellFormed}
 use Rattle.consult_text.specs.Lines.{tok_of}
+use Rattle.consult_text.specs.Budgets.{IsBudget}
 use Rattle.consult_text.specs.declared.written.ElemText.{ElemText}
 use Rattle.consult_text.specs.declared.written.ElemText.TheVariants as elem
 use Rattle.consult_text.specs.declared.written.Head.{Head}
@@ -34,6 +35,9 @@ command_view (command.Retract l) = written.retract (literal_view l)
 command_view command.Reset = written.reset
 command_view command.Choices = written.choices
 command_view command.Model = written.model
+command_view (command.Budget text) = written.budget text.now
+command_view command.Unlimited = written.unlimited
+command_view command.Forget = written.forget
 
 abbrev pub toks : List Token → List Tok
 toks ts = map tok_of (lexemes ts)
@@ -115,12 +119,19 @@ abbrev pub ParsesLiteral : List Tok → Option LiteralText → Type 0
 ParsesLiteral ts None = (l : WrittenLiteral) → HasNames l → ts ≢ put_literal l dot
 ParsesLiteral ts (Some l) = (ts ≡ put_literal (literal_view l) dot) × HasNames (literal_view l)
 
--- the tokens are those of a command without a literal
+-- the tokens behind the word `budget`
+abbrev pub ParsesBudget : List Tok → Option CommandText → Type 0
+ParsesBudget ts None = ((text : List ℕ) → IsBudget text → ts ≢ digits text ∷ dot) × (ts ≢ word (codes "unlimited") ∷ dot)
+ParsesBudget ts (Some c) = (word (codes "budget") ∷ ts ≡ put_command (command_view c)) × IsWellFormed (command_view c)
+
+-- the tokens are those of a command of one word
 abbrev pub ParsesShort : List Tok → Option CommandText → Type 0
-ParsesShort ts None = (ts ≢ word (codes "reset") ∷ dot) × (ts ≢ word (codes "choices") ∷ dot) × (ts ≢ word (codes "model") ∷ dot)
-ParsesShort ts (Some c) = (ts ≡ put_command (command_view c)) × IsNamedWell (command_view c)
+ParsesShort ts None =
+    (ts ≢ word (codes "reset") ∷ dot) × (ts ≢ word (codes "choices") ∷ dot) × (ts ≢ word (codes "model") ∷ dot)
+    × (ts ≢ word (codes "forget") ∷ dot)
+ParsesShort ts (Some c) = (ts ≡ put_command (command_view c)) × IsWellFormed (command_view c)
 
 -- the tokens are those of a command
 abbrev pub ParsesCommand : List Tok → Option CommandText → Type 0
-ParsesCommand ts None = (w : WrittenCommand) → IsNamedWell w → ts ≢ put_command w
-ParsesCommand ts (Some c) = (ts ≡ put_command (command_view c)) × IsNamedWell (command_view c)
+ParsesCommand ts None = (w : WrittenCommand) → IsWellFormed w → ts ≢ put_command w
+ParsesCommand ts (Some c) = (ts ≡ put_command (command_view c)) × IsWellFormed (command_view c)

@@ -1,12 +1,12 @@
 -- Written integers whose values have 63 bits, as those of every line that has tokens.
-use Rattle.std.specs.Prelude.{◌≡◌, ℕ, List, ◌<◌, ◌^◌, Result, Ok, Err, ⊤}
+use Rattle.std.specs.Prelude.{◌≡◌, ℕ, List, ◌<◌, ◌^◌, Option, Some, None, Result, Ok, Err, ⊤}
 use Rattle.std.specs.List.{AllByRecursion}
 use Rattle.kb_logic.specs.declared.structures.Literal.{Literal}
 use Rattle.kb_logic.specs.Bases.{Base}
 use Rattle.kb_text.specs.Tokens.{decimal}
 use Rattle.consult_text.specs.Written as written
 use Rattle.consult_text.specs.Written.{WrittenElem, named, integer, WrittenLiteral, atom, equation, WrittenCommand}
-use Rattle.consult_text.specs.Lines.{StandsFor, IsRefusedFor, IsWritten, IsNoCommand, Asks, RefusesFor}
+use Rattle.consult_text.specs.Lines.{StandsFor, IsRefusedFor, IsWritten, IsBlank, IsNoCommand, Asks, RefusesFor}
 use Rattle.consult_text.specs.Parse.{command_view}
 use Rattle.consult_text.specs.declared.commands.Command.{Command}
 use Rattle.consult_text.specs.declared.written.CommandText.{CommandText}
@@ -28,6 +28,9 @@ HasRanges (written.retract l) = HasRange l
 HasRanges written.reset = ⊤
 HasRanges written.choices = ⊤
 HasRanges written.model = ⊤
+HasRanges (written.budget text) = decimal text < 2 ^ 63
+HasRanges written.unlimited = ⊤
+HasRanges written.forget = ⊤
 
 -- what a written literal is looked up as
 abbrev pub LooksUp : Base → WrittenLiteral → Result Literal CommandError → Type 0
@@ -35,9 +38,10 @@ LooksUp kb w (Ok l) = StandsFor kb w l
 LooksUp kb w (Err (errors.Refused f)) = IsRefusedFor kb w f
 LooksUp kb w (Err errors.Memory) = ⊤
 
--- what a line that is not blank is parsed as
-abbrev pub ParsesAs : List ℕ → Result CommandText CommandError → Type 0
-ParsesAs line (Ok c) = IsWritten line (command_view c) × HasRanges (command_view c)
+-- what a line is parsed as
+abbrev pub ParsesAs : List ℕ → Result (Option CommandText) CommandError → Type 0
+ParsesAs line (Ok None) = IsBlank line
+ParsesAs line (Ok (Some c)) = IsWritten line (command_view c) × HasRanges (command_view c)
 ParsesAs line (Err (errors.Refused f)) = (f ≡ Syntax) × IsNoCommand line
 ParsesAs line (Err errors.Memory) = ⊤
 

@@ -1,10 +1,13 @@
 -- The state of a session: the choices and the budget, and what each command does to them.
-use Rattle.std.specs.Prelude.{ℕ, List, [], ◌∷◌, ◌++◌, Bool, true, false, ◌&&◌, ◌||◌, ◌==◌, not, filter, Option, Some, None}
+use Rattle.std.specs.Prelude.{ℕ, List, [], ◌∷◌, ◌++◌, Bool, true, false, ◌&&◌, ◌==◌, not, filter, Option, Some, None}
 use Rattle.std.specs.List.{list_any}
 use Rattle.kb_logic.specs.declared.elements.Elem.{Elem}
 use Rattle.kb_logic.specs.declared.structures.Literal.{Literal}
 use Rattle.kb_logic.specs.Bases.{Base}
-use Rattle.kb_logic.specs.Models.{GroundAtom}
+use Rattle.kb_logic.specs.Models.{atom_of}
+use Rattle.partial_structures.specs.KnownAtoms.{value_at}
+use Rattle.partial_structures.specs.declared.truths.Truth.{Truth}
+use Rattle.partial_structures.specs.declared.truths.Truth.TheVariants as truth
 use Rattle.consult_text.specs.declared.commands.Command.{Command}
 use Rattle.consult_text.specs.declared.commands.Command.TheVariants as command
 use Rattle.consult_text.specs.declared.refusals.F.{F}
@@ -18,9 +21,9 @@ pub record State : Type 0 where
   pub choices : List Literal
   pub budget : Option ℕ
 
--- a session begins without choices and with a budget of 100,000
-abbrev pub first_state : State
-first_state = record { choices = []; budget = Some 100000 }
+-- a session begins without choices
+abbrev pub first_state : Option ℕ → State
+first_state budget = record { choices = []; budget = budget }
 
 -- the elements are the same word or the same integer
 abbrev pub same_elem : Elem → Elem → Bool
@@ -49,18 +52,15 @@ same_literal a b = (same_sign a.positive b.positive && (a.symbol == b.symbol)) &
 abbrev pub is_chosen : State → Literal → Bool
 is_chosen s l = list_any (same_literal l) s.choices
 
--- the atom has the literal's symbol and arguments
-abbrev pub same_application : Literal → GroundAtom → Bool
-same_application l a = (l.symbol == a.symbol) && same_row l.args a.args
+-- it is certain whether it is so
+abbrev pub is_certain : Truth → Bool
+is_certain truth.Yes = true
+is_certain truth.No = true
+is_certain truth.Unknown = false
 
--- and its value
-abbrev pub same_atom : Literal → GroundAtom → Bool
-same_atom l a = same_application l a && same_given_value l.value a.value
-
--- the literal's atom is known in the data: they say that it is true, or that its function has another value there, or that
--- it is false
+-- the literal's atom is known in the data: it is certainly true there, or certainly false
 abbrev pub is_known : Base → Literal → Bool
-is_known kb l = list_any (same_application l) kb.known.true_atoms || list_any (same_atom l) kb.known.false_atoms
+is_known kb l = is_certain (value_at kb.known (atom_of l))
 
 -- this refusal where its cause holds, and else the next one
 abbrev pub refused_where : Bool → F → Option F → Option F
@@ -76,6 +76,8 @@ command_refusal kb s (command.Retract l) = refused_where (not (is_chosen s l)) r
 command_refusal kb s command.Reset = None
 command_refusal kb s command.Choices = None
 command_refusal kb s command.Model = None
+command_refusal kb s (command.Budget b) = None
+command_refusal kb s command.Forget = None
 
 -- the choices without this one, in their order
 abbrev pub without : Literal → List Literal → List Literal
@@ -88,6 +90,8 @@ carried_out s (command.Retract l) = record s { choices = without l s.choices }
 carried_out s command.Reset = record s { choices = [] }
 carried_out s command.Choices = s
 carried_out s command.Model = s
+carried_out s (command.Budget b) = record s { budget = b }
+carried_out s command.Forget = s
 
 abbrev pub unless_refused : Option F → State → State → State
 unless_refused None s t = t

@@ -1,7 +1,7 @@
 -- The texts of replies.
 use Rattle.std.specs.Prelude.{ℕ, List, [], ◌∷◌, ◌++◌, Bool, true, false, Option, Some, None, flat_map, codes, slice_get}
 use Rattle.std.specs.List.{enumerate_from}
-use Rattle.std.specs.Fmt.{signed_decimal}
+use Rattle.std.specs.Fmt.{signed_decimal, decimal}
 use Rattle.kb_logic.specs.declared.elements.Elem.{Elem}
 use Rattle.kb_logic.specs.declared.elements.Elem.TheVariants.{Named, Num}
 use Rattle.kb_logic.specs.declared.vocabularies.Symbol.{Symbol}
@@ -115,3 +115,4 @@ reply_text vocab (reply.Refused f) = codes "refused " ++ (text_of f ++ codes "\n
 reply_text vocab (reply.Choices ls) = flat_map (choice_line vocab) ls ++ codes "done\n"
 reply_text vocab (reply.Model m) = codes "model\n" ++ (symbol_lines vocab m ++ codes "done\n")
 reply_text vocab reply.Inconsistent = codes "inconsistent\n"
+reply_text vocab (reply.Undecided k) = codes "undecided " ++ (decimal k ++ codes "\n")

@@ -2,6 +2,7 @@
 use Rattle.std.specs.Prelude.{◌≡◌, ℕ, List, [], ◌∷◌, Bool, true, false, codes, ⊤}
 use Rattle.std.specs.List.{AllByRecursion}
 use Rattle.kb_text.specs.Tokens.{is_word_of}
+use Rattle.consult_text.specs.Budgets.{IsBudget}
 
 -- a token, without its place
 pub data Tok : Type 0 where
@@ -27,6 +28,9 @@ pub data WrittenCommand : Type 0 where
   reset : WrittenCommand
   choices : WrittenCommand
   model : WrittenCommand
+  budget : (text : List ℕ) → WrittenCommand
+  unlimited : WrittenCommand
+  forget : WrittenCommand
 
 abbrev pub put_elem : WrittenElem → List Tok → List Tok
 put_elem (named text) ts = word text ∷ ts
@@ -62,6 +66,9 @@ put_command (retract l) = word (codes "retract") ∷ put_literal l (sign (codes 
 put_command reset = word (codes "reset") ∷ sign (codes ".") ∷ []
 put_command choices = word (codes "choices") ∷ sign (codes ".") ∷ []
 put_command model = word (codes "model") ∷ sign (codes ".") ∷ []
+put_command (budget text) = word (codes "budget") ∷ digits text ∷ sign (codes ".") ∷ []
+put_command unlimited = word (codes "budget") ∷ word (codes "unlimited") ∷ sign (codes ".") ∷ []
+put_command forget = word (codes "forget") ∷ sign (codes ".") ∷ []
 
 -- words that are no names
 abbrev pub reserved_words : List (List ℕ)
@@ -78,10 +85,13 @@ abbrev pub HasNames : WrittenLiteral → Type 0
 HasNames (atom positive name args) = IsName name × AllByRecursion HasName args
 HasNames (equation positive name args value) = IsName name × AllByRecursion HasName args × HasName value
 
--- its names are no reserved words
-abbrev pub IsNamedWell : WrittenCommand → Type 0
-IsNamedWell (assert l) = HasNames l
-IsNamedWell (retract l) = HasNames l
-IsNamedWell reset = ⊤
-IsNamedWell choices = ⊤
-IsNamedWell model = ⊤
+-- its names are no reserved words, and its number is one that may stand there
+abbrev pub IsWellFormed : WrittenCommand → Type 0
+IsWellFormed (assert l) = HasNames l
+IsWellFormed (retract l) = HasNames l
+IsWellFormed reset = ⊤
+IsWellFormed choices = ⊤
+IsWellFormed model = ⊤
+IsWellFormed (budget text) = IsBudget text
+IsWellFormed unlimited = ⊤
+IsWellFormed forget = ⊤

@@ -17,6 +17,10 @@ pub enum Command {
     Choices,
     /// Asks for a model that makes all choices true.
     Model,
+    /// Says how many conflicts each further query may meet; without a limit where there is no number.
+    Budget(Option<u64>),
+    /// Gives up what was learnt.
+    Forget,
 }
 
 impl Command {
@@ -29,6 +33,8 @@ impl Command {
             Command::Reset => Ok(Command::Reset),
             Command::Choices => Ok(Command::Choices),
             Command::Model => Ok(Command::Model),
+            Command::Budget(budget) => Ok(Command::Budget(*budget)),
+            Command::Forget => Ok(Command::Forget),
         }
     }
 }

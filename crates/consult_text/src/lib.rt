@@ -4,6 +4,7 @@
 #![tactic(auto)]
 
 mod commands;
+mod digits;
 mod laws;
 mod lines;
 mod lookup;
@@ -14,6 +15,7 @@ mod texts;
 mod written;
 
 pub use commands::Command;
+pub use digits::budget_of;
 pub use laws::{commands_are_over_the_base, no_two_replies_have_one_text, one_meaning};
 pub use lines::{CommandError, read_command};
 pub use refusals::F;

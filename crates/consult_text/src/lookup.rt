@@ -1,31 +1,22 @@
 //! Looks the names of a written literal up.
 ghost use Rattle.std.specs.Prelude.{◌≡◌, ◌≢◌, ◌<◌, ◌≤◌, ◌^◌, ℕ, length, map, Contains, Some, slice_get, is_some, IfOk, MatchBool, MatchOption};
 ghost use Rattle.std.specs.List.{AllByRecursion};
-ghost use Rattle.kb_logic.specs.First.{IsRowOver, base_of_first};
+ghost use Rattle.kb_logic.specs.First.{IsRowOver};
+ghost use Rattle.consult_base.specs.Opened.{base_of};
 ghost use Rattle.kb_logic.specs.Models.{HasValueIn};
 ghost use Rattle.kb_text.specs.Tokens.{decimal};
 ghost use Rattle.consult_text.specs.Literals.{integer_of, elem_of, IsFirstNamed, HasFormOf, IsLiteralOver, literal_of};
 ghost use Rattle.consult_text.specs.Parse.{elem_view, elem_views, literal_view};
 ghost use Rattle.consult_text.specs.Ranges.{IsInRange, HasRange, LooksUp};
 
+use crate::digits::digits_value;
 use crate::lines::CommandError;
 use crate::refusals::F;
 use crate::written::{ElemText, LiteralText};
-use kb_logic::first::FirstKb;
+use consult_base::KnowledgeBase;
 use kb_logic::values::domain_in;
 use kb_logic::{Elem, ElemList, Literal, Memory, Name, Symbol};
 use std::alloc::Global;
-
-fn digits_value(digits: &[u8]) -> u64
-    requires { decimal digits.now < 2 ^ 63 }
-    ensures { result ≡ decimal digits.now }
-{
-    let mut value: u64 = 0;
-    for digit in digits {
-        value = 10 * value + u64::from(digit.saturating_sub(b'0'));
-    }
-    value
-}
 
 fn integer(negative: bool, digits: &[u8]) -> i64
     requires { decimal digits.now < 2 ^ 63 }
@@ -154,23 +145,26 @@ fn is_value_over(domains: &[ElemList], ty: Option<u32>, value: &Option<Elem>) ->
 }
 
 /// Whether the literal's elements are in the types that its symbol has.
-fn is_literal_over(kb: &FirstKb, symbol: &Symbol, literal: &Literal) -> bool
-    requires declared { slice_get kb.now.vocab.symbols literal.now.symbol ≡ Some symbol.now }
+fn is_literal_over(kb: &KnowledgeBase, symbol: &Symbol, literal: &Literal) -> bool
+    requires declared { slice_get kb.now.typed.vocab.symbols literal.now.symbol ≡ Some symbol.now }
     requires args { length symbol.now.args ≡ length literal.now.args }
-    ensures { MatchBool result (IsLiteralOver (base_of_first kb.now) literal.now) (IsLiteralOver (base_of_first kb.now) literal.now → ⊥) }
+    ensures { MatchBool result (IsLiteralOver (base_of kb.now) literal.now) (IsLiteralOver (base_of kb.now) literal.now → ⊥) }
 {
-    let domains = kb.domains.as_slice();
+    let domains = kb.data().domains().as_slice();
     is_row_over(domains, symbol.args.as_slice(), literal.args.as_slice())
         && is_value_over(domains, symbol.value, &literal.value)
 }
 
 /// The literal that is written.
-pub fn look_up(alloc: Global, kb: &FirstKb, text: &LiteralText<'_>) -> Result<Literal, CommandError>
-    requires few { length kb.now.vocab.symbols ≤ 2 ^ 32 }
-    requires range { HasRange (literal_view text.now) }
-    ensures { LooksUp (base_of_first kb.now) (literal_view text.now) result }
+pub fn look_up(
+    alloc: Global,
+    kb: &KnowledgeBase,
+    text: &LiteralText<'_>,
+) -> Result<Literal, CommandError>
+    requires { HasRange (literal_view text.now) }
+    ensures { LooksUp (base_of kb.now) (literal_view text.now) result }
 {
-    let Some((number, symbol)) = find_symbol(kb.vocab.symbols.as_slice(), text.name) else {
+    let Some((number, symbol)) = find_symbol(kb.vocabulary().symbols.as_slice(), text.name) else {
         return Err(CommandError::Refused(F::UnknownSymbol));
     };
     if !has_form(symbol, text) {

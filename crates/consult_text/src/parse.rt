@@ -5,8 +5,9 @@ ghost use Rattle.std.specs.Str.{bytes_eq};
 ghost use Rattle.kb_text.specs.Tokens.{lexeme_of, is_word_of};
 ghost use Rattle.consult_text.specs.Written.{word, sign, reserved_words};
 ghost use Rattle.consult_text.specs.Lines.{tok_of};
-ghost use Rattle.consult_text.specs.Parse.{toks, Behind, ParsesName, ParsesDigits, ParsesElem, ParsesFurther, ParsesArgs, HasNoArgs, ParsesHead, HasNoHead, ParsesEquality, ParsesLiteral, ParsesNegated, ParsesPositive, ParsesShort, ParsesCommand, literal_view, head_literal, dot, elem_views};
+ghost use Rattle.consult_text.specs.Parse.{toks, Behind, ParsesName, ParsesDigits, ParsesElem, ParsesFurther, ParsesArgs, HasNoArgs, ParsesHead, HasNoHead, ParsesEquality, ParsesLiteral, ParsesNegated, ParsesPositive, ParsesBudget, ParsesShort, ParsesCommand, literal_view, head_literal, dot, elem_views};
 
+use crate::digits::budget_of;
 use crate::written::{CommandText, ElemText, Head, LiteralText};
 use kb_logic::Memory;
 use kb_text::{Kind, Token};
@@ -300,10 +301,28 @@ pub fn parse_command<'a>(
             None => Ok(None),
         };
     }
-    Ok(parse_short(tokens))
+    match behind_word(b"budget", tokens) {
+        Some(behind) => Ok(parse_budget(behind)),
+        None => Ok(parse_short(tokens)),
+    }
 }
 
-/// A command without a literal.
+/// The budget behind its word.
+fn parse_budget<'a>(tokens: &[Token<'a>]) -> Option<CommandText<'a>>
+    ensures { ParsesBudget (toks tokens.now) result }
+{
+    if is_command_of(b"unlimited", tokens) {
+        return Some(CommandText::Unlimited);
+    }
+    let (digits, rest) = parse_digits(tokens)?;
+    if is_dot(rest) && budget_of(digits).is_some() {
+        Some(CommandText::Budget(digits))
+    } else {
+        None
+    }
+}
+
+/// A command of one word.
 fn parse_short<'a>(tokens: &[Token<'_>]) -> Option<CommandText<'a>>
     ensures { ParsesShort (toks tokens.now) result }
 {
@@ -313,6 +332,8 @@ fn parse_short<'a>(tokens: &[Token<'_>]) -> Option<CommandText<'a>>
         Some(CommandText::Choices)
     } else if is_command_of(b"model", tokens) {
         Some(CommandText::Model)
+    } else if is_command_of(b"forget", tokens) {
+        Some(CommandText::Forget)
     } else {
         None
     }

@@ -18,6 +18,8 @@ pub enum Reply {
     Model(Structure),
     /// There is no model.
     Inconsistent,
+    /// The search met as many conflicts as its budget allows.
+    Undecided(u64),
 }
 
 impl Reply {
@@ -30,6 +32,7 @@ impl Reply {
             Reply::Choices(choices) => Ok(Reply::Choices(choices.copy(alloc)?)),
             Reply::Model(m) => Ok(Reply::Model(m.copy(alloc)?)),
             Reply::Inconsistent => Ok(Reply::Inconsistent),
+            Reply::Undecided(budget) => Ok(Reply::Undecided(*budget)),
         }
     }
 }

@@ -1,5 +1,7 @@
 //! The texts of replies.
-ghost use Rattle.std.specs.Prelude.{◌≡◌, ◌++◌, OnOk, OnErr, codes, flat_map};
+ghost use Rattle.std.specs.Prelude.{◌≡◌, ◌++◌, OnOk, OnErr, IfOk, codes, flat_map};
+ghost use Rattle.std.specs.Fmt.{decimal};
+ghost use Rattle.std.specs.String.{string_bytes};
 ghost use Rattle.kb_logic.specs.Meaning.{rows_of};
 ghost use Rattle.consult_text.specs.Refusals.{text_of};
 ghost use Rattle.consult_text.specs.Texts.{elem_text, row_text, rows_text, truth_text, predicate_text, function_text, separator_text, further_text, mapping_text, mappings_text, symbol_line, symbol_lines, name_of, args_text, atom_text, negation_text, equality_text, literal_text, choice_line, reply_text};
@@ -20,12 +22,17 @@ pub fn write_reply(
     ensures err { OnErr result (out.new.items ≡ out.old.items) }
 {
     let mut text = Vec::new(alloc);
-    push_reply(&mut text, vocab, reply)?;
+    push_reply(alloc, &mut text, vocab, reply)?;
     out.extend_from_slice(&text)?;
     Ok(())
 }
 
-fn push_reply(out: &mut Vec<u8>, vocab: &Vocabulary, reply: &Reply) -> Result<(), Memory>
+fn push_reply(
+    alloc: Global,
+    out: &mut Vec<u8>,
+    vocab: &Vocabulary,
+    reply: &Reply,
+) -> Result<(), Memory>
     ensures { OnOk result (out.new.items ≡ out.old.items ++ reply_text vocab.now reply.now) }
 {
     match reply {
@@ -34,7 +41,14 @@ fn push_reply(out: &mut Vec<u8>, vocab: &Vocabulary, reply: &Reply) -> Result<()
         Reply::Choices(choices) => push_choices(out, vocab, choices.as_slice()),
         Reply::Model(m) => push_model(out, vocab, m),
         Reply::Inconsistent => push_bytes(out, b"inconsistent\n"),
+        Reply::Undecided(budget) => push_bytes(out, undecided_line(alloc, *budget)?.as_bytes()),
     }
+}
+
+fn undecided_line(alloc: Global, budget: u64) -> Result<String, Memory>
+    ensures { IfOk result (λ line. string_bytes line ≡ codes "undecided " ++ (decimal budget ++ codes "\n")) }
+{
+    Ok(format!(in alloc; "undecided {budget}\n")?)
 }
 
 fn push_bytes(out: &mut Vec<u8>, bytes: &[u8]) -> Result<(), Memory>

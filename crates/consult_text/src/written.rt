@@ -31,4 +31,8 @@ pub enum CommandText<'a> {
     Reset,
     Choices,
     Model,
+    /// The digits of the budget.
+    Budget(&'a [u8]),
+    Unlimited,
+    Forget,
 }

@@ -70,17 +70,21 @@ choices_stay_distinct kb s (command.Retract l) distinct =
 choices_stay_distinct kb s command.Reset distinct = tt
 choices_stay_distinct kb s command.Choices distinct = distinct
 choices_stay_distinct kb s command.Model distinct = distinct
+choices_stay_distinct kb s (command.Budget b) distinct = distinct
+choices_stay_distinct kb s command.Forget distinct = distinct
 
 stays_where_kept : (refused : Option F) (s t : State) → t.budget ≡ s.budget → (unless_refused refused s t).budget ≡ s.budget
 stays_where_kept None s t kept = kept
 stays_where_kept (Some f) s t kept = refl
 
 pub budget_stays : BudgetStays
-budget_stays kb s (command.Assert l) = stays_where_kept (command_refusal kb s (command.Assert l)) s (carried_out s (command.Assert l)) refl
-budget_stays kb s (command.Retract l) = stays_where_kept (command_refusal kb s (command.Retract l)) s (carried_out s (command.Retract l)) refl
-budget_stays kb s command.Reset = refl
-budget_stays kb s command.Choices = refl
-budget_stays kb s command.Model = refl
+budget_stays kb s (command.Assert l) other = stays_where_kept (command_refusal kb s (command.Assert l)) s (carried_out s (command.Assert l)) refl
+budget_stays kb s (command.Retract l) other = stays_where_kept (command_refusal kb s (command.Retract l)) s (carried_out s (command.Retract l)) refl
+budget_stays kb s command.Reset other = refl
+budget_stays kb s command.Choices other = refl
+budget_stays kb s command.Model other = refl
+budget_stays kb s (command.Budget b) other = absurd (other b refl)
+budget_stays kb s command.Forget other = refl
 
 pub opposite_choices_have_no_model : OppositeChoicesHaveNoModel
 opposite_choices_have_no_model kb s l m chosen opposite_chosen model =

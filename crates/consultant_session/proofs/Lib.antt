@@ -1,14 +1,5 @@
-pub mod FillingLemmas
-pub mod ListLemmas
-pub mod OrderLemmas
-pub mod ApartLemmas
-pub mod RepeatLemmas
 pub mod MemberLemmas
-pub mod BegunLemmas
-pub mod SortLemmas
-pub mod FitsLemmas
-pub mod CompletionLemmas
+pub mod ElementLemmas
 pub mod LiteralLemmas
 pub mod ChoiceLemmas
-pub mod KnownLemmas
-pub mod ModelLemmas
+pub mod Answered

@@ -1,10 +1,11 @@
 -- What the definitions of states say, in the subject's own words.
-use Rattle.std.specs.Prelude.{◌≡◌, ◌≢◌, ◌↔◌, List, not, Contains, IsTrue}
+use Rattle.std.specs.Prelude.{◌≡◌, ◌≢◌, ◌↔◌, ℕ, List, Option, not, Contains, IsTrue}
 use Rattle.kb_logic.specs.declared.structures.Structure.{Structure}
 use Rattle.kb_logic.specs.declared.structures.Literal.{Literal}
 use Rattle.kb_logic.specs.Bases.{Base}
 use Rattle.kb_logic.specs.Structures.{IsDistinct}
 use Rattle.consult_text.specs.declared.commands.Command.{Command}
+use Rattle.consult_text.specs.declared.commands.Command.TheVariants as command
 use Rattle.consult_text.specs.States.{State, same_literal, is_chosen, without, state_after}
 use Rattle.consult_text.specs.RightReplies.{ModelOfState}
 
@@ -24,9 +25,10 @@ WithoutRemovesOne = (l c : Literal) (choices : List Literal) → Contains (witho
 abbrev pub ChoicesStayDistinct : Type 0
 ChoicesStayDistinct = (kb : Base) (s : State) (c : Command) → IsDistinct s.choices → IsDistinct (state_after kb s c).choices
 
--- no command changes the budget
+-- no command but `budget` changes the budget
 abbrev pub BudgetStays : Type 0
-BudgetStays = (kb : Base) (s : State) (c : Command) → (state_after kb s c).budget ≡ s.budget
+BudgetStays = (kb : Base) (s : State) (c : Command) → ((b : Option ℕ) → c ≢ command.Budget b)
+    → (state_after kb s c).budget ≡ s.budget
 
 abbrev pub opposite : Literal → Literal
 opposite l = record l { positive = not l.positive }

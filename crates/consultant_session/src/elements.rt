@@ -1,10 +1,8 @@
-//! Elements, rows and the lists that hold them.
-ghost use Rattle.std.specs.Prelude.{◌≡◌, MatchOption, true, false, IsTrue, ◌↔◌};
-ghost use Rattle.kb_logic.specs.Meaning.{rows_of};
-ghost use Rattle.kb_logic.specs.First.{is_given};
+//! Elements and rows.
+ghost use Rattle.std.specs.Prelude.{◌≡◌};
 ghost use Rattle.consult_text.specs.States.{same_elem, same_row};
 
-use kb_logic::{Elem, ElemList, Table};
+use kb_logic::Elem;
 
 pub(crate) fn are_same(a: &Elem, b: &Elem) -> bool
     ensures { result ≡ same_elem a.now b.now }
@@ -28,17 +26,4 @@ pub(crate) fn are_same_rows(a: &[Elem], b: &[Elem]) -> bool
         }
     }
     true
-}
-
-/// The rows that the data give to the predicate with this number.
-pub(crate) fn given_rows(given: &[Table], number: usize) -> Option<&[ElemList]>
-    ensures none { MatchOption result (is_given given.now number ≡ false) (λ rows. is_given given.now number ≡ true) }
-    ensures rows { MatchOption result (is_given given.now number ≡ false) (λ rows. rows.now ≡ rows_of number given.now) }
-{
-    for table in given {
-        if table.symbol as usize == number {
-            return Some(table.rows.as_slice());
-        }
-    }
-    None
 }

@@ -21,7 +21,7 @@ pub fn choices_stay_distinct()
     ensures { ChoicesStayDistinct }
 {}
 
-/// No command changes the budget.
+/// No command but `budget` changes the budget.
 pub fn budget_stays()
     ensures { BudgetStays }
 {}

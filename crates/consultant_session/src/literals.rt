@@ -1,17 +1,14 @@
-//! Literals: which ones are the same, and which ones are true in a structure.
-ghost use Rattle.std.specs.Prelude.{◌≡◌, ◌∷◌, ◌++◌, []};
+//! Literals: which ones are the same, and which ones the data make known.
+ghost use Rattle.std.specs.Prelude.{◌≡◌};
 ghost use Rattle.std.specs.List.{list_any};
-ghost use Rattle.consultant_session.specs.DomainOrder.{has_tuple};
-ghost use Rattle.consult_text.specs.States.{same_row};
-ghost use Rattle.kb_logic.specs.First.{IsFirstKb, base_of_first};
+ghost use Rattle.consult_base.specs.Opened.{base_of};
 ghost use Rattle.consult_text.specs.Literals.{IsLiteralOver};
 ghost use Rattle.consult_text.specs.States.{same_literal, same_given_value, without, is_known};
-ghost use Rattle.consultant_session.specs.Completion.{has_atom, holds};
 
-use crate::elements::{are_same, are_same_rows, given_rows};
-use kb_logic::first::FirstKb;
-use kb_logic::values::rows;
-use kb_logic::{Elem, ElemList, Literal, Structure};
+use crate::elements::{are_same, are_same_rows};
+use consult_base::KnowledgeBase;
+use kb_logic::{Elem, Literal};
+use partial_structures::Truth;
 
 /// Whether the literal is one of these.
 pub(crate) fn is_among(literals: &[Literal], literal: &Literal) -> bool
@@ -52,54 +49,13 @@ fn are_same_values(a: &Option<Elem>, b: &Option<Elem>) -> bool
     }
 }
 
-/// Whether the literal is true in the structure.
-pub(crate) fn is_true_in(m: &Structure, literal: &Literal) -> bool
-    ensures { result ≡ holds m.now literal.now }
+/// Whether the data make the literal's atom known.
+pub(crate) fn is_known(kb: &KnowledgeBase, literal: &Literal) -> bool
+    requires { IsLiteralOver (base_of kb.now) literal.now }
+    ensures { result ≡ is_known (base_of kb.now) literal.now }
 {
-    let has = has_its_atom(m, literal);
-    if literal.positive { has } else { !has }
-}
-
-/// Whether the literal's atom is true in the structure.
-fn has_its_atom(m: &Structure, literal: &Literal) -> bool
-    ensures { result ≡ has_atom m.now literal.now literal.now.value }
-{
-    let args = literal.args.as_slice();
-    match &literal.value {
-        None => has_args(rows(m.relations.as_slice(), literal.symbol), args),
-        Some(value) => maps_to(rows(m.functions.as_slice(), literal.symbol), args, value),
+    match kb.data().value(literal) {
+        Truth::Yes | Truth::No => true,
+        Truth::Unknown => false,
     }
-}
-
-/// Whether one of the rows is this one.
-fn has_args(rows: &[ElemList], args: &[Elem]) -> bool
-    ensures { result ≡ has_tuple rows.now args.now }
-{
-    rows.iter().any(|row| are_same_rows(row.as_slice(), args))
-}
-
-/// Whether one of the rows has these arguments and then this value.
-fn maps_to(rows: &[ElemList], args: &[Elem], value: &Elem) -> bool
-    ensures { result ≡ has_tuple rows.now (args.now ++ value.now ∷ []) }
-{
-    rows.iter().any(|row| is_entry(row.as_slice(), args, value))
-}
-
-/// Whether the row has these arguments and then this value.
-fn is_entry(row: &[Elem], args: &[Elem], value: &Elem) -> bool
-    ensures { result ≡ same_row row.now (args.now ++ value.now ∷ []) }
-{
-    match row.split_last() {
-        Some((last, front)) => are_same_rows(front, args) && are_same(last, value),
-        None => false,
-    }
-}
-
-/// Whether the data give the literal's atom.
-pub(crate) fn is_known(kb: &FirstKb, literal: &Literal) -> bool
-    requires first { IsFirstKb kb.now }
-    requires over { IsLiteralOver (base_of_first kb.now) literal.now }
-    ensures { result ≡ is_known (base_of_first kb.now) literal.now }
-{
-    given_rows(kb.given.as_slice(), literal.symbol as usize).is_some()
 }

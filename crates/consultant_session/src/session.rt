@@ -1,65 +1,62 @@
 //! Sessions over a knowledge base.
 ghost use Rattle.std.specs.Prelude.{◌≡◌, IfOk, OnOk, OnErr};
 ghost use Rattle.consult_text.specs.declared.commands.Command.TheVariants as command;
-ghost use Rattle.consultant_session.specs.Sessions.{IsSmallFirstKb, TakesMemory, just_opened};
-ghost use Rattle.kb_logic.specs.First.{base_of_first};
+ghost use Rattle.consultant_session.specs.Sessions.{TakesMemory, just_opened};
+ghost use Rattle.consult_base.specs.Opened.{base_of};
 ghost use Rattle.consult_text.specs.Lines.{IsCommandOver};
 ghost use Rattle.consult_text.specs.Literals.{IsLiteralOver};
 ghost use Rattle.consult_text.specs.RightReplies.{RightReply};
 ghost use Rattle.consult_text.specs.States.{state_after};
 
-use crate::backtracking::find_model;
 use crate::literals::{is_among, is_known, remove};
+use consult_base::KnowledgeBase;
 use consult_text::{Command, F, Reply};
-use kb_logic::first::FirstKb;
+use ground_task::{Answer, Budget, Halt, Task};
 use kb_logic::{Literal, LiteralList, Memory};
 use std::alloc::Global;
 use std::marker::Model;
 use std::mem;
 
-const FIRST_BUDGET: u64 = 100_000;
-
 /// A session over a knowledge base.
 #[derive(Drop)]
 pub struct Session {
     alloc: Global,
-    kb: FirstKb,
+    kb: KnowledgeBase,
     choices: LiteralList,
     budget: Option<u64>,
 }
 
 impl Model for Session {
     ghost use Rattle.std.specs.Coded.{codes};
-    ghost use Rattle.kb_logic.specs.contracts.first.FirstKb as first;
-    ghost use Rattle.consultant_session.specs.Sessions.{SessionState, IsSmallFirstKb};
+    ghost use Rattle.type_derivation.specs.contracts.typed.TypedKb as typed_kb;
+    ghost use Rattle.consultant_session.specs.Sessions.{SessionState, AreChoicesOver};
 
     ghost Value = { SessionState };
 
-    ghost coded = { Prim.hlevel (codes, first.the_row.coded) };
+    ghost coded = { Prim.hlevel (codes, typed_kb.the_row.coded) };
 
     ghost view = { λ s. record { kb = s.kb; state = record { choices = s.choices; budget = s.budget } } };
 
-    ghost invariant = { λ s. IsSmallFirstKb s.kb };
+    ghost invariant = { λ s. AreChoicesOver s.kb s.choices };
 }
 
 impl Session {
-    /// A session without choices, with a budget of 100,000.
-    pub fn open(alloc: Global, kb: FirstKb) -> Result<Session, Memory>
-        requires { IsSmallFirstKb kb }
-        ensures { IfOk result (λ session. session ≡ just_opened kb) }
+    /// A session without choices, with this budget: how many conflicts a query may meet, without a limit where there is
+    /// no number.
+    pub fn open(alloc: Global, kb: KnowledgeBase, budget: Option<u64>) -> Session
+        ensures { result ≡ just_opened kb budget }
     {
-        Ok(Session {
+        Session {
             alloc,
             kb,
             choices: LiteralList::new(alloc),
-            budget: Some(FIRST_BUDGET),
-        })
+            budget,
+        }
     }
 
     /// What `open` took.
-    pub fn kb(&self) -> &FirstKb
-        ensures kb { result.now ≡ self.now.kb }
-        ensures small { IsSmallFirstKb self.now.kb }
+    pub fn kb(&self) -> &KnowledgeBase
+        ensures { result.now ≡ self.now.kb }
     {
         &self.kb
     }
@@ -80,9 +77,9 @@ impl Session {
 
     /// The reply to the command. Where memory runs out the choices and the budget are as before.
     pub fn step(&mut self, command: &Command) -> Result<Reply, Memory>
-        requires { IsCommandOver (base_of_first self.old.kb) command.now }
-        ensures right { IfOk result (λ reply. RightReply (base_of_first self.old.kb) self.old.state command.now reply) }
-        ensures after { OnOk result (self.new.state ≡ state_after (base_of_first self.old.kb) self.old.state command.now) }
+        requires { IsCommandOver (base_of self.old.kb) command.now }
+        ensures right { IfOk result (λ reply. RightReply (base_of self.old.kb) self.old.state command.now reply) }
+        ensures after { OnOk result (self.new.state ≡ state_after (base_of self.old.kb) self.old.state command.now) }
         ensures kept { OnErr result (self.new.state ≡ self.old.state) }
         ensures prompt { OnErr result (TakesMemory command.now) }
         ensures kb { self.new.kb ≡ self.old.kb }
@@ -96,14 +93,19 @@ impl Session {
             }
             Command::Choices => Ok(Reply::Choices(self.choices.copy(self.alloc)?)),
             Command::Model => self.model(),
+            Command::Budget(budget) => {
+                self.budget = *budget;
+                Ok(Reply::Fine)
+            }
+            Command::Forget => Ok(Reply::Fine),
         }
     }
 
     fn assert(&mut self, literal: &Literal) -> Result<Reply, Memory>
-        requires { IsLiteralOver (base_of_first self.old.kb) literal.now }
-        ensures right { IfOk result (λ reply. RightReply (base_of_first self.old.kb) self.old.state
+        requires { IsLiteralOver (base_of self.old.kb) literal.now }
+        ensures right { IfOk result (λ reply. RightReply (base_of self.old.kb) self.old.state
             (command.Assert literal.now) reply) }
-        ensures after { OnOk result (self.new.state ≡ state_after (base_of_first self.old.kb) self.old.state
+        ensures after { OnOk result (self.new.state ≡ state_after (base_of self.old.kb) self.old.state
             (command.Assert literal.now)) }
         ensures kept { OnErr result (self.new.state ≡ self.old.state) }
         ensures kb { self.new.kb ≡ self.old.kb }
@@ -119,8 +121,8 @@ impl Session {
     }
 
     fn retract(&mut self, literal: &Literal) -> Reply
-        ensures right { RightReply (base_of_first self.old.kb) self.old.state (command.Retract literal.now) result }
-        ensures after { self.new.state ≡ state_after (base_of_first self.old.kb) self.old.state (command.Retract literal.now) }
+        ensures right { RightReply (base_of self.old.kb) self.old.state (command.Retract literal.now) result }
+        ensures after { self.new.state ≡ state_after (base_of self.old.kb) self.old.state (command.Retract literal.now) }
         ensures kb { self.new.kb ≡ self.old.kb }
     {
         if !is_among(self.choices.as_slice(), literal) {
@@ -132,12 +134,21 @@ impl Session {
         Reply::Fine
     }
 
+    /// A model is sought by a task of its own, so that nothing is kept from one query to the next.
     fn model(&self) -> Result<Reply, Memory>
-        ensures { IfOk result (λ reply. RightReply (base_of_first self.now.kb) self.now.state command.Model reply) }
+        ensures { IfOk result (λ reply. RightReply (base_of self.now.kb) self.now.state command.Model reply) }
     {
-        match find_model(self.alloc, &self.kb, self.choices.as_slice())? {
-            Some(m) => Ok(Reply::Model(m)),
-            None => Ok(Reply::Inconsistent),
+        let kb = &self.kb;
+        let mut task = Task::open(self.alloc, kb.typed(), kb.theory(), kb.data())?;
+        let mut budget = Budget {
+            limit: self.budget,
+            spent: 0,
+        };
+        match task.ask(self.choices.as_slice(), &mut budget) {
+            Ok(Answer::Model(m)) => Ok(Reply::Model(m)),
+            Ok(Answer::NoModel(_)) => Ok(Reply::Inconsistent),
+            Err(Halt::Spent) => Ok(Reply::Undecided(budget.spent)),
+            Err(Halt::Memory) => Err(Memory),
         }
     }
 }

@@ -5,6 +5,7 @@ use Rattle.kb_io.specs.Lines.{command_lines}
 use Rattle.kb_io.specs.Outside.{Rose}
 use Rattle.kb_io.specs.Pending.{most_bytes}
 use Rattle.kb_logic.specs.Bases.{Base}
+use Rattle.consult_text.specs.States.{State}
 use Rattle.idp_cli.specs.Files.{IfObservable}
 use Rattle.idp_cli.specs.EndedLines.{ended_lines, HaveEnded}
 use Rattle.idp_cli.specs.Consultation.{AnswersAll, AnswersSome, AnswersInPart}
@@ -55,33 +56,33 @@ lines_within script = if nat_le (length script) most_bytes then command_lines sc
     (take most_bytes script)
 
 -- the lines that end within the bytes that were taken of the script are answered, as many as may be
-pub record AnswersTaken (kb : Base) (script : List ℕ) (left old new : Option (List ℕ)) : Type 0 where
+pub record AnswersTaken (kb : Base) (first : State) (script : List ℕ) (left old new : Option (List ℕ)) : Type 0 where
   pub taken : List ℕ
   pub consumed : Consumes (Some script) left taken
   pub within : length taken ≤ most_bytes
   pub lines : List (List ℕ)
   pub ended : HaveEnded lines taken left
-  pub answered : AnswersAll kb lines old new
+  pub answered : AnswersAll kb first lines old new
 
 -- What was said to the lines of the script, of which `left` is observed to be left then: the right answers to all of
 -- them; after a failing read or too many bytes, to all that end within the bytes taken; after a failing write, to a
 -- prefix of those within the limit, and a prefix of the next answer; and where memory ran out, to a prefix of them.
-abbrev pub AnswersScript : Status → Base → List ℕ → Option (List ℕ) → Option (List ℕ) → Option (List ℕ) → Type 0
-AnswersScript status.Done kb script left old new = (length script ≤ most_bytes) × AnswersAll kb
+abbrev pub AnswersScript : Status → Base → State → List ℕ → Option (List ℕ) → Option (List ℕ) → Option (List ℕ) → Type 0
+AnswersScript status.Done kb first script left old new = (length script ≤ most_bytes) × AnswersAll kb first
     (command_lines script) old new
-AnswersScript status.ReadFault kb script left old new = AnswersTaken kb script left old new
-AnswersScript status.WriteFault kb script left old new = AnswersInPart kb (lines_within script) old new
-AnswersScript status.Memory kb script left old new = AnswersSome kb (lines_within script) old new
-AnswersScript status.ScriptTooLong kb script left old new = (most_bytes < length script) × AnswersAll kb
+AnswersScript status.ReadFault kb first script left old new = AnswersTaken kb first script left old new
+AnswersScript status.WriteFault kb first script left old new = AnswersInPart kb first (lines_within script) old new
+AnswersScript status.Memory kb first script left old new = AnswersSome kb first (lines_within script) old new
+AnswersScript status.ScriptTooLong kb first script left old new = (most_bytes < length script) × AnswersAll kb first
     (ended_lines (take most_bytes script)) old new
-AnswersScript (status.KbRefused k line) kb script left old new = ⊥
-AnswersScript status.Usage kb script left old new = ⊥
+AnswersScript (status.KbRefused k line) kb first script left old new = ⊥
+AnswersScript status.Usage kb first script left old new = ⊥
 
 -- how the answers to the commands end, and what was said where they are observable
-abbrev pub AnswersCommands : Status → Base → Streams → Streams → Type 0
-AnswersCommands s kb before now = HasReason s before now × IfObservable before.script
-    (λ script. AnswersScript s kb script now.script before.out now.out)
+abbrev pub AnswersCommands : Status → Base → State → Streams → Streams → Type 0
+AnswersCommands s kb first before now = HasReason s before now × IfObservable before.script
+    (λ script. AnswersScript s kb first script now.script before.out now.out)
 
 -- a session is opened and answers the commands, or memory runs out before a byte of them is taken
-abbrev pub OpensAndAnswers : Status → Base → Streams → Streams → Type 0
-OpensAndAnswers s kb before now = ((s ≡ status.Memory) × (now ≡ before)) ⊎ AnswersCommands s kb before now
+abbrev pub OpensAndAnswers : Status → Base → State → Streams → Streams → Type 0
+OpensAndAnswers s kb first before now = ((s ≡ status.Memory) × (now ≡ before)) ⊎ AnswersCommands s kb first before now

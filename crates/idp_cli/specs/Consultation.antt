@@ -13,7 +13,7 @@ use Rattle.consult_text.specs.declared.commands.Command.{Command}
 use Rattle.consult_text.specs.declared.replies.Reply.{Reply}
 use Rattle.consult_text.specs.declared.replies.Reply.TheVariants as reply
 use Rattle.consult_text.specs.RightReplies.{RightReply}
-use Rattle.consult_text.specs.States.{State, first_state, state_after}
+use Rattle.consult_text.specs.States.{State, state_after}
 
 -- what is said in answer to a line: nothing, that it is too long, that its text is refused, or a reply to its command
 pub data Said : Type 0 where
@@ -56,9 +56,9 @@ Consultation kb s (line ∷ lines) [] t = ⊥
 Consultation kb s (line ∷ lines) (said ∷ more) t = IsRightAnswer kb s line said × Consultation kb
     (state_left kb s said) lines more t
 
--- the lines have their right answers from the first state on, they leave t, and out grew by exactly the answers' bytes
-abbrev pub AnswersTo : Base → List (List ℕ) → State → Option (List ℕ) → Option (List ℕ) → Type 0
-AnswersTo kb lines t old new = (said : List Said) × Consultation kb first_state lines said t × Appends old new
+-- the lines have their right answers from the state `first` on, they leave t, and out grew by exactly the answers' bytes
+abbrev pub AnswersTo : Base → State → List (List ℕ) → State → Option (List ℕ) → Option (List ℕ) → Type 0
+AnswersTo kb first lines t old new = (said : List Said) × Consultation kb first lines said t × Appends old new
     (said_texts kb said)
 
 -- the line has a right answer, and out grew by a prefix of its bytes
@@ -74,23 +74,23 @@ pub record IsAnswered (kb : Base) (s t : State) (line : List ℕ) (old new : Opt
   pub grows : Appends old new (said_text kb.vocabulary said)
 
 -- all of the lines are answered
-abbrev pub AnswersAll : Base → List (List ℕ) → Option (List ℕ) → Option (List ℕ) → Type 0
-AnswersAll kb lines old new = (t : State) × AnswersTo kb lines t old new
+abbrev pub AnswersAll : Base → State → List (List ℕ) → Option (List ℕ) → Option (List ℕ) → Type 0
+AnswersAll kb first lines old new = (t : State) × AnswersTo kb first lines t old new
 
 -- a prefix of the lines is answered
-pub record AnswersSome (kb : Base) (lines : List (List ℕ)) (old new : Option (List ℕ)) : Type 0 where
-  pub first : List (List ℕ)
+pub record AnswersSome (kb : Base) (first : State) (lines : List (List ℕ)) (old new : Option (List ℕ)) : Type 0 where
+  pub front : List (List ℕ)
   pub rest : List (List ℕ)
-  pub parts : lines ≡ first ++ rest
-  pub answered : AnswersAll kb first old new
+  pub parts : lines ≡ front ++ rest
+  pub answered : AnswersAll kb first front old new
 
 -- a prefix of the lines is answered, and after it a prefix of the answer to the next line
-pub record AnswersInPart (kb : Base) (lines : List (List ℕ)) (old new : Option (List ℕ)) : Type 0 where
-  pub first : List (List ℕ)
+pub record AnswersInPart (kb : Base) (first : State) (lines : List (List ℕ)) (old new : Option (List ℕ)) : Type 0 where
+  pub front : List (List ℕ)
   pub line : List ℕ
   pub rest : List (List ℕ)
-  pub parts : lines ≡ first ++ line ∷ rest
+  pub parts : lines ≡ front ++ line ∷ rest
   pub state : State
   pub mid : Option (List ℕ)
-  pub answered : AnswersTo kb first state old mid
+  pub answered : AnswersTo kb first front state old mid
   pub begun : AnswersPrefix kb state line mid new

@@ -1,9 +1,10 @@
 -- Where each status comes: what the words, the file and the commands leave to it.
-use Rattle.std.specs.Prelude.{◌≡◌, ◌<◌, ◌≤◌, ℕ, List, Some, length}
+use Rattle.std.specs.Prelude.{◌≡◌, ◌<◌, ◌≤◌, ℕ, List, Option, Some, length}
 use Rattle.kb_text.specs.declared.fault.K.{K}
-use Rattle.kb_logic.specs.declared.first.FirstKb.{FirstKb}
-use Rattle.idp_cli.specs.Files.{IsRefused, IsConsultable}
-use Rattle.idp_cli.specs.Runs.{Words, Outside, IsConsult, IsUsage, RunEnds}
+use Rattle.base_reader.specs.FileMeanings.{Choice, Meaning, FileMeans}
+use Rattle.idp_cli.specs.Jobs.{Job, consult, check, file_of, Asks, IsUsage}
+use Rattle.idp_cli.specs.Files.{IsRefusedAt}
+use Rattle.idp_cli.specs.Runs.{Words, texts_of, Outside, RunEnds}
 use Rattle.kb_io.specs.Pending.{most_bytes}
 use Rattle.idp_cli.specs.declared.status.Status.{Status}
 use Rattle.idp_cli.specs.declared.status.Status.TheVariants as status
@@ -17,42 +18,56 @@ IsUnlessFailed wanted s = s ≡ wanted
 
 -- words that are no command line give Usage
 abbrev pub UsageLaw : Type 0
-UsageLaw = (s : Status) (words : Words) (before now : Outside) → IsUsage words → RunEnds s words before now
+UsageLaw = (s : Status) (words : Words) (before now : Outside) → IsUsage (texts_of words) → RunEnds s words before now
     → IsUnlessFailed status.Usage s
 
 -- and no others do
 abbrev pub CommandLaw : Type 0
-CommandLaw = (words : Words) (before now : Outside) (file : List ℕ) → IsConsult words file
+CommandLaw = (words : Words) (before now : Outside) (job : Job) → Asks (texts_of words) job
     → RunEnds status.Usage words before now → ⊥
+
+-- the choice among the file's theories and structures
+abbrev pub choice_of : Job → Choice
+choice_of (consult file c budget) = c
+choice_of (check file c) = c
 
 -- a file that is refused gives this refusal
 abbrev pub RefusalLaw : Type 0
-RefusalLaw = (s : Status) (words : Words) (before now : Outside) (file bytes : List ℕ) (k : K) (line : ℕ)
-    → IsConsult words file → before.files file ≡ Some bytes → IsRefused k line bytes
+RefusalLaw = (s : Status) (words : Words) (before now : Outside) (job : Job) (bytes : List ℕ) (k : K) (line : ℕ)
+    → Asks (texts_of words) job → before.files (file_of job) ≡ Some bytes → IsRefusedAt (choice_of job) k line bytes
     → RunEnds s words before now → IsUnlessFailed (status.KbRefused k line) s
 
--- and a file that is consulted about gives none
+-- and a file that means something gives none
 abbrev pub TakingLaw : Type 0
-TakingLaw = (k : K) (line : ℕ) (words : Words) (before now : Outside) (file bytes : List ℕ) (kb : FirstKb)
-    → IsConsult words file → before.files file ≡ Some bytes → IsConsultable bytes kb
+TakingLaw = (k : K) (line : ℕ) (words : Words) (before now : Outside) (job : Job) (bytes : List ℕ) (m : Meaning)
+    → Asks (texts_of words) job → before.files (file_of job) ≡ Some bytes → FileMeans (choice_of job) bytes m
     → RunEnds (status.KbRefused k line) words before now → ⊥
 
 -- more commands than are read give ScriptTooLong
 abbrev pub LengthLaw : Type 0
-LengthLaw = (s : Status) (words : Words) (before now : Outside) (file bytes script : List ℕ) (kb : FirstKb)
-    → IsConsult words file → before.files file ≡ Some bytes → IsConsultable bytes kb
+LengthLaw = (s : Status) (words : Words) (before now : Outside) (file bytes script : List ℕ) (c : Choice)
+    (budget : Option ℕ) (m : Meaning) → Asks (texts_of words) (consult file c budget)
+    → before.files file ≡ Some bytes → FileMeans c bytes m
     → before.streams.script ≡ Some script → most_bytes < length script → RunEnds s words before now
     → IsUnlessFailed status.ScriptTooLong s
 
 -- and no others do
 abbrev pub ShortLaw : Type 0
-ShortLaw = (words : Words) (before now : Outside) (file bytes script : List ℕ) → IsConsult words file
-    → before.files file ≡ Some bytes → before.streams.script ≡ Some script → length script ≤ most_bytes
+ShortLaw = (words : Words) (before now : Outside) (file bytes script : List ℕ) (c : Choice) (budget : Option ℕ)
+    → Asks (texts_of words) (consult file c budget) → before.files file ≡ Some bytes
+    → before.streams.script ≡ Some script → length script ≤ most_bytes
     → RunEnds status.ScriptTooLong words before now → ⊥
 
--- where a file is consulted about and the commands are within their limit, all of them are answered
+-- where a file that means something is consulted about and the commands are within their limit, all of them are answered
 abbrev pub DoneLaw : Type 0
-DoneLaw = (s : Status) (words : Words) (before now : Outside) (file bytes script : List ℕ) (kb : FirstKb)
-    → IsConsult words file → before.files file ≡ Some bytes → IsConsultable bytes kb
+DoneLaw = (s : Status) (words : Words) (before now : Outside) (file bytes script : List ℕ) (c : Choice)
+    (budget : Option ℕ) (m : Meaning) → Asks (texts_of words) (consult file c budget)
+    → before.files file ≡ Some bytes → FileMeans c bytes m
     → before.streams.script ≡ Some script → length script ≤ most_bytes → RunEnds s words before now
     → IsUnlessFailed status.Done s
+
+-- and where such a file is checked, its structure is printed
+abbrev pub CheckedLaw : Type 0
+CheckedLaw = (s : Status) (words : Words) (before now : Outside) (file bytes : List ℕ) (c : Choice) (m : Meaning)
+    → Asks (texts_of words) (check file c) → before.files file ≡ Some bytes → FileMeans c bytes m
+    → RunEnds s words before now → IsUnlessFailed status.Done s

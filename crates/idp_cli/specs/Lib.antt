@@ -1,3 +1,5 @@
+pub mod Jobs
+pub mod JobViews
 pub mod Files
 pub mod Reading
 pub mod Consultation

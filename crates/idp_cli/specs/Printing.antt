@@ -1,10 +1,10 @@
--- What is said of a refused file.
+-- What is printed of a refused file, of words that ask nothing, and of a structure.
 use Rattle.std.specs.Prelude.{◌≡◌, ℕ, List, Option}
 use Rattle.std.specs.Io.KnownBytes.{Appends}
 use Rattle.kb_io.specs.Outside.{Rose}
 use Rattle.kb_io.specs.ReadWrite.{AppendsPrefix}
 use Rattle.kb_text.specs.declared.fault.K.{K}
-use Rattle.idp_cli.specs.Files.{refusal_text}
+use Rattle.idp_cli.specs.Files.{refusal_text, usage_text}
 use Rattle.idp_cli.specs.declared.status.Status.{Status}
 use Rattle.idp_cli.specs.declared.status.Status.TheVariants as status
 
@@ -19,3 +19,16 @@ PrintsRefusal status.Done k line old new before now = ⊥
 PrintsRefusal status.Usage k line old new before now = ⊥
 PrintsRefusal status.ReadFault k line old new before now = ⊥
 PrintsRefusal status.ScriptTooLong k line old new before now = ⊥
+
+-- `error usage` is said, or could not be said whole
+abbrev pub PrintsUsage : Status → Option (List ℕ) → Option (List ℕ) → ℕ → ℕ → Type 0
+PrintsUsage status.Usage old new before now = (now ≡ before) × Appends old new usage_text
+PrintsUsage status.WriteFault old new before now = Rose before now × AppendsPrefix old new usage_text
+PrintsUsage _ old new before now = ⊥
+
+-- the text is printed, or could not be printed whole
+abbrev pub PrintsText : Status → List ℕ → Option (List ℕ) → Option (List ℕ) → ℕ → ℕ → Type 0
+PrintsText status.Done text old new before now = (now ≡ before) × Appends old new text
+PrintsText status.WriteFault text old new before now = Rose before now × AppendsPrefix old new text
+PrintsText status.Memory text old new before now = (now ≡ before) × (new ≡ old)
+PrintsText _ text old new before now = ⊥

@@ -1,15 +1,17 @@
 -- The top call: when each status comes.
-use Rattle.std.specs.Prelude.{◌≡◌, ◌⊎◌, ℕ, List, [], ◌∷◌, ◌==◌, Bool, false, map, codes, Option}
+use Rattle.std.specs.Prelude.{◌≡◌, ◌⊎◌, ℕ, List, map, codes, Option}
 use Rattle.std.specs.String.{string_bytes}
 use Rattle.std.specs.Io.KnownBytes.{Appends}
 use Rattle.std.specs.declared.string.String.{String}
 use Rattle.std.specs.declared.alloc.Global.{Global}
 use Rattle.kb_io.specs.Outside.{Rose, GrewByName, KeptNames}
 use Rattle.kb_io.specs.ReadWrite.{AppendsPrefix}
-use Rattle.kb_logic.specs.declared.first.FirstKb.{FirstKb}
-use Rattle.kb_logic.specs.First.{base_of_first}
 use Rattle.kb_text.specs.declared.fault.K.{K}
-use Rattle.idp_cli.specs.Files.{IfObservable, IsConsultable, IsRefused, refusal_text}
+use Rattle.consult_text.specs.States.{first_state}
+use Rattle.block_printer.specs.BlockTexts.{block_text}
+use Rattle.base_reader.specs.FileMeanings.{Choice, Meaning, FileMeans, base_of_meaning}
+use Rattle.idp_cli.specs.Jobs.{Job, consult, check, file_of, Asks, IsUsage}
+use Rattle.idp_cli.specs.Files.{IfObservable, IsRefusedAt, refusal_text, usage_text}
 use Rattle.idp_cli.specs.Answering.{Streams, IsWithoutFault, HasReason, AnswersScript}
 use Rattle.idp_cli.specs.declared.status.Status.{Status}
 use Rattle.idp_cli.specs.declared.status.Status.TheVariants as status
@@ -17,14 +19,9 @@ use Rattle.idp_cli.specs.declared.status.Status.TheVariants as status
 abbrev pub Words : Type 0
 Words = List (String Global)
 
--- the text is an option: it begins with `-`
-abbrev pub is_option : List ℕ → Bool
-is_option [] = false
-is_option (byte ∷ bytes) = byte == 45
-
--- the words are `consult FILE`, where FILE is no option
-abbrev pub IsConsult : Words → List ℕ → Type 0
-IsConsult words file = (map string_bytes words ≡ codes "consult" ∷ file ∷ []) × (is_option file ≡ false)
+-- the words as they are spelled
+abbrev pub texts_of : Words → List (List ℕ)
+texts_of words = map string_bytes words
 
 -- the devices at one moment, as far as they are observable: the files of the shelf and its count of faults, and the
 -- streams
@@ -51,38 +48,72 @@ pub record SaysInPart (text : List ℕ) (before now : Outside) : Type 0 where
   pub script : now.streams.script ≡ before.streams.script
   pub out : AppendsPrefix before.streams.out now.streams.out text
 
--- the lines of the commands were answered by the knowledge base of the file, as far as both are observable
-pub record AnswersByFile (s : Status) (file : List ℕ) (before now : Outside) : Type 0 where
+-- the lines of the commands were answered by what the file means, as far as both are observable
+pub record AnswersByFile (s : Status) (file : List ℕ) (c : Choice) (budget : Option ℕ) (before now : Outside) : Type 0 where
   pub shelf : now.shelf_faults ≡ before.shelf_faults
   pub reason : HasReason s before.streams now.streams
-  pub answers : IfObservable (before.files file) (λ bytes. (kb : FirstKb) × IsConsultable bytes kb
+  pub answers : IfObservable (before.files file) (λ bytes. (m : Meaning) × FileMeans c bytes m
       × IfObservable before.streams.script
-      (λ script. AnswersScript s (base_of_first kb) script now.streams.script before.streams.out now.streams.out))
+      (λ script. AnswersScript s (base_of_meaning m) (first_state budget) script now.streams.script before.streams.out now.streams.out))
+
+-- nothing was printed and no command was taken, since the file could not be read
+abbrev pub FailsToRead : Outside → Outside → Type 0
+FailsToRead before now = Rose before.shelf_faults now.shelf_faults × (now.streams ≡ before.streams)
+
+-- nothing was printed and no command was taken
+abbrev pub StaysAsBefore : Outside → Outside → Type 0
+StaysAsBefore before now = (now.shelf_faults ≡ before.shelf_faults) × (now.streams ≡ before.streams)
+
+-- the file is refused, and that is said
+abbrev pub SaysRefusal : K → ℕ → List ℕ → Choice → Outside → Outside → Type 0
+SaysRefusal k line file c before now = IfObservable (before.files file) (IsRefusedAt c k line)
+    × Says (refusal_text k line) before now
+
+-- the file is refused, and that could not be said whole
+abbrev pub SaysRefusalInPart : List ℕ → Choice → Outside → Outside → Type 0
+SaysRefusalInPart file c before now =
+    (k : K) × (line : ℕ) × IfObservable (before.files file) (IsRefusedAt c k line)
+    × SaysInPart (refusal_text k line) before now
 
 -- What each status says of a consultation about this file. Before the commands are answered no byte of them is taken,
 -- and nothing is written but that the file is refused.
-abbrev pub ConsultationEnds : Status → List ℕ → Outside → Outside → Type 0
-ConsultationEnds (status.KbRefused k line) file before now = IfObservable (before.files file) (IsRefused k line)
-    × Says (refusal_text k line) before now
-ConsultationEnds status.Usage file before now = ⊥
-ConsultationEnds status.ReadFault file before now =
-    (Rose before.shelf_faults now.shelf_faults × (now.streams ≡ before.streams))
-    ⊎ AnswersByFile status.ReadFault file before now
-ConsultationEnds status.WriteFault file before now =
-    ((k : K) × (line : ℕ) × IfObservable (before.files file) (IsRefused k line) × SaysInPart
-    (refusal_text k line) before now) ⊎ AnswersByFile status.WriteFault file before now
-ConsultationEnds status.Memory file before now =
-    ((now.shelf_faults ≡ before.shelf_faults) × (now.streams ≡ before.streams))
-    ⊎ AnswersByFile status.Memory file before now
-ConsultationEnds status.Done file before now = AnswersByFile status.Done file before now
-ConsultationEnds status.ScriptTooLong file before now = AnswersByFile status.ScriptTooLong file before now
+abbrev pub ConsultationEnds : Status → List ℕ → Choice → Option ℕ → Outside → Outside → Type 0
+ConsultationEnds (status.KbRefused k line) file c budget before now = SaysRefusal k line file c before now
+ConsultationEnds status.Usage file c budget before now = ⊥
+ConsultationEnds status.ReadFault file c budget before now =
+    FailsToRead before now ⊎ AnswersByFile status.ReadFault file c budget before now
+ConsultationEnds status.WriteFault file c budget before now =
+    SaysRefusalInPart file c before now ⊎ AnswersByFile status.WriteFault file c budget before now
+ConsultationEnds status.Memory file c budget before now =
+    StaysAsBefore before now ⊎ AnswersByFile status.Memory file c budget before now
+ConsultationEnds status.Done file c budget before now = AnswersByFile status.Done file c budget before now
+ConsultationEnds status.ScriptTooLong file c budget before now = AnswersByFile status.ScriptTooLong file c budget before now
 
--- the words are no command line
-abbrev pub IsUsage : Words → Type 0
-IsUsage words = (file : List ℕ) → IsConsult words file → ⊥
+-- the canonical text of the structure that is chosen
+abbrev pub structure_text : Meaning → List ℕ
+structure_text m = block_text m.file.vocabulary m.structure m.known
 
-abbrev pub usage_text : List ℕ
-usage_text = codes "error usage\n"
+-- the structure is printed, or a part of it; the file means it where it is observable
+abbrev pub PrintsStructure : (List ℕ → Outside → Outside → Type 0) → List ℕ → Choice → Outside → Outside → Type 0
+PrintsStructure Prints file c before now =
+    (m : Meaning) × IfObservable (before.files file) (λ bytes. FileMeans c bytes m) × Prints (structure_text m) before now
+
+-- What each status says of a check of this file: no command is taken, and nothing is written but the structure or that
+-- the file is refused.
+abbrev pub CheckEnds : Status → List ℕ → Choice → Outside → Outside → Type 0
+CheckEnds (status.KbRefused k line) file c before now = SaysRefusal k line file c before now
+CheckEnds status.Usage file c before now = ⊥
+CheckEnds status.ReadFault file c before now = FailsToRead before now
+CheckEnds status.WriteFault file c before now =
+    SaysRefusalInPart file c before now ⊎ PrintsStructure SaysInPart file c before now
+CheckEnds status.Memory file c before now = StaysAsBefore before now
+CheckEnds status.Done file c before now = PrintsStructure Says file c before now
+CheckEnds status.ScriptTooLong file c before now = ⊥
+
+-- how a job ends
+abbrev pub JobEnds : Status → Job → Outside → Outside → Type 0
+JobEnds s (consult file c budget) before now = ConsultationEnds s file c budget before now
+JobEnds s (check file c) before now = CheckEnds s file c before now
 
 -- the words are no command line, and that is said, or could not be said whole
 abbrev pub UsageEnds : Status → Outside → Outside → Type 0
@@ -94,12 +125,13 @@ UsageEnds status.ReadFault before now = ⊥
 UsageEnds status.Memory before now = ⊥
 UsageEnds status.ScriptTooLong before now = ⊥
 
--- how a run ends: by the words, or by a consultation about the file that they name
+-- how a run ends: the words are no command line, or they ask a job and it ends so
 abbrev pub RunEnds : Status → Words → Outside → Outside → Type 0
-RunEnds s words before now = (IsUsage words × UsageEnds s before now) ⊎ ((file : List ℕ) × IsConsult words file
-    × ConsultationEnds s file before now)
+RunEnds s words before now =
+    (IsUsage (texts_of words) × UsageEnds s before now)
+    ⊎ ((job : Job) × Asks (texts_of words) job × JobEnds s job before now)
 
 -- the shelf was asked for nothing, or for the file of the words
 abbrev pub AsksForFile : Words → Option (List (List ℕ)) → Option (List (List ℕ)) → Type 0
-AsksForFile words before now = KeptNames before now ⊎ ((file : List ℕ) × IsConsult words file
-    × GrewByName before now file)
+AsksForFile words before now =
+    KeptNames before now ⊎ ((job : Job) × Asks (texts_of words) job × GrewByName before now (file_of job))

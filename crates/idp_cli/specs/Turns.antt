@@ -8,7 +8,7 @@ use Rattle.kb_io.specs.declared.lines.LineError.{LineError}
 use Rattle.kb_io.specs.declared.lines.LineError.TheVariants as line_error
 use Rattle.kb_io.specs.declared.lines.Next.{Next}
 use Rattle.kb_io.specs.declared.lines.Next.TheVariants as next
-use Rattle.kb_logic.specs.declared.first.FirstKb.{FirstKb}
+use Rattle.consult_base.specs.Opened.{Opened}
 use Rattle.kb_logic.specs.Bases.{Base}
 use Rattle.consult_text.specs.States.{State, first_state}
 use Rattle.consult_text.specs.declared.refusals.F.TheVariants as refusal
@@ -70,10 +70,10 @@ Turns (Err _) kb s t old new before now = ⊥
 
 -- what a consultant holds: the knowledge base and the state of its session, and what is known of the commands
 pub record ConsultantState : Type 0 where
-  pub kb : FirstKb
+  pub kb : Opened
   pub state : State
   pub lines : Pending
 
 -- a consultant that has read no line
-abbrev pub just_opened : FirstKb → ConsultantState
-just_opened kb = record { kb = kb; state = first_state; lines = record { taken = 0; ahead = []; line = [] } }
+abbrev pub just_opened : Opened → Option ℕ → ConsultantState
+just_opened kb budget = record { kb = kb; state = first_state budget; lines = record { taken = 0; ahead = []; line = [] } }

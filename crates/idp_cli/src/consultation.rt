@@ -1,38 +1,26 @@
 //! Answers to the lines of the commands.
-ghost use Rattle.std.specs.Prelude.{◌≡◌, ◌≤◌, length, OnOk, OnErr, IfOk};
-ghost use Rattle.std.specs.Io.KnownBytes.{Appends};
+ghost use Rattle.std.specs.Prelude.{◌≡◌, ◌≤◌, length, IfOk};
 ghost use Rattle.kb_io.specs.Lines.{longest_line};
-ghost use Rattle.kb_io.specs.Outside.{HasCause};
-ghost use Rattle.kb_io.specs.ReadWrite.{AppendsPrefix};
-ghost use Rattle.kb_logic.specs.First.{base_of_first};
+ghost use Rattle.consult_base.specs.Opened.{base_of};
 ghost use Rattle.consult_text.specs.Texts.{reply_text};
-ghost use Rattle.consultant_session.specs.Sessions.{IsSmallFirstKb};
+ghost use Rattle.consult_text.specs.States.{first_state};
 ghost use Rattle.idp_cli.specs.Answering.{streams, AnswersCommands, ended_as};
 ghost use Rattle.idp_cli.specs.Turns.{RepliesTo, Writes, AnswersLine, Turns, just_opened};
 
+use crate::printing::say;
 use crate::status::Status;
+use consult_base::KnowledgeBase;
 use consult_text::{CommandError, F, Reply, commands_are_over_the_base, read_command, write_reply};
 use consultant_session::Session;
-use kb_io::{Failed, LineError, LineState, Next, Sink, Source, next_line, write_all};
+use kb_io::{LineError, LineState, Next, Sink, Source, next_line};
 use kb_logic::Memory;
-use kb_logic::first::FirstKb;
 use std::alloc::Global;
 use std::marker::Model;
-
-/// Writes a text and flushes.
-pub fn say<W: Sink>(out: &mut W, text: &[u8]) -> Result<(), Failed>
-    ensures ok { OnOk result (Appends (W.holds out.old) (W.holds out.new) text.now) }
-    ensures err { OnErr result (AppendsPrefix (W.holds out.old) (W.holds out.new) text.now) }
-    ensures cause { HasCause (W.faults out.old) (W.faults out.new) result }
-{
-    write_all(out, text)?;
-    out.flush()
-}
 
 /// The reply to a line; none to a blank one.
 fn reply_to(alloc: Global, session: &mut Session, line: &[u8]) -> Result<Option<Reply>, Memory>
     requires { length line.now ≤ longest_line }
-    ensures right { IfOk result (λ reply. RepliesTo (base_of_first session.old.kb) session.old.state line.now reply session.new.state) }
+    ensures right { IfOk result (λ reply. RepliesTo (base_of session.old.kb) session.old.state line.now reply session.new.state) }
     ensures kb { session.new.kb ≡ session.old.kb }
 {
     commands_are_over_the_base();
@@ -55,23 +43,26 @@ pub struct Consultant {
 
 impl Model for Consultant {
     ghost use Rattle.std.specs.Coded.{codes};
-    ghost use Rattle.kb_logic.specs.contracts.first.FirstKb as first;
+    ghost use Rattle.type_derivation.specs.contracts.typed.TypedKb as typed_kb;
     ghost use Rattle.idp_cli.specs.Turns.{ConsultantState};
 
     ghost Value = { ConsultantState };
 
-    ghost coded = { Prim.hlevel (codes, first.the_row.coded) };
+    ghost coded = { Prim.hlevel (codes, typed_kb.the_row.coded) };
 
     ghost view = { λ c. record { kb = c.session.kb; state = c.session.state; lines = c.lines } };
 }
 
 impl Consultant {
     /// No line was read.
-    pub fn open(alloc: Global, kb: FirstKb) -> Result<Consultant, Memory>
-        requires { IsSmallFirstKb kb }
-        ensures { IfOk result (λ consultant. consultant ≡ just_opened kb) }
+    pub fn open(
+        alloc: Global,
+        kb: KnowledgeBase,
+        budget: Option<u64>,
+    ) -> Result<Consultant, Memory>
+        ensures { IfOk result (λ consultant. consultant ≡ just_opened kb budget) }
     {
-        let session = Session::open(alloc, kb)?;
+        let session = Session::open(alloc, kb, budget);
         let Ok(lines) = LineState::new(alloc) else {
             return Err(Memory);
         };
@@ -85,12 +76,12 @@ impl Consultant {
 
     /// Writes a reply and flushes.
     fn write<W: Sink>(&mut self, reply: &Reply, out: &mut W) -> Result<(), Status>
-        ensures written { Writes result (reply_text self.old.kb.vocab reply.now) (W.holds out.old) (W.holds out.new)
+        ensures written { Writes result (reply_text self.old.kb.typed.vocab reply.now) (W.holds out.old) (W.holds out.new)
             (W.faults out.old) (W.faults out.new) }
         ensures kept { self.new ≡ self.old }
     {
         self.text.clear();
-        let vocab = &self.session.kb().vocab;
+        let vocab = self.session.kb().vocabulary();
         if write_reply(self.alloc, &mut self.text, vocab, reply).is_err() {
             return Err(Status::Memory);
         }
@@ -103,7 +94,7 @@ impl Consultant {
     /// Answers the line that was read.
     fn answer<W: Sink>(&mut self, out: &mut W) -> Result<(), Status>
         requires { length self.old.lines.line ≤ longest_line }
-        ensures answered { AnswersLine result (base_of_first self.old.kb) self.old.state self.new.state self.old.lines.line
+        ensures answered { AnswersLine result (base_of self.old.kb) self.old.state self.new.state self.old.lines.line
             (W.holds out.old) (W.holds out.new) (W.faults out.old) (W.faults out.new) }
         ensures kb { self.new.kb ≡ self.old.kb }
         ensures lines { self.new.lines ≡ self.old.lines }
@@ -121,7 +112,7 @@ impl Consultant {
         commands: &mut C,
         out: &mut W,
     ) -> Result<bool, Status>
-        ensures turn { Turns result (base_of_first self.old.kb) self.old.state self.new.state self.old.lines self.new.lines
+        ensures turn { Turns result (base_of self.old.kb) self.old.state self.new.state self.old.lines self.new.lines
             (streams (C.left commands.old) (C.faults commands.old) (W.holds out.old) (W.faults out.old))
             (streams (C.left commands.new) (C.faults commands.new) (W.holds out.new) (W.faults out.new)) }
         ensures kb { self.new.kb ≡ self.old.kb }
@@ -142,8 +133,8 @@ impl Consultant {
         commands: &mut C,
         out: &mut W,
     ) -> Result<(), Status>
-        requires { self.old ≡ just_opened self.old.kb }
-        ensures { AnswersCommands (ended_as result) (base_of_first self.old.kb)
+        requires { self.old ≡ just_opened self.old.kb self.old.state.budget }
+        ensures { AnswersCommands (ended_as result) (base_of self.old.kb) (first_state self.old.state.budget)
             (streams (C.left commands.old) (C.faults commands.old) (W.holds out.old) (W.faults out.old))
             (streams (C.left commands.new) (C.faults commands.new) (W.holds out.new) (W.faults out.new)) }
     {

@@ -2,8 +2,10 @@
 #![tactic(auto)]
 
 mod consultation;
+mod jobs;
 pub mod laws;
 mod load;
+mod printing;
 mod runs;
 mod status;
 

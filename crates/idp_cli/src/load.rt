@@ -1,12 +1,15 @@
 //! The knowledge base of a file.
-ghost use Rattle.std.specs.Prelude.{◌≡◌, ◌+◌, ◌<◌, ◌≤◌, length, take};
+ghost use Rattle.std.specs.Prelude.{◌≡◌, ◌<◌, ◌≤◌, length};
+ghost use Rattle.fo_syntax.specs.FileReads.{most_bytes};
 ghost use Rattle.kb_io.specs.Outside.{GrewByName, KeptNumber};
-ghost use Rattle.idp_cli.specs.Files.{Loads, Takes, line_of, most_file_bytes};
+ghost use Rattle.idp_cli.specs.Files.{Loads, Takes, line_of};
+ghost use Rattle.idp_cli.specs.JobViews.{choice_view};
 ghost use Rattle.idp_cli.specs.Reading.{ReadsFile};
 
-use first_reader::{KbError, read_first};
+use crate::jobs::Options;
+use base_reader::{KbError, read_base};
+use consult_base::KnowledgeBase;
 use kb_io::{ReadError, Shelf, newlines_in, read_up_to};
-use kb_logic::first::{FirstKb, open_atoms};
 use kb_text::K;
 use std::alloc::Global;
 
@@ -43,7 +46,7 @@ fn read_file<H: Shelf>(
 
 /// The line of a place in the bytes.
 fn line_at(bytes: &[u8], place: usize) -> u64
-    requires { length bytes.now ≤ most_file_bytes }
+    requires { length bytes.now ≤ most_bytes }
     ensures { result ≡ line_of place bytes.now }
 {
     let place = place.min(bytes.len());
@@ -51,29 +54,37 @@ fn line_at(bytes: &[u8], place: usize) -> u64
 }
 
 /// The knowledge base that the bytes mean.
-fn knowledge_base(alloc: Global, bytes: &[u8]) -> Result<FirstKb, LoadError>
-    requires { length bytes.now ≤ most_file_bytes }
-    ensures { Takes result bytes.now }
+fn knowledge_base(
+    alloc: Global,
+    bytes: &[u8],
+    options: Options<'_>,
+) -> Result<KnowledgeBase, LoadError>
+    requires { length bytes.now ≤ most_bytes }
+    ensures { Takes (choice_view options) result bytes.now }
 {
-    let kb = match read_first(alloc, bytes) {
-        Ok(kb) => kb,
-        Err(KbError::Memory) => return Err(LoadError::Memory),
-        Err(KbError::Refused(_)) => return Err(LoadError::Refused(K::Unsupported, 1)),
-    };
-    if open_atoms(&kb) > 20 {
-        return Err(LoadError::Refused(K::TooLarge, line_at(bytes, kb.place)));
+    match read_base(alloc, bytes, options.theory, options.structure) {
+        Ok(kb) => Ok(kb),
+        Err(KbError::Memory) => Err(LoadError::Memory),
+        Err(KbError::Refused(fault)) => Err(LoadError::Refused(
+            fault.cause,
+            line_at(bytes, fault.place),
+        )),
     }
-    Ok(kb)
 }
 
 /// Loads the knowledge base of the named file.
-pub fn load<H: Shelf>(alloc: Global, shelf: &mut H, name: &str) -> Result<FirstKb, LoadError>
-    ensures loaded { Loads result (H.file shelf.old name.now) (H.faults shelf.old) (H.faults shelf.new) }
+pub fn load<H: Shelf>(
+    alloc: Global,
+    shelf: &mut H,
+    name: &str,
+    options: Options<'_>,
+) -> Result<KnowledgeBase, LoadError>
+    ensures loaded { Loads (choice_view options) result (H.file shelf.old name.now) (H.faults shelf.old) (H.faults shelf.new) }
     ensures asked { GrewByName (H.asked shelf.old) (H.asked shelf.new) name.now }
     ensures closed { KeptNumber (H.open_sources shelf.old) (H.open_sources shelf.new) }
 {
     match read_file(alloc, shelf, name, MOST_FILE_BYTES) {
-        Ok(bytes) => knowledge_base(alloc, &bytes),
+        Ok(bytes) => knowledge_base(alloc, &bytes, options),
         Err(ReadError::TooLong(newlines)) => Err(LoadError::Refused(K::TooLong, newlines + 1)),
         Err(ReadError::Fault) => Err(LoadError::ReadFault),
         Err(ReadError::Memory) => Err(LoadError::Memory),

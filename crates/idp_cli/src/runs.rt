@@ -1,79 +1,35 @@
 //! The top call: one run over the words, a shelf, the commands and the output.
-ghost use Rattle.std.specs.Prelude.{◌≡◌, ◌≤◌, ◌++◌, ◌⊎◌, ℕ, List, MatchOption, OnOk, OnErr, IfOk, false, codes};
-ghost use Rattle.std.specs.Io.KnownBytes.{Appends};
-ghost use Rattle.std.specs.String.{string_bytes};
-ghost use Rattle.kb_io.specs.Outside.{HasCause, GrewByName, KeptNumber};
-ghost use Rattle.kb_io.specs.ReadWrite.{AppendsPrefix};
-ghost use Rattle.idp_cli.specs.Files.{refusal_text};
-ghost use Rattle.idp_cli.specs.Runs.{IsConsult, IsUsage, is_option, outside, RunEnds, ConsultationEnds, AsksForFile};
+ghost use Rattle.std.specs.Prelude.{◌≡◌, ℕ, List, Option};
+ghost use Rattle.kb_io.specs.Outside.{GrewByName, KeptNumber};
+ghost use Rattle.consult_base.specs.Opened.{base_of};
+ghost use Rattle.consult_text.specs.States.{first_state};
 ghost use Rattle.idp_cli.specs.Answering.{streams, OpensAndAnswers};
-ghost use Rattle.idp_cli.specs.Printing.{PrintsRefusal};
-ghost use Rattle.kb_logic.specs.First.{base_of_first};
-ghost use Rattle.consultant_session.specs.Sessions.{IsSmallFirstKb};
+ghost use Rattle.idp_cli.specs.JobViews.{choice_view};
+ghost use Rattle.idp_cli.specs.Runs.{outside, RunEnds, CheckEnds, ConsultationEnds, AsksForFile};
 
-use crate::consultation::{Consultant, say};
+use crate::consultation::Consultant;
+use crate::jobs::{Job, Options, job_of};
 use crate::load::{LoadError, load};
+use crate::printing::{print_structure, refuse, refuse_words};
 use crate::status::Status;
+use consult_base::KnowledgeBase;
 use kb_io::{Shelf, Sink, Source};
-use kb_logic::first::FirstKb;
-use kb_text::K;
-use std::alloc::{AllocError, Global};
-
-/// The file of `consult FILE`.
-fn consult_file(words: &[String]) -> Option<&str>
-    ensures { MatchOption result (IsUsage words.now) (λ file. IsConsult words.now file.now) }
-{
-    match words {
-        [first, file] if first.as_str() == "consult" && !has_minus(file.as_str()) => {
-            Some(file.as_str())
-        }
-        _ => None,
-    }
-}
-
-/// Whether the text begins with `-`.
-fn has_minus(text: &str) -> bool
-    ensures { result ≡ is_option text.now }
-{
-    match text.as_bytes() {
-        [first, ..] => *first == b'-',
-        [] => false,
-    }
-}
-
-fn refusal_line(alloc: Global, k: K, line: u64) -> Result<String, AllocError>
-    ensures { IfOk result (λ text. string_bytes text ≡ refusal_text k line) }
-{
-    format!(in alloc; "error {k} line {line}\n")
-}
-
-/// Says that the knowledge base is refused.
-fn refuse<W: Sink>(alloc: Global, out: &mut W, k: K, line: u64) -> Status
-    ensures { PrintsRefusal result k line (W.holds out.old) (W.holds out.new) (W.faults out.old) (W.faults out.new) }
-{
-    let Ok(text) = refusal_line(alloc, k, line) else {
-        return Status::Memory;
-    };
-    match say(out, text.as_bytes()) {
-        Ok(()) => Status::KbRefused(k, line),
-        Err(_) => Status::WriteFault,
-    }
-}
+use std::alloc::Global;
 
 /// Answers the commands by the knowledge base. Their first byte is taken once all memory that reading lines takes is
 /// at hand.
 fn answer_commands<C: Source, W: Sink>(
     alloc: Global,
-    kb: FirstKb,
+    kb: KnowledgeBase,
+    budget: Option<u64>,
     commands: &mut C,
     out: &mut W,
 ) -> Status
-    requires { IsSmallFirstKb kb }
-    ensures { OpensAndAnswers result (base_of_first kb)
+    ensures { OpensAndAnswers result (base_of kb) (first_state budget)
         (streams (C.left commands.old) (C.faults commands.old) (W.holds out.old) (W.faults out.old))
         (streams (C.left commands.new) (C.faults commands.new) (W.holds out.new) (W.faults out.new)) }
 {
-    let Ok(mut consultant) = Consultant::open(alloc, kb) else {
+    let Ok(mut consultant) = Consultant::open(alloc, kb, budget) else {
         return Status::Memory;
     };
     match consultant.answer_all(commands, out) {
@@ -86,11 +42,13 @@ fn answer_commands<C: Source, W: Sink>(
 fn consult<H: Shelf, C: Source, W: Sink>(
     alloc: Global,
     name: &str,
+    options: Options<'_>,
+    budget: Option<u64>,
     shelf: &mut H,
     commands: &mut C,
     out: &mut W,
 ) -> Status
-    ensures ends { ConsultationEnds result name.now
+    ensures ends { ConsultationEnds result name.now (choice_view options) budget
         (outside (H.file shelf.old) (H.faults shelf.old)
         (streams (C.left commands.old) (C.faults commands.old) (W.holds out.old) (W.faults out.old)))
         (outside (H.file shelf.new) (H.faults shelf.new)
@@ -98,13 +56,38 @@ fn consult<H: Shelf, C: Source, W: Sink>(
     ensures asked { GrewByName (H.asked shelf.old) (H.asked shelf.new) name.now }
     ensures closed { KeptNumber (H.open_sources shelf.old) (H.open_sources shelf.new) }
 {
-    let kb = match load(alloc, shelf, name) {
+    let kb = match load(alloc, shelf, name, options) {
         Ok(kb) => kb,
         Err(LoadError::Refused(k, line)) => return refuse(alloc, out, k, line),
         Err(LoadError::ReadFault) => return Status::ReadFault,
         Err(LoadError::Memory) => return Status::Memory,
     };
-    answer_commands(alloc, kb, commands, out)
+    answer_commands(alloc, kb, budget, commands, out)
+}
+
+/// Checks the named file. No command is taken, whatever is left of them.
+fn check<H: Shelf, W: Sink>(
+    alloc: Global,
+    name: &str,
+    options: Options<'_>,
+    shelf: &mut H,
+    out: &mut W,
+) -> Status
+    ensures ends { (script : Option (List ℕ)) (script_faults : ℕ) → CheckEnds result name.now (choice_view options)
+        (outside (H.file shelf.old) (H.faults shelf.old)
+        (streams script script_faults (W.holds out.old) (W.faults out.old)))
+        (outside (H.file shelf.new) (H.faults shelf.new)
+        (streams script script_faults (W.holds out.new) (W.faults out.new))) }
+    ensures asked { GrewByName (H.asked shelf.old) (H.asked shelf.new) name.now }
+    ensures closed { KeptNumber (H.open_sources shelf.old) (H.open_sources shelf.new) }
+{
+    let kb = match load(alloc, shelf, name, options) {
+        Ok(kb) => kb,
+        Err(LoadError::Refused(k, line)) => return refuse(alloc, out, k, line),
+        Err(LoadError::ReadFault) => return Status::ReadFault,
+        Err(LoadError::Memory) => return Status::Memory,
+    };
+    print_structure(alloc, &kb, out)
 }
 
 /// Does what the words say, and returns how that ended.
@@ -125,11 +108,11 @@ pub fn run<H: Shelf, C: Source, W: Sink, L: Sink>(
     ensures closed { KeptNumber (H.open_sources shelf.old) (H.open_sources shelf.new) }
     ensures log { log.new ≡ log.old }
 {
-    let Some(name) = consult_file(words) else {
-        return match say(out, b"error usage\n") {
-            Ok(()) => Status::Usage,
-            Err(_) => Status::WriteFault,
-        };
-    };
-    consult(alloc, name, shelf, commands, out)
+    match job_of(words) {
+        Some(Job::Consult(name, options, budget)) => {
+            consult(alloc, name, options, budget, shelf, commands, out)
+        }
+        Some(Job::Check(name, options)) => check(alloc, name, options, shelf, out),
+        None => refuse_words(out),
+    }
 }

@@ -1,0 +1,101 @@
+-- What the bytes of a file mean, and why they are refused: by the first stage that refuses something.
+use Rattle.std.specs.Prelude.{◌≡◌, ℕ, List, length, Option, Some, Ok, Err, slice_get}
+use Rattle.std.specs.List.{filter_map}
+use Rattle.kb_text.specs.declared.fault.KbFault.{KbFault}
+use Rattle.kb_logic.specs.Bases.{Base}
+use Rattle.kb_logic.specs.KnownAtoms.{KnownAtoms}
+use Rattle.fo_syntax.specs.BlockTrees as raw
+use Rattle.fo_syntax.specs.BlockTrees.{Block}
+use Rattle.fo_syntax.specs.BlockView.{as_structure}
+use Rattle.fo_syntax.specs.FileReads.{KbReads}
+use Rattle.reading_stages.specs.FileBases.{base_of_file}
+use Rattle.reading_stages.specs.Scopes.{Text}
+use Rattle.reading_stages.specs.Earliest.{IsEarliest}
+use Rattle.reading_stages.specs.Files.{File}
+use Rattle.reading_stages.specs.FileTrees.{file_of, structure_of}
+use Rattle.reading_stages.specs.Names.{text_of}
+use Rattle.reading_stages.specs.BlocksStage.{block_uses, BlocksRefuse, IsPicked}
+use Rattle.reading_stages.specs.NamesStage.{NamesRefuse}
+use Rattle.reading_stages.specs.Numbering.{IsNamed, NamedFile}
+use Rattle.reading_stages.specs.TypesStage.{TypesRefuse, IsTyped}
+use Rattle.reading_stages.specs.TypedFiles.{TypedFile}
+use Rattle.reading_stages.specs.DataStage.{StructureRefuses}
+use Rattle.reading_stages.specs.DataAnswer.{IsDataOf}
+use Rattle.reading_stages.specs.SizesStage.{SizesRefuse, size_uses}
+
+-- the names of the theory and of the structure that are chosen, where they are named
+pub record Choice : Type 0 where
+  pub theory : Option Text
+  pub structure : Option Text
+
+-- a file with the types of its variables, the number of the chosen theory, and the chosen structure as it is written
+pub record Picked : Type 0 where
+  pub file : TypedFile
+  pub theory : ℕ
+  pub structure : raw.Structure
+
+-- what a file means: its vocabulary, theories and terms, the number of the chosen theory, the name of the chosen
+-- structure, and what that structure makes known
+pub record Meaning : Type 0 where
+  pub file : TypedFile
+  pub theory : ℕ
+  pub structure : Text
+  pub known : KnownAtoms
+
+-- the stages of the text and of blocks accept: the bytes are these blocks, and of them the theory and the structure with
+-- these numbers are chosen
+pub record HasBlocks (c : Choice) (bytes : List ℕ) (blocks : List Block) (theory structure : ℕ) : Type 0 where
+  pub read : KbReads bytes (Ok blocks)
+  pub picked : IsPicked (file_of blocks (length bytes)) c.theory c.structure theory structure
+
+-- the stage of names accepts too
+pub record HasNames (c : Choice) (bytes : List ℕ) (blocks : List Block) (theory structure : ℕ) (named : NamedFile) : Type 0 where
+  pub blocks : HasBlocks c bytes blocks theory structure
+  pub named : IsNamed (file_of blocks (length bytes)) named
+
+-- and so does the stage of types
+pub record HasTypes (c : Choice) (bytes : List ℕ) (p : Picked) : Type 0 where
+  pub blocks : List Block
+  pub number : ℕ
+  pub named : NamedFile
+  pub names : HasNames c bytes blocks p.theory number named
+  pub typed : IsTyped named p.file
+  pub structure : slice_get (filter_map as_structure blocks) number ≡ Some p.structure
+
+-- the name of a structure
+abbrev pub structure_name : raw.Structure → Text
+structure_name s = text_of (structure_of s).name
+
+-- the bytes mean this: no stage refuses anything
+pub record FileMeans (c : Choice) (bytes : List ℕ) (m : Meaning) : Type 0 where
+  pub structure : raw.Structure
+  pub typed : HasTypes c bytes (record { file = m.file; theory = m.theory; structure = structure })
+  pub name : m.structure ≡ structure_name structure
+  pub given : IsDataOf m.file m.theory structure m.known
+  pub sized : (q : KbFault) → SizesRefuse (size_uses m.file m.theory m.known.domains) q → ⊥
+
+-- the first stage that refuses something has this refusal, and none before it
+pub data IsRefused (c : Choice) (bytes : List ℕ) : KbFault → Type 0 where
+  -- the length, the tokens or the grammar
+  text : (q : KbFault) → KbReads bytes (Err q) → IsRefused c bytes q
+  blocks : (bs : List Block) → (q : KbFault) → KbReads bytes (Ok bs)
+      → IsEarliest (BlocksRefuse (block_uses (file_of bs (length bytes)) c.theory c.structure)) q
+      → IsRefused c bytes q
+  names : (bs : List Block) → (theory structure : ℕ) → (q : KbFault) → HasBlocks c bytes bs theory structure
+      → IsEarliest (NamesRefuse (file_of bs (length bytes))) q
+      → IsRefused c bytes q
+  types : (bs : List Block) → (theory structure : ℕ) → (named : NamedFile) → (q : KbFault)
+      → HasNames c bytes bs theory structure named
+      → IsEarliest (TypesRefuse named) q
+      → IsRefused c bytes q
+  entries : (p : Picked) → (q : KbFault) → HasTypes c bytes p
+      → IsEarliest (StructureRefuses p.file p.theory p.structure) q
+      → IsRefused c bytes q
+  sizes : (p : Picked) → (known : KnownAtoms) → (q : KbFault) → HasTypes c bytes p
+      → IsDataOf p.file p.theory p.structure known
+      → IsEarliest (SizesRefuse (size_uses p.file p.theory known.domains)) q
+      → IsRefused c bytes q
+
+-- the knowledge base that a file means
+abbrev pub base_of_meaning : Meaning → Base
+base_of_meaning m = base_of_file m.file m.theory m.known

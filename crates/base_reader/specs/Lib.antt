@@ -1,0 +1,3 @@
+pub mod FileMeanings
+pub mod Readings
+pub mod Laws

@@ -1,0 +1,93 @@
+//! The stages of reading, one after another.
+ghost use Rattle.std.specs.Prelude.{◌≡◌, Some, slice_get, IfErr, IfOk};
+ghost use Rattle.fo_syntax.specs.BlockView.{structure_view};
+ghost use Rattle.reading_stages.specs.FileBases.{base_of_file};
+ghost use Rattle.reading_stages.specs.FileView.{file_in};
+ghost use Rattle.type_derivation.specs.TypedViews.{typed_view};
+ghost use Rattle.def_ground.specs.Groundings.{IsGroundTheory};
+ghost use Rattle.base_reader.specs.FileMeanings.{FileMeans};
+ghost use Rattle.base_reader.specs.Readings.{choice, meaning_of, AreBlocksOf, DataOrSizes, FailsWith, HasTypedFile, IsSizedData, NamesOrTypes};
+
+use block_choice::{Picked, pick};
+use consult_base::KnowledgeBase;
+use fo_reader::read_kb;
+use fo_syntax::{KbError, RawKb, RawStructure};
+use kb_logic::{Memory, Name};
+use kb_names::resolve;
+use partial_structures::Partial;
+use std::alloc::Global;
+use structure_reader::{measure, read_structure};
+use type_derivation::{TypedKb, derive};
+
+/// The blocks of the file, and which theory and structure are chosen.
+fn read_blocks(
+    alloc: Global,
+    bytes: &[u8],
+    theory: Option<&str>,
+    structure: Option<&str>,
+) -> Result<(RawKb, Picked), KbError>
+    ensures ok { IfOk result (λ p. AreBlocksOf (choice theory.entry structure.entry) bytes.now p.0 p.1.theory p.1.structure) }
+    ensures err { IfErr result (FailsWith (choice theory.entry structure.entry) bytes.now) }
+{
+    let raw = read_kb(alloc, bytes)?;
+    match pick(&raw, theory, structure) {
+        Ok(picked) => Ok((raw, picked)),
+        Err(fault) => Err(KbError::Refused(fault)),
+    }
+}
+
+/// The file with numbers for words and with the types of its variables.
+fn read_types(alloc: Global, raw: &RawKb) -> Result<TypedKb, KbError>
+    ensures ok { IfOk result (λ kb. HasTypedFile (file_in raw.now) (typed_view kb)) }
+    ensures err { IfErr result (NamesOrTypes (file_in raw.now)) }
+{
+    let named = resolve(alloc, raw)?;
+    derive(alloc, named)
+}
+
+/// What the structure makes known, where its sizes are within their limits.
+fn read_data(
+    alloc: Global,
+    typed: &TypedKb,
+    theory: usize,
+    structure: &RawStructure,
+) -> Result<Partial, KbError>
+    ensures ok { IfOk result (λ known. IsSizedData (typed_view typed.now) theory (structure_view structure.now) known) }
+    ensures err { IfErr result (DataOrSizes (typed_view typed.now) theory (structure_view structure.now)) }
+{
+    let data = read_structure(alloc, typed, theory, structure)?;
+    measure(alloc, typed, theory, &data)?;
+    Ok(data)
+}
+
+/// Until it is a law that what all stages accept is well typed.
+fn well_typed(typed: &TypedKb, theory: usize, known: &Partial) -> Result<(), Memory>
+    ensures { IfOk result (λ _. IsGroundTheory (base_of_file (typed_view typed.now) theory known.now)) }
+{
+    let _ = (typed, theory, known);
+    Err(Memory)
+}
+
+/// The knowledge base that the bytes of a file mean, with the theory and the structure of these names, or with the only
+/// ones; or the refusal of the first stage that refuses something.
+pub fn read_base(
+    alloc: Global,
+    bytes: &[u8],
+    theory: Option<&str>,
+    structure: Option<&str>,
+) -> Result<KnowledgeBase, KbError>
+    ensures ok { IfOk result (λ kb. FileMeans (choice theory.entry structure.entry) bytes.now (meaning_of kb)) }
+    ensures err { IfErr result (FailsWith (choice theory.entry structure.entry) bytes.now) }
+{
+    let (raw, picked) = read_blocks(alloc, bytes, theory, structure)?;
+    let typed = read_types(alloc, &raw)?;
+    let structure = &raw.structures.as_slice()[picked.structure];
+    let data = read_data(alloc, &typed, picked.theory, structure)?;
+    if well_typed(&typed, picked.theory, &data).is_err() {
+        return Err(KbError::Memory);
+    }
+    let Ok(name) = Name::new(alloc, structure.header.name.text.as_slice()) else {
+        return Err(KbError::Memory);
+    };
+    Ok(KnowledgeBase::new(typed, picked.theory, name, data))
+}

@@ -1,0 +1,6 @@
+//! A stub: the texts of structures.
+#![tactic(auto)]
+
+mod printing;
+
+pub use printing::print_block;

@@ -1,0 +1,32 @@
+-- Knowledge bases that are consulted.
+use Rattle.std.specs.Prelude.{◌<◌, ◌≤◌, ℕ, List, length}
+use Rattle.kb_logic.specs.Bases.{Base}
+use Rattle.kb_logic.specs.KnownAtoms.{KnownAtoms}
+use Rattle.kb_text.specs.declared.fault.KbFault.{KbFault}
+use Rattle.reading_stages.specs.FileBases.{base_of_file}
+use Rattle.reading_stages.specs.Scopes.{Text}
+use Rattle.reading_stages.specs.SizesStage.{SizesRefuse, size_uses}
+use Rattle.type_derivation.specs.TypedViews.{typed_view}
+use Rattle.type_derivation.specs.declared.typed.TypedKb.{TypedKb}
+use Rattle.def_ground.specs.Groundings.{IsGroundTheory}
+
+-- a file, the number of the chosen theory, the name of the chosen structure, and what that structure makes known
+pub record Opened : Type 0 where
+  pub typed : TypedKb
+  pub theory : ℕ
+  pub structure : Text
+  pub known : KnownAtoms
+
+abbrev pub opened : TypedKb → ℕ → Text → KnownAtoms → Opened
+opened typed theory structure known = record { typed = typed; theory = theory; structure = structure; known = known }
+
+-- the knowledge base that it is
+abbrev pub base_of : Opened → Base
+base_of k = base_of_file (typed_view k.typed) k.theory k.known
+
+-- the theory is one of the file's; theory and data are well typed; no size is refused; and symbols have numbers of 32 bits
+pub record IsKnowledgeBase (k : Opened) : Type 0 where
+  pub theory : k.theory < length k.typed.theories
+  pub ground : IsGroundTheory (base_of k)
+  pub sized : (q : KbFault) → SizesRefuse (size_uses (typed_view k.typed) k.theory k.known.domains) q → ⊥
+  pub numbered : length k.typed.vocab.symbols ≤ 1024

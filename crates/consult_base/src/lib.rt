@@ -1,0 +1,6 @@
+//! Knowledge bases as they are consulted.
+#![tactic(auto)]
+
+mod knowledge_base;
+
+pub use knowledge_base::KnowledgeBase;

@@ -1,0 +1,19 @@
+-- How many conflicts a query may meet at most, whatever its budget.
+use Rattle.std.specs.Prelude.{ℕ, ◌+◌, ◌*◌, ◌^◌, map}
+use Rattle.kb_logic.specs.Bases.{Base, NamedTerm}
+use Rattle.kb_logic.specs.Weights.{weight_of}
+use Rattle.consult_text.specs.declared.commands.Command.{Command}
+use Rattle.consult_text.specs.declared.commands.Command.TheVariants as command
+
+-- the weight of the knowledge base
+abbrev pub weight : Base → ℕ
+weight kb = weight_of kb.vocabulary kb.known.domains kb.theory (map (λ (t : NamedTerm). t.term) kb.terms)
+
+-- how many searches a command takes at most
+abbrev pub searches : Command → ℕ
+searches command.Model = 1
+searches _ = 0
+
+-- a budget of so many conflicts lets every search of the command come to its end
+abbrev pub enough : Base → Command → ℕ
+enough kb c = searches c * 2 ^ (weight kb + searches c)

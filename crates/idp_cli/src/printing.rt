@@ -1,0 +1,80 @@
+//! What is printed of a file or of words that are refused, and of a file that is checked.
+ghost use Rattle.std.specs.Prelude.{◌≡◌, OnOk, OnErr, IfOk};
+ghost use Rattle.std.specs.Io.KnownBytes.{Appends};
+ghost use Rattle.std.specs.String.{string_bytes};
+ghost use Rattle.kb_io.specs.Outside.{HasCause};
+ghost use Rattle.kb_io.specs.ReadWrite.{AppendsPrefix};
+ghost use Rattle.base_reader.specs.Readings.{meaning_of};
+ghost use Rattle.idp_cli.specs.Files.{refusal_text};
+ghost use Rattle.idp_cli.specs.Printing.{PrintsRefusal, PrintsText, PrintsUsage};
+ghost use Rattle.idp_cli.specs.Runs.{structure_text};
+
+use crate::status::Status;
+use block_printer::print_block;
+use consult_base::KnowledgeBase;
+use kb_io::{Failed, Sink, write_all};
+use kb_logic::Memory;
+use kb_text::K;
+use std::alloc::{AllocError, Global};
+
+/// Writes a text and flushes.
+pub fn say<W: Sink>(out: &mut W, text: &[u8]) -> Result<(), Failed>
+    ensures ok { OnOk result (Appends (W.holds out.old) (W.holds out.new) text.now) }
+    ensures err { OnErr result (AppendsPrefix (W.holds out.old) (W.holds out.new) text.now) }
+    ensures cause { HasCause (W.faults out.old) (W.faults out.new) result }
+{
+    write_all(out, text)?;
+    out.flush()
+}
+
+fn refusal_line(alloc: Global, k: K, line: u64) -> Result<String, AllocError>
+    ensures { IfOk result (λ text. string_bytes text ≡ refusal_text k line) }
+{
+    format!(in alloc; "error {k} line {line}\n")
+}
+
+/// Says that the knowledge base is refused.
+pub fn refuse<W: Sink>(alloc: Global, out: &mut W, k: K, line: u64) -> Status
+    ensures { PrintsRefusal result k line (W.holds out.old) (W.holds out.new) (W.faults out.old) (W.faults out.new) }
+{
+    let Ok(text) = refusal_line(alloc, k, line) else {
+        return Status::Memory;
+    };
+    match say(out, text.as_bytes()) {
+        Ok(()) => Status::KbRefused(k, line),
+        Err(_) => Status::WriteFault,
+    }
+}
+
+/// Says that the words are no command line.
+pub fn refuse_words<W: Sink>(out: &mut W) -> Status
+    ensures { PrintsUsage result (W.holds out.old) (W.holds out.new) (W.faults out.old) (W.faults out.new) }
+{
+    match say(out, b"error usage\n") {
+        Ok(()) => Status::Usage,
+        Err(_) => Status::WriteFault,
+    }
+}
+
+/// The canonical text of the structure that is chosen.
+fn structure_text(alloc: Global, kb: &KnowledgeBase) -> Result<Vec<u8>, Memory>
+    ensures { IfOk result (λ text. text.items ≡ structure_text (meaning_of kb.now)) }
+{
+    let mut text = Vec::new(alloc);
+    print_block(&mut text, kb.vocabulary(), kb.structure(), kb.data())?;
+    Ok(text)
+}
+
+/// Prints the structure that is chosen.
+pub fn print_structure<W: Sink>(alloc: Global, kb: &KnowledgeBase, out: &mut W) -> Status
+    ensures { PrintsText result (structure_text (meaning_of kb.now))
+        (W.holds out.old) (W.holds out.new) (W.faults out.old) (W.faults out.new) }
+{
+    let Ok(text) = structure_text(alloc, kb) else {
+        return Status::Memory;
+    };
+    match say(out, &text) {
+        Ok(()) => Status::Done,
+        Err(_) => Status::WriteFault,
+    }
+}
