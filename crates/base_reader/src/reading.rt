@@ -16,6 +16,7 @@ use kb_logic::{Memory, Name};
 use kb_names::resolve;
 use partial_structures::Partial;
 use std::alloc::Global;
+use reading_stages::files_are_their_blocks;
 use structure_reader::{measure, read_structure};
 use type_derivation::{TypedKb, derive};
 
@@ -29,10 +30,14 @@ fn read_blocks(
     ensures ok { IfOk result (λ p. AreBlocksOf (choice theory.entry structure.entry) bytes.now p.0 p.1.theory p.1.structure) }
     ensures err { IfErr result (FailsWith (choice theory.entry structure.entry) bytes.now) }
 {
-    let raw = read_kb(alloc, bytes)?;
-    match pick(&raw, theory, structure) {
+    files_are_their_blocks();
+    let raw = match read_kb(alloc, bytes) {
+        Ok(raw) => raw,
+        Err(e) => return Err(e),
+    };
+    match pick(alloc, &raw, theory, structure) {
         Ok(picked) => Ok((raw, picked)),
-        Err(fault) => Err(KbError::Refused(fault)),
+        Err(e) => Err(e),
     }
 }
 
@@ -41,8 +46,10 @@ fn read_types(alloc: Global, raw: &RawKb) -> Result<TypedKb, KbError>
     ensures ok { IfOk result (λ kb. HasTypedFile (file_in raw.now) (typed_view kb)) }
     ensures err { IfErr result (NamesOrTypes (file_in raw.now)) }
 {
-    let named = resolve(alloc, raw)?;
-    derive(alloc, named)
+    match resolve(alloc, raw) {
+        Ok(named) => derive(alloc, named),
+        Err(e) => Err(e),
+    }
 }
 
 /// What the structure makes known, where its sizes are within their limits.
@@ -55,16 +62,20 @@ fn read_data(
     ensures ok { IfOk result (λ known. IsSizedData (typed_view typed.now) theory (structure_view structure.now) known) }
     ensures err { IfErr result (DataOrSizes (typed_view typed.now) theory (structure_view structure.now)) }
 {
-    let data = read_structure(alloc, typed, theory, structure)?;
-    measure(alloc, typed, theory, &data)?;
-    Ok(data)
+    let data = match read_structure(alloc, typed, theory, structure) {
+        Ok(data) => data,
+        Err(e) => return Err(e),
+    };
+    match measure(alloc, typed, theory, &data) {
+        Ok(_) => Ok(data),
+        Err(e) => Err(e),
+    }
 }
 
 /// Until it is a law that what all stages accept is well typed.
 fn well_typed(typed: &TypedKb, theory: usize, known: &Partial) -> Result<(), Memory>
     ensures { IfOk result (λ _. IsGroundTheory (base_of_file (typed_view typed.now) theory known.now)) }
 {
-    let _ = (typed, theory, known);
     Err(Memory)
 }
 
@@ -79,10 +90,20 @@ pub fn read_base(
     ensures ok { IfOk result (λ kb. FileMeans (choice theory.entry structure.entry) bytes.now (meaning_of kb)) }
     ensures err { IfErr result (FailsWith (choice theory.entry structure.entry) bytes.now) }
 {
-    let (raw, picked) = read_blocks(alloc, bytes, theory, structure)?;
-    let typed = read_types(alloc, &raw)?;
+    files_are_their_blocks();
+    let (raw, picked) = match read_blocks(alloc, bytes, theory, structure) {
+        Ok(blocks) => blocks,
+        Err(e) => return Err(e),
+    };
+    let typed = match read_types(alloc, &raw) {
+        Ok(typed) => typed,
+        Err(e) => return Err(e),
+    };
     let structure = &raw.structures.as_slice()[picked.structure];
-    let data = read_data(alloc, &typed, picked.theory, structure)?;
+    let data = match read_data(alloc, &typed, picked.theory, structure) {
+        Ok(data) => data,
+        Err(e) => return Err(e),
+    };
     if well_typed(&typed, picked.theory, &data).is_err() {
         return Err(KbError::Memory);
     }

@@ -15,6 +15,5 @@ pub fn print_block(
     ensures ok { OnOk result (out.new.items ≡ out.old.items ++ block_text vocab.now name.now known.now) }
     ensures err { OnErr result (out.new.items ≡ out.old.items) }
 {
-    let _ = (vocab, name, known);
     Err(Memory)
 }

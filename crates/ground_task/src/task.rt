@@ -36,7 +36,6 @@ impl Task {
         requires ground { IsGroundTheory (base_of_file (typed_view kb.now) theory known.now) }
         ensures { IfOk result (λ task. base_of_task task ≡ base_of_file (typed_view kb.now) theory known.now) }
     {
-        let _ = (alloc, kb, theory, known);
         Err(Memory)
     }
 
@@ -47,7 +46,6 @@ impl Task {
         ensures halt { IfErr result (HaltedAt budget.new) }
         ensures spends { SpendsFew (base_of_task self.old) budget.old budget.new }
     {
-        let _ = choices;
         Err(Halt::Memory)
     }
 }

@@ -1,4 +1,4 @@
-mod Words
+mod Asked
 mod Ended
 mod Answered
 mod Progress
@@ -7,4 +7,3 @@ mod Replying
 mod Consulting
 mod Elimination
 mod OneAnswer
-mod FewSymbols

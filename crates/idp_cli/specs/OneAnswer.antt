@@ -1,37 +1,42 @@
 -- That the printed bytes determine what was answered.
-use Rattle.std.specs.Prelude.{◌≡◌, ◌++◌, ℕ, List, map}
+use Rattle.std.specs.Prelude.{◌≡◌, ◌≤◌, ◌++◌, ℕ, List, map, Option, Some, None, ⊤}
 use Rattle.std.specs.List.{AllByRecursion}
-use Rattle.kb_logic.specs.declared.first.FirstKb.{FirstKb}
 use Rattle.kb_logic.specs.Bases.{Base}
-use Rattle.kb_logic.specs.First.{base_of_first}
+use Rattle.consult_text.specs.Budgets.{most_budget}
 use Rattle.consult_text.specs.Literals.{IsLiteralOver}
+use Rattle.consult_text.specs.OneText.{HasPredicatesAlone, HasWordNames}
 use Rattle.consult_text.specs.States.{State, first_state}
-use Rattle.idp_cli.specs.Files.{IsConsultable}
 use Rattle.idp_cli.specs.Turns.{reply_of}
 use Rattle.idp_cli.specs.Consultation.{Said, IsRightAnswer, state_left, said_text, said_texts, Consultation}
 
--- the choices are literals over the knowledge base
-abbrev pub AreChoicesOver : Base → State → Type 0
-AreChoicesOver kb s = AllByRecursion (IsLiteralOver kb) s.choices
+-- a budget that can be given
+abbrev pub IsBudgetInRange : Option ℕ → Type 0
+IsBudgetInRange None = ⊤
+IsBudgetInRange (Some n) = n ≤ most_budget
 
--- Over the knowledge base of a file, two right answers to a line that have one text are one reply and leave one
--- state. What follows the texts does not matter: none of them begins another.
+-- the choices are literals over the knowledge base, and the budget is one that can be given
+pub record IsStateOver (kb : Base) (s : State) : Type 0 where
+  pub choices : AllByRecursion (IsLiteralOver kb) s.choices
+  pub budget : IsBudgetInRange s.budget
+
+-- Over a knowledge base of predicates whose names are words, two right answers to a line that have one text are one reply
+-- and leave one state. What follows the texts does not matter: none of them begins another.
 abbrev pub OneAnswerLaw : Type 0
-OneAnswerLaw = (bytes : List ℕ) (kb : FirstKb) (s : State) (line : List ℕ) (a b : Said) (after after' : List ℕ)
-    → IsConsultable bytes kb → AreChoicesOver (base_of_first kb) s
-    → IsRightAnswer (base_of_first kb) s line a → IsRightAnswer (base_of_first kb) s line b
-    → said_text kb.vocab a ++ after ≡ said_text kb.vocab b ++ after'
-    → (reply_of a ≡ reply_of b) × (state_left (base_of_first kb) s a ≡ state_left (base_of_first kb) s b) × (after ≡ after')
+OneAnswerLaw = (kb : Base) (s : State) (line : List ℕ) (a b : Said) (after after' : List ℕ)
+    → HasPredicatesAlone kb → HasWordNames kb → IsStateOver kb s
+    → IsRightAnswer kb s line a → IsRightAnswer kb s line b
+    → said_text kb.vocabulary a ++ after ≡ said_text kb.vocabulary b ++ after'
+    → (reply_of a ≡ reply_of b) × (state_left kb s a ≡ state_left kb s b) × (after ≡ after')
 
 -- So two consultations of the same lines, from one state, that print the same bytes have the same replies, line by
 -- line.
 abbrev pub OneConsultationLaw : Type 0
-OneConsultationLaw = (bytes : List ℕ) (kb : FirstKb) (s t u : State) (lines : List (List ℕ)) (a b : List Said)
-    → IsConsultable bytes kb → AreChoicesOver (base_of_first kb) s
-    → Consultation (base_of_first kb) s lines a t → Consultation (base_of_first kb) s lines b u → said_texts (base_of_first kb) a ≡ said_texts (base_of_first kb) b
+OneConsultationLaw = (kb : Base) (s t u : State) (lines : List (List ℕ)) (a b : List Said)
+    → HasPredicatesAlone kb → HasWordNames kb → IsStateOver kb s
+    → Consultation kb s lines a t → Consultation kb s lines b u → said_texts kb a ≡ said_texts kb b
     → map reply_of a ≡ map reply_of b
 
--- and the choices of a consultation are always over it
-abbrev pub ChoicesLaw : Type 0
-ChoicesLaw = (kb : Base) (lines : List (List ℕ)) (said : List Said) (t : State)
-    → Consultation kb first_state lines said t → AreChoicesOver kb t
+-- and a consultation that begins with a budget that can be given always has such a state
+abbrev pub StatesLaw : Type 0
+StatesLaw = (kb : Base) (budget : Option ℕ) (lines : List (List ℕ)) (said : List Said) (t : State)
+    → IsBudgetInRange budget → Consultation kb (first_state budget) lines said t → IsStateOver kb t

@@ -1,9 +1,9 @@
 //! Laws on how a run ends, and on what it prints. The functions do nothing else: their contracts are laws.
-ghost use Rattle.idp_cli.specs.Laws.{UsageLaw, CommandLaw, RefusalLaw, TakingLaw, LengthLaw, ShortLaw, DoneLaw};
-ghost use Rattle.idp_cli.specs.OneAnswer.{OneAnswerLaw, OneConsultationLaw, ChoicesLaw};
+ghost use Rattle.idp_cli.specs.Laws.{UsageLaw, CommandLaw, RefusalLaw, TakingLaw, LengthLaw, ShortLaw, DoneLaw, CheckedLaw};
+ghost use Rattle.idp_cli.specs.OneAnswer.{OneAnswerLaw, OneConsultationLaw, StatesLaw};
 
+use base_reader::{accepted_or_refused, one_file_refusal};
 use consult_text::{commands_are_over_the_base, no_two_replies_have_one_text, one_meaning};
-use first_reader::laws::names_are_words;
 
 /// Usage, a refusal, ScriptTooLong and Done come exactly where they should, unless a device failed or memory ran out.
 pub fn statuses_come_where_they_should()
@@ -14,17 +14,21 @@ pub fn statuses_come_where_they_should()
     ensures length { LengthLaw }
     ensures short { ShortLaw }
     ensures done { DoneLaw }
-{}
+    ensures checked { CheckedLaw }
+{
+    one_file_refusal();
+    accepted_or_refused();
+}
 
-/// The printed bytes determine what was answered: over the knowledge base of a file, two right answers to a line that
-/// have one text are one reply, and two consultations of the same lines that print the same bytes have the same
-/// replies. The choices in force, which an answer may list, are always literals over it.
+/// The printed bytes determine what was answered: over a knowledge base of predicates whose names are words, two right
+/// answers to a line that have one text are one reply, and two consultations of the same lines that print the same
+/// bytes have the same replies. The choices in force, which an answer may list, are always literals over the knowledge
+/// base, and the budget is always one that can be given.
 pub fn printed_bytes_determine_the_replies()
     ensures one { OneAnswerLaw }
     ensures whole { OneConsultationLaw }
-    ensures choices { ChoicesLaw }
+    ensures states { StatesLaw }
 {
-    names_are_words();
     one_meaning();
     commands_are_over_the_base();
     no_two_replies_have_one_text();

@@ -21,6 +21,5 @@ pub fn read_structure(
     ensures ok { IfOk result (λ p. IsDataOf (typed_view kb.now) theory (structure_view raw.now) p) }
     ensures err { IfErr result (DataFailsWith (typed_view kb.now) theory (structure_view raw.now)) }
 {
-    let _ = (alloc, kb, theory, raw);
     Err(KbError::Memory)
 }

@@ -1,5 +1,17 @@
-use Rattle.idp_cli.proofs.Elimination.{usage_law, command_law, refusal_law, taking_law, length_law, short_law, done_law}
+use Rattle.idp_cli.proofs.Elimination.{usage_law, command_law, refusal_law, taking_law, length_law, short_law, done_law, checked_law}
 use Rattle.idp_cli.proofs.laws.statuses_come_where_they_should.Goals as goal
 
 pub returns : goal.returns
-returns c = record { usage = usage_law; command = command_law; refusal = refusal_law; taking = taking_law; length = length_law; short = short_law; done = done_law }
+returns c =
+    let one = c.one_file_refusal.ensures in
+    let never = c.accepted_or_refused.ensures in
+    record {
+      usage = usage_law;
+      command = command_law;
+      refusal = refusal_law one never;
+      taking = taking_law one never;
+      length = length_law one never;
+      short = short_law one never;
+      done = done_law one never;
+      checked = checked_law one never;
+    }
