@@ -1,5 +1,5 @@
 -- What the stages of names and types accept is well typed.
-use Rattle.std.proofs.Common.{◌≡◌, ℕ, Bool, true, false, List, [], ◌∷◌, ◌++◌, length, map, Option, refl, sym, ap, subst, ◌∙◌, Contains}
+use Rattle.std.proofs.Common.{◌≡◌, ℕ, List, [], ◌∷◌, ◌++◌, length, map, refl, sym, subst}
 use Rattle.std.specs.List.{AllByRecursion, flat_map}
 use Rattle.std.proofs.lemmas.Bool.{false_from_ne_true}
 use Rattle.kb_text.specs.declared.fault.KbFault.{KbFault}
@@ -7,16 +7,16 @@ use Rattle.kb_logic.specs.declared.vocabularies.Vocabulary.{Vocabulary}
 use Rattle.kb_logic.specs.Typing.{IsWellTyped}
 use Rattle.kb_logic.proofs.Members.{in_all}
 use Rattle.reading_stages.specs.Scopes.{Text}
-use Rattle.reading_stages.specs.Files.{Declaration, Part, sentence, definition, VocabularyBlock, TheoryBlock, TermBlock, File}
+use Rattle.reading_stages.specs.Files.{Part, sentence, definition, TheoryBlock, TermBlock, File}
 use Rattle.reading_stages.specs.Names.{Names, meaning_of, number_types, declared_names, names_of}
-use Rattle.reading_stages.specs.Uses.{Use, declared_uses, uses_in_declarations, cycle_uses, uses_of_declarations, in_scope, uses_in, uses_in_term, uses_in_part, uses_in_theory, uses_in_block}
+use Rattle.reading_stages.specs.Uses.{declared_uses, uses_in_declarations, cycle_uses, uses_of_declarations, in_scope, uses_in, uses_in_part, uses_in_theory, uses_in_block}
 use Rattle.reading_stages.specs.NamesStage.{is_unknown, is_wrong, is_unsupported, is_too_many, unknown_name, wrong_arity, unsupported, too_large, NamesRefuse, declarations_of, uses_of_file}
 use Rattle.reading_stages.specs.NamedTrees.{NamedTerm, NamedFormula}
 use Rattle.reading_stages.specs.Numbering.{named_theory, named_block, sentences_in, NamedTheoryTree, NamedTermTree, NamedFile, vocabulary_name, vocabulary_of, named_file, IsNamed}
 use Rattle.reading_stages.specs.Demands.{formula_parts, term_parts, number_demand, parts_of}
-use Rattle.reading_stages.specs.TypedFiles.{TypedTheoryTree, TypedTermTree, TypedFile, typed_theory, typed_block, typed_file}
+use Rattle.reading_stages.specs.TypedFiles.{typed_theory, typed_block, typed_file}
 use Rattle.reading_stages.specs.TypedTrees.{typed_sentence, typed_block_term}
-use Rattle.reading_stages.specs.TypesStage.{TypeUse, is_type_clash, is_untyped, uses_among, sentence_settled, block_settled, theory_type_uses, block_type_uses, type_uses_of_file, TypesRefuse, type_clash, no_type, IsTyped}
+use Rattle.reading_stages.specs.TypesStage.{TypeUse, is_type_clash, is_untyped, uses_among, sentence_settled, block_settled, theory_type_uses, block_type_uses, type_uses_of_file, TypesRefuse, type_clash, no_type}
 use Rattle.typing_laws.specs.WellTyped.{IsWellTypedNumber, IsWellTypedFile, DerivedIsWellTyped}
 use Rattle.typing_laws.proofs.Alls.{all_left, all_right}
 use Rattle.typing_laws.proofs.Meanings.{IsFine, AreFine, IsMeaning, words_mean}
@@ -34,7 +34,7 @@ pub record IsNumberedFile (n : NamedFile) : Type 0 where
   pub theories : AllByRecursion (λ t. AllByRecursion (FormulaIsNumbered n.vocabulary 0) t.sentences) n.theories
   pub terms : AllByRecursion (λ t. TermIsNumbered n.vocabulary 0 t.term) n.terms
 
-names_fine : (f : File) → ((q : KbFault) → NamesRefuse f q → ⊥) → AreFine (names_of (declarations_of f.vocabularies)) (uses_of_file f)
+pub names_fine : (f : File) → ((q : KbFault) → NamesRefuse f q → ⊥) → AreFine (names_of (declarations_of f.vocabularies)) (uses_of_file f)
 names_fine f accepted =
     let names = names_of (declarations_of f.vocabularies) in
     in_all (IsFine names) (uses_of_file f) (λ u c. record {

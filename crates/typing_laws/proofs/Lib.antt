@@ -1,9 +1,11 @@
-mod Alls
-mod Meanings
-pub mod Numbered
+pub mod Alls
+pub mod Meanings
+mod Numbered
 mod Words
 mod Ranges
 mod Kin
 mod MetDemands
 mod Typed
 pub mod Derived
+mod Integers
+mod Accepted

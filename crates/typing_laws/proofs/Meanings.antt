@@ -1,23 +1,22 @@
 -- What each word of a vocabulary means is something of the vocabulary.
-use Rattle.std.proofs.Common.{◌≡◌, ◌<◌, ◌≤◌, ◌==◌, ℕ, zero, suc, ◌+◌, Bool, true, false, not, nat_lt, is_some, List, [], ◌∷◌, ◌++◌, length, map, if◌then◌else◌, Option, None, Some, unwrap_or, slice_get, refl, sym, ap, subst, ◌∙◌, arith, codes}
-use Rattle.std.specs.Prelude.{⊤, IfSome}
+use Rattle.std.proofs.Common.{◌≡◌, ◌<◌, ◌≤◌, ◌==◌, ℕ, suc, ◌+◌, Bool, true, false, nat_lt, is_some, List, [], ◌∷◌, ◌++◌, length, map, if◌then◌else◌, Option, None, Some, unwrap_or, slice_get, refl, sym, subst, arith}
+use Rattle.std.specs.Prelude.{⊤}
 use Rattle.std.specs.List.{AllByRecursion}
 use Rattle.std.specs.Str.{bytes_eq}
-use Rattle.std.proofs.lemmas.Bool.{true≢false, eqb-true, not-false}
+use Rattle.std.proofs.lemmas.Bool.{true≢false}
 use Rattle.std.proofs.lemmas.Bool.Decides.{nat_tests}
 use Rattle.std.proofs.lemmas.List.{length-map}
 use Rattle.std.proofs.lemmas.Option.{slice_get_within}
 use Rattle.kb_logic.specs.declared.vocabularies.TypeDecl.{TypeDecl}
 use Rattle.kb_logic.specs.declared.vocabularies.Symbol.{Symbol}
-use Rattle.kb_logic.specs.declared.vocabularies.Vocabulary.{Vocabulary}
 use Rattle.fo_syntax.specs.Trees.{Name}
 use Rattle.reading_stages.specs.Scopes.{Text, further, last_position}
 use Rattle.reading_stages.specs.Files.{Declaration, type_under, constructed_type, symbol}
 use Rattle.reading_stages.specs.Names.{Meaning, undeclared, integers, naturals, a_type, predicate, function, made, variable, Names, meaning_in, meaning_of, meaning_at, variable_or, declared, number_types, symbol_meaning, made_names, declared_names, with_names, names_of, text_of}
 use Rattle.reading_stages.specs.Uses.{Use, counted, parent_uses, position, position_uses, uses_in_declarations}
-use Rattle.reading_stages.specs.NamesStage.{is_undeclared, is_type, is_number_type, is_no_type, is_no_formula, is_unknown, is_wrong, is_unsupported, is_too_many}
-use Rattle.reading_stages.specs.Numbering.{within_count, type_number, type_number_of, predicate_number, types_in, symbols_in}
-use Rattle.typing_laws.proofs.Alls.{all_left, all_right, all_append}
+use Rattle.reading_stages.specs.NamesStage.{is_undeclared, is_number_type, is_no_type, is_unknown, is_wrong, is_unsupported, is_too_many}
+use Rattle.reading_stages.specs.Numbering.{within_count, type_number, type_number_of, types_in, symbols_in}
+use Rattle.typing_laws.proofs.Alls.{all_right, all_append}
 
 -- ---- uses at which no row of the stage of names stands
 

@@ -1,5 +1,5 @@
 -- Demands that are met, where each variable's type is found: what no row of the stage of types refuses.
-use Rattle.std.proofs.Common.{◌≡◌, ◌<◌, ℕ, suc, ◌+◌, Bool, true, false, List, [], ◌∷◌, ◌++◌, length, map, Option, None, Some, refl, sym, ap, subst, ◌∙◌, arith, length-append, Contains}
+use Rattle.std.proofs.Common.{◌≡◌, ◌<◌, ℕ, suc, ◌+◌, false, List, [], ◌∷◌, ◌++◌, length, map, Option, Some, refl, sym, ap, subst, ◌∙◌, arith, length-append}
 use Rattle.std.specs.Prelude.{⊤}
 use Rattle.std.specs.List.{AllByRecursion}
 use Rattle.std.proofs.lemmas.Bool.{true≢false}
@@ -9,11 +9,11 @@ use Rattle.kb_logic.specs.declared.vocabularies.TypeDecl.{TypeDecl}
 use Rattle.kb_logic.specs.declared.vocabularies.Vocabulary.{Vocabulary}
 use Rattle.kb_logic.specs.Bounds.{types_of}
 use Rattle.kb_logic.specs.Typing.{HaveTypes}
-use Rattle.reading_stages.specs.Demands.{Demand, Finding, nothing, found, torn, Binding, Part, demand, scope, Parts, no_parts, more_parts, parts_of, binding_of}
+use Rattle.reading_stages.specs.Demands.{Finding, nothing, found, torn, Binding, Part, demand, scope, Parts, no_parts, more_parts, parts_of, binding_of}
 use Rattle.reading_stages.specs.NamedTrees.{NamedVar}
-use Rattle.reading_stages.specs.Typing.{settled_bindings, places_in, sides_in, by_places, by_sides, part_by_places, part_by_sides, type_found, within}
+use Rattle.reading_stages.specs.Typing.{settled_bindings, places_in, sides_in, by_places, by_sides, type_found, within}
 use Rattle.reading_stages.specs.TypedTrees.{found_by_places, found_by_sides, chosen, types_by_places, typed_from, inside, typed_vars}
-use Rattle.reading_stages.specs.TypesStage.{TypeUse, binding, demanded, is_unmet, is_torn, is_nothing, is_type_clash, is_untyped, uses_at, uses_among}
+use Rattle.reading_stages.specs.TypesStage.{TypeUse, binding, is_unmet, is_torn, is_nothing, is_type_clash, is_untyped, uses_at, uses_among}
 use Rattle.typing_laws.proofs.Alls.{all_left, all_right}
 use Rattle.typing_laws.proofs.Ranges.{IsFindingBelow, AreBindingsBelow, IsPartBelow, ArePartsBelow}
 

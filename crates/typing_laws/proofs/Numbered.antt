@@ -1,5 +1,5 @@
 -- Trees whose numbers stand for variables in scope and for things of a vocabulary, used as they are declared.
-use Rattle.std.proofs.Common.{◌≡◌, ◌<◌, ℕ, suc, ◌+◌, Bool, true, false, is_some, List, [], ◌∷◌, length, Option, None, Some, slice_get}
+use Rattle.std.proofs.Common.{◌≡◌, ◌<◌, ℕ, suc, ◌+◌, true, false, is_some, List, length, None, Some, slice_get}
 use Rattle.std.specs.Prelude.{⊤, IfSome}
 use Rattle.std.specs.List.{AllByRecursion}
 use Rattle.kb_logic.specs.declared.vocabularies.TypeDecl.{TypeDecl}

@@ -1,17 +1,16 @@
 -- The types in demands are types of the vocabulary, before and after each pass over them.
-use Rattle.std.proofs.Common.{◌≡◌, ◌<◌, ℕ, suc, ◌+◌, ◌==◌, Bool, true, false, is_some, List, [], ◌∷◌, ◌++◌, length, map, if◌then◌else◌, Option, None, Some, slice_get, unwrap_or, refl, sym, ap, subst, ◌∙◌, arith}
+use Rattle.std.proofs.Common.{◌≡◌, ◌<◌, ℕ, ◌+◌, Bool, true, false, List, [], ◌∷◌, ◌++◌, length, map, if◌then◌else◌, Option, None, Some, slice_get, unwrap_or, refl, sym, subst}
 use Rattle.std.specs.Prelude.{⊤, IfSome}
 use Rattle.std.specs.List.{AllByRecursion, list_all}
 use Rattle.std.proofs.lemmas.Option.{slice_get_within}
 use Rattle.kb_logic.specs.declared.vocabularies.TypeDecl.{TypeDecl}
 use Rattle.kb_logic.specs.declared.vocabularies.Symbol.{Symbol}
 use Rattle.kb_logic.specs.declared.vocabularies.Vocabulary.{Vocabulary}
-use Rattle.kb_logic.specs.declared.syntax.Cmp.{Cmp}
 use Rattle.reading_stages.specs.Kinship.{is_under}
-use Rattle.reading_stages.specs.Demands.{TermType, whole, declared, untyped, known, Kind, of_variable, by_itself, Demand, a_number, sides, predicate_argument, function_argument, Finding, nothing, found, torn, Binding, Part, demand, scope, Parts, no_parts, more_parts, parts_of, written, binding_of, argument_types, value_type, kind_of, number_demand, is_order, order_demands, comparison_demands, argument_of, argument_demands, later_types, formula_parts, formulas_parts, term_parts, node_parts, arguments_parts, factors_parts, summands_parts}
+use Rattle.reading_stages.specs.Demands.{TermType, whole, declared, untyped, known, Kind, of_variable, by_itself, Demand, a_number, sides, predicate_argument, function_argument, Finding, nothing, found, torn, Binding, Part, demand, scope, Parts, no_parts, more_parts, parts_of, written, binding_of, argument_types, value_type, kind_of, number_demand, is_order, order_demands, argument_demands, later_types, formula_parts, formulas_parts, term_parts, node_parts, arguments_parts, factors_parts, summands_parts}
 use Rattle.reading_stages.specs.NamedTrees.{NamedVar, NamedTerm, at, NamedNode, variable, integer, constructed, application, summation, product, aggregate, NamedTerms, no_terms, more_terms, NamedSummands, no_summands, more_summands, NamedFormula, truth, atom, comparison, negation, conjunction, disjunction, implication, equivalence, universal, existential, numbered, NamedFormulas, no_formulas, more_formulas}
-use Rattle.reading_stages.specs.Typing.{is_split, found_first, least_of, finding_of, settled, settled_binding, settled_bindings, is_variable, places_given, places_at, places_in, part_by_places, by_places, type_found, within, type_in, types_known, side_given, sides_given, sides_at, sides_in, part_by_sides, by_sides, all_settled}
-use Rattle.typing_laws.proofs.Alls.{all_left, all_right, all_append, all_at, all_mapped}
+use Rattle.reading_stages.specs.Typing.{is_split, found_first, least_of, finding_of, settled, settled_bindings, is_variable, places_given, places_at, places_in, part_by_places, by_places, type_found, within, type_in, types_known, side_given, sides_given, sides_at, sides_in, part_by_sides, by_sides, all_settled}
+use Rattle.typing_laws.proofs.Alls.{all_append, all_at}
 use Rattle.typing_laws.proofs.Numbered.{AreWritten, FormulaIsNumbered, FormulasAreNumbered, TermIsNumbered, NodeIsNumbered, TermsAreNumbered, SummandsAreNumbered, AreTypes, SymbolsHaveTypes}
 
 -- ---- types below a count

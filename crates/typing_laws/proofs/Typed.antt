@@ -1,7 +1,6 @@
 -- The tree with the types of its variables is well typed, where what it demands is met.
-use Rattle.std.proofs.Common.{◌≡◌, ◌<◌, ◌⊎◌, inl, inr, ℕ, ℤ, pos, neg_ℤ, zero, suc, ◌+◌, Bool, true, false, not, ◌&&◌, is_some, List, [], ◌∷◌, ◌++◌, length, map, Option, None, Some, option_map, unwrap_or, slice_get, refl, sym, ap, subst, ◌∙◌, arith, length-append}
-use Rattle.std.specs.Prelude.{⊤, option_and_then}
-use Rattle.std.specs.List.{AllByRecursion}
+use Rattle.std.proofs.Common.{◌≡◌, ◌<◌, ◌⊎◌, inl, inr, ℕ, ℤ, pos, zero, suc, ◌+◌, true, false, ◌&&◌, is_some, List, [], ◌∷◌, ◌++◌, length, map, Option, None, Some, option_map, unwrap_or, slice_get, refl, sym, ap, subst, ◌∙◌, arith, length-append}
+use Rattle.std.specs.Prelude.{option_and_then}
 use Rattle.std.proofs.lemmas.Bool.{true≢false, not-false, and_parts}
 use Rattle.std.proofs.lemmas.List.{length-map}
 use Rattle.std.proofs.lemmas.Option.{slice_get-map}
@@ -13,13 +12,13 @@ use Rattle.kb_logic.specs.declared.vocabularies.Symbol.{Symbol}
 use Rattle.kb_logic.specs.declared.vocabularies.Vocabulary.{Vocabulary}
 use Rattle.kb_logic.specs.Trees as tree
 use Rattle.kb_logic.specs.Bounds.{types_of, value_type_of}
-use Rattle.kb_logic.specs.Typing.{IsNumberType, Sort, element_of, arithmetic, sort_of, IsNumeric, SortsAreAkin, SidesFit, IsIntegerSuch, IsElementBelow, HaveTypes, TermIsTyped, ArgumentsAreTyped, PlacesAreTyped, FactorsAreTyped, OperandsAreTyped, FormulaIsTyped, AllAreTyped, IsWellTyped}
+use Rattle.kb_logic.specs.Typing.{IsNumberType, Sort, element_of, arithmetic, sort_of, IsNumeric, SortsAreAkin, SidesFit, IsIntegerSuch, IsElementBelow, TermIsTyped, ArgumentsAreTyped, PlacesAreTyped, FactorsAreTyped, OperandsAreTyped, FormulaIsTyped, AllAreTyped}
 use Rattle.reading_stages.specs.Kinship.{is_under, is_number_type, are_akin}
-use Rattle.reading_stages.specs.Demands.{TermType, whole, declared, untyped, known, Kind, of_variable, by_itself, Demand, a_number, sides, predicate_argument, function_argument, Binding, Part, demand, scope, Parts, parts_of, binding_of, argument_types, value_type, kind_of, is_plain_integer, is_lone_integer, is_integer_term, number_demand, is_order, order_demands, comparison_demands, argument_of, argument_demands, later_types, formula_parts, formulas_parts, term_parts, node_parts, arguments_parts, factors_parts, summands_parts}
+use Rattle.reading_stages.specs.Demands.{TermType, whole, declared, known, Kind, of_variable, by_itself, Part, Parts, parts_of, argument_types, value_type, kind_of, is_plain_integer, is_lone_integer, is_integer_term, number_demand, comparison_demands, formula_parts, formulas_parts, term_parts, node_parts, arguments_parts, factors_parts, summands_parts}
 use Rattle.reading_stages.specs.NamedTrees.{NamedVar, NamedTerm, at, NamedNode, variable, integer, constructed, application, summation, product, aggregate, NamedTerms, no_terms, more_terms, NamedSummands, no_summands, more_summands, NamedFormula, truth, atom, comparison, negation, conjunction, disjunction, implication, equivalence, universal, existential, numbered, NamedFormulas, no_formulas, more_formulas}
 use Rattle.reading_stages.specs.Typing.{type_in}
 use Rattle.reading_stages.specs.TypedTrees.{typed_from, inside, typed_vars, aggregate_parts, integer_of, typed_formula, typed_formulas, typed_term, typed_node, typed_terms, typed_summands}
-use Rattle.reading_stages.specs.TypesStage.{is_no_number, are_apart, is_misplaced, is_unmet}
+use Rattle.reading_stages.specs.TypesStage.{is_no_number, are_apart, is_misplaced}
 use Rattle.typing_laws.proofs.Numbered.{number_of_terms, IsSum, FormulaIsNumbered, FormulasAreNumbered, TermIsNumbered, NodeIsNumbered, TermsAreNumbered, SummandsAreNumbered}
 use Rattle.typing_laws.proofs.Kin.{below, number_type, akin}
 use Rattle.typing_laws.proofs.MetDemands.{AreMet, met_left, met_right, scope_met}

@@ -1,11 +1,9 @@
 -- Where no row of the stage of names refuses a word, its number stands for what is declared.
-use Rattle.std.proofs.Common.{◌≡◌, ◌<◌, ◌==◌, ℕ, suc, ◌+◌, Bool, true, false, not, List, [], ◌∷◌, ◌++◌, length, map, Option, None, Some, option_map, refl, sym, ap, subst, ◌∙◌, arith, length-append, slice_get}
+use Rattle.std.proofs.Common.{◌≡◌, ◌<◌, ◌==◌, ℕ, ◌+◌, false, not, List, [], ◌∷◌, ◌++◌, length, map, Option, None, Some, option_map, refl, sym, ap, subst, ◌∙◌, arith, length-append, slice_get}
 use Rattle.std.specs.Prelude.{IfSome}
 use Rattle.std.specs.List.{AllByRecursion}
 use Rattle.std.proofs.lemmas.Bool.{true≢false, eqb-true, not-false}
 use Rattle.std.proofs.lemmas.List.{length-map}
-use Rattle.kb_logic.specs.declared.syntax.AggKind.TheVariants as kind
-use Rattle.kb_logic.specs.declared.vocabularies.TypeDecl.{TypeDecl}
 use Rattle.kb_logic.specs.declared.vocabularies.Symbol.{Symbol}
 use Rattle.kb_logic.specs.declared.vocabularies.Vocabulary.{Vocabulary}
 use Rattle.fo_syntax.specs.declared.terminal.Arrow.{Arrow}
@@ -16,10 +14,10 @@ use Rattle.fo_syntax.specs.Trees.{Name, Var, Vars, Formula, Links, Or, And, Unar
 use Rattle.reading_stages.specs.Scopes.{Text}
 use Rattle.reading_stages.specs.Files.{Declaration, type_under, constructed_type, symbol}
 use Rattle.reading_stages.specs.Names.{Meaning, undeclared, integers, naturals, a_type, predicate, function, made, variable, Names, meaning_of, meaning_at, text_of}
-use Rattle.reading_stages.specs.Uses.{Use, counted, bound, position, parent_uses, position_uses, uses_in_declarations, vars_in, var_name, var_type, var_text, uses_of_vars, within, Context, in_scope, inside, app_name, app_count, terms_count, number_uses, uses_in, uses_in_links, uses_in_or, uses_in_and, uses_in_unary, uses_in_prim, uses_in_term, uses_in_product, uses_in_factor, uses_in_arguments, uses_in_terms}
+use Rattle.reading_stages.specs.Uses.{counted, position, parent_uses, position_uses, uses_in_declarations, vars_in, var_type, var_text, uses_of_vars, within, in_scope, app_name, app_count, terms_count, number_uses, uses_in, uses_in_links, uses_in_or, uses_in_and, uses_in_unary, uses_in_prim, uses_in_term, uses_in_product, uses_in_factor, uses_in_arguments, uses_in_terms}
 use Rattle.reading_stages.specs.NamesStage.{is_undeclared, is_type, is_no_formula, is_no_term}
-use Rattle.reading_stages.specs.NamedTrees.{NamedVar, NamedTerm, at, NamedTerms, no_terms, more_terms, NamedSummands, no_summands, more_summands, NamedFormula, NamedFormulas, no_formulas, more_formulas, begun_at}
-use Rattle.reading_stages.specs.Numbering.{type_number_of, predicate_number, types_in, symbols_in, named_var, named_vars, counted_by, implies, implied_by, equivalent, grouped, node_of, named_formula, named_links, named_or, disjuncts, named_and, conjuncts, named_unary, named_prim, named_term, summands, named_product, factors, named_factor, named_arguments, named_terms}
+use Rattle.reading_stages.specs.NamedTrees.{NamedVar, NamedTerm, at, NamedTerms, more_summands, NamedFormula, begun_at}
+use Rattle.reading_stages.specs.Numbering.{type_number_of, predicate_number, symbols_in, named_var, named_vars, counted_by, implies, implied_by, equivalent, grouped, node_of, named_formula, named_links, named_or, disjuncts, named_and, conjuncts, named_unary, named_prim, named_term, summands, named_product, factors, named_factor, named_arguments, named_terms}
 use Rattle.typing_laws.proofs.Alls.{all_left, all_right}
 use Rattle.typing_laws.proofs.Meanings.{IsFine, AreFine, IsMeaning, word_means, kept, position_is}
 use Rattle.typing_laws.proofs.Numbered.{number_of_terms, IsSum, AreWritten, FormulaIsNumbered, FormulasAreNumbered, TermIsNumbered, NodeIsNumbered, TermsAreNumbered, SummandsAreNumbered, AreTypes}
