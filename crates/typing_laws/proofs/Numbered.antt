@@ -5,7 +5,12 @@ use Rattle.std.specs.List.{AllByRecursion}
 use Rattle.kb_logic.specs.declared.vocabularies.TypeDecl.{TypeDecl}
 use Rattle.kb_logic.specs.declared.vocabularies.Symbol.{Symbol}
 use Rattle.kb_logic.specs.declared.vocabularies.Vocabulary.{Vocabulary}
-use Rattle.reading_stages.specs.NamedTrees.{NamedVar, NamedTerm, at, NamedNode, variable, integer, constructed, application, summation, product, aggregate, NamedTerms, no_terms, more_terms, NamedSummands, no_summands, more_summands, NamedFormula, truth, atom, comparison, negation, conjunction, disjunction, implication, equivalence, universal, existential, numbered, NamedFormulas, no_formulas, more_formulas}
+use Rattle.reading_stages.specs.NamedTrees.{NamedVar, NamedTerm, at, NamedNode, variable, integer, constructed}
+use Rattle.reading_stages.specs.NamedTrees.{application, summation, product, aggregate, NamedTerms, no_terms}
+use Rattle.reading_stages.specs.NamedTrees.{more_terms, NamedSummands, no_summands, more_summands, NamedFormula, truth}
+use Rattle.reading_stages.specs.NamedTrees.{atom, comparison, negation, conjunction, disjunction, implication}
+use Rattle.reading_stages.specs.NamedTrees.{equivalence, universal, existential, numbered, NamedFormulas, no_formulas}
+use Rattle.reading_stages.specs.NamedTrees.{more_formulas}
 
 abbrev pub number_of_terms : NamedTerms → ℕ
 number_of_terms no_terms = 0
@@ -27,7 +32,8 @@ abbrev mutual
   pub FormulaIsNumbered : Vocabulary → ℕ → NamedFormula → Type 0
   FormulaIsNumbered v k (truth b) = ⊤
   FormulaIsNumbered v k (atom s us) =
-      (d : Symbol) × (slice_get v.symbols s ≡ Some d) × (d.value ≡ None) × (number_of_terms us ≡ length d.args) × TermsAreNumbered v k us
+      (d : Symbol) × (slice_get v.symbols s ≡ Some d) × (d.value ≡ None) × (number_of_terms us ≡ length d.args)
+      × TermsAreNumbered v k us
   FormulaIsNumbered v k (comparison c x y) = TermIsNumbered v k x × TermIsNumbered v k y
   FormulaIsNumbered v k (negation f) = FormulaIsNumbered v k f
   FormulaIsNumbered v k (conjunction fs) = FormulasAreNumbered v k fs
@@ -50,7 +56,8 @@ abbrev mutual
   NodeIsNumbered v k (integer i) = ⊤
   NodeIsNumbered v k (constructed t i) = (d : TypeDecl) × (slice_get v.types t ≡ Some d) × (i < length d.made)
   NodeIsNumbered v k (application s us) =
-      (d : Symbol) × (slice_get v.symbols s ≡ Some d) × (is_some d.value ≡ true) × (number_of_terms us ≡ length d.args) × TermsAreNumbered v k us
+      (d : Symbol) × (slice_get v.symbols s ≡ Some d) × (is_some d.value ≡ true) × (number_of_terms us ≡ length d.args)
+      × TermsAreNumbered v k us
   NodeIsNumbered v k (summation ss) = IsSum ss × SummandsAreNumbered v k ss
   NodeIsNumbered v k (product us) = TermsAreNumbered v k us
   NodeIsNumbered v k (aggregate how xs f w) =

@@ -6,7 +6,8 @@ use Rattle.kb_logic.specs.declared.vocabularies.Vocabulary.{Vocabulary}
 use Rattle.kb_logic.specs.KnownAtoms.{KnownAtoms}
 use Rattle.kb_logic.specs.Bases.{Base}
 use Rattle.kb_logic.specs.Trees.{TermTree}
-use Rattle.kb_logic.specs.Typing.{IsNumberType, IsNumeric, sort_of, TermIsTyped, IsWellTyped, IsTypedOver, TermIsTypedOver}
+use Rattle.kb_logic.specs.Typing.{IsNumberType, IsNumeric, sort_of, TermIsTyped, IsWellTyped, IsTypedOver}
+use Rattle.kb_logic.specs.Typing.{TermIsTypedOver}
 use Rattle.fo_syntax.specs.BlockTrees as raw
 use Rattle.reading_stages.specs.Files.{File}
 use Rattle.reading_stages.specs.Numbering.{NamedFile, IsNamed}
@@ -28,13 +29,15 @@ pub record IsWellTypedFile (f : TypedFile) : Type 0 where
 -- what the stages of names and types accept is well typed
 abbrev pub DerivedIsWellTyped : Type 0
 DerivedIsWellTyped =
-    (file : File) (named : NamedFile) (typed : TypedFile) → IsNamed file named → IsTyped named typed → IsWellTypedFile typed
+    (file : File) (named : NamedFile) (typed : TypedFile) → IsNamed file named → IsTyped named typed
+    → IsWellTypedFile typed
 
 -- the term is well typed over domains, and a number
 abbrev pub IsNumberOver : Vocabulary → List (List Elem) → TermTree → Type 0
 IsNumberOver v domains t = TermIsTypedOver v domains t [] × IsNumeric v (sort_of v t [])
 
--- each sentence of the theory is well typed over the data's domains, and so is each term that may be asked for, a number
+-- each sentence of the theory is well typed over the data's domains, and so is each term that may be asked for, a
+-- number
 pub record IsTypedBase (base : Base) : Type 0 where
   pub sentences : AllByRecursion (λ g. IsTypedOver base.vocabulary base.known.domains g []) base.theory.sentences
   pub definitions : base.theory.definitions ≡ []
