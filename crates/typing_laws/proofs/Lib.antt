@@ -9,3 +9,5 @@ mod Typed
 pub mod Derived
 mod Integers
 mod Accepted
+mod Names
+mod WellFormed

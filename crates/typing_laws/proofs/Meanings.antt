@@ -70,10 +70,10 @@ rest_whole whole i x e = let same : i ≡ 0 + i = omega arith in subst (λ (k : 
 
 -- ---- the words that are declared
 
-at_most : (t n : ℕ) → nat_lt n (t + 1) ≡ false → t < n
+pub at_most : (t n : ℕ) → nat_lt n (t + 1) ≡ false → t < n
 at_most t n h = grind (arith, nat_tests)
 
-no_more : (t n : ℕ) → nat_lt n t ≡ false → t ≤ n
+pub no_more : (t n : ℕ) → nat_lt n t ≡ false → t ≤ n
 no_more t n h = grind (arith, nat_tests)
 
 module _ (types : List TypeDecl) (symbols : List Symbol) (k : ℕ) where

@@ -3,4 +3,4 @@
 
 mod laws;
 
-pub use laws::{accepted_is_typed_over, derived_is_well_typed};
+pub use laws::{accepted_is_typed_over, derived_is_well_formed, derived_is_well_typed};
