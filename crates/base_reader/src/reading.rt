@@ -1,24 +1,24 @@
 //! The stages of reading, one after another.
 ghost use Rattle.std.specs.Prelude.{◌≡◌, Some, slice_get, IfErr, IfOk};
 ghost use Rattle.fo_syntax.specs.BlockView.{structure_view};
-ghost use Rattle.reading_stages.specs.FileBases.{base_of_file};
 ghost use Rattle.reading_stages.specs.FileView.{file_in};
 ghost use Rattle.type_derivation.specs.TypedViews.{typed_view};
-ghost use Rattle.def_ground.specs.Groundings.{IsGroundTheory};
 ghost use Rattle.base_reader.specs.FileMeanings.{FileMeans};
 ghost use Rattle.base_reader.specs.Readings.{choice, meaning_of, AreBlocksOf, DataOrSizes, FailsWith, HasTypedFile, IsSizedData, NamesOrTypes};
 
 use block_choice::{Picked, pick};
 use consult_base::KnowledgeBase;
+use file_bases::accepted_can_be_grounded;
 use fo_reader::read_kb;
 use fo_syntax::{KbError, RawKb, RawStructure};
-use kb_logic::{Memory, Name};
+use kb_logic::Name;
 use kb_names::resolve;
 use partial_structures::Partial;
 use std::alloc::Global;
 use reading_stages::files_are_their_blocks;
 use structure_reader::{measure, read_structure};
 use type_derivation::{TypedKb, derive};
+use typing_laws::{accepted_is_typed_over, derived_is_well_formed};
 
 /// The blocks of the file, and which theory and structure are chosen.
 fn read_blocks(
@@ -72,13 +72,6 @@ fn read_data(
     }
 }
 
-/// Until it is a law that what all stages accept is well typed.
-fn well_typed(typed: &TypedKb, theory: usize, known: &Partial) -> Result<(), Memory>
-    ensures { IfOk result (λ _. IsGroundTheory (base_of_file (typed_view typed.now) theory known.now)) }
-{
-    Err(Memory)
-}
-
 /// The knowledge base that the bytes of a file mean, with the theory and the structure of these names, or with the only
 /// ones; or the refusal of the first stage that refuses something.
 pub fn read_base(
@@ -91,6 +84,9 @@ pub fn read_base(
     ensures err { IfErr result (FailsWith (choice theory.entry structure.entry) bytes.now) }
 {
     files_are_their_blocks();
+    derived_is_well_formed();
+    accepted_is_typed_over();
+    accepted_can_be_grounded();
     let (raw, picked) = match read_blocks(alloc, bytes, theory, structure) {
         Ok(blocks) => blocks,
         Err(e) => return Err(e),
@@ -104,9 +100,6 @@ pub fn read_base(
         Ok(data) => data,
         Err(e) => return Err(e),
     };
-    if well_typed(&typed, picked.theory, &data).is_err() {
-        return Err(KbError::Memory);
-    }
     let Ok(name) = Name::new(alloc, structure.header.name.text.as_slice()) else {
         return Err(KbError::Memory);
     };

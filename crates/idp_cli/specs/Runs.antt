@@ -8,7 +8,7 @@ use Rattle.kb_io.specs.Outside.{Rose, GrewByName, KeptNames}
 use Rattle.kb_io.specs.ReadWrite.{AppendsPrefix}
 use Rattle.kb_text.specs.declared.fault.K.{K}
 use Rattle.consult_text.specs.States.{first_state}
-use Rattle.block_printer.specs.BlockTexts.{block_text}
+use Rattle.block_texts.specs.Texts.{block_text}
 use Rattle.base_reader.specs.FileMeanings.{Choice, Meaning, FileMeans, base_of_meaning}
 use Rattle.idp_cli.specs.Jobs.{Job, consult, check, file_of, Asks, IsUsage}
 use Rattle.idp_cli.specs.Files.{IfObservable, IsRefusedAt, refusal_text, usage_text}

@@ -10,8 +10,8 @@ ghost use Rattle.idp_cli.specs.Printing.{PrintsRefusal, PrintsText, PrintsUsage}
 ghost use Rattle.idp_cli.specs.Runs.{structure_text};
 
 use crate::status::Status;
-use block_printer::print_block;
 use consult_base::KnowledgeBase;
+use fo_printer::print_block;
 use kb_io::{Failed, Sink, write_all};
 use kb_logic::Memory;
 use kb_text::K;
@@ -61,7 +61,13 @@ fn structure_text(alloc: Global, kb: &KnowledgeBase) -> Result<Vec<u8>, Memory>
     ensures { IfOk result (λ text. text.items ≡ structure_text (meaning_of kb.now)) }
 {
     let mut text = Vec::new(alloc);
-    print_block(&mut text, kb.vocabulary(), kb.structure(), kb.data())?;
+    print_block(
+        alloc,
+        &mut text,
+        kb.vocabulary(),
+        kb.structure(),
+        kb.data(),
+    )?;
     Ok(text)
 }
 
