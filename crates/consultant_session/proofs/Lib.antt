@@ -2,4 +2,4 @@ pub mod MemberLemmas
 pub mod ElementLemmas
 pub mod LiteralLemmas
 pub mod ChoiceLemmas
-pub mod Answered
+pub mod KnownLemmas

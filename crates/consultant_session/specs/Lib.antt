@@ -1,4 +1,5 @@
 pub use Rattle.consult_text.specs.States
 pub use Rattle.consult_text.specs.RightReplies
+pub mod Queries
 pub mod Sessions
 pub mod Laws

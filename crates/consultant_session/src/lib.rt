@@ -4,6 +4,7 @@
 mod elements;
 pub mod laws;
 mod literals;
+mod queries;
 mod session;
 
 pub use session::Session;

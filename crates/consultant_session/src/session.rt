@@ -9,9 +9,9 @@ ghost use Rattle.consult_text.specs.RightReplies.{RightReply};
 ghost use Rattle.consult_text.specs.States.{state_after};
 
 use crate::literals::{is_among, is_known, remove};
+use crate::queries::{Found, find_model};
 use consult_base::KnowledgeBase;
 use consult_text::{Command, F, Reply};
-use ground_task::{Answer, Budget, Halt, Task};
 use kb_logic::{Literal, LiteralList, Memory};
 use std::alloc::Global;
 use std::marker::Model;
@@ -134,21 +134,14 @@ impl Session {
         Reply::Fine
     }
 
-    /// A model is sought by a task of its own, so that nothing is kept from one query to the next.
+    /// A model is sought afresh, so that nothing is kept from one query to the next.
     fn model(&self) -> Result<Reply, Memory>
         ensures { IfOk result (λ reply. RightReply (base_of self.now.kb) self.now.state command.Model reply) }
     {
-        let kb = &self.kb;
-        let mut task = Task::open(self.alloc, kb.typed(), kb.theory(), kb.data())?;
-        let mut budget = Budget {
-            limit: self.budget,
-            spent: 0,
-        };
-        match task.ask(self.choices.as_slice(), &mut budget) {
-            Ok(Answer::Model(m)) => Ok(Reply::Model(m)),
-            Ok(Answer::NoModel(_)) => Ok(Reply::Inconsistent),
-            Err(Halt::Spent) => Ok(Reply::Undecided(budget.spent)),
-            Err(Halt::Memory) => Err(Memory),
+        match find_model(self.alloc, &self.kb, self.choices.as_slice(), self.budget)? {
+            Found::Model(m) => Ok(Reply::Model(m)),
+            Found::NoModel => Ok(Reply::Inconsistent),
+            Found::Spent(budget) => Ok(Reply::Undecided(budget)),
         }
     }
 }
