@@ -31,6 +31,11 @@ use Rattle.reading_stages.specs.NamesStage.{NamesRefuse}
 use Rattle.reading_stages.specs.Files.{Header, TheoryBlock}
 use Rattle.reading_stages.specs.FileTrees.{structure_of}
 use Rattle.base_reader.specs.FileMeanings.{Choice, Picked, Meaning, HasBlocks, HasNames, HasTypes, FileMeans, IsRefused}
+use Rattle.type_derivation.specs.TypedViews.{typed_view, named_theory_view}
+use Rattle.type_derivation.specs.declared.typed.TypedKb.{TypedKb}
+use Rattle.typing_laws.specs.Vocabularies.{DerivedIsWellFormed}
+use Rattle.file_bases.specs.FileLaws.{AcceptedCanBeGrounded}
+use Rattle.consult_base.specs.Opened.{opened, IsKnowledgeBase}
 use Rattle.base_reader.proofs.Facts.{chosen_within, theories_many, read_map}
 use Rattle.base_reader.specs.FileMeanings as refused
 use Rattle.base_reader.specs.Readings.{AreBlocksOf, FailsWith, HasTypedFile, NamesOrTypes, IsSizedData, DataOrSizes}
@@ -61,7 +66,7 @@ module _ (same : FilesAreTheirBlocks) where
       read = read.1;
       picked = subst (λ (f : File). IsPicked f c.theory c.structure t s) (same read.0 (length bytes) kb read.2) h;
     };
-    kb = read.2;
+    is = read.2;
   }
 
 -- the stage of names fails
@@ -87,10 +92,10 @@ sizes_fail f theory s known (Refused q) is h = inr (known, is, h)
 
 module _ (same : FilesAreTheirBlocks) (c : Choice) (bytes : List ℕ) (kb : RawKb) (t s : ℕ) (blocks : AreBlocksOf c bytes kb t s) where
   at_blocks : file_in kb ≡ file_of blocks.blocks (length bytes)
-  at_blocks = same blocks.blocks (length bytes) kb blocks.kb
+  at_blocks = same blocks.blocks (length bytes) kb blocks.is
 
   has_names : (named : NamedFile) → IsNamed (file_in kb) named → HasNames c bytes blocks.blocks t s named
-  has_names named is = record { blocks = blocks.has; named = subst (λ (f : File). IsNamed f named) at_blocks is }
+  has_names named is = record { has = blocks.has; is = subst (λ (f : File). IsNamed f named) at_blocks is }
 
   -- the stage of names or that of types refuses the file
   pub types_refused : (e : KbError) → NamesOrTypes (file_in kb) e → FailsWith c bytes e
@@ -103,7 +108,7 @@ module _ (same : FilesAreTheirBlocks) (c : Choice) (bytes : List ℕ) (kb : RawK
   structure_there : (x : RawStructure) → slice_get kb.structures s ≡ Some x
       → slice_get (filter_map as_structure blocks.blocks) s ≡ Some (structure_view x)
   structure_there x at =
-      subst (λ (xs : List raw.Structure). slice_get xs s ≡ Some (structure_view x)) blocks.kb.structures
+      subst (λ (xs : List raw.Structure). slice_get xs s ≡ Some (structure_view x)) blocks.is.structures
       (read_map structure_view kb.structures s x at)
 
   has_types : (typed : TypedFile) (x : RawStructure) → HasTypedFile (file_in kb) typed → slice_get kb.structures s ≡ Some x
@@ -147,7 +152,7 @@ module _ (same : FilesAreTheirBlocks) (c : Choice) (bytes : List ℕ) (kb : RawK
         within,
         length-map (map structure_of (filter_map as_structure blocks.blocks)) (λ (h : Header). h.name),
         length-map (filter_map as_structure blocks.blocks) structure_of,
-        ap length blocks.kb.structures,
+        ap length blocks.is.structures,
         length-map kb.structures structure_view,
       )
 
@@ -163,3 +168,14 @@ module _ (same : FilesAreTheirBlocks) (c : Choice) (bytes : List ℕ) (kb : RawK
         ap (λ (f : File). length f.theories) at_blocks,
         length-map (file_of blocks.blocks (length bytes)).theories (λ (b : TheoryBlock). b.header.name),
       )
+
+  -- what is opened is a knowledge base
+  pub is_opened : AcceptedCanBeGrounded → DerivedIsWellFormed → (typed : TypedKb) (x : RawStructure) (known : KnownAtoms) (title : Text)
+      → HasTypedFile (file_in kb) (typed_view typed) → IsSizedData (typed_view typed) t (structure_view x) known
+      → IsKnowledgeBase (opened typed t title known)
+  is_opened grounded formed typed x known title is sized = record {
+    theory = omega (arith, theory_within (typed_view typed) is, length-map typed.theories named_theory_view);
+    ground = (grounded (file_in kb) is.0 (typed_view typed) is.1 is.2 t (structure_view x) known sized.given).0;
+    sized = sized.sized;
+    numbered = (formed (file_in kb) is.0 (typed_view typed) is.1 is.2).few_symbols;
+  }

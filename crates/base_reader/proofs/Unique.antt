@@ -107,12 +107,12 @@ module _ (one : (src : List ℕ) (r s : Result (List Block) KbFault) → KbReads
 
   named_one : (bs bs' : List Block) (t s t' s' : ℕ) (n n' : NamedFile) → HasNames c bytes bs t s n → HasNames c bytes bs' t' s' n' → n ≡ n'
   named_one bs bs' t s t' s' n n' h h' =
-      h.named.tree ∙ (ap named_of (blocks_one bs bs' h.blocks.read h'.blocks.read) ∙ sym h'.named.tree)
+      h.is.tree ∙ (ap named_of (blocks_one bs bs' h.has.read h'.has.read) ∙ sym h'.is.tree)
 
   picked_one : (p p' : Picked) → HasTypes c bytes p → HasTypes c bytes p' → p ≡ p'
   picked_one p p' h h' =
-      let b = h.names.blocks in
-      let b' = h'.names.blocks in
+      let b = h.names.has in
+      let b' = h'.names.has in
       let typed : p.file ≡ p'.file =
       h.typed.tree ∙ (ap typed_file (named_one h.blocks h'.blocks p.theory h.number p'.theory h'.number h.named h'.named h.names h'.names) ∙ sym h'.typed.tree) in
       let theory = theory_one h.blocks h'.blocks p.theory h.number p'.theory h'.number b b' in
@@ -153,7 +153,7 @@ module _ (one : (src : List ℕ) (r s : Result (List Block) KbFault) → KbReads
   names_clash : {A : Type 0} (bs bs' : List Block) (t s t' s' : ℕ) (n : NamedFile) (q : KbFault) → HasBlocks c bytes bs t s
       → IsEarliest (NamesRefuse (file bs)) q → HasNames c bytes bs' t' s' n → A
   names_clash bs bs' t s t' s' n q h fails h' =
-      absurd (h'.named.accepted q (subst (λ (b : List Block). NamesRefuse (file b) q) (blocks_one bs bs' h.read h'.blocks.read) fails.refused))
+      absurd (h'.is.accepted q (subst (λ (b : List Block). NamesRefuse (file b) q) (blocks_one bs bs' h.read h'.has.read) fails.refused))
 
   types_clash : {A : Type 0} (bs : List Block) (t s : ℕ) (n : NamedFile) (p : Picked) (q : KbFault) → HasNames c bytes bs t s n
       → IsEarliest (TypesRefuse n) q → HasTypes c bytes p → A
@@ -174,8 +174,8 @@ module _ (one : (src : List ℕ) (r s : Result (List Block) KbFault) → KbReads
   -- ---- a refused file means nothing
 
   pub never_both : (m : Meaning) (q : KbFault) → FileMeans c bytes m → IsRefused c bytes q → ⊥
-  never_both m q h (refused.text r read) = text_clash r h.typed.blocks read h.typed.names.blocks.read
-  never_both m q h (refused.blocks bs r read fails) = blocks_clash bs h.typed.blocks m.theory h.typed.number r read fails h.typed.names.blocks
+  never_both m q h (refused.text r read) = text_clash r h.typed.blocks read h.typed.names.has.read
+  never_both m q h (refused.blocks bs r read fails) = blocks_clash bs h.typed.blocks m.theory h.typed.number r read fails h.typed.names.has
   never_both m q h (refused.names bs t s r has fails) = names_clash bs h.typed.blocks t s m.theory h.typed.number h.typed.named r has fails h.typed.names
   never_both m q h (refused.types bs t s n r has fails) = types_clash bs t s n (picked_in m h) r has fails h.typed
   never_both m q h (refused.entries p r has fails) = entries_clash p (picked_in m h) m.known r has fails h.typed h.given
@@ -193,16 +193,16 @@ module _ (one : (src : List ℕ) (r s : Result (List Block) KbFault) → KbReads
   refusal_one q r (refused.text q' a) (refused.text r' b) = let e = one bytes (Err q) (Err r) a b in cc
   refusal_one q r (refused.text q' a) (refused.blocks bs r' b fails) = text_clash q bs a b
   refusal_one q r (refused.text q' a) (refused.names bs t s r' b fails) = text_clash q bs a b.read
-  refusal_one q r (refused.text q' a) (refused.types bs t s n r' b fails) = text_clash q bs a b.blocks.read
-  refusal_one q r (refused.text q' a) (refused.entries p r' b fails) = text_clash q b.blocks a b.names.blocks.read
-  refusal_one q r (refused.text q' a) (refused.sizes p m r' b is fails) = text_clash q b.blocks a b.names.blocks.read
+  refusal_one q r (refused.text q' a) (refused.types bs t s n r' b fails) = text_clash q bs a b.has.read
+  refusal_one q r (refused.text q' a) (refused.entries p r' b fails) = text_clash q b.blocks a b.names.has.read
+  refusal_one q r (refused.text q' a) (refused.sizes p m r' b is fails) = text_clash q b.blocks a b.names.has.read
   refusal_one q r (refused.blocks bs q' a fails) (refused.text r' b) = text_clash r bs b a
   refusal_one q r (refused.blocks bs q' a fails) (refused.blocks bs' r' b fails') =
       one_earliest _ q r (subst (λ (x : List Block). BlocksFail x q) (blocks_one bs bs' a b) fails) fails'
   refusal_one q r (refused.blocks bs q' a fails) (refused.names bs' t s r' b fails') = blocks_clash bs bs' t s q a fails b
-  refusal_one q r (refused.blocks bs q' a fails) (refused.types bs' t s n r' b fails') = blocks_clash bs bs' t s q a fails b.blocks
-  refusal_one q r (refused.blocks bs q' a fails) (refused.entries p r' b fails') = blocks_clash bs b.blocks p.theory b.number q a fails b.names.blocks
-  refusal_one q r (refused.blocks bs q' a fails) (refused.sizes p m r' b is fails') = blocks_clash bs b.blocks p.theory b.number q a fails b.names.blocks
+  refusal_one q r (refused.blocks bs q' a fails) (refused.types bs' t s n r' b fails') = blocks_clash bs bs' t s q a fails b.has
+  refusal_one q r (refused.blocks bs q' a fails) (refused.entries p r' b fails') = blocks_clash bs b.blocks p.theory b.number q a fails b.names.has
+  refusal_one q r (refused.blocks bs q' a fails) (refused.sizes p m r' b is fails') = blocks_clash bs b.blocks p.theory b.number q a fails b.names.has
   refusal_one q r (refused.names bs t s q' a fails) (refused.text r' b) = text_clash r bs b a.read
   refusal_one q r (refused.names bs t s q' a fails) (refused.blocks bs' r' b fails') = blocks_clash bs' bs t s r b fails' a
   refusal_one q r (refused.names bs t s q' a fails) (refused.names bs' t' s' r' b fails') =
@@ -210,22 +210,22 @@ module _ (one : (src : List ℕ) (r s : Result (List Block) KbFault) → KbReads
   refusal_one q r (refused.names bs t s q' a fails) (refused.types bs' t' s' n r' b fails') = names_clash bs bs' t s t' s' n q a fails b
   refusal_one q r (refused.names bs t s q' a fails) (refused.entries p r' b fails') = names_clash bs b.blocks t s p.theory b.number b.named q a fails b.names
   refusal_one q r (refused.names bs t s q' a fails) (refused.sizes p m r' b is fails') = names_clash bs b.blocks t s p.theory b.number b.named q a fails b.names
-  refusal_one q r (refused.types bs t s n q' a fails) (refused.text r' b) = text_clash r bs b a.blocks.read
-  refusal_one q r (refused.types bs t s n q' a fails) (refused.blocks bs' r' b fails') = blocks_clash bs' bs t s r b fails' a.blocks
+  refusal_one q r (refused.types bs t s n q' a fails) (refused.text r' b) = text_clash r bs b a.has.read
+  refusal_one q r (refused.types bs t s n q' a fails) (refused.blocks bs' r' b fails') = blocks_clash bs' bs t s r b fails' a.has
   refusal_one q r (refused.types bs t s n q' a fails) (refused.names bs' t' s' r' b fails') = names_clash bs' bs t' s' t s n r b fails' a
   refusal_one q r (refused.types bs t s n q' a fails) (refused.types bs' t' s' n' r' b fails') =
       one_earliest _ q r (subst (λ (x : NamedFile). IsEarliest (TypesRefuse x) q) (named_one bs bs' t s t' s' n n' a b) fails) fails'
   refusal_one q r (refused.types bs t s n q' a fails) (refused.entries p r' b fails') = types_clash bs t s n p q a fails b
   refusal_one q r (refused.types bs t s n q' a fails) (refused.sizes p m r' b is fails') = types_clash bs t s n p q a fails b
-  refusal_one q r (refused.entries p q' a fails) (refused.text r' b) = text_clash r a.blocks b a.names.blocks.read
-  refusal_one q r (refused.entries p q' a fails) (refused.blocks bs r' b fails') = blocks_clash bs a.blocks p.theory a.number r b fails' a.names.blocks
+  refusal_one q r (refused.entries p q' a fails) (refused.text r' b) = text_clash r a.blocks b a.names.has.read
+  refusal_one q r (refused.entries p q' a fails) (refused.blocks bs r' b fails') = blocks_clash bs a.blocks p.theory a.number r b fails' a.names.has
   refusal_one q r (refused.entries p q' a fails) (refused.names bs t s r' b fails') = names_clash bs a.blocks t s p.theory a.number a.named r b fails' a.names
   refusal_one q r (refused.entries p q' a fails) (refused.types bs t s n r' b fails') = types_clash bs t s n p r b fails' a
   refusal_one q r (refused.entries p q' a fails) (refused.entries p' r' b fails') =
       one_earliest _ q r (subst (λ (x : Picked). IsEarliest (StructureRefuses x.file x.theory x.structure) q) (picked_one p p' a b) fails) fails'
   refusal_one q r (refused.entries p q' a fails) (refused.sizes p' m r' b is fails') = entries_clash p p' m q a fails b is
-  refusal_one q r (refused.sizes p m q' a is fails) (refused.text r' b) = text_clash r a.blocks b a.names.blocks.read
-  refusal_one q r (refused.sizes p m q' a is fails) (refused.blocks bs r' b fails') = blocks_clash bs a.blocks p.theory a.number r b fails' a.names.blocks
+  refusal_one q r (refused.sizes p m q' a is fails) (refused.text r' b) = text_clash r a.blocks b a.names.has.read
+  refusal_one q r (refused.sizes p m q' a is fails) (refused.blocks bs r' b fails') = blocks_clash bs a.blocks p.theory a.number r b fails' a.names.has
   refusal_one q r (refused.sizes p m q' a is fails) (refused.names bs t s r' b fails') = names_clash bs a.blocks t s p.theory a.number a.named r b fails' a.names
   refusal_one q r (refused.sizes p m q' a is fails) (refused.types bs t s n r' b fails') = types_clash bs t s n p r b fails' a
   refusal_one q r (refused.sizes p m q' a is fails) (refused.entries p' r' b fails') = entries_clash p' p m r b fails' a is

@@ -50,8 +50,8 @@ pub record HasBlocks (c : Choice) (bytes : List ℕ) (blocks : List Block) (theo
 
 -- the stage of names accepts too
 pub record HasNames (c : Choice) (bytes : List ℕ) (blocks : List Block) (theory structure : ℕ) (named : NamedFile) : Type 0 where
-  pub blocks : HasBlocks c bytes blocks theory structure
-  pub named : IsNamed (file_of blocks (length bytes)) named
+  pub has : HasBlocks c bytes blocks theory structure
+  pub is : IsNamed (file_of blocks (length bytes)) named
 
 -- and so does the stage of types
 pub record HasTypes (c : Choice) (bytes : List ℕ) (p : Picked) : Type 0 where

@@ -40,7 +40,7 @@ FailsWith c bytes (Refused q) = IsRefused c bytes q
 pub record AreBlocksOf (c : Choice) (bytes : List ℕ) (kb : RawKb) (theory structure : ℕ) : Type 0 where
   pub blocks : List Block
   pub has : HasBlocks c bytes blocks theory structure
-  pub kb : IsKb blocks (length bytes) kb
+  pub is : IsKb blocks (length bytes) kb
 
 -- the file has these types
 abbrev pub HasTypedFile : File → TypedFile → Type 0

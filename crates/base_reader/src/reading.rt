@@ -1,5 +1,5 @@
 //! The stages of reading, one after another.
-ghost use Rattle.std.specs.Prelude.{◌≡◌, Some, slice_get, IfErr, IfOk};
+ghost use Rattle.std.specs.Prelude.{◌≡◌, ◌<◌, Some, length, slice_get, IfErr, IfOk};
 ghost use Rattle.fo_syntax.specs.BlockView.{structure_view};
 ghost use Rattle.reading_stages.specs.FileView.{file_in};
 ghost use Rattle.type_derivation.specs.TypedViews.{typed_view};
@@ -14,8 +14,8 @@ use fo_syntax::{KbError, RawKb, RawStructure};
 use kb_logic::Name;
 use kb_names::resolve;
 use partial_structures::Partial;
-use std::alloc::Global;
 use reading_stages::files_are_their_blocks;
+use std::alloc::Global;
 use structure_reader::{measure, read_structure};
 use type_derivation::{TypedKb, derive};
 use typing_laws::{accepted_is_typed_over, derived_is_well_formed};
@@ -72,6 +72,14 @@ fn read_data(
     }
 }
 
+/// The structure of this number.
+fn structure_at(raw: &RawKb, number: usize) -> &RawStructure
+    requires { number < length raw.now.structures }
+    ensures { slice_get raw.now.structures number ≡ Some result.now }
+{
+    &raw.structures.as_slice()[number]
+}
+
 /// The knowledge base that the bytes of a file mean, with the theory and the structure of these names, or with the only
 /// ones; or the refusal of the first stage that refuses something.
 pub fn read_base(
@@ -88,14 +96,14 @@ pub fn read_base(
     accepted_is_typed_over();
     accepted_can_be_grounded();
     let (raw, picked) = match read_blocks(alloc, bytes, theory, structure) {
-        Ok(blocks) => blocks,
+        Ok(found) => found,
         Err(e) => return Err(e),
     };
     let typed = match read_types(alloc, &raw) {
         Ok(typed) => typed,
         Err(e) => return Err(e),
     };
-    let structure = &raw.structures.as_slice()[picked.structure];
+    let structure = structure_at(&raw, picked.structure);
     let data = match read_data(alloc, &typed, picked.theory, structure) {
         Ok(data) => data,
         Err(e) => return Err(e),
