@@ -5,6 +5,7 @@ mod copies;
 mod devices;
 mod faults;
 mod files;
+mod jobs;
 mod lines;
 mod paced;
 mod reply_texts;

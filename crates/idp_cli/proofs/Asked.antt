@@ -44,8 +44,8 @@ one_given (word ∷ (value ∷ words)) g a b h k =
 
 -- a command line has one command, one file and gives one thing
 pub record AreOne (command command' file file' : List ℕ) (a b : Given) : Type 0 where
-  pub command : command ≡ command'
-  pub file : file ≡ file'
+  pub same_command : command ≡ command'
+  pub same_file : file ≡ file'
   pub given : a ≡ b
 
 first_of : {x y : List ℕ} {xs ys : List (List ℕ)} → x ∷ xs ≡ y ∷ ys → x ≡ y
@@ -57,11 +57,11 @@ rest_of e = cc
 pub one_line : (words : List (List ℕ)) (command command' file file' : List ℕ) (a b : Given) → IsCommandLine words command file a
     → IsCommandLine words command' file' b → AreOne command command' file file' a b
 one_line words command command' file file' a b h k =
-    let all : command ∷ (file ∷ h.options) ≡ command' ∷ (file' ∷ k.options) = sym h.words ∙ k.words in
+    let all : command ∷ (file ∷ h.options) ≡ command' ∷ (file' ∷ k.options) = sym h.spelled ∙ k.spelled in
     let tails = rest_of all in
     record {
-      command = first_of all;
-      file = first_of tails;
+      same_command = first_of all;
+      same_file = first_of tails;
       given = one_given k.options nothing_given a b (subst (λ (ws : List (List ℕ)). Gives nothing_given ws a) (rest_of tails) h.given) k.given;
     }
 
@@ -69,17 +69,17 @@ no_other : (words : List (List ℕ)) (file file' : List ℕ) (a b : Given) → I
     → IsCommandLine words (codes "check") file' b → ⊥
 no_other words file file' a b h k =
     let one = one_line words (codes "consult") (codes "check") file file' a b h k in
-    apart (codes "consult") (codes "consult") (codes "check") refl refl one.command
+    apart (codes "consult") (codes "consult") (codes "check") refl refl one.same_command
 
 pub one_job : (words : List (List ℕ)) (a b : Job) → Asks words a → Asks words b → a ≡ b
 one_job words (consult file c budget) (consult file' c' budget') h k =
     let one = one_line words (codes "consult") (codes "consult") file file' h.0 k.0 h.1 k.1 in
     let choice : c ≡ c' = h.2 ∙ (ap choice_in one.given ∙ sym k.2) in
     let first : budget ≡ budget' = h.3 ∙ (ap (λ (g : Given). budget_given g.budget) one.given ∙ sym k.3) in
-    λ i. consult (one.file i) (choice i) (first i)
+    λ i. consult (one.same_file i) (choice i) (first i)
 one_job words (consult file c budget) (check file' c') h k = absurd (no_other words file file' h.0 k.0 h.1 k.1)
 one_job words (check file c) (consult file' c' budget') h k = absurd (no_other words file' file k.0 h.0 k.1 h.1)
 one_job words (check file c) (check file' c') h k =
     let one = one_line words (codes "check") (codes "check") file file' h.0 k.0 h.1 k.1 in
     let choice : c ≡ c' = h.2 ∙ (ap choice_in one.given ∙ sym k.2) in
-    λ i. check (one.file i) (choice i)
+    λ i. check (one.same_file i) (choice i)

@@ -73,8 +73,8 @@ budget_given (Some b) = b
 -- what the words say: a command, a file, which is no option, and options
 pub record IsCommandLine (words : List (List ℕ)) (command file : List ℕ) (g : Given) : Type 0 where
   pub options : List (List ℕ)
-  pub words : words ≡ command ∷ (file ∷ options)
-  pub file : is_option file ≡ false
+  pub spelled : words ≡ command ∷ (file ∷ options)
+  pub plain : is_option file ≡ false
   pub given : Gives nothing_given options g
 
 -- the words ask this: `consult FILE` with options, or `check FILE` with options but for a budget

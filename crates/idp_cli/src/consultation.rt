@@ -55,11 +55,7 @@ impl Model for Consultant {
 
 impl Consultant {
     /// No line was read.
-    pub fn open(
-        alloc: Global,
-        kb: KnowledgeBase,
-        budget: Option<u64>,
-    ) -> Result<Consultant, Memory>
+    pub fn open(alloc: Global, kb: KnowledgeBase, budget: Option<u64>) -> Result<Consultant, Memory>
         ensures { IfOk result (λ consultant. consultant ≡ just_opened kb budget) }
     {
         let session = Session::open(alloc, kb, budget);

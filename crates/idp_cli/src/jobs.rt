@@ -74,7 +74,7 @@ fn budget_in(text: &str) -> Option<Option<u64>>
 
 /// What is given with this theory's name.
 fn with_theory<'a>(given: Given<'a>, name: &'a str) -> Option<Given<'a>>
-    ensures { MatchOption result ((next : asked.Given) → AddsTheory (given_view given) name.now next → ⊥) (λ all. AddsTheory (given_view given) name.now (given_view all)) }
+    ensures { MatchOption result ((next : asked.Given) → AddsTheory (given_view given.entry) name.now next → ⊥) (λ all. AddsTheory (given_view given.entry) name.now (given_view all)) }
 {
     if given.options.theory.is_some() {
         return None;
@@ -93,7 +93,7 @@ fn with_theory<'a>(given: Given<'a>, name: &'a str) -> Option<Given<'a>>
 
 /// What is given with this structure's name.
 fn with_structure<'a>(given: Given<'a>, name: &'a str) -> Option<Given<'a>>
-    ensures { MatchOption result ((next : asked.Given) → AddsStructure (given_view given) name.now next → ⊥) (λ all. AddsStructure (given_view given) name.now (given_view all)) }
+    ensures { MatchOption result ((next : asked.Given) → AddsStructure (given_view given.entry) name.now next → ⊥) (λ all. AddsStructure (given_view given.entry) name.now (given_view all)) }
 {
     if given.options.structure.is_some() {
         return None;
@@ -112,7 +112,7 @@ fn with_structure<'a>(given: Given<'a>, name: &'a str) -> Option<Given<'a>>
 
 /// What is given with this budget.
 fn with_budget<'a>(given: Given<'a>, text: &str) -> Option<Given<'a>>
-    ensures { MatchOption result ((next : asked.Given) → AddsBudget (given_view given) text.now next → ⊥) (λ all. AddsBudget (given_view given) text.now (given_view all)) }
+    ensures { MatchOption result ((next : asked.Given) → AddsBudget (given_view given.entry) text.now next → ⊥) (λ all. AddsBudget (given_view given.entry) text.now (given_view all)) }
 {
     if given.budget.is_some() {
         return None;
@@ -128,7 +128,7 @@ fn with_budget<'a>(given: Given<'a>, text: &str) -> Option<Given<'a>>
 
 /// What is given with this option and its value.
 fn added<'a>(given: Given<'a>, option: &str, value: &'a str) -> Option<Given<'a>>
-    ensures { MatchOption result ((next : asked.Given) → Adds (given_view given) option.now value.now next → ⊥) (λ all. Adds (given_view given) option.now value.now (given_view all)) }
+    ensures { MatchOption result ((next : asked.Given) → Adds (given_view given.entry) option.now value.now next → ⊥) (λ all. Adds (given_view given.entry) option.now value.now (given_view all)) }
 {
     match option {
         "--theory" => with_theory(given, value),

@@ -60,7 +60,7 @@ fn knowledge_base(
     options: Options<'_>,
 ) -> Result<KnowledgeBase, LoadError>
     requires { length bytes.now ≤ most_bytes }
-    ensures { Takes (choice_view options) result bytes.now }
+    ensures { Takes (choice_view options.entry) result bytes.now }
 {
     match read_base(alloc, bytes, options.theory, options.structure) {
         Ok(kb) => Ok(kb),
@@ -79,7 +79,7 @@ pub fn load<H: Shelf>(
     name: &str,
     options: Options<'_>,
 ) -> Result<KnowledgeBase, LoadError>
-    ensures loaded { Loads (choice_view options) result (H.file shelf.old name.now) (H.faults shelf.old) (H.faults shelf.new) }
+    ensures loaded { Loads (choice_view options.entry) result (H.file shelf.old name.now) (H.faults shelf.old) (H.faults shelf.new) }
     ensures asked { GrewByName (H.asked shelf.old) (H.asked shelf.new) name.now }
     ensures closed { KeptNumber (H.open_sources shelf.old) (H.open_sources shelf.new) }
 {

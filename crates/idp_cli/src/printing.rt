@@ -61,13 +61,7 @@ fn structure_text(alloc: Global, kb: &KnowledgeBase) -> Result<Vec<u8>, Memory>
     ensures { IfOk result (λ text. text.items ≡ structure_text (meaning_of kb.now)) }
 {
     let mut text = Vec::new(alloc);
-    print_block(
-        alloc,
-        &mut text,
-        kb.vocabulary(),
-        kb.structure(),
-        kb.data(),
-    )?;
+    print_block(alloc, &mut text, kb.vocabulary(), kb.structure(), kb.data())?;
     Ok(text)
 }
 

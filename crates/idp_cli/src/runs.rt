@@ -48,7 +48,7 @@ fn consult<H: Shelf, C: Source, W: Sink>(
     commands: &mut C,
     out: &mut W,
 ) -> Status
-    ensures ends { ConsultationEnds result name.now (choice_view options) budget
+    ensures ends { ConsultationEnds result name.now (choice_view options.entry) budget
         (outside (H.file shelf.old) (H.faults shelf.old)
         (streams (C.left commands.old) (C.faults commands.old) (W.holds out.old) (W.faults out.old)))
         (outside (H.file shelf.new) (H.faults shelf.new)
@@ -73,7 +73,7 @@ fn check<H: Shelf, W: Sink>(
     shelf: &mut H,
     out: &mut W,
 ) -> Status
-    ensures ends { (script : Option (List ℕ)) (script_faults : ℕ) → CheckEnds result name.now (choice_view options)
+    ensures ends { (script : Option (List ℕ)) (script_faults : ℕ) → CheckEnds result name.now (choice_view options.entry)
         (outside (H.file shelf.old) (H.faults shelf.old)
         (streams script script_faults (W.holds out.old) (W.faults out.old)))
         (outside (H.file shelf.new) (H.faults shelf.new)

@@ -1,9 +1,8 @@
 //! What command lines are read as.
-ghost use Rattle.std.specs.Prelude.{◌≡◌, length};
 
 use super::samples::base;
+use consult_base::KnowledgeBase;
 use consult_text::{Command, CommandError, read_command};
-use kb_logic::first::FirstKb;
 use kb_logic::{Elem, ExtInt, Literal, Memory, decimal};
 use std::alloc::Global;
 use std::test::Fail;
@@ -32,6 +31,14 @@ fn show_literal(out: &mut Vec<u8>, literal: &Literal) -> Result<(), Memory> {
     Ok(())
 }
 
+fn show_budget(out: &mut Vec<u8>, budget: u64) -> Result<(), Memory> {
+    out.extend_from_slice(b"budget ")?;
+    match i64::try_from(budget) {
+        Ok(budget) => decimal(out, ExtInt::Num(budget)),
+        Err(_) => Ok(()),
+    }
+}
+
 pub(super) fn show_command(out: &mut Vec<u8>, command: &Command) -> Result<(), Memory> {
     match command {
         Command::Assert(literal) => {
@@ -45,13 +52,15 @@ pub(super) fn show_command(out: &mut Vec<u8>, command: &Command) -> Result<(), M
         Command::Reset => out.extend_from_slice(b"reset")?,
         Command::Choices => out.extend_from_slice(b"choices")?,
         Command::Model => out.extend_from_slice(b"model")?,
+        Command::Budget(None) => out.extend_from_slice(b"unlimited")?,
+        Command::Budget(Some(budget)) => show_budget(out, *budget)?,
+        Command::Forget => out.extend_from_slice(b"forget")?,
     }
     Ok(())
 }
 
 /// What the line is read as.
-fn shown(alloc: Global, line: &[u8], kb: &FirstKb) -> Result<Vec<u8>, Memory>
-    requires { length kb.now.vocab.symbols ≡ 5 }
+fn shown(alloc: Global, line: &[u8], kb: &KnowledgeBase) -> Result<Vec<u8>, Memory>
 {
     let mut out = Vec::new(alloc);
     match read_command(alloc, line, kb) {
@@ -64,13 +73,12 @@ fn shown(alloc: Global, line: &[u8], kb: &FirstKb) -> Result<Vec<u8>, Memory>
 }
 
 /// Whether the line is read as this.
-fn is_read_as(alloc: Global, kb: &FirstKb, line: &[u8], wanted: &[u8]) -> Result<bool, Memory>
-    requires { length kb.now.vocab.symbols ≡ 5 }
+fn is_read_as(alloc: Global, kb: &KnowledgeBase, line: &[u8], wanted: &[u8]) -> Result<bool, Memory>
 {
     Ok(shown(alloc, line, kb)?.as_slice() == wanted)
 }
 
-const COMMANDS: [(&[u8], &[u8]); 21] = [
+const COMMANDS: [(&[u8], &[u8]); 34] = [
     (b"", b"nothing"),
     (b" \t\r ", b"nothing"),
     (b"assert P(a,-1).", b"assert +0 a -1"),
@@ -92,6 +100,19 @@ const COMMANDS: [(&[u8], &[u8]); 21] = [
     (b"choices\t.", b"choices"),
     (b"model.", b"model"),
     (b"\rmodel.\r", b"model"),
+    (b"// model.", b"nothing"),
+    (b" /* model. */ // now", b"nothing"),
+    (b"model. // now", b"model"),
+    (b"/* */ model.", b"model"),
+    (b"model /* . */ .", b"model"),
+    (b"assert P(a /* , */ , -1).", b"assert +0 a -1"),
+    (b"budget 1.", b"budget 1"),
+    (b"budget 00012 .", b"budget 12"),
+    (b"budget 100000.", b"budget 100000"),
+    (b"budget 1000000000000.", b"budget 1000000000000"),
+    (b"budget unlimited.", b"unlimited"),
+    (b"forget.", b"forget"),
+    (b"forget/**/.", b"forget"),
 ];
 
 #[test]
@@ -137,7 +158,7 @@ fn names_and_elements_are_looked_up(rt: HostRuntime) -> Result<(), Fail> {
     Ok(())
 }
 
-const OTHER_FORMS: [&[u8]; 44] = [
+const OTHER_FORMS: [&[u8]; 56] = [
     b"assert p().",
     b"assert p",
     b"assert p,",
@@ -182,6 +203,18 @@ const OTHER_FORMS: [&[u8]; 44] = [
     b"assert c = sum.",
     b"models 1.",
     b"models.",
+    b"budget 0.",
+    b"budget 000.",
+    b"budget 1000000000001.",
+    b"budget 9223372036854775807.",
+    b"budget -1.",
+    b"budget.",
+    b"budget 1",
+    b"budget 1 2.",
+    b"budget p.",
+    b"budget unlimited",
+    b"budget unlimited 1.",
+    b"forget p.",
 ];
 
 #[test]
@@ -193,11 +226,8 @@ fn other_lines_are_no_commands(rt: HostRuntime) -> Result<(), Fail> {
     Ok(())
 }
 
-const OTHER_TOKENS: [&[u8]; 15] = [
-    b"// model.",
-    b"model. // now",
-    b"/* */ model.",
-    b"model /* */ .",
+const OTHER_TOKENS: [&[u8]; 12] = [
+    b"budget 9223372036854775808.",
     b"model. /*",
     b"assert Q(9223372036854775808).",
     b"assert Q(-99999999999999999999).",

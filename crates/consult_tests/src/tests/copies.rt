@@ -1,26 +1,27 @@
 //! Copies of commands and replies.
-ghost use Rattle.std.specs.Prelude.{◌≡◌, length};
 
 use super::command_lines::show_command;
 use super::reply_texts::{choices, model, text_of};
 use super::samples::base;
+use consult_base::KnowledgeBase;
 use consult_text::{F, Reply, read_command};
-use kb_logic::first::FirstKb;
 use kb_logic::{LiteralList, Memory};
 use std::alloc::Global;
 use std::test::Fail;
 
-const LINES: [&[u8]; 5] = [
+const LINES: [&[u8]; 8] = [
     b"assert P(a,-1).",
     b"retract f(a) ~= b.",
     b"reset.",
     b"choices.",
     b"model.",
+    b"budget 5.",
+    b"budget unlimited.",
+    b"forget.",
 ];
 
 /// Whether a copy of the line's command is shown as the command.
-fn is_copied(alloc: Global, kb: &FirstKb, line: &[u8]) -> Result<bool, Memory>
-    requires { length kb.now.vocab.symbols ≡ 5 }
+fn is_copied(alloc: Global, kb: &KnowledgeBase, line: &[u8]) -> Result<bool, Memory>
 {
     let Ok(Some(command)) = read_command(alloc, line, kb) else {
         return Ok(false);
@@ -51,6 +52,7 @@ fn replies_are_copied(rt: HostRuntime) -> Result<(), Fail> {
     let alloc = rt.alloc();
     assert!(rt; is_written_alike(alloc, &Reply::Fine)?);
     assert!(rt; is_written_alike(alloc, &Reply::Inconsistent)?);
+    assert!(rt; is_written_alike(alloc, &Reply::Undecided(3))?);
     assert!(rt; is_written_alike(alloc, &Reply::Refused(F::NotChosen))?);
     let made = Reply::Choices(LiteralList::from_vec(choices(alloc)?));
     assert!(rt; is_written_alike(alloc, &made)?);

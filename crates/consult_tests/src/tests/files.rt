@@ -1,6 +1,6 @@
 //! Files too long for a case.
 
-use first_reader::read_first;
+use base_reader::read_base;
 use std::alloc::{AllocError, Global};
 use std::test::Fail;
 
@@ -12,7 +12,7 @@ fn long_chains_are_no_depth(rt: HostRuntime) -> Result<(), Fail> {
         text.extend_from_slice(b"&p|p")?;
     }
     text.extend_from_slice(b".}structure S:V{}")?;
-    assert!(rt; read_first(alloc, &text).is_ok());
+    assert!(rt; read_base(alloc, &text, None, None).is_ok());
     Ok(())
 }
 
@@ -38,6 +38,6 @@ fn many_elements(alloc: Global, count: usize) -> Result<Vec<u8>, AllocError> {
 #[test]
 fn many_elements_are_read(rt: HostRuntime) -> Result<(), Fail> {
     let alloc = rt.alloc();
-    assert!(rt; read_first(alloc, &many_elements(alloc, 100_000)?).is_ok());
+    assert!(rt; read_base(alloc, &many_elements(alloc, 65_536)?, None, None).is_ok());
     Ok(())
 }

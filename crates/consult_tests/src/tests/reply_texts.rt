@@ -42,6 +42,8 @@ fn short_replies_have_these_texts(rt: HostRuntime) -> Result<(), Fail> {
     assert!(rt; refusal.as_slice() == b"refused F4 NotAnElement\n".as_slice());
     let none = text_of(alloc, &Reply::Inconsistent)?;
     assert!(rt; none.as_slice() == b"inconsistent\n".as_slice());
+    let spent = text_of(alloc, &Reply::Undecided(100_000))?;
+    assert!(rt; spent.as_slice() == b"undecided 100000\n".as_slice());
     Ok(())
 }
 

@@ -1,10 +1,10 @@
-//! A knowledge base with functions and numbers, which no file of today gives.
+//! A knowledge base with functions and numbers.
 ghost use Rattle.std.specs.Prelude.{◌≡◌, length, IfOk};
 
-use kb_logic::first::FirstKb;
+use base_reader::read_base;
+use consult_base::KnowledgeBase;
 use kb_logic::{
-    DefinitionList, DomainList, Elem, ElemList, FormulaList, Memory, Name, NumberList, Symbol,
-    SymbolList, TableList, Theory, TypeList, Vocabulary,
+    DomainList, Elem, ElemList, Memory, Name, NumberList, Symbol, SymbolList, TypeList, Vocabulary,
 };
 use std::alloc::Global;
 
@@ -55,17 +55,16 @@ pub(super) fn vocabulary(alloc: Global) -> Result<Vocabulary, Memory>
     })
 }
 
-pub(super) fn base(alloc: Global) -> Result<FirstKb, Memory>
-    ensures { IfOk result (λ kb. length kb.vocab.symbols ≡ 5) }
-{
-    Ok(FirstKb {
-        vocab: vocabulary(alloc)?,
-        theory: Theory {
-            sentences: FormulaList::new(alloc),
-            definitions: DefinitionList::new(alloc),
-        },
-        domains: domains(alloc)?,
-        given: TableList::new(alloc),
-        place: 0,
-    })
+/// The same symbols over the same elements, as a file.
+const BASE: &[u8] = b"vocabulary V { type Letter  type Number isa int
+  P(Letter,Number)  p  f(Letter):Letter  c:Number  Q(Number) }
+theory T : V { }
+structure S : V { Letter = {a; b}  Number = {-1; 0; 7} }
+";
+
+pub(super) fn base(alloc: Global) -> Result<KnowledgeBase, Memory> {
+    match read_base(alloc, BASE, None, None) {
+        Ok(kb) => Ok(kb),
+        Err(_) => Err(Memory),
+    }
 }

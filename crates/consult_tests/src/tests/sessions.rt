@@ -1,11 +1,8 @@
 //! A session by itself.
-ghost use Rattle.std.specs.Prelude.{IfSome};
-ghost use Rattle.consultant_session.specs.Sessions.{IsSmallFirstKb};
 
+use base_reader::read_base;
 use consult_text::{Command, Reply, commands_are_over_the_base, read_command};
 use consultant_session::Session;
-use first_reader::read_first;
-use kb_logic::first::{FirstKb, open_atoms};
 use std::alloc::Global;
 use std::test::Fail;
 
@@ -14,27 +11,12 @@ theory T : V { !x[N]: P(x) | Q(x).  !x[N]: ~(P(x) & Q(x)). }
 structure S : V { N = {a; b}  P = {a} }
 ";
 
-const MOST_SYMBOLS: usize = 4_294_967_296;
-
-/// The knowledge base of the file.
-fn small_base(alloc: Global) -> Option<FirstKb>
-    ensures { IfSome result (λ kb. IsSmallFirstKb kb) }
-{
-    let Ok(kb) = read_first(alloc, COVER) else {
-        return None;
-    };
-    if kb.vocab.symbols.len() > MOST_SYMBOLS {
-        return None;
-    }
-    if open_atoms(&kb) > 20 {
-        return None;
-    }
-    Some(kb)
-}
-
 /// A session over the file.
 fn session(alloc: Global) -> Option<Session> {
-    Session::open(alloc, small_base(alloc)?).ok()
+    match read_base(alloc, COVER, None, None) {
+        Ok(kb) => Some(Session::open(alloc, kb, Some(100_000))),
+        Err(_) => None,
+    }
 }
 
 /// Whether the line's command is carried out.
@@ -66,8 +48,8 @@ fn a_session_finds_its_model_again(rt: HostRuntime) -> Result<(), Fail> {
         assert!(rt; false, "no session");
         return Ok(());
     };
-    assert_eq!(rt; session.kb().place, 36);
-    assert_eq!(rt; open_atoms(session.kb()), 2);
+    assert_eq!(rt; session.kb().theory(), 0);
+    assert_eq!(rt; session.kb().structure().text(), b"S".as_slice());
     assert!(rt; matches!(session.step(&Command::Model)?, Reply::Model(_)));
     assert!(rt; matches!(session.step(&Command::Model)?, Reply::Model(_)));
     Ok(())

@@ -75,8 +75,8 @@ done
 const ROWS: [(&[u8], &[u8], u8, &[u8]); 7] = [
     (COVER, b"model.\n", 0, b"model\nP = {a}\nQ = {b}\ndone\n"),
     (BOTH_GIVEN, b"model.\n", 0, b"inconsistent\n"),
-    (A_FUNCTION, b"", 1, b"error K10 Unsupported line 1\n"),
-    (TWENTY_TWO, b"", 1, b"error K14 TooLarge line 2\n"),
+    (A_FUNCTION, b"", 1, b"error K4 WrongArity line 2\n"),
+    (TWENTY_TWO, b"", 0, b""),
     (COVER, b"", 0, b""),
     (COVER, CHOICES, 0, CHOSEN),
     (COVER, REFUSED, 0, REFUSALS),
