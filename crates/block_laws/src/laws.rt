@@ -1,0 +1,7 @@
+//! Printed structure blocks are read back.
+ghost use Rattle.block_laws.specs.ReadBack.{BlocksAreReadBack};
+
+/// The text of a partial structure is that of one structure block, which gives this partial structure again.
+pub fn blocks_are_read_back()
+    ensures { BlocksAreReadBack }
+{}
