@@ -1,0 +1,4 @@
+pub mod LeafSteps
+pub mod FormSteps
+pub mod SentenceSteps
+pub mod StartSteps

@@ -1,0 +1,2 @@
+pub mod Groundable
+pub mod Steps
