@@ -1,0 +1,4 @@
+pub mod Apart
+pub mod Shallow
+pub mod Laying
+pub mod Bytes

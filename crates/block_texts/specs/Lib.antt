@@ -1,0 +1,6 @@
+pub mod Entries
+pub mod Texts
+pub mod Parts
+pub mod Names
+pub mod Saying
+pub mod Laws

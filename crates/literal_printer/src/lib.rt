@@ -1,0 +1,9 @@
+//! The texts of literals and of the tables of structures.
+#![tactic(auto)]
+
+mod literals;
+pub mod pieces;
+mod tables;
+
+pub use literals::print_literal;
+pub use tables::print_symbols;
