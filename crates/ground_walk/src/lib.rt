@@ -3,12 +3,14 @@
 #![tactic(auto)]
 
 mod forms;
+mod laws;
 mod leaves;
 mod problems;
 mod sentences;
 mod starts;
 
 pub use forms::form;
+pub use laws::{bounded_are_groundable, data_know_atoms};
 pub use problems::problem_of;
 pub use sentences::push_sentence;
 pub use starts::start;
