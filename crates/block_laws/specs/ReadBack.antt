@@ -10,7 +10,7 @@ use Rattle.kb_logic.specs.Domains.{AreDomainsOf}
 use Rattle.kb_logic.specs.KnownAtoms.{KnownAtoms}
 use Rattle.partial_structures.specs.Consistency.{IsConsistent, IsListed}
 use Rattle.fo_syntax.specs.Terminals.{Tok}
-use Rattle.fo_syntax.specs.BlockTrees.{Structure, structure_block}
+use Rattle.fo_syntax.specs.BlockTrees.{Structure, Block, structure_block}
 use Rattle.fo_syntax.specs.BlockFine.{IsFile}
 use Rattle.fo_syntax.specs.Items.{IsTokens}
 use Rattle.reading_stages.specs.Below.{type_above}
@@ -43,13 +43,14 @@ pub record IsWritable (v : Vocabulary) (title : List ℕ) (k : KnownAtoms) : Typ
   pub domains : AreDomainsOf v k.domains
   pub elements : AllByRecursion (AllByRecursion IsNamedWell) k.domains
 
--- the text is that of one structure block, of this name and over this vocabulary, which by itself gives what was
--- printed: none of its entries is refused, wherever the types are declared
+-- the text is that of one structure block, of this name and over this vocabulary, and of no other file; by itself the
+-- block gives what was printed: none of its entries is refused, wherever the types are declared
 pub record IsReadBack (v : Vocabulary) (title : List ℕ) (k : KnownAtoms) : Type 0 where
   pub tokens : List Tok
   pub scanned : IsTokens (block_text v title k) tokens
   pub tree : Structure
   pub spelled : IsFile tokens (structure_block tree ∷ [])
+  pub only : (ts : List Tok) (blocks : List Block) → IsTokens (block_text v title k) ts → IsFile ts blocks → blocks ≡ structure_block tree ∷ []
   pub name : name_in tree ≡ title
   pub of : of_in tree ≡ v.name
   pub given : (places : List ℕ) → IsGivenBy v places tree k
@@ -57,3 +58,9 @@ pub record IsReadBack (v : Vocabulary) (title : List ℕ) (k : KnownAtoms) : Typ
 abbrev pub BlocksAreReadBack : Type 0
 BlocksAreReadBack =
     (v : Vocabulary) (title : List ℕ) (k : KnownAtoms) → IsWritable v title k → IsConsistent k → IsListed k → IsReadBack v title k
+
+-- no two partial structures over one vocabulary have one text, nor two names
+abbrev pub NoTwoHaveOneText : Type 0
+NoTwoHaveOneText =
+    (v : Vocabulary) (title other : List ℕ) (k j : KnownAtoms) → IsReadBack v title k → IsReadBack v other j
+    → block_text v title k ≡ block_text v other j → (title ≡ other) × (k ≡ j)

@@ -3,4 +3,4 @@
 
 mod laws;
 
-pub use laws::blocks_are_read_back;
+pub use laws::{blocks_are_read_back, no_two_have_one_text};
