@@ -15,6 +15,7 @@ pub use exactly_one::push_one_of;
 pub use gates::{add_part, close, gate, same};
 pub use laws::{
     assertion_is_right, cases_are_right, few_variables, form_is_right, one_each_by_clauses,
-    problem_is_right, problem_is_small, problems_as_worked_out, sentences_are_asserted,
+    problem_is_right, problem_is_small, problem_says_clauses, problems_as_worked_out,
+    sentences_are_asserted,
 };
 pub use sides::{GuardedValue, case_of_row};

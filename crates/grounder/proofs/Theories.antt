@@ -5,9 +5,10 @@ use Rattle.kb_logic.specs.Bounds.{TheoryIsBounded}
 use Rattle.kb_logic.specs.Bases.{Base}
 use Rattle.kb_logic.specs.Trees.{FormulaTree}
 use Rattle.ground_core.specs.Problems.{ProblemState}
-use Rattle.def_ground.specs.Groundings.{ground_base, IsGroundTheory, IsGroundingOf, theory_problem}
+use Rattle.def_ground.specs.Groundings.{ground_base, IsGroundTheory, IsGroundingOf, SaysClausesAlone, theory_problem}
 use Rattle.def_ground.specs.Problems.{problem_of}
 use Rattle.def_ground.proofs.FewLaws.{problem-is-small}
+use Rattle.def_ground.proofs.KeepLaws.{problem-says-clauses}
 use Rattle.def_ground.proofs.ProblemLaws.{all-ground, problem-is-right}
 use Rattle.ground_walk.specs.Groundable.{IsGroundable}
 use Rattle.ground_walk.proofs.GroundableLaws.{sentences-groundable}
@@ -34,3 +35,6 @@ module _ (base : Base) (typed : IsGroundTheory base) (fs : List FormulaTree) (sa
   pub problem-small : p.vars ≤ base_weight base
   problem-small =
       subst (λ (q : ProblemState). q.vars ≤ base_weight base) (sym problem-value) (problem-is-small base typed)
+
+  pub problem-of-clauses : SaysClausesAlone p
+  problem-of-clauses = subst SaysClausesAlone (sym problem-value) (problem-says-clauses base)

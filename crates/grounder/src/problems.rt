@@ -7,7 +7,7 @@ ghost use Rattle.reading_stages.specs.FileBases.{base_of_file, theory_at};
 ghost use Rattle.reading_stages.specs.SizesStage.{capped, weight_limit};
 ghost use Rattle.type_derivation.specs.TypedViews.{typed_view};
 ghost use Rattle.term_values.specs.KnownBases.{AreDataOf, base_of_data};
-ghost use Rattle.def_ground.specs.Groundings.{IsGroundTheory, IsGroundingOf, theory_problem};
+ghost use Rattle.def_ground.specs.Groundings.{IsGroundTheory, IsGroundingOf, SaysClausesAlone, theory_problem};
 ghost use Rattle.def_ground.specs.Problems.{problem_of as problem_of_sentences};
 ghost use Rattle.ground_walk.specs.Groundable.{IsGroundable};
 ghost use Rattle.grounder.specs.Weighing.{base_weight, IsRefused};
@@ -78,6 +78,7 @@ pub fn ground(
     requires bounded { TheoryIsBounded kb.now.vocab known.now.domains (theory_at (typed_view kb.now) theory) }
     ensures value { IfOk result (λ p. p ≡ theory_problem (base_of_file (typed_view kb.now) theory known.now)) }
     ensures right { IfOk result (λ p. IsGroundingOf (base_of_file (typed_view kb.now) theory known.now) p) }
+    ensures clauses { IfOk result (λ p. SaysClausesAlone p) }
     ensures small { IfOk result (λ p. p.vars ≤ base_weight (base_of_file (typed_view kb.now) theory known.now)) }
     ensures light { IfOk result (λ p. base_weight (base_of_file (typed_view kb.now) theory known.now) ≤ weight_limit) }
     ensures err { IfErr result (λ e. IsRefused (base_of_file (typed_view kb.now) theory known.now) e) }

@@ -4,7 +4,7 @@ use Rattle.kb_logic.specs.Trees.{TheoryTree}
 use Rattle.kb_logic.specs.Views.{formula_view}
 use Rattle.reading_stages.specs.FileBases.{base_of_file}
 use Rattle.type_derivation.specs.TypedViews.{typed_view}
-use Rattle.grounder.proofs.Theories.{problem-right, problem-small, theory-groundable}
+use Rattle.grounder.proofs.Theories.{problem-of-clauses, problem-right, problem-small, theory-groundable}
 use Rattle.grounder.proofs.problems.ground.Goals as goal
 
 pub problem-requires-clause-fits : goal.problem-requires-clause-fits
@@ -30,3 +30,11 @@ returns-in-Ok-clause-small c =
     let same : fs ≡ base.theory.sentences = ap (map formula_view) c.as_slice-sentences.ensures
     ∙ ap (λ (t : TheoryTree). t.sentences) c.theory_of.ensures in
     problem-small base c.requires.typed fs same c.in-Ok.made c.in-Ok.ensures
+
+pub returns-in-Ok-clause-clauses : goal.returns-in-Ok-clause-clauses
+returns-in-Ok-clause-clauses c =
+    let base : Base = base_of_file (typed_view c.args.kb.now) c.args.theory c.args.known.now in
+    let fs = map formula_view c.as_slice-sentences.result.now in
+    let same : fs ≡ base.theory.sentences = ap (map formula_view) c.as_slice-sentences.ensures
+    ∙ ap (λ (t : TheoryTree). t.sentences) c.theory_of.ensures in
+    problem-of-clauses base c.requires.typed fs same c.in-Ok.made c.in-Ok.ensures
