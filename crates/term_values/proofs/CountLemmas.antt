@@ -1,9 +1,9 @@
 -- Counts that stop at the greatest number of 64 bits, and tables of first variables.
 use Rattle.std.proofs.Common.{◌≡◌, ◌≤◌, ◌<◌, ℕ, zero, suc, ◌+◌, ◌*◌, List, [], ◌∷◌, ◌++◌, length, drop, take, get_or, refl, sym, ap, ◌∙◌, arith, inl, inr}
-use Rattle.std.proofs.Common.{Some, None, Option, option_map, slice_get, subst, ◌⊎◌}
+use Rattle.std.proofs.Common.{Some, slice_get, ◌⊎◌}
 use Rattle.std.specs.List.{sum_by}
 use Rattle.std.proofs.lemmas.Bool.{cases_lt}
-use Rattle.std.proofs.lemmas.List.{at_drop_more, length-append, take_more}
+use Rattle.std.proofs.lemmas.List.{at_drop_more, length-append}
 use Rattle.std.proofs.lemmas.List.Sums.{sum_by_more}
 use Rattle.std.proofs.Math.Nat.{mul-le-mul_left, mul-one, mul_assoc}
 use Rattle.kb_logic.specs.declared.elements.Elem.{Elem}

@@ -1,8 +1,8 @@
 -- Rows in flat arrays, by their indices, and one row more.
-use Rattle.std.proofs.Common.{◌≡◌, ◌≤◌, ◌<◌, ◌-◌, ◌+◌, ℕ, zero, suc, List, [], ◌∷◌, ◌++◌, map, length, take, drop, slice_range, slice_get, Some}
+use Rattle.std.proofs.Common.{◌≡◌, ◌≤◌, ◌<◌, ◌-◌, ℕ, zero, suc, List, [], ◌∷◌, ◌++◌, map, length, take, drop, slice_range, slice_get, Some}
 use Rattle.std.proofs.Common.{refl, sym, ap, ◌∙◌, subst, arith, option_map, get_or}
 use Rattle.std.proofs.lemmas.Option.{slice_get-get_or}
-use Rattle.std.proofs.lemmas.List.{length-take-le, take-take, take_all, take-append-le, length-append, drop_at, drop-append-le, take_at}
+use Rattle.std.proofs.lemmas.List.{length-take-le, take-take, take_all, length-append, drop_at, take_at}
 use Rattle.std.proofs.lemmas.Slice.{between_is}
 use Rattle.std.proofs.Common.{Result, Ok, Err, OnErr}
 use Rattle.std.specs.List.{AllByRecursion}

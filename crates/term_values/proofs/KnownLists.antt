@@ -1,6 +1,6 @@
 -- What is known of the atoms of a symbol, tuple by tuple.
 use Rattle.std.proofs.Common.{◌≡◌, ◌<◌, ℕ, zero, suc, ◌+◌, List, [], ◌∷◌, ◌++◌, map, length, take, get_or, Option, Some, None}
-use Rattle.std.proofs.Common.{refl, sym, ap, ◌∙◌, arith, drop, Contains, Bool, subst}
+use Rattle.std.proofs.Common.{sym, ap, ◌∙◌, arith, Contains, Bool, subst}
 use Rattle.std.specs.List.{flat_map, enumerate_from}
 use Rattle.std.proofs.lemmas.List.{append-nil, map-append, take_more, append_assoc}
 use Rattle.std.proofs.lemmas.List.Concat.{flat_map-append}

@@ -1,7 +1,7 @@
 -- The rows of values, of lists of terms, and of sums, step by step.
-use Rattle.std.proofs.Common.{◌≡◌, ◌<◌, ◌≤◌, ℕ, zero, suc, ◌+◌, ◌-◌, ℤ, pos, List, [], ◌∷◌, ◌++◌, map, length, take, drop, get_or, Bool, true, false}
+use Rattle.std.proofs.Common.{◌≡◌, ◌<◌, ℕ, zero, suc, ◌+◌, ℤ, List, [], ◌∷◌, ◌++◌, map, length, drop, get_or, Bool, true, false}
 use Rattle.std.proofs.Common.{Option, Some, None, refl, sym, ap, ◌∙◌, arith, rules, subst, IfSome, FitsSigned, w64}
-use Rattle.std.specs.List.{flat_map, AllByRecursion}
+use Rattle.std.specs.List.{AllByRecursion}
 use Rattle.std.proofs.lemmas.List.{at_drop_more, append_assoc, drop_more, map-append}
 use Rattle.kb_logic.specs.declared.elements.Elem.{Elem}
 use Rattle.kb_logic.specs.declared.syntax.Term.{Term}
@@ -9,7 +9,7 @@ use Rattle.kb_logic.specs.declared.syntax.Signed.{Signed}
 use Rattle.kb_logic.specs.declared.syntax.Formula.{the_lemmas}
 use Rattle.kb_logic.specs.Denotations.{Denotation, denotation_of}
 use Rattle.kb_logic.specs.Meaning.{summand_plus, number_value}
-use Rattle.kb_logic.specs.Trees.{TermTree, TermTrees, SummandTrees, terms_of, summands_of}
+use Rattle.kb_logic.specs.Trees.{TermTree, terms_of, summands_of}
 use Rattle.kb_logic.specs.Views.{term_view, signed_view}
 use Rattle.kb_logic.proofs.TupleLists.{map-map}
 use Rattle.lit_core.specs.declared.literals.Lit.{Lit}

@@ -1,10 +1,10 @@
 -- The variables of a symbol's atoms lie among those of all atoms.
 use Rattle.std.proofs.Common.{◌≡◌, ◌≤◌, ◌<◌, ℕ, zero, suc, ◌+◌, ◌*◌, List, [], ◌∷◌, length, take, Option, Some, None, option_map, slice_get}
-use Rattle.std.proofs.Common.{refl, sym, ap, ◌∙◌, arith, subst, is_some, IsNone, IsSome, Bool, true, false}
+use Rattle.std.proofs.Common.{refl, sym, ap, ◌∙◌, arith, subst, IsNone}
 use Rattle.std.specs.List.{sum_by}
 use Rattle.std.specs.Option.{option_and_then}
 use Rattle.std.proofs.lemmas.List.Sums.{sum_by-cons}
-use Rattle.std.proofs.Math.Nat.{mul-le-mul_left, mul_comm, mul-one}
+use Rattle.std.proofs.Math.Nat.{mul-le-mul_left, mul-one}
 use Rattle.std.proofs.lemmas.Nat.{mul-le}
 use Rattle.kb_logic.specs.declared.elements.Elem.{Elem}
 use Rattle.kb_logic.specs.declared.vocabularies.Symbol.{Symbol}

@@ -1,6 +1,5 @@
 -- Rows whose guards and values lie one after another in two arrays.
 use Rattle.std.specs.Prelude.{◌≡◌, ◌≤◌, ℕ, zero, suc, List, [], ◌∷◌, map, length, slice_range}
-use Rattle.std.specs.List.{AllByRecursion}
 use Rattle.kb_logic.specs.Denotations.{Denotation, undefined}
 use Rattle.lit_core.specs.declared.literals.Lit.{Lit}
 use Rattle.term_values.specs.declared.rows.RowEnd.{RowEnd}

@@ -1,7 +1,5 @@
 -- What ground data keep: what is known of each atom, and tables by which variables and places are found.
-use Rattle.std.specs.Prelude.{◌≡◌, ◌<◌, ◌^◌, ◌+◌, ℕ, zero, suc, List, [], ◌∷◌, ◌++◌, length, min, sum_by, take}
-use Rattle.kb_logic.specs.declared.elements.Elem.{Elem}
-use Rattle.kb_logic.specs.declared.vocabularies.Symbol.{Symbol}
+use Rattle.std.specs.Prelude.{◌≡◌, ◌<◌, ◌^◌, length, sum_by}
 use Rattle.term_values.specs.GroundBases.{GroundBase, atoms_in}
 use Rattle.term_values.specs.DomainIndexes.{AreIndexesOf}
 use Rattle.term_values.specs.VariableTables.{first_vars}

@@ -1,7 +1,7 @@
-use Rattle.std.proofs.Common.{◌≡◌, ◌<◌, sym, ap, ◌∙◌, map, length, get_or, false, [], arith, rules, ℤ}
+use Rattle.std.proofs.Common.{◌<◌, sym, ap, ◌∙◌, map, length, get_or, false, [], arith, rules}
 use Rattle.std.proofs.lemmas.List.{length-map, get_or-map}
 use Rattle.std.proofs.lemmas.Int.{ints}
-use Rattle.kb_logic.specs.Denotations.{undefined, number}
+use Rattle.kb_logic.specs.Denotations.{undefined}
 use Rattle.kb_logic.specs.Values.{value_view}
 use Rattle.kb_logic.specs.declared.syntax.Signed.{Signed}
 use Rattle.kb_logic.specs.declared.values.Value.TheVariants.{Named}

@@ -1,4 +1,4 @@
-use Rattle.std.proofs.Common.{◌≡◌, ◌+◌, length, take, sum_by}
+use Rattle.std.proofs.Common.{◌≡◌, ◌+◌, take, sum_by}
 use Rattle.term_values.specs.GroundBases.{atoms_in}
 use Rattle.term_values.specs.VariableTables.{first_vars}
 use Rattle.term_values.proofs.counts.all_first_vars.Given as goal

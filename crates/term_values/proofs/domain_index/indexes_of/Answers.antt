@@ -1,4 +1,4 @@
-use Rattle.std.proofs.Common.{take, length, arith, sym, ap, ◌∙◌, subst, ◌++◌, ◌+◌, ◌∷◌, []}
+use Rattle.std.proofs.Common.{take, sym, ap, ◌∙◌, subst, ◌++◌, ◌+◌, ◌∷◌, []}
 use Rattle.std.proofs.lemmas.List.{take_more}
 use Rattle.term_values.specs.DomainIndexes.{AreIndexesOf, IsIndexOf}
 use Rattle.term_values.proofs.IndexLemmas.{each_more}

@@ -1,4 +1,3 @@
-use Rattle.std.proofs.Common.{arith}
 use Rattle.partial_structures.specs.KnownAtoms.{value_at}
 use Rattle.term_values.specs.KnownBases.{known_truth}
 use Rattle.term_values.proofs.KnownLists.{symbol_more}

@@ -1,4 +1,4 @@
-use Rattle.std.proofs.Common.{◌≡◌, ◌++◌, map, take}
+use Rattle.std.proofs.Common.{◌≡◌, map, take}
 use Rattle.kb_logic.specs.KnownAtoms.{atoms_over}
 use Rattle.partial_structures.specs.KnownAtoms.{value_at}
 use Rattle.term_values.specs.KnownBases.{known_truth}

@@ -1,4 +1,4 @@
-use Rattle.std.proofs.Common.{arith, sym, ap, ◌∙◌, map, ◌++◌, ◌∷◌, [], take}
+use Rattle.std.proofs.Common.{ap, ◌∙◌, map, ◌++◌, ◌∷◌, []}
 use Rattle.kb_logic.specs.KnownAtoms.{atoms_with}
 use Rattle.partial_structures.specs.KnownAtoms.{value_at}
 use Rattle.term_values.specs.KnownBases.{known_truth}

@@ -1,4 +1,4 @@
-use Rattle.std.proofs.Common.{◌≡◌, ◌++◌, ◌∷◌, [], List, map, sym, ap, ◌∙◌, pos}
+use Rattle.std.proofs.Common.{◌++◌, ◌∷◌, [], List, map, ap, ◌∙◌, pos}
 use Rattle.std.proofs.lemmas.List.{append-nil}
 use Rattle.kb_logic.specs.Denotations.{Denotation}
 use Rattle.kb_logic.specs.Meaning.{number_value, product_from}

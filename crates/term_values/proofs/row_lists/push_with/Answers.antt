@@ -1,4 +1,4 @@
-use Rattle.std.proofs.Common.{◌≡◌, ◌++◌, ◌∷◌, List, map, sym, ap, ◌∙◌}
+use Rattle.std.proofs.Common.{◌++◌, ◌∷◌, List, map}
 use Rattle.kb_logic.specs.Denotations.{Denotation}
 use Rattle.kb_logic.specs.Values.{value_view}
 use Rattle.lit_core.specs.declared.literals.Lit.{Lit}

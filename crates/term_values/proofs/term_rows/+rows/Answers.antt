@@ -1,10 +1,10 @@
-use Rattle.std.proofs.Common.{◌≡◌, ◌<◌, ◌-◌, ◌+◌, ◌++◌, rules, arith, length, map, subst, OnOk}
+use Rattle.std.proofs.Common.{◌≡◌, ◌<◌, ◌-◌, ◌+◌, ◌++◌, rules, arith, length, subst, OnOk}
 use Rattle.kb_logic.specs.Environments.{env_view}
 use Rattle.kb_logic.specs.declared.syntax.Formula.{the_lemmas}
 use Rattle.kb_logic.specs.declared.syntax.Signed.{Signed}
 use Rattle.kb_logic.specs.Views.{term_view}
 use Rattle.term_values.specs.RowArithmetic.{RowsFit}
-use Rattle.term_values.proofs.TermRowLemmas.{fit_at, terms_next, operand_fit_at, operands_next, sum_values_rows, sums_fit}
+use Rattle.term_values.proofs.TermRowLemmas.{fit_at, operand_fit_at, operands_next, sum_values_rows, sums_fit}
 use Rattle.term_values.proofs.term_rows.+rows.Goals as goal
 
 pub push_sum-push_sums-requires : goal.push_sum-push_sums-requires

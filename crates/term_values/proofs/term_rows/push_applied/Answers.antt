@@ -1,4 +1,4 @@
-use Rattle.std.proofs.Common.{◌≡◌, ◌++◌, List, map}
+use Rattle.std.proofs.Common.{List, map}
 use Rattle.kb_logic.specs.Denotations.{Denotation}
 use Rattle.lit_core.specs.declared.literals.Lit.{Lit}
 use Rattle.term_values.specs.GroundBases.{row_index, tuples_at}

@@ -1,4 +1,4 @@
-use Rattle.std.proofs.Common.{arith, ◌≡◌, ◌<◌, ◌*◌, ◌+◌, [], sym, ap, ◌∙◌, map, length, option_map, get_or, Some, None, subst}
+use Rattle.std.proofs.Common.{arith, ◌<◌, ◌*◌, ◌+◌, [], sym, ap, ◌∙◌, map, length, option_map, get_or}
 use Rattle.std.proofs.lemmas.List.{length-map, get_or-map}
 use Rattle.kb_logic.specs.declared.values.Value.TheVariants.{Named}
 use Rattle.kb_logic.specs.Denotations.{undefined}

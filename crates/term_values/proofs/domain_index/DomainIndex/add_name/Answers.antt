@@ -1,4 +1,4 @@
-use Rattle.std.proofs.Common.{refl, sym, ap, ◌∙◌, not, subst, ◌++◌, ◌∷◌, []}
+use Rattle.std.proofs.Common.{refl, sym, subst, ◌++◌, ◌∷◌, []}
 use Rattle.std.proofs.lemmas.Map.Text.{hash_map_updates_str}
 use Rattle.kb_logic.specs.declared.elements.Elem.TheVariants.{Named}
 use Rattle.term_values.specs.DomainIndexes.{IsIndexOf}

@@ -1,4 +1,4 @@
-use Rattle.std.proofs.Common.{◌≡◌, refl, sym, ap, ◌∙◌, not, subst, cond, Some, is_some, int_eq, w64, ◌++◌, ◌∷◌, []}
+use Rattle.std.proofs.Common.{◌≡◌, refl, sym, subst, cond, Some, is_some, int_eq, w64, ◌++◌, ◌∷◌, []}
 use Rattle.std.proofs.lemmas.Int.{to_z-of_z}
 use Rattle.indexmap.specs.IndexMap.{get_by}
 use Rattle.kb_logic.specs.declared.elements.Elem.TheVariants.{Num}

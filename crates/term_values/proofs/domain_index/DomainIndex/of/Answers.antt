@@ -1,4 +1,4 @@
-use Rattle.std.proofs.Common.{take, length, arith, sym, ap, ◌∙◌, subst, ◌++◌, ◌∷◌, [], ◌≡◌}
+use Rattle.std.proofs.Common.{take, arith, sym, ap, ◌∙◌, subst, ◌++◌, ◌∷◌, []}
 use Rattle.std.proofs.lemmas.List.{take_more, length-take-le}
 use Rattle.kb_logic.specs.declared.elements.Elem.{Elem}
 use Rattle.term_values.specs.DomainIndexes.{IsIndexOf}

@@ -1,4 +1,4 @@
-use Rattle.std.proofs.Common.{arith, ◌∙◌, sym, ap, length, ◌≡◌, ◌<◌, subst, get_or}
+use Rattle.std.proofs.Common.{◌∙◌, sym, ap, length, ◌<◌, subst, get_or}
 use Rattle.std.proofs.lemmas.Option.{get_or_from_slice_get}
 use Rattle.term_values.specs.GroundBases.{first_var}
 use Rattle.term_values.proofs.CountLemmas.{first_vars_length, first_var_at}

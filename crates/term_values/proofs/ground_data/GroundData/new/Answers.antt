@@ -1,4 +1,4 @@
-use Rattle.std.proofs.Common.{arith, ◌∙◌, sym, ap, length, ◌≡◌, ◌<◌, subst, map}
+use Rattle.std.proofs.Common.{◌∙◌, sym, ap, length, ◌≡◌, ◌<◌, subst}
 use Rattle.std.specs.List.{sum_by}
 use Rattle.std.proofs.lemmas.List.{length-map}
 use Rattle.kb_logic.specs.KnownAtoms.{atoms_over}

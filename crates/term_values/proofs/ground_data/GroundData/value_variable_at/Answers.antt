@@ -1,4 +1,4 @@
-use Rattle.std.proofs.Common.{arith, ◌≡◌, ◌<◌, ◌≤◌, ◌+◌, ◌*◌, sym, ap, ◌∙◌, subst, map, length, Some, option_map}
+use Rattle.std.proofs.Common.{arith, ◌≡◌, ◌<◌, ◌≤◌, ◌+◌, ◌*◌, ap, ◌∙◌, subst, map, length, Some, option_map}
 use Rattle.std.specs.List.{sum_by}
 use Rattle.term_values.specs.GroundBases.{GroundBase, atoms_in, row_index, tuples_at, values_at, first_var}
 use Rattle.term_values.specs.RowValues.{row_value}

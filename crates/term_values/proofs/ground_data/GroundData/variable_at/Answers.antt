@@ -1,6 +1,5 @@
-use Rattle.std.proofs.Common.{arith, ◌≡◌, ◌<◌, ◌+◌, ◌*◌, sym, ap, ◌∙◌, subst, map, length, Some, option_map, IsNone}
+use Rattle.std.proofs.Common.{arith, ◌≡◌, ◌<◌, ◌+◌, ap, ◌∙◌, subst, map, length, Some, option_map}
 use Rattle.std.specs.List.{sum_by}
-use Rattle.kb_logic.specs.Bounds.{value_type_of}
 use Rattle.term_values.specs.GroundBases.{GroundBase, atoms_in, row_index, tuples_at, first_var}
 use Rattle.term_values.specs.RowValues.{row_value}
 use Rattle.term_values.proofs.VariableLemmas.{variable_here}

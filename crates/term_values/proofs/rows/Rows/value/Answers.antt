@@ -1,8 +1,7 @@
-use Rattle.std.proofs.Common.{refl, sym, ap, ◌∙◌, Some, length, map, slice_get, option_map, get_or, []}
+use Rattle.std.proofs.Common.{sym, ap, ◌∙◌, Some, map, slice_get, option_map, []}
 use Rattle.std.proofs.lemmas.List.{length-map}
 use Rattle.kb_logic.specs.declared.values.Value.TheVariants.{Named}
 use Rattle.term_values.specs.RowValues.{row_value}
-use Rattle.term_values.specs.FlatRows.{first_value}
 use Rattle.term_values.proofs.FlatLemmas.{one_value_at, first_of_one}
 use Rattle.term_values.proofs.rows.Rows.value.Goals as goal
 

@@ -1,6 +1,5 @@
-use Rattle.std.proofs.Common.{arith, ◌≤◌, sym, ap, ◌∙◌, ◌++◌, ◌∷◌, [], subst, length, map, take, refl}
-use Rattle.term_values.specs.FlatRows.{origin, row_start, rows_between, AreEnds}
-use Rattle.term_values.specs.RowValues.{row_value}
+use Rattle.std.proofs.Common.{◌≤◌, sym, ap, ◌∙◌, ◌++◌, subst, length, refl}
+use Rattle.term_values.specs.FlatRows.{origin, rows_between, AreEnds}
 use Rattle.term_values.proofs.FlatLemmas.{last_read, last_within, ends_kept, ends_pushed, rows_pushed, rows_stay, front_put, on_err}
 use Rattle.term_values.proofs.rows.TupleRows.push.Goals as goal
 

@@ -1,5 +1,5 @@
-use Rattle.std.proofs.Common.{arith, ◌<◌, sym, ap, ◌∙◌, subst, option_map, slice_get, Some, length, slice_range, map}
-use Rattle.term_values.specs.FlatRows.{origin, row_start}
+use Rattle.std.proofs.Common.{arith, sym, ap, ◌∙◌, option_map, Some, length, slice_range, map}
+use Rattle.term_values.specs.FlatRows.{origin}
 use Rattle.term_values.specs.RowValues.{row_value}
 use Rattle.term_values.proofs.FlatLemmas.{index_within, row_read, span_read}
 use Rattle.term_values.proofs.rows.TupleRows.values.Goals as goal
