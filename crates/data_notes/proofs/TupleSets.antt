@@ -19,13 +19,13 @@ use Rattle.data_notes.specs.declared.labels.Label.{Label}
 use Rattle.data_notes.specs.declared.labels.Label.TheVariants.{Word, Number}
 use Rattle.data_notes.specs.contracts.labels.LabelPartialEq.TheImpl.{ghosts as label_equality}
 
-label_test : (a b : Label) → label_equality.eq a b ≡ same_element (label_view a) (label_view b)
+pub label_test : (a b : Label) → label_equality.eq a b ≡ same_element (label_view a) (label_view b)
 label_test (Word a) (Word b) = refl
 label_test (Word a) (Number b) = refl
 label_test (Number a) (Word b) = refl
 label_test (Number a) (Number b) = refl
 
-tuple_test : (xs ys : List Label) → pointwise label_equality.eq xs ys ≡ same_tuple (tuple_view xs) (tuple_view ys)
+pub tuple_test : (xs ys : List Label) → pointwise label_equality.eq xs ys ≡ same_tuple (tuple_view xs) (tuple_view ys)
 tuple_test [] [] = refl
 tuple_test [] (y ∷ ys) = refl
 tuple_test (x ∷ xs) [] = refl

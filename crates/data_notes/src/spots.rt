@@ -58,7 +58,7 @@ fn is_small(n: Whole) -> bool
 }
 
 /// Whether the cell's integers may stand in a domain.
-fn is_in_range(cell: Cell<'_>) -> bool
+pub fn is_in_range(cell: Cell<'_>) -> bool
     ensures { result ≡ domain.is_in_range (cell_view cell.entry) }
 {
     match cell {
