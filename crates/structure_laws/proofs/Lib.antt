@@ -1,18 +1,18 @@
-mod BoundPlaces
-mod Bounded
-mod Consistent
-mod Counting
-mod Covered
-mod Covering
-mod IntegerPlaces
-mod Listing
-mod Missing
-mod Products
-mod Same
-mod Sharing
-mod Members
-mod Rows
-mod AcceptedSizes
+pub mod BoundPlaces
+pub mod Bounded
+pub mod Consistent
+pub mod Counting
+pub mod Covered
+pub mod Covering
+pub mod IntegerPlaces
+pub mod Listing
+pub mod Missing
+pub mod Products
+pub mod Same
+pub mod Sharing
+pub mod Members
+pub mod Rows
+pub mod AcceptedSizes
 pub mod Declared
-mod Lists
-mod GivenDomains
+pub mod Lists
+pub mod GivenDomains

@@ -1,6 +1,8 @@
 //! The stages of data and sizes: what a structure gives, and how large it makes a knowledge base.
 #![tactic(auto)]
 
+mod domains;
+mod noting;
 mod reading;
 mod sizes;
 

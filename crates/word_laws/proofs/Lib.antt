@@ -1,0 +1,4 @@
+mod TokenWords
+mod BlockWords
+mod DomainWords
+mod Accepted
