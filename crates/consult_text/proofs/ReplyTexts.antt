@@ -15,7 +15,7 @@ use Rattle.kb_logic.specs.Bases.{Base}
 use Rattle.consult_text.specs.declared.replies.Reply.{Reply}
 use Rattle.consult_text.specs.Literals.{IsLiteralOver}
 use Rattle.consult_text.specs.Texts.{choice_line, symbol_lines, reply_text}
-use Rattle.consult_text.specs.OneText.{HasPredicatesAlone, HasWordNames, IsReplyOver, NoTwoRepliesHaveOneText}
+use Rattle.consult_text.specs.OneText.{HasWordNames, IsReplyOver, NoTwoRepliesHaveOneText}
 use Rattle.consult_text.proofs.RowTexts.{byte_above, rest_same}
 use Rattle.consult_text.proofs.InnerBytes.{split_same, decimal_inner}
 use Rattle.consult_text.proofs.ChoiceTexts.{choices_same, line_stops}
@@ -71,11 +71,11 @@ low_byte : (vocab : Vocabulary) (ls : List Literal) (a : List ℕ) (x : ℕ) {b 
 low_byte vocab [] a x above q = byte_above x 100 above (sym q)
 low_byte vocab (l ∷ ls) a x above q = byte_above x 99 (omega arith) (sym q)
 
-module _ (kb : Base) (first : HasPredicatesAlone kb) (names : HasWordNames kb) where
+module _ (kb : Base) (names : HasWordNames kb) where
   two_choices : (ls ks : List Literal) (a b : List ℕ) → AllByRecursion (IsLiteralOver kb) ls → AllByRecursion (IsLiteralOver kb) ks
       → (flat_map (choice_line kb.vocabulary) ls ++ codes "done\n") ++ a ≡ (flat_map (choice_line kb.vocabulary) ks ++ codes "done\n") ++ b → (reply.Choices ls ≡ reply.Choices ks) × (a ≡ b)
   two_choices ls ks a b h k q =
-      let cut = choices_same kb ls ks first names h k a b
+      let cut = choices_same kb ls ks names h k a b
       (sym (append_assoc (flat_map (choice_line kb.vocabulary) ls) (codes "done\n") a) ∙ (q ∙ append_assoc (flat_map (choice_line kb.vocabulary) ks) (codes "done\n") b)) in
       (ap (λ (x : List Literal). reply.Choices x) cut.0, cut.1)
 
@@ -83,7 +83,7 @@ module _ (kb : Base) (first : HasPredicatesAlone kb) (names : HasWordNames kb) w
       → reply_text kb.vocabulary (reply.Model m) ++ a ≡ reply_text kb.vocabulary (reply.Model m') ++ b → (reply.Model m ≡ reply.Model m') × (a ≡ b)
   two_models m m' a b h k q =
       let tails = append_cancel_left (codes "model\n") ((symbol_lines kb.vocabulary m ++ codes "done\n") ++ a) ((symbol_lines kb.vocabulary m' ++ codes "done\n") ++ b) q in
-      let cut = models_same kb m m' first names h k a b
+      let cut = models_same kb m m' names h k a b
       (sym (append_assoc (symbol_lines kb.vocabulary m) (codes "done\n") a) ∙ (tails ∙ append_assoc (symbol_lines kb.vocabulary m') (codes "done\n") b)) in
       (ap (λ (x : Structure). reply.Model x) cut.0, cut.1)
 
@@ -140,4 +140,4 @@ module _ (kb : Base) (first : HasPredicatesAlone kb) (names : HasWordNames kb) w
   same (reply.Undecided n) (reply.Undecided n') a b h k q = two_undecided n n' a b h k q
 
 pub replies_same : NoTwoRepliesHaveOneText
-replies_same kb first names c r s a b to_r to_s h k q = same kb first names r s a b h k q
+replies_same kb names c r s a b to_r to_s h k q = same kb names r s a b h k q

@@ -1,5 +1,5 @@
 -- The replies that there are over a knowledge base, and that no two of them have one text.
-use Rattle.std.specs.Prelude.{◌≡◌, ◌<◌, ◌^◌, ◌++◌, ℕ, List, nat_abs, map, None, ⊤}
+use Rattle.std.specs.Prelude.{◌≡◌, ◌<◌, ◌^◌, ◌++◌, ℕ, List, nat_abs, map, ⊤}
 use Rattle.std.specs.List.{AllByRecursion}
 use Rattle.kb_logic.specs.declared.elements.Elem.{Elem}
 use Rattle.kb_logic.specs.declared.elements.Elem.TheVariants.{Named, Num}
@@ -17,10 +17,6 @@ use Rattle.consult_text.specs.declared.replies.Reply.TheVariants as reply
 abbrev pub CanBeWritten : Elem → Type 0
 CanBeWritten (Named name) = IsPiece WordText name
 CanBeWritten (Num n) = nat_abs n < 2 ^ 63
-
--- each symbol is a predicate
-abbrev pub HasPredicatesAlone : Base → Type 0
-HasPredicatesAlone kb = AllByRecursion (λ s. s.value ≡ None) kb.vocabulary.symbols
 
 -- symbols and elements are words, no two symbols have one name, and integers have at most 63 bits
 pub record HasWordNames (kb : Base) : Type 0 where
@@ -57,7 +53,7 @@ IsReplyTo _ _ = ⊥
 -- more bytes after them are equal, so are the replies, and so are the bytes after them.
 abbrev pub NoTwoRepliesHaveOneText : Type 0
 NoTwoRepliesHaveOneText =
-    (kb : Base) → HasPredicatesAlone kb → HasWordNames kb → (c : Command) (r s : Reply) (after after' : List ℕ)
+    (kb : Base) → HasWordNames kb → (c : Command) (r s : Reply) (after after' : List ℕ)
     → IsReplyTo c r → IsReplyTo c s
     → IsReplyOver kb r → IsReplyOver kb s → reply_text kb.vocabulary r ++ after ≡ reply_text kb.vocabulary s ++ after' →
     (r ≡ s) × (after ≡ after')

@@ -15,7 +15,7 @@ use Rattle.consult_text.specs.Lines.{HasCommand, Asks, IsCommandOver}
 use Rattle.consult_text.specs.Literals.{IsLiteralOver}
 use Rattle.consult_text.specs.Laws.{Meaning, Means, HasOneMeaning, CommandsAreOverTheBase}
 use Rattle.consult_text.specs.Texts.{reply_text}
-use Rattle.consult_text.specs.OneText.{HasPredicatesAlone, HasWordNames, IsReplyTo, IsReplyOver, NoTwoRepliesHaveOneText}
+use Rattle.consult_text.specs.OneText.{HasWordNames, IsReplyTo, IsReplyOver, NoTwoRepliesHaveOneText}
 use Rattle.consult_text.specs.States.{State, first_state, same_literal, command_refusal, carried_out, unless_refused, state_after}
 use Rattle.consult_text.specs.RightReplies.{RightAnswer, RightUnless, RightReply}
 use Rattle.idp_cli.specs.Turns.{reply_of}
@@ -71,17 +71,17 @@ IsSame kb s a b after after' = (reply_of a ≡ reply_of b) × (state_left kb s a
 
 module _ (meanings : (kb : Base) (line : List ℕ) → HasOneMeaning kb line) (texts : NoTwoRepliesHaveOneText) where
   -- two replies to one command
-  same_command : (kb : Base) (s : State) (c : Command) (r q : Reply) (after after' : List ℕ) → HasPredicatesAlone kb → HasWordNames kb → IsStateOver kb s
+  same_command : (kb : Base) (s : State) (c : Command) (r q : Reply) (after after' : List ℕ) → HasWordNames kb → IsStateOver kb s
       → RightReply kb s c r → RightReply kb s c q → reply_text kb.vocabulary r ++ after ≡ reply_text kb.vocabulary q ++ after'
       → IsSame kb s (replied c r) (replied c q) after after'
-  same_command kb s c r q after after' alone names over right right' same =
+  same_command kb s c r q after after' names over right right' same =
       let f = command_refusal kb s c in
-      let both = texts kb alone names c r q after after' (reply_to f kb s c r right)
+      let both = texts kb names c r q after after' (reply_to f kb s c r right)
       (reply_to f kb s c q right') (reply_over f kb s c r over right) (reply_over f kb s c q over right') same in
       (ap (λ (r : Reply). Some r) both.0, refl, both.1)
 
   pub one_answer : OneAnswerLaw
-  one_answer kb s line a b after after' alone names over right right' same = go a b right right' same
+  one_answer kb s line a b after after' names over right right' same = go a b right right' same
     where
       one : (x y : Meaning) → Means kb line x → Means kb line y → x ≡ y
       one = meanings kb line
@@ -108,7 +108,7 @@ module _ (meanings : (kb : Base) (line : List ℕ) → HasOneMeaning kb line) (t
       go (replied c r) (replied d q) right right' same =
           let is : c ≡ d = cc (one (Ok (Some c)) (Ok (Some d)) right.1 right'.1) in
           let right_q = subst (λ (e : Command). RightReply kb s e q) (sym is) right'.2 in
-          let both = same_command kb s c r q after after' alone names over right.2 right_q same in
+          let both = same_command kb s c r q after after' names over right.2 right_q same in
           (both.0, ap (state_after kb s) is, both.2)
 
 all_append : {T : Type 0} (W : T → Type 0) (xs ys : List T) → AllByRecursion W xs → AllByRecursion W ys → AllByRecursion W (xs ++ ys)
@@ -167,13 +167,13 @@ module _ (commands : CommandsAreOverTheBase) where
 
 module _ (commands : CommandsAreOverTheBase) (one : OneAnswerLaw) where
   pub one_consultation : OneConsultationLaw
-  one_consultation kb s t u [] [] [] alone names over is is' same = refl
-  one_consultation kb s t u [] [] (y ∷ b) alone names over is is' same = absurd is'
-  one_consultation kb s t u [] (x ∷ a) b alone names over is is' same = absurd is
-  one_consultation kb s t u (line ∷ lines) [] b alone names over is is' same = absurd is
-  one_consultation kb s t u (line ∷ lines) (x ∷ a) [] alone names over is is' same = absurd is'
-  one_consultation kb s t u (line ∷ lines) (x ∷ a) (y ∷ b) alone names over is is' same =
-      let first = one kb s line x y (said_texts kb a) (said_texts kb b) alone names over is.0 is'.0 same in
+  one_consultation kb s t u [] [] [] names over is is' same = refl
+  one_consultation kb s t u [] [] (y ∷ b) names over is is' same = absurd is'
+  one_consultation kb s t u [] (x ∷ a) b names over is is' same = absurd is
+  one_consultation kb s t u (line ∷ lines) [] b names over is is' same = absurd is
+  one_consultation kb s t u (line ∷ lines) (x ∷ a) [] names over is is' same = absurd is'
+  one_consultation kb s t u (line ∷ lines) (x ∷ a) (y ∷ b) names over is is' same =
+      let first = one kb s line x y (said_texts kb a) (said_texts kb b) names over is.0 is'.0 same in
       let later = subst (λ (v : State). Consultation kb v lines b u) (sym first.1) is'.1 in
-      let more = one_consultation kb (state_left kb s x) t u lines a b alone names (left_over commands kb s line x over is.0) is.1 later first.2 in
+      let more = one_consultation kb (state_left kb s x) t u lines a b names (left_over commands kb s line x over is.0) is.1 later first.2 in
       λ i. first.0 i ∷ more i

@@ -4,7 +4,7 @@ use Rattle.std.specs.List.{AllByRecursion}
 use Rattle.kb_logic.specs.Bases.{Base}
 use Rattle.consult_text.specs.Budgets.{most_budget}
 use Rattle.consult_text.specs.Literals.{IsLiteralOver}
-use Rattle.consult_text.specs.OneText.{HasPredicatesAlone, HasWordNames}
+use Rattle.consult_text.specs.OneText.{HasWordNames}
 use Rattle.consult_text.specs.States.{State, first_state}
 use Rattle.idp_cli.specs.Turns.{reply_of}
 use Rattle.idp_cli.specs.Consultation.{Said, IsRightAnswer, state_left, said_text, said_texts, Consultation}
@@ -19,11 +19,11 @@ pub record IsStateOver (kb : Base) (s : State) : Type 0 where
   pub choices : AllByRecursion (IsLiteralOver kb) s.choices
   pub budget : IsBudgetInRange s.budget
 
--- Over a knowledge base of predicates whose names are words, two right answers to a line that have one text are one reply
+-- Over a knowledge base whose names are words, two right answers to a line that have one text are one reply
 -- and leave one state. What follows the texts does not matter: none of them begins another.
 abbrev pub OneAnswerLaw : Type 0
 OneAnswerLaw = (kb : Base) (s : State) (line : List ℕ) (a b : Said) (after after' : List ℕ)
-    → HasPredicatesAlone kb → HasWordNames kb → IsStateOver kb s
+    → HasWordNames kb → IsStateOver kb s
     → IsRightAnswer kb s line a → IsRightAnswer kb s line b
     → said_text kb.vocabulary a ++ after ≡ said_text kb.vocabulary b ++ after'
     → (reply_of a ≡ reply_of b) × (state_left kb s a ≡ state_left kb s b) × (after ≡ after')
@@ -32,7 +32,7 @@ OneAnswerLaw = (kb : Base) (s : State) (line : List ℕ) (a b : Said) (after aft
 -- line.
 abbrev pub OneConsultationLaw : Type 0
 OneConsultationLaw = (kb : Base) (s t u : State) (lines : List (List ℕ)) (a b : List Said)
-    → HasPredicatesAlone kb → HasWordNames kb → IsStateOver kb s
+    → HasWordNames kb → IsStateOver kb s
     → Consultation kb s lines a t → Consultation kb s lines b u → said_texts kb a ≡ said_texts kb b
     → map reply_of a ≡ map reply_of b
 

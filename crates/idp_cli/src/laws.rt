@@ -20,7 +20,7 @@ pub fn statuses_come_where_they_should()
     accepted_or_refused();
 }
 
-/// The printed bytes determine what was answered: over a knowledge base of predicates whose names are words, two right
+/// The printed bytes determine what was answered: over a knowledge base whose names are words, two right
 /// answers to a line that have one text are one reply, and two consultations of the same lines that print the same
 /// bytes have the same replies. The choices in force, which an answer may list, are always literals over the knowledge
 /// base, and the budget is always one that can be given.
