@@ -34,7 +34,7 @@ use Rattle.base_reader.specs.FileMeanings.{Choice, Picked, Meaning, HasBlocks, H
 use Rattle.type_derivation.specs.TypedViews.{typed_view, named_theory_view}
 use Rattle.type_derivation.specs.declared.typed.TypedKb.{TypedKb}
 use Rattle.typing_laws.specs.Vocabularies.{DerivedIsWellFormed}
-use Rattle.file_bases.specs.FileLaws.{AcceptedCanBeGrounded}
+use Rattle.file_bases.specs.FileLaws.{AcceptedCanBeGrounded, AcceptedIsBounded}
 use Rattle.consult_base.specs.Opened.{opened, IsKnowledgeBase}
 use Rattle.base_reader.proofs.Facts.{chosen_within, theories_many, read_map}
 use Rattle.base_reader.specs.FileMeanings as refused
@@ -140,7 +140,7 @@ module _ (same : FilesAreTheirBlocks) (c : Choice) (bytes : List ℕ) (kb : RawK
     typed = has_types typed x is at;
     name = named;
     given = sized.given;
-    sized = sized.sized;
+    sized = sized.sized.accepted;
   }
 
   -- the number of the chosen structure is that of one
@@ -170,12 +170,13 @@ module _ (same : FilesAreTheirBlocks) (c : Choice) (bytes : List ℕ) (kb : RawK
       )
 
   -- what is opened is a knowledge base
-  pub is_opened : AcceptedCanBeGrounded → DerivedIsWellFormed → (typed : TypedKb) (x : RawStructure) (known : KnownAtoms) (title : Text)
+  pub is_opened : AcceptedCanBeGrounded → AcceptedIsBounded → DerivedIsWellFormed → (typed : TypedKb) (x : RawStructure) (known : KnownAtoms) (title : Text)
       → HasTypedFile (file_in kb) (typed_view typed) → IsSizedData (typed_view typed) t (structure_view x) known
       → IsKnowledgeBase (opened typed t title known)
-  is_opened grounded formed typed x known title is sized = record {
+  is_opened grounded bounded formed typed x known title is sized = record {
     theory = omega (arith, theory_within (typed_view typed) is, length-map typed.theories named_theory_view);
     ground = (grounded (file_in kb) is.0 (typed_view typed) is.1 is.2 t (structure_view x) known sized.given).0;
-    sized = sized.sized;
+    bounded = (bounded is.0 (typed_view typed) is.2 t known sized.sizes sized.sized).theory;
+    sized = sized.sized.accepted;
     numbered = (formed (file_in kb) is.0 (typed_view typed) is.1 is.2).few_symbols;
   }

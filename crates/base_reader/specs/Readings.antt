@@ -18,7 +18,7 @@ use Rattle.reading_stages.specs.TypesStage.{TypesRefuse, IsTyped}
 use Rattle.reading_stages.specs.TypedFiles.{TypedFile}
 use Rattle.reading_stages.specs.DataStage.{StructureRefuses}
 use Rattle.reading_stages.specs.DataAnswer.{IsDataOf}
-use Rattle.reading_stages.specs.SizesStage.{SizesRefuse, size_uses}
+use Rattle.reading_stages.specs.SizesStage.{Sizes, AreSizesOf, SizesRefuse, size_uses}
 use Rattle.type_derivation.specs.TypedViews.{typed_view}
 use Rattle.consult_base.specs.Opened.{Opened}
 use Rattle.base_reader.specs.FileMeanings.{Choice, Meaning, HasBlocks, IsRefused}
@@ -55,7 +55,8 @@ NamesOrTypes f (Refused q) =
 -- these are the data of the structure, and no size is refused
 pub record IsSizedData (f : TypedFile) (theory : ℕ) (s : raw.Structure) (known : KnownAtoms) : Type 0 where
   pub given : IsDataOf f theory s known
-  pub sized : (q : KbFault) → SizesRefuse (size_uses f theory known.domains) q → ⊥
+  pub sizes : Sizes
+  pub sized : AreSizesOf f theory known.domains sizes
 
 -- the stage of data or that of sizes refuses the structure
 abbrev pub DataOrSizes : TypedFile → ℕ → raw.Structure → KbError → Type 0

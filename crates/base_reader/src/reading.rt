@@ -8,7 +8,7 @@ ghost use Rattle.base_reader.specs.Readings.{choice, meaning_of, AreBlocksOf, Da
 
 use block_choice::{Picked, pick};
 use consult_base::KnowledgeBase;
-use file_bases::accepted_can_be_grounded;
+use file_bases::{accepted_can_be_grounded, accepted_is_bounded};
 use fo_reader::read_kb;
 use fo_syntax::{KbError, RawKb, RawStructure};
 use kb_logic::Name;
@@ -95,6 +95,7 @@ pub fn read_base(
     derived_is_well_formed();
     accepted_is_typed_over();
     accepted_can_be_grounded();
+    accepted_is_bounded();
     let (raw, picked) = match read_blocks(alloc, bytes, theory, structure) {
         Ok(found) => found,
         Err(e) => return Err(e),

@@ -1,9 +1,10 @@
 -- Knowledge bases that are consulted.
 use Rattle.std.specs.Prelude.{◌<◌, ◌≤◌, ℕ, List, length}
 use Rattle.kb_logic.specs.Bases.{Base}
+use Rattle.kb_logic.specs.Bounds.{TheoryIsBounded}
 use Rattle.kb_logic.specs.KnownAtoms.{KnownAtoms}
 use Rattle.kb_text.specs.declared.fault.KbFault.{KbFault}
-use Rattle.reading_stages.specs.FileBases.{base_of_file}
+use Rattle.reading_stages.specs.FileBases.{base_of_file, theory_at}
 use Rattle.reading_stages.specs.Scopes.{Text}
 use Rattle.reading_stages.specs.SizesStage.{SizesRefuse, size_uses}
 use Rattle.type_derivation.specs.TypedViews.{typed_view}
@@ -24,9 +25,11 @@ opened typed theory structure known = record { typed = typed; theory = theory; s
 abbrev pub base_of : Opened → Base
 base_of k = base_of_file (typed_view k.typed) k.theory k.known
 
--- the theory is one of the file's; theory and data are well typed; no size is refused; and symbols have numbers of 32 bits
+-- the theory is one of the file's; theory and data are well typed; its terms are bounded, and no size is refused; and there
+-- are few symbols
 pub record IsKnowledgeBase (k : Opened) : Type 0 where
   pub theory : k.theory < length k.typed.theories
   pub ground : IsGroundTheory (base_of k)
+  pub bounded : TheoryIsBounded k.typed.vocab k.known.domains (theory_at (typed_view k.typed) k.theory)
   pub sized : (q : KbFault) → SizesRefuse (size_uses (typed_view k.typed) k.theory k.known.domains) q → ⊥
   pub numbered : length k.typed.vocab.symbols ≤ 1024

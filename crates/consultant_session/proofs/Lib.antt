@@ -3,3 +3,4 @@ pub mod ElementLemmas
 pub mod LiteralLemmas
 pub mod ChoiceLemmas
 pub mod KnownLemmas
+pub mod FoundLemmas

@@ -25,7 +25,7 @@ returns-in-Err-read_data-clause-err c =
 pub new-requires-2 : goal.new-requires-2
 new-requires-2 c =
     is_opened c.files_are_their_blocks.ensures (choice c.args.theory c.args.structure) c.args.bytes.now c.in-Ok.found.0 c.in-Ok.found.1.theory c.in-Ok.found.1.structure
-    c.in-Ok.ensures.ok c.accepted_can_be_grounded.ensures c.derived_is_well_formed.ensures c.in-Ok-read_types.typed c.structure_at-structure.result.now c.in-Ok-read_data.data c.in-Ok-new.name
+    c.in-Ok.ensures.ok c.accepted_can_be_grounded.ensures c.accepted_is_bounded.ensures c.derived_is_well_formed.ensures c.in-Ok-read_types.typed c.structure_at-structure.result.now c.in-Ok-read_data.data c.in-Ok-new.name
     c.in-Ok-read_types.ensures.ok c.in-Ok-read_data.ensures.ok
 
 pub returns-clause-ok : goal.returns-clause-ok
