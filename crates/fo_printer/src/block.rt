@@ -4,6 +4,7 @@ ghost use Rattle.std.specs.List.{enumerate_from};
 ghost use Rattle.kb_logic.specs.Structures.{domain_at};
 ghost use Rattle.block_texts.specs.Entries.{entries_of, symbol_entries, type_entries};
 ghost use Rattle.block_texts.specs.Texts.{block_text, entries_text};
+ghost use Rattle.block_laws.specs.ReadBack.{IsReadBack, IsWritable};
 
 use crate::entries::{push_symbol, push_type};
 use kb_logic::{Elem, ElemList, Memory, Name, TypeDecl, Vocabulary};
@@ -15,6 +16,9 @@ use std::alloc::Global;
 /// constructed and then for each symbol of which something is known, and the line `}`. A symbol of which all is known has
 /// one line, as `P = {a,b; c,d}`; else there is a line `P<ct> = ..` for what is certainly true, and a line `P<cf> = ..` for
 /// what is certainly false. Where memory runs out, nothing is appended.
+///
+/// Where the names are words that are read and not reserved, and the domains are as the vocabulary asks, the text is that
+/// of one structure block, which gives the same partial structure again.
 pub fn print_block(
     alloc: Global,
     out: &mut Vec<u8>,
@@ -25,6 +29,24 @@ pub fn print_block(
     requires few { length s.now.symbols ≤ 2 ^ 32 }
     ensures ok { OnOk result (out.new.items ≡ out.old.items ++ block_text v.now name.now s.now) }
     ensures err { OnErr result (out.new.items ≡ out.old.items) }
+    ensures back { IsWritable v.now name.now s.now → IsReadBack v.now name.now s.now }
+{
+    // Brings into scope what each partial structure keeps, by which its text is read back.
+    s.consistency();
+    append_block(alloc, out, v, name, s)
+}
+
+/// As `print_block`, with its text alone.
+fn append_block(
+    alloc: Global,
+    out: &mut Vec<u8>,
+    v: &Vocabulary,
+    name: &Name,
+    s: &Partial,
+) -> Result<(), Memory>
+    requires { length s.now.symbols ≤ 2 ^ 32 }
+    ensures ok { OnOk result (out.new.items ≡ out.old.items ++ block_text v.now name.now s.now) }
+    ensures err { OnErr result (out.new.items ≡ out.old.items) }
 {
     let mut text = Vec::new(alloc);
     push_block(alloc, &mut text, v, name, s)?;
@@ -32,7 +54,7 @@ pub fn print_block(
     Ok(())
 }
 
-/// As `print_block`, but where memory runs out a part may have been appended.
+/// As `append_block`, but where memory runs out a part may have been appended.
 fn push_block(
     alloc: Global,
     out: &mut Vec<u8>,

@@ -4,13 +4,19 @@ ghost use Rattle.literal_printer.specs.Texts.{args_text, atom_text, equality_tex
 
 use crate::pieces::{push_bytes, push_elem, push_row};
 use kb_logic::{Elem, Literal, Memory, Vocabulary};
+use std::alloc::Global;
 
 /// Appends a literal, as `P(a,b)`, `~p`, `f(a) = b` or `c ~= e`. Where memory runs out, nothing is appended.
-pub fn print_literal(out: &mut Vec<u8>, v: &Vocabulary, l: &Literal) -> Result<(), Memory>
+pub fn print_literal(
+    alloc: Global,
+    out: &mut Vec<u8>,
+    v: &Vocabulary,
+    l: &Literal,
+) -> Result<(), Memory>
     ensures ok { OnOk result (out.new.items ≡ out.old.items ++ literal_text v.now l.now) }
     ensures err { OnErr result (out.new.items ≡ out.old.items) }
 {
-    let mut text = Vec::new(*out.allocator());
+    let mut text = Vec::new(alloc);
     push_literal(&mut text, v, l)?;
     out.extend_from_slice(&text)?;
     Ok(())

@@ -16,14 +16,20 @@ ghost use Rattle.literal_printer.specs.Tables.{
 
 use crate::pieces::{push_bytes, push_elem, push_row};
 use kb_logic::{Elem, ElemList, Memory, Structure, Symbol, Table, Vocabulary};
+use std::alloc::Global;
 
 /// Appends one line for each predicate and function, in order of declaration, as `P = {a,b; c,d}`, `f = {a->r; b->g}`,
 /// `c = r` or `p = true`. Where memory runs out, nothing is appended.
-pub fn print_symbols(out: &mut Vec<u8>, v: &Vocabulary, m: &Structure) -> Result<(), Memory>
+pub fn print_symbols(
+    alloc: Global,
+    out: &mut Vec<u8>,
+    v: &Vocabulary,
+    m: &Structure,
+) -> Result<(), Memory>
     ensures ok { OnOk result (out.new.items ≡ out.old.items ++ symbol_lines v.now m.now) }
     ensures err { OnErr result (out.new.items ≡ out.old.items) }
 {
-    let mut text = Vec::new(*out.allocator());
+    let mut text = Vec::new(alloc);
     push_symbols(&mut text, v, m)?;
     out.extend_from_slice(&text)?;
     Ok(())

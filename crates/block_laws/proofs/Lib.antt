@@ -1,0 +1,12 @@
+pub mod Each
+pub mod Subjects
+pub mod KnownRows
+pub mod RightEntries
+pub mod SaidEntries
+pub mod SaidFacts
+pub mod Reading
+pub mod ReadDomains
+pub mod ReadFacts
+pub mod Accepted
+pub mod Writable
+pub mod ReadBack
