@@ -1,5 +1,5 @@
 -- What a task answers is what a query finds.
-use Rattle.std.proofs.Common.{◌≡◌, ℕ, zero, suc, ◌+◌, ◌-◌, ◌*◌, ◌<◌, ◌≤◌, ◌^◌, List, [], ◌∷◌, length, get_or, refl, sym, ap, ◌∙◌, subst, arith, inl, inr, All, Option, Some, None}
+use Rattle.std.proofs.Common.{◌≡◌, ℕ, zero, suc, ◌+◌, ◌-◌, ◌*◌, ◌<◌, ◌≤◌, ◌^◌, List, [], ◌∷◌, length, get_or, refl, sym, ap, ◌∙◌, subst, arith, inl, inr, All, Result, Ok, Err, IfOk}
 use Rattle.std.specs.List.{AllByRecursion}
 use Rattle.std.proofs.lemmas.List.Elements.{All-from_recursion}
 use Rattle.kb_logic.specs.declared.structures.Literal.{Literal}
@@ -8,42 +8,17 @@ use Rattle.kb_logic.specs.declared.vocabularies.Symbol.{Symbol}
 use Rattle.kb_logic.specs.Bases.{Base, IsModelUnder}
 use Rattle.kb_logic.specs.Models.{HoldsIn, IsAtomOver, atom_of}
 use Rattle.kb_logic.proofs.Atoms.{elements_tuple}
-use Rattle.ground_core.specs.Problems.{ProblemState}
 use Rattle.ground_core.specs.Solving.{IsSublist, SolveState}
-use Rattle.def_ground.specs.Groundings.{IsGroundingOf}
 use Rattle.term_values.specs.GroundBases.{GroundBase}
 use Rattle.ground_task.specs.Choices.{AreOver}
-use Rattle.ground_task.specs.Tasks.{atom_base, IsTaskOf}
-use Rattle.search_engine.specs.Joining.{joined_problem}
-use Rattle.ground_core.specs.Problems.{empty_problem}
-use Rattle.clause_learning.specs.SolverState.{SolverState, empty_state, joined_state}
 use Rattle.consult_text.specs.Literals.{IsLiteralOver}
 use Rattle.consult_text.specs.Searches.{weight}
-use Rattle.consultant_session.specs.Queries.{IsSolverOf, IsTaskOver}
+use Rattle.consultant_session.specs.Queries.{IsTaskOver}
 
--- what is said to a solver that has no variables is the whole of its problem
-pub joined_nothing : (q : ProblemState) → q.retired ≡ [] → joined_problem (empty_problem []) q ≡ q
-joined_nothing q none = λ i. record {
-  atoms = q.atoms;
-  vars = q.vars;
-  gates = q.gates;
-  clauses = q.clauses;
-  sums = q.sums;
-  terms = q.terms;
-  bounds = q.bounds;
-  retired = sym none i;
-}
-
-pub solver_of : (kb : Base) (q : ProblemState) (s : SolveState) → q.retired ≡ [] → IsGroundingOf kb q → q.vars ≤ weight kb
-    → s ≡ joined_state empty_state q → IsSolverOf kb s
-solver_of kb q s none grounding small is =
-    let P : SolveState → Type 0 = λ s. IsSolverOf kb s in
-    subst P (sym is) (record {
-      grounding = subst (IsGroundingOf kb) (sym (joined_nothing q none)) grounding;
-      unretired = refl;
-      learnt = refl;
-      free = omega (arith, small);
-    })
+-- what two facts say of what was found
+pub if_ok : {A E : Type 0} {P Q R : A → Type 0} (r : Result A E) → ((x : A) → P x → Q x → R x) → IfOk r P → IfOk r Q → IfOk r R
+if_ok (Ok x) f p q = f x p q
+if_ok (Err e) f p q = tt
 
 -- the choices are over the atoms of the task
 over_at : (kb : Base) (ls : List Literal) → AllByRecursion (IsLiteralOver kb) ls → AllByRecursion (λ l. IsAtomOver kb.vocabulary.symbols kb.known.domains (atom_of l)) ls
