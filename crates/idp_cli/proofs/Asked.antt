@@ -48,10 +48,10 @@ pub record AreOne (command command' file file' : List ℕ) (a b : Given) : Type 
   pub same_file : file ≡ file'
   pub given : a ≡ b
 
-first_of : {x y : List ℕ} {xs ys : List (List ℕ)} → x ∷ xs ≡ y ∷ ys → x ≡ y
+pub first_of : {x y : List ℕ} {xs ys : List (List ℕ)} → x ∷ xs ≡ y ∷ ys → x ≡ y
 first_of e = cc
 
-rest_of : {x y : List ℕ} {xs ys : List (List ℕ)} → x ∷ xs ≡ y ∷ ys → xs ≡ ys
+pub rest_of : {x y : List ℕ} {xs ys : List (List ℕ)} → x ∷ xs ≡ y ∷ ys → xs ≡ ys
 rest_of e = cc
 
 pub one_line : (words : List (List ℕ)) (command command' file file' : List ℕ) (a b : Given) → IsCommandLine words command file a
