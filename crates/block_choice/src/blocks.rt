@@ -1,14 +1,12 @@
 //! Blocks with a header, of each kind.
-ghost use Rattle.std.specs.Prelude.{◌≡◌, ◌&&◌, nat_lt, fold, map, position, unwrap_or};
+ghost use Rattle.std.specs.Prelude.{◌≡◌, fold, map, position, unwrap_or};
 ghost use Rattle.reading_stages.specs.BlocksStage as stage;
 ghost use Rattle.reading_stages.specs.BlocksStage.{block_noted, header_names, is_called, one_of_each};
 ghost use Rattle.reading_stages.specs.FileView.{header_in};
 ghost use Rattle.reading_stages.specs.Files.{Header};
-ghost use Rattle.reading_stages.specs.Names.{place_of_name};
-ghost use Rattle.fo_syntax.specs.View.{name_view};
 ghost use Rattle.block_choice.specs.Choices.{word_given};
 
-use fo_syntax::{RawHeader, RawName, RawStructure, RawTerm, RawTheory};
+use fo_syntax::{RawHeader, RawStructure, RawTerm, RawTheory};
 use kb_text::K;
 use reading_stages::Earliest;
 
@@ -42,25 +40,6 @@ impl Headed for RawTerm {
     fn header(&self) -> &RawHeader {
         &self.header
     }
-}
-
-/// Whether `other` is the same word as `name` and stands before it.
-fn is_same_before(other: &RawName, name: &RawName) -> bool
-    ensures { result ≡ (is_called name.now.text (name_view other.now) && nat_lt other.now.place name.now.place) }
-{
-    name.text.as_slice() == other.text.as_slice() && other.place < name.place
-}
-
-/// Whether one of the blocks has this name and stands before it.
-pub fn is_again_among<B: Headed>(blocks: &[B], name: &RawName) -> bool
-    ensures { result ≡ stage.is_again (header_names (map B.header_of blocks.now)) (name_view name.now) }
-{
-    for block in blocks {
-        if is_same_before(&block.header().name, name) {
-            return true;
-        }
-    }
-    false
 }
 
 /// The number of the block of this name.

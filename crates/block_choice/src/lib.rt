@@ -2,6 +2,7 @@
 #![tactic(auto)]
 
 mod blocks;
+mod first_places;
 mod picking;
 
 pub use picking::{Picked, pick};

@@ -2,17 +2,17 @@
 ghost use Rattle.std.specs.Prelude.{◌≡◌, Some, fold, map, unwrap_or, IfErr, IfOk};
 ghost use Rattle.std.specs.List.{flat_map};
 ghost use Rattle.reading_stages.specs.BlocksStage as stage;
-ghost use Rattle.reading_stages.specs.BlocksStage.{block_noted, block_uses, header_names, headers_of, one_of_each, uses_of_header, BlocksRefuse, IsPicked};
-ghost use Rattle.reading_stages.specs.Earliest.{IsEarliest};
+ghost use Rattle.reading_stages.specs.BlocksStage.{block_noted, block_uses, header_names, headers_of, one_of_each, uses_of_header, IsPicked};
 ghost use Rattle.reading_stages.specs.FileView.{file_in, header_in, vocabulary_in};
 ghost use Rattle.reading_stages.specs.Names.{text_of};
-ghost use Rattle.fo_syntax.specs.View.{name_view};
-ghost use Rattle.block_choice.specs.Choices.{word_given};
+ghost use Rattle.block_choice.specs.Choices.{word_given, AreFirstPlaces, FailsWith};
 
-use crate::blocks::{Headed, choose, is_again_among, note_unless_named};
-use fo_syntax::{RawHeader, RawKb, RawName, RawVocabulary};
-use kb_text::{K, KbFault};
+use crate::blocks::{Headed, choose, note_unless_named};
+use crate::first_places::{FirstPlaces, is_again, no_places, note_places};
+use fo_syntax::{KbError, RawHeader, RawKb, RawName, RawVocabulary};
+use kb_text::K;
 use reading_stages::Earliest;
+use std::alloc::{AllocError, Global};
 
 /// The numbers of the chosen theory and structure, each among its kind in the order of the text.
 #[derive(Clone, Copy, PartialEq, Eq)]
@@ -31,38 +31,53 @@ fn is_other(vocabularies: &[RawVocabulary], word: &RawName) -> bool
     }
 }
 
-/// Whether a block of the same name stands before, of any kind.
-fn is_again(raw: &RawKb, name: &RawName) -> bool
-    ensures { result ≡ stage.is_again (header_names (headers_of (file_in raw.now))) (name_view name.now) }
+/// The least place at which each name is a block's, of any kind.
+fn first_places<'a>(alloc: Global, raw: &'a RawKb) -> Result<FirstPlaces<'a>, AllocError>
+    ensures { IfOk result (AreFirstPlaces (header_names (headers_of (file_in raw.now)))) }
 {
-    is_again_among(raw.theories.as_slice(), name)
-        || is_again_among(raw.structures.as_slice(), name)
-        || is_again_among(raw.terms.as_slice(), name)
+    let mut first = no_places(alloc);
+    note_places(&mut first, raw.theories.as_slice())?;
+    note_places(&mut first, raw.structures.as_slice())?;
+    note_places(&mut first, raw.terms.as_slice())?;
+    Ok(first)
 }
 
-fn note_header(raw: &RawKb, header: &RawHeader, earliest: &mut Earliest)
+fn note_header<'a>(
+    raw: &'a RawKb,
+    first: &FirstPlaces<'a>,
+    header: &'a RawHeader,
+    earliest: &mut Earliest,
+)
+    requires { AreFirstPlaces (header_names (headers_of (file_in raw.now))) first.now }
     ensures { earliest.new.first ≡ fold block_noted earliest.old.first (uses_of_header (file_in raw.now) (header_in header.now)) }
 {
     let is_other = is_other(raw.vocabularies.as_slice(), &header.of);
     earliest.note_if(is_other, K::UnknownName, header.of.place);
-    let is_again = is_again(raw, &header.name);
+    let is_again = is_again(first, &header.name);
     earliest.note_if(is_again, K::Redeclared, header.name.place);
 }
 
-fn note_headers<B: Headed>(raw: &RawKb, blocks: &[B], earliest: &mut Earliest)
+fn note_headers<'a, B: Headed>(
+    raw: &'a RawKb,
+    first: &FirstPlaces<'a>,
+    blocks: &'a [B],
+    earliest: &mut Earliest,
+)
+    requires { AreFirstPlaces (header_names (headers_of (file_in raw.now))) first.now }
     ensures { earliest.new.first ≡ fold block_noted earliest.old.first (flat_map (uses_of_header (file_in raw.now)) (map B.header_of blocks.now)) }
 {
     for block in blocks {
-        note_header(raw, block.header(), earliest);
+        note_header(raw, first, block.header(), earliest);
     }
 }
 
-fn note_all_headers(raw: &RawKb, earliest: &mut Earliest)
+fn note_all_headers<'a>(raw: &'a RawKb, first: &FirstPlaces<'a>, earliest: &mut Earliest)
+    requires { AreFirstPlaces (header_names (headers_of (file_in raw.now))) first.now }
     ensures { earliest.new.first ≡ fold block_noted earliest.old.first (flat_map (uses_of_header (file_in raw.now)) (headers_of (file_in raw.now))) }
 {
-    note_headers(raw, raw.theories.as_slice(), earliest);
-    note_headers(raw, raw.structures.as_slice(), earliest);
-    note_headers(raw, raw.terms.as_slice(), earliest);
+    note_headers(raw, first, raw.theories.as_slice(), earliest);
+    note_headers(raw, first, raw.structures.as_slice(), earliest);
+    note_headers(raw, first, raw.terms.as_slice(), earliest);
 }
 
 fn note_further_vocabularies(vocabularies: &[RawVocabulary], earliest: &mut Earliest)
@@ -81,17 +96,19 @@ fn note_no_vocabulary(raw: &RawKb, earliest: &mut Earliest)
 }
 
 /// Notes all refusals of the stage. The numbers are 0 where a block is missing, which is refused.
-fn choose_blocks(
-    raw: &RawKb,
+fn choose_blocks<'a>(
+    raw: &'a RawKb,
+    first: &FirstPlaces<'a>,
     theory: Option<&[u8]>,
     structure: Option<&[u8]>,
     earliest: &mut Earliest,
 ) -> Picked
+    requires { AreFirstPlaces (header_names (headers_of (file_in raw.now))) first.now }
     ensures theory { result.theory ≡ unwrap_or (stage.chosen (map (λ t. t.header.name) (file_in raw.now).theories) (word_given theory.entry)) 0 }
     ensures structure { result.structure ≡ unwrap_or (stage.chosen (header_names (file_in raw.now).structures) (word_given structure.entry)) 0 }
     ensures noted { earliest.new.first ≡ fold block_noted earliest.old.first (block_uses (file_in raw.now) (word_given theory.entry) (word_given structure.entry)) }
 {
-    note_all_headers(raw, earliest);
+    note_all_headers(raw, first, earliest);
     note_further_vocabularies(raw.vocabularies.as_slice(), earliest);
     note_unless_named(raw.theories.as_slice(), theory, earliest);
     note_unless_named(raw.structures.as_slice(), structure, earliest);
@@ -113,15 +130,25 @@ fn bytes_in(name: Option<&str>) -> Option<&[u8]>
 
 /// The theory and the structure of these names, or the only ones where none is named; else the earliest refusal of the
 /// stage of blocks: a header that names another vocabulary than the first one, a second block of one name, or not
-/// exactly one vocabulary, theory or structure where no name chooses. Takes no memory.
-pub fn pick(raw: &RawKb, theory: Option<&str>, structure: Option<&str>) -> Result<Picked, KbFault>
+/// exactly one vocabulary, theory or structure where no name chooses. It takes memory for the names, so that it takes
+/// time linear in the number of blocks.
+pub fn pick(
+    alloc: Global,
+    raw: &RawKb,
+    theory: Option<&str>,
+    structure: Option<&str>,
+) -> Result<Picked, KbError>
     ensures ok { IfOk result (λ p. IsPicked (file_in raw.now) (word_given theory.entry) (word_given structure.entry) p.theory p.structure) }
-    ensures err { IfErr result (λ r. IsEarliest (BlocksRefuse (block_uses (file_in raw.now) (word_given theory.entry) (word_given structure.entry))) r) }
+    ensures err { IfErr result (FailsWith (file_in raw.now) (word_given theory.entry) (word_given structure.entry)) }
 {
+    let Ok(first) = first_places(alloc, raw) else {
+        return Err(KbError::Memory);
+    };
     let mut earliest = Earliest::new();
-    let picked = choose_blocks(raw, bytes_in(theory), bytes_in(structure), &mut earliest);
+    let (theory, structure) = (bytes_in(theory), bytes_in(structure));
+    let picked = choose_blocks(raw, &first, theory, structure, &mut earliest);
     match earliest.first {
         None => Ok(picked),
-        Some(fault) => Err(fault),
+        Some(fault) => Err(KbError::Refused(fault)),
     }
 }

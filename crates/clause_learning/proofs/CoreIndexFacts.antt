@@ -1,12 +1,12 @@
 -- Kept cores.
-use Rattle.std.proofs.Common.{◌≡◌, ℕ, zero, suc, ◌+◌, ◌-◌, ◌<◌, ◌≤◌, true, Option, Some, None, List, [], ◌∷◌, ◌++◌, length, slice_get, get_or, refl, sym, ap, ◌∙◌, subst, inl, inr, ◌⊎◌, ⊎_elim, arith, All, Contains}
+use Rattle.std.proofs.Common.{◌≡◌, ℕ, zero, suc, ◌+◌, ◌-◌, ◌<◌, ◌≤◌, true, Some, List, [], ◌∷◌, ◌++◌, length, slice_get, get_or, refl, sym, ap, ◌∙◌, subst, inl, inr, ◌⊎◌, ⊎_elim, arith, All, Contains}
 use Rattle.std.proofs.lemmas.List.{length_push, get_or_push, get_or_append_left}
 use Rattle.std.proofs.lemmas.List.Elements.{All-nil, All-contains, All-contains_itself, All-weaker, Contains-append_left, Contains-push, Contains-push_cases}
-use Rattle.std.proofs.lemmas.Option.{slice_get_within, slice_get-get_or, get_or_from_slice_get, same_Some, none-some}
+use Rattle.std.proofs.lemmas.Option.{slice_get_within, slice_get-get_or, get_or_from_slice_get, same_Some}
 use Rattle.lit_core.specs.declared.literals.Lit.{Lit}
-use Rattle.lit_core.proofs.LiteralFacts.{decide_literal, nothing_in_none}
+use Rattle.lit_core.proofs.LiteralFacts.{decide_literal}
 use Rattle.clause_store.proofs.ListFacts.{slice_get-push_old, slice_get-push_new, slice_get-push_cases}
-use Rattle.ground_core.specs.Solving.{IsSublist, IsWithin, HasCoreWithin}
+use Rattle.ground_core.specs.Solving.{HasCoreWithin}
 use Rattle.search_engine.specs.declared.lit_sets.LitSet.{LitSet}
 use Rattle.search_engine.specs.LitSets.{HasLit, IsSetOf}
 use Rattle.search_engine.specs.Cores.{IsCoreOf}

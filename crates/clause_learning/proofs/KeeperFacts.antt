@@ -1,12 +1,11 @@
 -- Searches with kept cores, within a budget.
-use Rattle.std.proofs.Common.{◌≡◌, ℕ, ◌+◌, ◌-◌, ◌^◌, ◌<◌, ◌≤◌, true, Option, Some, None, IfSome, List, [], ◌∷◌, ◌++◌, length, take, drop, replicate, refl, sym, ap, ◌∙◌, subst, inl, inr, ◌⊎◌, ⊎_elim, arith, All, Contains}
+use Rattle.std.proofs.Common.{◌≡◌, ℕ, ◌+◌, ◌-◌, ◌^◌, ◌<◌, ◌≤◌, Bool, true, Option, Some, None, IfSome, List, [], ◌∷◌, ◌++◌, length, take, drop, replicate, refl, sym, ap, ◌∙◌, subst, inl, inr, ◌⊎◌, ⊎_elim, arith, All, Contains}
 use Rattle.std.proofs.lemmas.Nat.{pow_pos}
 use Rattle.std.proofs.lemmas.List.{take-append-drop, append-nil}
-use Rattle.std.proofs.lemmas.List.Elements.{All-contains, All-weaker, All-push, All-append, All-nil}
+use Rattle.std.proofs.lemmas.List.Elements.{All-contains, All-weaker}
 use Rattle.std.proofs.lemmas.Option.{same_Some}
 use Rattle.lit_core.specs.declared.literals.Lit.{Lit}
 use Rattle.lit_core.specs.Literals.{literal_value}
-use Rattle.ground_core.specs.declared.moments.Moment.{Moment}
 use Rattle.ground_core.specs.declared.parts.GroundTerm.{GroundTerm}
 use Rattle.std.specs.Prelude.{Result, Ok, Err, OnOk, OnErr}
 use Rattle.ground_core.specs.declared.solving.Budget.{Budget}
@@ -14,12 +13,12 @@ use Rattle.ground_core.specs.declared.solving.Halt.{Halt}
 use Rattle.ground_core.specs.declared.solving.Verdict.{Verdict}
 use Rattle.ground_core.specs.declared.solving.Verdict.TheVariants.{Sat, Unsat}
 use Rattle.ground_core.specs.Problems.{ProblemState}
-use Rattle.ground_core.specs.Meaning.{Satisfies, MakesTrue, RefutesAll, HasTermsInRange, IsInRange, term_value}
+use Rattle.ground_core.specs.Meaning.{Satisfies, RefutesAll}
 use Rattle.ground_core.specs.Moments.{moment_of}
 use Rattle.ground_core.specs.Solving.{SolveState, Answers, Spends, IsPrefix, IsBudgetOf, IsSublist, HasCoreWithin, KeepsCores}
 use Rattle.ground_core.proofs.CoreFacts.{within-trans, sublist-within}
 use Rattle.search_engine.specs.Joining.{joined_problem, CanJoin}
-use Rattle.search_engine.proofs.Joined.{joined-first, joined-second}
+use Rattle.search_engine.proofs.Joined.{joined-first}
 use Rattle.search_engine.specs.declared.engine.Engine.{Engine}
 use Rattle.search_engine.specs.Resting.{IsResting, Grows}
 use Rattle.clause_learning.specs.declared.keeper.Keeper.{Keeper}
@@ -85,8 +84,8 @@ none-within cores core lits sub none w = none (w.0, w.1, w.2, w.3, within-trans 
 
 -- where another problem is joined
 module _ (p q : ProblemState) (sums : p.sums ≡ []) (bounds : p.bounds ≡ []) (more-sums : q.sums ≡ []) (more-bounds : q.bounds ≡ []) (can : CanJoin p q) where
-  pub joined-terms : HasTermsInRange p → HasTermsInRange q → HasTermsInRange (joined_problem p q)
-  joined-terms a b v sat = All-append (λ t. IsInRange (term_value v t)) p.terms q.terms (a v (joined-first p q sums bounds more-sums more-bounds v sat)) (b v (joined-second p q sums bounds more-sums more-bounds can v sat))
+  pub joined-terms : p.terms ≡ [] → q.terms ≡ [] → p.terms ++ q.terms ≡ []
+  joined-terms a b = ap (λ (ts : List GroundTerm). ts ++ q.terms) a ∙ b
 
   pub joined-refuted : (cores : List (List Lit)) → All (RefutesAll p) cores → All (RefutesAll (joined_problem p q)) cores
   joined-refuted cores h = All-weaker (RefutesAll p) (RefutesAll (joined_problem p q)) (λ c r v sat make. r v (joined-first p q sums bounds more-sums more-bounds v sat) make) cores h
@@ -97,13 +96,14 @@ either A B (Err e) a b = inr b
 
 module _ (a : Keeper) (f : Engine) (h : IsKeeper a) (resting : IsResting f) where
   abbrev with_engine : Keeper
-  with_engine = record { alloc = a.alloc; engine = f; index = a.index }
+  with_engine = record { alloc = a.alloc; engine = f; index = a.index; additions = a.additions }
 
   -- another problem was joined
-  pub keeper-joined : (q : ProblemState) → CanJoin a.engine.problem q → q.sums ≡ [] → q.bounds ≡ [] → HasTermsInRange q → Grows a.engine q f → IsKeeper with_engine
+  pub keeper-joined : (q : ProblemState) → CanJoin a.engine.problem q → q.sums ≡ [] → q.bounds ≡ [] → q.terms ≡ [] → Grows a.engine q f → IsKeeper with_engine
   keeper-joined q can sums bounds terms g = record {
     resting = resting;
-    terms = subst HasTermsInRange (sym g.problem) (joined-terms a.engine.problem q h.resting.engine.sums h.resting.engine.bounds sums bounds can h.terms terms);
+    terms = ap (λ (p : ProblemState). p.terms) g.problem ∙ joined-terms a.engine.problem q h.resting.engine.sums h.resting.engine.bounds sums bounds can h.terms terms;
+    few = subst (λ (p : ProblemState). length p.retired ≤ p.vars) (sym g.problem) (let le : a.engine.problem.vars ≤ q.vars = can.vars in let few : length a.engine.problem.retired ≤ a.engine.problem.vars = h.few in omega (arith, le, few));
     indexed = h.indexed;
     refuted = subst (λ (p : ProblemState). All (RefutesAll p) a.index.cores.items) (sym g.problem) (joined-refuted a.engine.problem q h.resting.engine.sums h.resting.engine.bounds sums bounds can a.index.cores.items h.refuted);
     counted = rw g.same.searches h.counted;
@@ -113,11 +113,16 @@ module _ (a : Keeper) (f : Engine) (h : IsKeeper a) (resting : IsResting f) wher
   pub keeper-stays : f.problem ≡ a.engine.problem → f.searches < 2 ^ 64 → IsKeeper with_engine
   keeper-stays problem counted = record {
     resting = resting;
-    terms = subst HasTermsInRange (sym problem) h.terms;
+    terms = ap (λ (p : ProblemState). p.terms) problem ∙ h.terms;
+    few = subst (λ (p : ProblemState). length p.retired ≤ p.vars) (sym problem) h.few;
     indexed = h.indexed;
     refuted = subst (λ (p : ProblemState). All (RefutesAll p) a.index.cores.items) (sym problem) h.refuted;
     counted = counted;
   }
+
+-- a problem that says more refutes what was refuted
+pub refuted-more : (p q : ProblemState) → ((v : ℕ → Bool) → Satisfies q v → Satisfies p v) → (cores : List (List Lit)) → All (RefutesAll p) cores → All (RefutesAll q) cores
+refuted-more p q less cores h = All-weaker (RefutesAll p) (RefutesAll q) (λ c r v sat make. r v (less v sat) make) cores h
 
 -- kept cores stay
 pub cores-prefix : (before after : List (List Lit)) (r : Result Verdict Halt) → KeepsCores before r after → IsPrefix before after

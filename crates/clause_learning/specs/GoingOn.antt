@@ -1,5 +1,5 @@
 -- A solver that gives up nothing of what it told.
-use Rattle.std.specs.Prelude.{List, [], ◌++◌}
+use Rattle.std.specs.Prelude.{◌≡◌, List, [], ◌++◌}
 use Rattle.std.proofs.Common.{sym, ap, ◌∙◌}
 use Rattle.std.proofs.lemmas.List.{append-nil, append_assoc}
 use Rattle.ground_core.specs.Solving.{SolveState, IsPrefix}
@@ -13,6 +13,9 @@ pub record GoesOn (s t : SolveState) : Type 0 where
 
 pub prefix-itself : {A : Type 0} (xs : List A) → IsPrefix xs xs
 prefix-itself xs = ([], sym (append-nil xs))
+
+pub prefix-same : {A : Type 0} (xs ys : List A) → ys ≡ xs → IsPrefix xs ys
+prefix-same xs ys e = ([], e ∙ sym (append-nil xs))
 
 pub prefix-twice : {A : Type 0} (xs ys zs : List A) → IsPrefix xs ys → IsPrefix ys zs → IsPrefix xs zs
 prefix-twice xs ys zs a b = (a.0 ++ b.0, b.1 ∙ ap (λ l. l ++ b.0) a.1 ∙ append_assoc xs a.0 b.0)

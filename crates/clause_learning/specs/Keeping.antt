@@ -1,12 +1,11 @@
 -- An engine with the cores of its answers.
-use Rattle.std.specs.Prelude.{◌≡◌, ℕ, ◌+◌, ◌<◌, ◌≤◌, ◌^◌, Option, Some, None, List, [], All, IfSome}
-use Rattle.lit_core.specs.declared.literals.Lit.{Lit}
+use Rattle.std.specs.Prelude.{◌≡◌, ℕ, ◌+◌, ◌-◌, ◌<◌, ◌≤◌, ◌^◌, Option, Some, None, [], length, All, IfSome}
 use Rattle.ground_core.specs.declared.solving.Budget.{Budget}
 use Rattle.ground_core.specs.declared.solving.Verdict.{Verdict}
 use Rattle.ground_core.specs.declared.solving.Verdict.TheVariants.{Sat, Unsat}
-use Rattle.ground_core.specs.Meaning.{RefutesAll, HasTermsInRange}
+use Rattle.ground_core.specs.Meaning.{RefutesAll}
 use Rattle.ground_core.specs.Solving.{SolveState, HasCoreWithin}
-use Rattle.search_engine.specs.Resting.{IsNew, IsResting}
+use Rattle.search_engine.specs.Resting.{IsNew, IsResting, held_of}
 use Rattle.clause_learning.specs.declared.keeper.Keeper.{Keeper}
 use Rattle.clause_learning.specs.CoreIndexes.{IsIndexed}
 
@@ -17,15 +16,16 @@ kept_of a = record {
   learnt = a.engine.learnt;
   moments = a.engine.moments.items;
   cores = a.index.cores.items;
-  free = a.engine.problem.vars;
+  free = a.engine.problem.vars - length a.engine.problem.retired;
   searches = a.engine.searches;
-  additions = [];
+  additions = a.additions.items;
 }
 
 -- what holds while no search is running
 pub record IsKeeper (a : Keeper) : Type 0 where
   pub resting : IsResting a.engine
-  pub terms : HasTermsInRange a.engine.problem
+  pub terms : a.engine.problem.terms ≡ []
+  pub few : length a.engine.problem.retired ≤ a.engine.problem.vars
   pub indexed : IsIndexed a.index
   pub refuted : All (RefutesAll a.engine.problem) a.index.cores.items
   pub counted : a.engine.searches < 2 ^ 64
@@ -34,6 +34,7 @@ pub record IsKeeper (a : Keeper) : Type 0 where
 pub record IsNewKeeper (a : Keeper) : Type 0 where
   pub engine : IsNew a.engine
   pub cores : a.index.cores.items ≡ []
+  pub additions : a.additions.items ≡ []
 
 -- the learnt list, of so many clauses, may become this long within the budget
 abbrev pub IsMost : ℕ → Budget → Option ℕ → Type 0
@@ -44,3 +45,13 @@ IsMost known b None = IfSome b.limit (λ limit. 2 ^ 64 + b.spent ≤ known + lim
 abbrev pub IsNewRefusal : Keeper → Verdict → Type 0
 IsNewRefusal a (Sat values) = Unit {0}
 IsNewRefusal a (Unsat core) = RefutesAll a.engine.problem core × (HasCoreWithin a.index.cores.items core → ⊥)
+
+-- what the last search met stays
+pub record SameCounts (old new : Keeper) : Type 0 where
+  pub conflicts : new.engine.conflicts ≡ old.engine.conflicts
+  pub root_conflicts : new.engine.root_conflicts ≡ old.engine.root_conflicts
+
+-- what contracts see stays, and the clauses that are held
+pub record SameKeeping (old new : Keeper) : Type 0 where
+  pub kept : kept_of new ≡ kept_of old
+  pub held : held_of new.engine.store.clauses ≡ held_of old.engine.store.clauses

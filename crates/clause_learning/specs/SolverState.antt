@@ -27,7 +27,8 @@ HasClause held c = (k : List Lit) × Contains held k × IsEachOnceOf c k
 -- what holds of this solver while no search is running
 pub record IsSolver (s : SolverState) : Type 0 where
   pub kept : IsKept s.kept
-  pub plain : (s.kept.problem.sums ≡ []) × (s.kept.problem.bounds ≡ []) × (s.kept.problem.retired ≡ [])
+  -- no sums, no terms, and so no bounds
+  pub plain : (s.kept.problem.sums ≡ []) × (s.kept.problem.bounds ≡ []) × (s.kept.problem.terms ≡ [])
   -- whatever was assumed: each held clause is true wherever the problem holds
   pub implied : (v : ℕ → Bool) → Satisfies s.kept.problem v → All (IsSatisfied v) s.held
   -- each clause of the problem without a retired selector is held, and each learnt one
@@ -72,5 +73,10 @@ forgotten s = record { problem = s.problem; learnt = []; moments = []; cores = [
 -- and nothing else
 pub record Forgets (old new : SolverState) : Type 0 where
   pub kept : new.kept ≡ forgotten old.kept
+  pub conflicts : new.conflicts ≡ old.conflicts
+  pub root_conflicts : new.root_conflicts ≡ old.root_conflicts
+
+-- the counts of the last search stay
+pub record SameCounts (old new : SolverState) : Type 0 where
   pub conflicts : new.conflicts ≡ old.conflicts
   pub root_conflicts : new.root_conflicts ≡ old.root_conflicts

@@ -1,13 +1,15 @@
 //! A search engine with the cores that it found.
-ghost use Rattle.std.specs.Prelude.{◌≡◌, ◌≤◌, ◌<◌, ◌+◌, ℕ, [], length, IfOk, IfErr};
+ghost use Rattle.std.specs.Prelude.{◌≡◌, ◌≤◌, ◌<◌, ◌+◌, ℕ, [], length, Contains, IfOk, IfErr, OnErr};
 ghost use Rattle.ground_core.specs.declared.solving.Halt.TheVariants as halt;
 ghost use Rattle.ground_core.specs.Problems.{AreLitsOf};
 ghost use Rattle.ground_core.specs.Solving.{Answers, HaltedAt, HasCoreWithin, IsBudgetOf, IsKnown, KeepsCores, Spends, counted};
-ghost use Rattle.clause_learning.specs.Keeping.{IsKeeper, IsMost, IsNewRefusal, IsNewKeeper, kept_of};
+ghost use Rattle.ground_core.specs.Growth.{next_lit};
+ghost use Rattle.ground_core.specs.Growing.{IsSelector, excluded, retired};
+ghost use Rattle.clause_learning.specs.Keeping.{IsKeeper, IsMost, IsNewRefusal, IsNewKeeper, SameCounts, SameKeeping, kept_of};
 
 use crate::core_index::CoreIndex;
-use ground_core::{Budget, Halt, Memory, Verdict};
-use lit_core::Lit;
+use ground_core::{Addition, Budget, Halt, Memory, Verdict};
+use lit_core::{Lit, Values};
 use search_engine::Engine;
 use std::alloc::Global;
 
@@ -17,6 +19,8 @@ pub struct Keeper {
     pub alloc: Global,
     pub engine: Engine,
     pub index: CoreIndex,
+    /// What was added under selectors, in order.
+    pub additions: Vec<Addition>,
 }
 
 /// How long the learnt list may become, which has so many clauses now; None where no number of 64
@@ -41,6 +45,7 @@ impl Keeper {
             alloc,
             engine: Engine::new(alloc)?,
             index: CoreIndex::new(alloc),
+            additions: Vec::new(alloc),
         })
     }
 
@@ -51,6 +56,7 @@ impl Keeper {
         requires budget { IsBudgetOf self.old.engine.learnt budget.old }
         ensures keeper { IsKeeper self.new }
         ensures index { self.new.index ≡ self.old.index }
+        ensures additions { self.new.additions ≡ self.old.additions }
         ensures verdict { IfOk result (Answers self.old.engine.problem assume.now) }
         ensures halt { IfErr result (HaltedAt budget.new) }
         ensures problem { self.new.engine.problem ≡ self.old.engine.problem }
@@ -71,6 +77,7 @@ impl Keeper {
         requires new { IsNewRefusal self.old verdict }
         ensures keeper { IsKeeper self.new }
         ensures engine { self.new.engine ≡ self.old.engine }
+        ensures additions { self.new.additions ≡ self.old.additions }
         ensures same { IfOk result (λ answer. answer ≡ verdict) }
         ensures halt { IfErr result (λ stop. stop ≡ halt.Memory) }
         ensures cores { KeepsCores self.old.index.cores.items result self.new.index.cores.items }
@@ -93,6 +100,7 @@ impl Keeper {
         ensures verdict { IfOk result (Answers self.old.engine.problem assume.now) }
         ensures halt { IfErr result (HaltedAt budget.new) }
         ensures problem { self.new.engine.problem ≡ self.old.engine.problem }
+        ensures additions { self.new.additions ≡ self.old.additions }
         ensures searches { self.new.engine.searches ≡ counted (self.old.engine.searches + 1) }
         ensures spends { Spends (kept_of self.old) (kept_of self.new) budget.old budget.new }
         ensures cores { KeepsCores self.old.index.cores.items result self.new.index.cores.items }
@@ -113,5 +121,33 @@ impl Keeper {
                 Err(Halt::Memory)
             }
         }
+    }
+
+    /// Adds a selector under which the ground atoms differ from these values somewhere.
+    pub fn exclude(&mut self, values: &Values) -> Result<Lit, Memory>
+        requires keeper { IsKeeper self.old }
+        requires atoms { length self.old.engine.problem.atoms < length values.now }
+        ensures keeper { IsKeeper self.new }
+        ensures ok { IfOk result (λ out. (out ≡ next_lit self.old.engine.problem) × (kept_of self.new ≡ excluded (kept_of self.old) values.now)) }
+        ensures err { OnErr result (SameKeeping self.old self.new) }
+        ensures counts { SameCounts self.old self.new }
+    {
+        let copy = values.copy(self.alloc)?;
+        self.additions.reserve(1)?;
+        let out = self.engine.exclude(values)?;
+        self.additions.push_reserved(Addition::Exclusion(copy));
+        Ok(out)
+    }
+
+    /// Makes a selector false for good.
+    pub fn retire(&mut self, selector: Lit)
+        requires keeper { IsKeeper self.old }
+        requires selector { IsSelector self.old.engine.problem selector }
+        ensures keeper { IsKeeper self.new }
+        ensures already { Contains self.old.engine.problem.retired selector → kept_of self.new ≡ kept_of self.old }
+        ensures retired { (Contains self.old.engine.problem.retired selector → ⊥) → kept_of self.new ≡ retired (kept_of self.old) selector }
+        ensures counts { SameCounts self.old self.new }
+    {
+        self.engine.retire(selector);
     }
 }

@@ -1,15 +1,17 @@
 //! The solver that callers keep.
-ghost use Rattle.std.specs.Prelude.{◌≡◌, ◌≤◌, ◌<◌, ◌+◌, ℕ, [], length, IfOk, IfErr, OnOk, OnErr};
+ghost use Rattle.std.specs.Prelude.{◌≡◌, ◌≤◌, ◌<◌, ◌+◌, ℕ, [], length, Contains, IfOk, IfErr, OnOk, OnErr};
 ghost use Rattle.ground_core.specs.Problems.{AreLitsOf};
-ghost use Rattle.ground_core.specs.Meaning.{HasTermsInRange};
 ghost use Rattle.ground_core.specs.Solving.{Answers, AreUnretired, HaltedAt, HasCoreWithin, IsBudgetOf, IsKept, IsKnown, KeepsCores, Spends, counted};
+ghost use Rattle.ground_core.specs.Growth.{next_lit};
+ghost use Rattle.ground_core.specs.Growing.{IsSelector, excluded, retired};
 ghost use Rattle.search_engine.specs.Joining.{CanJoin};
 ghost use Rattle.clause_learning.specs.GoingOn.{GoesOn};
-ghost use Rattle.clause_learning.specs.SolverState.{AddsProblem, Forgets, IsSolver, empty_solver};
+ghost use Rattle.clause_learning.specs.SolverState.{AddsProblem, Forgets, IsSolver, SameCounts, empty_solver};
 
 use crate::keeper::Keeper;
-use ground_core::{Budget, Halt, LitList, Memory, Problem, Solve, Verdict};
-use lit_core::{ClauseList, Lit};
+use ground_core::{Budget, Grow, Halt, LitList, Memory, Problem, Solve, Verdict};
+use kb_logic::ExtInt;
+use lit_core::{ClauseList, Lit, Values};
 use std::alloc::Global;
 use std::marker::Model;
 
@@ -48,12 +50,13 @@ impl Solver {
         })
     }
 
-    /// Says all that another problem of gates and clauses says, too.
+    /// Says all that another problem of gates and clauses says, too. It has no sums and no terms: what is said of
+    /// these is not searched yet.
     pub fn add_problem(&mut self, more: &Problem) -> Result<(), Memory>
         requires can { CanJoin self.old.kept.problem more.now }
         requires sums { more.now.sums ≡ [] }
         requires bounds { more.now.bounds ≡ [] }
-        requires terms { HasTermsInRange more.now }
+        requires terms { more.now.terms ≡ [] }
         ensures ok { OnOk result (AddsProblem self.old more.now self.new) }
         ensures err { OnErr result (self.new ≡ self.old) }
         ensures laws { IsSolver self.new }
@@ -146,4 +149,44 @@ impl Solve for Solver {
     ghost goes_on_itself = { λ s. goes-itself s.kept };
 
     ghost goes_on_twice = { λ r s t a b. goes-twice r.kept s.kept t.kept a b };
+}
+
+impl Grow for Solver {
+    /// It can be called for no term, since the problem has none.
+    fn value(&self, _term: u32, _values: &Values) -> ExtInt {
+        // What is known of the problem comes with this.
+        let _searches = self.keeper.engine.searches;
+        ExtInt::PosInf
+    }
+
+    /// It can be called for no term, since the problem has none.
+    fn bound(&mut self, _term: u32, _below: ExtInt) -> Result<Lit, Memory> {
+        // What is known of the problem comes with this.
+        let _searches = self.keeper.engine.searches;
+        Err(Memory)
+    }
+
+    fn exclude(&mut self, values: &Values) -> Result<Lit, Memory>
+        requires atoms { length self.old.kept.problem.atoms < length values.now }
+        ensures ok { IfOk result (λ out. (out ≡ next_lit self.old.kept.problem) × (self.new.kept ≡ excluded self.old.kept values.now)) }
+        ensures err { OnErr result (self.new ≡ self.old) }
+        ensures kept { IsKept self.new.kept }
+        ensures later { GoesOn self.old.kept self.new.kept }
+        ensures counts { SameCounts self.old self.new }
+        ensures laws { IsSolver self.new }
+    {
+        self.keeper.exclude(values)
+    }
+
+    fn retire(&mut self, selector: Lit)
+        requires selector { IsSelector self.old.kept.problem selector }
+        ensures already { Contains self.old.kept.problem.retired selector → self.new.kept ≡ self.old.kept }
+        ensures retired { (Contains self.old.kept.problem.retired selector → ⊥) → self.new.kept ≡ retired self.old.kept selector }
+        ensures kept { IsKept self.new.kept }
+        ensures later { GoesOn self.old.kept self.new.kept }
+        ensures counts { SameCounts self.old self.new }
+        ensures laws { IsSolver self.new }
+    {
+        self.keeper.retire(selector);
+    }
 }

@@ -16,7 +16,8 @@ use Rattle.ground_core.proofs.Locals.{literal-local}
 use Rattle.ground_core.proofs.CoreFacts.{any-left, still-shown}
 use Rattle.ground_core.proofs.CallFacts.{none-yet, stays-twice, keeps-none, keeps-twice, counts-twice}
 use Rattle.consequences.specs.declared.kept.Kept.{Kept}
-use Rattle.consequences.specs.Forced.{IsForced, IsFree, IsLeft, KeepsOne, FindsOne, Decides, IsFalseInAny, IsFalseInSeen, IsSettled, IsOpen, IsSeen, Searches, AreForced}
+use Rattle.model_search.specs.Models.{IsLeft}
+use Rattle.consequences.specs.Forced.{IsForced, IsFree, KeepsOne, FindsOne, Decides, IsFalseInAny, IsFalseInSeen, IsSettled, IsOpen, IsSeen, Searches, AreForced}
 use Rattle.consequences.proofs.Numbers.{distinct-nil, distinct-more, no-more}
 
 sublist-right : (xs ys : List Lit) (z : Lit) → IsSublist xs ys → IsSublist xs (ys ++ z ∷ [])

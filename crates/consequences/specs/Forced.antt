@@ -6,6 +6,7 @@ use Rattle.ground_core.specs.Problems.{ProblemState}
 use Rattle.ground_core.specs.Meaning.{Satisfies, MakesTrue, RefutesAll}
 use Rattle.ground_core.specs.More.{Agree}
 use Rattle.ground_core.specs.Solving.{IsSublist, HasCoreWithin}
+use Rattle.model_search.specs.Models.{IsLeft}
 use Rattle.consequences.specs.declared.kept.Kept.{Kept}
 use Rattle.consequences.specs.declared.kept.Tested.{Tested}
 use Rattle.consequences.specs.declared.kept.Tested.TheVariants.{Forced, Free}
@@ -24,16 +25,7 @@ pub record IsForced (p : ProblemState) (assumed : List Lit) (cores : List (List 
 abbrev pub IsFree : ProblemState → List Lit → Lit → Type 0
 IsFree p assumed l = (v : ℕ → Bool) × Satisfies p v × MakesTrue v assumed × (literal_value v l ≡ false)
 
--- these are values of all variables, which satisfy the problem and make the literals true
-abbrev pub IsLeft : ProblemState → List Lit → List Bool → Type 0
-IsLeft p assumed values = (p.vars < length values) × Satisfies p (valuation values) × MakesTrue (valuation values) assumed
-
--- what a search found: nothing, which a kept core shows, or such values
-abbrev pub FindsLeft : ProblemState → List Lit → List (List Lit) → Option (List Bool) → Type 0
-FindsLeft p assumed cores None = RefutesAll p assumed × HasCoreWithin cores assumed
-FindsLeft p assumed cores (Some values) = IsLeft p assumed values
-
--- the values are such, and make the literal false
+-- the values are left, and make the literal false
 abbrev pub IsFreeBy : ProblemState → List Lit → Lit → List Bool → Type 0
 IsFreeBy p assumed l values = IsLeft p assumed values × (literal_value (valuation values) l ≡ false)
 

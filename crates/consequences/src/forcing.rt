@@ -4,14 +4,16 @@ ghost use Rattle.lit_core.specs.Literals.{negated};
 ghost use Rattle.ground_core.specs.Problems.{AreLitsOf};
 ghost use Rattle.ground_core.specs.Solving.{IsBudgetOf, AreUnretired, HaltedAt, HasCoreWithin, IsKept, IsLive};
 ghost use Rattle.ground_core.specs.Calls.{Keeps, CountsUpTo, Costs, Stays, IsAnsweredAtOnce};
-ghost use Rattle.consequences.specs.Forced.{Decides, AreForced, FindsForced, IsLeft, IsSeen, Searches};
+ghost use Rattle.model_search.specs.Models.{IsLeft};
+ghost use Rattle.consequences.specs.Forced.{Decides, AreForced, FindsForced, IsSeen, Searches};
 
 use crate::kept::{KeptList, Tested};
 use crate::settling::is_open;
-use crate::testing::{first_left, test};
+use crate::testing::test;
 use ground_core::{Budget, Halt, Solve};
 use kb_logic::ListOf;
 use lit_core::{Lit, Values};
+use model_search::model_of;
 use std::alloc::Global;
 
 /// Searches for values that make the literal false, and keeps what was found.
@@ -124,7 +126,7 @@ pub fn forced<S: Solve>(
     ensures kept { IsKept (S.state s.new) }
     ensures later { S.goes_on s.old s.new }
 {
-    match first_left(s, assume, budget) {
+    match model_of(s, assume, budget) {
         Ok(Some(first)) => {
             match decide_each(alloc, s, assume, ask, seen, atoms, first, budget) {
                 Ok(kept) => Ok(Some(kept)),

@@ -155,7 +155,7 @@ plain-within n (x ∷ g) (Some []) a w h = cc
 plain-within n (x ∷ g) (Some (l ∷ ls)) a w h = cc
 
 -- the clauses are over the variables
-side-clauses : (n : ℕ) (l : Lit) (g : List Lit) (o : Option (List Lit)) → IsLitOf n l → AreLitsOf n g → SideWithin n o
+pub side-clauses : (n : ℕ) (l : Lit) (g : List Lit) (o : Option (List Lit)) → IsLitOf n l → AreLitsOf n g → SideWithin n o
     → All (AreLitsOf n) (side_clauses l g o)
 side-clauses n l g None hl hg ho = All-nil (AreLitsOf n)
 side-clauses n l g (Some ls) hl hg ho =
@@ -164,11 +164,11 @@ side-clauses n l g (Some ls) hl hg ho =
     (All-append (IsLitOf n) (map negated g) ls (All-map (IsLitOf n) negated g (λ k d lt. hg k d lt)) ho))
     (All-nil (AreLitsOf n))
 
-side-more : (n m : ℕ) (le : n ≤ m) (o : Option (List Lit)) → SideWithin n o → SideWithin m o
+pub side-more : (n m : ℕ) (le : n ≤ m) (o : Option (List Lit)) → SideWithin n o → SideWithin m o
 side-more n m le None h = tt
 side-more n m le (Some ls) h = lits-more n m le ls h
 
-case-clauses : (n m : ℕ) (le : n ≤ m) (out : Lit) (cs : List Case) → IsLitOf m out → AllByRecursion (IsCaseOf n) cs
+pub case-clauses : (n m : ℕ) (le : n ≤ m) (out : Lit) (cs : List Case) → IsLitOf m out → AllByRecursion (IsCaseOf n) cs
     → All (AreLitsOf m) (clauses_of_cases out cs)
 case-clauses n m le out [] ho h = All-nil (AreLitsOf m)
 case-clauses n m le out (c ∷ cs) ho h =
@@ -342,7 +342,7 @@ certain-in : (n : ℕ) (t : Bool) (o q : Option Lit) (s : Option Answer) (a : An
 certain-in n true o q s a f g k h = first-in n o q a f g h
 certain-in n false o q s a f g k h = k h
 
-plain-of-within : (n : ℕ) (cs : List Case) (a : Answer) → AllByRecursion (IsCaseOf n) cs → plain_answer cs ≡ Some a
+pub plain-of-within : (n : ℕ) (cs : List Case) (a : Answer) → AllByRecursion (IsCaseOf n) cs → plain_answer cs ≡ Some a
     → AnswerWithin n a
 plain-of-within n cs a are h =
     certain-in n (list_all is_certain cs) (only_guard (filter (λ (c : Case). is_always c.yes) cs))

@@ -1,5 +1,5 @@
 -- What is said stays said: a problem that grows keeps its atoms, and its clauses stay the first ones.
-use Rattle.std.proofs.Common.{◌≡◌, Bool, true, false, List, [], ◌∷◌, ◌++◌, map, if◌then◌else◌, Option, Some, None, refl}
+use Rattle.std.proofs.Common.{◌≡◌, ℕ, ◌+◌, Bool, true, false, List, [], ◌∷◌, ◌++◌, map, if◌then◌else◌, Option, Some, None, refl}
 use Rattle.std.proofs.Common.{sym, ap, ◌∙◌}
 use Rattle.std.specs.List.{list_all}
 use Rattle.std.proofs.lemmas.List.{append-nil, append_assoc}
@@ -11,8 +11,9 @@ use Rattle.kb_logic.specs.Trees.{FormulaTree, verum, falsum, atom, comparison, n
 use Rattle.kb_logic.specs.Trees.{implication, equivalence, universal, existential, numbered, FormulaTrees, no_formulas}
 use Rattle.kb_logic.specs.Trees.{more_formulas}
 use Rattle.lit_core.specs.declared.literals.Lit.{Lit}
+use Rattle.ground_core.specs.declared.parts.Gate.{Gate}
 use Rattle.ground_core.specs.Problems.{ProblemState}
-use Rattle.ground_core.specs.Growth.{next_lit, with_clause, clauses_of_same}
+use Rattle.ground_core.specs.Growth.{next_lit, with_clause, with_gate, clauses_of_same}
 use Rattle.term_values.specs.GroundBases.{GroundBase}
 use Rattle.term_values.specs.Rows.{rows_of_term, rows_of_terms}
 use Rattle.def_ground.specs.declared.answers.Answer.{Answer}
@@ -24,30 +25,54 @@ use Rattle.def_ground.specs.Forms.{Parts, settles, with_answer, next_parts, no_m
 use Rattle.def_ground.specs.Forms.{opposite_result, signed_result, same_of, atom_case, form_of, parts_of}
 use Rattle.def_ground.specs.Sentences.{or_clause, parts_clause, assert_each, assert_of, assert_all, assert_any}
 use Rattle.def_ground.specs.Sentences.{assert_sentences}
+use Rattle.def_ground.specs.Problems.{start_problem}
+use Rattle.def_ground.specs.Groundings.{ground_base, ProblemSaysClauses}
 
--- q has p's atoms, and p's clauses first
+-- q has p's atoms, and p's clauses first, and otherwise only more gates
 pub record Keeps (p q : ProblemState) : Type 0 where
   pub atoms : q.atoms ≡ p.atoms
   pub more : List (List Lit)
   pub clauses : q.clauses ≡ p.clauses ++ more
+  pub sums : q.sums ≡ p.sums
+  pub terms : q.terms ≡ p.terms
+  pub bounds : q.bounds ≡ p.bounds
+  pub retired : q.retired ≡ p.retired
+
+-- what differs in variables, gates and clauses alone
+grown : (p : ProblemState) (n : ℕ) (gates : List Gate) (cs more : List (List Lit)) → cs ≡ p.clauses ++ more
+    → Keeps p (record p { vars = n; gates = gates; clauses = cs })
+grown p n gates cs more h = record {
+  atoms = refl;
+  more = more;
+  clauses = h;
+  sums = refl;
+  terms = refl;
+  bounds = refl;
+  retired = refl;
+}
 
 pub keeps-all : (p : ProblemState) → Keeps p p
-keeps-all p = record { atoms = refl; more = []; clauses = sym (append-nil p.clauses) }
+keeps-all p = grown p p.vars p.gates p.clauses [] (sym (append-nil p.clauses))
 
 pub keeps-on : (p q r : ProblemState) → Keeps p q → Keeps q r → Keeps p r
 keeps-on p q r h k = record {
   atoms = k.atoms ∙ h.atoms;
   more = h.more ++ k.more;
   clauses = k.clauses ∙ ap (λ cs. cs ++ k.more) h.clauses ∙ append_assoc p.clauses h.more k.more;
+  sums = k.sums ∙ h.sums;
+  terms = k.terms ∙ h.terms;
+  bounds = k.bounds ∙ h.bounds;
+  retired = k.retired ∙ h.retired;
 }
 
 keeps-clause : (p : ProblemState) (c : List Lit) → Keeps p (with_clause p c)
-keeps-clause p c = record { atoms = refl; more = c ∷ []; clauses = refl }
+keeps-clause p c = grown p p.vars p.gates (p.clauses ++ c ∷ []) (c ∷ []) refl
 
 gate-keeps : (all : Bool) (ls : List Lit) (p : ProblemState) → Keeps p (gate_of all ls p).problem
 gate-keeps all [] p = keeps-all p
 gate-keeps all (l ∷ []) p = keeps-all p
-gate-keeps all (l ∷ m ∷ ls) p = record { atoms = refl; more = []; clauses = sym (append-nil p.clauses) }
+gate-keeps all (l ∷ m ∷ ls) p =
+    let q = with_gate p all (l ∷ m ∷ ls) in grown p q.vars q.gates p.clauses [] (sym (append-nil p.clauses))
 
 close-keeps : (all s : Bool) (ls : List Lit) (p q : ProblemState) → Keeps p q
     → Keeps p (close_parts all (record { settled = s; lits = ls; problem = q })).problem
@@ -61,7 +86,8 @@ next-keeps false ls p q rest h k = keeps-on p q rest.problem h k
 
 answer-keeps : (o : Option Answer) (cs : List Case) (p : ProblemState) → Keeps p (answer_or_cases o cs p).problem
 answer-keeps (Some a) cs p = keeps-all p
-answer-keeps None cs p = record { atoms = refl; more = clauses_of_cases (next_lit p) cs; clauses = refl }
+answer-keeps None cs p =
+    let more = clauses_of_cases (next_lit p) cs in grown p (p.vars + 1) p.gates (p.clauses ++ more) more refl
 
 cases-by : (a c : Bool) (o : Option Answer) (cs : List Case) (p : ProblemState)
     → (let g : GroundResult = (if a then record { answer = Constant true; problem = p } else
@@ -94,7 +120,8 @@ same-keeps (Constant true) y p = keeps-all p
 same-keeps (Constant false) y p = keeps-all p
 same-keeps (Literal l) (Constant true) p = keeps-all p
 same-keeps (Literal l) (Constant false) p = keeps-all p
-same-keeps (Literal l) (Literal m) p = record { atoms = refl; more = clauses_of_same (next_lit p) l m; clauses = refl }
+same-keeps (Literal l) (Literal m) p =
+    let more = clauses_of_same (next_lit p) l m in grown p (p.vars + 1) p.gates (p.clauses ++ more) more refl
 
 each-keeps : (G : List Elem → ProblemState → GroundResult)
     → ((a : List Elem) (p : ProblemState) → Keeps p (G a p).problem)
@@ -252,3 +279,10 @@ module _ (b : GroundBase) where
   sentences-keep (f ∷ fs) p =
       let q = assert_of b true f [] [] p in
       keeps-on p q (assert_sentences b fs q) (assert-keeps true f [] [] p) (sentences-keep fs q)
+
+-- a problem of sentences says nothing of sums
+pub problem-says-clauses : ProblemSaysClauses
+problem-says-clauses base =
+    let b = ground_base base in
+    let keeps = sentences-keep b base.theory.sentences (start_problem b) in
+    record { sums = keeps.sums; terms = keeps.terms; bounds = keeps.bounds; retired = keeps.retired }

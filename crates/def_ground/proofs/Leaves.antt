@@ -39,7 +39,7 @@ use Rattle.def_ground.proofs.FormLaws.{LeafIsRight, gate-right, means-then, form
 use Rattle.def_ground.proofs.LeafLaws.{predicate-is, predicate-rows-at, atom-value, case-selected, case-yes, case-no}
 use Rattle.def_ground.proofs.LeafLaws.{case-guards, chosen-answers, side-right}
 
-abbrev RowsIn : {X : Type 0} → ℕ → List (List Lit × X) → Type 0
+abbrev pub RowsIn : {X : Type 0} → ℕ → List (List Lit × X) → Type 0
 RowsIn n rs = AllByRecursion (λ r. AreLitsOf n r.0) rs
 
 rows-append : {X : Type 0} (n : ℕ) (xs ys : List (List Lit × X)) → RowsIn n xs → RowsIn n ys → RowsIn n (xs ++ ys)
@@ -82,7 +82,7 @@ values-in b n k g (x ∷ xs) low high h =
     (values-in b n (k + 1) g xs (omega (arith, low))
     (λ j below. let z = high (1 + j) (omega (arith, below)) in omega (arith, z)) h)
 
-first-above : (b : GroundBase) (s : ℕ) → 1 ≤ first_var b s
+pub first-above : (b : GroundBase) (s : ℕ) → 1 ≤ first_var b s
 first-above b s = omega arith
 
 module _ (b : GroundBase) (p : ProblemState) (room : HasRoom b p) (e : List Elem) where
@@ -120,16 +120,16 @@ module _ (b : GroundBase) (p : ProblemState) (room : HasRoom b p) (e : List Elem
 one-in : (n : ℕ) (l : Lit) → IsLitOf n l → AreLitsOf n (l ∷ [])
 one-in n l h = All-cons (IsLitOf n) l [] h (All-nil (IsLitOf n))
 
-case-in : (n : ℕ) (g : List Lit) (a : Answer) → AreLitsOf n g → AnswerWithin n a → IsCaseOf n (case_of g a)
+pub case-in : (n : ℕ) (g : List Lit) (a : Answer) → AreLitsOf n g → AnswerWithin n a → IsCaseOf n (case_of g a)
 case-in n g (Constant true) h k = record { guards = h; yes = tt; no = All-nil (IsLitOf n) }
 case-in n g (Constant false) h k = record { guards = h; yes = All-nil (IsLitOf n); no = tt }
 case-in n g (Literal l) h k = record { guards = h; yes = one-in n l k; no = one-in n (negated l) k }
 
-known-in : (n k : ℕ) (o : Option Bool) → 1 ≤ k → k ≤ n → AnswerWithin n (answer_of_atom o k)
+pub known-in : (n k : ℕ) (o : Option Bool) → 1 ≤ k → k ≤ n → AnswerWithin n (answer_of_atom o k)
 known-in n k None low high = (low, high)
 known-in n k (Some c) low high = tt
 
-cases-in : {X : Type 0} (n m : ℕ) (C : List Lit × X → Case) (rs : List (List Lit × X))
+pub cases-in : {X : Type 0} (n m : ℕ) (C : List Lit × X → Case) (rs : List (List Lit × X))
     → ((r : List Lit × X) → AreLitsOf m r.0 → IsCaseOf n (C r)) → RowsIn m rs → AllByRecursion (IsCaseOf n) (map C rs)
 cases-in n m C [] f h = tt
 cases-in n m C (r ∷ rs) f h = (f r h.0, cases-in n m C rs f h.1)
@@ -176,11 +176,11 @@ record SinglesAre (p : ProblemState) (bs : List (List Lit × Denotation)) (q : P
   within : AllByRecursion (λ r. AnswerWithin q.vars r.0) rs
   right : (v : ℕ → Bool) → Satisfies q v → chosen-answers v rs ≡ selected_values v bs
 
-answer-more : (n m : ℕ) (a : Answer) → n ≤ m → AnswerWithin n a → AnswerWithin m a
+pub answer-more : (n m : ℕ) (a : Answer) → n ≤ m → AnswerWithin n a → AnswerWithin m a
 answer-more n m (Constant c) le h = tt
 answer-more n m (Literal l) le h = lit-more n m le l h
 
-rows-more : {X : Type 0} (n m : ℕ) (le : n ≤ m) (rs : List (List Lit × X)) → RowsIn n rs → RowsIn m rs
+pub rows-more : {X : Type 0} (n m : ℕ) (le : n ≤ m) (rs : List (List Lit × X)) → RowsIn n rs → RowsIn m rs
 rows-more n m le [] h = tt
 rows-more n m le (r ∷ rs) h = (lits-more n m le r.0 h.0, rows-more n m le rs h.1)
 
@@ -220,7 +220,7 @@ any-in n test (r ∷ rs) h =
     if-in n (test r.1) (or_literal r.0 (any_where test rs)) (any_where test rs)
     (or-in n r.0 (any_where test rs) h.0 (any-in n test rs h.1)) (any-in n test rs h.1)
 
-side-in : (n : ℕ) (test : Denotation → Bool) (rs : List (Answer × Denotation))
+pub side-in : (n : ℕ) (test : Denotation → Bool) (rs : List (Answer × Denotation))
     → AllByRecursion (λ r. AnswerWithin n r.0) rs → SideWithin n (side_where test rs)
 side-in n test rs h =
     if-in n (list_all (λ (r : Answer × Denotation). test r.1) rs) None (any_where test rs) tt (any-in n test rs h)

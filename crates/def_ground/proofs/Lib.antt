@@ -1,5 +1,6 @@
 pub mod Growing
 pub mod CaseLaws
+pub mod CaseSteps
 pub mod FormLaws
 pub mod LeafLaws
 pub mod Leaves

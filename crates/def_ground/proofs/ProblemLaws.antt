@@ -47,7 +47,7 @@ same-bits true c f g = sym (f refl)
 same-bits false true f g = g refl
 same-bits false false f g = refl
 
-all-ground : (base : Base) (theory : IsGroundTheory base) (fs : List FormulaTree)
+pub all-ground : (base : Base) (theory : IsGroundTheory base) (fs : List FormulaTree)
     → AllByRecursion (λ f. IsTypedOver base.vocabulary base.known.domains f []) fs → AllByRecursion HasNoCounting fs
     → AllByRecursion (IsGroundForm (base_of_data base.vocabulary base.known)) fs
 all-ground base theory [] h k = tt

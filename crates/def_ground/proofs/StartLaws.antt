@@ -30,7 +30,7 @@ use Rattle.term_values.specs.Rows.{positive_lit}
 use Rattle.term_values.proofs.Places.{plain-atom, valued-atom, predicate-variable, function-variable}
 use Rattle.term_values.proofs.StructureAtoms.{tuples-are, values-are}
 use Rattle.term_values.proofs.StructureLaws.{declared-function, function-of, is-function, only-atoms-matter}
-use Rattle.def_ground.specs.Problems.{fact_of, pair_clauses, variables_from, tuple_clauses, function_clauses}
+use Rattle.def_ground.specs.Problems.{fact_of, pair_clauses, one_of_clauses, variables_from, tuple_clauses, said_tuples, function_clauses}
 use Rattle.def_ground.specs.Problems.{all_function_clauses, fact_clauses, start_problem}
 use Rattle.def_ground.specs.Meanings.{HasAtoms, HasRoom}
 use Rattle.def_ground.proofs.SentenceLaws.{one-each}
@@ -90,7 +90,7 @@ pairs-in n (l ∷ ls) h =
     (All-cons (IsLitOf n) (negated (get_or ls k d)) [] (rest k d lt) (All-nil (IsLitOf n)))))
     (pairs-in n ls rest)
 
-variables-in : (n k : ℕ) (xs : List Elem) → 1 ≤ k → ((j : ℕ) → j < length xs → k + j ≤ n)
+pub variables-in : (n k : ℕ) (xs : List Elem) → 1 ≤ k → ((j : ℕ) → j < length xs → k + j ≤ n)
     → AreLitsOf n (variables_from k xs)
 variables-in n k [] low high = All-nil (IsLitOf n)
 variables-in n k (x ∷ xs) low high =
@@ -107,6 +107,25 @@ facts-in m n (Some c ∷ os) low high =
     All-cons (AreLitsOf m) (l ∷ []) (fact_clauses (n + 1) os)
     (All-cons (IsLitOf m) l [] (low, omega (arith, high)) (All-nil (IsLitOf m)))
     (facts-in m (n + 1) os (omega (arith, low)) (omega (arith, high)))
+
+-- the clauses of the tuples at which they are said
+pub said-fewer : (xs : List Elem) (ts : List (List Elem)) → length (said_tuples xs ts) ≤ length ts
+said-fewer [] [] = omega arith
+said-fewer [] (t ∷ ts) = omega arith
+said-fewer (x ∷ xs) ts = omega arith
+
+said-all : (P : List Lit → Type 0) (n : ℕ) (xs : List Elem) (ts : List (List Elem)) (i : ℕ) → i < length ts
+    → All P (flat_map (λ (q : ℕ × List Elem). one_of_clauses (variables_from (n + q.0 * length xs) xs))
+    (enumerate_from 0 (said_tuples xs ts)))
+    → All P (one_of_clauses (variables_from (n + i * length xs) xs))
+said-all P n [] [] i h all = absurd (omega (arith, h))
+said-all P n [] (t ∷ ts) i h all = All-front P ([] ∷ []) [] all
+said-all P n (x ∷ xs) ts i h all =
+    let r = get_or ts i [] in
+    let numbered = has_enumerated 0 i ts r (slice_get-get_or ts i [] h) in
+    let index : 0 + i ≡ i = omega arith in
+    part-all P (λ (q : ℕ × List Elem). one_of_clauses (variables_from (n + q.0 * length (x ∷ xs)) (x ∷ xs)))
+    (enumerate_from 0 ts) (i, r) all (subst (λ m. Has (enumerate_from 0 ts) (m, r)) index numbered)
 
 -- facts
 unit-true : (c x : Bool) → (by_sign c x || false) ≡ true → x ≡ c
@@ -219,11 +238,14 @@ module _ (b : GroundBase) (is : IsGroundBase b) where
       all-parts (AreLitsOf m) (λ (s : ℕ × Symbol). function_clauses b s.0) (functions_of b.vocabulary)
       (λ s in-s.
       let p = function-of b s in-s in
-      all-parts (AreLitsOf m) (λ (r : ℕ × List Elem). tuple_clauses b s.0 r.0) (enumerate_from 0 (tuples_at b s.0))
+      let said = said_tuples (values_at b s.0) (tuples_at b s.0) in
+      all-parts (AreLitsOf m) (λ (r : ℕ × List Elem). tuple_clauses b s.0 r.0) (enumerate_from 0 said)
       (λ r in-r.
-      let q = enumerated_has 0 (tuples_at b s.0) r.0 r.1 in-r in
+      let q = enumerated_has 0 said r.0 r.1 in-r in
       let index = q.1 in
-      let below = slice_get_within (tuples_at b s.0) q.0 r.1 q.2 in
+      let within = slice_get_within said q.0 r.1 q.2 in
+      let fewer = said-fewer (values_at b s.0) (tuples_at b s.0) in
+      let below : q.0 < length (tuples_at b s.0) = omega (arith, within, fewer) in
       tuple-in s.0 r.0 s.1 p.1.0 p.0 p.1.1 (omega (arith, index, below))))
 
   pub start-fine : length b.known ≤ length (ground_atoms b.vocabulary.symbols b.domains) → IsProblem (start_problem b)
@@ -297,14 +319,9 @@ module _ (b : GroundBase) (is : IsGroundBase b) where
       → IsSome (value_type_of b.vocabulary s) → All (IsSatisfied v) (tuple_clauses b s i)
   tuple-true v s i h below some =
       let p = declared-function (slice_get b.vocabulary.symbols s) some in
-      let rs = tuples_at b s in
-      let r = get_or rs i [] in
-      let numbered = has_enumerated 0 i rs r (slice_get-get_or rs i [] below) in
-      let index : 0 + i ≡ i = omega arith in
-      part-all (IsSatisfied v) (λ (q : ℕ × List Elem). tuple_clauses b s q.0) (enumerate_from 0 rs) (i, r)
+      said-all (IsSatisfied v) (first_var b s) (values_at b s) (tuples_at b s) i below
       (part-all (IsSatisfied v) (λ (q : ℕ × Symbol). function_clauses b q.0) (functions_of b.vocabulary) (s, p.0) h
       (function_has b.vocabulary s p.0 p.1 p.2 p.3))
-      (subst (λ n. Has (enumerate_from 0 rs) (n, r)) index numbered)
 
   pub start-atoms : HasAtoms b (start_problem b)
   start-atoms v s =
@@ -331,11 +348,14 @@ module _ (b : GroundBase) (is : IsGroundBase b) where
         (all-parts (IsSatisfied v) (λ (s : ℕ × Symbol). function_clauses b s.0) (functions_of b.vocabulary)
         (λ s in-s.
         let p = function-of b s in-s in
-        all-parts (IsSatisfied v) (λ (r : ℕ × List Elem). tuple_clauses b s.0 r.0) (enumerate_from 0 (tuples_at b s.0))
+        let said = said_tuples (values_at b s.0) (tuples_at b s.0) in
+        all-parts (IsSatisfied v) (λ (r : ℕ × List Elem). tuple_clauses b s.0 r.0) (enumerate_from 0 said)
         (λ r in-r.
-        let q = enumerated_has 0 (tuples_at b s.0) r.0 r.1 in-r in
+        let q = enumerated_has 0 said r.0 r.1 in-r in
         let index = q.1 in
-        let below = slice_get_within (tuples_at b s.0) q.0 r.1 q.2 in
+        let within = slice_get_within said q.0 r.1 q.2 in
+        let fewer = said-fewer (values_at b s.0) (tuples_at b s.0) in
+        let below : q.0 < length (tuples_at b s.0) = omega (arith, within, fewer) in
         let x = over.one s.0 r.0 (omega (arith, index, below)) (is-function b s.0 s.1 p.1.0 p.0 p.1.1) in
         (one-each v (first_var b s.0 + r.0 * length (values_at b s.0)) (values_at b s.0)).1 x.0 x.1)))
         (known-facts v 1 b.known (λ j x at. let number : 1 + j ≡ suc j = omega arith in ap v number

@@ -1,5 +1,5 @@
 -- What a formula comes to under an assignment: a constant, or a literal that the problem defines.
-use Rattle.std.specs.Prelude.{◌≡◌, ℕ, List, [], ◌∷◌, Bool, not}
+use Rattle.std.specs.Prelude.{◌≡◌, ◌≤◌, ℕ, List, [], ◌∷◌, Bool, not}
 use Rattle.lit_core.specs.declared.literals.Lit.{Lit}
 use Rattle.lit_core.specs.Literals.{literal_value, negated}
 use Rattle.ground_core.specs.Problems.{ProblemState, IsLitOf}
@@ -36,3 +36,8 @@ gate_of all (l ∷ m ∷ ls) p = record { answer = Literal (next_lit p); problem
 -- the call came to what the definition says: its answer, and its problem
 abbrev pub Makes : GroundResult → Answer → ProblemState → Type 0
 Makes g a q = (a ≡ g.answer) × (q ≡ g.problem)
+
+-- the problem grew, and the answer is over its variables
+pub record Grows (p q : ProblemState) (a : Answer) : Type 0 where
+  pub vars : p.vars ≤ q.vars
+  pub within : AnswerWithin q.vars a

@@ -45,6 +45,17 @@ pub record IsGroundingOf (base : Base) (p : ProblemState) : Type 0 where
 abbrev pub theory_problem : Base → ProblemState
 theory_problem base = problem_of (ground_base base) base.theory.sentences
 
+-- it says clauses and gates alone, and nothing of sums and terms
+pub record SaysClausesAlone (p : ProblemState) : Type 0 where
+  pub sums : p.sums ≡ []
+  pub terms : p.terms ≡ []
+  pub bounds : p.bounds ≡ []
+  pub retired : p.retired ≡ []
+
+-- so does the problem of a theory
+abbrev pub ProblemSaysClauses : Type 0
+ProblemSaysClauses = (base : Base) → SaysClausesAlone (theory_problem base)
+
 -- the problem's valuations are the models of the theory that extend the data
 abbrev pub ProblemIsRight : Type 0
 ProblemIsRight = (base : Base) → IsGroundTheory base → IsGroundingOf base (theory_problem base)

@@ -1,5 +1,6 @@
 pub mod Answers
 pub mod Cases
+pub mod CaseViews
 pub mod Comparisons
 pub mod Forms
 pub mod Sentences

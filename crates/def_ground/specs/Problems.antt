@@ -1,6 +1,6 @@
 -- The ground problem of a list of sentences: a function has one value at each tuple, known atoms are facts, and each
 -- sentence is asserted.
-use Rattle.std.specs.Prelude.{ℕ, ◌+◌, ◌*◌, List, [], ◌∷◌, ◌++◌, map, flat_map, length, Bool, Option, Some, None}
+use Rattle.std.specs.Prelude.{ℕ, ◌+◌, ◌*◌, List, [], ◌∷◌, ◌++◌, map, flat_map, length, take, Bool, Option, Some, None}
 use Rattle.std.specs.List.{enumerate_from}
 use Rattle.kb_logic.specs.declared.elements.Elem.{Elem}
 use Rattle.kb_logic.specs.declared.vocabularies.Symbol.{Symbol}
@@ -40,9 +40,16 @@ variables_from n (x ∷ xs) = positive_lit n ∷ variables_from (n + 1) xs
 abbrev pub tuple_clauses : GroundBase → ℕ → ℕ → List (List Lit)
 tuple_clauses b s i = one_of_clauses (variables_from (first_var b s + i * length (values_at b s)) (values_at b s))
 
+-- the tuples at which this is said: all, or the first alone where a function has no value, since that says it all
+abbrev pub said_tuples : List Elem → List (List Elem) → List (List Elem)
+said_tuples [] ts = take 1 ts
+said_tuples (x ∷ xs) ts = ts
+
 -- the function has one value at each tuple
 abbrev pub function_clauses : GroundBase → ℕ → List (List Lit)
-function_clauses b s = flat_map (λ (r : ℕ × List Elem). tuple_clauses b s r.0) (enumerate_from 0 (tuples_at b s))
+function_clauses b s =
+    flat_map (λ (r : ℕ × List Elem). tuple_clauses b s r.0)
+    (enumerate_from 0 (said_tuples (values_at b s) (tuples_at b s)))
 
 -- so has each function
 abbrev pub all_function_clauses : GroundBase → List (List Lit)

@@ -1,7 +1,7 @@
 //! What a formula comes to.
 ghost use Rattle.std.specs.Prelude.{◌≡◌};
 ghost use Rattle.def_ground.specs.Answers.{opposite_of};
-ghost use Rattle.def_ground.specs.Forms.{settles, answer_of_atom};
+ghost use Rattle.def_ground.specs.Forms.{answer_of_atom};
 
 use lit_core::{Lit, Var};
 
@@ -33,17 +33,6 @@ impl Answer {
         match self {
             Answer::Constant(value) => Answer::Constant(!value),
             Answer::Literal(lit) => Answer::Literal(lit.negated()),
-        }
-    }
-
-    /// Whether a part with this answer decides a conjunction (`all`), or a disjunction, whatever the
-    /// other parts are.
-    pub fn settles(self, all: bool) -> bool
-        ensures { result ≡ settles all self }
-    {
-        match self {
-            Answer::Constant(value) => value != all,
-            Answer::Literal(_) => false,
         }
     }
 }

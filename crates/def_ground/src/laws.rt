@@ -1,7 +1,7 @@
 //! Laws of the definitions.
 ghost use Rattle.def_ground.specs.Laws.{CasesAreRight, FormIsRight, AssertionIsRight, SentencesAreAsserted};
 ghost use Rattle.def_ground.specs.Examples.{ProblemsAsWorkedOut};
-ghost use Rattle.def_ground.specs.Groundings.{ProblemIsRight, ProblemIsSmall};
+ghost use Rattle.def_ground.specs.Groundings.{ProblemIsRight, ProblemIsSmall, ProblemSaysClauses};
 ghost use Rattle.def_ground.specs.Laws.{OneEachByClauses, FewVariables};
 
 /// What cases come to is what they say.
@@ -43,6 +43,11 @@ pub fn problem_is_right()
 /// The problem of a theory has no more variables than the knowledge base weighs.
 pub fn problem_is_small()
     ensures { ProblemIsSmall }
+{}
+
+/// The problem of a theory says nothing of sums and terms.
+pub fn problem_says_clauses()
+    ensures { ProblemSaysClauses }
 {}
 
 /// Two small problems, as they are worked out by hand.

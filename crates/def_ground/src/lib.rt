@@ -3,14 +3,19 @@
 #![tactic(auto)]
 
 mod answers;
+mod cases;
 mod exactly_one;
 mod gates;
 mod laws;
+mod sides;
 
 pub use answers::Answer;
+pub use cases::{Case, answer_of_cases, case_of};
 pub use exactly_one::push_one_of;
-pub use gates::{gate, push_answer, same};
+pub use gates::{add_part, close, gate, same};
 pub use laws::{
     assertion_is_right, cases_are_right, few_variables, form_is_right, one_each_by_clauses,
-    problem_is_right, problem_is_small, problems_as_worked_out, sentences_are_asserted,
+    problem_is_right, problem_is_small, problem_says_clauses, problems_as_worked_out,
+    sentences_are_asserted,
 };
+pub use sides::{GuardedValue, case_of_row};

@@ -25,6 +25,10 @@ with_clause p c = record { atoms = p.atoms; vars = p.vars; gates = p.gates; clau
 abbrev pub next_lit : ProblemState → Lit
 next_lit p = record { var = record { 0 = p.vars + 1 }; positive = true }
 
+-- the problem with one more variable, of which nothing is said
+abbrev pub with_var : ProblemState → ProblemState
+with_var p = record { atoms = p.atoms; vars = p.vars + 1; gates = p.gates; clauses = p.clauses; sums = p.sums; terms = p.terms; bounds = p.bounds; retired = p.retired }
+
 -- the problem with one more variable, the output of a gate
 abbrev pub with_gate : ProblemState → Bool → List Lit → ProblemState
 with_gate p all parts = record {

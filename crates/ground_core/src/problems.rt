@@ -4,7 +4,7 @@ ghost use Rattle.std.specs.Option.{option_copied};
 ghost use Rattle.lit_core.specs.Literals.{negated, valuation};
 ghost use Rattle.ground_core.specs.Atoms.{ground_atoms};
 ghost use Rattle.ground_core.specs.Problems.{IsProblem, IsLitOf, AreLitsOf, ArePartsOf, IsTermOf};
-ghost use Rattle.ground_core.specs.Growth.{empty_problem, next_lit, with_clause, with_gate, with_sum, with_term, with_same, with_exclusion, falsified_by, clauses_of_same, AddsGate, AddsSum, AddsSame};
+ghost use Rattle.ground_core.specs.Growth.{empty_problem, next_lit, with_var, with_clause, with_gate, with_sum, with_term, with_same, with_exclusion, falsified_by, clauses_of_same, AddsGate, AddsSum, AddsSame};
 
 use crate::atoms::all_atoms;
 use crate::errors::Memory;
@@ -187,8 +187,18 @@ impl Problem {
         }
     }
 
-    /// A new variable that is true exactly where all of the parts are, or where any is. A variable
-    /// past 64 bits is want of memory, here and in the two calls below that add one.
+    /// A new variable, of which nothing is said yet. A variable past 64 bits is want of memory, here
+    /// and in the calls below that add one.
+    pub fn add_var(&mut self) -> Result<Lit, Memory>
+        ensures made { IfOk result (λ out. (out ≡ next_lit self.old) × (self.new ≡ with_var self.old)) }
+        ensures err { OnErr result (self.new ≡ self.old) }
+    {
+        let out = self.next()?;
+        self.vars = out.var.0;
+        Ok(out)
+    }
+
+    /// A new variable that is true exactly where all of the parts are, or where any is.
     pub fn add_gate(&mut self, all: bool, parts: LitList) -> Result<Lit, Memory>
         requires { AreLitsOf self.old.vars parts }
         ensures adds { IfOk result (λ out. AddsGate self.old self.new all parts out) }

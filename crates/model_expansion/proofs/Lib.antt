@@ -1,1 +1,3 @@
 pub mod ExpansionFacts
+pub mod ExclusionFacts
+pub mod EnumerationFacts

@@ -1,1 +1,3 @@
 pub mod Expansions
+pub mod Exclusions
+pub mod Enumerations

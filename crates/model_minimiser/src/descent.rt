@@ -10,9 +10,10 @@ ghost use Rattle.model_minimiser.specs.Bounds.{AddsBounds, AddsAtMost};
 ghost use Rattle.model_minimiser.specs.Minima.{IsFound, Finds, FindsBelow, IsLeast, FindsLeast, Spans};
 
 use crate::minimum::{Found, Minimum, Step};
-use ground_core::{Budget, Grow, Halt, Memory, Verdict};
+use ground_core::{Budget, Grow, Halt, Verdict};
 use kb_logic::ExtInt;
 use lit_core::Lit;
+use model_search::joined;
 use std::alloc::Global;
 
 /// Searches for values that satisfy the problem and make the literals true, with the term's value.
@@ -45,15 +46,6 @@ fn search<S: Grow>(
     }
 }
 
-/// The literals, and one more.
-fn with_literal(alloc: Global, lits: &[Lit], lit: Lit) -> Result<Vec<Lit>, Memory>
-    ensures { IfOk result (λ list. list.items ≡ lits.now ++ lit ∷ []) }
-{
-    let mut list = Vec::from_slice(alloc, lits)?;
-    list.push(lit)?;
-    Ok(list)
-}
-
 /// Searches for values that make one more literal true.
 fn search_under<S: Grow>(
     alloc: Global,
@@ -76,7 +68,7 @@ fn search_under<S: Grow>(
     ensures kept { IsKept (S.state s.new) }
     ensures later { S.goes_on s.old s.new }
 {
-    match with_literal(alloc, assume, selector) {
+    match joined(alloc, assume, &[selector]) {
         Ok(list) => search(s, list.as_slice(), term, budget),
         Err(_) => Err(Halt::Memory),
     }

@@ -133,9 +133,10 @@ fn pick_line(alloc: Global, theory: Option<&str>, text: &[u8]) -> Result<String,
         Err(KbError::Refused(fault)) => return fault_line(alloc, fault),
         Err(KbError::Memory) => return Err(AllocError),
     };
-    match pick(&raw, theory, None) {
+    match pick(alloc, &raw, theory, None) {
         Ok(picked) => picked_line(alloc, picked),
-        Err(fault) => fault_line(alloc, fault),
+        Err(KbError::Refused(fault)) => fault_line(alloc, fault),
+        Err(KbError::Memory) => Err(AllocError),
     }
 }
 

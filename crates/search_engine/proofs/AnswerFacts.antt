@@ -1,7 +1,9 @@
 -- What the answers of a search mean.
-use Rattle.std.proofs.Common.{◌≡◌, ℕ, suc, ◌+◌, ◌<◌, ◌≤◌, Bool, true, false, Option, Some, List, [], ◌∷◌, ◌++◌, length, map, get_or, refl, sym, ap, ◌∙◌, subst, ◌⊎◌, inl, inr, ⊎_elim, arith, All, Contains}
+use Rattle.std.proofs.Common.{◌≡◌, ℕ, suc, ◌+◌, ◌<◌, ◌≤◌, Bool, true, false, Option, Some, List, [], ◌∷◌, ◌++◌, length, map, take, get_or, refl, sym, ap, ◌∙◌, subst, ◌⊎◌, inl, inr, ⊎_elim, arith, All, Contains}
 use Rattle.std.proofs.lemmas.List.Elements.{All-nil, All-cons, All-head, All-tail, All-weaker, All-contains, All-push, All-map, All-contains_itself}
+use Rattle.std.proofs.lemmas.List.{take_all}
 use Rattle.std.proofs.lemmas.Option.{same_Some}
+use Rattle.lit_core.proofs.FreshFromQuiet.{false-from_negated}
 use Rattle.lit_core.specs.declared.literals.Lit.{Lit}
 use Rattle.lit_core.specs.Literals.{value_in, negated, literal_value, valuation, by_sign_if_any}
 use Rattle.lit_core.specs.Truth.{IsSatisfied, IsSettled}
@@ -14,7 +16,8 @@ use Rattle.ground_core.specs.GateClauses.{clauses_of}
 use Rattle.ground_core.proofs.Whole.{satisfies-by-clauses}
 use Rattle.search_engine.specs.declared.engine.Engine.{Engine}
 use Rattle.search_engine.specs.Knowledge.{IsHeldAs}
-use Rattle.search_engine.specs.Searching.{AreAssumed, AreTrue, GivesValues, IsSearch}
+use Rattle.search_engine.specs.Searching.{AreAssumed, AreClosed, AreTrue, GivesValues, IsSearch}
+use Rattle.search_engine.proofs.LearnFacts.{closed-true}
 use Rattle.search_engine.proofs.Known.{once-satisfied-back}
 use Rattle.search_engine.proofs.Roots.{not-both, follows-satisfied}
 use Rattle.search_engine.proofs.SearchFacts.{satisfies-held}
@@ -57,7 +60,7 @@ module _ (e : Engine) (h : IsSearch e) (assume : List Lit) (assumed : AreAssumed
 
 -- values of all variables satisfy a clause that is not false
 module _ (a : List (Option Bool)) (values : List Bool) (n : ℕ) (given : GivesValues a (n + 1) values) where
-  value-given : (l : Lit) → IsLitOf n l → value_in a l ≡ Some (literal_value (valuation values) l)
+  pub value-given : (l : Lit) → IsLitOf n l → value_in a l ≡ Some (literal_value (valuation values) l)
   value-given l is = let low : 1 ≤ l.var.0 = is.0 in let high : l.var.0 ≤ n = is.1 in ap (by_sign_if_any l.positive) (given.same l.var.0 low (omega (arith, high)))
 
   true-given : (l : Lit) → IsLitOf n l → value_in a l ≡ Some true → literal_value (valuation values) l ≡ true
@@ -79,12 +82,24 @@ module _ (a : List (Option Bool)) (values : List Bool) (n : ℕ) (given : GivesV
 
 -- where nothing is left to propagate and all variables have values, these satisfy the problem and what is true
 module _ (e : Engine) (h : IsSearch e) (quiet : IsQuiet e.store) (values : List Bool) (given : GivesValues e.store.trail.values (e.problem.vars + 1) values) where
+  -- so do retired selectors
+  off-given : (l : Lit) → Contains e.problem.retired l → literal_value (valuation values) l ≡ false
+  off-given l gone =
+      let whole : take e.closed e.problem.retired ≡ e.problem.retired = take_all e.closed e.problem.retired (let all : e.closed ≡ length e.problem.retired = h.closed in omega (arith, all)) in
+      let closed-all : AreClosed e.store.clauses e.ids.items e.problem.retired = subst (AreClosed e.store.clauses e.ids.items) whole h.engine.closed in
+      let off : value_in e.store.trail.values l ≡ Some false = false-from_negated e.store.trail.values l (closed-true e.store e.ids.items e.problem.retired quiet closed-all l gone) in
+      let lit : IsLitOf e.problem.vars l = All-contains (IsLitOf e.problem.vars) e.problem.retired l h.engine.problem.retired gone in
+      same_Some (literal_value (valuation values) l) false (sym (value-given e.store.trail.values values e.problem.vars given l lit) ∙ off)
+
+  retired-false : AreAllFalse (valuation values) e.problem.retired
+  retired-false = All-weaker (Contains e.problem.retired) (λ l. literal_value (valuation values) l ≡ false) off-given e.problem.retired (All-contains_itself e.problem.retired)
+
   pub values-satisfy : Satisfies e.problem (valuation values)
   values-satisfy = satisfies-by-clauses e.problem (valuation values) h.engine.sums h.engine.bounds
       (All-weaker (λ c. (id : ℕ) × IsHeldAs e.store.clauses id c × (Contains e.ids.items id → ⊥)) (IsSatisfied (valuation values))
       (λ c w. once-satisfied-back (valuation values) c w.1.0 w.1.2 (settled-satisfied e.store.trail.values values e.problem.vars given w.1.0 (h.engine.knows.within w.0 w.1.0 w.1.1) (quiet w.0 w.1.0 w.1.1)))
       (clauses_of e.problem) h.engine.knows.problem)
-      (subst (AreAllFalse (valuation values)) (sym h.engine.retired) (All-nil (λ l. literal_value (valuation values) l ≡ false)))
+      retired-false
 
   pub values-make : (assume : List Lit) → AreLitsOf e.problem.vars assume → AreTrue e.store.trail.values assume → MakesTrue (valuation values) assume
   values-make assume lits trues k d lt = true-given e.store.trail.values values e.problem.vars given (get_or assume k d) (lits k d lt) (trues k d lt)

@@ -1,5 +1,5 @@
 -- Cores.
-use Rattle.std.proofs.Common.{◌≡◌, List, [], ◌∷◌, ◌++◌, refl, sym, subst, ◌⊎◌, inl, inr, ⊎_elim, Contains}
+use Rattle.std.proofs.Common.{◌≡◌, List, [], ◌∷◌, ◌++◌, refl, sym, subst, inl, inr, ⊎_elim, Contains}
 use Rattle.std.proofs.lemmas.List.Elements.{Contains-push_cases, Contains-push, Contains-append_left}
 use Rattle.lit_core.specs.declared.literals.Lit.{Lit}
 use Rattle.lit_core.proofs.LiteralFacts.{nothing_in_none}

@@ -13,12 +13,12 @@ use Rattle.clause_store.proofs.ListFacts.{slice_get-push_cases}
 use Rattle.ground_core.specs.Problems.{ProblemState, IsLitOf}
 use Rattle.search_engine.specs.declared.engine.Engine.{Engine}
 use Rattle.search_engine.specs.Potential.{implied_of, Ahead}
-use Rattle.search_engine.specs.Searching.{IsOrderly, AreTrue, IsSearch, IsTurn, AheadAt}
+use Rattle.search_engine.specs.Searching.{IsOrderly, AreTrue, IsSearch, IsTurn, AheadAt, paid_of}
 use Rattle.search_engine.proofs.Pushed.{front-push, front-at}
 use Rattle.search_engine.proofs.Standing.{decide-ahead}
 use Rattle.search_engine.proofs.TrailChange.{bits-append, steps-fit}
 use Rattle.search_engine.proofs.LearnFacts.{orderly-push}
-use Rattle.search_engine.proofs.SearchFacts.{Moves, search-moves}
+use Rattle.search_engine.proofs.SearchFacts.{Moves, paid-same, search-moves}
 
 -- what is true stays true while steps are added
 pub front-true : (a b : List (Option Bool)) (old new : List Step) → IsCoherent a old → IsCoherent b new → old ≡ take (length old) new → (m : Lit) → value_in a m ≡ Some true → value_in b m ≡ Some true
@@ -58,6 +58,8 @@ pub record SameBut (e f : Engine) : Type 0 where
   pub conflicts : f.conflicts ≡ e.conflicts
   pub root_conflicts : f.root_conflicts ≡ e.root_conflicts
   pub assumed : f.assumed ≡ e.assumed
+  pub closed : f.closed ≡ e.closed
+  pub base : f.base ≡ e.base
 
 -- the search with another store
 abbrev pub with_store : Engine → StoreState → Engine
@@ -74,10 +76,12 @@ with_store e s = record {
   conflicts = e.conflicts;
   root_conflicts = e.root_conflicts;
   assumed = e.assumed;
+  closed = e.closed;
+  base = e.base;
 }
 
 pub same-but : (e : Engine) (s : StoreState) → SameBut e (with_store e s)
-same-but e s = record { problem = refl; learnt = refl; ids = refl; moments = refl; known = refl; searches = refl; conflicts = refl; root_conflicts = refl; assumed = refl }
+same-but e s = record { problem = refl; learnt = refl; ids = refl; moments = refl; known = refl; searches = refl; conflicts = refl; root_conflicts = refl; assumed = refl; closed = refl; base = refl }
 
 module _ (e f : Engine) (same : SameBut e f) (h : IsSearch e) (t : Step) (is : f.store ≡ with_trail e.store (with_step e.store.trail t)) (laws : IsStore f.store) (lit : IsLitOf e.problem.vars t.lit) (none : t.reason ≡ None) (up : 0 < t.level) where
   steps-are : f.store.trail.steps ≡ e.store.trail.steps ++ t ∷ []
@@ -91,6 +95,8 @@ module _ (e f : Engine) (same : SameBut e f) (h : IsSearch e) (t : Step) (is : f
     moments = same.moments;
     known = same.known;
     searches = same.searches;
+    closed = same.closed;
+    base = same.base;
     clauses = ap (λ (s : StoreState). s.clauses) is;
     size = ap (λ (s : StoreState). length s.trail.values) is ∙ length-set e.store.trail.values t.lit.var.0 (Some t.lit.positive);
   }
@@ -103,7 +109,7 @@ module _ (e f : Engine) (same : SameBut e f) (h : IsSearch e) (t : Step) (is : f
       let c : f.conflicts ≡ e.conflicts = same.conflicts in
       let r : f.root_conflicts ≡ e.root_conflicts = same.root_conflicts in
       let o : e.root_conflicts ≤ 1 = h.once in
-      search-moves e f decide-moves laws decide-orderly (omega (arith, c)) (subst (λ n. n < 2 ^ e.problem.vars) (sym c) h.fewer) (omega (arith, r, o)) h
+      search-moves e f decide-moves laws decide-orderly (omega (arith, c)) (subst (λ n. n < 2 ^ e.problem.vars) (sym (paid-same e f same.problem same.base c)) h.fewer) (omega (arith, r, o)) h
 
   kept : e.store.trail.steps ≡ take (length e.store.trail.steps) f.store.trail.steps
   kept = front-push e.store.trail.steps t ∙ ap (take (length e.store.trail.steps)) (sym steps-are)
@@ -141,5 +147,5 @@ module _ (e f : Engine) (same : SameBut e f) (h : IsSearch e) (t : Step) (is : f
   decide-goes goal a =
       let r = room-for f decide-search in
       let fits : length (implied_of e.store.trail.steps ++ false ∷ []) + r.0 ≡ e.problem.vars = ap (λ bs. length bs + r.0) (sym bits-are) ∙ (r.1 ∙ ap (λ (q : ProblemState). q.vars) same.problem) in
-      let here : Ahead e.problem.vars (implied_of e.store.trail.steps ++ false ∷ []) e.conflicts (goal + 1) = decide-ahead e.problem.vars (implied_of e.store.trail.steps) e.conflicts goal r.0 fits a in
-      rw (bits-are, same.problem, same.conflicts) here
+      let here : Ahead e.problem.vars (implied_of e.store.trail.steps ++ false ∷ []) (paid_of e) (goal + 1) = decide-ahead e.problem.vars (implied_of e.store.trail.steps) (paid_of e) goal r.0 fits a in
+      rw (bits-are, same.problem, same.conflicts, same.base) here

@@ -1,26 +1,32 @@
 -- How what is held grows, and is taken back.
-use Rattle.std.proofs.Common.{◌≡◌, ℕ, suc, zero, ◌+◌, ◌-◌, ◌*◌, ◌^◌, ◌<◌, ◌≤◌, Option, Some, None, List, [], ◌∷◌, ◌++◌, length, take, drop, slice_get, get_or, refl, sym, ap, ◌∙◌, subst, ⊎_elim, arith, Contains}
+use Rattle.std.proofs.Common.{◌≡◌, ℕ, suc, zero, ◌+◌, ◌-◌, ◌*◌, ◌^◌, ◌<◌, ◌≤◌, Bool, Option, Some, None, List, [], ◌∷◌, ◌++◌, length, length-append, take, drop, replicate, slice_get, get_or, refl, sym, ap, ◌∙◌, subst, ⊎_elim, arith, All, Contains}
 use Rattle.std.specs.List.{AllZip}
 use Rattle.std.proofs.lemmas.Bool.{cases_lt}
-use Rattle.std.proofs.lemmas.List.{take-append-drop, append-nil, length-drop, get_or-drop}
-use Rattle.std.proofs.lemmas.List.Elements.{All-weaker}
+use Rattle.std.proofs.lemmas.List.{take-append-drop, take-append-le, append-nil, length_push, length-drop, get_or-drop}
+use Rattle.std.proofs.lemmas.List.Elements.{All-push, All-weaker, All-contains}
 use Rattle.std.proofs.lemmas.Option.{slice_get_within, slice_get-get_or, get_or_from_slice_get}
 use Rattle.lit_core.specs.declared.literals.Lit.{Lit}
 use Rattle.std.proofs.Math.Nat.{pow-suc}
 use Rattle.clause_store.specs.declared.trails.Step.{Step}
 use Rattle.clause_store.specs.TrailState.{TrailState}
-use Rattle.clause_store.specs.StoreState.{IsStore}
-use Rattle.clause_store.proofs.ListFacts.{slice_get-take-below}
-use Rattle.ground_core.specs.Problems.{ProblemState, IsProblem}
+use Rattle.clause_store.specs.StoreState.{StoreState, IsStore, IsEachOnceOf, with_variables}
+use Rattle.clause_store.proofs.ListFacts.{slice_get-take-below, slice_get-push_new}
+use Rattle.lit_core.specs.Literals.{negated}
+use Rattle.lit_core.proofs.LiteralFacts.{nothing_in_none}
+use Rattle.ground_core.specs.Problems.{ProblemState, IsProblem, IsLitOf, AreLitsOf}
+use Rattle.ground_core.specs.Growing.{with_retired}
+use Rattle.ground_core.specs.Solving.{IsLearnt}
 use Rattle.search_engine.specs.declared.engine.Engine.{Engine}
-use Rattle.search_engine.specs.Joining.{CanJoin, joined_problem}
+use Rattle.search_engine.specs.Joining.{CanJoin, joined_problem, with_selected}
 use Rattle.ground_core.specs.GateClauses.{clauses_of}
 use Rattle.search_engine.specs.Knowledge.{IsHeldAs, Knows, Pushes, RemovesAll, RemovesFrom}
-use Rattle.search_engine.specs.Resting.{IsResting, held_of}
-use Rattle.search_engine.proofs.Joined.{joined-laws, joined-sums, joined-bounds}
-use Rattle.search_engine.specs.Searching.{IsOrderly}
-use Rattle.search_engine.proofs.LearntLists.{learnt-joined, learnt-none}
-use Rattle.search_engine.proofs.Known.{known-added, known-forgets}
+use Rattle.search_engine.specs.Resting.{IsResting, SameLists, SameSearches, held_of}
+use Rattle.search_engine.proofs.Joined.{joined-laws, joined-sums, joined-bounds, lit-wider, selected-laws}
+use Rattle.search_engine.specs.Searching.{AreClosed, IsOrderly}
+use Rattle.search_engine.proofs.LearntLists.{learnt-joined, learnt-none, learnt-selected, learnt-retired}
+use Rattle.search_engine.proofs.Pushed.{front-push, take-next}
+use Rattle.search_engine.proofs.Closing.{closed-later, closed-same}
+use Rattle.search_engine.proofs.Known.{ids-within, known-added, known-forgets, known-selected, known-retired, known-closed}
 
 slice_get-drop : {X : Type 0} (n : ℕ) (xs : List X) (k : ℕ) (x : X) → slice_get (drop n xs) k ≡ Some x → slice_get xs (n + k) ≡ Some x
 slice_get-drop n xs k x e =
@@ -87,7 +93,7 @@ pow-up m (suc k) =
     let t : 2 ^ (suc (m + k)) ≡ 2 ^ (m + k) * 2 = pow-suc 2 (m + k) in
     omega (arith, r, e, t)
 
-pow-le : (m n : ℕ) → m ≤ n → 2 ^ m ≤ 2 ^ n
+pub pow-le : (m n : ℕ) → m ≤ n → 2 ^ m ≤ 2 ^ n
 pow-le m n le = let e : 2 ^ (m + (n - m)) ≡ 2 ^ n = ap (λ (j : ℕ). 2 ^ j) (omega (arith, le)) in let u : 2 ^ m ≤ 2 ^ (m + (n - m)) = pow-up m (n - m) in omega (arith, e, u)
 
 -- there is nothing on the trail
@@ -98,8 +104,8 @@ orderly-none vars steps none = record { named = λ k t at. absurd (nothing k t a
     nothing k t at = let lt : k < length steps = slice_get_within steps k t at in let zero-is : length steps ≡ 0 = ap length none in omega (arith, lt, zero-is)
 
 -- another problem was joined, and its clauses are held
-pub resting-joined : (e f : Engine) (q : ProblemState) → IsResting e → e.store.trail.steps ≡ [] → CanJoin e.problem q → q.sums ≡ [] → q.bounds ≡ [] → IsProblem q → Pushes e.store.clauses f.store.clauses (clauses_of q) → f.store.trail ≡ e.store.trail → IsStore f.store → q.vars < length e.store.trail.values → f.learnt ≡ e.learnt → f.ids ≡ e.ids → f.moments ≡ e.moments → f.conflicts ≡ e.conflicts → f.root_conflicts ≡ e.root_conflicts → f.problem ≡ joined_problem e.problem q → IsResting f
-resting-joined e f q h cleared can sums bounds laws pushed trail store sized learnt ids moments conflicts root problem =
+pub resting-joined : (e f : Engine) (q : ProblemState) → IsResting e → e.store.trail.steps ≡ [] → CanJoin e.problem q → q.sums ≡ [] → q.bounds ≡ [] → IsProblem q → Pushes e.store.clauses f.store.clauses (clauses_of q) → f.store.trail ≡ e.store.trail → IsStore f.store → q.vars < length e.store.trail.values → f.learnt ≡ e.learnt → f.ids ≡ e.ids → f.closed ≡ e.closed → f.moments ≡ e.moments → f.conflicts ≡ e.conflicts → f.root_conflicts ≡ e.root_conflicts → f.problem ≡ joined_problem e.problem q → IsResting f
+resting-joined e f q h cleared can sums bounds laws pushed trail store sized learnt ids closed moments conflicts root problem =
     let le : e.problem.vars ≤ q.vars = can.vars in
     let up : 2 ^ e.problem.vars ≤ 2 ^ q.vars = pow-le e.problem.vars q.vars le in
     let few : e.conflicts < 2 ^ e.problem.vars = h.fewer in
@@ -111,7 +117,8 @@ resting-joined e f q h cleared can sums bounds laws pushed trail store sized lea
         problem = subst IsProblem (sym problem) (joined-laws e.problem q h.engine.sums h.engine.bounds sums bounds h.engine.problem laws can);
         sums = ap (λ (p : ProblemState). p.sums) problem ∙ joined-sums e.problem q h.engine.sums h.engine.bounds sums bounds;
         bounds = ap (λ (p : ProblemState). p.bounds) problem ∙ joined-bounds e.problem q h.engine.sums h.engine.bounds sums bounds;
-        retired = ap (λ (p : ProblemState). p.retired) problem ∙ h.engine.retired;
+        within = rw closed (subst (λ (p : ProblemState). e.closed ≤ length p.retired) (sym problem) h.engine.within);
+        closed = rw (closed, ids) (subst (λ (p : ProblemState). AreClosed f.store.clauses e.ids.items (take e.closed p.retired)) (sym problem) (closed-later e.store.clauses f.store.clauses e.ids.items (take e.closed e.problem.retired) pushed.front h.engine.closed));
         learnt = rw (problem, learnt, moments) (learnt-joined e.problem q e.learnt e.moments.items e.ids.items e.store.clauses h.engine.sums h.engine.bounds sums bounds can h.engine.knows h.engine.learnt);
         knows = rw (problem, learnt, ids) knows;
         store = store;
@@ -124,15 +131,16 @@ resting-joined e f q h cleared can sums bounds laws pushed trail store sized lea
     }
 
 -- what was half done was taken back
-pub resting-back : (e f : Engine) (mid : List (Option (List Lit))) → IsResting e → e.store.clauses ≡ take (length e.store.clauses) mid → RemovesFrom (length e.store.clauses) mid f.store.clauses → f.store.trail.steps ≡ [] → f.store.trail.level ≡ 0 → IsStore f.store → e.problem.vars < length f.store.trail.values → f.problem ≡ e.problem → f.learnt ≡ e.learnt → f.ids ≡ e.ids → f.moments ≡ e.moments → f.conflicts ≡ e.conflicts → f.root_conflicts ≡ e.root_conflicts → IsResting f
-resting-back e f mid h front removed steps level store sized problem learnt ids moments conflicts root =
+pub resting-back : (e f : Engine) (mid : List (Option (List Lit))) → IsResting e → e.store.clauses ≡ take (length e.store.clauses) mid → RemovesFrom (length e.store.clauses) mid f.store.clauses → f.store.trail.steps ≡ [] → f.store.trail.level ≡ 0 → IsStore f.store → e.problem.vars < length f.store.trail.values → f.problem ≡ e.problem → f.learnt ≡ e.learnt → f.ids ≡ e.ids → f.closed ≡ e.closed → f.moments ≡ e.moments → f.conflicts ≡ e.conflicts → f.root_conflicts ≡ e.root_conflicts → IsResting f
+resting-back e f mid h front removed steps level store sized problem learnt ids closed moments conflicts root =
     let knows : Knows e.problem e.learnt e.ids.items f.store.clauses = known-same e.problem e.learnt e.ids.items e.store.clauses f.store.clauses (removed-back e.store.clauses mid f.store.clauses front removed) (removed-there e.store.clauses mid f.store.clauses front removed) h.engine.knows in
     record {
       engine = record {
         problem = rw problem h.engine.problem;
         sums = rw problem h.engine.sums;
         bounds = rw problem h.engine.bounds;
-        retired = rw problem h.engine.retired;
+        within = rw (problem, closed) h.engine.within;
+        closed = rw (problem, closed, ids) (closed-same e.store.clauses f.store.clauses e.ids.items e.ids.items (take e.closed e.problem.retired) (λ id k at not. removed-there e.store.clauses mid f.store.clauses front removed id k at) (λ id has. has) h.engine.closed);
         learnt = rw (problem, learnt, moments) h.engine.learnt;
         knows = rw (problem, learnt, ids) knows;
         store = store;
@@ -145,15 +153,16 @@ resting-back e f mid h front removed steps level store sized problem learnt ids 
     }
 
 -- what was learnt was removed
-pub resting-forgets : (e f : Engine) → IsResting e → RemovesAll e.ids.items e.store.clauses f.store.clauses → f.store.trail.steps ≡ [] → f.store.trail.level ≡ 0 → length f.store.trail.values ≡ length e.store.trail.values → IsStore f.store → f.problem ≡ e.problem → f.learnt ≡ [] → f.ids.items ≡ [] → f.moments.items ≡ [] → f.conflicts ≡ e.conflicts → f.root_conflicts ≡ e.root_conflicts → IsResting f
-resting-forgets e f h removed steps level size store problem learnt ids moments conflicts root =
+pub resting-forgets : (e f : Engine) → IsResting e → RemovesAll e.ids.items e.store.clauses f.store.clauses → f.store.trail.steps ≡ [] → f.store.trail.level ≡ 0 → length f.store.trail.values ≡ length e.store.trail.values → IsStore f.store → f.problem ≡ e.problem → f.learnt ≡ [] → f.ids.items ≡ [] → f.closed ≡ e.closed → f.moments.items ≡ [] → f.conflicts ≡ e.conflicts → f.root_conflicts ≡ e.root_conflicts → IsResting f
+resting-forgets e f h removed steps level size store problem learnt ids closed moments conflicts root =
     let knows : Knows e.problem [] [] f.store.clauses = known-forgets e.problem e.learnt e.ids.items e.store.clauses f.store.clauses h.engine.knows removed.back removed.there removed.gone in
     record {
       engine = record {
         problem = rw problem h.engine.problem;
         sums = rw problem h.engine.sums;
         bounds = rw problem h.engine.bounds;
-        retired = rw problem h.engine.retired;
+        within = rw (problem, closed) h.engine.within;
+        closed = rw (problem, closed, ids) (closed-same e.store.clauses f.store.clauses e.ids.items [] (take e.closed e.problem.retired) removed.there (λ id has. absurd (nothing_in_none id has)) h.engine.closed);
         learnt = rw (learnt, moments) (learnt-none f.problem);
         knows = rw (problem, learnt, ids) knows;
         store = store;
@@ -164,3 +173,130 @@ resting-forgets e f h removed steps level size store problem learnt ids moments 
       fewer = rw (problem, conflicts) h.fewer;
       once = rw root h.once;
     }
+
+-- the trail changed, and no problem and no clause
+pub resting-moves : (e f : Engine) → IsResting e → SameLists e f → f.problem ≡ e.problem → f.store.clauses ≡ e.store.clauses → IsOrderly e.problem.vars f.store.trail.steps → f.store.trail.level ≡ 0 → IsStore f.store → e.problem.vars < length f.store.trail.values → IsResting f
+resting-moves e f h same problem clauses orderly level store sized = record {
+  engine = record {
+    problem = rw problem h.engine.problem;
+    sums = rw problem h.engine.sums;
+    bounds = rw problem h.engine.bounds;
+    within = rw (problem, same.closed) h.engine.within;
+    closed = rw (problem, same.closed, same.ids, clauses) h.engine.closed;
+    learnt = rw (problem, same.same.learnt, same.same.moments) h.engine.learnt;
+    knows = rw (problem, same.same.learnt, same.ids, clauses) h.engine.knows;
+    store = store;
+    sized = rw problem sized;
+  };
+  level = level;
+  orderly = rw problem orderly;
+  fewer = rw (problem, same.same.conflicts) h.fewer;
+  once = rw same.same.root_conflicts h.once;
+}
+
+-- there is room for more variables
+pub resting-grown : (e f : Engine) (n : ℕ) → IsResting e → SameLists e f → f.problem ≡ e.problem → f.store ≡ with_variables n e.store → IsStore f.store → IsResting f
+resting-grown e f n h same problem store laws =
+    let sized : e.problem.vars < length e.store.trail.values = h.engine.sized in
+    let is : length f.store.trail.values ≡ length (e.store.trail.values ++ replicate (n - length e.store.trail.values) None) = ap (λ (s : StoreState). length s.trail.values) store in
+    let len = length-append e.store.trail.values (replicate {A = Option Bool} (n - length e.store.trail.values) None) in
+    resting-moves e f h same problem (ap (λ (s : StoreState). s.clauses) store)
+    (subst (λ (xs : List Step). IsOrderly e.problem.vars xs) (sym (ap (λ (s : StoreState). s.trail.steps) store)) h.orderly)
+    (ap (λ (s : StoreState). s.trail.level) store ∙ h.level) laws (omega (arith, sized, is, len))
+
+-- the clauses and the trail are the same
+pub resting-same : (e f : Engine) → IsResting e → SameLists e f → f.problem ≡ e.problem → f.store.clauses ≡ e.store.clauses → f.store.trail ≡ e.store.trail → IsStore f.store → IsResting f
+resting-same e f h same problem clauses trail laws =
+    resting-moves e f h same problem clauses (rw trail h.orderly) (ap (λ (t : TrailState). t.level) trail ∙ h.level) laws (rw trail h.engine.sized)
+
+orderly-wider : (m n : ℕ) (steps : List Step) → m ≤ n → IsOrderly m steps → IsOrderly n steps
+orderly-wider m n steps le h = record { named = λ k t at. lit-wider m n le t.lit (h.named k t at); decided = h.decided }
+
+-- a clause was added, with a variable more
+pub resting-selected : (e f : Engine) (c k : List Lit) → IsResting e → SameLists e f → AreLitsOf (e.problem.vars + 1) c → IsEachOnceOf c k → f.store.clauses ≡ e.store.clauses ++ Some k ∷ [] → f.store.trail ≡ e.store.trail → IsStore f.store → e.problem.vars + 1 < length e.store.trail.values → f.problem ≡ with_selected e.problem c → IsResting f
+resting-selected e f c k h same lits once clauses trail store sized problem =
+    let up : 2 ^ e.problem.vars ≤ 2 ^ (e.problem.vars + 1) = pow-le e.problem.vars (e.problem.vars + 1) (omega arith) in
+    let few : e.conflicts < 2 ^ e.problem.vars = h.fewer in
+    let fewer : e.conflicts < 2 ^ (e.problem.vars + 1) = omega (arith, up, few) in
+    let longer : e.problem.vars + 1 < length f.store.trail.values = subst (λ (t : TrailState). e.problem.vars + 1 < length t.values) (sym trail) sized in
+    let orderly : IsOrderly (e.problem.vars + 1) f.store.trail.steps = subst (λ (t : TrailState). IsOrderly (e.problem.vars + 1) t.steps) (sym trail) (orderly-wider e.problem.vars (e.problem.vars + 1) e.store.trail.steps (omega arith) h.orderly) in
+    record {
+      engine = record {
+        problem = subst IsProblem (sym problem) (selected-laws e.problem c h.engine.problem lits);
+        sums = ap (λ (p : ProblemState). p.sums) problem ∙ h.engine.sums;
+        bounds = ap (λ (p : ProblemState). p.bounds) problem ∙ h.engine.bounds;
+        within = rw same.closed (subst (λ (p : ProblemState). e.closed ≤ length p.retired) (sym problem) h.engine.within);
+        closed = rw (same.closed, same.ids, clauses) (subst (λ (p : ProblemState). AreClosed (e.store.clauses ++ Some k ∷ []) e.ids.items (take e.closed p.retired)) (sym problem) (closed-later e.store.clauses (e.store.clauses ++ Some k ∷ []) e.ids.items (take e.closed e.problem.retired) (front-push e.store.clauses (Some k)) h.engine.closed));
+        learnt = rw (same.same.learnt, same.same.moments) (subst (λ (p : ProblemState). IsLearnt p e.learnt e.moments.items) (sym problem) (learnt-selected e.problem c e.learnt e.moments.items h.engine.learnt));
+        knows = rw (same.same.learnt, same.ids, clauses) (subst (λ (p : ProblemState). Knows p e.learnt e.ids.items (e.store.clauses ++ Some k ∷ [])) (sym problem) (known-selected e.problem e.learnt e.ids.items e.store.clauses c k h.engine.knows lits once));
+        store = store;
+        sized = subst (λ (p : ProblemState). p.vars < length f.store.trail.values) (sym problem) longer;
+      };
+      level = ap (λ (t : TrailState). t.level) trail ∙ h.level;
+      orderly = subst (λ (p : ProblemState). IsOrderly p.vars f.store.trail.steps) (sym problem) orderly;
+      fewer = rw same.same.conflicts (subst (λ (p : ProblemState). e.conflicts < 2 ^ p.vars) (sym problem) fewer);
+      once = rw same.same.root_conflicts h.once;
+    }
+
+pub retired-laws : (p : ProblemState) (l : Lit) → IsProblem p → IsLitOf p.vars l → IsProblem (with_retired p l)
+retired-laws p l h lit = record { atoms = h.atoms; gates = h.gates; clauses = h.clauses; sums = h.sums; terms = h.terms; bounds = h.bounds; retired = All-push (IsLitOf p.vars) p.retired l h.retired lit }
+
+-- a selector was retired
+pub resting-retired : (e f : Engine) (l : Lit) → IsResting e → SameLists e f → IsLitOf e.problem.vars l → f.store ≡ e.store → f.problem ≡ with_retired e.problem l → IsResting f
+resting-retired e f l h same lit store problem =
+    let more : length (e.problem.retired ++ l ∷ []) ≡ length e.problem.retired + 1 = length_push e.problem.retired l in
+    let some : e.closed ≤ length e.problem.retired = h.engine.within in
+    let within : e.closed ≤ length (e.problem.retired ++ l ∷ []) = omega (arith, more, some) in
+    let front : take e.closed (e.problem.retired ++ l ∷ []) ≡ take e.closed e.problem.retired = take-append-le e.closed e.problem.retired (l ∷ []) some in
+    let closed : AreClosed e.store.clauses e.ids.items (take e.closed (e.problem.retired ++ l ∷ [])) = subst (AreClosed e.store.clauses e.ids.items) (sym front) h.engine.closed in
+    record {
+      engine = record {
+        problem = subst IsProblem (sym problem) (retired-laws e.problem l h.engine.problem lit);
+        sums = ap (λ (p : ProblemState). p.sums) problem ∙ h.engine.sums;
+        bounds = ap (λ (p : ProblemState). p.bounds) problem ∙ h.engine.bounds;
+        within = rw same.closed (subst (λ (p : ProblemState). e.closed ≤ length p.retired) (sym problem) within);
+        closed = rw (same.closed, same.ids, store) (subst (λ (p : ProblemState). AreClosed e.store.clauses e.ids.items (take e.closed p.retired)) (sym problem) closed);
+        learnt = rw (same.same.learnt, same.same.moments) (subst (λ (p : ProblemState). IsLearnt p e.learnt e.moments.items) (sym problem) (learnt-retired e.problem l e.learnt e.moments.items h.engine.learnt));
+        knows = rw (same.same.learnt, same.ids, store) (subst (λ (p : ProblemState). Knows p e.learnt e.ids.items e.store.clauses) (sym problem) (known-retired e.problem l e.learnt e.ids.items e.store.clauses h.engine.knows));
+        store = subst IsStore (sym store) h.engine.store;
+        sized = rw store (subst (λ (p : ProblemState). p.vars < length e.store.trail.values) (sym problem) h.engine.sized);
+      };
+      level = ap (λ (s : StoreState). s.trail.level) store ∙ h.level;
+      orderly = rw store (subst (λ (p : ProblemState). IsOrderly p.vars e.store.trail.steps) (sym problem) h.orderly);
+      fewer = rw same.same.conflicts (subst (λ (p : ProblemState). e.conflicts < 2 ^ p.vars) (sym problem) h.fewer);
+      once = rw same.same.root_conflicts h.once;
+    }
+
+-- the clause by which the next retired selector is false was pushed
+pub resting-closed : (e f : Engine) (l : Lit) (k : List Lit) → IsResting e → slice_get e.problem.retired e.closed ≡ Some l → IsEachOnceOf (negated l ∷ []) k → f.store.clauses ≡ e.store.clauses ++ Some k ∷ [] → f.store.trail ≡ e.store.trail → IsStore f.store → f.problem ≡ e.problem → f.ids ≡ e.ids → SameSearches e f → f.closed ≡ e.closed + 1 → IsResting f
+resting-closed e f l k h at once clauses trail store problem ids same closed =
+    let lt : e.closed < length e.problem.retired = slice_get_within e.problem.retired e.closed l at in
+    let gone : Contains e.problem.retired l = (e.closed, lt, get_or_from_slice_get e.problem.retired e.closed l l at) in
+    let lit : IsLitOf e.problem.vars l = All-contains (IsLitOf e.problem.vars) e.problem.retired l h.engine.problem.retired gone in
+    let next : take (e.closed + 1) e.problem.retired ≡ take e.closed e.problem.retired ++ l ∷ [] = take-next e.problem.retired e.closed l at in
+    let P : Lit → Type 0 = λ m. (id : ℕ) × IsHeldAs (e.store.clauses ++ Some k ∷ []) id (negated m ∷ []) × (Contains e.ids.items id → ⊥) in
+    let here : P l = (length e.store.clauses, (k, slice_get-push_new e.store.clauses (Some k), once), λ has. let less : length e.store.clauses < length e.store.clauses = ids-within e.store.clauses e.ids.items e.learnt h.engine.knows.learnt_held (length e.store.clauses) has in omega (arith, less)) in
+    let all : All P (take e.closed e.problem.retired ++ l ∷ []) = All-push P (take e.closed e.problem.retired) l (closed-later e.store.clauses (e.store.clauses ++ Some k ∷ []) e.ids.items (take e.closed e.problem.retired) (front-push e.store.clauses (Some k)) h.engine.closed) here in
+    record {
+      engine = record {
+        problem = rw problem h.engine.problem;
+        sums = rw problem h.engine.sums;
+        bounds = rw problem h.engine.bounds;
+        within = rw (problem, closed) (omega (arith, lt));
+        closed = rw (problem, closed, ids, clauses) (subst (All P) (sym next) all);
+        learnt = rw (problem, same.learnt, same.moments) h.engine.learnt;
+        knows = rw (problem, same.learnt, ids, clauses) (known-closed e.problem e.learnt e.ids.items e.store.clauses l k h.engine.knows gone lit once);
+        store = store;
+        sized = rw (problem, trail) h.engine.sized;
+      };
+      level = ap (λ (t : TrailState). t.level) trail ∙ h.level;
+      orderly = rw (problem, trail) h.orderly;
+      fewer = rw (problem, same.conflicts) h.fewer;
+      once = rw same.root_conflicts h.once;
+    }
+
+pub same-itself : (e f : Engine) → f.learnt ≡ e.learnt → f.moments ≡ e.moments → f.searches ≡ e.searches → f.conflicts ≡ e.conflicts → f.root_conflicts ≡ e.root_conflicts → SameSearches e f
+same-itself e f learnt moments searches conflicts root = record { learnt = learnt; moments = moments; searches = searches; conflicts = conflicts; root_conflicts = root }
+
+pub same-twice : (e f g : Engine) → SameSearches e f → SameSearches f g → SameSearches e g
+same-twice e f g a b = record { learnt = b.learnt ∙ a.learnt; moments = b.moments ∙ a.moments; searches = b.searches ∙ a.searches; conflicts = b.conflicts ∙ a.conflicts; root_conflicts = b.root_conflicts ∙ a.root_conflicts }

@@ -1,11 +1,12 @@
 -- Two problems together.
 use Rattle.std.proofs.Common.{◌≡◌, ℕ, ◌+◌, ◌<◌, ◌≤◌, Bool, false, List, [], ◌∷◌, ◌++◌, length, length-append, flat_map, refl, sym, ap, ◌∙◌, subst, inl, inr, ◌⊎◌, ⊎_elim, arith, All, Any, Contains, append_assoc}
-use Rattle.std.proofs.lemmas.List.Elements.{All-append, All-weaker, All-nil, All-contains, All-contains_itself, Contains-append_left}
+use Rattle.std.proofs.lemmas.List.Elements.{All-append, All-push, All-weaker, All-nil, All-contains, All-contains_itself, Contains-append_left}
 use Rattle.lit_core.specs.declared.literals.Lit.{Lit}
-use Rattle.lit_core.specs.Literals.{literal_value}
+use Rattle.lit_core.specs.Literals.{literal_value, negated}
 use Rattle.lit_core.specs.Truth.{IsSatisfied}
 use Rattle.ground_core.specs.declared.parts.Gate.{Gate}
 use Rattle.ground_core.specs.declared.parts.Part.{Part}
+use Rattle.ground_core.specs.declared.parts.AggCon.{AggCon}
 use Rattle.ground_core.specs.declared.parts.GroundTerm.{GroundTerm}
 use Rattle.ground_core.specs.Problems.{ProblemState, IsProblem, IsLitOf, AreLitsOf, IsGateOf, ArePartsOf, IsTermOf, IsSumOf, IsBoundOf}
 use Rattle.ground_core.specs.Meaning.{Satisfies, GateHolds, SumHolds, BoundHolds, AreAllFalse}
@@ -13,7 +14,7 @@ use Rattle.ground_core.specs.GateClauses.{clauses_of, gate_clauses}
 use Rattle.ground_core.proofs.Fronts.{All-front, All-back}
 use Rattle.search_engine.specs.Knowledge.{IsOfConstraint, IsOfSum, IsConstrained, Occurs}
 use Rattle.ground_core.specs.declared.parts.TermBound.{TermBound}
-use Rattle.search_engine.specs.Joining.{joined_problem, CanJoin}
+use Rattle.search_engine.specs.Joining.{joined_problem, with_selected, CanJoin}
 
 pub lit-wider : (m n : ℕ) → m ≤ n → (l : Lit) → IsLitOf m l → IsLitOf n l
 lit-wider m n le l h = let a : 1 ≤ l.var.0 = h.0 in let b : l.var.0 ≤ m = h.1 in (a, omega (arith, b, le))
@@ -29,6 +30,28 @@ parts-wider m n le ps h = All-weaker (λ (p : Part). IsLitOf m p.lit) (λ (p : P
 
 term-wider : (m n : ℕ) → m ≤ n → (t : GroundTerm) → IsTermOf m t → IsTermOf n t
 term-wider m n le t h = parts-wider m n le t.parts h
+
+sum-wider : (m n : ℕ) → m ≤ n → (s : AggCon) → IsSumOf m s → IsSumOf n s
+sum-wider m n le s h = (lit-wider m n le s.out h.0, parts-wider m n le s.parts h.1)
+
+bound-wider : (m n : ℕ) (terms : List GroundTerm) → m ≤ n → (b : TermBound) → IsBoundOf m terms b → IsBoundOf n terms b
+bound-wider m n terms le b h = (lit-wider m n le b.out h.0, h.1)
+
+-- one more variable and one more clause
+pub selected-laws : (p : ProblemState) (c : List Lit) → IsProblem p → AreLitsOf (p.vars + 1) c → IsProblem (with_selected p c)
+selected-laws p c h lits =
+    let m : ℕ = p.vars in
+    let n : ℕ = p.vars + 1 in
+    let le : m ≤ n = omega arith in
+    record {
+      atoms = let x : length p.atoms ≤ p.vars = h.atoms in omega (arith, x);
+      gates = All-weaker (IsGateOf m) (IsGateOf n) (gate-wider m n le) p.gates h.gates;
+      clauses = All-push (AreLitsOf n) p.clauses c (All-weaker (AreLitsOf m) (AreLitsOf n) (lits-wider m n le) p.clauses h.clauses) lits;
+      sums = All-weaker (IsSumOf m) (IsSumOf n) (sum-wider m n le) p.sums h.sums;
+      terms = All-weaker (IsTermOf m) (IsTermOf n) (term-wider m n le) p.terms h.terms;
+      bounds = All-weaker (IsBoundOf m p.terms) (IsBoundOf n p.terms) (bound-wider m n p.terms le) p.bounds h.bounds;
+      retired = lits-wider m n le p.retired h.retired;
+    }
 
 none-append : {X : Type 0} (xs ys : List X) → xs ≡ [] → ys ≡ [] → xs ++ ys ≡ []
 none-append xs ys e f = ap (λ zs. zs ++ ys) e ∙ f
@@ -79,11 +102,21 @@ module _ (p q : ProblemState) (sums : p.sums ≡ []) (bounds : p.bounds ≡ []) 
     retired = subst (AreAllFalse v) (sym can.retired) (All-nil (λ l. literal_value v l ≡ false));
   }
 
+any-front : {X : Type 0} (P : X → Type 0) (xs ys : List X) → Any P xs → Any P (xs ++ ys)
+any-front P xs ys w = let has = Contains-append_left xs ys w.1 (w.0, w.2, w.3) in (has.0, w.1, has.1, has.2, w.4)
+
+-- there is none among no items
+any-none : {X : Type 0} (P : X → Type 0) (xs : List X) → xs ≡ [] → Any P xs → ⊥
+any-none P xs none w = let lt : w.0 < length xs = w.2 in let len : length xs ≡ 0 = ap length none in omega (arith, lt, len)
+
 -- a constraint of the first is one of both
 pub joined-constraint : (p q : ProblemState) → p.sums ≡ [] → p.bounds ≡ [] → (k : List Lit) → IsOfConstraint p k → IsOfConstraint (joined_problem p q) k
 joined-constraint p q sums bounds k way = ⊎_elim
-    (λ (w : Any (λ s. (v : ℕ → Bool) → SumHolds v s → IsSatisfied v k) p.sums). absurd (let lt : w.0 < length p.sums = w.2 in let none : length p.sums ≡ 0 = ap length sums in omega (arith, lt, none)))
-    (λ (w : Any (λ b. (v : ℕ → Bool) → BoundHolds v p.terms b → IsSatisfied v k) p.bounds). absurd (let lt : w.0 < length p.bounds = w.2 in let none : length p.bounds ≡ 0 = ap length bounds in omega (arith, lt, none)))
+    (λ (w : Any (λ s. (v : ℕ → Bool) → SumHolds v s → IsSatisfied v k) p.sums). absurd (any-none (λ s. (v : ℕ → Bool) → SumHolds v s → IsSatisfied v k) p.sums sums w))
+    (λ (r : Any (λ b. (v : ℕ → Bool) → BoundHolds v p.terms b → IsSatisfied v k) p.bounds ⊎ Any (λ l. (v : ℕ → Bool) → literal_value v l ≡ false → IsSatisfied v k) p.retired). inr (⊎_elim
+    (λ (w : Any (λ b. (v : ℕ → Bool) → BoundHolds v p.terms b → IsSatisfied v k) p.bounds). absurd (any-none (λ b. (v : ℕ → Bool) → BoundHolds v p.terms b → IsSatisfied v k) p.bounds bounds w))
+    (λ (w : Any (λ l. (v : ℕ → Bool) → literal_value v l ≡ false → IsSatisfied v k) p.retired). inr w)
+    r))
     way
 
 flat-append : (xs ys : List Gate) → flat_map gate_clauses (xs ++ ys) ≡ flat_map gate_clauses xs ++ flat_map gate_clauses ys
@@ -123,18 +156,18 @@ module _ (p q : ProblemState) (c : List Lit) where
   pub joined-has-second : Contains (clauses_of q) c → Contains (clauses_of (joined_problem p q)) c
   joined-has-second h = All-contains (Contains (clauses_of (joined_problem p q))) (clauses_of q) c (all-second p q (Contains (clauses_of (joined_problem p q))) (All-contains_itself (clauses_of (joined_problem p q)))) h
 
-any-front : {X : Type 0} (P : X → Type 0) (xs ys : List X) → Any P xs → Any P (xs ++ ys)
-any-front P xs ys w = let has = Contains-append_left xs ys w.1 (w.0, w.2, w.3) in (has.0, w.1, has.1, has.2, w.4)
-
 -- a literal of the first is one of both
 pub joined-occurs : (p q : ProblemState) → (l : Lit) → Occurs p l → Occurs (joined_problem p q) l
 joined-occurs p q l way = ⊎_elim
     (λ (w : Any (λ c. Contains c l) (clauses_of p)). let has = joined-has-first p q w.1 (w.0, w.2, w.3) in inl (has.0, w.1, has.1, has.2, w.4))
     (λ (w : IsConstrained p l). inr (⊎_elim
     (λ (s : Any (IsOfSum l) p.sums). inl (any-front (IsOfSum l) p.sums q.sums s))
-    (λ (r : Any (λ (b : TermBound). b.out.var.0 ≡ l.var.0) p.bounds ⊎ Any (λ (t : GroundTerm). Any (λ (u : Part). u.lit.var.0 ≡ l.var.0) t.parts) p.terms). inr (⊎_elim
+    (λ (r : Any (λ (b : TermBound). b.out.var.0 ≡ l.var.0) p.bounds ⊎ (Any (λ (t : GroundTerm). Any (λ (u : Part). u.lit.var.0 ≡ l.var.0) t.parts) p.terms ⊎ Any (λ s. l ≡ negated s) p.retired)). inr (⊎_elim
     (λ (b : Any (λ (b : TermBound). b.out.var.0 ≡ l.var.0) p.bounds). inl (any-front (λ (b : TermBound). b.out.var.0 ≡ l.var.0) p.bounds q.bounds b))
-    (λ (t : Any (λ (t : GroundTerm). Any (λ (u : Part). u.lit.var.0 ≡ l.var.0) t.parts) p.terms). inr (any-front (λ (t : GroundTerm). Any (λ (u : Part). u.lit.var.0 ≡ l.var.0) t.parts) p.terms q.terms t))
+    (λ (x : Any (λ (t : GroundTerm). Any (λ (u : Part). u.lit.var.0 ≡ l.var.0) t.parts) p.terms ⊎ Any (λ s. l ≡ negated s) p.retired). inr (⊎_elim
+    (λ (t : Any (λ (t : GroundTerm). Any (λ (u : Part). u.lit.var.0 ≡ l.var.0) t.parts) p.terms). inl (any-front (λ (t : GroundTerm). Any (λ (u : Part). u.lit.var.0 ≡ l.var.0) t.parts) p.terms q.terms t))
+    (λ (t : Any (λ s. l ≡ negated s) p.retired). inr t)
+    x))
     r))
     w))
     way

@@ -1,21 +1,28 @@
 -- How what a solver holds changes.
-use Rattle.std.proofs.Common.{◌≡◌, ℕ, suc, zero, ◌<◌, ◌≤◌, Bool, Option, Some, List, [], ◌∷◌, ◌++◌, length, take, slice_get, get_or, refl, sym, subst, ◌⊎◌, inl, inr, ⊎_elim, arith, All, Contains}
+use Rattle.std.proofs.Common.{◌≡◌, ℕ, suc, zero, ◌+◌, ◌<◌, ◌≤◌, Bool, false, not, Option, Some, List, [], ◌∷◌, ◌++◌, length, take, flat_map, slice_get, get_or, refl, sym, ap, ◌∙◌, subst, ◌⊎◌, inl, inr, ⊎_elim, arith, All, Any, Contains, append_assoc}
 use Rattle.std.specs.List.{AllZip}
 use Rattle.std.proofs.lemmas.Bool.{cases_lt}
-use Rattle.std.proofs.lemmas.List.Elements.{All-weaker, All-contains, Contains-get_or, Contains-append_left, Contains-push, Contains-push_cases}
+use Rattle.std.proofs.lemmas.List.Elements.{All-nil, All-cons, All-push, All-weaker, All-contains, Contains-get_or, Contains-append_left, Contains-push, Contains-push_cases}
 use Rattle.std.proofs.lemmas.Option.{slice_get_within, same_Some}
 use Rattle.lit_core.specs.declared.literals.Lit.{Lit}
+use Rattle.lit_core.specs.Literals.{literal_value, negated}
 use Rattle.lit_core.specs.Truth.{IsSatisfied}
+use Rattle.lit_core.proofs.Soundness.{value-negated}
 use Rattle.lit_core.proofs.LiteralFacts.{Contains-cons_cases, nothing_in_none}
 use Rattle.clause_store.specs.StoreState.{IsEachOnceOf}
 use Rattle.clause_store.proofs.ListFacts.{slice_get-push_new, slice_get-push_cases}
 use Rattle.ground_core.specs.Problems.{ProblemState, IsProblem, IsLitOf, AreLitsOf}
-use Rattle.ground_core.specs.Meaning.{Satisfies}
+use Rattle.ground_core.specs.declared.parts.GroundTerm.{GroundTerm}
+use Rattle.ground_core.specs.declared.parts.Part.{Part}
+use Rattle.ground_core.specs.declared.parts.TermBound.{TermBound}
+use Rattle.ground_core.specs.Meaning.{Satisfies, SumHolds, BoundHolds}
+use Rattle.ground_core.specs.Growing.{with_retired}
 use Rattle.ground_core.specs.Solving.{Entails}
-use Rattle.ground_core.specs.GateClauses.{clauses_of}
+use Rattle.ground_core.specs.GateClauses.{clauses_of, gate_clauses}
+use Rattle.ground_core.proofs.Fronts.{All-front}
 use Rattle.ground_core.proofs.Whole.{clauses-satisfied, clauses-within}
-use Rattle.search_engine.specs.Joining.{joined_problem, CanJoin}
-use Rattle.search_engine.specs.Knowledge.{IsHeldAs, IsOneOf, IsOfConstraint, Occurs, Knows, Pushes}
+use Rattle.search_engine.specs.Joining.{joined_problem, with_selected, CanJoin}
+use Rattle.search_engine.specs.Knowledge.{IsHeldAs, IsOneOf, IsOfConstraint, IsOfSum, IsConstrained, Occurs, Knows, Pushes}
 use Rattle.search_engine.proofs.Joined.{lits-wider, joined-first, joined-second, joined-all, joined-has-first, joined-has-second, joined-constraint, joined-occurs}
 use Rattle.search_engine.proofs.Pushed.{front-back, front-push, held-later, held-from-each}
 
@@ -142,6 +149,132 @@ module _ (p : ProblemState) (learnt : List (List Lit)) (ids : List ℕ) (cl : Li
         (slice_get-push_cases cl (Some k) id (Some j) e);
     problem = All-weaker (λ d. (id : ℕ) × IsHeldAs cl id d × (Contains ids id → ⊥)) (λ d. (id : ℕ) × IsHeldAs more id d × (Contains more-ids id → ⊥)) learnt-apart (clauses_of p) h.problem;
     learnt_held = zip-push more ids learnt (length cl) c (zip-later cl more (front-push cl (Some k)) ids learnt h.learnt_held) (k, slice_get-push_new cl (Some k), once);
+  }
+
+-- the problem with one more variable and one more clause
+abbrev clauses-selected : (p : ProblemState) (c : List Lit) → clauses_of (with_selected p c) ≡ clauses_of p ++ c ∷ []
+clauses-selected p c = sym (append_assoc (flat_map gate_clauses p.gates) p.clauses (c ∷ []))
+
+pub selected-first : (p : ProblemState) (c : List Lit) (v : ℕ → Bool) → Satisfies (with_selected p c) v → Satisfies p v
+selected-first p c v s = record { gates = s.gates; clauses = All-front (IsSatisfied v) p.clauses (c ∷ []) s.clauses; sums = s.sums; bounds = s.bounds; retired = s.retired }
+
+module _ (p : ProblemState) (learnt : List (List Lit)) (ids : List ℕ) (cl : List (Option (List Lit))) (c k : List Lit) (h : Knows p learnt ids cl) (lits : AreLitsOf (p.vars + 1) c) (once : IsEachOnceOf c k) where
+  abbrev grown : ProblemState
+  grown = with_selected p c
+
+  has-first : (d : List Lit) → Contains (clauses_of p) d → Contains (clauses_of grown) d
+  has-first d has = subst (λ (cs : List (List Lit)). Contains cs d) (sym (clauses-selected p c)) (Contains-append_left (clauses_of p) (c ∷ []) d has)
+
+  has-new : Contains (clauses_of grown) c
+  has-new = subst (λ (cs : List (List Lit)). Contains cs c) (sym (clauses-selected p c)) (Contains-push (clauses_of p) c)
+
+  selected-from : (j : List Lit) → (IsOneOf (clauses_of p) j ⊎ IsOfConstraint p j) → IsOneOf (clauses_of grown) j ⊎ IsOfConstraint grown j
+  selected-from j way = ⊎_elim (λ w. inl (w.0, has-first w.0 w.1, w.2)) (λ w. inr w) way
+
+  selected-occurs : (l : Lit) → Occurs p l → Occurs grown l
+  selected-occurs l way = ⊎_elim
+      (λ (w : Any (λ d. Contains d l) (clauses_of p)). let has = has-first w.1 (w.0, w.2, w.3) in inl (has.0, w.1, has.1, has.2, w.4))
+      (λ (w : IsConstrained p l). inr w)
+      way
+
+  new-occurs : (l : Lit) → Contains c l → Occurs grown l
+  new-occurs l has = let w = has-new in inl (w.0, c, w.1, w.2, has)
+
+  pub known-selected : Knows grown learnt ids (cl ++ Some k ∷ [])
+  known-selected = record {
+    implied = λ v s id j e. ⊎_elim
+        (λ o. h.implied v (selected-first p c v s) id j o)
+        (λ n. subst (IsSatisfied v) (sym (same_Some j k n.1)) (once-satisfied v c k once (All-contains (IsSatisfied v) (p.clauses ++ c ∷ []) c s.clauses (Contains-push p.clauses c))))
+        (slice_get-push_cases cl (Some k) id (Some j) e);
+    within = λ id j e. ⊎_elim
+        (λ o. lits-wider p.vars (p.vars + 1) (omega arith) j (h.within id j o))
+        (λ n. subst (AreLitsOf (p.vars + 1)) (sym (same_Some j k n.1)) (once-all (IsLitOf (p.vars + 1)) c k once lits))
+        (slice_get-push_cases cl (Some k) id (Some j) e);
+    from = λ id j e. ⊎_elim
+        (λ o. ⊎_elim (λ has. inl has) (λ way. inr (selected-from j way)) (h.from id j o))
+        (λ n. inr (inl (c, has-new, subst (IsEachOnceOf c) (sym (same_Some j k n.1)) once)))
+        (slice_get-push_cases cl (Some k) id (Some j) e);
+    problem = subst (All (λ d. (id : ℕ) × IsHeldAs (cl ++ Some k ∷ []) id d × (Contains ids id → ⊥))) (sym (clauses-selected p c))
+        (All-push (λ d. (id : ℕ) × IsHeldAs (cl ++ Some k ∷ []) id d × (Contains ids id → ⊥)) (clauses_of p) c
+        (All-weaker (λ d. (id : ℕ) × IsHeldAs cl id d × (Contains ids id → ⊥)) (λ d. (id : ℕ) × IsHeldAs (cl ++ Some k ∷ []) id d × (Contains ids id → ⊥)) (λ d w. (w.0, held-later cl (cl ++ Some k ∷ []) (front-push cl (Some k)) w.0 d w.1, w.2)) (clauses_of p) h.problem)
+        (length cl, (k, slice_get-push_new cl (Some k), once), λ has. let lt : length cl < length cl = ids-within cl ids learnt h.learnt_held (length cl) has in omega (arith, lt)));
+    occurs = λ id j e. ⊎_elim
+        (λ o. All-weaker (Occurs p) (Occurs grown) selected-occurs j (h.occurs id j o))
+        (λ n. subst (All (Occurs grown)) (sym (same_Some j k n.1)) (once-all (Occurs grown) c k once (λ i d lt. new-occurs (get_or c i d) (Contains-get_or c i d lt))))
+        (slice_get-push_cases cl (Some k) id (Some j) e);
+    learnt_held = zip-later cl (cl ++ Some k ∷ []) (front-push cl (Some k)) ids learnt h.learnt_held;
+  }
+
+-- one more selector is retired
+any-push : {X : Type 0} (P : X → Type 0) (xs : List X) (y : X) → Any P xs → Any P (xs ++ y ∷ [])
+any-push P xs y w = let has = Contains-append_left xs (y ∷ []) w.1 (w.0, w.2, w.3) in (has.0, w.1, has.1, has.2, w.4)
+
+pub retired-first : (p : ProblemState) (l : Lit) (v : ℕ → Bool) → Satisfies (with_retired p l) v → Satisfies p v
+retired-first p l v s = record { gates = s.gates; clauses = s.clauses; sums = s.sums; bounds = s.bounds; retired = All-front (λ k. literal_value v k ≡ false) p.retired (l ∷ []) s.retired }
+
+module _ (p : ProblemState) (l : Lit) where
+  constraint-retired : (k : List Lit) → IsOfConstraint p k → IsOfConstraint (with_retired p l) k
+  constraint-retired k way = ⊎_elim
+      (λ (w : Any (λ s. (v : ℕ → Bool) → SumHolds v s → IsSatisfied v k) p.sums). inl w)
+      (λ (r : Any (λ b. (v : ℕ → Bool) → BoundHolds v p.terms b → IsSatisfied v k) p.bounds ⊎ Any (λ m. (v : ℕ → Bool) → literal_value v m ≡ false → IsSatisfied v k) p.retired). inr (⊎_elim
+      (λ (w : Any (λ b. (v : ℕ → Bool) → BoundHolds v p.terms b → IsSatisfied v k) p.bounds). inl w)
+      (λ (w : Any (λ m. (v : ℕ → Bool) → literal_value v m ≡ false → IsSatisfied v k) p.retired). inr (any-push (λ m. (v : ℕ → Bool) → literal_value v m ≡ false → IsSatisfied v k) p.retired l w))
+      r))
+      way
+
+  occurs-retired : (m : Lit) → Occurs p m → Occurs (with_retired p l) m
+  occurs-retired m way = ⊎_elim
+      (λ (w : Any (λ c. Contains c m) (clauses_of p)). inl w)
+      (λ (w : IsConstrained p m). inr (⊎_elim
+      (λ (s : Any (IsOfSum m) p.sums). inl s)
+      (λ (r : Any (λ (b : TermBound). b.out.var.0 ≡ m.var.0) p.bounds ⊎ (Any (λ (t : GroundTerm). Any (λ (u : Part). u.lit.var.0 ≡ m.var.0) t.parts) p.terms ⊎ Any (λ s. m ≡ negated s) p.retired)). inr (⊎_elim
+      (λ (b : Any (λ (b : TermBound). b.out.var.0 ≡ m.var.0) p.bounds). inl b)
+      (λ (x : Any (λ (t : GroundTerm). Any (λ (u : Part). u.lit.var.0 ≡ m.var.0) t.parts) p.terms ⊎ Any (λ s. m ≡ negated s) p.retired). inr (⊎_elim
+      (λ (t : Any (λ (t : GroundTerm). Any (λ (u : Part). u.lit.var.0 ≡ m.var.0) t.parts) p.terms). inl t)
+      (λ (t : Any (λ s. m ≡ negated s) p.retired). inr (any-push (λ s. m ≡ negated s) p.retired l t))
+      x))
+      r))
+      w))
+      way
+
+  pub known-retired : (learnt : List (List Lit)) (ids : List ℕ) (cl : List (Option (List Lit))) → Knows p learnt ids cl → Knows (with_retired p l) learnt ids cl
+  known-retired learnt ids cl h = record {
+    implied = λ v s id k e. h.implied v (retired-first p l v s) id k e;
+    within = h.within;
+    from = λ id k e. ⊎_elim (λ has. inl has) (λ way. inr (⊎_elim (λ w. inl w) (λ w. inr (constraint-retired k w)) way)) (h.from id k e);
+    problem = h.problem;
+    occurs = λ id k e. All-weaker (Occurs p) (Occurs (with_retired p l)) occurs-retired k (h.occurs id k e);
+    learnt_held = h.learnt_held;
+  }
+
+-- the clause by which a retired selector is false was pushed
+module _ (p : ProblemState) (learnt : List (List Lit)) (ids : List ℕ) (cl : List (Option (List Lit))) (l : Lit) (k : List Lit) (h : Knows p learnt ids cl) (gone : Contains p.retired l) (lit : IsLitOf p.vars l) (once : IsEachOnceOf (negated l ∷ []) k) where
+  off-satisfied : (v : ℕ → Bool) → literal_value v l ≡ false → IsSatisfied v (negated l ∷ [])
+  off-satisfied v off = (0, negated l, omega arith, refl, value-negated v l ∙ ap not off)
+
+  off-occurs : Occurs p (negated l)
+  off-occurs = inr (inr (inr (inr (gone.0, l, gone.1, gone.2, refl))))
+
+  pub known-closed : Knows p learnt ids (cl ++ Some k ∷ [])
+  known-closed = record {
+    implied = λ v s id j e. ⊎_elim
+        (λ o. h.implied v s id j o)
+        (λ n. subst (IsSatisfied v) (sym (same_Some j k n.1)) (once-satisfied v (negated l ∷ []) k once (off-satisfied v (All-contains (λ m. literal_value v m ≡ false) p.retired l s.retired gone))))
+        (slice_get-push_cases cl (Some k) id (Some j) e);
+    within = λ id j e. ⊎_elim
+        (λ o. h.within id j o)
+        (λ n. subst (AreLitsOf p.vars) (sym (same_Some j k n.1)) (once-all (IsLitOf p.vars) (negated l ∷ []) k once (All-cons (IsLitOf p.vars) (negated l) [] lit (All-nil (IsLitOf p.vars)))))
+        (slice_get-push_cases cl (Some k) id (Some j) e);
+    from = λ id j e. ⊎_elim
+        (λ o. h.from id j o)
+        (λ n. inr (inr (inr (inr (gone.0, l, gone.1, gone.2, λ v off. subst (IsSatisfied v) (sym (same_Some j k n.1)) (once-satisfied v (negated l ∷ []) k once (off-satisfied v off)))))))
+        (slice_get-push_cases cl (Some k) id (Some j) e);
+    problem = All-weaker (λ d. (id : ℕ) × IsHeldAs cl id d × (Contains ids id → ⊥)) (λ d. (id : ℕ) × IsHeldAs (cl ++ Some k ∷ []) id d × (Contains ids id → ⊥)) (λ d w. (w.0, held-later cl (cl ++ Some k ∷ []) (front-push cl (Some k)) w.0 d w.1, w.2)) (clauses_of p) h.problem;
+    occurs = λ id j e. ⊎_elim
+        (λ o. h.occurs id j o)
+        (λ n. subst (All (Occurs p)) (sym (same_Some j k n.1)) (once-all (Occurs p) (negated l ∷ []) k once (All-cons (Occurs p) (negated l) [] off-occurs (All-nil (Occurs p)))))
+        (slice_get-push_cases cl (Some k) id (Some j) e);
+    learnt_held = zip-later cl (cl ++ Some k ∷ []) (front-push cl (Some k)) ids learnt h.learnt_held;
   }
 
 -- the learnt clauses were removed

@@ -1,15 +1,13 @@
 -- Learning a clause that is unit.
-use Rattle.std.proofs.Common.{◌≡◌, ℕ, ◌<◌, Bool, false, Option, Some, None, List, [], ◌∷◌, ◌++◌, length, take, slice_get, sym, ap, ◌∙◌, subst, ◌⊎◌, ⊎_elim, arith, All, Contains}
+use Rattle.std.proofs.Common.{◌≡◌, ℕ, ◌<◌, Bool, true, false, Option, Some, None, List, [], ◌∷◌, ◌++◌, length, slice_get, refl, sym, ap, ◌∙◌, subst, ◌⊎◌, inl, ⊎_elim, arith, All, Contains}
 use Rattle.std.specs.List.{AllZip}
 use Rattle.std.specs.Prelude.{IsSome}
-use Rattle.std.proofs.lemmas.List.{take_all, take-append-le}
-use Rattle.std.proofs.lemmas.List.Elements.{All-nil, All-cons, All-append, All-weaker, Contains-append_left, Contains-append_right}
+use Rattle.std.proofs.lemmas.List.Elements.{All-nil, All-cons, All-append, All-weaker, All-contains, Contains-append_left, Contains-append_right}
 use Rattle.std.proofs.lemmas.Option.{slice_get_within, same_Some, get_or_from_slice_get}
 use Rattle.lit_core.specs.declared.literals.Lit.{Lit}
-use Rattle.lit_core.specs.Literals.{value_in}
+use Rattle.lit_core.specs.Literals.{value_in, negated}
 use Rattle.lit_core.specs.Truth.{IsSettled}
 use Rattle.lit_core.specs.Freshness.{FreshAgainst}
-use Rattle.lit_core.proofs.LiteralFacts.{nothing_in_none}
 use Rattle.lit_core.proofs.FreshFromQuiet.{fresh-from_quiet}
 use Rattle.clause_store.specs.declared.trails.Step.{Step}
 use Rattle.clause_store.specs.TrailLaws.{IsFixed}
@@ -19,7 +17,7 @@ use Rattle.ground_core.specs.Problems.{ProblemState, IsLitOf}
 use Rattle.ground_core.specs.GateClauses.{clauses_of}
 use Rattle.search_engine.specs.Knowledge.{Knows, IsHeldAs}
 use Rattle.ground_core.specs.Solving.{Entails, IsLearntFrom}
-use Rattle.search_engine.specs.Searching.{IsOrderly, Extends, AreOthersFalse, IsFirstOpen}
+use Rattle.search_engine.specs.Searching.{AreClosed, IsOrderly, Extends, AreOthersFalse, IsFirstOpen}
 use Rattle.search_engine.proofs.Known.{once-all}
 use Rattle.search_engine.proofs.Pushed.{front-push}
 
@@ -58,11 +56,38 @@ module _ (p : ProblemState) (learnt : List (List Lit)) (ids : List ℕ) (s : Sto
       let member : Contains c l = (0, slice_get_within c 0 l others.1, get_or_from_slice_get c 0 l l others.1) in
       (l, fresh-from_quiet s.trail.values (clauses_of p ++ learnt) c l all-settled member none others.2)
 
+-- where nothing is left to propagate, a selector that is false by a clause is false
+pub closed-true : (s : StoreState) (ids : List ℕ) (ls : List Lit) → IsQuiet s → AreClosed s.clauses ids ls → (l : Lit) → Contains ls l → value_in s.trail.values (negated l) ≡ Some true
+closed-true s ids ls quiet closed l has =
+    let w = All-contains (λ m. (id : ℕ) × IsHeldAs s.clauses id (negated m ∷ []) × (Contains ids id → ⊥)) ls l closed has in
+    let settled : IsSettled s.trail.values (negated l ∷ []) = once-settled s.trail.values (negated l ∷ []) w.1.0 w.1.2 (quiet w.0 w.1.0 w.1.1) in
+    by_value settled (value_in s.trail.values (negated l)) refl
+  where
+    by_value : IsSettled s.trail.values (negated l ∷ []) → (o : Option Bool) → value_in s.trail.values (negated l) ≡ o → value_in s.trail.values (negated l) ≡ Some true
+    by_value h (Some true) e = e
+    by_value h (Some false) e = absurd (h.not_false (All-cons (λ m. value_in s.trail.values m ≡ Some false) (negated l) [] e (All-nil (λ m. value_in s.trail.values m ≡ Some false))))
+    by_value h None e = absurd (h.not_unit (negated l) (record {
+      member = (0, omega arith, refl);
+      unassigned = e;
+      others = All-cons (λ m. (m ≡ negated l) ⊎ (value_in s.trail.values m ≡ Some false)) (negated l) [] (inl refl) (All-nil (λ m. (m ≡ negated l) ⊎ (value_in s.trail.values m ≡ Some false)));
+    }))
+
+-- so that its negation is in no clause that is learnt
+pub lesson-live : (a : List (Option Bool)) (c : List Lit) (l : Lit) → AreOthersFalse a c → IsFirstOpen a c → value_in a (negated l) ≡ Some true → Contains c (negated l) → ⊥
+lesson-live a c l others first on has =
+    let same : first.0 ≡ others.0 = same_Some first.0 others.0 (sym first.1 ∙ others.1) in
+    ⊎_elim
+    (λ (e : negated l ≡ others.0).
+    let none : value_in a (negated l) ≡ None = subst (λ (x : Lit). value_in a x ≡ None) (same ∙ sym e) first.2 in
+    let both : Some true ≡ None = sym on ∙ none in cc)
+    (λ (off : value_in a (negated l) ≡ Some false). let both : Some true ≡ Some false = sym on ∙ off in cc)
+    (All-contains (λ m. (m ≡ others.0) ⊎ (value_in a m ≡ Some false)) c (negated l) others.2 has)
+
 -- so that it is learnt from the problem
-pub lesson-learnt : (p : ProblemState) (learnt : List (List Lit)) (c : List Lit) → p.retired ≡ [] → Entails p c → FreshAgainst (clauses_of p ++ learnt) c → IsLearntFrom p learnt c
-lesson-learnt p learnt c none entailed fresh = record {
+pub lesson-learnt : (p : ProblemState) (learnt : List (List Lit)) (c : List Lit) → ((l : Lit) → Contains p.retired l → Contains c (negated l) → ⊥) → Entails p c → FreshAgainst (clauses_of p ++ learnt) c → IsLearntFrom p learnt c
+lesson-learnt p learnt c live entailed fresh = record {
   entailed = entailed;
-  live = λ l has. absurd (nothing_in_none l (subst (λ (ls : List Lit). Contains ls l) none has));
+  live = live;
   against = clauses_of p ++ learnt;
   fresh = fresh;
   learnt = λ d has. Contains-append_right (clauses_of p) learnt d has;

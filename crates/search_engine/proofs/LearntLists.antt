@@ -1,21 +1,18 @@
 -- Learnt lists with their moments.
-use Rattle.std.proofs.Common.{◌≡◌, ℕ, zero, suc, ◌+◌, ◌<◌, ◌≤◌, Option, Some, None, List, [], ◌∷◌, ◌++◌, length, length-append, take, replicate, slice_get, slice_index_or, refl, sym, ap, ◌∙◌, subst, ⊎_elim, arith, All, Contains}
-use Rattle.std.specs.List.{AllZip}
-use Rattle.std.proofs.lemmas.List.{take_all, take-append-le, length_push, append_assoc, append-nil}
+use Rattle.std.proofs.Common.{◌≡◌, ℕ, zero, suc, ◌+◌, ◌<◌, ◌≤◌, Option, Some, List, [], ◌∷◌, ◌++◌, length, length-append, take, replicate, slice_get, slice_index_or, refl, sym, ap, ◌∙◌, subst, ⊎_elim, arith, Contains}
+use Rattle.std.proofs.lemmas.List.{take_all, take-append-le, length_push, append-nil}
 use Rattle.std.proofs.lemmas.List.Elements.{All-nil, All-push, All-weaker, All-contains}
 use Rattle.std.proofs.lemmas.Option.{slice_get_within, get_or_from_slice_get}
 use Rattle.lit_core.specs.declared.literals.Lit.{Lit}
 use Rattle.clause_store.proofs.ListFacts.{slice_get-push_cases}
 use Rattle.kb_logic.specs.declared.structures.Literal.{Literal}
 use Rattle.ground_core.specs.declared.moments.Moment.{Moment}
-use Rattle.ground_core.specs.declared.parts.Gate.{Gate}
-use Rattle.ground_core.specs.declared.parts.AggCon.{AggCon}
 use Rattle.ground_core.specs.declared.parts.GroundTerm.{GroundTerm}
-use Rattle.ground_core.specs.declared.parts.TermBound.{TermBound}
-use Rattle.ground_core.specs.Problems.{ProblemState, IsLitOf, AreLitsOf}
+use Rattle.ground_core.specs.Problems.{ProblemState, IsLitOf}
 use Rattle.ground_core.specs.Moments.{moment_of, problem_at, IsMomentOf}
+use Rattle.ground_core.specs.Growing.{with_retired}
 use Rattle.ground_core.specs.Solving.{IsLearnt, IsLearntFrom}
-use Rattle.search_engine.specs.Joining.{joined_problem, CanJoin}
+use Rattle.search_engine.specs.Joining.{joined_problem, with_selected, CanJoin}
 use Rattle.search_engine.specs.Knowledge.{IsHeldAs, Knows}
 
 -- nothing was learnt yet
@@ -119,6 +116,41 @@ module _ (p q : ProblemState) (learnt : List (List Lit)) (moments : List Moment)
 
   pub learnt-joined : IsLearnt (joined_problem p q) learnt moments
   learnt-joined = ⊎_elim without-names without-variables can.names
+
+-- a problem whose lists are longer gives what was learnt before
+module _ (p q : ProblemState) (learnt : List (List Lit)) (moments : List Moment) (h : IsLearnt p learnt moments) (later : (m : Moment) → IsMomentOf p m → IsMomentOf q m) (same : (m : Moment) → IsMomentOf p m → problem_at q m ≡ problem_at p m) where
+  pub learnt-later : IsLearnt q learnt moments
+  learnt-later = record {
+    paired = h.paired;
+    were = All-weaker (IsMomentOf p) (IsMomentOf q) later moments h.were;
+    each = λ k c m at when.
+        let was : IsMomentOf p m = All-contains (IsMomentOf p) moments m h.were (k, slice_get_within moments k m when, get_or_from_slice_get moments k m m when) in
+        subst (λ (r : ProblemState). IsLearntFrom r (take k learnt) c) (sym (same m was)) (h.each k c m at when);
+  }
+
+pub learnt-selected : (p : ProblemState) (c : List Lit) (learnt : List (List Lit)) (moments : List Moment) → IsLearnt p learnt moments → IsLearnt (with_selected p c) learnt moments
+learnt-selected p c learnt moments h = learnt-later p (with_selected p c) learnt moments h
+    (λ m is. record {
+      vars = let x : m.vars ≤ p.vars = is.vars in omega (arith, x);
+      gates = is.gates;
+      clauses = let x : m.clauses ≤ length p.clauses = is.clauses in let n : length (p.clauses ++ c ∷ []) ≡ length p.clauses + 1 = length_push p.clauses c in omega (arith, x, n);
+      sums = is.sums;
+      bounds = is.bounds;
+      retired = is.retired;
+    })
+    (λ m is. let e : take m.clauses (p.clauses ++ c ∷ []) ≡ take m.clauses p.clauses = take-append-le m.clauses p.clauses (c ∷ []) is.clauses in rw e refl)
+
+pub learnt-retired : (p : ProblemState) (l : Lit) (learnt : List (List Lit)) (moments : List Moment) → IsLearnt p learnt moments → IsLearnt (with_retired p l) learnt moments
+learnt-retired p l learnt moments h = learnt-later p (with_retired p l) learnt moments h
+    (λ m is. record {
+      vars = is.vars;
+      gates = is.gates;
+      clauses = is.clauses;
+      sums = is.sums;
+      bounds = is.bounds;
+      retired = let x : m.retired ≤ length p.retired = is.retired in let n : length (p.retired ++ l ∷ []) ≡ length p.retired + 1 = length_push p.retired l in omega (arith, x, n);
+    })
+    (λ m is. let e : take m.retired (p.retired ++ l ∷ []) ≡ take m.retired p.retired = take-append-le m.retired p.retired (l ∷ []) is.retired in rw e refl)
 
 -- what was learnt in two parts
 pub replicate-append : {X : Type 0} (a b : ℕ) (x : X) → replicate a x ++ replicate b x ≡ replicate (a + b) x

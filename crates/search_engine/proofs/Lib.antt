@@ -2,6 +2,9 @@ pub mod Potential
 pub mod Standing
 pub mod Joined
 pub mod Pushed
+pub mod Closing
+pub mod SelectorFacts
+pub mod Beginning
 pub mod LearntLists
 pub mod Known
 pub mod TrailChange

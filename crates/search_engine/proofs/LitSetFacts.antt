@@ -1,5 +1,5 @@
 -- Sets of literals.
-use Rattle.std.proofs.Common.{◌≡◌, ◌↔◌, ℕ, ◌+◌, ◌<◌, length, get_or, arith, Bool, true, false, List, [], ◌∷◌, ◌++◌, ap, refl, subst, sym, ◌∙◌, ◌⊎◌, inl, inr, ⊎_elim, Contains}
+use Rattle.std.proofs.Common.{◌≡◌, ℕ, ◌+◌, ◌<◌, length, get_or, arith, Bool, true, false, List, [], ◌∷◌, ◌++◌, ap, subst, sym, ◌∙◌, ◌⊎◌, inl, inr, ⊎_elim, Contains}
 use Rattle.std.proofs.lemmas.Bool.{cases_eq}
 use Rattle.std.proofs.lemmas.Option.{slice_get-get_or, get_or_from_slice_get}
 use Rattle.std.specs.BTreeSet.{insert_key}

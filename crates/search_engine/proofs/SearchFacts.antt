@@ -1,5 +1,5 @@
 -- How a search moves.
-use Rattle.std.proofs.Common.{◌≡◌, ℕ, ◌+◌, ◌-◌, ◌^◌, ◌<◌, ◌≤◌, min, Bool, false, Option, Some, List, [], ◌∷◌, ◌++◌, length, take, drop, replicate, slice_get, get_or, refl, sym, ap, ◌∙◌, subst, inr, ⊎_elim, arith, append_assoc}
+use Rattle.std.proofs.Common.{◌≡◌, ℕ, ◌+◌, ◌-◌, ◌^◌, ◌<◌, ◌≤◌, min, Bool, true, false, Option, Some, List, [], ◌∷◌, ◌++◌, length, take, drop, replicate, slice_get, get_or, refl, sym, ap, ◌∙◌, subst, inr, ⊎_elim, arith, append_assoc}
 use Rattle.std.proofs.lemmas.Bool.{cases_lt}
 use Rattle.std.proofs.lemmas.List.Elements.{All-weaker, All-contains}
 use Rattle.std.proofs.lemmas.List.{take-append-drop, append-nil}
@@ -23,8 +23,8 @@ use Rattle.ground_core.specs.Moments.{moment_of}
 use Rattle.ground_core.specs.Solving.{Entails}
 use Rattle.search_engine.specs.declared.engine.Engine.{Engine}
 use Rattle.search_engine.specs.Knowledge.{Occurs}
-use Rattle.search_engine.specs.Potential.{implied_of, Behind, Stands}
-use Rattle.search_engine.specs.Searching.{IsOrderly, IsEngine, IsSearch, Continues, KeepsAssumed, IsLevelOf, IsLesson, IsFirstOpen, LessonGives, StandsAt, BehindAt}
+use Rattle.search_engine.specs.Potential.{potential, implied_of, Behind, Stands}
+use Rattle.search_engine.specs.Searching.{IsOrderly, IsEngine, IsSearch, paid_of, Continues, KeepsAssumed, IsLevelOf, IsLesson, IsFirstOpen, LessonGives, StandsAt, BehindAt}
 use Rattle.search_engine.proofs.Pushed.{front-refl, front-trans}
 use Rattle.search_engine.proofs.LearntLists.{replicate-append}
 use Rattle.search_engine.proofs.Standing.{cut-pays, fewer-behind, stands-fewer}
@@ -39,6 +39,8 @@ pub record Moves (e f : Engine) : Type 0 where
   pub moments : f.moments ≡ e.moments
   pub known : f.known ≡ e.known
   pub searches : f.searches ≡ e.searches
+  pub closed : f.closed ≡ e.closed
+  pub base : f.base ≡ e.base
   pub clauses : f.store.clauses ≡ e.store.clauses
   pub size : length f.store.trail.values ≡ length e.store.trail.values
 
@@ -47,18 +49,20 @@ moves-continues e f m = record {
   problem = m.problem;
   searches = m.searches;
   known = m.known;
+  base = m.base;
   learnt = front-refl e.learnt ∙ ap (take (length e.learnt)) (sym m.learnt);
   now = (0, ap length m.learnt ∙ omega arith, ap (λ v. v.items) m.moments ∙ sym (append-nil e.moments.items));
 }
 
 pub continues-refl : (e : Engine) → Continues e e
-continues-refl e = record { problem = refl; searches = refl; known = refl; learnt = front-refl e.learnt; now = (0, omega arith, sym (append-nil e.moments.items)) }
+continues-refl e = record { problem = refl; searches = refl; known = refl; base = refl; learnt = front-refl e.learnt; now = (0, omega arith, sym (append-nil e.moments.items)) }
 
 pub continues-trans : (e f g : Engine) → Continues e f → Continues f g → Continues e g
 continues-trans e f g a b = record {
   problem = b.problem ∙ a.problem;
   searches = b.searches ∙ a.searches;
   known = b.known ∙ a.known;
+  base = b.base ∙ a.base;
   learnt = front-trans e.learnt f.learnt g.learnt a.learnt b.learnt;
   now =
       let x : Moment = moment_of e.problem in
@@ -74,20 +78,52 @@ engine-moves e f m laws h = record {
   problem = subst IsProblem (sym m.problem) h.problem;
   sums = ap (λ (p : ProblemState). p.sums) m.problem ∙ h.sums;
   bounds = ap (λ (p : ProblemState). p.bounds) m.problem ∙ h.bounds;
-  retired = ap (λ (p : ProblemState). p.retired) m.problem ∙ h.retired;
+  within = rw (m.problem, m.closed) h.within;
+  closed = rw (m.problem, m.closed, m.ids, m.clauses) h.closed;
   learnt = rw (m.problem, m.learnt, m.moments) h.learnt;
   knows = rw (m.problem, m.learnt, m.ids, m.clauses) h.knows;
   store = laws;
   sized = rw (m.problem, m.size) h.sized;
 }
 
-pub search-moves : (e f : Engine) → Moves e f → IsStore f.store → IsOrderly e.problem.vars f.store.trail.steps → e.conflicts ≤ f.conflicts → f.conflicts < 2 ^ e.problem.vars → f.root_conflicts ≤ 1 → IsSearch e → IsSearch f
+-- the same conflicts are paid, or one more
+pub paid-same : (e f : Engine) → f.problem ≡ e.problem → f.base ≡ e.base → f.conflicts ≡ e.conflicts → paid_of f ≡ paid_of e
+paid-same e f problem base conflicts = rw (problem, base, conflicts) refl
+
+pub paid-more : (e f : Engine) → f.problem ≡ e.problem → f.base ≡ e.base → f.conflicts ≤ e.conflicts + 1 → paid_of f ≤ paid_of e + 1
+paid-more e f problem base conflicts =
+    let same : potential f.problem.vars (replicate f.base true) ≡ potential e.problem.vars (replicate e.base true) = rw (problem, base) refl in
+    omega (arith, same, conflicts)
+
+pub search-moves : (e f : Engine) → Moves e f → IsStore f.store → IsOrderly e.problem.vars f.store.trail.steps → e.conflicts ≤ f.conflicts → paid_of f < 2 ^ e.problem.vars → f.root_conflicts ≤ 1 → IsSearch e → IsSearch f
 search-moves e f m laws orderly more fewer once h = record {
   engine = engine-moves e f m laws h.engine;
   orderly = rw m.problem orderly;
   counted = let c : length e.learnt ≤ e.known + e.conflicts = h.counted in rw (m.learnt, m.known) (omega (arith, c, more));
-  fewer = rw m.problem fewer;
+  fewer = subst (λ (q : ProblemState). paid_of f < 2 ^ q.vars) (sym m.problem) fewer;
   once = once;
+  closed = rw (m.problem, m.closed) h.closed;
+}
+
+-- only what there is room for differs
+pub search-spare : (e f : Engine) → f.problem ≡ e.problem → f.learnt ≡ e.learnt → f.ids.items ≡ e.ids.items → f.moments.items ≡ e.moments.items → f.known ≡ e.known → f.closed ≡ e.closed → f.base ≡ e.base → f.conflicts ≡ e.conflicts → f.root_conflicts ≡ e.root_conflicts → f.store.clauses ≡ e.store.clauses → f.store.trail ≡ e.store.trail → IsStore f.store → IsSearch e → IsSearch f
+search-spare e f problem learnt ids moments known closed base conflicts root clauses trail laws h = record {
+  engine = record {
+    problem = rw problem h.engine.problem;
+    sums = rw problem h.engine.sums;
+    bounds = rw problem h.engine.bounds;
+    within = rw (problem, closed) h.engine.within;
+    closed = rw (problem, closed, ids, clauses) h.engine.closed;
+    learnt = rw (problem, learnt, moments) h.engine.learnt;
+    knows = rw (problem, learnt, ids, clauses) h.engine.knows;
+    store = laws;
+    sized = rw (problem, trail) h.engine.sized;
+  };
+  orderly = rw (problem, trail) h.orderly;
+  counted = rw (learnt, known, conflicts) h.counted;
+  fewer = rw (problem, conflicts, base) h.fewer;
+  once = rw root h.once;
+  closed = rw (problem, closed) h.closed;
 }
 
 -- the held clauses are satisfied where the problem is
@@ -174,16 +210,16 @@ module _ (e f : Engine) (m : Moves e f) (search : IsSearch e) (t : StoreState) (
 
   pub lesson-behind : (goal : ℕ) → StandsAt e goal → BehindAt f goal
   lesson-behind goal h =
-      let b : Behind e.problem.vars (implied_of f.store.trail.steps) (e.conflicts + 1) goal = two-cuts e.problem.vars e.conflicts e.store.trail t.trail f.store.trail level a.level first second laws.trail low-level goal h in
+      let b : Behind e.problem.vars (implied_of f.store.trail.steps) (paid_of e + 1) goal = two-cuts e.problem.vars (paid_of e) e.store.trail t.trail f.store.trail level a.level first second laws.trail low-level goal h in
       let le : f.conflicts ≤ e.conflicts + 1 = omega (arith, counts) in
-      let here : Behind e.problem.vars (implied_of f.store.trail.steps) f.conflicts goal = fewer-behind e.problem.vars (implied_of f.store.trail.steps) (e.conflicts + 1) f.conflicts goal le b in
-      rw m.problem here
+      let here : Behind e.problem.vars (implied_of f.store.trail.steps) (paid_of f) goal = fewer-behind e.problem.vars (implied_of f.store.trail.steps) (paid_of e + 1) (paid_of f) goal (paid-more e f m.problem m.base le) b in
+      subst (λ (q : ProblemState). Behind q.vars (implied_of f.store.trail.steps) (paid_of f) goal) (sym m.problem) here
 
   pub lesson-search : StandsAt e 0 → e.conflicts < 2 ^ 64 → IsSearch f
   lesson-search h fits =
-      let b : Behind f.problem.vars (implied_of f.store.trail.steps) f.conflicts 0 = lesson-behind 0 h in
-      let fewer : f.conflicts < 2 ^ f.problem.vars = stands-fewer f.problem.vars (implied_of f.store.trail.steps) f.conflicts 0 (inr b) in
-      let less : f.conflicts < 2 ^ e.problem.vars = subst (λ (p : ProblemState). f.conflicts < 2 ^ p.vars) m.problem fewer in
+      let b : Behind f.problem.vars (implied_of f.store.trail.steps) (paid_of f) 0 = lesson-behind 0 h in
+      let fewer : paid_of f < 2 ^ f.problem.vars = stands-fewer f.problem.vars (implied_of f.store.trail.steps) (paid_of f) 0 (inr b) in
+      let less : paid_of f < 2 ^ e.problem.vars = subst (λ (p : ProblemState). paid_of f < 2 ^ p.vars) m.problem fewer in
       search-moves e f m after lesson-orderly (omega (arith, counts, fits)) less (omega (arith, root)) search
 
   entailed-mid : Entails e.problem a.clause.items

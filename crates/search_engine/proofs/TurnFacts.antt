@@ -15,10 +15,10 @@ use Rattle.search_engine.specs.declared.engine.Engine.{Engine}
 use Rattle.search_engine.specs.declared.searching.Outcome.{Outcome}
 use Rattle.search_engine.specs.declared.searching.Outcome.TheVariants.{Answered, Further, Open, Spent}
 use Rattle.search_engine.specs.Potential.{implied_of, Ahead, Behind, Stands}
-use Rattle.search_engine.specs.Searching.{OutcomeGives, TurnEnds, AheadAt, AreAssumed, AreTrue, BehindAt, Extends, IsFirstAssigned, IsFirstOpen, IsLesson, IsOrderly, IsSearch, IsTurn, StandsAt}
+use Rattle.search_engine.specs.Searching.{OutcomeGives, TurnEnds, AheadAt, AreAssumed, AreTrue, BehindAt, Extends, IsFirstAssigned, IsFirstOpen, IsLesson, IsOrderly, IsSearch, IsTurn, StandsAt, paid_of}
 use Rattle.search_engine.proofs.Standing.{follow-ahead, grow-ahead, lower-ahead}
 use Rattle.search_engine.proofs.TrailChange.{extends-assumed, extends-cases, extends-from, extends-propagates, same-open, still-false}
-use Rattle.search_engine.proofs.SearchFacts.{Moves, search-moves}
+use Rattle.search_engine.proofs.SearchFacts.{Moves, paid-same, search-moves}
 use Rattle.search_engine.proofs.DecideFacts.{SameBut, front-trues, room-for}
 
 -- steps that follow were added after the step back
@@ -51,7 +51,7 @@ extends-ahead v c goal room old new h fits a = ⊎_elim
     (extends-cases old new h)
 
 -- a step that follows names a variable of its clause
-reason-within : (s : StoreState) (vars : ℕ) → IsStore s → ((id : ℕ) (c : List Lit) → IsHeld s id c → AreLitsOf vars c) → (k : ℕ) (t : Step) → slice_get s.trail.steps k ≡ Some t → (o : Option ℕ) → t.reason ≡ o → IsSome o → IsLitOf vars t.lit
+pub reason-within : (s : StoreState) (vars : ℕ) → IsStore s → ((id : ℕ) (c : List Lit) → IsHeld s id c → AreLitsOf vars c) → (k : ℕ) (t : Step) → slice_get s.trail.steps k ≡ Some t → (o : Option ℕ) → t.reason ≡ o → IsSome o → IsLitOf vars t.lit
 reason-within s vars laws within k t at None is some = cc
 reason-within s vars laws within k t at (Some id) is some =
     let r = laws.reasons k t id at is in
@@ -69,6 +69,8 @@ module _ (e f : Engine) (same : SameBut e f) (h : IsSearch e) (p : Propagates e.
     moments = same.moments;
     known = same.known;
     searches = same.searches;
+    closed = same.closed;
+    base = same.base;
     clauses = p.clauses;
     size = p.size;
   }
@@ -90,7 +92,7 @@ module _ (e f : Engine) (same : SameBut e f) (h : IsSearch e) (p : Propagates e.
       let c : f.conflicts ≡ e.conflicts = same.conflicts in
       let r : f.root_conflicts ≡ e.root_conflicts = same.root_conflicts in
       let o : e.root_conflicts ≤ 1 = h.once in
-      search-moves e f prop-moves laws prop-orderly (omega (arith, c)) (subst (λ n. n < 2 ^ e.problem.vars) (sym c) h.fewer) (omega (arith, r, o)) h
+      search-moves e f prop-moves laws prop-orderly (omega (arith, c)) (subst (λ n. n < 2 ^ e.problem.vars) (sym (paid-same e f same.problem same.base c)) h.fewer) (omega (arith, r, o)) h
 
   pub prop-lesson : (c : List Lit) → IsLesson e c → IsLesson f c
   prop-lesson c l = record {
@@ -117,23 +119,23 @@ module _ (e f : Engine) (same : SameBut e f) (h : IsSearch e) (p : Propagates e.
   prop-stands goal s =
       let r = room-for f prop-search in
       let fits : length (implied_of f.store.trail.steps) + r.0 ≡ e.problem.vars = r.1 ∙ ap (λ (q : ProblemState). q.vars) same.problem in
-      rw (same.problem, same.conflicts) (extends-stands e.problem.vars e.conflicts goal r.0 e.store.trail.steps f.store.trail.steps grown fits s)
+      rw (same.problem, same.conflicts, same.base) (extends-stands e.problem.vars (paid_of e) goal r.0 e.store.trail.steps f.store.trail.steps grown fits s)
 
   pub prop-ahead : (goal : ℕ) → AheadAt e goal → AheadAt f goal
   prop-ahead goal a =
       let r = room-for f prop-search in
       let fits : length (implied_of f.store.trail.steps) + r.0 ≡ e.problem.vars = r.1 ∙ ap (λ (q : ProblemState). q.vars) same.problem in
-      rw (same.problem, same.conflicts) (extends-ahead e.problem.vars e.conflicts goal r.0 e.store.trail.steps f.store.trail.steps grown fits a)
+      rw (same.problem, same.conflicts, same.base) (extends-ahead e.problem.vars (paid_of e) goal r.0 e.store.trail.steps f.store.trail.steps grown fits a)
 
 -- the first literal of the lesson got a value by steps that follow
-pub lesson-follows : (e f : Engine) → IsSearch e → IsSearch f → f.problem ≡ e.problem → f.conflicts ≡ e.conflicts → Extends e.store.trail.steps f.store.trail.steps → (c : List Lit) → IsFirstOpen e.store.trail.values c → IsFirstAssigned f.store.trail.values c → (goal : ℕ) → BehindAt e goal → AheadAt f (goal + 1)
-lesson-follows e f h g problem conflicts grown c was is goal b =
+pub lesson-follows : (e f : Engine) → IsSearch e → IsSearch f → f.problem ≡ e.problem → f.conflicts ≡ e.conflicts → f.base ≡ e.base → Extends e.store.trail.steps f.store.trail.steps → (c : List Lit) → IsFirstOpen e.store.trail.values c → IsFirstAssigned f.store.trail.values c → (goal : ℕ) → BehindAt e goal → AheadAt f (goal + 1)
+lesson-follows e f h g problem conflicts base grown c was is goal b =
     let same : was.0 ≡ is.0 = same_Some was.0 is.0 (sym was.1 ∙ is.1) in
     let was-none : value_in e.store.trail.values is.0 ≡ None = subst (λ (l : Lit). value_in e.store.trail.values l ≡ None) same was.2 in
     let other = λ (s : f.store.trail.steps ≡ e.store.trail.steps). is.2 (same-open e.store.trail.values f.store.trail.values e.store.trail.steps f.store.trail.steps h.engine.store.trail.coherent g.engine.store.trail.coherent s is.0 was-none) in
     let r = room-for f g in
     let fits : length (implied_of f.store.trail.steps) + r.0 ≡ e.problem.vars = r.1 ∙ ap (λ (q : ProblemState). q.vars) problem in
-    rw (problem, conflicts) (extends-follows e.problem.vars e.conflicts goal r.0 e.store.trail.steps f.store.trail.steps grown other fits b)
+    rw (problem, conflicts, base) (extends-follows e.problem.vars (paid_of e) goal r.0 e.store.trail.steps f.store.trail.steps grown other fits b)
 
 -- after a conflict the assumptions are looked at from the first on
 pub turn-reset : (assume : List Lit) (f : Engine) → AreAssumed assume f.store.trail.steps → f.assumed ≡ 0 → IsTurn assume f

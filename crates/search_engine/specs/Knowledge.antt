@@ -1,7 +1,8 @@
 -- What a solver holds of its problem.
-use Rattle.std.specs.Prelude.{◌≡◌, ℕ, ◌+◌, ◌≤◌, Bool, Option, Some, List, [], ◌∷◌, length, take, slice_get, All, Any, Contains, ◌⊎◌}
+use Rattle.std.specs.Prelude.{◌≡◌, ℕ, ◌+◌, ◌≤◌, Bool, false, Option, Some, List, [], ◌∷◌, length, take, slice_get, All, Any, Contains, ◌⊎◌}
 use Rattle.std.specs.List.{AllZip}
 use Rattle.lit_core.specs.declared.literals.Lit.{Lit}
+use Rattle.lit_core.specs.Literals.{literal_value, negated}
 use Rattle.lit_core.specs.Truth.{IsSatisfied}
 use Rattle.clause_store.specs.StoreState.{IsEachOnceOf}
 use Rattle.ground_core.specs.declared.parts.AggCon.{AggCon}
@@ -20,17 +21,19 @@ IsHeldAs clauses id c = (k : List Lit) × (slice_get clauses id ≡ Some (Some k
 abbrev pub IsOneOf : List (List Lit) → List Lit → Type 0
 IsOneOf cs k = (c : List Lit) × Contains cs c × IsEachOnceOf c k
 
--- the clause holds wherever one constraint of the problem does
+-- the clause holds wherever one constraint of the problem does: a sum, a bound, or that a selector is retired
 abbrev pub IsOfConstraint : ProblemState → List Lit → Type 0
-IsOfConstraint p k = Any (λ s. (v : ℕ → Bool) → SumHolds v s → IsSatisfied v k) p.sums ⊎ Any (λ b. (v : ℕ → Bool) → BoundHolds v p.terms b → IsSatisfied v k) p.bounds
+IsOfConstraint p k =
+    Any (λ s. (v : ℕ → Bool) → SumHolds v s → IsSatisfied v k) p.sums ⊎ (Any (λ b. (v : ℕ → Bool) → BoundHolds v p.terms b → IsSatisfied v k) p.bounds ⊎ Any (λ l. (v : ℕ → Bool) → literal_value v l ≡ false → IsSatisfied v k) p.retired)
 
 -- the constraint has the literal's variable
 abbrev pub IsOfSum : Lit → AggCon → Type 0
 IsOfSum l s = (s.out.var.0 ≡ l.var.0) ⊎ Any (λ (t : Part). t.lit.var.0 ≡ l.var.0) s.parts
 
--- a sum, a bound or a term of the problem has the literal's variable
+-- a sum, a bound or a term of the problem has the literal's variable, or it is the negation of a retired selector
 abbrev pub IsConstrained : ProblemState → Lit → Type 0
-IsConstrained p l = Any (IsOfSum l) p.sums ⊎ (Any (λ (b : TermBound). b.out.var.0 ≡ l.var.0) p.bounds ⊎ Any (λ (t : GroundTerm). Any (λ (u : Part). u.lit.var.0 ≡ l.var.0) t.parts) p.terms)
+IsConstrained p l =
+    Any (IsOfSum l) p.sums ⊎ (Any (λ (b : TermBound). b.out.var.0 ≡ l.var.0) p.bounds ⊎ (Any (λ (t : GroundTerm). Any (λ (u : Part). u.lit.var.0 ≡ l.var.0) t.parts) p.terms ⊎ Any (λ s. l ≡ negated s) p.retired))
 
 -- the literal stands in a clause of the problem, or a constraint or a term has its variable
 abbrev pub Occurs : ProblemState → Lit → Type 0

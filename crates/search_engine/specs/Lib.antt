@@ -1,4 +1,5 @@
 pub mod Potential
+pub mod Selectors
 pub mod Knowledge
 pub mod Joining
 pub mod KeptFields

@@ -1,10 +1,11 @@
 -- What holds while no search is running.
-use Rattle.std.specs.Prelude.{◌≡◌, ◌^◌, ◌<◌, ◌≤◌, Option, Some, None, List, [], ◌∷◌, length, take}
+use Rattle.std.specs.Prelude.{◌≡◌, ◌^◌, ◌<◌, ◌≤◌, Bool, true, false, Option, Some, None, List, [], ◌∷◌, length, take}
 use Rattle.lit_core.specs.declared.literals.Lit.{Lit}
-use Rattle.clause_store.specs.StoreState.{IsStore}
+use Rattle.clause_store.specs.StoreState.{IsStore, IsQuiet}
 use Rattle.search_engine.specs.declared.engine.Engine.{Engine}
 use Rattle.ground_core.specs.Problems.{ProblemState}
-use Rattle.ground_core.specs.Growth.{empty_problem}
+use Rattle.ground_core.specs.Meaning.{RefutesAll}
+use Rattle.ground_core.specs.Growth.{empty_problem, with_exclusion}
 use Rattle.search_engine.specs.Joining.{joined_problem}
 use Rattle.search_engine.specs.Searching.{IsEngine, IsOrderly}
 
@@ -40,11 +41,40 @@ pub record SameSearches (old new : Engine) : Type 0 where
   pub conflicts : new.conflicts ≡ old.conflicts
   pub root_conflicts : new.root_conflicts ≡ old.root_conflicts
 
+-- what was learnt, the counts and the clauses of retired selectors stay
+pub record SameLists (old new : Engine) : Type 0 where
+  pub same : SameSearches old new
+  pub ids : new.ids ≡ old.ids
+  pub closed : new.closed ≡ old.closed
+
+-- room was made for variables
+pub record Reserves (old new : Engine) : Type 0 where
+  pub problem : new.problem ≡ old.problem
+  pub lists : SameLists old new
+  pub clauses : new.store.clauses ≡ old.store.clauses
+
 -- what is seen of it is the same
 pub record Stays (old new : Engine) : Type 0 where
   pub problem : new.problem ≡ old.problem
   pub held : held_of new.store.clauses ≡ held_of old.store.clauses
   pub same : SameSearches old new
+
+-- a selector was added under which the atoms differ from these values
+pub record Excludes (old : Engine) (values : List Bool) (new : Engine) : Type 0 where
+  pub problem : new.problem ≡ with_exclusion old.problem values
+  pub same : SameSearches old new
+
+-- only the held clauses and the trail differ
+pub record KeepsProblem (old new : Engine) : Type 0 where
+  pub problem : new.problem ≡ old.problem
+  pub same : SameSearches old new
+  pub known : new.known ≡ old.known
+  pub assumed : new.assumed ≡ old.assumed
+
+-- nothing is left to propagate, and every retired selector is one of those that are false before a search; or the problem is refuted
+abbrev pub IsBegun : Engine → Bool → Type 0
+IsBegun e true = IsQuiet e.store × (e.base ≡ length e.store.trail.steps) × (e.closed ≡ length e.problem.retired) × (length e.problem.retired ≤ e.base)
+IsBegun e false = RefutesAll e.problem []
 
 -- what the other problem says is said, too
 pub record Grows (old : Engine) (more : ProblemState) (new : Engine) : Type 0 where
@@ -56,6 +86,7 @@ pub record IsHalfDone (old new : Engine) : Type 0 where
   pub problem : new.problem ≡ old.problem
   pub same : SameSearches old new
   pub ids : new.ids ≡ old.ids
+  pub closed : new.closed ≡ old.closed
   pub trail : new.store.trail ≡ old.store.trail
   pub store : IsStore new.store
   pub front : old.store.clauses ≡ take (length old.store.clauses) new.store.clauses

@@ -1,7 +1,7 @@
 -- A search: what holds at each of its turns.
-use Rattle.std.specs.Prelude.{◌≡◌, ℕ, ◌+◌, ◌-◌, ◌^◌, ◌<◌, ◌≤◌, min, Bool, true, false, Option, Some, None, IsSome, IfSome, List, [], ◌++◌, length, take, replicate, slice_get, slice_index_or, All, Contains, ◌⊎◌}
+use Rattle.std.specs.Prelude.{◌≡◌, ℕ, ◌+◌, ◌-◌, ◌^◌, ◌<◌, ◌≤◌, min, Bool, true, false, Option, Some, None, IsSome, IfSome, List, [], ◌∷◌, ◌++◌, length, take, replicate, slice_get, slice_index_or, All, Contains, ◌⊎◌}
 use Rattle.lit_core.specs.declared.literals.Lit.{Lit}
-use Rattle.lit_core.specs.Literals.{value_in, valuation}
+use Rattle.lit_core.specs.Literals.{value_in, valuation, negated}
 use Rattle.clause_store.specs.declared.trails.Step.{Step}
 use Rattle.clause_store.specs.StoreState.{StoreState, IsStore, IsHeld, IsMadeBefore, IsConflict, IsQuiet}
 use Rattle.conflict_analysis.specs.Analyses.{IsFalseSince, IsFalseUpTo}
@@ -17,8 +17,8 @@ use Rattle.search_engine.specs.declared.engine.Turn.{Turn}
 use Rattle.search_engine.specs.declared.searching.Outcome.{Outcome}
 use Rattle.search_engine.specs.declared.searching.Outcome.TheVariants.{Answered, Further, Open, Spent}
 use Rattle.search_engine.specs.declared.engine.Turn.TheVariants.{Refuted, Conflict, Follows}
-use Rattle.search_engine.specs.Knowledge.{Knows, Occurs}
-use Rattle.search_engine.specs.Potential.{implied_of, Ahead, Behind, Stands}
+use Rattle.search_engine.specs.Knowledge.{IsHeldAs, Knows, Occurs}
+use Rattle.search_engine.specs.Potential.{potential, implied_of, Ahead, Behind, Stands}
 
 -- each step names a variable of the problem, and each without a clause is a decision
 pub record IsOrderly (vars : ℕ) (steps : List Step) : Type 0 where
@@ -42,24 +42,36 @@ KeepsAssumed old new = (assume : List Lit) → AreAssumed assume old → AreAssu
 abbrev pub AreTrue : List (Option Bool) → List Lit → Type 0
 AreTrue values lits = All (λ l. value_in values l ≡ Some true) lits
 
+-- each of these selectors is false by a clause of its own, which is held and not a learnt one
+abbrev pub AreClosed : List (Option (List Lit)) → List ℕ → List Lit → Type 0
+AreClosed clauses ids ls = All (λ l. (id : ℕ) × IsHeldAs clauses id (negated l ∷ []) × (Contains ids id → ⊥)) ls
+
 -- what holds whatever is on the trail
 pub record IsEngine (e : Engine) : Type 0 where
   pub problem : IsProblem e.problem
   pub sums : e.problem.sums ≡ []
   pub bounds : e.problem.bounds ≡ []
-  pub retired : e.problem.retired ≡ []
+  pub within : e.closed ≤ length e.problem.retired
+  -- the first retired selectors
+  pub closed : AreClosed e.store.clauses e.ids.items (take e.closed e.problem.retired)
   pub learnt : IsLearnt e.problem e.learnt e.moments.items
   pub knows : Knows e.problem e.learnt e.ids.items e.store.clauses
   pub store : IsStore e.store
   pub sized : e.problem.vars < length e.store.trail.values
+
+-- the conflicts so far, and what those literals are worth that followed when the search began
+abbrev pub paid_of : Engine → ℕ
+paid_of e = e.conflicts + potential e.problem.vars (replicate e.base true)
 
 -- what holds during a search
 pub record IsSearch (e : Engine) : Type 0 where
   pub engine : IsEngine e
   pub orderly : IsOrderly e.problem.vars e.store.trail.steps
   pub counted : length e.learnt ≤ e.known + e.conflicts
-  pub fewer : e.conflicts < 2 ^ e.problem.vars
+  pub fewer : paid_of e < 2 ^ e.problem.vars
   pub once : e.root_conflicts ≤ 1
+  -- every retired selector is false by a clause
+  pub closed : e.closed ≡ length e.problem.retired
 
 -- so many clauses were learnt, of the problem as it is
 abbrev pub LearnsNow : Engine → Engine → Type 0
@@ -70,18 +82,19 @@ pub record Continues (old new : Engine) : Type 0 where
   pub problem : new.problem ≡ old.problem
   pub searches : new.searches ≡ old.searches
   pub known : new.known ≡ old.known
+  pub base : new.base ≡ old.base
   pub learnt : old.learnt ≡ take (length old.learnt) new.learnt
   pub now : LearnsNow old new
 
 -- how far the search has come
 abbrev pub StandsAt : Engine → ℕ → Type 0
-StandsAt e goal = Stands e.problem.vars (implied_of e.store.trail.steps) e.conflicts goal
+StandsAt e goal = Stands e.problem.vars (implied_of e.store.trail.steps) (paid_of e) goal
 
 abbrev pub AheadAt : Engine → ℕ → Type 0
-AheadAt e goal = Ahead e.problem.vars (implied_of e.store.trail.steps) e.conflicts goal
+AheadAt e goal = Ahead e.problem.vars (implied_of e.store.trail.steps) (paid_of e) goal
 
 abbrev pub BehindAt : Engine → ℕ → Type 0
-BehindAt e goal = Behind e.problem.vars (implied_of e.store.trail.steps) e.conflicts goal
+BehindAt e goal = Behind e.problem.vars (implied_of e.store.trail.steps) (paid_of e) goal
 
 -- the literals of the false clause became false up to this level, some of them at it
 pub record IsLevelOf (s : StoreState) (id level : ℕ) : Type 0 where

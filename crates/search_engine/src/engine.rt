@@ -45,6 +45,10 @@ pub struct Engine {
     pub root_conflicts: u64,
     /// The assumptions before this place are true.
     pub assumed: usize,
+    /// How many of the retired selectors are false by a held clause of their own.
+    pub closed: usize,
+    /// How many literals followed when the search began.
+    pub base: usize,
 }
 
 impl Engine {

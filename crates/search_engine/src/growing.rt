@@ -1,16 +1,19 @@
 //! How what is searched grows.
-ghost use Rattle.std.specs.Prelude.{◌≡◌, ◌<◌, [], length, IfOk, OnOk, OnErr};
-ghost use Rattle.ground_core.specs.Problems.{IsProblem};
-ghost use Rattle.search_engine.specs.Joining.{CanJoin};
-ghost use Rattle.search_engine.specs.Resting.{Grows, IsHalfDone, IsNew, IsResting, Stays};
+ghost use Rattle.std.specs.Prelude.{◌≡◌, ◌<◌, ◌≤◌, ◌+◌, [], length, Contains, IfOk, OnOk, OnErr};
+ghost use Rattle.ground_core.specs.Problems.{AreLitsOf, IsProblem};
+ghost use Rattle.ground_core.specs.Growth.{next_lit};
+ghost use Rattle.ground_core.specs.Growing.{IsSelector, with_retired};
+ghost use Rattle.search_engine.specs.Joining.{CanJoin, with_selected};
+ghost use Rattle.search_engine.specs.Resting.{Excludes, Grows, IsHalfDone, IsNew, IsResting, Reserves, SameSearches, Stays};
 
 use crate::decider::Decider;
 use crate::engine::Engine;
+use crate::exclusions::exclusion;
 use crate::kept::KeptProblem;
 use crate::pushing::{push_problem, remove_all, remove_from};
 use clause_store::Store;
 use ground_core::{Memory, Problem};
-use lit_core::ClauseList;
+use lit_core::{Clause, ClauseList, Lit, Values, Var};
 use std::alloc::Global;
 
 impl Engine {
@@ -34,6 +37,8 @@ impl Engine {
             conflicts: 0,
             root_conflicts: 0,
             assumed: 0,
+            closed: 0,
+            base: 0,
         })
     }
 
@@ -67,8 +72,7 @@ impl Engine {
         let Some(count) = more.vars().checked_add(1) else {
             return Err(Memory);
         };
-        self.decider.phases.reserve(count as usize)?;
-        self.store.reserve_vars(count)?;
+        self.make_room(count)?;
         self.store.clear();
         let known = self.problem.clause_count();
         let first = self.store.len();
@@ -82,6 +86,77 @@ impl Engine {
                 Err(error)
             }
         }
+    }
+
+    /// Makes room for the variables below `count`.
+    fn make_room(&mut self, count: u64) -> Result<(), Memory>
+        requires resting { IsResting self.old }
+        ensures resting { IsResting self.new }
+        ensures reserves { Reserves self.old self.new }
+        ensures ok { OnOk result (count ≤ length self.new.store.trail.values) }
+    {
+        self.decider.phases.reserve(count as usize)?;
+        self.store.reserve_vars(count)?;
+        Ok(())
+    }
+
+    /// Holds a clause, the last of the problem, that is the first to have the greatest variable.
+    fn hold_last(&mut self, clause: Clause) -> Result<(), Memory>
+        requires resting { IsResting self.old }
+        requires sized { self.old.problem.vars + 1 < length self.old.store.trail.values }
+        requires lits { AreLitsOf (self.old.problem.vars + 1) clause }
+        ensures resting { IsResting self.new }
+        ensures ok { OnOk result ((self.new.problem ≡ with_selected self.old.problem clause) × SameSearches self.old self.new) }
+        ensures err { OnErr result (Stays self.old self.new) }
+    {
+        self.store.reserve_clause(clause.len())?;
+        let place = self.problem.clause_count();
+        self.problem.add_selected(clause)?;
+        match self.store.push_clause(self.problem.clause(place)) {
+            Ok(_) => Ok(()),
+            Err(_) => unreachable!(),
+        }
+    }
+
+    /// Adds a selector under which the ground atoms differ from these values somewhere.
+    pub fn exclude(&mut self, values: &Values) -> Result<Lit, Memory>
+        requires resting { IsResting self.old }
+        requires atoms { length self.old.problem.atoms < length values.now }
+        ensures resting { IsResting self.new }
+        ensures ok { IfOk result (λ out. (out ≡ next_lit self.old.problem) × Excludes self.old values.now self.new) }
+        ensures err { OnErr result (Stays self.old self.new) }
+    {
+        let Some(var) = self.problem.vars().checked_add(1) else {
+            return Err(Memory);
+        };
+        let Some(count) = var.checked_add(1) else {
+            return Err(Memory);
+        };
+        self.make_room(count)?;
+        let out = Lit {
+            var: Var(var),
+            positive: true,
+        };
+        let atoms = self.problem.atom_count() as usize;
+        let clause = exclusion(self.alloc, out, values, atoms)?;
+        self.hold_last(clause)?;
+        Ok(out)
+    }
+
+    /// Makes a selector false for good. The clause that says so is held when the next search begins.
+    pub fn retire(&mut self, selector: Lit)
+        requires resting { IsResting self.old }
+        requires selector { IsSelector self.old.problem selector }
+        ensures resting { IsResting self.new }
+        ensures already { Contains self.old.problem.retired selector → self.new.problem ≡ self.old.problem }
+        ensures retired { (Contains self.old.problem.retired selector → ⊥) → self.new.problem ≡ with_retired self.old.problem selector }
+        ensures few { length self.new.problem.retired ≤ self.new.problem.vars }
+        ensures same { SameSearches self.old self.new }
+        ensures held { self.new.store ≡ self.old.store }
+    {
+        self.problem.retire(selector);
+        // What is known of retired selectors comes with this.
+        let _vars = self.problem.vars();
     }
 
     /// Gives up what was learnt.

@@ -1,9 +1,11 @@
 //! The problem that a solver keeps.
-ghost use Rattle.std.specs.Prelude.{◌≡◌, ◌≤◌, ◌+◌, ◌++◌, [], length, slice_index_or, IfOk, OnOk, OnErr, vec_len, vec_capacity};
-ghost use Rattle.ground_core.specs.Problems.{IsProblem};
+ghost use Rattle.std.specs.Prelude.{◌≡◌, ◌≤◌, ◌<◌, ◌+◌, ◌++◌, ◌↔◌, [], length, slice_get, slice_index_or, Contains, IsTrue, IfOk, OnOk, OnErr, vec_len, vec_capacity};
+ghost use Rattle.ground_core.specs.Problems.{AreLitsOf, IsProblem};
 ghost use Rattle.ground_core.specs.Moments.{moment_of};
 ghost use Rattle.ground_core.specs.Growth.{empty_problem};
-ghost use Rattle.search_engine.specs.Joining.{CanJoin, joined_problem};
+ghost use Rattle.ground_core.specs.Growing.{IsSelector, with_retired};
+ghost use Rattle.search_engine.specs.Joining.{CanJoin, joined_problem, with_selected};
+ghost use Rattle.search_engine.specs.Selectors.{AreSelectors};
 
 use ground_core::{AtomTable, Gate, GroundTerm, Memory, Moment, Problem};
 use kb_logic::{ListOf, Literal};
@@ -11,7 +13,7 @@ use lit_core::{Clause, Lit};
 use std::alloc::Global;
 use std::marker::Model;
 
-/// A problem of gates and clauses, to which others are joined.
+/// A problem of gates and clauses, to which others are joined, and the selectors that are false for good.
 #[derive(Drop)]
 pub struct KeptProblem {
     atoms: Vec<Literal>,
@@ -19,6 +21,8 @@ pub struct KeptProblem {
     gates: Vec<Gate>,
     clauses: Vec<Clause>,
     terms: Vec<GroundTerm>,
+    /// Selectors that are retired, with room for every variable, so that retiring takes no memory.
+    retired: Vec<Lit>,
 }
 
 impl Model for KeptProblem {
@@ -31,6 +35,13 @@ impl Model for KeptProblem {
     ghost view = { state_of };
 
     ghost invariant = { IsKept };
+}
+
+/// Whether the literal is among the others.
+fn is_among(lits: &[Lit], lit: Lit) -> bool
+    ensures { IsTrue result ↔ Contains lits.now lit }
+{
+    lits.iter().any(|other| *other == lit)
 }
 
 fn copied_atoms(alloc: Global, table: &AtomTable) -> Result<Vec<Literal>, Memory>
@@ -120,6 +131,7 @@ impl KeptProblem {
             gates: Vec::new(alloc),
             clauses: Vec::new(alloc),
             terms: Vec::new(alloc),
+            retired: Vec::new(alloc),
         }
     }
 
@@ -129,7 +141,7 @@ impl KeptProblem {
         ensures laws { IsProblem self.now }
         ensures sums { self.now.sums ≡ [] }
         ensures bounds { self.now.bounds ≡ [] }
-        ensures retired { self.now.retired ≡ [] }
+        ensures retired { AreSelectors self.now.retired }
     {
         self.vars
     }
@@ -144,7 +156,7 @@ impl KeptProblem {
             clauses: self.clauses.len() as u64,
             sums: 0,
             bounds: 0,
-            retired: 0,
+            retired: self.retired.len() as u64,
         }
     }
 
@@ -172,6 +184,48 @@ impl KeptProblem {
         }
     }
 
+    /// How many selectors are retired.
+    pub fn retired_count(&self) -> usize
+        ensures { result ≡ length self.now.retired }
+    {
+        self.retired.len()
+    }
+
+    /// The retired selector at a place.
+    pub fn retired_at(&self, place: usize) -> Lit
+        requires { place < length self.now.retired }
+        ensures { slice_get self.now.retired place ≡ Some result }
+    {
+        self.retired[place]
+    }
+
+    /// Says one more clause, which may have one more variable, and makes the room to retire it.
+    pub fn add_selected(&mut self, clause: Clause) -> Result<(), Memory>
+        requires { AreLitsOf (self.old.vars + 1) clause }
+        ensures ok { OnOk result (self.new ≡ with_selected self.old clause) }
+        ensures err { OnErr result (self.new ≡ self.old) }
+    {
+        let Some(vars) = self.vars.checked_add(1) else {
+            return Err(Memory);
+        };
+        self.retired.reserve(vars as usize)?;
+        self.clauses.push(clause)?;
+        self.vars = vars;
+        Ok(())
+    }
+
+    /// Makes the selector false for good.
+    pub fn retire(&mut self, selector: Lit)
+        requires { IsSelector self.old selector }
+        ensures already { Contains self.old.retired selector → self.new ≡ self.old }
+        ensures retired { (Contains self.old.retired selector → ⊥) → self.new ≡ with_retired self.old selector }
+    {
+        if is_among(self.retired.as_slice(), selector) {
+            return;
+        }
+        self.retired.push_reserved(selector);
+    }
+
     /// Says all that another problem says, too.
     pub fn join(&mut self, alloc: Global, more: &Problem) -> Result<(), Memory>
         requires can { CanJoin self.old more.now }
@@ -188,6 +242,7 @@ impl KeptProblem {
         self.gates.reserve(gates.len())?;
         self.clauses.reserve(clauses.len())?;
         self.terms.reserve(terms.len())?;
+        self.retired.reserve(more.vars() as usize)?;
         append_reserved(&mut self.atoms, atoms);
         append_reserved(&mut self.gates, gates);
         append_reserved(&mut self.clauses, clauses);

@@ -5,6 +5,7 @@
 mod cores;
 mod decider;
 mod engine;
+mod exclusions;
 mod growing;
 mod kept;
 mod levels;

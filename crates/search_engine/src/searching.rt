@@ -1,11 +1,11 @@
 //! The search for a valuation under assumptions.
-ghost use Rattle.std.specs.Prelude.{◌≡◌, ◌≢◌, ℕ, ◌≤◌, ◌<◌, ◌+◌, Some, true, false, None, List, length, take, All, Contains, slice_get, IfOk, IfErr, IfSome, IsSome, IsTrue};
+ghost use Rattle.std.specs.Prelude.{◌≡◌, ◌≢◌, ℕ, ◌≤◌, ◌<◌, ◌+◌, ◌-◌, ◌^◌, Some, true, false, None, List, length, take, All, Contains, slice_get, IfOk, IfErr, OnOk, IfSome, IsSome, IsTrue};
 ghost use Rattle.lit_core.specs.declared.literals.Lit.{Lit};
 ghost use Rattle.lit_core.specs.Literals.{value_in};
 ghost use Rattle.clause_store.specs.StoreState.{IsConflict, IsQuiet, IsStore};
 ghost use Rattle.ground_core.specs.Problems.{AreLitsOf};
 ghost use Rattle.ground_core.specs.Solving.{Answers, counted};
-ghost use Rattle.search_engine.specs.Resting.{IsResting};
+ghost use Rattle.search_engine.specs.Resting.{IsBegun, IsResting, KeepsProblem};
 ghost use Rattle.search_engine.specs.Searching.{AdvanceGives, AheadAt, AreTrue, Continues, GivesValues, HaltsAt, HasRoom, HaveValues, IsSearch, IsTurn, LearnsNow, OutcomeGives, StandsAt, TurnEnds};
 
 use crate::cores::core_of;
@@ -263,6 +263,53 @@ impl Engine {
         self.root_conflicts = 0;
     }
 
+    /// Holds the clause by which the next retired selector is false.
+    fn close_next(&mut self) -> Result<(), Memory>
+        requires resting { IsResting self.old }
+        requires next { self.old.closed < length self.old.problem.retired }
+        ensures resting { IsResting self.new }
+        ensures same { KeepsProblem self.old self.new }
+        ensures closed { OnOk result (self.new.closed ≡ self.old.closed + 1) }
+    {
+        // So the sum below fits.
+        let _count = self.problem.retired_count();
+        let lit = self.problem.retired_at(self.closed);
+        self.store.push_clause(&[lit.negated()])?;
+        self.closed += 1;
+        Ok(())
+    }
+
+    /// Holds for each retired selector the clause by which it is false.
+    fn close_retired(&mut self) -> Result<(), Memory>
+        requires resting { IsResting self.old }
+        ensures resting { IsResting self.new }
+        ensures same { KeepsProblem self.old self.new }
+        ensures closed { OnOk result (self.new.closed ≡ length self.new.problem.retired) }
+    {
+        while self.closed < self.problem.retired_count() {
+            self.close_next()?;
+        }
+        Ok(())
+    }
+
+    /// Propagates what follows without assumptions; answers whether no clause is false by it.
+    fn begin(&mut self) -> Result<bool, Memory>
+        requires resting { IsResting self.old }
+        ensures resting { IsResting self.new }
+        ensures same { KeepsProblem self.old self.new }
+        ensures begun { IfOk result (IsBegun self.new) }
+    {
+        self.close_retired()?;
+        // What is known of retired selectors comes with this.
+        let _vars = self.problem.vars();
+        let conflict = self.store.propagate();
+        self.base = self.store.trail().len();
+        match conflict {
+            None => Ok(true),
+            Some(_) => Ok(false),
+        }
+    }
+
     /// Begins a search, and takes back at its end what does not follow.
     pub fn solve(&mut self, assume: &[Lit], most: Option<u64>) -> Result<Verdict, Halt>
         requires resting { IsResting self.old }
@@ -274,6 +321,7 @@ impl Engine {
         ensures learnt { self.old.learnt ≡ take (length self.old.learnt) self.new.learnt }
         ensures now { LearnsNow self.old self.new }
         ensures counted { length self.new.learnt ≤ length self.old.learnt + self.new.conflicts }
+        ensures fewer { self.new.conflicts < 2 ^ (self.old.problem.vars - length self.old.problem.retired) }
         ensures room { HasRoom most self.new }
         ensures verdict { IfOk result (Answers self.old.problem assume.now) }
         ensures halt { IfErr result (HaltsAt most self.new) }
@@ -284,8 +332,17 @@ impl Engine {
         self.root_conflicts = 0;
         self.assumed = 0;
         self.decider.begin();
-        let verdict = self.search(assume, most);
-        self.store.back_to(0);
-        verdict
+        match self.begin() {
+            Ok(true) => {
+                let verdict = self.search(assume, most);
+                self.store.back_to(0);
+                verdict
+            }
+            Ok(false) => {
+                self.root_conflicts = 1;
+                Ok(Verdict::Unsat(ListOf::new(self.alloc)))
+            }
+            Err(_) => Err(Halt::Memory),
+        }
     }
 }

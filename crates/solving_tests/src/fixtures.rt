@@ -4,7 +4,7 @@ ghost use Rattle.ground_core.specs.Problems.{AreLitsOf};
 
 use brute_force::BruteForce;
 use clause_learning::Solver;
-use ground_core::{AtomTable, Budget, Memory, Problem, Solve, Verdict, has_small_terms};
+use ground_core::{AtomTable, Budget, Memory, Problem, Solve, Verdict};
 use kb_logic::{ElemList, Literal, LiteralList};
 use lit_core::{Clause, Lit, Var};
 use std::alloc::Global;
@@ -121,13 +121,11 @@ pub fn blamed_by_force(
 /// A solver of the problem.
 pub fn solver_of(alloc: Global, problem: &Problem) -> Result<Solver, Memory>
     requires plain { (problem.now.sums ≡ []) × (problem.now.bounds ≡ []) }
+    requires unnamed { problem.now.terms ≡ [] }
     ensures vars { IfOk result (λ solver. solver.kept.problem.vars ≡ problem.now.vars) }
     ensures retired { IfOk result (λ solver. solver.kept.problem.retired ≡ []) }
 {
     let _vars = problem.vars();
-    if !has_small_terms(problem) {
-        return Err(Memory);
-    }
     let mut solver = Solver::new(alloc)?;
     solver.add_problem(problem)?;
     Ok(solver)

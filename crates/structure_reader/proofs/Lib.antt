@@ -1,0 +1,2 @@
+pub mod NextDomain
+pub mod Uses

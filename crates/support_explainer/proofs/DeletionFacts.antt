@@ -16,7 +16,8 @@ use Rattle.ground_core.specs.Calls.{Keeps, Counts, CountsUpTo, Stays, IsNone}
 use Rattle.ground_core.proofs.Sublists.{sublist-refl, sublist-all}
 use Rattle.ground_core.proofs.CoreFacts.{sublist-within, still-shown, within-trans}
 use Rattle.ground_core.proofs.CallFacts.{none-yet, stays-twice, keeps-none, keeps-twice, counts-twice}
-use Rattle.support_explainer.specs.Reasons.{IsConsistent, IsRefuted, without_item, IsIrreducible, IsNoReason}
+use Rattle.model_search.specs.Models.{IsConsistent, IsRefuted}
+use Rattle.support_explainer.specs.Reasons.{without_item, IsIrreducible, IsNoReason}
 use Rattle.support_explainer.proofs.ItemFacts.{without-sublist, without-two, length-without, sublist-append, sublist-trans}
 
 -- what is consistent stays so with fewer literals

@@ -7,21 +7,9 @@ use Rattle.ground_core.specs.declared.solving.Halt.TheVariants.{Spent, Memory}
 use Rattle.ground_core.specs.Problems.{ProblemState}
 use Rattle.ground_core.specs.Meaning.{Satisfies, MakesTrue, RefutesAll}
 use Rattle.ground_core.specs.Solving.{SolveState, IsSublist, HasCoreWithin}
+use Rattle.model_search.specs.Models.{IsConsistent, IsRefuted, IsLeft}
 use Rattle.support_explainer.specs.declared.reason.Support.{Support}
 use Rattle.support_explainer.specs.declared.reason.Support.TheVariants.{Free, Inconsistent, By}
-
--- a valuation satisfies the problem and makes the literals true
-abbrev pub IsConsistent : ProblemState → List Lit → Type 0
-IsConsistent p ls = (v : ℕ → Bool) × Satisfies p v × MakesTrue v ls
-
--- none does, which a kept core shows
-abbrev pub IsRefuted : ProblemState → List (List Lit) → List Lit → Type 0
-IsRefuted p cores ls = RefutesAll p ls × HasCoreWithin cores ls
-
--- the literals are refuted, or these are values that satisfy the problem and make them true
-abbrev pub FindsModel : ProblemState → List Lit → List (List Lit) → Option (List Bool) → Type 0
-FindsModel p ls cores None = IsRefuted p cores ls
-FindsModel p ls cores (Some values) = (p.vars < length values) × Satisfies p (valuation values) × MakesTrue (valuation values) ls
 
 -- the literals are consistent, or some of them are refuted
 abbrev pub FindsCore : ProblemState → List Lit → List (List Lit) → Option (List Lit) → Type 0

@@ -1,40 +1,17 @@
 //! Lists of which nothing can be left out, by leaving out what can be.
 ghost use Rattle.std.specs.Prelude.{◌≡◌, ◌<◌, ◌++◌, length, IfOk, IfErr};
 ghost use Rattle.ground_core.specs.Problems.{AreLitsOf};
-ghost use Rattle.ground_core.specs.Solving.{IsBudgetOf, AreUnretired, HaltedAt, HasCoreWithin, IsKept, IsSublist};
-ghost use Rattle.ground_core.specs.Calls.{Keeps, Counts, CountsUpTo, Stays, IsAnsweredAtOnce};
-ghost use Rattle.support_explainer.specs.Reasons.{IsRefuted, FindsCore, FindsModel, IsToldAt, IsIrreducible};
+ghost use Rattle.ground_core.specs.Solving.{IsBudgetOf, AreUnretired, HaltedAt, IsKept, IsSublist};
+ghost use Rattle.ground_core.specs.Calls.{Keeps, Counts, CountsUpTo, Stays};
+ghost use Rattle.model_search.specs.Models.{IsRefuted};
+ghost use Rattle.support_explainer.specs.Reasons.{FindsCore, IsToldAt, IsIrreducible};
 
-use crate::lists::{joined, without_at};
+use crate::lists::without_at;
 use ground_core::{Budget, Halt, LitList, Solve, Verdict};
 use kb_logic::ListOf;
-use lit_core::{Lit, Values};
+use lit_core::Lit;
+use model_search::{joined, model_of};
 use std::alloc::Global;
-
-/// Values that satisfy the problem and make the literals true; None where no valuation does.
-pub fn model_of<S: Solve>(
-    s: &mut S,
-    lits: &[Lit],
-    budget: &mut Budget,
-) -> Result<Option<Values>, Halt>
-    requires literals { AreLitsOf (S.state s.old).problem.vars lits.now }
-    requires unretired { AreUnretired (S.state s.old).problem lits.now }
-    requires budget { IsBudgetOf (S.state s.old).learnt budget.old }
-    ensures finds { IfOk result (FindsModel (S.state s.old).problem lits.now (S.state s.new).cores) }
-    ensures halt { IfErr result (HaltedAt budget.new) }
-    ensures stays { Stays (S.state s.old) (S.state s.new) }
-    ensures keeps { Keeps (S.state s.old) (S.state s.new) budget.old budget.new }
-    ensures counts { Counts (S.state s.old).free 1 (S.state s.old) (S.state s.new) budget.old budget.new }
-    ensures decided { HasCoreWithin (S.state s.old).cores lits.now → IsAnsweredAtOnce (S.state s.old) (S.state s.new) result }
-    ensures kept { IsKept (S.state s.new) }
-    ensures later { S.goes_on s.old s.new }
-{
-    match s.solve(lits, budget) {
-        Ok(Verdict::Sat(values)) => Ok(Some(values)),
-        Ok(Verdict::Unsat(_)) => Ok(None),
-        Err(halt) => Err(halt),
-    }
-}
 
 /// Some of the literals that are true together in no valuation; None where all of them are in one.
 pub fn core_of<S: Solve>(

@@ -4,14 +4,15 @@ ghost use Rattle.lit_core.specs.Literals.{negated};
 ghost use Rattle.ground_core.specs.Problems.{AreLitsOf};
 ghost use Rattle.ground_core.specs.Solving.{IsBudgetOf, AreUnretired, HaltedAt, HasCoreWithin, IsKept};
 ghost use Rattle.ground_core.specs.Calls.{Keeps, CountsUpTo, Costs, Stays};
-ghost use Rattle.support_explainer.specs.Reasons.{IsRefuted, FindsConflict, FindsSupport, IsInconsistentAtOnce};
+ghost use Rattle.model_search.specs.Models.{IsRefuted};
+ghost use Rattle.support_explainer.specs.Reasons.{FindsConflict, FindsSupport, IsInconsistentAtOnce};
 
-use crate::deletion::{core_of, irreducible, model_of};
-use crate::lists::joined;
+use crate::deletion::{core_of, irreducible};
 use crate::reason::Support;
 use ground_core::{Budget, Halt, LitList, Solve};
 use kb_logic::ListOf;
 use lit_core::Lit;
+use model_search::{joined, model_of};
 use std::alloc::Global;
 
 /// Some of what is assumed that no valuation of the problem makes true together, where none of it

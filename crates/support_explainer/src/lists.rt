@@ -1,19 +1,11 @@
 //! Lists of literals.
-ghost use Rattle.std.specs.Prelude.{◌≡◌, ◌<◌, ◌++◌, length, IfOk};
+ghost use Rattle.std.specs.Prelude.{◌≡◌, ◌<◌, length, IfOk};
 ghost use Rattle.support_explainer.specs.Reasons.{without_item};
 
 use ground_core::Memory;
 use lit_core::Lit;
+use model_search::joined;
 use std::alloc::Global;
-
-/// The literals, and then the others.
-pub fn joined(alloc: Global, lits: &[Lit], last: &[Lit]) -> Result<Vec<Lit>, Memory>
-    ensures { IfOk result (λ list. list.items ≡ lits.now ++ last.now) }
-{
-    let mut list = Vec::from_slice(alloc, lits)?;
-    list.extend_from_slice(last)?;
-    Ok(list)
-}
 
 /// The literals but the one at this index.
 pub fn without_at(alloc: Global, lits: &[Lit], at: usize) -> Result<Vec<Lit>, Memory>

@@ -1,11 +1,12 @@
 //! Which literals are forced.
 ghost use Rattle.std.specs.Prelude.{◌≡◌, [], length};
 
-use crate::fixtures::{are_over, example, no, yes};
+use crate::fixtures::example;
 use brute_force::BruteForce;
 use consequences::{KeptList, forced};
 use ground_core::{Budget, Halt, Memory, Problem, Solve};
 use lit_core::{Lit, Values};
+use problem_fixtures::{are_over, no, yes};
 use std::alloc::Global;
 use std::test::Fail;
 

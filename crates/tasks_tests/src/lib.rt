@@ -6,4 +6,6 @@ mod fixtures;
 #[cfg(test)]
 mod forcing;
 #[cfg(test)]
+mod models;
+#[cfg(test)]
 mod reasons;

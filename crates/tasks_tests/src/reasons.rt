@@ -1,10 +1,11 @@
 //! Why nothing is left, and why a literal is true.
 ghost use Rattle.std.specs.Prelude.{◌≡◌, []};
 
-use crate::fixtures::{are_over, example, no, yes};
+use crate::fixtures::example;
 use brute_force::BruteForce;
 use ground_core::{Budget, Halt, LitList, Memory, Problem, Solve};
 use lit_core::Lit;
+use problem_fixtures::{are_over, no, yes};
 use std::alloc::Global;
 use std::test::Fail;
 use support_explainer::reason::Support;

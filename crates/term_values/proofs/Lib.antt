@@ -9,3 +9,11 @@ pub mod ArgumentTypes
 pub mod TypedLaws
 pub mod KnownLaws
 pub mod FewRows
+pub mod FlatLemmas
+pub mod IndexLemmas
+pub mod CountLemmas
+pub mod RadixLemmas
+pub mod VariableLemmas
+pub mod RowListLemmas
+pub mod TermRowLemmas
+pub mod KnownLists

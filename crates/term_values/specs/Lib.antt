@@ -1,5 +1,12 @@
 pub mod GroundBases
 pub mod Rows
+pub mod RowValues
+pub mod FlatRows
+pub mod RowSums
+pub mod DomainIndexes
+pub mod VariableTables
+pub mod GroundDataFields
+pub mod RowArithmetic
 pub mod KnownBases
 pub mod GroundTerms
 pub mod Laws

@@ -10,7 +10,8 @@ returns-in-Ok-pick c =
     line_is c.picked_line.result (picked_text c.in-Ok-pick.picked.theory c.in-Ok-pick.picked.structure) (IsPickLine (word_given c.args.theory) c.args.text.now) c.picked_line.ensures
     (inl (file_in c.in-Ok.raw, c.in-Ok-pick.picked.theory, c.in-Ok-pick.picked.structure, file_read c.args.text.now c.in-Ok.raw c.in-Ok.ensures, c.in-Ok-pick.ensures.ok, refl))
 
-pub returns : goal.returns
-returns c =
-    line_is c.fault_line-in-Err.result (fault_text c.in-Err.fault) (IsPickLine (word_given c.args.theory) c.args.text.now) c.fault_line-in-Err.ensures
-    (inr (c.in-Err.fault, inr (file_in c.in-Ok.raw, file_read c.args.text.now c.in-Ok.raw c.in-Ok.ensures, c.in-Err.ensures.err), refl))
+pub returns-in-Err-Refused-pick : goal.returns-in-Err-Refused-pick
+returns-in-Err-Refused-pick c =
+    line_is c.fault_line-in-Err-Refused-pick.result (fault_text c.in-Err-Refused-pick.fault) (IsPickLine (word_given c.args.theory) c.args.text.now)
+    c.fault_line-in-Err-Refused-pick.ensures
+    (inr (c.in-Err-Refused-pick.fault, inr (file_in c.in-Ok.raw, file_read c.args.text.now c.in-Ok.raw c.in-Ok.ensures, (rw c.in-Err-Refused-pick.field-0-is at c.in-Err-Refused-pick.ensures.err)), refl))

@@ -3,7 +3,8 @@ use Rattle.lit_core.specs.declared.literals.Lit.{Lit}
 use Rattle.lit_core.specs.Literals.{valuation}
 use Rattle.ground_core.specs.Problems.{AreLitsOf}
 use Rattle.ground_core.specs.Solving.{SolveState, AreUnretired}
-use Rattle.support_explainer.specs.Reasons.{FindsModel, IsConsistent, IsRefuted, without_item}
+use Rattle.model_search.specs.Models.{FindsModel, IsConsistent, IsRefuted}
+use Rattle.support_explainer.specs.Reasons.{without_item}
 use Rattle.support_explainer.proofs.ItemFacts.{without-sublist, sublist-append}
 use Rattle.support_explainer.proofs.DeletionFacts.{lits-fewer, unretired-fewer}
 use Rattle.support_explainer.proofs.deletion.without_spare.Goals as goal

@@ -5,7 +5,8 @@ use Rattle.ground_core.specs.Problems.{ProblemState, AreLitsOf}
 use Rattle.ground_core.specs.Solving.{AreUnretired}
 use Rattle.ground_core.specs.Calls.{Keeps, Costs}
 use Rattle.ground_core.proofs.CallFacts.{stays-twice, keeps-twice, costs-after, costs-once}
-use Rattle.support_explainer.specs.Reasons.{FindsCore, IsRefuted, IsIrreducible}
+use Rattle.model_search.specs.Models.{IsRefuted}
+use Rattle.support_explainer.specs.Reasons.{FindsCore, IsIrreducible}
 use Rattle.support_explainer.proofs.ItemFacts.{sublist-trans, length-sublist}
 use Rattle.support_explainer.proofs.DeletionFacts.{lits-fewer, unretired-fewer, counts-wider, two-more}
 use Rattle.support_explainer.proofs.explaining.conflict.Goals as goal

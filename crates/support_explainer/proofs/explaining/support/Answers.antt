@@ -6,7 +6,7 @@ use Rattle.ground_core.specs.Solving.{AreUnretired, HasCoreWithin}
 use Rattle.ground_core.specs.Calls.{Keeps, Costs, IsAnsweredAtOnce}
 use Rattle.ground_core.proofs.CoreFacts.{still-shown}
 use Rattle.ground_core.proofs.CallFacts.{keeps-twice, costs-after, costs-once}
-use Rattle.support_explainer.specs.Reasons.{FindsModel, IsRefuted}
+use Rattle.model_search.specs.Models.{FindsModel, IsRefuted}
 use Rattle.support_explainer.proofs.DeletionFacts.{frees, core-wider, no-reason, two-more}
 use Rattle.support_explainer.proofs.explaining.support.Goals as goal
 

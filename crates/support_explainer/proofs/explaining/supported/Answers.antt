@@ -5,7 +5,7 @@ use Rattle.ground_core.specs.Problems.{ProblemState}
 use Rattle.ground_core.specs.Solving.{AreUnretired}
 use Rattle.ground_core.proofs.CoreFacts.{still-shown}
 use Rattle.ground_core.proofs.CallFacts.{keeps-twice}
-use Rattle.support_explainer.specs.Reasons.{IsRefuted}
+use Rattle.model_search.specs.Models.{IsRefuted}
 use Rattle.support_explainer.proofs.DeletionFacts.{counts-after, counts-wider}
 use Rattle.support_explainer.proofs.explaining.supported.Goals as goal
 

@@ -1,4 +1,4 @@
-use Rattle.std.proofs.Common.{◌≡◌, ◌<◌, false, true, List, length, refl, sym, ◌∙◌, subst, arith}
+use Rattle.std.proofs.Common.{◌≡◌, ◌<◌, false, true, List, length, sym, ◌∙◌, subst, arith}
 use Rattle.std.proofs.lemmas.Option.{slice_get_within}
 use Rattle.lit_core.specs.declared.literals.Lit.{Lit}
 use Rattle.search_engine.specs.LitSets.{IsSetOf}

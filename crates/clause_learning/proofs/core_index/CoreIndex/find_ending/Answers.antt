@@ -1,7 +1,6 @@
-use Rattle.std.proofs.Common.{◌≡◌, ℕ, ◌+◌, ◌-◌, ◌<◌, ◌≤◌, false, true, Some, List, length, slice_get, get_or, refl, sym, ap, ◌∙◌, subst, ⊎_elim, arith, All}
+use Rattle.std.proofs.Common.{◌≡◌, ℕ, ◌-◌, ◌<◌, ◌≤◌, false, true, length, slice_get, get_or, refl, sym, ap, ◌∙◌, subst, ⊎_elim, arith, All}
 use Rattle.std.proofs.lemmas.Bool.{cases_eq}
 use Rattle.std.proofs.lemmas.Option.{same_Some}
-use Rattle.lit_core.specs.declared.literals.Lit.{Lit}
 use Rattle.search_engine.specs.LitSets.{HasLit}
 use Rattle.clause_learning.specs.CoreIndexes.{EndsWith}
 use Rattle.clause_learning.proofs.CoreIndexFacts.{ends-within, read-is, number-is}

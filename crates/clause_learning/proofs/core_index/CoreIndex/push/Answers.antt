@@ -1,5 +1,4 @@
-use Rattle.std.proofs.Common.{◌≡◌, ℕ, ◌+◌, ◌∷◌, ◌++◌, [], List, length, refl, ap, ◌∙◌, arith}
-use Rattle.lit_core.specs.declared.literals.Lit.{Lit}
+use Rattle.std.proofs.Common.{◌≡◌, ℕ, ◌+◌, ◌∷◌, ◌++◌, [], length, refl, ap, ◌∙◌, arith}
 use Rattle.clause_learning.specs.declared.core_index.CoreIndex.{CoreIndex}
 use Rattle.clause_learning.proofs.CoreIndexFacts.{same-index, indexed-push}
 use Rattle.clause_learning.proofs.core_index.CoreIndex.push.Goals as goal

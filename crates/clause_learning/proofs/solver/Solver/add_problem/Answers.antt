@@ -1,4 +1,4 @@
-use Rattle.std.proofs.Common.{subst, sym, ◌<◌, ◌^◌, ⊎_elim}
+use Rattle.std.proofs.Common.{subst, sym, ⊎_elim}
 use Rattle.search_engine.specs.declared.engine.Engine.{Engine}
 use Rattle.search_engine.specs.Joining.{CanJoin}
 use Rattle.search_engine.specs.Resting.{Grows, Stays}
@@ -16,7 +16,7 @@ module _ (c : goal.After-add_problem) where
   abbrev f : Engine
   f = c.add_problem.new.self
 
-  added : IsKeeper (record { alloc = a.alloc; engine = f; index = a.index })
+  added : IsKeeper (record { alloc = a.alloc; engine = f; index = a.index; additions = a.additions })
   added =
       let can : CanJoin a.engine.problem c.args.more.now = subst (λ (s : SolverState). CanJoin s.kept.problem c.args.more.now) (sym c.self.view_is) c.requires.can in
       ⊎_elim
@@ -28,4 +28,4 @@ pub invariant_of-self : goal.invariant_of-self
 invariant_of-self c = added c
 
 pub returns-clause-laws : goal.returns-clause-laws
-returns-clause-laws c = solver-laws (record { keeper = record { alloc = c.self.inside.keeper.alloc; engine = c.add_problem.new.self; index = c.self.inside.keeper.index } }) (added c)
+returns-clause-laws c = solver-laws (record { keeper = record { alloc = c.self.inside.keeper.alloc; engine = c.add_problem.new.self; index = c.self.inside.keeper.index; additions = c.self.inside.keeper.additions } }) (added c)

@@ -1,40 +1,45 @@
-use Rattle.std.proofs.Common.{◌≡◌, ◌-◌, ◌<◌, ◌≤◌, ◌++◌, Bool, None, Option, List, [], length, take, replicate, length-append, ap, ◌∙◌, subst, arith}
+use Rattle.std.proofs.Common.{◌≡◌, ◌<◌, Bool, None, Option, List, [], length, take, replicate, refl, ap, ◌∙◌, subst, arith}
 use Rattle.std.proofs.lemmas.List.{length-replicate}
 use Rattle.lit_core.specs.declared.literals.Lit.{Lit}
 use Rattle.clause_store.specs.TrailState.{TrailState}
 use Rattle.clause_store.specs.StoreState.{StoreState}
 use Rattle.search_engine.specs.declared.engine.Engine.{Engine}
 use Rattle.search_engine.specs.Knowledge.{RemovesFrom}
-use Rattle.search_engine.proofs.GrowFacts.{removed-held, resting-back}
+use Rattle.search_engine.specs.Resting.{held_of}
+use Rattle.search_engine.proofs.DecideFacts.{with_store}
+use Rattle.search_engine.proofs.GrowFacts.{orderly-none, removed-held, resting-back, resting-moves, same-itself, same-twice}
 use Rattle.search_engine.proofs.engine.Engine.add_problem.Goals as goal
 
-module _ (c : goal.After-remove_from) where
-  abbrev old : Engine
-  old = c.args.self.now
+cleared-size : (mid : Engine) (clear : StoreState) → clear.trail.values ≡ replicate (length mid.store.trail.values) None → length clear.trail.values ≡ length mid.store.trail.values
+cleared-size mid clear is = ap length is ∙ length-replicate {A = Option Bool} (length mid.store.trail.values) None
 
-  abbrev grown : StoreState
-  grown = c.reserve_vars.new.self
+pub hold-requires-clause-resting : goal.hold-requires-clause-resting
+hold-requires-clause-resting c =
+    let mid : Engine = c.make_room.new.self in
+    let s : StoreState = c.clear.new.self in
+    let size : length s.trail.values ≡ length mid.store.trail.values = cleared-size mid s (ap (λ (s : StoreState). s.trail.values) c.clear.ensures.cleared) in
+    let sized : mid.problem.vars < length mid.store.trail.values = c.make_room.ensures.resting.engine.sized in
+    resting-moves mid (with_store mid s) c.make_room.ensures.resting (record { same = same-itself mid (with_store mid s) refl refl refl refl refl; ids = refl; closed = refl }) refl (ap (λ (s : StoreState). s.clauses) c.clear.ensures.cleared) (orderly-none mid.problem.vars s.trail.steps (ap (λ (s : StoreState). s.trail.steps) c.clear.ensures.cleared)) (ap (λ (s : StoreState). s.trail.level) c.clear.ensures.cleared) c.clear.ensures.laws (omega (arith, size, sized))
+
+module _ (c : goal.After-remove_from) where
+  -- the engine with room for the variables
+  abbrev mid : Engine
+  mid = c.make_room.new.self
 
   abbrev half : Engine
   half = c.hold.new.self
 
-  -- the store with room for the variables, and nothing assigned
+  -- its store, where nothing is assigned
   abbrev clear : StoreState
   clear = c.clear.new.self
 
-  same-clauses : clear.clauses ≡ old.store.clauses
-  same-clauses = ap (λ (s : StoreState). s.clauses) c.clear.ensures.cleared ∙ ap (λ (s : StoreState). s.clauses) c.in_ok-reserve_vars.ensures.ok
+  same-clauses : clear.clauses ≡ mid.store.clauses
+  same-clauses = ap (λ (s : StoreState). s.clauses) c.clear.ensures.cleared
 
-  longer : length old.store.trail.values ≤ length grown.trail.values
-  longer =
-      let is : length grown.trail.values ≡ length (old.store.trail.values ++ replicate (c.in-Some.count - length old.store.trail.values) None) = ap (λ (s : StoreState). length s.trail.values) c.in_ok-reserve_vars.ensures.ok in
-      let len = length-append old.store.trail.values (replicate {A = Option Bool} (c.in-Some.count - length old.store.trail.values) None) in
-      omega (arith, is, len)
-
-  front : old.store.clauses ≡ take (length old.store.clauses) half.store.clauses
+  front : mid.store.clauses ≡ take (length mid.store.clauses) half.store.clauses
   front = subst (λ (xs : List (Option (List Lit))). xs ≡ take (length xs) half.store.clauses) same-clauses c.in-Err.ensures.err.front
 
-  removed : RemovesFrom (length old.store.clauses) half.store.clauses c.remove_from.new.store.clauses
+  removed : RemovesFrom (length mid.store.clauses) half.store.clauses c.remove_from.new.store.clauses
   removed = subst (λ n. RemovesFrom n half.store.clauses c.remove_from.new.store.clauses) (c.len-first.ensures ∙ ap length same-clauses) c.remove_from.ensures.removed
 
   trail : c.remove_from.new.store.trail ≡ clear.trail
@@ -46,41 +51,27 @@ module _ (c : goal.After-remove_from) where
   level : c.remove_from.new.store.trail.level ≡ 0
   level = ap (λ (t : TrailState). t.level) trail ∙ ap (λ (s : StoreState). s.trail.level) c.clear.ensures.cleared
 
-  sized : old.problem.vars < length c.remove_from.new.store.trail.values
+  sized : mid.problem.vars < length c.remove_from.new.store.trail.values
   sized =
-      let was : old.problem.vars < length old.store.trail.values = c.requires.resting.engine.sized in
+      let was : mid.problem.vars < length mid.store.trail.values = c.make_room.ensures.resting.engine.sized in
       let same : length c.remove_from.new.store.trail.values ≡ length clear.trail.values = ap (λ (t : TrailState). length t.values) trail in
-      let cleared-size : length clear.trail.values ≡ length (replicate {A = Option Bool} (length grown.trail.values) None) = ap (λ (s : StoreState). length s.trail.values) c.clear.ensures.cleared in
-      let count : length (replicate {A = Option Bool} (length grown.trail.values) None) ≡ length grown.trail.values = length-replicate (length grown.trail.values) None in
-      let le : length old.store.trail.values ≤ length grown.trail.values = longer in
-      omega (arith, was, same, cleared-size, count, le)
+      let size : length clear.trail.values ≡ length mid.store.trail.values = cleared-size mid clear (ap (λ (s : StoreState). s.trail.values) c.clear.ensures.cleared) in
+      omega (arith, was, same, size)
 
   abbrev done : Engine
-  done = record {
-    alloc = half.alloc;
-    problem = half.problem;
-    store = c.remove_from.new.store;
-    learnt = half.learnt;
-    ids = half.ids;
-    moments = half.moments;
-    decider = half.decider;
-    searches = half.searches;
-    known = half.known;
-    conflicts = half.conflicts;
-    root_conflicts = half.root_conflicts;
-    assumed = half.assumed;
-  }
+  done = with_store half c.remove_from.new.store
 
 pub returns-in-Err-clause-resting : goal.returns-in-Err-clause-resting
 returns-in-Err-clause-resting c =
     let h = c.in-Err.ensures.err in
-    resting-back (old c) (done c) (half c).store.clauses c.requires.resting (front c) (removed c) (steps c) (level c) c.remove_from.ensures.laws (sized c) h.problem h.same.learnt h.ids h.same.moments h.same.conflicts h.same.root_conflicts
+    resting-back (mid c) (done c) (half c).store.clauses c.make_room.ensures.resting (front c) (removed c) (steps c) (level c) c.remove_from.ensures.laws (sized c) h.problem h.same.learnt h.ids h.closed h.same.moments h.same.conflicts h.same.root_conflicts
 
 pub returns-in-Err-clause-err : goal.returns-in-Err-clause-err
 returns-in-Err-clause-err c =
     let h = c.in-Err.ensures.err in
+    let r = c.make_room.ensures.reserves in
     record {
-      problem = h.problem;
-      held = removed-held (old c).store.clauses (half c).store.clauses c.remove_from.new.store.clauses (front c) (removed c);
-      same = record { learnt = h.same.learnt; moments = h.same.moments; searches = h.same.searches; conflicts = h.same.conflicts; root_conflicts = h.same.root_conflicts };
+      problem = h.problem ∙ r.problem;
+      held = removed-held (mid c).store.clauses (half c).store.clauses c.remove_from.new.store.clauses (front c) (removed c) ∙ ap held_of r.clauses;
+      same = same-twice c.args.self.now (mid c) (done c) r.lists.same (same-itself (mid c) (done c) h.same.learnt h.same.moments h.same.searches h.same.conflicts h.same.root_conflicts);
     }

@@ -1,11 +1,10 @@
-use Rattle.std.proofs.Common.{◌≡◌, ◌+◌, ◌<◌, List, None, length, refl, sym, ap, ◌∙◌, subst, inl, arith, All, Contains, ◌⊎◌}
-use Rattle.std.proofs.lemmas.List.Elements.{All-contains, All-contains_itself, All-weaker}
+use Rattle.std.proofs.Common.{◌≡◌, ◌+◌, List, None, refl, sym, subst, inl, arith, Contains, ◌⊎◌}
+use Rattle.std.proofs.lemmas.List.Elements.{All-contains}
 use Rattle.lit_core.specs.declared.literals.Lit.{Lit}
 use Rattle.clause_store.specs.declared.trails.Step.{Step}
-use Rattle.clause_store.specs.StoreState.{StoreState}
 use Rattle.ground_core.specs.Problems.{IsLitOf}
 use Rattle.search_engine.specs.declared.engine.Engine.{Engine}
-use Rattle.search_engine.proofs.AnswerFacts.{core-refuted, decision-within}
+use Rattle.search_engine.proofs.AnswerFacts.{core-refuted}
 use Rattle.search_engine.proofs.DecideFacts.{with_store, same-but, decide-goes, decide-search, decide-turn}
 use Rattle.search_engine.proofs.engine.Engine.assume_next.Goals as goal
 

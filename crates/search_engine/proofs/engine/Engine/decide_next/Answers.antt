@@ -23,10 +23,12 @@ with_choice e s decider = record {
   conflicts = e.conflicts;
   root_conflicts = e.root_conflicts;
   assumed = e.assumed;
+  closed = e.closed;
+  base = e.base;
 }
 
 same-but : (e : Engine) (s : StoreState) (decider : Decider) → SameBut e (with_choice e s decider)
-same-but e s decider = record { problem = refl; learnt = refl; ids = refl; moments = refl; known = refl; searches = refl; conflicts = refl; root_conflicts = refl; assumed = refl }
+same-but e s decider = record { problem = refl; learnt = refl; ids = refl; moments = refl; known = refl; searches = refl; conflicts = refl; root_conflicts = refl; assumed = refl; closed = refl; base = refl }
 
 pub overflow_add-end : goal.overflow_add-end
 overflow_add-end c =

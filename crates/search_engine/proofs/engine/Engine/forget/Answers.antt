@@ -1,4 +1,4 @@
-use Rattle.std.proofs.Common.{◌≡◌, ◌<◌, ◌∙◌, ℕ, Bool, None, Option, List, [], length, replicate, refl, sym, ap, subst, All, Contains}
+use Rattle.std.proofs.Common.{◌≡◌, ◌<◌, ◌∙◌, ℕ, Bool, None, Option, List, [], length, refl, sym, ap, subst, All, Contains}
 use Rattle.std.proofs.lemmas.List.{length-replicate}
 use Rattle.std.proofs.lemmas.List.Elements.{All-weaker, All-contains_itself}
 use Rattle.lit_core.specs.declared.literals.Lit.{Lit}
@@ -33,6 +33,8 @@ returns-clause-resting c =
       conflicts = e.conflicts;
       root_conflicts = e.root_conflicts;
       assumed = e.assumed;
+      closed = e.closed;
+      base = e.base;
     } in
     let same : c.clear.new.self.clauses ≡ e.store.clauses = ap (λ (s : StoreState). s.clauses) c.clear.ensures.cleared in
     let trail : f.store.trail ≡ c.clear.new.self.trail = c.remove_all.ensures.trail in
@@ -41,4 +43,4 @@ returns-clause-resting c =
     let size : length f.store.trail.values ≡ length e.store.trail.values = ap (λ (t : TrailState). length t.values) trail ∙ (ap (λ (s : StoreState). length s.trail.values) c.clear.ensures.cleared ∙ length-replicate {A = Option Bool} (length e.store.trail.values) None) in
     let removed : RemovesAll e.ids.items c.clear.new.self.clauses c.remove_all.new.store.clauses = subst (λ (xs : List ℕ). RemovesAll xs c.clear.new.self.clauses c.remove_all.new.store.clauses) c.deref.ensures.value c.remove_all.ensures.removed in
     let here : RemovesAll e.ids.items e.store.clauses f.store.clauses = subst (λ (cl : List (Option (List Lit))). RemovesAll e.ids.items cl f.store.clauses) same removed in
-    resting-forgets e f c.requires.resting here steps level size c.remove_all.ensures.laws refl c.truncate.ensures c.clear-2.ensures.items c.clear-3.ensures.items refl refl
+    resting-forgets e f c.requires.resting here steps level size c.remove_all.ensures.laws refl c.truncate.ensures c.clear-2.ensures.items refl c.clear-3.ensures.items refl refl

@@ -1,5 +1,4 @@
-use Rattle.std.proofs.Common.{◌≡◌, Some, refl, sym, ◌∙◌, subst, inr}
-use Rattle.clause_store.specs.StoreState.{StoreState}
+use Rattle.std.proofs.Common.{◌≡◌, Some, sym, ◌∙◌, subst, inr}
 use Rattle.search_engine.specs.declared.engine.Engine.{Engine}
 use Rattle.search_engine.specs.Searching.{Extends, IsFirstAssigned, IsLesson, LessonGives}
 use Rattle.search_engine.proofs.DecideFacts.{with_store, same-but}
@@ -50,4 +49,4 @@ returns-clause-turn c =
     let grown : Extends m.store.trail.steps c.propagate.new.self.trail.steps = extends-propagates m.store c.propagate.new.self c.propagate.ensures.same in
     let all : Extends m.store.trail.steps f.store.trail.steps = extends-trans m.store.trail.steps c.propagate.new.self.trail.steps f.store.trail.steps grown c.learn_if_open.ensures.steps in
     let assigned : IsFirstAssigned f.store.trail.values c.in-Some.clause.items = subst (IsFirstAssigned f.store.trail.values) c.deref.ensures.value c.in_ok-learn_if_open-in-None.ensures.first in
-    (c.learn_if_open.ensures.counts.root_conflicts ∙ lesson.0, λ goal-of s. lesson-follows m f c.learn_from.ensures.search c.learn_if_open.ensures.search c.learn_if_open.ensures.same.problem c.learn_if_open.ensures.counts.conflicts all c.in-Some.clause.items lesson.2 assigned goal-of (lesson.4 goal-of s))
+    (c.learn_if_open.ensures.counts.root_conflicts ∙ lesson.0, λ goal-of s. lesson-follows m f c.learn_from.ensures.search c.learn_if_open.ensures.search c.learn_if_open.ensures.same.problem c.learn_if_open.ensures.counts.conflicts c.learn_if_open.ensures.same.base all c.in-Some.clause.items lesson.2 assigned goal-of (lesson.4 goal-of s))

@@ -1,4 +1,4 @@
-use Rattle.std.proofs.Common.{◌≡◌, ℕ, ◌∷◌, [], ◌++◌, ◌<◌, ◌^◌, Some, length, ap, ◌∙◌, refl, subst, arith}
+use Rattle.std.proofs.Common.{◌≡◌, ℕ, ◌∷◌, [], ◌++◌, ◌<◌, ◌^◌, Some, length, sym, ap, ◌∙◌, refl, subst, arith}
 use Rattle.std.proofs.lemmas.Option.{same_Some}
 use Rattle.std.proofs.lemmas.List.{length-set}
 use Rattle.clause_store.specs.declared.trails.Step.{Step}
@@ -7,6 +7,9 @@ use Rattle.clause_store.specs.TrailLaws.{level_after}
 use Rattle.clause_store.specs.StoreState.{StoreState, Implies}
 use Rattle.ground_core.specs.Moments.{moment_of}
 use Rattle.search_engine.specs.declared.engine.Engine.{Engine}
+use Rattle.search_engine.specs.Searching.{Extends}
+use Rattle.search_engine.proofs.SearchFacts.{search-spare}
+use Rattle.search_engine.proofs.TrailChange.{extends-refl}
 use Rattle.search_engine.proofs.LearntFacts.{first_of, pushed-implies, pushed-clauses, pushed-trail, pushed-number, learnt-search, learnt-extends}
 use Rattle.search_engine.proofs.engine.Engine.learn.Goals as goal
 
@@ -39,6 +42,8 @@ module _ (c : goal.After-assign) where
     conflicts = c.args.self.now.conflicts;
     root_conflicts = c.args.self.now.root_conflicts;
     assumed = c.args.self.now.assumed;
+    closed = c.args.self.now.closed;
+    base = c.args.self.now.base;
   }
 
   same-clauses : c.reserve_clause.new.self.clauses ≡ old.clauses
@@ -75,7 +80,25 @@ module _ (c : goal.After-assign) where
   fits = let e = c.len-count.ensures in omega arith
 
 pub returns-clause-search : goal.returns-clause-search
-returns-clause-search c = learnt-search c.args.self.now (done c) c.requires.search c.requires.quiet c.args.clause.now c.in-Ok.ensures.ok.1.0 c.requires.lesson c.requires.first c.in-Ok.ensures.ok.1.1 (step c) refl refl (clauses c) (steps c) (size c) c.assign.ensures.laws refl refl refl (record { conflicts = refl; root_conflicts = refl; assumed = refl }) (learnt c) (moments c) (ids c) (fits c)
+returns-clause-search c = learnt-search c.args.self.now (done c) c.requires.search c.requires.quiet c.args.clause.now c.in-Ok.ensures.ok.1.0 c.requires.lesson c.requires.first c.in-Ok.ensures.ok.1.1 (step c) refl refl (clauses c) (steps c) (size c) c.assign.ensures.laws refl refl refl refl refl (record { conflicts = refl; root_conflicts = refl; assumed = refl }) (learnt c) (moments c) (ids c) (fits c)
 
 pub returns-clause-steps : goal.returns-clause-steps
-returns-clause-steps c = learnt-extends c.args.self.now (done c) c.requires.search c.requires.quiet c.args.clause.now c.in-Ok.ensures.ok.1.0 c.requires.lesson c.requires.first c.in-Ok.ensures.ok.1.1 (step c) refl refl (clauses c) (steps c) (size c) c.assign.ensures.laws refl refl refl (record { conflicts = refl; root_conflicts = refl; assumed = refl }) (learnt c) (moments c) (ids c) (fits c)
+returns-clause-steps c = learnt-extends c.args.self.now (done c) c.requires.search c.requires.quiet c.args.clause.now c.in-Ok.ensures.ok.1.0 c.requires.lesson c.requires.first c.in-Ok.ensures.ok.1.1 (step c) refl refl (clauses c) (steps c) (size c) c.assign.ensures.laws refl refl refl refl refl (record { conflicts = refl; root_conflicts = refl; assumed = refl }) (learnt c) (moments c) (ids c) (fits c)
+
+pub returns-in_err-reserve-clause-search : goal.returns-in_err-reserve-clause-search
+returns-in_err-reserve-clause-search c = search-spare c.args.self.now _ refl refl c.in_err-reserve.ensures.items refl refl refl refl refl refl (ap (λ (s : StoreState). s.clauses) c.in_ok-reserve_clause.ensures.ok) (ap (λ (s : StoreState). s.trail) c.in_ok-reserve_clause.ensures.ok) c.reserve_clause.ensures.laws c.requires.search
+
+pub returns-in_err-reserve-clause-steps : goal.returns-in_err-reserve-clause-steps
+returns-in_err-reserve-clause-steps c = subst (λ (t : TrailState). Extends c.args.self.now.store.trail.steps t.steps) (sym (ap (λ (s : StoreState). s.trail) c.in_ok-reserve_clause.ensures.ok)) (extends-refl c.args.self.now.store.trail.steps)
+
+pub returns-in_err-reserve-2-clause-search : goal.returns-in_err-reserve-2-clause-search
+returns-in_err-reserve-2-clause-search c = search-spare c.args.self.now _ refl refl c.in_ok-reserve.ensures.items c.in_err-reserve-2.ensures.items refl refl refl refl refl (ap (λ (s : StoreState). s.clauses) c.in_ok-reserve_clause.ensures.ok) (ap (λ (s : StoreState). s.trail) c.in_ok-reserve_clause.ensures.ok) c.reserve_clause.ensures.laws c.requires.search
+
+pub returns-in_err-reserve-2-clause-steps : goal.returns-in_err-reserve-2-clause-steps
+returns-in_err-reserve-2-clause-steps c = subst (λ (t : TrailState). Extends c.args.self.now.store.trail.steps t.steps) (sym (ap (λ (s : StoreState). s.trail) c.in_ok-reserve_clause.ensures.ok)) (extends-refl c.args.self.now.store.trail.steps)
+
+pub returns-in_err-push-clause-search : goal.returns-in_err-push-clause-search
+returns-in_err-push-clause-search c = search-spare c.args.self.now _ refl c.in_err-push.ensures.err c.in_ok-reserve.ensures.items c.in_ok-reserve-2.ensures.items refl refl refl refl refl (ap (λ (s : StoreState). s.clauses) c.in_ok-reserve_clause.ensures.ok) (ap (λ (s : StoreState). s.trail) c.in_ok-reserve_clause.ensures.ok) c.reserve_clause.ensures.laws c.requires.search
+
+pub returns-in_err-push-clause-steps : goal.returns-in_err-push-clause-steps
+returns-in_err-push-clause-steps c = subst (λ (t : TrailState). Extends c.args.self.now.store.trail.steps t.steps) (sym (ap (λ (s : StoreState). s.trail) c.in_ok-reserve_clause.ensures.ok)) (extends-refl c.args.self.now.store.trail.steps)

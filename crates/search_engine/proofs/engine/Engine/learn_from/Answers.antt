@@ -32,8 +32,10 @@ returns-in_err-analysis-clause-search c =
       conflicts = e.conflicts;
       root_conflicts = e.root_conflicts;
       assumed = 0;
+      closed = e.closed;
+      base = e.base;
     } in
-    let moves : Moves e f = record { problem = refl; learnt = refl; ids = refl; moments = refl; known = refl; searches = refl; clauses = c.back_to.ensures.clauses; size = c.back_to.ensures.trail.size } in
+    let moves : Moves e f = record { problem = refl; learnt = refl; ids = refl; moments = refl; known = refl; searches = refl; closed = refl; base = refl; clauses = c.back_to.ensures.clauses; size = c.back_to.ensures.trail.size } in
     search-moves e f moves c.back_to.ensures.laws (cut-orderly c.conflict_level-level.result e.store.trail c.back_to.new.self.trail c.back_to.ensures.trail e.problem.vars c.requires.search.orderly) (omega arith) c.requires.search.fewer c.requires.search.once c.requires.search
 
 pub returns-in_err-analysis-clause-decisions : goal.returns-in_err-analysis-clause-decisions
@@ -54,13 +56,15 @@ module _ (c : goal.After-drop-analysis) where
     conflicts = c.saturating_add-self.result;
     root_conflicts = c.args.self.now.root_conflicts;
     assumed = 0;
+    closed = c.args.self.now.closed;
+    base = c.args.self.now.base;
   }
 
   size : length c.back_to-2.new.self.trail.values ≡ length c.args.self.now.store.trail.values
   size = c.back_to-2.ensures.trail.size ∙ c.back_to.ensures.trail.size
 
   moves : Moves c.args.self.now done
-  moves = record { problem = refl; learnt = refl; ids = refl; moments = refl; known = refl; searches = refl; clauses = c.back_to-2.ensures.clauses ∙ c.back_to.ensures.clauses; size = size }
+  moves = record { problem = refl; learnt = refl; ids = refl; moments = refl; known = refl; searches = refl; closed = refl; base = refl; clauses = c.back_to-2.ensures.clauses ∙ c.back_to.ensures.clauses; size = size }
 
   counts : c.saturating_add-self.result ≡ min (c.args.self.now.conflicts + 1) (2 ^ 64 - 1)
   counts = c.saturating_add-self.ensures

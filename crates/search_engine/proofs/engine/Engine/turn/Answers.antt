@@ -1,6 +1,5 @@
 use Rattle.std.proofs.Common.{List, refl, inl}
 use Rattle.std.proofs.lemmas.Result.{IfOk-weaker}
-use Rattle.clause_store.specs.StoreState.{StoreState}
 use Rattle.lit_core.specs.declared.literals.Lit.{Lit}
 use Rattle.search_engine.specs.declared.engine.Engine.{Engine}
 use Rattle.search_engine.specs.declared.searching.Outcome.{Outcome}

@@ -1,0 +1,8 @@
+//! The variables of ground atoms, and the structure that the values of variables are.
+#![tactic(auto)]
+
+mod numbers;
+mod places;
+mod tables;
+
+pub use numbers::AtomNumbers;

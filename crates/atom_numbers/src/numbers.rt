@@ -1,0 +1,109 @@
+//! The variables of the ground atoms over a vocabulary and domains.
+ghost use Rattle.std.specs.Prelude.{◌≡◌, ◌≤◌, ◌<◌, ◌^◌, length, IfOk};
+ghost use Rattle.kb_logic.specs.Models.{IsAtomOver, atom_of};
+ghost use Rattle.lit_core.specs.Literals.{valuation};
+ghost use Rattle.term_values.specs.GroundBases.{structure_of};
+ghost use Rattle.term_values.specs.KnownBases.{IsGroundBase};
+ghost use Rattle.atom_numbers.specs.Numbers.{HasNumber, bare_base, AreNumbered};
+
+use crate::places::{atom_count, variable_of};
+use crate::tables::{functions, relations};
+use kb_logic::{DomainList, ElemList, Literal, Memory, Structure, Symbol, Vocabulary};
+use lit_core::{Lit, Values, Var};
+use std::alloc::Global;
+use std::marker::Model;
+
+/// The ground atoms over a vocabulary and domains, numbered from 1 on in their order: the symbols as
+/// declared, the arguments of each in domain order, then the values of a function in domain order.
+#[derive(Drop)]
+pub struct AtomNumbers {
+    vocabulary: Vocabulary,
+    domains: DomainList,
+    // The variable of each symbol's first atom.
+    firsts: Vec<u64>,
+}
+
+impl Model for AtomNumbers {
+    ghost use Rattle.term_values.specs.GroundBases.{GroundBase};
+
+    ghost Value = { GroundBase };
+
+    ghost use Rattle.atom_numbers.specs.NumberFields.{base_in, IsNumbered};
+
+    ghost view = { base_in };
+
+    ghost invariant = { IsNumbered };
+}
+
+/// The variable of each symbol's first atom. Atoms that a `u64` cannot count are want of memory.
+fn first_vars(alloc: Global, domains: &[ElemList], symbols: &[Symbol]) -> Result<Vec<u64>, Memory>
+    requires { length symbols.now ≤ 2 ^ 32 }
+    ensures { IfOk result (λ firsts. AreNumbered domains.now symbols.now firsts.items) }
+{
+    let mut firsts = Vec::new(alloc);
+    let mut next = 1u64;
+    for symbol in symbols {
+        firsts.push(next)?;
+        let Some(count) = atom_count(domains, symbol) else {
+            return Err(Memory);
+        };
+        let Some(sum) = next.checked_add(count) else {
+            return Err(Memory);
+        };
+        next = sum;
+    }
+    Ok(firsts)
+}
+
+impl AtomNumbers {
+    /// The numbers of the atoms over these domains, of which the value has copies. It takes time and
+    /// memory linear in the elements and symbols. Atoms that a `u64` cannot count are want of memory.
+    pub fn of(
+        alloc: Global,
+        vocabulary: &Vocabulary,
+        domains: &DomainList,
+    ) -> Result<AtomNumbers, Memory>
+        requires fine { IsGroundBase (bare_base vocabulary.now domains.now) }
+        requires few { length vocabulary.now.symbols ≤ 2 ^ 32 }
+        ensures { IfOk result (λ n. n ≡ bare_base vocabulary.now domains.now) }
+    {
+        let vocabulary = vocabulary.copy(alloc)?;
+        let domains = domains.copy(alloc)?;
+        let firsts = first_vars(alloc, domains.as_slice(), vocabulary.symbols.as_slice())?;
+        Ok(AtomNumbers {
+            vocabulary,
+            domains,
+            firsts,
+        })
+    }
+
+    /// The literal of the variable that the literal's atom has. It takes time linear in the domains of
+    /// the atom's types.
+    pub fn lit_of(&self, literal: &Literal) -> Lit
+        requires { IsAtomOver self.now.vocabulary.symbols self.now.domains (atom_of literal.now) }
+        ensures { HasNumber self.now literal.now result }
+    {
+        let symbols = self.vocabulary.symbols.as_slice();
+        let domains = self.domains.as_slice();
+        Lit {
+            var: Var(variable_of(domains, symbols, self.firsts.as_slice(), literal)),
+            positive: literal.positive,
+        }
+    }
+
+    /// The structure in which the atoms with true variables hold. It takes time linear in the number
+    /// of atoms.
+    pub fn structure_of(&self, alloc: Global, values: &Values) -> Result<Structure, Memory>
+        ensures { IfOk result (λ m. m ≡ structure_of self.now (valuation values.now)) }
+    {
+        let symbols = self.vocabulary.symbols.as_slice();
+        let firsts = self.firsts.as_slice();
+        let relations = relations(alloc, self.domains.as_slice(), symbols, firsts, values)?;
+        let functions = functions(alloc, self.domains.as_slice(), symbols, firsts, values)?;
+        Ok(Structure {
+            domains: self.domains.copy(alloc)?,
+            relations,
+            functions,
+        })
+    }
+}

@@ -1,0 +1,24 @@
+use Rattle.std.proofs.Common.{◌≤◌, ◌+◌, length, ap, ◌∙◌, sym, subst, All, arith}
+use Rattle.ground_core.specs.Problems.{ProblemState}
+use Rattle.ground_core.specs.Meaning.{RefutesAll}
+use Rattle.ground_core.specs.Growth.{with_exclusion}
+use Rattle.ground_core.proofs.GrowthFacts.{exclusion-restricts}
+use Rattle.clause_learning.specs.declared.keeper.Keeper.{Keeper}
+use Rattle.clause_learning.proofs.KeeperFacts.{refuted-more}
+use Rattle.clause_learning.proofs.keeper.Keeper.exclude.Goals as goal
+
+pub returns-clause-keeper : goal.returns-clause-keeper
+returns-clause-keeper c =
+    let a : Keeper = c.args.self.now in
+    let p : ProblemState = a.engine.problem in
+    let h = c.requires.keeper in
+    let made = c.in_ok-out.ensures.ok.1 in
+    let few : length p.retired ≤ p.vars = h.few in
+    record {
+      resting = c.exclude.ensures.resting;
+      terms = ap (λ (r : ProblemState). r.terms) made.problem ∙ h.terms;
+      few = subst (λ (r : ProblemState). length r.retired ≤ r.vars) (sym made.problem) (let more : length p.retired ≤ p.vars + 1 = omega (arith, few) in more);
+      indexed = h.indexed;
+      refuted = subst (λ (r : ProblemState). All (RefutesAll r) a.index.cores.items) (sym made.problem) (refuted-more p (with_exclusion p c.args.values.now) (exclusion-restricts p c.args.values.now) a.index.cores.items h.refuted);
+      counted = rw made.same.searches h.counted;
+    }

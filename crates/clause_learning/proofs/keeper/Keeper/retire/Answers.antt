@@ -1,0 +1,30 @@
+use Rattle.std.proofs.Common.{ap, ◌∙◌, sym, subst, ⊎_elim, All}
+use Rattle.lit_core.proofs.LiteralFacts.{decide_member}
+use Rattle.ground_core.specs.Problems.{ProblemState}
+use Rattle.ground_core.specs.Meaning.{RefutesAll}
+use Rattle.ground_core.specs.Growing.{with_retired}
+use Rattle.search_engine.proofs.Known.{retired-first}
+use Rattle.clause_learning.specs.declared.keeper.Keeper.{Keeper}
+use Rattle.clause_learning.proofs.KeeperFacts.{refuted-more}
+use Rattle.clause_learning.proofs.keeper.Keeper.retire.Goals as goal
+
+pub returns-clause-keeper : goal.returns-clause-keeper
+returns-clause-keeper c =
+    let a : Keeper = c.args.self.now in
+    let p : ProblemState = a.engine.problem in
+    let q : ProblemState = c.retire.new.self.problem in
+    let h = c.requires.keeper in
+    record {
+      resting = c.retire.ensures.resting;
+      terms = ⊎_elim
+          (λ has. ap (λ (r : ProblemState). r.terms) (c.retire.ensures.already has) ∙ h.terms)
+          (λ not. ap (λ (r : ProblemState). r.terms) (c.retire.ensures.retired not) ∙ h.terms)
+          (decide_member p.retired c.args.selector);
+      few = c.retire.ensures.few;
+      indexed = h.indexed;
+      refuted = ⊎_elim
+          (λ has. subst (λ (r : ProblemState). All (RefutesAll r) a.index.cores.items) (sym (c.retire.ensures.already has)) h.refuted)
+          (λ not. subst (λ (r : ProblemState). All (RefutesAll r) a.index.cores.items) (sym (c.retire.ensures.retired not)) (refuted-more p (with_retired p c.args.selector) (retired-first p c.args.selector) a.index.cores.items h.refuted))
+          (decide_member p.retired c.args.selector);
+      counted = rw c.retire.ensures.same.searches h.counted;
+    }

@@ -1,0 +1,11 @@
+use Rattle.std.proofs.Common.{◌≡◌, [], List, drop, fold, map, take}
+use Rattle.kb_logic.specs.declared.vocabularies.TypeDecl.{TypeDecl}
+use Rattle.reading_stages.specs.DataEntries.{Said}
+use Rattle.reading_stages.specs.DataStage as stage
+use Rattle.data_entries.specs.EntryViews.{fact_view}
+use Rattle.data_clashes.proofs.notes.note_clashes.Given as goal
+
+abbrev pub invariant-loop-i : goal.invariant-loop-i
+invariant-loop-i l = (all : List TypeDecl) (es : List Said)
+    → fold (stage.data_noted all es) l.earliest.first (stage.uses_of_facts (map fact_view (take l.i l.facts)) (map fact_view (drop l.i l.facts)))
+    ≡ fold (stage.data_noted all es) l.fn.earliest.first (stage.uses_of_facts [] (map fact_view l.facts))

@@ -1,0 +1,6 @@
+//! Rows of a structure that clash.
+#![tactic(auto)]
+
+pub mod clashes;
+pub mod facts;
+pub mod notes;

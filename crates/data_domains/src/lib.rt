@@ -1,0 +1,8 @@
+//! The elements of types, as a structure gives them.
+#![tactic(auto)]
+
+pub mod cells;
+pub mod kinds;
+pub mod lookups;
+pub mod traits;
+pub mod types;

@@ -1,0 +1,76 @@
+-- What elements, rows and entries in memory say.
+use Rattle.std.specs.Prelude.{Bool, List, [], ◌∷◌, map, option_map, if◌then◌else◌}
+use Rattle.std.specs.Str.{bytes_eq}
+use Rattle.kb_logic.specs.declared.elements.Elem.{Elem}
+use Rattle.kb_logic.specs.declared.elements.Elem.TheVariants as elem
+use Rattle.fo_syntax.specs.BlockView.{element_view, item_view}
+use Rattle.reading_stages.specs.Scopes.{Text}
+use Rattle.reading_stages.specs.Elements as cell
+use Rattle.reading_stages.specs.DataEntries as said
+use Rattle.reading_stages.specs.DataFacts as fact
+use Rattle.data_entries.specs.WholeViews.{whole_view}
+use Rattle.data_entries.specs.declared.elements.Element.{Element}
+use Rattle.data_entries.specs.declared.elements.Element.TheVariants.{Word, Number}
+use Rattle.data_entries.specs.declared.elements.Cell.{Cell}
+use Rattle.data_entries.specs.declared.elements.Cell.TheVariants.{One, Span}
+use Rattle.data_entries.specs.declared.subjects.Subject.{Subject}
+use Rattle.data_entries.specs.declared.subjects.Subject.TheVariants as subject
+use Rattle.data_entries.specs.declared.subjects.Subjects.{Subjects}
+use Rattle.data_entries.specs.declared.senses.Sense.{Sense}
+use Rattle.data_entries.specs.declared.senses.Sense.TheVariants as sense
+use Rattle.data_entries.specs.declared.rows.Row.{Row}
+use Rattle.data_entries.specs.declared.spots.Spot.{Spot}
+use Rattle.data_entries.specs.declared.facts.Fact.{Fact}
+
+abbrev pub elem_view : Element → Elem
+elem_view (Word w) = elem.Named w.now
+elem_view (Number n) = elem.Num (whole_view n)
+
+abbrev pub cell_view : Cell → cell.Cell
+cell_view (One x) = cell.one (elem_view x)
+cell_view (Span a b) = cell.span (whole_view a) (whole_view b)
+
+abbrev pub subject_view : Subject → said.Subject
+subject_view subject.Nothing = said.nothing_named
+subject_view subject.OfElement = said.an_element
+subject_view (subject.OfType t d) = said.a_type t d.now
+subject_view (subject.OfSymbol s d) = said.a_symbol s d.now
+
+-- the names with what they name
+abbrev pub subjects_in : Subjects → List (Text × said.Subject)
+subjects_in t = map (λ e. (e.0.now, subject_view e.1)) t.table.entries
+
+-- what the first of some names says of the word, or else what else the word names
+abbrev pub found_in : Text → List (Text × said.Subject) → said.Subject → said.Subject
+found_in word [] other = other
+found_in word (e ∷ es) other = if bytes_eq word e.0 then e.1 else found_in word es other
+
+abbrev pub sense_view : Sense → said.Sense
+sense_view sense.Everything = said.everything
+sense_view sense.CertainlyTrue = said.certainly_true
+sense_view sense.CertainlyFalse = said.certainly_false
+sense_view sense.Unread = said.unread
+
+abbrev pub row_view : Row → said.WrittenRow
+row_view r = record {
+  place = r.place;
+  items = map (λ i. item_view i.now) r.items.items;
+  value = option_map (λ e. element_view e.now) r.value;
+}
+
+abbrev pub spot_view : Spot → said.Spot
+spot_view s = record {
+  ty = s.ty;
+  in_list = s.in_list;
+  place = s.place;
+  cell = option_map cell_view s.cell;
+}
+
+abbrev pub fact_view : Fact → fact.Fact
+fact_view f = record {
+  place = f.place;
+  symbol = f.symbol;
+  holds = f.holds;
+  args = map cell_view f.args.items;
+  value = option_map elem_view f.value;
+}

@@ -1,0 +1,4 @@
+pub mod WholeViews
+pub mod EntryViews
+pub mod SaidViews
+pub mod Naming

@@ -1,0 +1,6 @@
+//! A partial structure from what the entries of a structure say.
+#![tactic(auto)]
+
+mod filling;
+
+pub use filling::fill;

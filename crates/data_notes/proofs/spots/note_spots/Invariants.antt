@@ -1,0 +1,12 @@
+use Rattle.std.proofs.Common.{◌≡◌, List, drop, fold, map}
+use Rattle.kb_logic.specs.declared.vocabularies.TypeDecl.{TypeDecl}
+use Rattle.reading_stages.specs.DataEntries.{Said}
+use Rattle.reading_stages.specs.DataStage as stage
+use Rattle.data_entries.specs.EntryViews.{spot_view}
+use Rattle.data_domains.specs.TypeSets.{AreTypesOf}
+use Rattle.data_notes.proofs.spots.note_spots.Given as goal
+
+abbrev pub invariant-loop-spot : goal.invariant-loop-spot
+invariant-loop-spot l = (all : List TypeDecl) (es : List Said) → AreTypesOf all es l.types
+    → fold (stage.data_noted all es) l.earliest.first (map stage.spot (map spot_view (drop l.spot-index l.spots)))
+    ≡ fold (stage.data_noted all es) l.fn.earliest.first (map stage.spot (map spot_view l.spots))

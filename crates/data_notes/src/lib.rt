@@ -1,0 +1,9 @@
+//! What the stage of data refuses, but for rows that clash.
+#![tactic(auto)]
+
+pub mod arguments;
+pub mod entries;
+pub mod labels;
+pub mod spots;
+pub mod tuples;
+pub mod types;

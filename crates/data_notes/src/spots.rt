@@ -1,0 +1,161 @@
+//! What is noted of elements and ranges where they are written.
+ghost use Rattle.std.specs.Prelude.{◌≡◌, ℕ, List, fold, map, negsuc, option_map, pos};
+ghost use Rattle.data_entries.specs.WholeViews.{whole_view};
+ghost use Rattle.kb_logic.specs.declared.vocabularies.TypeDecl.{TypeDecl as AType};
+ghost use Rattle.reading_stages.specs.Elements as set;
+ghost use Rattle.reading_stages.specs.DataEntries as said;
+ghost use Rattle.reading_stages.specs.DataDomains as domain;
+ghost use Rattle.reading_stages.specs.DataStage as stage;
+ghost use Rattle.data_entries.specs.EntryViews.{cell_view, spot_view};
+ghost use Rattle.data_domains.specs.Lookups.{AreTraitsAt};
+ghost use Rattle.data_domains.specs.TypeSets.{AreTypesOf};
+
+use data_domains::lookups::{covers, traits_at};
+use data_domains::traits::Traits;
+use data_domains::types::TypeData;
+use data_entries::elements::{Cell, Element};
+use data_entries::spots::Spot;
+use data_entries::wholes::Whole;
+use element_sets::intervals::Interval;
+use kb_text::K;
+use reading_stages::Earliest;
+
+/// From the least to the greatest integer of a domain.
+const LEAST: i128 = -1_000_000;
+
+const GREATEST: i128 = 1_000_000;
+
+fn is_numeric(cell: Cell<'_>) -> bool
+    ensures { result ≡ set.is_numeric (cell_view cell.entry) }
+{
+    match cell {
+        Cell::One(x) => match x {
+            Element::Word(_) => false,
+            Element::Number(_) => true,
+        },
+        Cell::Span(_, _) => true,
+    }
+}
+
+/// Whether the cell has no integer below 0.
+fn is_not_negative(cell: Cell<'_>) -> bool
+    ensures { result ≡ set.is_not_negative (cell_view cell.entry) }
+{
+    match cell {
+        Cell::One(x) => match x {
+            Element::Word(_) => true,
+            Element::Number(n) => !(n.value() < 0),
+        },
+        Cell::Span(low, high) => Interval { low, high }.is_empty() || !(low.value() < 0),
+    }
+}
+
+fn is_small(n: Whole) -> bool
+    ensures { result ≡ set.is_between (negsuc 999999) (pos 1000000) (whole_view n) }
+{
+    let n = n.value();
+    !(n < LEAST) && !(GREATEST < n)
+}
+
+/// Whether the cell's integers may stand in a domain.
+pub fn is_in_range(cell: Cell<'_>) -> bool
+    ensures { result ≡ domain.is_in_range (cell_view cell.entry) }
+{
+    match cell {
+        Cell::One(x) => match x {
+            Element::Word(_) => true,
+            Element::Number(n) => is_small(n),
+        },
+        Cell::Span(low, high) => {
+            Interval { low, high }.is_empty() || (is_small(low) && is_small(high))
+        }
+    }
+}
+
+/// Whether the cell is of the kind of the type with these traits.
+fn is_of_kind(traits: Traits, cell: Cell<'_>) -> bool
+    ensures { (all : List AType) (es : List said.Said) (t : ℕ) → AreTraitsAt all es t traits → result ≡ domain.is_of_kind all t (cell_view cell.entry) }
+{
+    (!traits.number || is_numeric(cell)) && (!traits.natural || is_not_negative(cell))
+}
+
+fn is_in_type_above<'a>(types: &[TypeData<'a>], above: Option<usize>, cell: Cell<'a>) -> bool
+    ensures { (all : List AType) (es : List said.Said) → AreTypesOf all es types.now → result ≡ stage.is_in_type_above all es above (cell_view cell.entry) }
+{
+    match above {
+        None => true,
+        Some(above) => covers(types, above, cell),
+    }
+}
+
+fn gives(traits: Traits, spot: &Spot<'_>) -> bool
+    ensures { (all : List AType) (es : List said.Said) → AreTraitsAt all es spot.now.ty traits → result ≡ stage.gives all es (spot_view spot.now) }
+{
+    spot.in_list || traits.occurs
+}
+
+/// Whether what gives a type elements is of another kind or not in the type above, or all else not in the type.
+fn is_outside<'a>(types: &[TypeData<'a>], traits: Traits, spot: &Spot<'a>, cell: Cell<'a>) -> bool
+    ensures { (all : List AType) (es : List said.Said) → AreTypesOf all es types.now → AreTraitsAt all es spot.now.ty traits → result ≡ stage.is_outside all es (spot_view spot.now) (cell_view cell.entry) }
+{
+    if gives(traits, spot) {
+        !is_of_kind(traits, cell) || (spot.in_list && !is_in_type_above(types, traits.above, cell))
+    } else {
+        !covers(types, spot.ty, cell)
+    }
+}
+
+fn is_idle(traits: Traits, spot: &Spot<'_>) -> bool
+    ensures { (all : List AType) (es : List said.Said) → AreTraitsAt all es spot.now.ty traits → result ≡ stage.is_idle all (spot_view spot.now) }
+{
+    spot.in_list && traits.constructed
+}
+
+/// Whether an element is not in its type.
+fn is_no_element<'a>(types: &[TypeData<'a>], traits: Traits, spot: &Spot<'a>) -> bool
+    ensures { (all : List AType) (es : List said.Said) → AreTypesOf all es types.now → AreTraitsAt all es spot.now.ty traits → result ≡ stage.is_no_element all es (stage.spot (spot_view spot.now)) }
+{
+    if is_idle(traits, spot) {
+        return false;
+    }
+    match spot.cell {
+        None => false,
+        Some(cell) => is_outside(types, traits, spot, cell),
+    }
+}
+
+/// Whether an integer of a domain is out of range.
+fn is_out_of_range(traits: Traits, spot: &Spot<'_>) -> bool
+    ensures { (all : List AType) (es : List said.Said) → AreTraitsAt all es spot.now.ty traits → result ≡ stage.is_out_of_range all es (stage.spot (spot_view spot.now)) }
+{
+    if is_idle(traits, spot) || !gives(traits, spot) {
+        return false;
+    }
+    match spot.cell {
+        None => false,
+        Some(cell) => !is_in_range(cell),
+    }
+}
+
+/// Notes what is refused of an element or a range.
+fn note_spot<'a>(earliest: &mut Earliest, types: &[TypeData<'a>], spot: &Spot<'a>)
+    ensures { (all : List AType) (es : List said.Said) → AreTypesOf all es types.now → earliest.new.first ≡ stage.data_noted all es earliest.old.first (stage.spot (spot_view spot.now)) }
+{
+    let traits = traits_at(types, spot.ty);
+    earliest.note_if(
+        is_no_element(types, traits, spot),
+        K::NotAnElement,
+        spot.place,
+    );
+    earliest.note_if(spot.cell.is_none(), K::Unsupported, spot.place);
+    earliest.note_if(is_out_of_range(traits, spot), K::OutOfRange, spot.place);
+}
+
+/// Notes what is refused of elements and ranges.
+pub fn note_spots<'a>(earliest: &mut Earliest, types: &[TypeData<'a>], spots: &[Spot<'a>])
+    ensures { (all : List AType) (es : List said.Said) → AreTypesOf all es types.now → earliest.new.first ≡ fold (stage.data_noted all es) earliest.old.first (map stage.spot (map spot_view spots.now)) }
+{
+    for spot in spots {
+        note_spot(earliest, types, spot);
+    }
+}

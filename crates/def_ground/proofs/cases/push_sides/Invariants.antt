@@ -1,0 +1,17 @@
+use Rattle.std.proofs.Common.{◌≡◌, map, drop}
+use Rattle.std.specs.List.{AllByRecursion}
+use Rattle.ground_core.specs.Problems.{IsLitOf}
+use Rattle.def_ground.specs.Cases.{clauses_of_cases}
+use Rattle.def_ground.specs.CaseViews.{case_view}
+use Rattle.def_ground.specs.Meanings.{IsCaseOf}
+use Rattle.def_ground.specs.Problems.{with_clauses}
+use Rattle.def_ground.proofs.cases.push_sides.Given as goal
+
+-- with the clauses of the rest come all
+abbrev pub invariant-loop-case : goal.invariant-loop-case
+invariant-loop-case l = record {
+  all : with_clauses l.problem (clauses_of_cases l.out (map case_view (drop l.case-index l.cases)))
+      ≡ with_clauses l.fn.problem (clauses_of_cases l.out (map case_view l.cases));
+  out : IsLitOf l.problem.vars l.out;
+  cases : AllByRecursion (IsCaseOf l.problem.vars) (map case_view (drop l.case-index l.cases));
+}

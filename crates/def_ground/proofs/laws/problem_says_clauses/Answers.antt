@@ -1,0 +1,5 @@
+use Rattle.def_ground.proofs.KeepLaws.{problem-says-clauses}
+use Rattle.def_ground.proofs.laws.problem_says_clauses.Goals as goal
+
+pub returns : goal.returns
+returns c = problem-says-clauses

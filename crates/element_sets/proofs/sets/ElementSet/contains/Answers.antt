@@ -1,0 +1,21 @@
+use Rattle.std.proofs.Common.{◌∙◌, refl, sym, ap, List, ℕ, Bor}
+use Rattle.std.specs.List.{list_any}
+use Rattle.std.specs.Str.{bytes_eq}
+use Rattle.data_entries.specs.WholeViews.{whole_view}
+use Rattle.structure_laws.proofs.Covering.{lies_in}
+use Rattle.structure_laws.proofs.Covered.{among_apart}
+use Rattle.element_sets.proofs.Keys.{list_any-map}
+use Rattle.element_sets.proofs.WordSets.{words_among}
+use Rattle.element_sets.proofs.sets.ElementSet.contains.Goals as goal
+
+pub returns-in-Word : goal.returns-in-Word
+returns-in-Word c = λ cells s.
+    let w = c.in-Word.word.now in
+    rw c.in-Word.is
+    (c.contains.ensures ∙ sym (list_any-map (λ (k : Bor (List ℕ)). k.now) (bytes_eq w) (λ k. bytes_eq w k.now) (λ k. refl) c.args.self.now.words.keys)
+    ∙ s.words.among w ∙ words_among w cells)
+
+pub returns-in-Number : goal.returns-in-Number
+returns-in-Number c = λ cells s.
+    let z = whole_view c.in-Number.n in
+    rw c.in-Number.is (c.has_number.ensures ∙ ap (list_any (lies_in z)) s.intervals ∙ sym (among_apart z cells))

@@ -1,0 +1,27 @@
+-- Sets of elements in memory.
+use Rattle.std.specs.Prelude.{◌≡◌, ℕ, List, map, length}
+use Rattle.std.specs.List.{list_any}
+use Rattle.std.specs.Str.{bytes_eq}
+use Rattle.kb_logic.specs.Bounds.{Interval as AnInterval}
+use Rattle.reading_stages.specs.Scopes.{Text}
+use Rattle.reading_stages.specs.Elements.{Cell, as_interval, intervals_of, words_of}
+use Rattle.data_entries.specs.WholeViews.{whole_view}
+use Rattle.element_sets.specs.declared.intervals.Interval.{Interval}
+use Rattle.element_sets.specs.declared.sets.ElementSet.{ElementSet}
+
+abbrev pub interval_view : Interval → AnInterval
+interval_view i = as_interval (whole_view i.low) (whole_view i.high)
+
+-- the same words, and as many
+pub record AreSameWords (xs ys : List Text) : Type 0 where
+  pub count : length xs ≡ length ys
+  pub among : (w : Text) → list_any (bytes_eq w) xs ≡ list_any (bytes_eq w) ys
+
+-- the words in memory
+abbrev pub words_in : ElementSet → List Text
+words_in s = map (λ w. w.now) s.words.keys
+
+-- the set has the elements of these cells, and no others
+pub record IsSetOf (cells : List Cell) (s : ElementSet) : Type 0 where
+  pub words : AreSameWords (words_in s) (words_of cells)
+  pub intervals : map interval_view s.intervals.items ≡ intervals_of cells

@@ -1,0 +1,96 @@
+//! Integers as intervals of which no two meet.
+ghost use Rattle.std.specs.Prelude.{◌≡◌, ◌==◌, ◌≤ℤ◌, pos, negsuc, map, IfOk};
+ghost use Rattle.std.specs.Int.{int_max, int_min};
+ghost use Rattle.reading_stages.specs.Elements as set;
+ghost use Rattle.data_entries.specs.WholeViews.{whole_view};
+ghost use Rattle.element_sets.specs.Sets.{interval_view};
+
+use data_entries::wholes::Whole;
+use kb_logic::Memory;
+use std::alloc::Global;
+
+/// The integers from the first to the second; there are none where the first is the greater.
+#[derive(Clone, Copy)]
+pub struct Interval {
+    pub low: Whole,
+    pub high: Whole,
+}
+
+fn lesser(a: Whole, b: Whole) -> Whole
+    ensures { whole_view result ≡ int_min (whole_view a) (whole_view b) }
+{
+    if a.is_below(b) { a } else { b }
+}
+
+fn greater(a: Whole, b: Whole) -> Whole
+    ensures { whole_view result ≡ int_max (whole_view a) (whole_view b) }
+{
+    if a.is_below(b) { b } else { a }
+}
+
+impl Interval {
+    /// How many integers there are.
+    pub fn size(self) -> i128
+        ensures size { result ≡ pos (set.size_of (interval_view self)) }
+        ensures small { result ≤ℤ pos 36893488147419103231 }
+    {
+        let low = self.low.value();
+        let high = self.high.value();
+        if high < low { 0 } else { high - low + 1 }
+    }
+
+    /// Whether there is no integer.
+    pub fn is_empty(self) -> bool
+        ensures { result ≡ (set.size_of (interval_view self) == 0) }
+    {
+        !(self.size() > 0)
+    }
+
+    /// The integers that both have.
+    pub fn common(self, other: Interval) -> Interval
+        ensures { interval_view result ≡ set.common (interval_view self) (interval_view other) }
+    {
+        Interval {
+            low: greater(self.low, other.low),
+            high: lesser(self.high, other.high),
+        }
+    }
+
+    /// The interval from the least to the greatest of both.
+    fn joined(self, other: Interval) -> Interval
+        ensures { interval_view result ≡ set.joined (interval_view self) (interval_view other) }
+    {
+        Interval {
+            low: lesser(self.low, other.low),
+            high: greater(self.high, other.high),
+        }
+    }
+
+    /// Whether some integer is in both.
+    pub fn meets(self, other: Interval) -> bool
+        ensures { result ≡ set.do_meet (interval_view self) (interval_view other) }
+    {
+        self.common(other).size() > 0
+    }
+}
+
+/// One more interval among some that do not meet: it takes in those that it meets.
+pub fn with_interval(
+    alloc: Global,
+    added: Interval,
+    old: &[Interval],
+) -> Result<Vec<Interval>, Memory>
+    ensures { IfOk result (λ is. map interval_view is.items ≡ set.with_interval (interval_view added) (map interval_view old.now)) }
+{
+    let mut taken = added;
+    let mut kept = Vec::with_capacity(alloc, old.len())?;
+    for one in old {
+        if taken.meets(*one) {
+            taken = taken.joined(*one);
+        } else {
+            kept.push(*one)?;
+        }
+    }
+    kept.push(taken)?;
+    Ok(kept)
+}

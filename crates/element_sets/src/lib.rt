@@ -1,0 +1,6 @@
+//! Sets of elements that are written one by one or as ranges: counted, tested and listed.
+#![tactic(auto)]
+
+pub mod intervals;
+pub mod listings;
+pub mod sets;

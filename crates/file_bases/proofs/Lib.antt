@@ -1,0 +1,4 @@
+mod Plain
+mod Consistent
+mod BoundedBases
+mod CanBeGrounded

@@ -1,0 +1,35 @@
+-- Laws of the knowledge base that a file and its data are, where the stages of reading accept them.
+use Rattle.std.specs.Prelude.{ℕ, []}
+use Rattle.std.specs.List.{AllByRecursion}
+use Rattle.kb_logic.specs.Bases.{Base}
+use Rattle.kb_logic.specs.Bounds.{TheoryIsBounded, TermIsBounded}
+use Rattle.kb_logic.specs.KnownAtoms.{KnownAtoms}
+use Rattle.fo_syntax.specs.BlockTrees as raw
+use Rattle.reading_stages.specs.Files.{File}
+use Rattle.reading_stages.specs.Numbering.{NamedFile, IsNamed}
+use Rattle.reading_stages.specs.FileBases.{base_of_file}
+use Rattle.reading_stages.specs.TypedFiles.{TypedFile}
+use Rattle.reading_stages.specs.TypesStage.{IsTyped}
+use Rattle.reading_stages.specs.DataAnswer.{IsDataOf}
+use Rattle.reading_stages.specs.SizesStage.{Sizes, AreSizesOf}
+use Rattle.term_values.specs.GroundTerms.{TermHasNoCounting}
+use Rattle.def_ground.specs.Groundings.{IsGroundTheory}
+
+-- what the stages of names, types and data accept can be grounded, and no term that may be asked for has an aggregate
+abbrev pub AcceptedCanBeGrounded : Type 0
+AcceptedCanBeGrounded =
+    (file : File) (named : NamedFile) (typed : TypedFile) → IsNamed file named → IsTyped named typed
+    → (theory : ℕ) (s : raw.Structure) (answer : KnownAtoms) → IsDataOf typed theory s answer
+    → IsGroundTheory (base_of_file typed theory answer)
+    × AllByRecursion (λ t. TermHasNoCounting t.term) (base_of_file typed theory answer).terms
+
+-- the static bounds of each term are small, in the theory and in each term that may be asked for
+pub record IsBoundedBase (base : Base) : Type 0 where
+  pub theory : TheoryIsBounded base.vocabulary base.known.domains base.theory
+  pub terms : AllByRecursion (λ t. TermIsBounded base.vocabulary base.known.domains t.term []) base.terms
+
+-- what the stage of sizes accepts as well is bounded
+abbrev pub AcceptedIsBounded : Type 0
+AcceptedIsBounded =
+    (named : NamedFile) (typed : TypedFile) → IsTyped named typed → (theory : ℕ) (known : KnownAtoms) (sizes : Sizes)
+    → AreSizesOf typed theory known.domains sizes → IsBoundedBase (base_of_file typed theory known)

@@ -1,0 +1,8 @@
+//! Models of a knowledge base under choices, over any solver of its ground problem.
+#![tactic(auto)]
+
+pub mod answers;
+mod choices;
+mod task;
+
+pub use task::Task;

@@ -1,0 +1,6 @@
+pub mod LeafSteps
+pub mod FormSteps
+pub mod SentenceSteps
+pub mod StartSteps
+pub mod BoundedRows
+pub mod GroundableLaws

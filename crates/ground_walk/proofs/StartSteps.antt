@@ -1,0 +1,159 @@
+-- Steps over the clauses of functions and over facts.
+use Rattle.std.proofs.Common.{◌≡◌, ℕ, zero, suc, ◌+◌, ◌*◌, ◌<◌, ◌≤◌, Bool, true, false, cond, if◌then◌else◌, List, [], ◌∷◌, ◌++◌}
+use Rattle.std.proofs.Common.{filter, length, take, get_or, Option, None, is_some, slice_get, unwrap_or, refl, sym, ap}
+use Rattle.std.proofs.Common.{subst, ◌∙◌, arith, append_assoc}
+use Rattle.std.specs.List.{flat_map, enumerate_from}
+use Rattle.std.proofs.lemmas.List.{append-nil, take_all}
+use Rattle.std.proofs.lemmas.List.Sums.{sum_by-take-drop}
+use Rattle.kb_logic.specs.declared.elements.Elem.{Elem}
+use Rattle.kb_logic.specs.declared.vocabularies.Symbol.{Symbol}
+use Rattle.lit_core.specs.declared.literals.Lit.{Lit}
+use Rattle.ground_core.specs.Atoms.{ground_atoms}
+use Rattle.ground_core.specs.Problems.{ProblemState, AreLitsOf}
+use Rattle.term_values.specs.GroundBases.{GroundBase, atoms_in, first_var, tuples_at, values_at}
+use Rattle.term_values.specs.KnownBases.{IsGroundBase}
+use Rattle.def_ground.specs.Problems.{fact_clause, fact_clauses, function_clauses, said_tuples}
+use Rattle.def_ground.specs.Problems.{tuple_clauses, variables_from}
+use Rattle.term_values.proofs.Places.{atoms-count}
+use Rattle.def_ground.proofs.StartLaws.{atoms-length, said-fewer, start-room, variables-in}
+use Rattle.ground_walk.specs.Groundable.{HasVars}
+use Rattle.ground_walk.proofs.LeafSteps.{room-of}
+
+next-numbered : {X : Type 0} (F : ℕ → List (List Lit)) (n k : ℕ) (xs : List X) → k < length xs
+    → flat_map (λ (r : ℕ × X). F r.0) (take (k + 1) (enumerate_from n xs))
+    ≡ flat_map (λ (r : ℕ × X). F r.0) (take k (enumerate_from n xs)) ++ F (n + k)
+next-numbered F n k [] h = absurd (omega (arith, h))
+next-numbered F n zero (x ∷ xs) h = let number : n ≡ n + 0 = omega arith in append-nil (F n) ∙ ap F number
+next-numbered {X} F n (suc k) (x ∷ xs) h =
+    let next : suc k + 1 ≡ suc (k + 1) = omega arith in
+    let number : (n + 1) + k ≡ n + suc k = omega arith in
+    let T : ℕ × X → List (List Lit) = λ r. F r.0 in
+    ap (λ m. flat_map T (take m ((n, x) ∷ enumerate_from (n + 1) xs))) next
+    ∙ ap (λ cs. F n ++ cs) (next-numbered F (n + 1) k xs (omega (arith, h)))
+    ∙ sym (append_assoc (F n) (flat_map T (take k (enumerate_from (n + 1) xs))) (F ((n + 1) + k)))
+    ∙ ap (λ m. (F n ++ flat_map T (take k (enumerate_from (n + 1) xs))) ++ F m) number
+
+-- the clauses of the first tuples of a function
+abbrev pub said-so-far : GroundBase → ℕ → ℕ → List (List Lit)
+said-so-far b s k =
+    flat_map (λ (r : ℕ × List Elem). tuple_clauses b s r.0)
+    (take k (enumerate_from 0 (said_tuples (values_at b s) (tuples_at b s))))
+
+pub next-said : (b : GroundBase) (s k : ℕ) → k < length (said_tuples (values_at b s) (tuples_at b s))
+    → said-so-far b s (k + 1) ≡ said-so-far b s k ++ tuple_clauses b s k
+next-said b s k h =
+    let number : 0 + k ≡ k = omega arith in
+    next-numbered (tuple_clauses b s) 0 k (said_tuples (values_at b s) (tuples_at b s)) h
+    ∙ ap (λ n. said-so-far b s k ++ tuple_clauses b s n) number
+
+length-numbered : {X : Type 0} (n : ℕ) (xs : List X) → length (enumerate_from n xs) ≡ length xs
+length-numbered n [] = refl
+length-numbered n (x ∷ xs) = ap suc (length-numbered (n + 1) xs)
+
+pub all-said : (b : GroundBase) (s k : ℕ) → length (said_tuples (values_at b s) (tuples_at b s)) ≤ k
+    → said-so-far b s k ≡ function_clauses b s
+all-said b s k h =
+    let ts = said_tuples (values_at b s) (tuples_at b s) in
+    let e = length-numbered 0 ts in
+    ap (flat_map (λ (r : ℕ × List Elem). tuple_clauses b s r.0)) (take_all k (enumerate_from 0 ts) (omega (arith, h, e)))
+
+-- the variables of a tuple are those of atoms
+module _ (b : GroundBase) (p : ProblemState) (is : IsGroundBase b) (vars : HasVars b p) (s i : ℕ)
+    (said : i < length (said_tuples (values_at b s) (tuples_at b s))) where
+  within : i < length (tuples_at b s)
+  within = let fewer = said-fewer (values_at b s) (tuples_at b s) in omega (arith, said, fewer)
+
+  pub tuple-lits : AreLitsOf p.vars (variables_from (first_var b s + i * length (values_at b s)) (values_at b s))
+  tuple-lits =
+      variables-in p.vars (first_var b s + i * length (values_at b s)) (values_at b s) (omega arith)
+      (λ j below. (room-of b p is vars).functions s i j within below)
+
+-- they are at most as many as there are
+first-below : (b : GroundBase) (s : ℕ) → first_var b s ≤ length (ground_atoms b.vocabulary.symbols b.domains) + 1
+first-below b s =
+    let all = atoms-length b.vocabulary.symbols b.domains ∙ atoms-count b in
+    let parts = sum_by-take-drop (atoms_in b.domains) b.vocabulary.symbols s in
+    omega (arith, all, parts)
+
+pub tuple-below : (b : GroundBase) (is : IsGroundBase b) (s i : ℕ)
+    → i < length (said_tuples (values_at b s) (tuples_at b s))
+    → first_var b s + i * length (values_at b s) + length (values_at b s)
+    ≤ length (ground_atoms b.vocabulary.symbols b.domains) + 1
+tuple-below b is s i said = by (values_at b s) refl
+  where
+    by : (xs : List Elem) → values_at b s ≡ xs → first_var b s + i * length xs + length xs
+        ≤ length (ground_atoms b.vocabulary.symbols b.domains) + 1
+    by [] e = let low = first-below b s in let none : i * 0 ≡ 0 = omega arith in omega (arith, low, none)
+    by (x ∷ xs) e =
+        let k : length xs < length (values_at b s) = subst (λ ys. length xs < length ys) (sym e) (omega arith) in
+        let fewer = said-fewer (values_at b s) (tuples_at b s) in
+        let top = (start-room b is).functions s i (length xs) (omega (arith, said, fewer)) k in
+        let top' : first_var b s + i * length (x ∷ xs) + length xs ≤ length (ground_atoms b.vocabulary.symbols b.domains) =
+        subst (λ (ys : List Elem). first_var b s + i * length ys + length xs ≤ length (ground_atoms b.vocabulary.symbols b.domains)) e top in
+        omega (arith, top')
+
+-- the clauses of the functions among symbols with these numbers
+abbrev pub of-functions : GroundBase → ℕ → List Symbol → List (List Lit)
+of-functions b n xs =
+    flat_map (λ (s : ℕ × Symbol). function_clauses b s.0) (filter (λ (s : ℕ × Symbol). is_some s.1.value) (enumerate_from n xs))
+
+abbrev pub if-function : GroundBase → Bool → ℕ → List (List Lit)
+if-function b t s = if t then function_clauses b s else []
+
+one-more : (b : GroundBase) (t : Bool) (n : ℕ) (x : Symbol) (rest : List (ℕ × Symbol)) (cs ds : List (List Lit))
+    → flat_map (λ (s : ℕ × Symbol). function_clauses b s.0) rest ≡ cs ++ ds
+    → flat_map (λ (s : ℕ × Symbol). function_clauses b s.0) (cond t ((n, x) ∷ rest) rest)
+    ≡ (if-function b t n ++ cs) ++ ds
+one-more b true n x rest cs ds h =
+    ap (λ es. function_clauses b n ++ es) h ∙ sym (append_assoc (function_clauses b n) cs ds)
+one-more b false n x rest cs ds h = h
+
+one-first : (b : GroundBase) (t : Bool) (n : ℕ) (x : Symbol) (rest : List (ℕ × Symbol))
+    → if-function b t n ++ flat_map (λ (s : ℕ × Symbol). function_clauses b s.0) rest
+    ≡ flat_map (λ (s : ℕ × Symbol). function_clauses b s.0) (cond t ((n, x) ∷ rest) rest)
+one-first b true n x rest = refl
+one-first b false n x rest = refl
+
+alone : (b : GroundBase) (t : Bool) (n : ℕ) (x : Symbol)
+    → flat_map (λ (s : ℕ × Symbol). function_clauses b s.0) (cond t ((n, x) ∷ []) []) ≡ if-function b t n
+alone b true n x = append-nil (function_clauses b n)
+alone b false n x = refl
+
+pub next-function : (b : GroundBase) (n k : ℕ) (xs : List Symbol) (x : Symbol) → k < length xs → x ≡ get_or xs k x
+    → of-functions b n (take (k + 1) xs)
+    ≡ of-functions b n (take k xs) ++ if-function b (is_some x.value) (n + k)
+next-function b n k [] x h is = absurd (omega (arith, h))
+next-function b n zero (y ∷ ys) x h is =
+    let number : n ≡ n + 0 = omega arith in
+    alone b (is_some y.value) n y ∙ ap (λ (z : Symbol). if-function b (is_some z.value) n) (sym is)
+    ∙ ap (if-function b (is_some x.value)) number
+next-function b n (suc k) (y ∷ ys) x h is =
+    let next : suc k + 1 ≡ suc (k + 1) = omega arith in
+    let number : (n + 1) + k ≡ n + suc k = omega arith in
+    let T : ℕ × Symbol → Bool = λ s. is_some s.1.value in
+    let before = filter T (enumerate_from (n + 1) (take k ys)) in
+    let more = filter T (enumerate_from (n + 1) (take (k + 1) ys)) in
+    ap (λ m. of-functions b n (take m (y ∷ ys))) next
+    ∙ one-more b (is_some y.value) n y more (of-functions b (n + 1) (take k ys))
+    (if-function b (is_some x.value) ((n + 1) + k)) (next-function b (n + 1) k ys x (omega (arith, h)) is)
+    ∙ ap (λ cs. cs ++ if-function b (is_some x.value) ((n + 1) + k)) (one-first b (is_some y.value) n y before)
+    ∙ ap (λ m. of-functions b n (y ∷ take k ys) ++ if-function b (is_some x.value) m) number
+
+-- facts
+pub next-fact : (n k : ℕ) (os : List (Option Bool)) → k < length os
+    → fact_clauses n (take (k + 1) os)
+    ≡ fact_clauses n (take k os) ++ fact_clause (n + k) (unwrap_or (slice_get os k) None)
+next-fact n k [] h = absurd (omega (arith, h))
+next-fact n zero (o ∷ os) h =
+    let number : n ≡ n + 0 = omega arith in append-nil (fact_clause n o) ∙ ap (λ m. fact_clause m o) number
+next-fact n (suc k) (o ∷ os) h =
+    let next : suc k + 1 ≡ suc (k + 1) = omega arith in
+    let number : (n + 1) + k ≡ n + suc k = omega arith in
+    let fact = unwrap_or (slice_get os k) None in
+    ap (λ m. fact_clauses n (take m (o ∷ os))) next
+    ∙ ap (λ cs. fact_clause n o ++ cs) (next-fact (n + 1) k os (omega (arith, h)))
+    ∙ sym (append_assoc (fact_clause n o) (fact_clauses (n + 1) (take k os)) (fact_clause ((n + 1) + k) fact))
+    ∙ ap (λ m. (fact_clause n o ++ fact_clauses (n + 1) (take k os)) ++ fact_clause m fact) number
+
+pub more-times : (i n : ℕ) → (i + 1) * n ≡ i * n + n
+more-times i n = omega arith

@@ -1,0 +1,166 @@
+use Rattle.std.proofs.Common.{◌≡◌, ◌+◌, ◌<◌, ◌≤◌, ◌++◌, ◌∷◌, List, [], map, drop, true, false, length, get_or, fold, OnOk, sym, ap, subst, ◌∙◌, arith}
+use Rattle.kb_logic.specs.declared.elements.Elem.{Elem}
+use Rattle.kb_logic.specs.Environments.{env_view}
+use Rattle.kb_logic.specs.Structures.{choices}
+use Rattle.kb_logic.specs.Views.{formula_view}
+use Rattle.lit_core.specs.declared.literals.Lit.{Lit}
+use Rattle.ground_core.specs.Problems.{ProblemState, AreLitsOf}
+use Rattle.def_ground.specs.Forms.{form_of, signed_result, settles, with_answer}
+use Rattle.def_ground.specs.Answers.{Makes}
+use Rattle.def_ground.specs.Sentences.{assert_any}
+use Rattle.kb_logic.specs.Trees.{formulas_of}
+use Rattle.def_ground.proofs.Growing.{lits-more}
+use Rattle.partial_structures.proofs.Folds.{after_front, each_after, fold_by_front, fold_done, fold_next, inner_fold}
+use Rattle.ground_walk.specs.Groundable.{IsGroundable}
+use Rattle.ground_walk.specs.Steps.{assert_step}
+use Rattle.ground_walk.proofs.SentenceSteps.{Begins, all-asserted, some-asserted, answer-begins, front-begins, front-of, any-next, unless-stops, unless-goes-on, answer-lits, groundable-next}
+use Rattle.ground_walk.proofs.sentences.+sentence.Goals as goal
+
+pub push_any-returns-then-branch-clause-made : goal.push_any-returns-then-branch-clause-made
+push_any-returns-then-branch-clause-made t c =
+    let b = c.args.base.now in
+    let sign = c.args.sign in
+    let e = env_view c.args.env.now in
+    let z = c.in-Some.last.now in
+    let others = c.in-Some.others.now in
+    let i = c.loop-formula.formula-index in
+    let x = c.formula-item.result in
+    let ls = c.args.lits.now.items in
+    let before = c.loop-formula.lits.items in
+    let p = c.loop-formula.problem in
+    let q = c.signed_form.new.problem in
+    let a = c.in_ok-answer.answer in
+    let g = signed_result sign (form_of b (formula_view x) e p) in
+    let made : Makes g a q = c.in_ok-answer.ensures.made in
+    let rest = λ (xs : List Lit) (r : ProblemState). assert_any b sign (formulas_of (map formula_view (drop (i + 1) others ++ z ∷ []))) e xs r in
+    let next = any-next b sign others z e before p i x c.loop-formula-test.true c.formula-item.is in
+    let stop : settles false a ≡ true = sym c.in_ok-add_part.ensures.0 ∙ c.if-branch.true in
+    sym (next ∙ unless-stops g before rest a q made stop) ∙ c.loop-formula.invariant.same
+
+pub push_any-loop-formula-preserved : goal.push_any-loop-formula-preserved
+push_any-loop-formula-preserved t c =
+    let b = c.args.base.now in
+    let sign = c.args.sign in
+    let e = env_view c.args.env.now in
+    let z = c.in-Some.last.now in
+    let others = c.in-Some.others.now in
+    let i = c.loop-formula.formula-index in
+    let x = c.formula-item.result in
+    let ls = c.args.lits.now.items in
+    let before = c.loop-formula.lits.items in
+    let p = c.loop-formula.problem in
+    let q = c.signed_form.new.problem in
+    let a = c.in_ok-answer.answer in
+    let g = signed_result sign (form_of b (formula_view x) e p) in
+    let made : Makes g a q = c.in_ok-answer.ensures.made in
+    let rest = λ (xs : List Lit) (r : ProblemState). assert_any b sign (formulas_of (map formula_view (drop (i + 1) others ++ z ∷ []))) e xs r in
+    let next = any-next b sign others z e before p i x c.loop-formula-test.true c.formula-item.is in
+    let xs = c.add_part.new.lits.items in
+    let is : xs ≡ with_answer a before = c.in_ok-add_part.ensures.1 in
+    let go : settles false a ≡ false = sym c.in_ok-add_part.ensures.0 ∙ c.if-branch.false in
+    let grows = c.in_ok-answer.ensures.grows in
+    record {
+      same = sym (next ∙ unless-goes-on g before xs rest a q made go is) ∙ c.loop-formula.invariant.same;
+      fits = groundable-next b others z e i x c.loop-formula-test.true c.loop-formula.invariant.fits;
+      vars = omega (arith, c.loop-formula.invariant.vars, grows.vars);
+      front =
+          front-of ls xs (subst (Begins ls) (sym is)
+          (answer-begins ls before a (front-begins ls before c.loop-formula.invariant.front)));
+      within =
+          subst (AreLitsOf q.vars) (sym is)
+          (answer-lits p.vars q.vars before a grows.vars c.loop-formula.invariant.within grows.within);
+    }
+
+pub push_each-push_each-requires : goal.push_each-push_each-requires
+push_each-push_each-requires t c =
+    let b = c.args.base.now in
+    let sign = c.args.sign in
+    let e = env_view c.args.env.now in
+    let f = formula_view c.args.formula.now in
+    let ls = c.args.lits.now.items in
+    let these = c.split_in.result.0.bounds.now in
+    let others = c.split_in.result.1.now in
+    let cs = choices b.domains these in
+    let rest = choices b.domains others in
+    let i = c.loop-number.number in
+    let count : c.split_in.result.0.count ≡ length cs = rw c.domains.ensures at c.split_in.ensures.count in
+    let inner = env_view c.extend-inner.result in
+    let within : i < length cs = rw (← count) c.loop-number-test.true in
+    let is : inner ≡ e ++ get_or cs i [] = rw (c.split_in.ensures.domains, c.domains.ensures) at c.extend-inner.ensures in (
+      omega (arith, c.split_in.ensures.fewer),
+      (
+        c.requires.given,
+        (
+          omega (arith, c.requires.room, c.loop-number.invariant.vars),
+          (
+            each_after b.domains c.args.bounds.now these others c.split_in.ensures.parts (IsGroundable b f) e inner i within is c.requires.fits,
+            c.loop-number.invariant.within,
+          ),
+        ),
+      ),
+    )
+
+pub push_each-loop-number-preserved : goal.push_each-loop-number-preserved
+push_each-loop-number-preserved t c =
+    let b = c.args.base.now in
+    let sign = c.args.sign in
+    let e = env_view c.args.env.now in
+    let f = formula_view c.args.formula.now in
+    let ls = c.args.lits.now.items in
+    let these = c.split_in.result.0.bounds.now in
+    let others = c.split_in.result.1.now in
+    let cs = choices b.domains these in
+    let rest = choices b.domains others in
+    let i = c.loop-number.number in
+    let count : c.split_in.result.0.count ≡ length cs = rw c.domains.ensures at c.split_in.ensures.count in
+    let inner = env_view c.extend-inner.result in
+    let within : i < length cs = rw (← count) c.loop-number-test.true in
+    let is : inner ≡ e ++ get_or cs i [] = rw (c.split_in.ensures.domains, c.domains.ensures) at c.extend-inner.ensures in
+    let G = λ (q : ProblemState) (a : List Elem). assert_step b sign f ls q a in
+    let F = λ (q : ProblemState) (a : List Elem). G q (e ++ a) in
+    let p = c.loop-number.problem in
+    let q = c.push_each.new.problem in
+    let made : q ≡ fold (λ (r : ProblemState) (x : List Elem). G r (inner ++ x)) p rest =
+    c.in_ok-push_each.ensures.made
+    ∙ ap (λ (ms : List Lit). fold (λ (r : ProblemState) (x : List Elem). assert_step b sign f ms r (inner ++ x)) p rest) c.loop-number.invariant.lits in
+    let more : p.vars ≤ q.vars = c.in_ok-push_each.ensures.grows in
+    record {
+      same = fold_next (after_front F rest) cs i p q within (made ∙ inner_fold G rest e inner (get_or cs i []) p is)
+          ∙ c.loop-number.invariant.same;
+      vars = omega (arith, c.loop-number.invariant.vars, more);
+      lits = c.in_ok-push_each.ensures.lits ∙ c.loop-number.invariant.lits;
+      within =
+          subst (AreLitsOf q.vars) (sym c.in_ok-push_each.ensures.lits)
+          (lits-more p.vars q.vars more c.loop-number.lits.items c.loop-number.invariant.within);
+    }
+
+pub push_each-returns-clause-made : goal.push_each-returns-clause-made
+push_each-returns-clause-made t c =
+    let b = c.args.base.now in
+    let sign = c.args.sign in
+    let e = env_view c.args.env.now in
+    let f = formula_view c.args.formula.now in
+    let ls = c.args.lits.now.items in
+    let these = c.split_in.result.0.bounds.now in
+    let others = c.split_in.result.1.now in
+    let cs = choices b.domains these in
+    let rest = choices b.domains others in
+    let i = c.loop-number.number in
+    let count : c.split_in.result.0.count ≡ length cs = rw c.domains.ensures at c.split_in.ensures.count in
+    let past : length cs ≤ i = rw (← count) c.loop-number-test.false in
+    let F = λ (q : ProblemState) (a : List Elem). assert_step b sign f ls q (e ++ a) in
+    sym
+    (fold_by_front b.domains c.args.bounds.now these others c.split_in.ensures.parts F c.args.problem.now
+    ∙ sym c.loop-number.invariant.same ∙ fold_done (after_front F rest) cs i c.loop-number.problem past)
+
+pub push_quantified-returns-then-sign-all-clause-made : goal.push_quantified-returns-then-sign-all-clause-made
+push_quantified-returns-then-sign-all-clause-made t c =
+    subst (λ (q : ProblemState). OnOk c.push_each.result (c.push_each.new.problem ≡ q))
+    (all-asserted c.args.base.now c.args.bounds.now (formula_view c.args.formula.now) (env_view c.args.env.now)
+    c.args.lits.now.items c.args.problem.now c.args.all c.args.sign c.if-sign-all.true) c.push_each.ensures.made
+
+pub push_quantified-returns-else-sign-all-clause-made : goal.push_quantified-returns-else-sign-all-clause-made
+push_quantified-returns-else-sign-all-clause-made t c =
+    subst (λ (q : ProblemState). OnOk c.push_some.result (c.push_some.new.problem ≡ q))
+    (some-asserted c.args.base.now c.args.bounds.now (formula_view c.args.formula.now) (env_view c.args.env.now)
+    c.args.lits.now.items c.args.problem.now c.args.all c.args.sign c.if-sign-all.false) c.push_some.ensures.made

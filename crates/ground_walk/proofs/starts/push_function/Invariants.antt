@@ -1,0 +1,12 @@
+use Rattle.std.proofs.Common.{◌≡◌, ◌+◌, ◌*◌, length}
+use Rattle.term_values.specs.GroundBases.{first_var, values_at}
+use Rattle.def_ground.specs.Problems.{with_clauses}
+use Rattle.ground_walk.proofs.StartSteps.{said-so-far}
+use Rattle.ground_walk.proofs.starts.push_function.Given as goal
+
+-- the clauses of the tuples so far, and the variable of the next one
+abbrev pub invariant-loop-tuple : goal.invariant-loop-tuple
+invariant-loop-tuple l = record {
+  said : l.problem ≡ with_clauses l.fn.problem (said-so-far l.base l.symbol l._tuple);
+  next : l.next ≡ first_var l.base l.symbol + l._tuple * length (values_at l.base l.symbol);
+}

@@ -1,0 +1,3 @@
+pub mod Groundable
+pub mod Steps
+pub mod Laws

@@ -1,0 +1,189 @@
+//! Atoms and comparisons, by the rows of their terms.
+ghost use Rattle.std.specs.Prelude.{◌≡◌, IsNone, MatchOption, map, true, IfOk, ⊤};
+ghost use Rattle.std.specs.List.{AllByRecursion};
+ghost use Rattle.kb_logic.specs.Bounds.{value_type_of};
+ghost use Rattle.kb_logic.specs.Trees.{terms_of, atom, comparison};
+ghost use Rattle.kb_logic.specs.Values.{value_view};
+ghost use Rattle.kb_logic.specs.Views.{term_view};
+ghost use Rattle.kb_logic.specs.Environments.{env_view};
+ghost use Rattle.ground_core.specs.Problems.{ProblemState, AreLitsOf};
+ghost use Rattle.term_values.specs.GroundBases.{row_index, tuples_at};
+ghost use Rattle.term_values.specs.KnownBases.{IsGroundBase};
+ghost use Rattle.def_ground.specs.Answers.{Makes, Grows, gate_of};
+ghost use Rattle.def_ground.specs.Cases.{cases_of};
+ghost use Rattle.def_ground.specs.CaseViews.{case_view, guarded_view};
+ghost use Rattle.def_ground.specs.Comparisons.{guard_answers as answers_of_guards, comparison_case, comparison_of};
+ghost use Rattle.def_ground.specs.Forms.{form_of, atom_case, atom_answer as answer_at};
+ghost use Rattle.ground_walk.specs.Groundable.{HasVars, IsGroundable, HaveLits};
+
+use def_ground::{Answer, Case, GuardedValue, answer_of_cases, case_of, case_of_row, gate};
+use ground_core::{LitList, Memory, Problem};
+use kb_logic::environments::Env;
+use kb_logic::values::Value;
+use kb_logic::{Cmp, Term};
+use lit_core::Lit;
+use std::alloc::Global;
+use term_values::{GroundData, Rows, TupleRows};
+
+/// What a predicate's atom with these arguments comes to.
+fn atom_answer(base: &GroundData<'_>, symbol: u32, values: &[Value<'_>]) -> Answer
+    requires { IsNone (value_type_of base.now.vocabulary symbol) }
+    ensures { result ≡ answer_at base.now symbol (row_index (tuples_at base.now symbol) (map value_view values.now)) }
+{
+    match base.variable_at(symbol, values) {
+        Some(var) => Answer::of_atom(base.known(var), var),
+        None => Answer::Constant(false),
+    }
+}
+
+// Most atoms have one row, without guards: their arguments are variables and names. These take no memory.
+/// What the atom comes to where its arguments have one row, without guards.
+fn single_atom(base: &GroundData<'_>, symbol: u32, rows: &TupleRows<'_>) -> Option<Answer>
+    requires { IsNone (value_type_of base.now.vocabulary symbol) }
+    ensures { MatchOption result ⊤ (λ a. (p : ProblemState) → cases_of (map (atom_case base.now symbol) rows.now) p
+        ≡ record { answer = a; problem = p }) }
+{
+    if rows.len() != 1 {
+        return None;
+    }
+    let [] = rows.guards(0) else {
+        return None;
+    };
+    Some(atom_answer(base, symbol, rows.values(0)))
+}
+
+/// The cases of an atom, by the rows of its arguments.
+fn atom_cases<'r>(
+    alloc: Global,
+    base: &GroundData<'_>,
+    symbol: u32,
+    rows: &'r TupleRows<'_>,
+) -> Result<Vec<Case<'r>>, Memory>
+    requires { IsNone (value_type_of base.now.vocabulary symbol) }
+    ensures { IfOk result (λ cs. map case_view cs.items ≡ map (atom_case base.now symbol) rows.now) }
+{
+    let mut cases = Vec::new(alloc);
+    for row in 0..rows.len() {
+        let answer = atom_answer(base, symbol, rows.values(row));
+        cases.push(case_of(alloc, rows.guards(row), answer)?)?;
+    }
+    Ok(cases)
+}
+
+/// What an atom comes to.
+pub(crate) fn atom<'a>(
+    alloc: Global,
+    base: &'a GroundData<'a>,
+    symbol: u32,
+    args: &'a [Term],
+    env: &'a Env<'a>,
+    problem: &mut Problem,
+) -> Result<Answer, Memory>
+    requires given { IsGroundBase base.now }
+    requires room { HasVars base.now problem.old }
+    requires fits { IsGroundable base.now (atom symbol (terms_of (map term_view args.now))) (env_view env.now) }
+    ensures made { IfOk result (λ a. Makes (form_of base.now (atom symbol (terms_of (map term_view args.now))) (env_view env.now) problem.old) a problem.new) }
+    ensures grows { IfOk result (λ a. Grows problem.old problem.new a) }
+{
+    let rows = base.tuple_rows(alloc, args, env)?;
+    match single_atom(base, symbol, &rows) {
+        Some(answer) => Ok(answer),
+        None => {
+            let cases = atom_cases(alloc, base, symbol, &rows)?;
+            answer_of_cases(alloc, cases.as_slice(), problem)
+        }
+    }
+}
+
+/// All of the guards, as one answer.
+fn guard_answer(alloc: Global, guards: &[Lit], problem: &mut Problem) -> Result<Answer, Memory>
+    requires { AreLitsOf problem.old.vars guards.now }
+    ensures made { IfOk result (λ a. Makes (gate_of true guards.now problem.old) a problem.new) }
+    ensures grows { IfOk result (λ a. Grows problem.old problem.new a) }
+{
+    match guards {
+        [] => Ok(Answer::Constant(true)),
+        [lit] => Ok(Answer::Literal(*lit)),
+        _ => gate(true, LitList::from_vec(guards.to_vec(alloc)?), problem),
+    }
+}
+
+/// The values of the rows, each with one answer in place of its guards.
+fn guard_answers<'a>(
+    alloc: Global,
+    rows: &Rows<'a>,
+    problem: &mut Problem,
+) -> Result<Vec<GuardedValue<'a>>, Memory>
+    requires { HaveLits problem.old.vars rows.now }
+    ensures rows { IfOk result (λ v. map guarded_view v.items ≡ (answers_of_guards rows.now problem.old).rows) }
+    ensures problem { IfOk result (λ v. problem.new ≡ (answers_of_guards rows.now problem.old).problem) }
+{
+    let mut answers = Vec::new(alloc);
+    for row in 0..rows.len() {
+        let answer = guard_answer(alloc, rows.guards(row), problem)?;
+        answers.push(GuardedValue {
+            answer,
+            value: rows.value(row),
+        })?;
+    }
+    Ok(answers)
+}
+
+/// The cases of a comparison, by the rows of its left term.
+fn comparison_cases<'r>(
+    alloc: Global,
+    cmp: Cmp,
+    left: &'r Rows<'_>,
+    right: &[GuardedValue<'_>],
+) -> Result<Vec<Case<'r>>, Memory>
+    ensures { IfOk result (λ cs. map case_view cs.items ≡ map (comparison_case cmp (map guarded_view right.now)) left.now) }
+{
+    let mut cases = Vec::new(alloc);
+    for row in 0..left.len() {
+        let case = case_of_row(alloc, cmp, left.guards(row), left.value(row), right)?;
+        cases.push(case)?;
+    }
+    Ok(cases)
+}
+
+/// What a comparison of terms with these rows comes to.
+fn compare_rows(
+    alloc: Global,
+    cmp: Cmp,
+    left: &Rows<'_>,
+    right: &Rows<'_>,
+    problem: &mut Problem,
+) -> Result<Answer, Memory>
+    requires left { HaveLits problem.old.vars left.now }
+    requires right { HaveLits problem.old.vars right.now }
+    ensures made { IfOk result (λ a. Makes (comparison_of cmp left.now right.now problem.old) a problem.new) }
+    ensures grows { IfOk result (λ a. Grows problem.old problem.new a) }
+{
+    if left.len() == 0 {
+        return Ok(Answer::Constant(true));
+    }
+    let values = guard_answers(alloc, right, problem)?;
+    let cases = comparison_cases(alloc, cmp, left, values.as_slice())?;
+    answer_of_cases(alloc, cases.as_slice(), problem)
+}
+
+/// What a comparison comes to.
+pub(crate) fn comparison<'a>(
+    alloc: Global,
+    base: &'a GroundData<'a>,
+    cmp: Cmp,
+    left: &'a Term,
+    right: &'a Term,
+    env: &'a Env<'a>,
+    problem: &mut Problem,
+) -> Result<Answer, Memory>
+    requires given { IsGroundBase base.now }
+    requires room { HasVars base.now problem.old }
+    requires fits { IsGroundable base.now (comparison cmp (term_view left.now) (term_view right.now)) (env_view env.now) }
+    ensures made { IfOk result (λ a. Makes (form_of base.now (comparison cmp (term_view left.now) (term_view right.now)) (env_view env.now) problem.old) a problem.new) }
+    ensures grows { IfOk result (λ a. Grows problem.old problem.new a) }
+{
+    let left_rows = base.rows(alloc, left, env)?;
+    let right_rows = base.rows(alloc, right, env)?;
+    compare_rows(alloc, cmp, &left_rows, &right_rows, problem)
+}

@@ -1,0 +1,16 @@
+//! Formulas and sentences as ground problems: the walk over a theory, whose answers are the public
+//! definition of `def_ground`.
+#![tactic(auto)]
+
+mod forms;
+mod laws;
+mod leaves;
+mod problems;
+mod sentences;
+mod starts;
+
+pub use forms::form;
+pub use laws::{bounded_are_groundable, data_know_atoms};
+pub use problems::problem_of;
+pub use sentences::push_sentence;
+pub use starts::start;

@@ -1,0 +1,375 @@
+//! Sentences as clauses: what stands at the top needs no gate.
+ghost use Rattle.std.specs.Prelude.{◌≡◌, ◌≤◌, ◌++◌, [], map, fold, true, false, if◌then◌else◌, OnOk};
+ghost use Rattle.std.specs.List.{AllByRecursion};
+ghost use Rattle.kb_logic.specs.Trees.{formulas_of};
+ghost use Rattle.kb_logic.specs.Views.{formula_view};
+ghost use Rattle.kb_logic.specs.Structures.{choices};
+ghost use Rattle.kb_logic.specs.Environments.{env_view};
+ghost use Rattle.ground_core.specs.Problems.{AreLitsOf};
+ghost use Rattle.ground_core.specs.Growth.{with_clause};
+ghost use Rattle.term_values.specs.KnownBases.{IsGroundBase};
+ghost use Rattle.def_ground.specs.Answers.{AnswerWithin};
+ghost use Rattle.def_ground.specs.Sentences.{assert_of, assert_all, assert_any, or_clause, parts_clause, unless_settled};
+ghost use Rattle.def_ground.specs.Forms.{form_of, signed_result};
+ghost use Rattle.ground_walk.specs.Groundable.{HasVars, IsGroundable, AreGroundable};
+ghost use Rattle.ground_walk.specs.Steps.{open_parts, part_step, assert_step, assert_joined, assert_quantified};
+
+use crate::forms::{instances, signed_form};
+use def_ground::{Answer, add_part};
+use ground_core::{Memory, Problem};
+use kb_logic::environments::{Env, extend, split_in};
+use kb_logic::{Bound, Formula};
+use lit_core::{Clause, Lit};
+use std::alloc::Global;
+use term_values::GroundData;
+
+/// Says the clause of these literals.
+fn push_clause(alloc: Global, lits: &[Lit], problem: &mut Problem) -> Result<(), Memory>
+    requires { AreLitsOf problem.old.vars lits.now }
+    ensures { OnOk result (problem.new ≡ with_clause problem.old lits.now) }
+{
+    problem.add_clause(Clause::from_slice(alloc, lits)?)
+}
+
+/// Says that one of the literals is true, or the answer is.
+fn push_answer(
+    alloc: Global,
+    answer: Answer,
+    lits: &mut Vec<Lit>,
+    problem: &mut Problem,
+) -> Result<(), Memory>
+    requires answer { AnswerWithin problem.old.vars answer }
+    requires lits { AreLitsOf problem.old.vars lits.old.items }
+    ensures made { OnOk result (problem.new ≡ or_clause lits.old.items (record { answer = answer; problem = problem.old })) }
+    ensures lits { OnOk result (lits.new.items ≡ lits.old.items) }
+{
+    let before = lits.len();
+    if add_part(false, answer, lits)? {
+        return Ok(());
+    }
+    push_clause(alloc, lits.as_slice(), problem)?;
+    lits.truncate(before);
+    Ok(())
+}
+
+/// Says that one of the literals is true, or some instance of the formula is, or where the sign is false some is not.
+fn push_some<'a>(
+    alloc: Global,
+    base: &'a GroundData<'a>,
+    sign: bool,
+    bounds: &'a [Bound],
+    formula: &'a Formula,
+    env: &'a Env<'a>,
+    lits: &mut Vec<Lit>,
+    problem: &mut Problem,
+) -> Result<(), Memory>
+    requires given { IsGroundBase base.now }
+    requires room { HasVars base.now problem.old }
+    requires fits { AllByRecursion (λ a. IsGroundable base.now (formula_view formula.now) (env_view env.now ++ a)) (choices base.now.domains bounds.now) }
+    requires lits { AreLitsOf problem.old.vars lits.old.items }
+    ensures made { OnOk result (problem.new ≡ parts_clause (fold (λ r x. part_step base.now false sign (formula_view formula.now) r (env_view env.now ++ x)) (open_parts lits.old.items problem.old) (choices base.now.domains bounds.now))) }
+    ensures grows { OnOk result (problem.old.vars ≤ problem.new.vars) }
+    ensures lits { OnOk result (lits.new.items ≡ lits.old.items) }
+{
+    let before = lits.len();
+    let settled = instances(
+        alloc, base, false, sign, bounds, formula, env, lits, problem,
+    )?;
+    if !settled {
+        push_clause(alloc, lits.as_slice(), problem)?;
+    }
+    lits.truncate(before);
+    Ok(())
+}
+
+/// Says that one of the literals is true, or the formula is, or where the sign is false is not. The formula is asked for
+/// as one answer.
+fn push_leaf<'a>(
+    alloc: Global,
+    base: &'a GroundData<'a>,
+    sign: bool,
+    formula: &'a Formula,
+    env: &'a Env<'a>,
+    lits: &mut Vec<Lit>,
+    problem: &mut Problem,
+) -> Result<(), Memory>
+    requires given { IsGroundBase base.now }
+    requires room { HasVars base.now problem.old }
+    requires fits { IsGroundable base.now (formula_view formula.now) (env_view env.now) }
+    requires lits { AreLitsOf problem.old.vars lits.old.items }
+    ensures made { OnOk result (problem.new ≡ or_clause lits.old.items (signed_result sign (form_of base.now (formula_view formula.now) (env_view env.now) problem.old))) }
+    ensures grows { OnOk result (problem.old.vars ≤ problem.new.vars) }
+    ensures lits { OnOk result (lits.new.items ≡ lits.old.items) }
+{
+    let answer = signed_form(alloc, base, sign, formula, env, problem)?;
+    push_answer(alloc, answer, lits, problem)
+}
+
+/// Says that one of the literals is true, or the formula is, or where the sign is false is not.
+#[cycle(sentence)]
+fn push<'a>(
+    alloc: Global,
+    base: &'a GroundData<'a>,
+    sign: bool,
+    formula: &'a Formula,
+    env: &'a Env<'a>,
+    lits: &mut Vec<Lit>,
+    problem: &mut Problem,
+) -> Result<(), Memory>
+    requires given { IsGroundBase base.now }
+    requires room { HasVars base.now problem.old }
+    requires fits { IsGroundable base.now (formula_view formula.now) (env_view env.now) }
+    requires lits { AreLitsOf problem.old.vars lits.old.items }
+    ensures made { OnOk result (problem.new ≡ assert_of base.now sign (formula_view formula.now) (env_view env.now) lits.old.items problem.old) }
+    ensures grows { OnOk result (problem.old.vars ≤ problem.new.vars) }
+    ensures lits { OnOk result (lits.new.items ≡ lits.old.items) }
+{
+    match formula {
+        Formula::True => push_constant(alloc, sign, lits, problem),
+        Formula::False => push_constant(alloc, !sign, lits, problem),
+        Formula::Atom(..) => push_leaf(alloc, base, sign, formula, env, lits, problem),
+        Formula::Compare(..) => push_leaf(alloc, base, sign, formula, env, lits, problem),
+        Formula::Iff(..) => push_leaf(alloc, base, sign, formula, env, lits, problem),
+        Formula::Number(..) => push_leaf(alloc, base, sign, formula, env, lits, problem),
+        Formula::Not(inner) => push(alloc, base, !sign, inner, env, lits, problem),
+        Formula::And(formulas) => push_joined(
+            alloc, base, true, sign, formulas, env, lits, problem,
+        ),
+        Formula::Or(formulas) => push_joined(
+            alloc, base, false, sign, formulas, env, lits, problem,
+        ),
+        Formula::Implies(left, right) => {
+            if sign {
+                let first = signed_form(alloc, base, false, left, env, problem)?;
+                push_under(alloc, base, first, right, env, lits, problem)
+            } else {
+                push(alloc, base, true, left, env, lits, problem)?;
+                push(alloc, base, false, right, env, lits, problem)
+            }
+        }
+        Formula::All(bounds, inner) => {
+            push_quantified(alloc, base, true, sign, bounds, inner, env, lits, problem)
+        }
+        Formula::Any(bounds, inner) => {
+            push_quantified(alloc, base, false, sign, bounds, inner, env, lits, problem)
+        }
+    }
+}
+
+/// Says that one of the literals is true where the constant is false.
+fn push_constant(
+    alloc: Global,
+    value: bool,
+    lits: &mut Vec<Lit>,
+    problem: &mut Problem,
+) -> Result<(), Memory>
+    requires { AreLitsOf problem.old.vars lits.old.items }
+    ensures made { OnOk result (problem.new ≡ (if value then problem.old else with_clause problem.old lits.old.items)) }
+    ensures lits { OnOk result (lits.new.items ≡ lits.old.items) }
+{
+    if value {
+        Ok(())
+    } else {
+        push_clause(alloc, lits.as_slice(), problem)
+    }
+}
+
+/// The second part of an implication, whose first part has this opposite.
+#[cycle(sentence)]
+fn push_under<'a>(
+    alloc: Global,
+    base: &'a GroundData<'a>,
+    first: Answer,
+    second: &'a Formula,
+    env: &'a Env<'a>,
+    lits: &mut Vec<Lit>,
+    problem: &mut Problem,
+) -> Result<(), Memory>
+    requires given { IsGroundBase base.now }
+    requires room { HasVars base.now problem.old }
+    requires fits { IsGroundable base.now (formula_view second.now) (env_view env.now) }
+    requires first { AnswerWithin problem.old.vars first }
+    requires lits { AreLitsOf problem.old.vars lits.old.items }
+    ensures made { OnOk result (problem.new ≡ unless_settled (record { answer = first; problem = problem.old }) lits.old.items (λ xs q. assert_of base.now true (formula_view second.now) (env_view env.now) xs q)) }
+    ensures grows { OnOk result (problem.old.vars ≤ problem.new.vars) }
+    ensures lits { OnOk result (lits.new.items ≡ lits.old.items) }
+{
+    let before = lits.len();
+    if add_part(false, first, lits)? {
+        return Ok(());
+    }
+    push(alloc, base, true, second, env, lits, problem)?;
+    lits.truncate(before);
+    Ok(())
+}
+
+/// The conjunction of the formulas where `all`, and else their disjunction.
+#[cycle(sentence)]
+fn push_joined<'a>(
+    alloc: Global,
+    base: &'a GroundData<'a>,
+    all: bool,
+    sign: bool,
+    formulas: &'a [Formula],
+    env: &'a Env<'a>,
+    lits: &mut Vec<Lit>,
+    problem: &mut Problem,
+) -> Result<(), Memory>
+    requires given { IsGroundBase base.now }
+    requires room { HasVars base.now problem.old }
+    requires fits { AreGroundable base.now (formulas_of (map formula_view formulas.now)) (env_view env.now) }
+    requires lits { AreLitsOf problem.old.vars lits.old.items }
+    ensures made { OnOk result (problem.new ≡ assert_joined all base.now sign (formulas_of (map formula_view formulas.now)) (env_view env.now) lits.old.items problem.old) }
+    ensures grows { OnOk result (problem.old.vars ≤ problem.new.vars) }
+    ensures lits { OnOk result (lits.new.items ≡ lits.old.items) }
+{
+    if sign == all {
+        push_all(alloc, base, sign, formulas, env, lits, problem)
+    } else {
+        push_any(alloc, base, sign, formulas, env, lits, problem)
+    }
+}
+
+/// Says it of each of the formulas.
+#[cycle(sentence)]
+fn push_all<'a>(
+    alloc: Global,
+    base: &'a GroundData<'a>,
+    sign: bool,
+    formulas: &'a [Formula],
+    env: &'a Env<'a>,
+    lits: &mut Vec<Lit>,
+    problem: &mut Problem,
+) -> Result<(), Memory>
+    requires given { IsGroundBase base.now }
+    requires room { HasVars base.now problem.old }
+    requires fits { AreGroundable base.now (formulas_of (map formula_view formulas.now)) (env_view env.now) }
+    requires lits { AreLitsOf problem.old.vars lits.old.items }
+    ensures made { OnOk result (problem.new ≡ assert_all base.now sign (formulas_of (map formula_view formulas.now)) (env_view env.now) lits.old.items problem.old) }
+    ensures grows { OnOk result (problem.old.vars ≤ problem.new.vars) }
+    ensures lits { OnOk result (lits.new.items ≡ lits.old.items) }
+{
+    for formula in formulas {
+        push(alloc, base, sign, formula, env, lits, problem)?;
+    }
+    Ok(())
+}
+
+/// Says it of one of the formulas: of the last under the literals of those before it.
+#[cycle(sentence)]
+fn push_any<'a>(
+    alloc: Global,
+    base: &'a GroundData<'a>,
+    sign: bool,
+    formulas: &'a [Formula],
+    env: &'a Env<'a>,
+    lits: &mut Vec<Lit>,
+    problem: &mut Problem,
+) -> Result<(), Memory>
+    requires given { IsGroundBase base.now }
+    requires room { HasVars base.now problem.old }
+    requires fits { AreGroundable base.now (formulas_of (map formula_view formulas.now)) (env_view env.now) }
+    requires lits { AreLitsOf problem.old.vars lits.old.items }
+    ensures made { OnOk result (problem.new ≡ assert_any base.now sign (formulas_of (map formula_view formulas.now)) (env_view env.now) lits.old.items problem.old) }
+    ensures grows { OnOk result (problem.old.vars ≤ problem.new.vars) }
+    ensures lits { OnOk result (lits.new.items ≡ lits.old.items) }
+{
+    let Some((last, others)) = formulas.split_last() else {
+        return push_clause(alloc, lits.as_slice(), problem);
+    };
+    let before = lits.len();
+    for formula in others {
+        let answer = signed_form(alloc, base, sign, formula, env, problem)?;
+        if add_part(false, answer, lits)? {
+            lits.truncate(before);
+            return Ok(());
+        }
+    }
+    push(alloc, base, sign, last, env, lits, problem)?;
+    lits.truncate(before);
+    Ok(())
+}
+
+/// All instances where `all`, and else some.
+#[cycle(sentence)]
+fn push_quantified<'a>(
+    alloc: Global,
+    base: &'a GroundData<'a>,
+    all: bool,
+    sign: bool,
+    bounds: &'a [Bound],
+    formula: &'a Formula,
+    env: &'a Env<'a>,
+    lits: &mut Vec<Lit>,
+    problem: &mut Problem,
+) -> Result<(), Memory>
+    requires given { IsGroundBase base.now }
+    requires room { HasVars base.now problem.old }
+    requires fits { AllByRecursion (λ a. IsGroundable base.now (formula_view formula.now) (env_view env.now ++ a)) (choices base.now.domains bounds.now) }
+    requires lits { AreLitsOf problem.old.vars lits.old.items }
+    ensures made { OnOk result (problem.new ≡ assert_quantified all base.now sign bounds.now (formula_view formula.now) (env_view env.now) lits.old.items problem.old) }
+    ensures grows { OnOk result (problem.old.vars ≤ problem.new.vars) }
+    ensures lits { OnOk result (lits.new.items ≡ lits.old.items) }
+{
+    if sign == all {
+        push_each(alloc, base, sign, bounds, formula, env, lits, problem)
+    } else {
+        push_some(alloc, base, sign, bounds, formula, env, lits, problem)
+    }
+}
+
+/// Says it of each instance of the formula.
+#[cycle(sentence)]
+fn push_each<'a>(
+    alloc: Global,
+    base: &'a GroundData<'a>,
+    sign: bool,
+    bounds: &'a [Bound],
+    formula: &'a Formula,
+    env: &'a Env<'a>,
+    lits: &mut Vec<Lit>,
+    problem: &mut Problem,
+) -> Result<(), Memory>
+    requires given { IsGroundBase base.now }
+    requires room { HasVars base.now problem.old }
+    requires fits { AllByRecursion (λ a. IsGroundable base.now (formula_view formula.now) (env_view env.now ++ a)) (choices base.now.domains bounds.now) }
+    requires lits { AreLitsOf problem.old.vars lits.old.items }
+    ensures made { OnOk result (problem.new ≡ fold (λ q x. assert_step base.now sign (formula_view formula.now) lits.old.items q (env_view env.now ++ x)) problem.old (choices base.now.domains bounds.now)) }
+    ensures grows { OnOk result (problem.old.vars ≤ problem.new.vars) }
+    ensures lits { OnOk result (lits.new.items ≡ lits.old.items) }
+{
+    if bounds.is_empty() {
+        return push(alloc, base, sign, formula, env, lits, problem);
+    }
+    let (block, others) = split_in(base.domains(), bounds);
+    for number in 0..block.count {
+        let inner = extend(env, block, number);
+        push_each(alloc, &*base, sign, others, formula, &inner, lits, problem)?;
+    }
+    Ok(())
+}
+
+/// Says that the sentence is true.
+pub fn push_sentence(
+    alloc: Global,
+    base: &GroundData<'_>,
+    sentence: &Formula,
+    problem: &mut Problem,
+) -> Result<(), Memory>
+    requires given { IsGroundBase base.now }
+    requires room { HasVars base.now problem.old }
+    requires fits { IsGroundable base.now (formula_view sentence.now) [] }
+    ensures made { OnOk result (problem.new ≡ assert_of base.now true (formula_view sentence.now) [] [] problem.old) }
+    ensures grows { OnOk result (problem.old.vars ≤ problem.new.vars) }
+{
+    let mut lits = Vec::new(alloc);
+    push(
+        alloc,
+        base,
+        true,
+        sentence,
+        &Env::Given(&[]),
+        &mut lits,
+        problem,
+    )
+}

@@ -1,0 +1,94 @@
+//! The ground problem of a theory of a file over its data.
+ghost use Rattle.std.specs.Prelude.{◌≡◌, ◌≤◌, ◌<◌, ◌^◌, [], length, map, IfOk, IfErr};
+ghost use Rattle.std.specs.List.{AllByRecursion};
+ghost use Rattle.kb_logic.specs.Bounds.{TheoryIsBounded};
+ghost use Rattle.kb_logic.specs.Views.{formula_view, theory_view};
+ghost use Rattle.reading_stages.specs.FileBases.{base_of_file, theory_at};
+ghost use Rattle.reading_stages.specs.SizesStage.{capped, weight_limit};
+ghost use Rattle.type_derivation.specs.TypedViews.{typed_view};
+ghost use Rattle.term_values.specs.KnownBases.{AreDataOf, base_of_data};
+ghost use Rattle.def_ground.specs.Groundings.{IsGroundTheory, IsGroundingOf, SaysClausesAlone, theory_problem};
+ghost use Rattle.def_ground.specs.Problems.{problem_of as problem_of_sentences};
+ghost use Rattle.ground_walk.specs.Groundable.{IsGroundable};
+ghost use Rattle.grounder.specs.Weighing.{base_weight, IsRefused};
+
+use crate::errors::GroundError;
+use ground_core::{Memory, Problem};
+use ground_walk::problem_of;
+use kb_logic::{Formula, Theory, Vocabulary};
+use kb_sizes::weight;
+use partial_structures::Partial;
+use std::alloc::Global;
+use term_values::GroundData;
+use type_derivation::TypedKb;
+
+/// The greatest weight of a knowledge base that is made into a ground problem.
+const WEIGHT_LIMIT: u64 = 4_000_000;
+
+/// The theory with this number.
+fn theory_of(kb: &TypedKb, theory: usize) -> &Theory
+    requires { theory < length kb.now.theories }
+    ensures { theory_view result.now ≡ theory_at (typed_view kb.now) theory }
+{
+    &kb.theories.as_slice()[theory].value
+}
+
+/// The weight of the theory with all terms that may be asked for, or the greatest number of 64 bits.
+fn weight_at(kb: &TypedKb, theory: usize, known: &Partial) -> u64
+    requires { theory < length kb.now.theories }
+    ensures { result ≡ capped (base_weight (base_of_file (typed_view kb.now) theory known.now)) }
+{
+    weight(
+        &kb.vocab,
+        known.domains(),
+        theory_of(kb, theory),
+        kb.terms.as_slice(),
+    )
+}
+
+/// The problem of sentences over the data.
+fn problem(
+    alloc: Global,
+    vocabulary: &Vocabulary,
+    known: &Partial,
+    sentences: &[Formula],
+) -> Result<Problem, Memory>
+    requires known { AreDataOf vocabulary.now known.now }
+    requires few { length vocabulary.now.symbols ≤ 2 ^ 32 }
+    requires fits { AllByRecursion (λ f. IsGroundable (base_of_data vocabulary.now known.now) f []) (map formula_view sentences.now) }
+    ensures { IfOk result (λ p. p ≡ problem_of_sentences (base_of_data vocabulary.now known.now) (map formula_view sentences.now)) }
+{
+    let base = GroundData::new(alloc, vocabulary, known)?;
+    problem_of(alloc, &base, sentences)
+}
+
+/// The ground problem of the theory with this number over its data.
+///
+/// The theory has no definitions, aggregates and number quantifiers, and is well typed over the domains of
+/// its data. The bounds of its terms lie from -10^15 to 10^15.
+pub fn ground(
+    alloc: Global,
+    kb: &TypedKb,
+    theory: usize,
+    known: &Partial,
+) -> Result<Problem, GroundError>
+    requires theory { theory < length kb.now.theories }
+    requires few { length kb.now.vocab.symbols ≤ 2 ^ 32 }
+    requires typed { IsGroundTheory (base_of_file (typed_view kb.now) theory known.now) }
+    requires bounded { TheoryIsBounded kb.now.vocab known.now.domains (theory_at (typed_view kb.now) theory) }
+    ensures value { IfOk result (λ p. p ≡ theory_problem (base_of_file (typed_view kb.now) theory known.now)) }
+    ensures right { IfOk result (λ p. IsGroundingOf (base_of_file (typed_view kb.now) theory known.now) p) }
+    ensures clauses { IfOk result (λ p. SaysClausesAlone p) }
+    ensures small { IfOk result (λ p. p.vars ≤ base_weight (base_of_file (typed_view kb.now) theory known.now)) }
+    ensures light { IfOk result (λ p. base_weight (base_of_file (typed_view kb.now) theory known.now) ≤ weight_limit) }
+    ensures err { IfErr result (λ e. IsRefused (base_of_file (typed_view kb.now) theory known.now) e) }
+{
+    if weight_at(kb, theory, known) > WEIGHT_LIMIT {
+        return Err(GroundError::TooLarge);
+    }
+    let sentences = theory_of(kb, theory).sentences.as_slice();
+    match problem(alloc, &kb.vocab, known, sentences) {
+        Ok(made) => Ok(made),
+        Err(_) => Err(GroundError::Memory),
+    }
+}

@@ -1,0 +1,8 @@
+//! One search for a model under assumptions, as every task over a solver makes it.
+#![tactic(auto)]
+
+mod lists;
+mod searching;
+
+pub use lists::joined;
+pub use searching::model_of;

@@ -1,0 +1,84 @@
+//! Literals and problems.
+ghost use Rattle.std.specs.Prelude.{◌≡◌, [], IsTrue, IfOk};
+ghost use Rattle.ground_core.specs.Problems.{AreLitsOf};
+
+use ground_core::{AtomTable, Memory, Problem};
+use kb_logic::{ElemList, Literal, LiteralList};
+use lit_core::{Clause, Lit, Var};
+use std::alloc::Global;
+
+/// The literal that the variable is true.
+pub fn yes(var: u64) -> Lit {
+    Lit {
+        var: Var(var),
+        positive: true,
+    }
+}
+
+/// The literal that the variable is false.
+pub fn no(var: u64) -> Lit {
+    Lit {
+        var: Var(var),
+        positive: false,
+    }
+}
+
+/// A problem with so many ground atoms.
+pub fn problem_of(alloc: Global, atoms: u32) -> Result<Problem, Memory>
+    ensures plain { IfOk result (λ p. (p.sums ≡ []) × (p.bounds ≡ [])) }
+    ensures unnamed { IfOk result (λ p. (p.terms ≡ []) × (p.retired ≡ [])) }
+{
+    let mut list = LiteralList::new(alloc);
+    for symbol in 0..atoms {
+        list.push(Literal {
+            positive: true,
+            symbol,
+            args: ElemList::new(alloc),
+            value: None,
+        })?;
+    }
+    Ok(Problem::new(alloc, AtomTable::from_list(list)))
+}
+
+/// Whether the literals have variables up to this one.
+pub fn are_over(vars: u64, lits: &[Lit]) -> bool
+    ensures { IsTrue result → AreLitsOf vars lits.now }
+{
+    lits.iter().all(|lit| 1 <= lit.var.0 && lit.var.0 <= vars)
+}
+
+/// Says a clause, if it is one of the problem.
+pub fn say(alloc: Global, problem: &mut Problem, lits: &[Lit]) -> Result<(), Memory>
+    ensures sums { problem.new.sums ≡ problem.old.sums }
+    ensures bounds { problem.new.bounds ≡ problem.old.bounds }
+    ensures terms { problem.new.terms ≡ problem.old.terms }
+    ensures retired { problem.new.retired ≡ problem.old.retired }
+{
+    if are_over(problem.vars(), lits) {
+        problem.add_clause(Clause::from_slice(alloc, lits)?)?;
+    }
+    Ok(())
+}
+
+/// Says the clauses. A literal that stands twice in one counts once.
+fn say_all(alloc: Global, problem: &mut Problem, clauses: &[[Lit; 4]]) -> Result<(), Memory>
+    ensures sums { problem.new.sums ≡ problem.old.sums }
+    ensures bounds { problem.new.bounds ≡ problem.old.bounds }
+    ensures terms { problem.new.terms ≡ problem.old.terms }
+    ensures retired { problem.new.retired ≡ problem.old.retired }
+{
+    for lits in clauses {
+        say(alloc, problem, lits.as_slice())?;
+    }
+    Ok(())
+}
+
+/// The problem of these clauses, with so many ground atoms.
+pub fn said(alloc: Global, atoms: u32, clauses: &[[Lit; 4]]) -> Result<Problem, Memory>
+    ensures plain { IfOk result (λ p. (p.sums ≡ []) × (p.bounds ≡ [])) }
+    ensures unnamed { IfOk result (λ p. (p.terms ≡ []) × (p.retired ≡ [])) }
+{
+    let mut problem = problem_of(alloc, atoms)?;
+    say_all(alloc, &mut problem, clauses)?;
+    Ok(problem)
+}

@@ -1,0 +1,237 @@
+-- What the stage of data accepts is well typed over the data's domains.
+use Rattle.std.proofs.Common.{◌≡◌, inl, inr, ℕ, zero, suc, ◌+◌, ℤ, true, false, List, [], ◌∷◌, ◌++◌, length, map}
+use Rattle.std.proofs.Common.{Option, None, Some, option_map, slice_get, refl, sym, ap, subst, ◌∙◌, arith, Contains}
+use Rattle.std.proofs.Common.{length-append}
+use Rattle.std.specs.Prelude.{zip, option_to_list, IfSome}
+use Rattle.std.specs.List.{AllByRecursion, flat_map, list_any}
+use Rattle.std.proofs.lemmas.Bool.{true≢false, false_from_ne_true, not-false, or_cases}
+use Rattle.std.proofs.lemmas.Bool.Decides.{Decides-int_eq}
+use Rattle.std.proofs.lemmas.List.Elements.{Contains-append_right}
+use Rattle.std.proofs.lemmas.Option.{slice_get-map}
+use Rattle.kb_text.specs.declared.fault.K.TheVariants as k
+use Rattle.kb_logic.specs.declared.elements.Elem.{Elem}
+use Rattle.kb_logic.specs.declared.elements.Elem.TheVariants.{Named, Num}
+use Rattle.kb_logic.specs.declared.vocabularies.Vocabulary.{Vocabulary}
+use Rattle.kb_logic.specs.Structures.{domain_at}
+use Rattle.kb_logic.specs.KnownAtoms.{KnownAtoms}
+use Rattle.kb_logic.specs.Typing.{IsNumberType, IsIntegerIn, IsWellTyped, IsTypedOver}
+use Rattle.kb_logic.proofs.Members.{first, later, in_all, in_map}
+use Rattle.fo_syntax.specs.BlockTrees as raw
+use Rattle.kb_logic.specs.Trees.{TheoryTree}
+use Rattle.kb_logic.specs.Bases.{NamedTerm}
+use Rattle.reading_stages.specs.FileBases.{theory_at, named_term, base_of_file}
+use Rattle.reading_stages.specs.Earliest.{row}
+use Rattle.reading_stages.specs.NamedTrees.{NamedFormula}
+use Rattle.reading_stages.specs.Numbering.{NamedTheoryTree, NamedTermTree, NamedFile}
+use Rattle.reading_stages.specs.TermPlaces.{terms_begin, term_begins}
+use Rattle.reading_stages.specs.TheoryItems.{items_of}
+use Rattle.reading_stages.specs.TypedTrees.{typed_sentence, typed_block_term}
+use Rattle.reading_stages.specs.TypedFiles.{TypedTheoryTree, TypedTermTree, TypedFile, typed_theory, typed_block}
+use Rattle.reading_stages.specs.TypedFiles.{typed_file}
+use Rattle.reading_stages.specs.IntegerArguments.{Placed, Argument, formula_integers, term_integers, item_integers}
+use Rattle.reading_stages.specs.IntegerArguments.{arguments_at}
+use Rattle.reading_stages.specs.Elements.{same_element}
+use Rattle.reading_stages.specs.DataEntries.{said_in}
+use Rattle.reading_stages.specs.DataDomains.{domains_of}
+use Rattle.reading_stages.specs.DataStage.{argument, structure_uses, argument_uses, arguments_of_theory}
+use Rattle.reading_stages.specs.DataStage.{arguments_of_block, chosen_theory, is_foreign, data_causes}
+use Rattle.reading_stages.specs.DataAnswer.{IsDataOf}
+use Rattle.structure_laws.specs.DataLaws.{SentencesHavePlaces, BlocksHavePlaces}
+use Rattle.typing_laws.specs.WellTyped.{IsWellTypedNumber, IsWellTypedFile, IsNumberOver, IsTypedBase}
+use Rattle.typing_laws.specs.WellTyped.{AcceptedIsTypedOver}
+use Rattle.typing_laws.proofs.Alls.{all_left, all_right}
+use Rattle.typing_laws.proofs.Integers.{IsPlacedWell, ArePlacedWell, formula_over, term_over}
+use Rattle.typing_laws.proofs.Derived.{derived_is_well_typed}
+
+-- ---- integers that are elements
+
+among : (z : ℤ) (xs : List Elem) → list_any (same_element (Num z)) xs ≡ true → Contains xs (Num z)
+among z [] h = absurd (true≢false (sym h))
+among z (Named n ∷ xs) h = later (Named n) (Num z) xs (among z xs h)
+among z (Num y ∷ xs) h = elim (or_cases (same_element (Num z) (Num y)) (list_any (same_element (Num z)) xs) h) [
+  | inl e ↦ subst (λ (u : ℤ). Contains (Num u ∷ xs) (Num z)) ((Decides-int_eq z y).0 e) (first (Num z) xs)
+  | inr e ↦ later (Num y) (Num z) xs (among z xs e)
+]
+
+-- the argument is an element of its position's type
+abbrev IsElement : List (List Elem) → Argument → Type 0
+IsElement domains a = IsIntegerIn domains a.ty a.number
+
+is_element : (domains : List (List Elem)) (a : Argument) → is_foreign domains a ≡ false → IsElement domains a
+is_element domains a h = among a.number (domain_at domains a.ty)
+    (not-false (list_any (same_element (Num a.number)) (domain_at domains a.ty)) h)
+
+-- ---- a file
+
+module _ (v : Vocabulary) (domains : List (List Elem)) where
+  abbrev ArePlaced : List (Option Placed) → Type 0
+  ArePlaced os = ArePlacedWell v (λ ty z. IsNumberType v ty) (IsIntegerIn domains) os
+
+  are_placed : (ps : List ℕ) (os : List (Option Placed)) → length os ≡ length ps
+      → AllByRecursion (IsElement domains) (arguments_at ps os) → ArePlaced os
+  are_placed ps [] e h = tt
+  are_placed [] (o ∷ os) e h = absurd (omega (arith, e))
+  are_placed (p ∷ ps) (None ∷ os) e h = (tt, are_placed ps os (omega (arith, e)) h)
+  are_placed (p ∷ ps) (Some x ∷ os) e h = (h.0, are_placed ps os (omega (arith, e)) h.1)
+
+  abbrev integers_in : List NamedFormula → List (Option Placed)
+  integers_in fs = flat_map (item_integers v.symbols) (items_of
+      (record { sentences = map (typed_sentence v) fs; definitions = [] }))
+
+  as_long : SentencesHavePlaces → (fs : List NamedFormula) → length (integers_in fs) ≡ length (flat_map terms_begin fs)
+  as_long places [] = refl
+  as_long places (f ∷ fs) =
+      let own = formula_integers v.symbols (typed_sentence v f) in
+      length-append own (integers_in fs)
+      ∙ ap (λ n. n + length (integers_in fs)) (places v f)
+      ∙ ap (λ n. length (terms_begin f) + n) (as_long places fs)
+      ∙ sym (length-append (terms_begin f) (flat_map terms_begin fs))
+
+  sentences_over : (fs : List NamedFormula) → AllByRecursion (λ g. IsWellTyped v g []) (map (typed_sentence v) fs)
+      → ArePlaced (integers_in fs)
+      → AllByRecursion (λ g. IsTypedOver v domains g []) (map (typed_sentence v) fs)
+  sentences_over [] h p = tt
+  sentences_over (f ∷ fs) h p =
+      let well = IsPlacedWell v (λ ty z. IsNumberType v ty) (IsIntegerIn domains) in
+      let own = formula_integers v.symbols (typed_sentence v f) in (
+        formula_over v (λ ty z. IsNumberType v ty) (IsIntegerIn domains) (typed_sentence v f) [] h.0
+            (all_left well own (integers_in fs) p),
+        sentences_over fs h.1 (all_right well own (integers_in fs) p),
+      )
+
+  abbrev theory_pair : NamedTheoryTree → TypedTheoryTree × List ℕ
+  theory_pair t = (typed_theory v t, flat_map terms_begin t.sentences)
+
+  theory_over : SentencesHavePlaces → (t : NamedTheoryTree) → AllByRecursion (λ g. IsWellTyped v g [])
+      (typed_theory v t).theory.sentences
+      → AllByRecursion (IsElement domains) (arguments_of_theory v.symbols (theory_pair t))
+      → AllByRecursion (λ g. IsTypedOver v domains g []) (typed_theory v t).theory.sentences
+  theory_over places t h p =
+      sentences_over t.sentences h (are_placed (flat_map terms_begin t.sentences) (integers_in t.sentences)
+      (as_long places t.sentences) p)
+
+  blocks_over : BlocksHavePlaces → (bs : List NamedTermTree) → AllByRecursion (λ b. IsWellTypedNumber v b.term)
+      (map (typed_block v) bs)
+      → AllByRecursion (IsElement domains) (flat_map (arguments_of_block v.symbols)
+      (zip (map (typed_block v) bs) (map (λ b. term_begins b.term) bs)))
+      → AllByRecursion (λ b. IsNumberOver v domains b.term) (map (typed_block v) bs)
+  blocks_over places [] h p = tt
+  blocks_over places (b ∷ bs) h p =
+      let own = arguments_of_block v.symbols (typed_block v b, term_begins b.term) in
+      let others = flat_map (arguments_of_block v.symbols) (zip (map (typed_block v) bs)
+      (map (λ (c : NamedTermTree). term_begins c.term) bs)) in
+      let placed = are_placed (term_begins b.term) (term_integers v.symbols None (typed_block_term v b.term))
+      (places v b.term) (all_left (IsElement domains) own others p) in (
+        (
+          term_over v (λ ty z. IsNumberType v ty) (IsIntegerIn domains) None
+              (typed_block_term v b.term) [] h.0.0 placed,
+          h.0.1,
+        ),
+        blocks_over places bs h.1 (all_right (IsElement domains) own others p),
+      )
+
+pairs : {X A B : Type 0} (f : X → A) (g : X → B) (xs : List X) → zip (map f xs) (map g xs) ≡ map (λ x. (f x, g x)) xs
+pairs f g [] = refl
+pairs f g (x ∷ xs) = ap (λ ps. (f x, g x) ∷ ps) (pairs f g xs)
+
+-- what a theory says, where there is one
+abbrev said_by : Option TypedTheoryTree → TheoryTree
+said_by o = elim o [
+  | None ↦ record { sentences = []; definitions = [] }
+  | Some t ↦ t.theory
+]
+
+abbrev theory_if : Vocabulary → Option NamedTheoryTree → TheoryTree
+theory_if v None = record { sentences = []; definitions = [] }
+theory_if v (Some t) = (typed_theory v t).theory
+
+module _ (n : NamedFile) (theory : ℕ) where
+  chosen_is : chosen_theory (typed_file n) theory ≡ option_to_list
+      (option_map (theory_pair n.vocabulary []) (slice_get n.theories theory))
+  chosen_is =
+      ap (λ ps. option_to_list (slice_get ps theory)) (pairs (typed_theory n.vocabulary)
+      (λ t. flat_map terms_begin t.sentences) n.theories)
+      ∙ ap (λ (o : Option (TypedTheoryTree × List ℕ)). option_to_list o)
+      (slice_get-map (theory_pair n.vocabulary []) n.theories theory)
+
+  -- the theory with this number, where there is one
+  theory_is : theory_at (typed_file n) theory ≡ theory_if n.vocabulary (slice_get n.theories theory)
+  theory_is = by (slice_get n.theories theory) refl
+    where
+      by : (o : Option NamedTheoryTree) → slice_get n.theories theory ≡ o → theory_at (typed_file n) theory
+          ≡ theory_if n.vocabulary o
+      by None e = ap said_by (slice_get-map (typed_theory n.vocabulary) n.theories theory
+          ∙ ap (option_map (typed_theory n.vocabulary)) e)
+      by (Some t) e = ap said_by (slice_get-map (typed_theory n.vocabulary) n.theories theory
+          ∙ ap (option_map (typed_theory n.vocabulary)) e)
+
+theory_if_over : (v : Vocabulary) (domains : List (List Elem)) → SentencesHavePlaces → (o : Option NamedTheoryTree)
+    → IfSome o (λ t. AllByRecursion (λ g. IsWellTyped v g []) (typed_theory v t).theory.sentences)
+    → AllByRecursion (IsElement domains) (flat_map (arguments_of_theory v.symbols)
+    (option_to_list (option_map (theory_pair v []) o)))
+    → AllByRecursion (λ g. IsTypedOver v domains g []) (theory_if v o).sentences
+theory_if_over v domains places None h p = tt
+theory_if_over v domains places (Some t) h p =
+    theory_over v domains places t h (all_left (IsElement domains)
+    (arguments_of_theory v.symbols (theory_pair v [] t)) [] p)
+
+no_definitions : (v : Vocabulary) (o : Option NamedTheoryTree) → (theory_if v o).definitions ≡ []
+no_definitions v None = refl
+no_definitions v (Some t) = refl
+
+well_typed_at : (v : Vocabulary) (ts : List NamedTheoryTree) (theory : ℕ)
+    → AllByRecursion (λ t. AllByRecursion (λ g. IsWellTyped v g []) t.theory.sentences) (map (typed_theory v) ts)
+    → IfSome (slice_get ts theory) (λ t. AllByRecursion (λ g. IsWellTyped v g []) (typed_theory v t).theory.sentences)
+well_typed_at v [] theory h = tt
+well_typed_at v (t ∷ ts) zero h = h.0
+well_typed_at v (t ∷ ts) (suc i) h = well_typed_at v ts i h.1
+
+named_terms : (v : Vocabulary) (domains : List (List Elem)) (bs : List TypedTermTree)
+    → AllByRecursion (λ b. IsNumberOver v domains b.term) bs
+    → AllByRecursion (λ (t : NamedTerm). IsNumberOver v domains t.term) (map named_term bs)
+named_terms v domains [] h = tt
+named_terms v domains (b ∷ bs) h = (h.0, named_terms v domains bs h.1)
+
+not_an_element : Contains data_causes k.NotAnElement
+not_an_element = let long : length data_causes ≡ 9 = refl in (4, omega (arith, long), refl)
+
+file_over : SentencesHavePlaces → BlocksHavePlaces → (n : NamedFile) (theory : ℕ) (s : raw.Structure)
+    (answer : KnownAtoms)
+    → IsWellTypedFile (typed_file n) → IsDataOf (typed_file n) theory s answer
+    → IsTypedBase (base_of_file (typed_file n) theory answer)
+file_over places blocks n theory s answer well data_of =
+    let v = n.vocabulary in
+    let f = typed_file n in
+    let es = said_in v s in
+    let domains = domains_of v.types es in
+    let first_args = flat_map (arguments_of_theory v.symbols) (chosen_theory f theory) in
+    let other_args = flat_map (arguments_of_block v.symbols) (zip f.terms f.places.block_terms) in
+    let fits : AllByRecursion (IsElement domains) (first_args ++ other_args) =
+    in_all (IsElement domains) (first_args ++ other_args) (λ a c. is_element domains a
+    (false_from_ne_true (is_foreign domains a) (λ h. data_of.accepted _
+    (row (argument a) k.NotAnElement
+    (Contains-append_right (structure_uses v.types f.places.types es) (argument_uses f theory) (argument a)
+    (in_map (λ (x : Argument). argument x) (first_args ++ other_args) a c))
+    not_an_element h)))) in
+    let chosen : AllByRecursion (IsElement domains) (flat_map (arguments_of_theory v.symbols)
+    (option_to_list (option_map (theory_pair v []) (slice_get n.theories theory)))) =
+    subst (λ ps. AllByRecursion (IsElement domains) (flat_map (arguments_of_theory v.symbols) ps)) (chosen_is n theory)
+    (all_left (IsElement domains) first_args other_args fits) in
+    let sentences = theory_if_over v domains places (slice_get n.theories theory)
+    (well_typed_at v n.theories theory well.theories) chosen in
+    subst (λ (known : KnownAtoms). IsTypedBase (base_of_file f theory known)) (sym data_of.given)
+    (record {
+      sentences = subst (λ (t : TheoryTree). AllByRecursion (λ g. IsTypedOver v domains g []) t.sentences)
+          (sym (theory_is n theory)) sentences;
+      definitions = ap (λ (t : TheoryTree). t.definitions) (theory_is n theory)
+          ∙ no_definitions v (slice_get n.theories theory);
+      terms = named_terms v domains f.terms (blocks_over v domains blocks n.terms well.terms
+          (all_right (IsElement domains) first_args other_args fits));
+    })
+
+pub accepted_is_typed_over : SentencesHavePlaces → BlocksHavePlaces → AcceptedIsTypedOver
+accepted_is_typed_over places blocks file n typed named_of typed_of theory s answer data_of =
+    let well = derived_is_well_typed file n typed named_of typed_of in
+    subst (λ (g : TypedFile). IsTypedBase (base_of_file g theory answer)) (sym typed_of.tree)
+    (file_over places blocks n theory s answer (subst IsWellTypedFile typed_of.tree well)
+    (subst (λ (g : TypedFile). IsDataOf g theory s answer) typed_of.tree data_of))

@@ -1,0 +1,198 @@
+-- What the stages of names and types accept is well typed.
+use Rattle.std.proofs.Common.{◌≡◌, ℕ, List, [], ◌∷◌, ◌++◌, length, map, refl, sym, subst}
+use Rattle.std.specs.List.{AllByRecursion, flat_map}
+use Rattle.std.proofs.lemmas.Bool.{false_from_ne_true}
+use Rattle.kb_text.specs.declared.fault.KbFault.{KbFault}
+use Rattle.kb_logic.specs.declared.vocabularies.Vocabulary.{Vocabulary}
+use Rattle.kb_logic.specs.Typing.{IsWellTyped}
+use Rattle.kb_logic.proofs.Members.{in_all}
+use Rattle.reading_stages.specs.Scopes.{Text}
+use Rattle.reading_stages.specs.Files.{Part, sentence, definition, TheoryBlock, TermBlock, File}
+use Rattle.reading_stages.specs.Names.{Names, meaning_of, number_types, declared_names, names_of}
+use Rattle.reading_stages.specs.Uses.{declared_uses, uses_in_declarations, cycle_uses, uses_of_declarations, in_scope}
+use Rattle.reading_stages.specs.Uses.{uses_in, uses_in_part, uses_in_theory, uses_in_block}
+use Rattle.reading_stages.specs.NamesStage.{is_unknown, is_wrong, is_unsupported, is_too_many, unknown_name}
+use Rattle.reading_stages.specs.NamesStage.{wrong_arity, unsupported, too_large, NamesRefuse, declarations_of}
+use Rattle.reading_stages.specs.NamesStage.{uses_of_file}
+use Rattle.reading_stages.specs.NamedTrees.{NamedTerm, NamedFormula}
+use Rattle.reading_stages.specs.Numbering.{named_theory, named_block, sentences_in, NamedTheoryTree, NamedTermTree}
+use Rattle.reading_stages.specs.Numbering.{NamedFile, vocabulary_name, vocabulary_of, named_file, IsNamed}
+use Rattle.reading_stages.specs.Demands.{formula_parts, term_parts, number_demand, parts_of}
+use Rattle.reading_stages.specs.TypedFiles.{typed_theory, typed_block, typed_file}
+use Rattle.reading_stages.specs.TypedTrees.{typed_sentence, typed_block_term}
+use Rattle.reading_stages.specs.TypesStage.{TypeUse, is_type_clash, is_untyped, uses_among, sentence_settled}
+use Rattle.reading_stages.specs.TypesStage.{block_settled, theory_type_uses, block_type_uses, type_uses_of_file}
+use Rattle.reading_stages.specs.TypesStage.{TypesRefuse, type_clash, no_type}
+use Rattle.typing_laws.specs.WellTyped.{IsWellTypedNumber, IsWellTypedFile, DerivedIsWellTyped}
+use Rattle.typing_laws.proofs.Alls.{all_left, all_right}
+use Rattle.typing_laws.proofs.Meanings.{IsFine, AreFine, IsMeaning, words_mean}
+use Rattle.typing_laws.proofs.Numbered.{FormulaIsNumbered, TermIsNumbered, SymbolsHaveTypes}
+use Rattle.typing_laws.proofs.Words.{symbols_have_types, formula_numbered, term_numbered}
+use Rattle.typing_laws.proofs.Ranges.{settled_parts_below, as_parts, formula_below, term_below, number_below}
+use Rattle.typing_laws.proofs.MetDemands.{IsTypeFine, AreTypesFine, parts_met, AreMet}
+use Rattle.typing_laws.proofs.Typed.{formula_typed, term_typed, number_met}
+
+-- ---- the stage of names
+
+-- a file whose numbers stand for what is declared
+pub record IsNumberedFile (n : NamedFile) : Type 0 where
+  pub symbols : SymbolsHaveTypes n.vocabulary
+  pub theories : AllByRecursion (λ t. AllByRecursion (FormulaIsNumbered n.vocabulary 0) t.sentences) n.theories
+  pub terms : AllByRecursion (λ t. TermIsNumbered n.vocabulary 0 t.term) n.terms
+
+pub names_fine : (f : File) → ((q : KbFault) → NamesRefuse f q → ⊥)
+    → AreFine (names_of (declarations_of f.vocabularies)) (uses_of_file f)
+names_fine f accepted =
+    let names = names_of (declarations_of f.vocabularies) in
+    in_all (IsFine names) (uses_of_file f) (λ u c. record {
+      known = false_from_ne_true (is_unknown names u) (λ h. accepted _ (unknown_name u c h));
+      right = false_from_ne_true (is_wrong names u) (λ h. accepted _ (wrong_arity u c h));
+      supported = false_from_ne_true (is_unsupported names u) (λ h. accepted _ (unsupported u c h));
+      few = false_from_ne_true (is_too_many u) (λ h. accepted _ (too_large u c h));
+    })
+
+module _ (v : Vocabulary) (names : Names) (means : (k : ℕ) (w : Text)
+    → IsMeaning v.types v.symbols k (meaning_of names w)) where
+  parts_numbered : (ps : List Part) → AreFine names (flat_map uses_in_part ps)
+      → AllByRecursion (FormulaIsNumbered v 0) (flat_map (sentences_in names) ps)
+  parts_numbered [] fine = tt
+  parts_numbered (sentence f ∷ ps) fine =
+      let first = uses_in (in_scope []) f in
+      let later = flat_map uses_in_part ps in (
+        formula_numbered v names means [] f (all_left (IsFine names) first later fine),
+        parts_numbered ps
+            (all_right (IsFine names) first later fine),
+      )
+  parts_numbered (definition p ∷ ps) fine = parts_numbered ps fine.1
+
+  theories_numbered : (ts : List TheoryBlock) → AreFine names (flat_map uses_in_theory ts)
+      → AllByRecursion (λ t. AllByRecursion (FormulaIsNumbered v 0) t.sentences) (map (named_theory names) ts)
+  theories_numbered [] fine = tt
+  theories_numbered (t ∷ ts) fine = (
+    parts_numbered t.parts (all_left (IsFine names) (uses_in_theory t) (flat_map uses_in_theory ts) fine),
+    theories_numbered ts (all_right (IsFine names) (uses_in_theory t) (flat_map uses_in_theory ts) fine),
+  )
+
+  blocks_numbered : (bs : List TermBlock) → AreFine names (flat_map uses_in_block bs)
+      → AllByRecursion (λ t. TermIsNumbered v 0 t.term) (map (named_block names) bs)
+  blocks_numbered [] fine = tt
+  blocks_numbered (b ∷ bs) fine = (
+    term_numbered v names means [] b.term (all_left (IsFine names) (uses_in_block b)
+        (flat_map uses_in_block bs) fine),
+    blocks_numbered bs (all_right (IsFine names) (uses_in_block b) (flat_map uses_in_block bs) fine),
+  )
+
+file_numbered : (f : File) → ((q : KbFault) → NamesRefuse f q → ⊥)
+    → IsNumberedFile (named_file (vocabulary_name f.vocabularies) (declarations_of f.vocabularies) f.theories f.terms)
+file_numbered f accepted =
+    let ds = declarations_of f.vocabularies in
+    let names = names_of ds in
+    let v = vocabulary_of (vocabulary_name f.vocabularies) ds in
+    let fine = names_fine f accepted in
+    let theories = flat_map uses_in_theory f.theories in
+    let blocks = flat_map uses_in_block f.terms in
+    let first = declared_uses number_types (declared_names 0 0 ds) in
+    let second = uses_in_declarations 0 0 ds in
+    let declared = all_left (IsFine names) (uses_of_declarations ds) (theories ++ blocks) fine in
+    let counted = all_right (IsFine names) first second (all_left (IsFine names) (first ++ second)
+    (cycle_uses ds) declared) in
+    let means : (k : ℕ) (w : Text) → IsMeaning v.types v.symbols k (meaning_of names w) =
+    λ k w. words_mean names ds k refl counted w in
+    let rest = all_right (IsFine names) (uses_of_declarations ds) (theories ++ blocks) fine in
+    record {
+      symbols = symbols_have_types v names means ds 0 0 counted;
+      theories = theories_numbered v names means f.theories (all_left (IsFine names) theories blocks rest);
+      terms = blocks_numbered v names means f.terms (all_right (IsFine names) theories blocks rest);
+    }
+
+pub named_is_numbered : (f : File) (n : NamedFile) → IsNamed f n → IsNumberedFile n
+named_is_numbered f n named = subst IsNumberedFile (sym named.tree) (file_numbered f named.accepted)
+
+-- ---- the stage of types
+
+types_fine : (n : NamedFile) → ((q : KbFault) → TypesRefuse n q → ⊥)
+    → AreTypesFine n.vocabulary.types (type_uses_of_file n)
+types_fine n accepted =
+    let types = n.vocabulary.types in
+    in_all (IsTypeFine types) (type_uses_of_file n) (λ u c. record {
+      whole = false_from_ne_true (is_type_clash types u) (λ h. accepted _ (type_clash u c h));
+      typed = false_from_ne_true (is_untyped u) (λ h. accepted _ (no_type u c h));
+    })
+
+module _ (v : Vocabulary) (sound : SymbolsHaveTypes v) where
+  sentence_typed : (g : NamedFormula) → FormulaIsNumbered v 0 g
+      → AreTypesFine v.types (uses_among [] (sentence_settled v g)) → IsWellTyped v (typed_sentence v g) []
+  sentence_typed g h fine =
+      let ps = formula_parts v.symbols g in
+      let below = settled_parts_below v.types (length v.types) (parts_of ps)
+      (as_parts (length v.types) ps (formula_below v sound 0 g h)) in
+      let met : AreMet v.types [] [] ps = parts_met v.types [] (sentence_settled v g) fine below in
+      formula_typed v [] [] g h met
+
+  block_typed : (t : NamedTerm) → TermIsNumbered v 0 t → AreTypesFine v.types (uses_among [] (block_settled v t))
+      → IsWellTypedNumber v (typed_block_term v t)
+  block_typed t h fine =
+      let ps = number_demand v.symbols t ∷ term_parts v.symbols t in
+      let below = settled_parts_below v.types (length v.types) (parts_of ps)
+      (as_parts (length v.types) ps (number_below v sound 0 t h, term_below v sound 0 t h)) in
+      let met : AreMet v.types [] [] ps = parts_met v.types [] (block_settled v t) fine below in
+      (term_typed v [] [] t h met.1, number_met v [] [] t h met.0)
+
+  abbrev uses_of_sentence : NamedFormula → List TypeUse
+  uses_of_sentence g = uses_among [] (sentence_settled v g)
+
+  sentences_typed : (gs : List NamedFormula) → AllByRecursion (FormulaIsNumbered v 0) gs
+      → AreTypesFine v.types (flat_map uses_of_sentence gs)
+      → AllByRecursion (λ g. IsWellTyped v g []) (map (typed_sentence v) gs)
+  sentences_typed [] h fine = tt
+  sentences_typed (g ∷ gs) h fine = (
+    sentence_typed g h.0 (all_left (IsTypeFine v.types) (uses_of_sentence g) (flat_map uses_of_sentence gs) fine),
+    sentences_typed gs h.1 (all_right (IsTypeFine v.types) (uses_of_sentence g) (flat_map uses_of_sentence gs) fine),
+  )
+
+  abbrev uses_of_theory : NamedTheoryTree → List TypeUse
+  uses_of_theory t = flat_map uses_of_sentence t.sentences
+
+  theories_typed : (ts : List NamedTheoryTree) → AllByRecursion
+      (λ t. AllByRecursion (FormulaIsNumbered v 0) t.sentences) ts → AreTypesFine v.types (flat_map uses_of_theory ts)
+      → AllByRecursion (λ t. AllByRecursion (λ g. IsWellTyped v g []) t.theory.sentences) (map (typed_theory v) ts)
+  theories_typed [] h fine = tt
+  theories_typed (t ∷ ts) h fine = (
+    sentences_typed t.sentences h.0 (all_left (IsTypeFine v.types) (uses_of_theory t)
+        (flat_map uses_of_theory ts) fine),
+    theories_typed ts h.1 (all_right (IsTypeFine v.types) (uses_of_theory t) (flat_map uses_of_theory ts) fine),
+  )
+
+  abbrev uses_of_block : NamedTermTree → List TypeUse
+  uses_of_block b = uses_among [] (block_settled v b.term)
+
+  blocks_typed : (bs : List NamedTermTree) → AllByRecursion (λ b. TermIsNumbered v 0 b.term) bs
+      → AreTypesFine v.types (flat_map uses_of_block bs)
+      → AllByRecursion (λ b. IsWellTypedNumber v b.term) (map (typed_block v) bs)
+  blocks_typed [] h fine = tt
+  blocks_typed (b ∷ bs) h fine = (
+    block_typed b.term h.0 (all_left (IsTypeFine v.types) (uses_of_block b) (flat_map uses_of_block bs) fine),
+    blocks_typed bs h.1 (all_right (IsTypeFine v.types) (uses_of_block b) (flat_map uses_of_block bs) fine),
+  )
+
+no_definitions : (v : Vocabulary) (ts : List NamedTheoryTree)
+    → AllByRecursion (λ t. t.theory.definitions ≡ []) (map (typed_theory v) ts)
+no_definitions v [] = tt
+no_definitions v (t ∷ ts) = (refl, no_definitions v ts)
+
+file_typed : (n : NamedFile) → IsNumberedFile n → ((q : KbFault) → TypesRefuse n q → ⊥) → IsWellTypedFile (typed_file n)
+file_typed n sound accepted =
+    let v = n.vocabulary in
+    let fine = types_fine n accepted in
+    let theories = flat_map (theory_type_uses n) n.theories in
+    let blocks = flat_map (block_type_uses n) n.terms in
+    record {
+      theories = theories_typed v sound.symbols n.theories sound.theories
+          (all_left (IsTypeFine v.types) theories blocks fine);
+      definitions = no_definitions v n.theories;
+      terms = blocks_typed v sound.symbols n.terms sound.terms (all_right (IsTypeFine v.types) theories blocks fine);
+    }
+
+pub derived_is_well_typed : DerivedIsWellTyped
+derived_is_well_typed f n typed named_of typed_of =
+    subst IsWellTypedFile (sym typed_of.tree) (file_typed n (named_is_numbered f n named_of) typed_of.accepted)

@@ -1,0 +1,13 @@
+pub mod Alls
+pub mod Meanings
+mod Numbered
+mod Words
+mod Ranges
+mod Kin
+mod MetDemands
+mod Typed
+pub mod Derived
+mod Integers
+mod Accepted
+mod Names
+pub mod WellFormed

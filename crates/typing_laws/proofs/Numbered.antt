@@ -1,0 +1,80 @@
+-- Trees whose numbers stand for variables in scope and for things of a vocabulary, used as they are declared.
+use Rattle.std.proofs.Common.{◌≡◌, ◌<◌, ℕ, suc, ◌+◌, true, false, is_some, List, length, None, Some, slice_get}
+use Rattle.std.specs.Prelude.{⊤, IfSome}
+use Rattle.std.specs.List.{AllByRecursion}
+use Rattle.kb_logic.specs.declared.vocabularies.TypeDecl.{TypeDecl}
+use Rattle.kb_logic.specs.declared.vocabularies.Symbol.{Symbol}
+use Rattle.kb_logic.specs.declared.vocabularies.Vocabulary.{Vocabulary}
+use Rattle.reading_stages.specs.NamedTrees.{NamedVar, NamedTerm, at, NamedNode, variable, integer, constructed}
+use Rattle.reading_stages.specs.NamedTrees.{application, summation, product, aggregate, NamedTerms, no_terms}
+use Rattle.reading_stages.specs.NamedTrees.{more_terms, NamedSummands, no_summands, more_summands, NamedFormula, truth}
+use Rattle.reading_stages.specs.NamedTrees.{atom, comparison, negation, conjunction, disjunction, implication}
+use Rattle.reading_stages.specs.NamedTrees.{equivalence, universal, existential, numbered, NamedFormulas, no_formulas}
+use Rattle.reading_stages.specs.NamedTrees.{more_formulas}
+
+abbrev pub number_of_terms : NamedTerms → ℕ
+number_of_terms no_terms = 0
+number_of_terms (more_terms t ts) = suc (number_of_terms ts)
+
+-- a lone operand has a minus: without one it is no sum
+abbrev pub IsSum : NamedSummands → Type 0
+IsSum no_summands = ⊤
+IsSum (more_summands true t ss) = ⊤
+IsSum (more_summands false t no_summands) = ⊥
+IsSum (more_summands false t (more_summands m u ss)) = ⊤
+
+-- each type that is written is one of the vocabulary
+abbrev pub AreWritten : Vocabulary → List NamedVar → Type 0
+AreWritten v xs = AllByRecursion (λ x. IfSome x.ty (λ t. t < length v.types)) xs
+
+abbrev mutual
+  -- where so many variables are in scope
+  pub FormulaIsNumbered : Vocabulary → ℕ → NamedFormula → Type 0
+  FormulaIsNumbered v k (truth b) = ⊤
+  FormulaIsNumbered v k (atom s us) =
+      (d : Symbol) × (slice_get v.symbols s ≡ Some d) × (d.value ≡ None) × (number_of_terms us ≡ length d.args)
+      × TermsAreNumbered v k us
+  FormulaIsNumbered v k (comparison c x y) = TermIsNumbered v k x × TermIsNumbered v k y
+  FormulaIsNumbered v k (negation f) = FormulaIsNumbered v k f
+  FormulaIsNumbered v k (conjunction fs) = FormulasAreNumbered v k fs
+  FormulaIsNumbered v k (disjunction fs) = FormulasAreNumbered v k fs
+  FormulaIsNumbered v k (implication f g) = FormulaIsNumbered v k f × FormulaIsNumbered v k g
+  FormulaIsNumbered v k (equivalence f g) = FormulaIsNumbered v k f × FormulaIsNumbered v k g
+  FormulaIsNumbered v k (universal xs f) = AreWritten v xs × FormulaIsNumbered v (k + length xs) f
+  FormulaIsNumbered v k (existential xs f) = AreWritten v xs × FormulaIsNumbered v (k + length xs) f
+  FormulaIsNumbered v k (numbered c n xs f) = AreWritten v xs × FormulaIsNumbered v (k + length xs) f
+
+  pub FormulasAreNumbered : Vocabulary → ℕ → NamedFormulas → Type 0
+  FormulasAreNumbered v k no_formulas = ⊤
+  FormulasAreNumbered v k (more_formulas f fs) = FormulaIsNumbered v k f × FormulasAreNumbered v k fs
+
+  pub TermIsNumbered : Vocabulary → ℕ → NamedTerm → Type 0
+  TermIsNumbered v k (at p x) = NodeIsNumbered v k x
+
+  pub NodeIsNumbered : Vocabulary → ℕ → NamedNode → Type 0
+  NodeIsNumbered v k (variable n) = n < k
+  NodeIsNumbered v k (integer i) = ⊤
+  NodeIsNumbered v k (constructed t i) = (d : TypeDecl) × (slice_get v.types t ≡ Some d) × (i < length d.made)
+  NodeIsNumbered v k (application s us) =
+      (d : Symbol) × (slice_get v.symbols s ≡ Some d) × (is_some d.value ≡ true) × (number_of_terms us ≡ length d.args)
+      × TermsAreNumbered v k us
+  NodeIsNumbered v k (summation ss) = IsSum ss × SummandsAreNumbered v k ss
+  NodeIsNumbered v k (product us) = TermsAreNumbered v k us
+  NodeIsNumbered v k (aggregate how xs f w) =
+      AreWritten v xs × FormulaIsNumbered v (k + length xs) f × TermIsNumbered v (k + length xs) w
+
+  pub TermsAreNumbered : Vocabulary → ℕ → NamedTerms → Type 0
+  TermsAreNumbered v k no_terms = ⊤
+  TermsAreNumbered v k (more_terms u us) = TermIsNumbered v k u × TermsAreNumbered v k us
+
+  pub SummandsAreNumbered : Vocabulary → ℕ → NamedSummands → Type 0
+  SummandsAreNumbered v k no_summands = ⊤
+  SummandsAreNumbered v k (more_summands m u ss) = TermIsNumbered v k u × SummandsAreNumbered v k ss
+
+-- each position of a symbol has a type of the vocabulary
+pub record AreTypes (types : List TypeDecl) (d : Symbol) : Type 0 where
+  pub args : AllByRecursion (λ t. t < length types) d.args
+  pub value : IfSome d.value (λ t. t < length types)
+
+abbrev pub SymbolsHaveTypes : Vocabulary → Type 0
+SymbolsHaveTypes v = AllByRecursion (AreTypes v.types) v.symbols

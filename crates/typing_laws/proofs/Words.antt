@@ -1,0 +1,366 @@
+-- Where no row of the stage of names refuses a word, its number stands for what is declared.
+use Rattle.std.proofs.Common.{◌≡◌, ◌<◌, ◌==◌, ℕ, ◌+◌, false, not, List, [], ◌∷◌, ◌++◌, length, map, Option, None, Some}
+use Rattle.std.proofs.Common.{option_map, refl, sym, ap, subst, ◌∙◌, arith, length-append, slice_get}
+use Rattle.std.specs.Prelude.{IfSome}
+use Rattle.std.specs.List.{AllByRecursion}
+use Rattle.std.proofs.lemmas.Bool.{true≢false, eqb-true, not-false}
+use Rattle.std.proofs.lemmas.List.{length-map}
+use Rattle.kb_logic.specs.declared.vocabularies.Symbol.{Symbol}
+use Rattle.kb_logic.specs.declared.vocabularies.Vocabulary.{Vocabulary}
+use Rattle.fo_syntax.specs.declared.terminal.Arrow.{Arrow}
+use Rattle.fo_syntax.specs.declared.terminal.Arrow.TheVariants as arrow
+use Rattle.fo_syntax.specs.declared.terminal.Adding.{Adding}
+use Rattle.fo_syntax.specs.Trees as raw
+use Rattle.fo_syntax.specs.Trees.{Name, Var, Vars, Formula, Links, Or, And, Unary, Prim, Term, Product, Factor, App}
+use Rattle.fo_syntax.specs.Trees.{Terms, Number}
+use Rattle.reading_stages.specs.Scopes.{Text}
+use Rattle.reading_stages.specs.Files.{Declaration, type_under, constructed_type, symbol}
+use Rattle.reading_stages.specs.Names.{Meaning, undeclared, integers, naturals, a_type, predicate, function, made}
+use Rattle.reading_stages.specs.Names.{variable, Names, meaning_of, meaning_at, text_of}
+use Rattle.reading_stages.specs.Uses.{counted, position, parent_uses, position_uses, uses_in_declarations, vars_in}
+use Rattle.reading_stages.specs.Uses.{var_type, var_text, uses_of_vars, within, in_scope, app_name, app_count}
+use Rattle.reading_stages.specs.Uses.{terms_count, number_uses, uses_in, uses_in_links, uses_in_or, uses_in_and}
+use Rattle.reading_stages.specs.Uses.{uses_in_unary, uses_in_prim, uses_in_term, uses_in_product, uses_in_factor}
+use Rattle.reading_stages.specs.Uses.{uses_in_arguments, uses_in_terms}
+use Rattle.reading_stages.specs.NamesStage.{is_undeclared, is_type, is_no_formula, is_no_term}
+use Rattle.reading_stages.specs.NamedTrees.{NamedVar, NamedTerm, at, NamedTerms, more_summands, NamedFormula, begun_at}
+use Rattle.reading_stages.specs.Numbering.{type_number_of, predicate_number, symbols_in, named_var, named_vars}
+use Rattle.reading_stages.specs.Numbering.{counted_by, implies, implied_by, equivalent, grouped, node_of, named_formula}
+use Rattle.reading_stages.specs.Numbering.{named_links, named_or, disjuncts, named_and, conjuncts, named_unary}
+use Rattle.reading_stages.specs.Numbering.{named_prim, named_term, summands, named_product, factors, named_factor}
+use Rattle.reading_stages.specs.Numbering.{named_arguments, named_terms}
+use Rattle.typing_laws.proofs.Alls.{all_left, all_right}
+use Rattle.typing_laws.proofs.Meanings.{IsFine, AreFine, IsMeaning, word_means, kept, position_is}
+use Rattle.typing_laws.proofs.Numbered.{number_of_terms, IsSum, AreWritten, FormulaIsNumbered, FormulasAreNumbered}
+use Rattle.typing_laws.proofs.Numbered.{TermIsNumbered, NodeIsNumbered, TermsAreNumbered, SummandsAreNumbered, AreTypes}
+
+-- ---- the types of positions
+
+module _ (v : Vocabulary) (names : Names) (means : (k : ℕ) (w : Text)
+    → IsMeaning v.types v.symbols k (meaning_of names w)) where
+  type_at : (w : Name) → IsFine names (position w) → type_number_of names w < length v.types
+  type_at w fine = position_is v.types v.symbols 0 (meaning_of names (text_of w))
+      (means 0 (text_of w)) fine.known fine.right fine.supported
+
+  types_at : (ws : List Name) → AreFine names (map position ws)
+      → AllByRecursion (λ t. t < length v.types) (map (type_number_of names) ws)
+  types_at [] fine = tt
+  types_at (w ∷ ws) fine = (type_at w fine.0, types_at ws fine.1)
+
+  type_if : (o : Option Name) → AreFine names (position_uses o)
+      → IfSome (option_map (type_number_of names) o) (λ t. t < length v.types)
+  type_if None fine = tt
+  type_if (Some w) fine = type_at w fine.0
+
+  pub symbols_have_types : (ds : List Declaration) (t s : ℕ) → AreFine names (uses_in_declarations t s ds)
+      → AllByRecursion (AreTypes v.types) (symbols_in names ds)
+  symbols_have_types [] t s fine = tt
+  symbols_have_types (type_under n p ∷ ds) t s fine =
+      symbols_have_types ds (t + 1) s (all_right (IsFine names) (counted 256 (t + 1) n ∷ parent_uses p)
+      (uses_in_declarations (t + 1) s ds) fine)
+  symbols_have_types (constructed_type n ns ∷ ds) t s fine = symbols_have_types ds (t + 1) s fine.1.1
+  symbols_have_types (symbol n args to ∷ ds) t s fine =
+      let later = uses_in_declarations t (s + 1) ds in
+      let positions = all_left (IsFine names) (map position args ++ position_uses to) later fine.1.1 in (
+        record {
+          args = types_at args (all_left (IsFine names) (map position args) (position_uses to) positions);
+          value = type_if to (all_right (IsFine names) (map position args) (position_uses to) positions);
+        },
+        symbols_have_types ds t (s + 1)
+            (all_right (IsFine names) (map position args ++ position_uses to) later fine.1.1),
+      )
+
+  -- ---- words
+
+  same_count : (a b : ℕ) → not (a == b) ≡ false → a ≡ b
+  same_count a b h = eqb-true a b (not-false (a == b) h)
+
+  atom_numbered : (k : ℕ) (m : Meaning) (n : ℕ) (us : NamedTerms) → IsMeaning v.types v.symbols k m → is_undeclared m
+      ≡ false → is_no_formula m n ≡ false → is_type m ≡ false
+      → number_of_terms us ≡ n → TermsAreNumbered v k us
+      → (d : Symbol) × (slice_get v.symbols (predicate_number m) ≡ Some d) × (d.value ≡ None)
+      × (number_of_terms us ≡ length d.args) × TermsAreNumbered v k us
+  atom_numbered k undeclared n us h known right supported count rest = absurd (true≢false known)
+  atom_numbered k integers n us h known right supported count rest = absurd (true≢false supported)
+  atom_numbered k naturals n us h known right supported count rest = absurd (true≢false supported)
+  atom_numbered k (a_type t) n us h known right supported count rest = absurd (true≢false supported)
+  atom_numbered k (predicate s j) n us h known right supported count rest =
+      (h.0, ap (slice_get v.symbols) (kept s 1024 h.4) ∙ h.1, h.2, count ∙ sym (same_count j n right) ∙ sym h.3, rest)
+  atom_numbered k (function s j) n us h known right supported count rest = absurd (true≢false right)
+  atom_numbered k (made t i) n us h known right supported count rest = absurd (true≢false right)
+  atom_numbered k (variable level) n us h known right supported count rest = absurd (true≢false right)
+
+  node_numbered : (k : ℕ) (m : Meaning) (n : ℕ) (us : NamedTerms) → IsMeaning v.types v.symbols k m → is_undeclared m
+      ≡ false → is_no_term m n ≡ false → is_type m ≡ false
+      → number_of_terms us ≡ n → TermsAreNumbered v k us → NodeIsNumbered v k (node_of m us)
+  node_numbered k undeclared n us h known right supported count rest = absurd (true≢false known)
+  node_numbered k integers n us h known right supported count rest = absurd (true≢false supported)
+  node_numbered k naturals n us h known right supported count rest = absurd (true≢false supported)
+  node_numbered k (a_type t) n us h known right supported count rest = absurd (true≢false supported)
+  node_numbered k (predicate s j) n us h known right supported count rest = absurd (true≢false right)
+  node_numbered k (function s j) n us h known right supported count rest =
+      (h.0, ap (slice_get v.symbols) (kept s 1024 h.4) ∙ h.1, h.2, count ∙ sym (same_count j n right) ∙ sym h.3, rest)
+  node_numbered k (made t i) n us h known right supported count rest = (
+    h.0,
+    ap (slice_get v.types) (kept t 256 h.3) ∙ h.1,
+    subst (λ (j : ℕ). j < length h.0.made)
+        (sym (kept i 65536 h.4)) h.2,
+  )
+  node_numbered k (variable level) n us h known right supported count rest = h
+
+  -- ---- variables
+
+  vars_written : (before : List Text) (xs : List Var) → AreFine names (uses_of_vars before xs)
+      → AreWritten v (map (named_var names) xs)
+  vars_written before [] fine = tt
+  vars_written before (x ∷ xs) fine =
+      let later = uses_of_vars (before ++ var_text x ∷ []) xs in (
+        type_if (var_type x) (all_left (IsFine names) (position_uses (var_type x)) later fine.1),
+        vars_written (before ++ var_text x ∷ []) xs
+            (all_right (IsFine names) (position_uses (var_type x)) later fine.1),
+      )
+
+  scope_length : (scope : List Text) (vs : Vars) → length (within scope vs)
+      ≡ length scope + length (named_vars names vs)
+  scope_length scope vs =
+      length-append scope (map var_text (vars_in vs))
+      ∙ ap (λ k. length scope + k) (length-map (vars_in vs) var_text ∙ sym (length-map (vars_in vs) (named_var names)))
+
+  formula_within : (scope : List Text) (vs : Vars) (f : Formula)
+      → FormulaIsNumbered v (length (within scope vs)) (named_formula names (within scope vs) f)
+      → FormulaIsNumbered v (length scope + length (named_vars names vs)) (named_formula names (within scope vs) f)
+  formula_within scope vs f h = subst (λ (k : ℕ). FormulaIsNumbered v k (named_formula names (within scope vs) f))
+      (scope_length scope vs) h
+
+  term_within : (scope : List Text) (vs : Vars) (t : Term) → TermIsNumbered v (length (within scope vs))
+      (named_term names (within scope vs) t)
+      → TermIsNumbered v (length scope + length (named_vars names vs)) (named_term names (within scope vs) t)
+  term_within scope vs t h = subst (λ (k : ℕ). TermIsNumbered v k (named_term names (within scope vs) t))
+      (scope_length scope vs) h
+
+  -- ---- chains of connectives
+
+  abbrev AreAll : ℕ → List NamedFormula → Type 0
+  AreAll k fs = AllByRecursion (FormulaIsNumbered v k) fs
+
+  implies_numbered : (k : ℕ) (f : NamedFormula) (gs : List NamedFormula) → FormulaIsNumbered v k f → AreAll k gs
+      → FormulaIsNumbered v k (implies f gs)
+  implies_numbered k f [] h hs = h
+  implies_numbered k f (g ∷ gs) h hs = (h, implies_numbered k g gs hs.0 hs.1)
+
+  implied_by_numbered : (k : ℕ) (f : NamedFormula) (gs : List NamedFormula) → FormulaIsNumbered v k f → AreAll k gs
+      → FormulaIsNumbered v k (implied_by f gs)
+  implied_by_numbered k f [] h hs = h
+  implied_by_numbered k f (g ∷ gs) h hs = implied_by_numbered k _ gs (hs.0, h) hs.1
+
+  equivalent_numbered : (k : ℕ) (f : NamedFormula) (gs : List NamedFormula) → FormulaIsNumbered v k f → AreAll k gs
+      → FormulaIsNumbered v k (equivalent f gs)
+  equivalent_numbered k f [] h hs = h
+  equivalent_numbered k f (g ∷ gs) h hs = equivalent_numbered k _ gs (h, hs.0) hs.1
+
+  grouped_numbered : (k : ℕ) (a : Arrow) (f : NamedFormula) (gs : List NamedFormula) → FormulaIsNumbered v k f
+      → AreAll k gs → FormulaIsNumbered v k (grouped a f gs)
+  grouped_numbered k arrow.Implies f gs h hs = implies_numbered k f gs h hs
+  grouped_numbered k arrow.ImpliedBy f gs h hs = implied_by_numbered k f gs h hs
+  grouped_numbered k arrow.Equivalent f gs h hs = equivalent_numbered k f gs h hs
+
+  counted_numbered : (k : ℕ) (n : Number) (xs : List NamedVar) (f : NamedFormula) → AreWritten v xs
+      → FormulaIsNumbered v (k + length xs) f → FormulaIsNumbered v k (counted_by n xs f)
+  counted_numbered k raw.any xs f w h = (w, h)
+  counted_numbered k (raw.exactly n p) xs f w h = (w, h)
+  counted_numbered k (raw.compared c p n q) xs f w h = (w, h)
+
+  -- ---- terms
+
+  begun_numbered : (k p : ℕ) (t : NamedTerm) → TermIsNumbered v k t → TermIsNumbered v k (begun_at p t)
+  begun_numbered k p (at q x) h = h
+
+  is_sum : (scope : List Text) (x : NamedTerm) (a : Adding) (t : Term)
+      → IsSum (more_summands false x (summands names scope a t))
+  is_sum scope x a (raw.product p) = tt
+  is_sum scope x a (raw.sum p b q t) = tt
+
+  as_many_terms : (scope : List Text) (ts : Terms) → number_of_terms (named_terms names scope ts) ≡ terms_count ts
+  as_many_terms scope (raw.final t) = refl
+  as_many_terms scope (raw.then t p ts) =
+      let same : number_of_terms (named_terms names scope ts) ≡ terms_count ts = as_many_terms scope ts in
+      omega (arith, same)
+
+  as_many : (scope : List Text) (a : App) → number_of_terms (named_arguments names scope a) ≡ app_count a
+  as_many scope (raw.constant n) = refl
+  as_many scope (raw.empty n p q) = refl
+  as_many scope (raw.apply n p ts q) = as_many_terms scope ts
+
+  means_at : (scope : List Text) (a : App) → IsMeaning v.types v.symbols (length scope)
+      (meaning_at names scope (app_name a) (app_count a))
+  means_at scope a = word_means v.types v.symbols names scope (app_name a) (app_count a)
+      (means (length scope) (text_of (app_name a)))
+
+  mutual
+    pub formula_numbered : (scope : List Text) (f : Formula) → AreFine names (uses_in (in_scope scope) f)
+        → FormulaIsNumbered v (length scope) (named_formula names scope f)
+    formula_numbered scope (raw.alone o) fine = or_numbered scope o fine
+    formula_numbered scope (raw.linked a o p ls) fine =
+        let c = in_scope scope in
+        grouped_numbered (length scope) a _ _
+        (or_numbered scope o (all_left (IsFine names) (uses_in_or c o) (uses_in_links c ls) fine))
+        (links_numbered scope ls (all_right (IsFine names) (uses_in_or c o) (uses_in_links c ls) fine))
+
+    links_numbered : (scope : List Text) (ls : Links) → AreFine names (uses_in_links (in_scope scope) ls)
+        → AreAll (length scope) (named_links names scope ls)
+    links_numbered scope (raw.last o) fine = (or_numbered scope o fine, tt)
+    links_numbered scope (raw.link o p ls) fine =
+        let c = in_scope scope in (
+          or_numbered scope o (all_left (IsFine names) (uses_in_or c o) (uses_in_links c ls) fine),
+          links_numbered scope ls (all_right (IsFine names) (uses_in_or c o) (uses_in_links c ls) fine),
+        )
+
+    or_numbered : (scope : List Text) (o : Or) → AreFine names (uses_in_or (in_scope scope) o)
+        → FormulaIsNumbered v (length scope) (named_or names scope o)
+    or_numbered scope (raw.one a) fine = and_numbered scope a fine
+    or_numbered scope (raw.or a p o) fine =
+        let c = in_scope scope in (
+          and_numbered scope a (all_left (IsFine names) (uses_in_and c a) (uses_in_or c o) fine),
+          disjuncts_numbered scope o (all_right (IsFine names) (uses_in_and c a) (uses_in_or c o) fine),
+        )
+
+    disjuncts_numbered : (scope : List Text) (o : Or) → AreFine names (uses_in_or (in_scope scope) o)
+        → FormulasAreNumbered v (length scope) (disjuncts names scope o)
+    disjuncts_numbered scope (raw.one a) fine = (and_numbered scope a fine, tt)
+    disjuncts_numbered scope (raw.or a p o) fine =
+        let c = in_scope scope in (
+          and_numbered scope a (all_left (IsFine names) (uses_in_and c a) (uses_in_or c o) fine),
+          disjuncts_numbered scope o (all_right (IsFine names) (uses_in_and c a) (uses_in_or c o) fine),
+        )
+
+    and_numbered : (scope : List Text) (a : And) → AreFine names (uses_in_and (in_scope scope) a)
+        → FormulaIsNumbered v (length scope) (named_and names scope a)
+    and_numbered scope (raw.single u) fine = unary_numbered scope u fine
+    and_numbered scope (raw.and u p a) fine =
+        let c = in_scope scope in (
+          unary_numbered scope u (all_left (IsFine names) (uses_in_unary c u) (uses_in_and c a) fine),
+          conjuncts_numbered scope a (all_right (IsFine names) (uses_in_unary c u) (uses_in_and c a) fine),
+        )
+
+    conjuncts_numbered : (scope : List Text) (a : And) → AreFine names (uses_in_and (in_scope scope) a)
+        → FormulasAreNumbered v (length scope) (conjuncts names scope a)
+    conjuncts_numbered scope (raw.single u) fine = (unary_numbered scope u fine, tt)
+    conjuncts_numbered scope (raw.and u p a) fine =
+        let c = in_scope scope in (
+          unary_numbered scope u (all_left (IsFine names) (uses_in_unary c u) (uses_in_and c a) fine),
+          conjuncts_numbered scope a (all_right (IsFine names) (uses_in_unary c u) (uses_in_and c a) fine),
+        )
+
+    unary_numbered : (scope : List Text) (u : Unary) → AreFine names (uses_in_unary (in_scope scope) u)
+        → FormulaIsNumbered v (length scope) (named_unary names scope u)
+    unary_numbered scope (raw.not p u) fine = unary_numbered scope u fine
+    unary_numbered scope (raw.every p vs q f) fine =
+        let inner = uses_in (in_scope (within scope vs)) f in (
+          vars_written [] (vars_in vs) (all_left (IsFine names) (uses_of_vars [] (vars_in vs)) inner fine),
+          formula_within scope vs f (formula_numbered (within scope vs) f
+              (all_right (IsFine names) (uses_of_vars [] (vars_in vs)) inner fine)),
+        )
+    unary_numbered scope (raw.some p n vs q f) fine =
+        let inner = uses_in (in_scope (within scope vs)) f in
+        let rest = all_right (IsFine names) (number_uses p n) (uses_of_vars [] (vars_in vs) ++ inner) fine in
+        counted_numbered (length scope) n (named_vars names vs) (named_formula names (within scope vs) f)
+        (vars_written [] (vars_in vs) (all_left (IsFine names) (uses_of_vars [] (vars_in vs)) inner rest))
+        (formula_within scope vs f (formula_numbered (within scope vs) f
+        (all_right (IsFine names) (uses_of_vars [] (vars_in vs)) inner rest)))
+    unary_numbered scope (raw.prim x) fine = prim_numbered scope x fine
+
+    prim_numbered : (scope : List Text) (x : Prim) → AreFine names (uses_in_prim (in_scope scope) x)
+        → FormulaIsNumbered v (length scope) (named_prim names scope x)
+    prim_numbered scope (raw.group p f q) fine = formula_numbered scope f fine
+    prim_numbered scope (raw.truth b p) fine = tt
+    prim_numbered scope (raw.atom a) fine =
+        atom_numbered (length scope) (meaning_at names scope (app_name a) (app_count a)) (app_count a)
+        (named_arguments names scope a) (means_at scope a)
+        fine.0.known fine.0.right fine.0.supported (as_many scope a) (arguments_numbered scope a fine.1)
+    prim_numbered scope (raw.compare x k p y) fine =
+        let c = in_scope scope in (
+          term_numbered scope x (all_left (IsFine names) (uses_in_term c x) (uses_in_term c y) fine),
+          term_numbered scope y (all_right (IsFine names) (uses_in_term c x) (uses_in_term c y) fine),
+        )
+
+    pub term_numbered : (scope : List Text) (t : Term) → AreFine names (uses_in_term (in_scope scope) t)
+        → TermIsNumbered v (length scope) (named_term names scope t)
+    term_numbered scope (raw.product p) fine = product_numbered scope p fine
+    term_numbered scope (raw.sum p a q t) fine =
+        let c = in_scope scope in (
+          is_sum scope (named_product names scope p) a t,
+          (
+            product_numbered scope p (all_left (IsFine names) (uses_in_product c p) (uses_in_term c t) fine),
+            summands_numbered scope a t (all_right (IsFine names) (uses_in_product c p) (uses_in_term c t) fine),
+          ),
+        )
+
+    summands_numbered : (scope : List Text) (a : Adding) (t : Term) → AreFine names (uses_in_term (in_scope scope) t)
+        → SummandsAreNumbered v (length scope) (summands names scope a t)
+    summands_numbered scope a (raw.product p) fine = (product_numbered scope p fine, tt)
+    summands_numbered scope a (raw.sum p b q t) fine =
+        let c = in_scope scope in (
+          product_numbered scope p (all_left (IsFine names) (uses_in_product c p) (uses_in_term c t) fine),
+          summands_numbered scope b t (all_right (IsFine names) (uses_in_product c p) (uses_in_term c t) fine),
+        )
+
+    product_numbered : (scope : List Text) (p : Product) → AreFine names (uses_in_product (in_scope scope) p)
+        → TermIsNumbered v (length scope) (named_product names scope p)
+    product_numbered scope (raw.factor f) fine = factor_numbered scope f fine
+    product_numbered scope (raw.times f p q) fine =
+        let c = in_scope scope in (
+          factor_numbered scope f (all_left (IsFine names) (uses_in_factor c f) (uses_in_product c q) fine),
+          factors_numbered scope q (all_right (IsFine names) (uses_in_factor c f) (uses_in_product c q) fine),
+        )
+
+    factors_numbered : (scope : List Text) (q : Product) → AreFine names (uses_in_product (in_scope scope) q)
+        → TermsAreNumbered v (length scope) (factors names scope q)
+    factors_numbered scope (raw.factor f) fine = (factor_numbered scope f fine, tt)
+    factors_numbered scope (raw.times f p q) fine =
+        let c = in_scope scope in (
+          factor_numbered scope f (all_left (IsFine names) (uses_in_factor c f) (uses_in_product c q) fine),
+          factors_numbered scope q (all_right (IsFine names) (uses_in_factor c f) (uses_in_product c q) fine),
+        )
+
+    factor_numbered : (scope : List Text) (f : Factor) → AreFine names (uses_in_factor (in_scope scope) f)
+        → TermIsNumbered v (length scope) (named_factor names scope f)
+    factor_numbered scope (raw.integer n p) fine = tt
+    factor_numbered scope (raw.value a) fine =
+        node_numbered (length scope) (meaning_at names scope (app_name a) (app_count a)) (app_count a)
+        (named_arguments names scope a) (means_at scope a)
+        fine.0.known fine.0.right fine.0.supported (as_many scope a) (arguments_numbered scope a fine.1)
+    factor_numbered scope (raw.brackets p t q) fine = begun_numbered (length scope) p (named_term names scope t)
+        (term_numbered scope t fine)
+    factor_numbered scope (raw.negative p f) fine = (tt, (factor_numbered scope f fine, tt))
+    factor_numbered scope (raw.count p b vs q f r) fine =
+        let inner = uses_in (in_scope (within scope vs)) f in (
+          vars_written [] (vars_in vs) (all_left (IsFine names) (uses_of_vars [] (vars_in vs)) inner fine.1),
+          formula_within scope vs f (formula_numbered (within scope vs) f
+              (all_right (IsFine names) (uses_of_vars [] (vars_in vs)) inner fine.1)),
+          tt,
+        )
+    factor_numbered scope (raw.aggregate how p b vs q f r t e) fine =
+        let c = in_scope (within scope vs) in
+        let vars = uses_of_vars [] (vars_in vs) in
+        let inner = all_right (IsFine names) vars (uses_in c f ++ uses_in_term c t) fine.1 in (
+          vars_written [] (vars_in vs) (all_left (IsFine names) vars (uses_in c f ++ uses_in_term c t) fine.1),
+          formula_within scope vs f (formula_numbered (within scope vs) f
+              (all_left (IsFine names) (uses_in c f) (uses_in_term c t) inner)),
+          term_within scope vs t (term_numbered (within scope vs) t
+              (all_right (IsFine names) (uses_in c f) (uses_in_term c t) inner)),
+        )
+
+    arguments_numbered : (scope : List Text) (a : App) → AreFine names (uses_in_arguments (in_scope scope) a)
+        → TermsAreNumbered v (length scope) (named_arguments names scope a)
+    arguments_numbered scope (raw.constant n) fine = tt
+    arguments_numbered scope (raw.empty n p q) fine = tt
+    arguments_numbered scope (raw.apply n p ts q) fine = terms_numbered scope ts fine
+
+    terms_numbered : (scope : List Text) (ts : Terms) → AreFine names (uses_in_terms (in_scope scope) ts)
+        → TermsAreNumbered v (length scope) (named_terms names scope ts)
+    terms_numbered scope (raw.final t) fine = (term_numbered scope t fine, tt)
+    terms_numbered scope (raw.then t p ts) fine =
+        let c = in_scope scope in (
+          term_numbered scope t (all_left (IsFine names) (uses_in_term c t) (uses_in_terms c ts) fine),
+          terms_numbered scope ts (all_right (IsFine names) (uses_in_term c t) (uses_in_terms c ts) fine),
+        )

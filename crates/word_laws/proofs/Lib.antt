@@ -1,0 +1,4 @@
+mod TokenWords
+mod BlockWords
+mod DomainWords
+pub mod Accepted
