@@ -12,7 +12,6 @@ use Rattle.ground_core.specs.Meaning.{IsInRange, term_value}
 use Rattle.ground_core.specs.GateClauses.{clauses_of}
 use Rattle.search_engine.specs.declared.engine.Engine.{Engine}
 use Rattle.clause_learning.specs.declared.keeper.Keeper.{Keeper}
-use Rattle.clause_learning.specs.declared.solver.Solver.TheInside.{Inside}
 use Rattle.ground_core.specs.Solving.{IsKept}
 use Rattle.search_engine.specs.Knowledge.{IsHeldAs, IsOneOf, IsOfConstraint, Occurs, Knows}
 use Rattle.search_engine.specs.Resting.{held_of}
@@ -66,13 +65,13 @@ kept-laws a h = record {
   counted = h.counted;
 }
 
-pub solver-laws : (a : Inside) → IsKeeper a.keeper → IsSolver (state_of a)
+pub solver-laws : (a : Keeper) → IsKeeper a → IsSolver (state_of a)
 solver-laws a h =
-    let e : Engine = a.keeper.engine in
+    let e : Engine = a.engine in
     let cl : List (Option (List Lit)) = e.store.clauses in
     let knows : Knows e.problem e.learnt e.ids.items cl = h.resting.engine.knows in
     record {
-      kept = kept-laws a.keeper h;
+      kept = kept-laws a h;
       plain = (h.resting.engine.sums, h.resting.engine.bounds, h.terms);
       implied = λ v sat. all-held (IsSatisfied v) cl (knows.implied v sat);
       said_held = λ c has live. let w = All-contains (λ d. (id : ℕ) × IsHeldAs cl id d × (Contains e.ids.items id → ⊥)) (clauses_of e.problem) c knows.problem has in (w.1.0, contains-held cl w.0 w.1.0 w.1.1, w.1.2);

@@ -1,16 +1,14 @@
--- The solver that the fields make.
-use Rattle.clause_learning.specs.declared.solver.Solver.TheInside.{Inside}
+-- What contracts see of a solver.
 use Rattle.search_engine.specs.Resting.{held_of}
-use Rattle.clause_learning.specs.Keeping.{IsKeeper, kept_of}
+use Rattle.clause_learning.specs.declared.keeper.Keeper.{Keeper}
+use Rattle.clause_learning.specs.Keeping.{kept_of}
 use Rattle.clause_learning.specs.SolverState.{SolverState}
 
-abbrev pub state_of : Inside → SolverState
+-- its keeper as its callers see it
+abbrev pub state_of : Keeper → SolverState
 state_of a = record {
-  kept = kept_of a.keeper;
-  held = held_of a.keeper.engine.store.clauses;
-  conflicts = a.keeper.engine.conflicts;
-  root_conflicts = a.keeper.engine.root_conflicts;
+  kept = kept_of a;
+  held = held_of a.engine.store.clauses;
+  conflicts = a.engine.conflicts;
+  root_conflicts = a.engine.root_conflicts;
 }
-
-abbrev pub IsKeptSolver : Inside → Type 0
-IsKeptSolver a = IsKeeper a.keeper

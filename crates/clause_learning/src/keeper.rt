@@ -8,6 +8,7 @@ ghost use Rattle.ground_core.specs.Growing.{IsSelector, excluded, retired};
 ghost use Rattle.clause_learning.specs.Keeping.{IsKeeper, IsMost, IsNewRefusal, IsNewKeeper, SameCounts, SameKeeping, kept_of};
 
 use crate::core_index::CoreIndex;
+use chooser::Choose;
 use ground_core::{Addition, Budget, Halt, Memory, Verdict};
 use lit_core::{Lit, Values};
 use search_engine::Engine;
@@ -50,7 +51,12 @@ impl Keeper {
     }
 
     /// Searches within the budget.
-    fn search(&mut self, assume: &[Lit], budget: &mut Budget) -> Result<Verdict, Halt>
+    fn search<C: Choose>(
+        &mut self,
+        rule: &C,
+        assume: &[Lit],
+        budget: &mut Budget,
+    ) -> Result<Verdict, Halt>
         requires keeper { IsKeeper self.old }
         requires literals { AreLitsOf self.old.engine.problem.vars assume.now }
         requires budget { IsBudgetOf self.old.engine.learnt budget.old }
@@ -65,7 +71,7 @@ impl Keeper {
         ensures counted { length self.new.engine.learnt ≤ length self.old.engine.learnt + self.new.engine.conflicts }
     {
         let before = self.engine.learnt.len();
-        let verdict = self.engine.solve(assume, most_of(before, budget));
+        let verdict = self.engine.solve(rule, assume, most_of(before, budget));
         let after = self.engine.learnt.len();
         budget.spent += (after - before) as u64;
         verdict
@@ -92,7 +98,12 @@ impl Keeper {
     }
 
     /// Answers from a kept core where one is contained in the assumptions, and searches where none is.
-    pub fn solve(&mut self, assume: &[Lit], budget: &mut Budget) -> Result<Verdict, Halt>
+    pub fn solve<C: Choose>(
+        &mut self,
+        rule: &C,
+        assume: &[Lit],
+        budget: &mut Budget,
+    ) -> Result<Verdict, Halt>
         requires keeper { IsKeeper self.old }
         requires literals { AreLitsOf self.old.engine.problem.vars assume.now }
         requires budget { IsBudgetOf self.old.engine.learnt budget.old }
@@ -108,7 +119,7 @@ impl Keeper {
         ensures counted { length self.new.engine.learnt ≤ length self.old.engine.learnt + self.new.engine.conflicts }
     {
         match self.index.contained(self.alloc, assume) {
-            Ok(None) => match self.search(assume, budget) {
+            Ok(None) => match self.search(rule, assume, budget) {
                 Ok(verdict) => self.keep(verdict),
                 Err(halt) => Err(halt),
             },

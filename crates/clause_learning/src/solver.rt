@@ -9,6 +9,7 @@ ghost use Rattle.clause_learning.specs.GoingOn.{GoesOn};
 ghost use Rattle.clause_learning.specs.SolverState.{AddsProblem, Forgets, IsSolver, SameCounts, empty_solver};
 
 use crate::keeper::Keeper;
+use chooser::Choose;
 use ground_core::{Budget, Grow, Halt, LitList, Memory, Problem, Solve, Verdict};
 use kb_logic::ExtInt;
 use lit_core::{ClauseList, Lit, Values};
@@ -18,35 +19,40 @@ use std::marker::Model;
 /// A solver that keeps a problem of gates and clauses, the clauses that it learnt of it, and the
 /// cores that it found.
 ///
-/// It decides what is assumed, each at a level of its own, then the variable of least number.
+/// It decides what is assumed, each at a level of its own, and then what its rule chooses: an unassigned ground atom
+/// by the scores of all of these, in the order of their numbers, or where there is none, one of the other variables. A
+/// conflict raises the score of each variable of its clause by 1.
 /// From a conflict it learns the clause of the first unique implication point, and goes back to
 /// where that clause is unit. There are no restarts. What follows without assumptions stays
 /// assigned between searches, and so do the watches.
 #[derive(Drop)]
-pub struct Solver {
+pub struct Solver<C: Choose + Drop> {
     keeper: Keeper,
+    rule: C,
 }
 
-impl Model for Solver {
+impl<C: Choose + Drop> Model for Solver<C> {
     ghost use Rattle.clause_learning.specs.SolverState.{SolverState};
 
     ghost Value = { SolverState };
 
-    ghost use Rattle.clause_learning.specs.SolverFields.{state_of, IsKeptSolver};
+    ghost use Rattle.clause_learning.specs.SolverFields.{state_of};
+    ghost use Rattle.clause_learning.specs.Keeping.{IsKeeper};
 
-    ghost view = { state_of };
+    ghost view = { λ s. state_of s.keeper };
 
-    ghost invariant = { IsKeptSolver };
+    ghost invariant = { λ s. IsKeeper s.keeper };
 }
 
-impl Solver {
-    /// The solver of no variables, for which nothing is said.
-    pub fn new(alloc: Global) -> Result<Solver, Memory>
+impl<C: Choose + Drop> Solver<C> {
+    /// The solver of no variables, for which nothing is said, and which decides by this rule.
+    pub fn new(alloc: Global, rule: C) -> Result<Solver<C>, Memory>
         ensures value { IfOk result (λ s. s ≡ empty_solver) }
         ensures laws { IfOk result IsSolver }
     {
         Ok(Solver {
             keeper: Keeper::new(alloc)?,
+            rule,
         })
     }
 
@@ -114,7 +120,7 @@ impl Solver {
     }
 }
 
-impl Solve for Solver {
+impl<C: Choose + Drop> Solve for Solver<C> {
     ghost use Rattle.clause_learning.specs.GoingOn.{GoesOn, goes-itself, goes-twice};
 
     ghost state = { λ s. s.kept };
@@ -143,7 +149,7 @@ impl Solve for Solver {
         ensures counted { length self.new.kept.learnt ≤ length self.old.kept.learnt + self.new.conflicts }
         ensures laws { IsSolver self.new }
     {
-        self.keeper.solve(assume, budget)
+        self.keeper.solve(&self.rule, assume, budget)
     }
 
     ghost goes_on_itself = { λ s. goes-itself s.kept };
@@ -151,7 +157,7 @@ impl Solve for Solver {
     ghost goes_on_twice = { λ r s t a b. goes-twice r.kept s.kept t.kept a b };
 }
 
-impl Grow for Solver {
+impl<C: Choose + Drop> Grow for Solver<C> {
     /// It can be called for no term, since the problem has none.
     fn value(&self, _term: u32, _values: &Values) -> ExtInt {
         // What is known of the problem comes with this.

@@ -108,7 +108,8 @@ closes_one old new e s h m g = record {
   symbols = ap (λ (k : KnownAtoms). k.symbols) g;
   domains = ap (λ (k : KnownAtoms). k.domains) g;
   known = λ fs es f. g ∙ ap (λ (k : KnownAtoms). with_closed k s) f
-      ∙ more_whole old.symbols old.domains fs es e s (λ n. ap (λ b. b && is_none e.mark) (h n) ∙ ap (λ b. (s == n) && b) m);
+      ∙ more_whole old.symbols old.domains fs es e s (λ n. ap (λ b. b && is_none e.mark) (h n)
+      ∙ ap (λ b. (s == n) && b) m);
 }
 
 -- ---- entries one after another

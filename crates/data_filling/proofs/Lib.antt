@@ -5,3 +5,4 @@ mod Closings
 mod RangeFacts
 mod FactsOver
 mod Turns
+mod Unopposed

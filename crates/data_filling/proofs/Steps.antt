@@ -132,7 +132,8 @@ adds_one old new f xs over e = record {
 
 -- ---- facts one after another
 
-moved : (old new : KnownAtoms) (fs : List Fact) (es : List Said) → new.symbols ≡ old.symbols → new.domains ≡ old.domains
+pub moved : (old new : KnownAtoms) (fs : List Fact) (es : List Said) → new.symbols ≡ old.symbols → new.domains
+    ≡ old.domains
     → known_from new.symbols new.domains fs es ≡ known_from old.symbols old.domains fs es
 moved old new fs es e f = ap (λ (ss : List Symbol). known_from ss new.domains fs es) e
     ∙ ap (λ (ds : List (List Elem)). known_from old.symbols ds fs es) f

@@ -1,5 +1,6 @@
 -- What a partial structure knows while it is filled by what the rows of a structure say.
-use Rattle.std.specs.Prelude.{◌≡◌, ℕ, not, ◌&&◌, ◌||◌, List, [], ◌++◌, map, filter, Some, slice_get, Contains, ⊤}
+use Rattle.std.specs.Prelude.{◌≡◌, ℕ, true, false, not, ◌&&◌, ◌||◌, List, [], ◌++◌, map, filter, Some, slice_get}
+use Rattle.std.specs.Prelude.{Contains, ⊤}
 use Rattle.std.specs.List.{list_any}
 use Rattle.kb_text.specs.declared.fault.KbFault.{KbFault}
 use Rattle.kb_logic.specs.declared.elements.Elem.{Elem}
@@ -60,6 +61,14 @@ pub record Adds (old new : KnownAtoms) (more : List Fact) : Type 0 where
   pub known :
       (fs : List Fact) → old ≡ known_from old.symbols old.domains fs []
       → new ≡ known_from old.symbols old.domains (fs ++ more) []
+
+-- no fact among these says the opposite of what is known, nor of another one: what is known is what some facts say, and
+-- of these all together no atom is said to be true and false
+pub record IsOpenTo (old : KnownAtoms) (more : List Fact) : Type 0 where
+  pub facts : List Fact
+  pub known : old ≡ known_from old.symbols old.domains facts []
+  pub apart :
+      (a : GroundAtom) → list_any (says_true a) (facts ++ more) ≡ true → list_any (says_false a) (facts ++ more) ≡ false
 
 -- what these entries give whole is closed too
 pub record Closes (old new : KnownAtoms) (more : List Said) : Type 0 where

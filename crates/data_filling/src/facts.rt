@@ -1,16 +1,17 @@
 //! What rows say of atoms, in a partial structure.
-ghost use Rattle.std.specs.Prelude.{◌≡◌, ◌≤◌, ◌+ℤ◌, pos, ◌∷◌, [], map, OnOk, IfOk, if◌then◌else◌};
+ghost use Rattle.std.specs.Prelude.{◌≡◌, ◌≤◌, ◌+ℤ◌, pos, ◌∷◌, [], map, OnOk, IfOk};
 ghost use Rattle.std.specs.List.{AllByRecursion};
 ghost use Rattle.kb_logic.specs.declared.elements.Elem.TheVariants as elem;
 ghost use Rattle.kb_logic.specs.Models.{IsAtomOver, atom_of};
-ghost use Rattle.partial_structures.specs.KnownAtoms.{with_false, with_true};
+ghost use Rattle.partial_structures.specs.KnownAtoms.{value_at, with_false, with_true};
+ghost use Rattle.partial_structures.specs.declared.truths.Truth.TheVariants.{No, Yes};
 ghost use Rattle.reading_stages.specs.DataFacts.{facts_in, facts_of};
 ghost use Rattle.reading_stages.specs.Elements.{span};
 ghost use Rattle.reading_stages.specs.Elements as set;
 ghost use Rattle.data_entries.specs.EntryViews.{fact_view};
 ghost use Rattle.data_entries.specs.SaidViews.{said_view};
 ghost use Rattle.data_entries.specs.WholeViews.{whole_view};
-ghost use Rattle.data_filling.specs.Filling.{Adds, IsFactOver, atom_with, fact_with};
+ghost use Rattle.data_filling.specs.Filling.{Adds, IsFactOver, IsOpenTo, atom_with, fact_with};
 
 use crate::elements::{elems_of, number, value_of};
 use data_entries::elements::Cell;
@@ -18,7 +19,7 @@ use data_entries::facts::{Fact, add_facts};
 use data_entries::wholes::Whole;
 use data_entries::written::Entry;
 use kb_logic::{ElemList, Literal, Memory};
-use partial_structures::Partial;
+use partial_structures::{Partial, SetError};
 use std::alloc::Global;
 
 /// The number of a symbol in 32 bits; there are never so many that it has none.
@@ -31,19 +32,29 @@ pub fn symbol_number(symbol: usize) -> Result<u32, Memory>
     Ok(symbol as u32)
 }
 
-/// Makes an atom true or false. It is not the other already, since no two rows of the structure clash.
-fn state(partial: &mut Partial, holds: bool, atom: &Literal) -> Result<(), Memory>
-    requires { IsAtomOver partial.old.symbols partial.old.domains (atom_of atom.now) }
-    ensures { OnOk result (partial.new ≡ if holds then with_true partial.old (atom_of atom.now) else with_false partial.old (atom_of atom.now)) }
+/// Makes an atom true that is not false.
+fn affirm(partial: &mut Partial, atom: &Literal) -> Result<(), Memory>
+    requires over { IsAtomOver partial.old.symbols partial.old.domains (atom_of atom.now) }
+    requires free { value_at partial.old (atom_of atom.now) ≡ No → ⊥ }
+    ensures { OnOk result (partial.new ≡ with_true partial.old (atom_of atom.now)) }
 {
-    let stated = if holds {
-        partial.set_true(atom)
-    } else {
-        partial.set_false(atom)
-    };
-    match stated {
+    match partial.set_true(atom) {
         Ok(()) => Ok(()),
-        Err(_) => Err(Memory),
+        Err(SetError::Memory) => Err(Memory),
+        Err(SetError::DataClash) => unreachable!(),
+    }
+}
+
+/// Makes an atom false that is not true.
+fn deny(partial: &mut Partial, atom: &Literal) -> Result<(), Memory>
+    requires over { IsAtomOver partial.old.symbols partial.old.domains (atom_of atom.now) }
+    requires free { value_at partial.old (atom_of atom.now) ≡ Yes → ⊥ }
+    ensures { OnOk result (partial.new ≡ with_false partial.old (atom_of atom.now)) }
+{
+    match partial.set_false(atom) {
+        Ok(()) => Ok(()),
+        Err(SetError::Memory) => Err(Memory),
+        Err(SetError::DataClash) => unreachable!(),
     }
 }
 
@@ -68,11 +79,16 @@ fn add_tuple(
     args: ElemList,
     partial: &mut Partial,
 ) -> Result<(), Memory>
-    requires { IsFactOver partial.old.symbols partial.old.domains (fact_with (fact_view fact.now) args) }
+    requires over { IsFactOver partial.old.symbols partial.old.domains (fact_with (fact_view fact.now) args) }
+    requires open_to { IsOpenTo partial.old (fact_with (fact_view fact.now) args ∷ []) }
     ensures { OnOk result (Adds partial.old partial.new (fact_with (fact_view fact.now) args ∷ [])) }
 {
     let atom = atom(alloc, fact, args)?;
-    state(partial, fact.holds, &atom)
+    if fact.holds {
+        affirm(partial, &atom)
+    } else {
+        deny(partial, &atom)
+    }
 }
 
 /// What a fact says of the atom whose one argument is the integer so many places after this one.
@@ -85,6 +101,7 @@ fn add_number(
 ) -> Result<(), Memory>
     requires small { k ≤ 2000001 }
     requires over { IsFactOver partial.old.symbols partial.old.domains (fact_with (fact_view fact.now) (elem.Num (whole_view low +ℤ pos k) ∷ [])) }
+    requires open_to { IsOpenTo partial.old (fact_with (fact_view fact.now) (elem.Num (whole_view low +ℤ pos k) ∷ []) ∷ []) }
     ensures { OnOk result (Adds partial.old partial.new (fact_with (fact_view fact.now) (elem.Num (whole_view low +ℤ pos k) ∷ []) ∷ [])) }
 {
     let mut args = ElemList::new(alloc);
@@ -102,6 +119,7 @@ fn add_range(
 ) -> Result<(), Memory>
     requires range { (fact_view fact.now).args ≡ span (whole_view low) (whole_view high) ∷ [] }
     requires over { IsFactOver partial.old.symbols partial.old.domains (fact_view fact.now) }
+    requires open_to { IsOpenTo partial.old (fact_view fact.now ∷ []) }
     ensures { OnOk result (Adds partial.old partial.new (fact_view fact.now ∷ [])) }
 {
     let count = size_of(low, high)?;
@@ -137,7 +155,8 @@ fn size_of(low: Whole, high: Whole) -> Result<usize, Memory>
 
 /// What a fact says. A range is its only argument.
 fn add_fact(alloc: Global, fact: &Fact<'_>, partial: &mut Partial) -> Result<(), Memory>
-    requires { IsFactOver partial.old.symbols partial.old.domains (fact_view fact.now) }
+    requires over { IsFactOver partial.old.symbols partial.old.domains (fact_view fact.now) }
+    requires open_to { IsOpenTo partial.old (fact_view fact.now ∷ []) }
     ensures { OnOk result (Adds partial.old partial.new (fact_view fact.now ∷ [])) }
 {
     match fact.args.as_slice() {
@@ -151,7 +170,8 @@ fn add_fact(alloc: Global, fact: &Fact<'_>, partial: &mut Partial) -> Result<(),
 
 /// What some facts say.
 fn add_each(alloc: Global, facts: &[Fact<'_>], partial: &mut Partial) -> Result<(), Memory>
-    requires { AllByRecursion (IsFactOver partial.old.symbols partial.old.domains) (map fact_view facts.now) }
+    requires over { AllByRecursion (IsFactOver partial.old.symbols partial.old.domains) (map fact_view facts.now) }
+    requires open_to { IsOpenTo partial.old (map fact_view facts.now) }
     ensures { OnOk result (Adds partial.old partial.new (map fact_view facts.now)) }
 {
     for fact in facts {
@@ -162,7 +182,8 @@ fn add_each(alloc: Global, facts: &[Fact<'_>], partial: &mut Partial) -> Result<
 
 /// What an entry says of atoms.
 fn add_entry(alloc: Global, entry: &Entry<'_>, partial: &mut Partial) -> Result<(), Memory>
-    requires { AllByRecursion (IsFactOver partial.old.symbols partial.old.domains) (facts_of (said_view entry.now)) }
+    requires over { AllByRecursion (IsFactOver partial.old.symbols partial.old.domains) (facts_of (said_view entry.now)) }
+    requires open_to { IsOpenTo partial.old (facts_of (said_view entry.now)) }
     ensures { OnOk result (Adds partial.old partial.new (facts_of (said_view entry.now))) }
 {
     let mut facts = Vec::new(alloc);
@@ -176,7 +197,8 @@ pub fn add_entries(
     entries: &[Entry<'_>],
     partial: &mut Partial,
 ) -> Result<(), Memory>
-    requires { AllByRecursion (IsFactOver partial.old.symbols partial.old.domains) (facts_in (map said_view entries.now)) }
+    requires over { AllByRecursion (IsFactOver partial.old.symbols partial.old.domains) (facts_in (map said_view entries.now)) }
+    requires open_to { IsOpenTo partial.old (facts_in (map said_view entries.now)) }
     ensures { OnOk result (Adds partial.old partial.new (facts_in (map said_view entries.now))) }
 {
     for entry in entries {

@@ -2,16 +2,17 @@
 ghost use Rattle.std.specs.Prelude.{◌≡◌, IfOk};
 ghost use Rattle.search_bench.specs.Dimacs.{HasClausesAlone};
 
+use chooser::FirstGreatest;
 use clause_learning::Solver;
 use ground_core::{Memory, Problem};
 use std::alloc::Global;
 
 /// A solver of the problem. Which one is measured is said here alone.
-pub fn solver_of(alloc: Global, problem: Problem) -> Result<Solver, Memory>
+pub fn solver_of(alloc: Global, problem: Problem) -> Result<Solver<FirstGreatest>, Memory>
     requires alone { HasClausesAlone problem }
     ensures { IfOk result (λ solver. solver.kept.problem ≡ problem) }
 {
-    let mut solver = Solver::new(alloc)?;
+    let mut solver = Solver::new(alloc, FirstGreatest)?;
     solver.add_problem(&problem)?;
     Ok(solver)
 }

@@ -21,3 +21,4 @@ pub mod TurnFacts
 pub mod GrowFacts
 pub mod Removed
 pub mod PhaseFacts
+pub mod ScoreFacts

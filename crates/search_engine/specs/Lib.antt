@@ -8,3 +8,4 @@ pub mod LitSets
 pub mod Cores
 pub mod Resting
 pub mod Phases
+pub mod Scores

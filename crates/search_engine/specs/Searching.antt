@@ -150,10 +150,6 @@ SettleGives old new false = (new.root_conflicts ≡ 1) × RefutesAll old.problem
 abbrev pub HaveValues : List (Option Bool) → ℕ → ℕ → Type 0
 HaveValues values from end = (k : ℕ) → from ≤ k → k < end → IsSome (slice_index_or values k None)
 
--- every step above the level names a variable of this number or a greater one
-abbrev pub AreTakenFrom : List Step → ℕ → ℕ → Type 0
-AreTakenFrom steps level least = (k : ℕ) (t : Step) → slice_get steps k ≡ Some t → level < t.level → least ≤ t.lit.var.0
-
 -- the values of the variables from 1 on
 pub record GivesValues (assigned : List (Option Bool)) (end : ℕ) (values : List Bool) : Type 0 where
   pub size : length values ≡ end

@@ -1,129 +1,99 @@
 //! What the search decides next.
-ghost use Rattle.std.specs.Prelude.{◌≡◌, ℕ, ◌≤◌, ◌<◌, ◌+◌, ◌⊎◌, Some, None, length, IfSome, MatchOption, slice_get, slice_index_or};
-ghost use Rattle.clause_store.specs.declared.trails.Step.{Step};
+ghost use Rattle.std.specs.Prelude.{◌≡◌, ℕ, ◌≤◌, ◌<◌, ◌+◌, None, length, IfOk, OnOk, MatchOption};
 ghost use Rattle.lit_core.specs.Literals.{value_in};
 ghost use Rattle.clause_store.specs.StoreState.{IsStore};
-ghost use Rattle.ground_core.specs.Problems.{IsLitOf};
-ghost use Rattle.search_engine.specs.Searching.{AreTakenFrom, HaveValues};
+ghost use Rattle.ground_core.specs.Problems.{IsProblem};
+ghost use Rattle.search_engine.specs.Scores.{AreListed, AreListedFirst};
+ghost use Rattle.search_engine.specs.Searching.{HaveValues};
 
 use crate::kept::KeptProblem;
 use crate::phases::Phases;
+use crate::scores::Scores;
+use chooser::Choose;
 use clause_store::Store;
+use ground_core::Memory;
 use lit_core::{Assignment, Lit, Var};
 use std::alloc::Global;
 
 /// Chooses decisions.
 #[derive(Drop)]
 pub struct Decider {
-    /// No variable from 1 on with a lower number is unassigned.
-    pub least: u64,
     /// What decides the sign.
     pub phases: Phases,
-}
-
-/// The first unassigned variable from a number on and below another.
-fn first_open(assignment: &Assignment, from: u64, end: u64) -> Option<Var>
-    requires { end ≤ length assignment.now }
-    ensures { MatchOption result (HaveValues assignment.now from end) (λ v. (from ≤ v.0) × (v.0 < end) × (slice_index_or assignment.now v.0 None ≡ None) × HaveValues assignment.now from v.0) }
-{
-    for number in from..end {
-        let lit = Lit {
-            var: Var(number),
-            positive: true,
-        };
-        if assignment.value(lit).is_none() {
-            return Some(Var(number));
-        }
-    }
-    None
+    /// What the rule chooses from.
+    pub scores: Scores,
 }
 
 impl Decider {
-    /// Nothing is assigned, and nothing was seen.
-    pub fn new(alloc: Global) -> Decider
-        ensures { result.least ≡ 1 }
-    {
+    /// Nothing was seen, and no conflict was met.
+    pub fn new(alloc: Global) -> Decider {
         Decider {
-            least: 1,
             phases: Phases::new(alloc),
+            scores: Scores::new(alloc),
         }
     }
 
-    /// An unassigned variable from 1 on: that of least number, where `least` is right.
-    fn open_variable(&self, assignment: &Assignment, end: u64) -> Option<Var>
-        requires { end ≤ length assignment.now }
-        ensures found { MatchOption result (HaveValues assignment.now 1 end) (λ v. (1 ≤ v.0) × (v.0 < end) × (slice_index_or assignment.now v.0 None ≡ None)) }
-        ensures least { HaveValues assignment.now 1 self.now.least → IfSome result (λ v. HaveValues assignment.now 1 v.0) }
-    {
-        match first_open(assignment, self.least.max(1), end) {
-            Some(var) => Some(var),
-            None => first_open(assignment, 1, end),
-        }
+    /// Makes room for so many variables.
+    pub fn reserve(&mut self, len: usize) -> Result<(), Memory> {
+        self.phases.reserve(len)?;
+        self.scores.reserve(len)
     }
 
-    /// The unassigned variable of least number, from 1 on.
-    fn next_variable(&mut self, assignment: &Assignment, end: u64) -> Option<Var>
-        requires { end ≤ length assignment.now }
-        ensures found { MatchOption result (HaveValues assignment.now 1 end) (λ v. (1 ≤ v.0) × (v.0 < end) × (slice_index_or assignment.now v.0 None ≡ None)) }
-        ensures least { HaveValues assignment.now 1 self.old.least → HaveValues assignment.now 1 self.new.least }
-        ensures next { IfSome result (λ v. self.new.least ≡ v.0) }
+    /// Lists the unassigned ground atoms, which are the first variables, or where there are none
+    /// the other unassigned variables.
+    fn list(&mut self, assignment: &Assignment, first: u64, end: u64) -> Result<(), Memory>
+        requires some { 1 ≤ first }
+        requires first { first ≤ end }
+        requires end { end ≤ length assignment.now }
+        ensures lists { OnOk result (AreListedFirst self.old.scores.scores.items assignment.now first end self.new.scores) }
+        ensures phases { self.new.phases ≡ self.old.phases }
     {
-        match self.open_variable(assignment, end) {
-            Some(var) => {
-                self.least = var.0;
-                Some(var)
-            }
-            None => {
-                self.least = end;
-                None
-            }
+        self.scores.list(assignment, 1, first)?;
+        if self.scores.is_empty() {
+            self.scores.list(assignment, first, end)?;
         }
+        Ok(())
     }
 
     /// A literal that is decided next, or None where all variables below `end` have values.
     ///
-    /// The salt breaks ties of its sign: with another one they are broken otherwise.
-    pub fn next_decision(
+    /// The rule chooses the variable by its score. The salt breaks ties of the sign: with another one
+    /// they are broken otherwise.
+    pub fn next_decision<C: Choose>(
         &mut self,
+        rule: &C,
         problem: &KeptProblem,
         store: &Store,
         end: u64,
         salt: u64,
-    ) -> Option<Lit>
+    ) -> Result<Option<Lit>, Memory>
         requires laws { IsStore store.now }
+        requires atoms { length problem.now.atoms < end }
         requires end { end ≤ length store.now.trail.values }
-        ensures found { MatchOption result (HaveValues store.now.trail.values 1 end) (λ l. (1 ≤ l.var.0) × (l.var.0 < end) × (value_in store.now.trail.values l ≡ None)) }
-        ensures least { HaveValues store.now.trail.values 1 self.old.least → HaveValues store.now.trail.values 1 self.new.least }
-        ensures next { IfSome result (λ l. self.new.least ≡ l.var.0) }
+        ensures found { IfOk result (λ next. MatchOption next (HaveValues store.now.trail.values 1 end) (λ l. (1 ≤ l.var.0) × (l.var.0 < end) × (value_in store.now.trail.values l ≡ None))) }
     {
-        let Some(var) = self.next_variable(store.assignment(), end) else {
-            return None;
-        };
-        let positive = self.phases.sign(problem, store.assignment(), var, salt);
-        Some(Lit { var, positive })
-    }
-
-    /// Begins a search, in which nothing is assigned.
-    pub fn begin(&mut self)
-        ensures { self.new.least ≡ 1 }
-    {
-        self.least = 1;
-        self.phases.takes_back();
-    }
-
-    /// Notes that what was made true above the level is taken back.
-    pub fn takes_back(&mut self, store: &Store, level: u64)
-        ensures lower { self.new.least ≤ self.old.least }
-        ensures taken { AreTakenFrom store.now.trail.steps level self.new.least }
-        ensures reached { (self.new.least ≡ self.old.least) ⊎ ((k : ℕ) × (t : Step) × (slice_get store.now.trail.steps k ≡ Some t) × (level < t.level) × (self.new.least ≡ t.lit.var.0)) }
-    {
-        self.phases.takes_back();
-        for place in (0..store.trail().len()).rev() {
-            let step = store.step(place);
-            if step.level <= level {
-                return;
-            }
-            self.least = self.least.min(step.lit.var.0);
+        self.list(store.assignment(), problem.atom_count() + 1, end)?;
+        if self.scores.is_empty() {
+            return Ok(None);
         }
+        let place = rule.choose(self.scores.listed.as_slice());
+        let var = Var(self.scores.open[place]);
+        let positive = self.phases.sign(problem, store.assignment(), var, salt);
+        Ok(Some(Lit { var, positive }))
+    }
+
+    /// Begins a search, in which nothing is decided.
+    pub fn begin(&mut self) {
+        self.phases.takes_back();
+    }
+
+    /// Notes that something that was true is taken back.
+    pub fn takes_back(&mut self) {
+        self.phases.takes_back();
+    }
+
+    /// Raises the scores of the variables of a conflict's clause.
+    pub fn raise(&mut self, lits: &[Lit]) {
+        self.scores.raise(lits);
     }
 }

@@ -95,7 +95,7 @@ impl Engine {
         ensures reserves { Reserves self.old self.new }
         ensures ok { OnOk result (count ≤ length self.new.store.trail.values) }
     {
-        self.decider.phases.reserve(count as usize)?;
+        self.decider.reserve(count as usize)?;
         self.store.reserve_vars(count)?;
         Ok(())
     }

@@ -12,6 +12,7 @@ mod levels;
 mod lit_sets;
 mod phases;
 mod pushing;
+mod scores;
 mod searching;
 
 pub use cores::chosen;

@@ -57,7 +57,7 @@ fn is_choice(clause: &[Lit], atoms: u64) -> bool
 }
 
 /// Adds variables that were never seen, so that there are at least `len`.
-fn grow_counts(counts: &mut Vec<u64>, len: usize) -> Result<(), Memory>
+pub fn grow_counts(counts: &mut Vec<u64>, len: usize) -> Result<(), Memory>
     ensures kept { (v : ℕ) → slice_index_or counts.new.items v 0 ≡ slice_index_or counts.old.items v 0 }
     ensures longer { length counts.old.items ≤ length counts.new.items }
     ensures room { OnOk result (len ≤ length counts.new.items) }
@@ -81,7 +81,7 @@ fn grow_choices(choices: &mut Vec<Option<usize>>, len: usize) -> Result<(), Memo
 }
 
 /// Whether the variable is one of these, and unassigned.
-fn is_open(assignment: &Assignment, var: Var) -> bool
+pub fn is_open(assignment: &Assignment, var: Var) -> bool
     ensures { IsTrue result ↔ IsOpen assignment.now var.0 }
 {
     if var.0 >= assignment.len() as u64 {

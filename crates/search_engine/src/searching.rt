@@ -10,6 +10,7 @@ ghost use Rattle.search_engine.specs.Searching.{AdvanceGives, AheadAt, AreTrue, 
 
 use crate::cores::core_of;
 use crate::engine::Engine;
+use chooser::Choose;
 use clause_store::Store;
 use conflict_analysis::final_core;
 use ground_core::{Halt, Memory, Verdict};
@@ -101,7 +102,11 @@ impl Engine {
     }
 
     /// Decides a variable, or answers the values where all have one.
-    fn decide_next(&mut self, assume: &[Lit]) -> Result<Option<Verdict>, Memory>
+    fn decide_next<C: Choose>(
+        &mut self,
+        rule: &C,
+        assume: &[Lit],
+    ) -> Result<Option<Verdict>, Memory>
         requires search { IsSearch self.old }
         requires quiet { IsQuiet self.old.store }
         requires unrefuted { self.old.root_conflicts ≡ 0 }
@@ -120,7 +125,7 @@ impl Engine {
         let salt = self.searches.wrapping_add(self.conflicts / 32);
         match self
             .decider
-            .next_decision(&self.problem, &self.store, end, salt)
+            .next_decision(rule, &self.problem, &self.store, end, salt)?
         {
             Some(lit) => {
                 self.store.assign(lit, None);
@@ -198,7 +203,12 @@ impl Engine {
     }
 
     /// Goes a turn further, and decides a variable where nothing else is to be done.
-    fn step(&mut self, assume: &[Lit], most: Option<u64>) -> Result<Option<Verdict>, Halt>
+    fn step<C: Choose>(
+        &mut self,
+        rule: &C,
+        assume: &[Lit],
+        most: Option<u64>,
+    ) -> Result<Option<Verdict>, Halt>
         requires search { IsSearch self.old }
         requires unrefuted { self.old.root_conflicts ≡ 0 }
         requires ahead { AheadAt self.old 0 }
@@ -215,7 +225,7 @@ impl Engine {
         match self.turn(assume, most) {
             Ok(Outcome::Answered(verdict)) => Ok(Some(verdict)),
             Ok(Outcome::Further) => Ok(None),
-            Ok(Outcome::Open) => match self.decide_next(assume) {
+            Ok(Outcome::Open) => match self.decide_next(rule, assume) {
                 Ok(verdict) => Ok(verdict),
                 Err(_) => Err(Halt::Memory),
             },
@@ -225,7 +235,12 @@ impl Engine {
     }
 
     /// Searches until there is a verdict, or as many clauses are learnt as may be.
-    pub fn search(&mut self, assume: &[Lit], most: Option<u64>) -> Result<Verdict, Halt>
+    pub fn search<C: Choose>(
+        &mut self,
+        rule: &C,
+        assume: &[Lit],
+        most: Option<u64>,
+    ) -> Result<Verdict, Halt>
         requires search { IsSearch self.old }
         requires unrefuted { self.old.root_conflicts ≡ 0 }
         requires ahead { AheadAt self.old 0 }
@@ -239,7 +254,7 @@ impl Engine {
         ensures halt { IfErr result (HaltsAt most self.new) }
     {
         loop {
-            match self.step(assume, most)? {
+            match self.step(rule, assume, most)? {
                 Some(verdict) => return Ok(verdict),
                 None => {}
             }
@@ -311,7 +326,12 @@ impl Engine {
     }
 
     /// Begins a search, and takes back at its end what does not follow.
-    pub fn solve(&mut self, assume: &[Lit], most: Option<u64>) -> Result<Verdict, Halt>
+    pub fn solve<C: Choose>(
+        &mut self,
+        rule: &C,
+        assume: &[Lit],
+        most: Option<u64>,
+    ) -> Result<Verdict, Halt>
         requires resting { IsResting self.old }
         requires literals { AreLitsOf self.old.problem.vars assume.now }
         requires room { HasRoom most self.old }
@@ -334,7 +354,7 @@ impl Engine {
         self.decider.begin();
         match self.begin() {
             Ok(true) => {
-                let verdict = self.search(assume, most);
+                let verdict = self.search(rule, assume, most);
                 self.store.back_to(0);
                 verdict
             }

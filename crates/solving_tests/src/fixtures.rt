@@ -3,11 +3,15 @@ ghost use Rattle.std.specs.Prelude.{◌≡◌, [], IsTrue, IfOk};
 ghost use Rattle.ground_core.specs.Problems.{AreLitsOf};
 
 use brute_force::BruteForce;
+use chooser::FirstGreatest;
 use clause_learning::Solver;
 use ground_core::{AtomTable, Budget, Memory, Problem, Solve, Verdict};
 use kb_logic::{ElemList, Literal, LiteralList};
 use lit_core::{Clause, Lit, Var};
 use std::alloc::Global;
+
+/// The solver that is tested.
+pub type Kept = Solver<FirstGreatest>;
 
 pub fn yes(var: u64) -> Lit {
     Lit {
@@ -119,14 +123,14 @@ pub fn blamed_by_force(
 }
 
 /// A solver of the problem.
-pub fn solver_of(alloc: Global, problem: &Problem) -> Result<Solver, Memory>
+pub fn solver_of(alloc: Global, problem: &Problem) -> Result<Kept, Memory>
     requires plain { (problem.now.sums ≡ []) × (problem.now.bounds ≡ []) }
     requires unnamed { problem.now.terms ≡ [] }
     ensures vars { IfOk result (λ solver. solver.kept.problem.vars ≡ problem.now.vars) }
     ensures retired { IfOk result (λ solver. solver.kept.problem.retired ≡ []) }
 {
     let _vars = problem.vars();
-    let mut solver = Solver::new(alloc)?;
+    let mut solver = Solver::new(alloc, FirstGreatest)?;
     solver.add_problem(problem)?;
     Ok(solver)
 }

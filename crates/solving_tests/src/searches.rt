@@ -1,8 +1,7 @@
 //! Searches, against brute force and over a solver that is kept.
 ghost use Rattle.std.specs.Prelude.{◌≡◌, [], IfOk};
 
-use crate::fixtures::{are_over, blamed, blamed_by_force, no, said, solver_of, yes};
-use clause_learning::Solver;
+use crate::fixtures::{Kept, are_over, blamed, blamed_by_force, no, said, solver_of, yes};
 use ground_core::{Budget, Memory, Solve, Verdict};
 use lit_core::{Lit, Values, Var};
 use std::alloc::Global;
@@ -32,7 +31,7 @@ fn pigeon_clauses(alloc: Global) -> Result<Vec<[Lit; 4]>, Memory> {
 
 /// What is blamed at first, under an assumption, and when what was learnt is forgotten; and
 /// whether something was learnt, and how much of it is left.
-fn story(solver: &mut Solver, vars: u64) -> [usize; 5]
+fn story(solver: &mut Kept, vars: u64) -> [usize; 5]
     requires vars { vars ≡ solver.old.kept.problem.vars }
     requires retired { solver.old.kept.problem.retired ≡ [] }
 {
@@ -151,7 +150,7 @@ fn digits(values: &Values) -> u64 {
 }
 
 /// The digits of the next answer.
-fn next_digits(solver: &mut Solver) -> u64 {
+fn next_digits(solver: &mut Kept) -> u64 {
     let mut budget = Budget {
         limit: None,
         spent: 0,
@@ -191,7 +190,7 @@ fn answers_take_turns(rt: HostRuntime) -> Result<(), Fail> {
 }
 
 /// Whether a search that learns at most so many clauses finds values, and None where it does not end.
-fn found_within(solver: &mut Solver, vars: u64, assume: &[Lit], most: u64) -> Option<bool>
+fn found_within(solver: &mut Kept, vars: u64, assume: &[Lit], most: u64) -> Option<bool>
     requires vars { vars ≡ solver.old.kept.problem.vars }
     requires retired { solver.old.kept.problem.retired ≡ [] }
     ensures problem { solver.new.kept.problem ≡ solver.old.kept.problem }
@@ -239,7 +238,7 @@ fn a_search_ends_at_its_limit(rt: HostRuntime) -> Result<(), Fail> {
 }
 
 /// What a search is answered that may learn nothing: at first, once a core is kept, and once it is forgotten.
-fn kept_story(solver: &mut Solver, vars: u64) -> [Option<bool>; 3]
+fn kept_story(solver: &mut Kept, vars: u64) -> [Option<bool>; 3]
     requires vars { vars ≡ solver.old.kept.problem.vars }
     requires retired { solver.old.kept.problem.retired ≡ [] }
 {

@@ -5,7 +5,7 @@ use Rattle.clause_learning.proofs.KeeperFacts.{spends, most-within}
 use Rattle.clause_learning.proofs.keeper.Keeper.search.Goals as goal
 
 pub returns-clause-spends : goal.returns-clause-spends
-returns-clause-spends c =
+returns-clause-spends g c =
     let e : Engine = c.args.self.now.engine in
     let f : Engine = c.solve-verdict.new.self in
     let known : c.len-before.result ≡ length e.learnt = c.len-before.ensures in

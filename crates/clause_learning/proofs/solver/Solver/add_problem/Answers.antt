@@ -1,31 +1,32 @@
-use Rattle.std.proofs.Common.{subst, sym, ⊎_elim}
+use Rattle.std.proofs.Common.{◌≡◌, [], subst, sym, ◌<◌, ◌^◌, ◌⊎◌, ⊎_elim}
+use Rattle.ground_core.specs.Problems.{ProblemState}
 use Rattle.search_engine.specs.declared.engine.Engine.{Engine}
 use Rattle.search_engine.specs.Joining.{CanJoin}
-use Rattle.search_engine.specs.Resting.{Grows, Stays}
+use Rattle.search_engine.specs.Resting.{Grows, IsResting, Stays}
 use Rattle.clause_learning.specs.declared.keeper.Keeper.{Keeper}
 use Rattle.clause_learning.specs.Keeping.{IsKeeper}
+use Rattle.clause_learning.specs.SolverFields.{state_of}
 use Rattle.clause_learning.specs.SolverState.{SolverState}
 use Rattle.clause_learning.proofs.KeeperFacts.{either, keeper-joined, keeper-stays}
 use Rattle.clause_learning.proofs.SolverFacts.{solver-laws}
 use Rattle.clause_learning.proofs.solver.Solver.add_problem.Goals as goal
 
-module _ (c : goal.After-add_problem) where
-  abbrev a : Keeper
-  a = c.self.inside.keeper
-
-  abbrev f : Engine
-  f = c.add_problem.new.self
-
-  added : IsKeeper (record { alloc = a.alloc; engine = f; index = a.index; additions = a.additions })
-  added =
-      let can : CanJoin a.engine.problem c.args.more.now = subst (λ (s : SolverState). CanJoin s.kept.problem c.args.more.now) (sym c.self.view_is) c.requires.can in
-      ⊎_elim
-      (λ (g : Grows a.engine c.args.more.now f). keeper-joined a f c.self.invariant c.add_problem.ensures.resting c.args.more.now can c.requires.sums c.requires.bounds c.requires.terms g)
-      (λ (g : Stays a.engine f). keeper-stays a f c.self.invariant c.add_problem.ensures.resting g.problem (rw g.same.searches c.self.invariant.counted))
-      (either (Grows a.engine c.args.more.now f) (Stays a.engine f) c.add_problem.result c.add_problem.ensures.ok c.add_problem.ensures.err)
+added : (a : Keeper) (f : Engine) (q : ProblemState) (s : SolverState) → state_of a ≡ s → IsKeeper a → IsResting f → CanJoin s.kept.problem q → q.sums ≡ [] → q.bounds ≡ [] → q.terms ≡ [] → Grows a.engine q f ⊎ Stays a.engine f → IsKeeper (record { alloc = a.alloc; engine = f; index = a.index; additions = a.additions })
+added a f q s view h resting joins sums bounds terms way =
+    let can : CanJoin a.engine.problem q = subst (λ (x : SolverState). CanJoin x.kept.problem q) (sym view) joins in
+    ⊎_elim
+    (λ (g : Grows a.engine q f). keeper-joined a f h resting q can sums bounds terms g)
+    (λ (g : Stays a.engine f). keeper-stays a f h resting g.problem (rw g.same.searches h.counted))
+    way
 
 pub invariant_of-self : goal.invariant_of-self
-invariant_of-self c = added c
+invariant_of-self g c =
+    let a : Keeper = c.self.inside.keeper in
+    let f : Engine = c.add_problem.new.self in
+    added a f c.args.more.now _ c.self.view_is c.self.invariant c.add_problem.ensures.resting c.requires.can c.requires.sums c.requires.bounds c.requires.terms (either (Grows a.engine c.args.more.now f) (Stays a.engine f) c.add_problem.result c.add_problem.ensures.ok c.add_problem.ensures.err)
 
 pub returns-clause-laws : goal.returns-clause-laws
-returns-clause-laws c = solver-laws (record { keeper = record { alloc = c.self.inside.keeper.alloc; engine = c.add_problem.new.self; index = c.self.inside.keeper.index; additions = c.self.inside.keeper.additions } }) (added c)
+returns-clause-laws g c =
+    let a : Keeper = c.self.inside.keeper in
+    let f : Engine = c.add_problem.new.self in
+    solver-laws (record { alloc = a.alloc; engine = f; index = a.index; additions = a.additions }) (added a f c.args.more.now _ c.self.view_is c.self.invariant c.add_problem.ensures.resting c.requires.can c.requires.sums c.requires.bounds c.requires.terms (either (Grows a.engine c.args.more.now f) (Stays a.engine f) c.add_problem.result c.add_problem.ensures.ok c.add_problem.ensures.err))

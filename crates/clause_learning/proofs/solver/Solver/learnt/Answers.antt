@@ -4,4 +4,4 @@ use Rattle.clause_learning.proofs.SolverFacts.{solver-laws}
 use Rattle.clause_learning.proofs.solver.Solver.learnt.Goals as goal
 
 pub returns-clause-laws : goal.returns-clause-laws
-returns-clause-laws c = subst IsSolver c.self.view_is (solver-laws c.self.inside c.self.invariant)
+returns-clause-laws g c = subst IsSolver c.self.view_is (solver-laws c.self.inside.keeper c.self.invariant)

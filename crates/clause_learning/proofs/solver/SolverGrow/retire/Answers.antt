@@ -9,7 +9,7 @@ use Rattle.clause_learning.proofs.SolverFacts.{solver-laws}
 use Rattle.clause_learning.proofs.solver.SolverGrow.retire.Goals as goal
 
 pub returns-clause-later : goal.returns-clause-later
-returns-clause-later c =
+returns-clause-later g c =
     let a : Keeper = c.self.inside.keeper in
     let s : SolveState = kept_of a in
     let t : SolveState = kept_of c.retire.new.self in
@@ -20,4 +20,4 @@ returns-clause-later c =
     subst (λ (x : SolverState). GoesOn x.kept t) c.self.view_is goes
 
 pub returns-clause-laws : goal.returns-clause-laws
-returns-clause-laws c = solver-laws (record { keeper = c.retire.new.self }) c.retire.ensures.keeper
+returns-clause-laws g c = solver-laws c.retire.new.self c.retire.ensures.keeper

@@ -8,7 +8,7 @@ use Rattle.search_engine.proofs.SearchFacts.{continues-trans}
 use Rattle.search_engine.proofs.engine.Engine.search.Goals as goal
 
 pub loop-verdict-smaller : goal.loop-verdict-smaller
-loop-verdict-smaller c =
+loop-verdict-smaller g c =
     let e : Engine = c.loop-verdict.self in
     let f : Engine = c.step.new.self in
     let gives : AdvanceGives c.args.assume.now e f None = rw c.in-None.is at c.in_ok-verdict.ensures.answer in
@@ -16,13 +16,13 @@ loop-verdict-smaller c =
     further-smaller e.problem.vars f.problem.vars (implied_of e.store.trail.steps) (implied_of f.store.trail.steps) (paid_of f) (ap (λ (q : ProblemState). q.vars) c.step.ensures.same.problem) (gives.1 p (goal-itself e.problem.vars (implied_of e.store.trail.steps) (paid_of e) c.loop-verdict.invariant.ahead))
 
 pub returns-in_err-verdict-clause-same : goal.returns-in_err-verdict-clause-same
-returns-in_err-verdict-clause-same c = continues-trans c.args.self.now c.loop-verdict.self c.step.new.self c.loop-verdict.invariant.same c.step.ensures.same
+returns-in_err-verdict-clause-same g c = continues-trans c.args.self.now c.loop-verdict.self c.step.new.self c.loop-verdict.invariant.same c.step.ensures.same
 
 pub returns-in-Some-clause-same : goal.returns-in-Some-clause-same
-returns-in-Some-clause-same c = continues-trans c.args.self.now c.loop-verdict.self c.step.new.self c.loop-verdict.invariant.same c.step.ensures.same
+returns-in-Some-clause-same g c = continues-trans c.args.self.now c.loop-verdict.self c.step.new.self c.loop-verdict.invariant.same c.step.ensures.same
 
 pub loop-verdict-preserved : goal.loop-verdict-preserved
-loop-verdict-preserved c =
+loop-verdict-preserved g c =
     let e : Engine = c.loop-verdict.self in
     let f : Engine = c.step.new.self in
     let gives : AdvanceGives c.args.assume.now e f None = rw c.in-None.is at c.in_ok-verdict.ensures.answer in

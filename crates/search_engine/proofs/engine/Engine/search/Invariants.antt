@@ -5,7 +5,7 @@ use Rattle.search_engine.proofs.engine.Engine.search.Given as goal
 
 -- the conflicts so far are paid
 abbrev pub invariant-loop-verdict : goal.invariant-loop-verdict
-invariant-loop-verdict l = record {
+invariant-loop-verdict g l = record {
   search : IsSearch l.self;
   same : Continues l.fn.self l.self;
   unrefuted : l.self.root_conflicts ≡ 0;
@@ -15,4 +15,4 @@ invariant-loop-verdict l = record {
 }
 
 abbrev pub decreases-loop-verdict : goal.decreases-loop-verdict
-decreases-loop-verdict l = 3 ^ l.self.problem.vars - progress l.self.problem.vars (implied_of l.self.store.trail.steps)
+decreases-loop-verdict g l = 3 ^ l.self.problem.vars - progress l.self.problem.vars (implied_of l.self.store.trail.steps)

@@ -9,19 +9,19 @@ use Rattle.search_engine.proofs.GrowFacts.{pow-le}
 use Rattle.search_engine.proofs.engine.Engine.solve.Goals as goal
 
 pub search-verdict-requires-clause-search : goal.search-verdict-requires-clause-search
-search-verdict-requires-clause-search c =
+search-verdict-requires-clause-search g c =
     let e : Engine = c.begin-2.new.self in
     let b : IsBegun e true = subst (IsBegun e) c.in-Ok-true.field-0-test c.in-Ok-true.ensures.begun in
     search-begun e c.begin-2.ensures.resting b.1 c.begin-2.ensures.same.same.conflicts b.2 (omega (arith, ap length c.begin-2.ensures.same.same.learnt, c.begin-2.ensures.same.known, c.len-self.ensures))
 
 pub search-verdict-requires-clause-ahead : goal.search-verdict-requires-clause-ahead
-search-verdict-requires-clause-ahead c =
+search-verdict-requires-clause-ahead g c =
     let e : Engine = c.begin-2.new.self in
     let b : IsBegun e true = subst (IsBegun e) c.in-Ok-true.field-0-test c.in-Ok-true.ensures.begun in
     ahead-begun e c.begin-2.ensures.resting b.1 c.begin-2.ensures.same.same.conflicts
 
 pub returns-in-Ok-true-clause-resting : goal.returns-in-Ok-true-clause-resting
-returns-in-Ok-true-clause-resting c =
+returns-in-Ok-true-clause-resting g c =
     let e : Engine = c.begin-2.new.self in
     let b : IsBegun e true = subst (IsBegun e) c.in-Ok-true.field-0-test c.in-Ok-true.ensures.begun in
     let s : Engine = c.search-verdict.new.self in
@@ -38,7 +38,7 @@ returns-in-Ok-true-clause-resting c =
     }
 
 pub returns-in-Ok-true-clause-fewer : goal.returns-in-Ok-true-clause-fewer
-returns-in-Ok-true-clause-fewer c =
+returns-in-Ok-true-clause-fewer g c =
     let e : Engine = c.begin-2.new.self in
     let b : IsBegun e true = subst (IsBegun e) c.in-Ok-true.field-0-test c.in-Ok-true.ensures.begun in
     let s : Engine = c.search-verdict.new.self in

@@ -1,0 +1,128 @@
+//! Reads what is asked.
+ghost use Rattle.std.specs.Prelude.{◌≡◌, [], IfOk, OnOk};
+
+use ground_core::{Memory, Problem};
+use lit_core::{Lit, Var};
+use problem_fixtures::{problem_of, say};
+use std::alloc::Global;
+
+/// Which task is measured.
+#[derive(Clone, Copy)]
+pub enum Task {
+    Forced,
+    Several,
+    Conflict,
+}
+
+/// What the numbers that come next are.
+#[derive(Clone, Copy)]
+enum Part {
+    Clauses,
+    Assumed,
+    Asked,
+    Most,
+}
+
+/// A problem, and what is asked of it.
+#[derive(Drop)]
+pub struct Input {
+    pub problem: Problem,
+    pub assumed: Vec<Lit>,
+    pub asked: Vec<Lit>,
+    /// How many models are asked for.
+    pub most: u32,
+    pub task: Task,
+    clause: Vec<Lit>,
+    part: Part,
+}
+
+/// The literal that the number other than 0 is.
+fn lit_of(number: i64) -> Lit {
+    Lit {
+        var: Var(number.unsigned_abs()),
+        positive: 0 < number,
+    }
+}
+
+/// Takes a number of a clause, which 0 ends.
+fn take_of_clause(alloc: Global, input: &mut Input, number: i64) -> Result<(), Memory>
+    ensures sums { input.new.problem.sums ≡ input.old.problem.sums }
+    ensures bounds { input.new.problem.bounds ≡ input.old.problem.bounds }
+    ensures terms { input.new.problem.terms ≡ input.old.problem.terms }
+    ensures retired { input.new.problem.retired ≡ input.old.problem.retired }
+{
+    if number != 0 {
+        input.clause.push(lit_of(number))?;
+        return Ok(());
+    }
+    say(alloc, &mut input.problem, input.clause.as_slice())?;
+    input.clause.clear();
+    Ok(())
+}
+
+/// Takes a number.
+fn take_number(alloc: Global, input: &mut Input, number: i64) -> Result<(), Memory>
+    ensures sums { input.new.problem.sums ≡ input.old.problem.sums }
+    ensures bounds { input.new.problem.bounds ≡ input.old.problem.bounds }
+    ensures terms { input.new.problem.terms ≡ input.old.problem.terms }
+    ensures retired { input.new.problem.retired ≡ input.old.problem.retired }
+{
+    match input.part {
+        Part::Clauses => take_of_clause(alloc, input, number),
+        Part::Assumed => Ok(input.assumed.push(lit_of(number))?),
+        Part::Asked => Ok(input.asked.push(lit_of(number))?),
+        Part::Most => {
+            input.most = u32::try_from(number).unwrap_or(0);
+            Ok(())
+        }
+    }
+}
+
+/// Takes a word: a number, or what the next numbers are, or the task. Other words say nothing.
+fn take(alloc: Global, input: &mut Input, word: &str) -> Result<(), Memory>
+    ensures sums { input.new.problem.sums ≡ input.old.problem.sums }
+    ensures bounds { input.new.problem.bounds ≡ input.old.problem.bounds }
+    ensures terms { input.new.problem.terms ≡ input.old.problem.terms }
+    ensures retired { input.new.problem.retired ≡ input.old.problem.retired }
+{
+    if let Ok(number) = word.parse::<i64>() {
+        return take_number(alloc, input, number);
+    }
+    match word {
+        "clauses" => input.part = Part::Clauses,
+        "assume" => input.part = Part::Assumed,
+        "ask" => {
+            input.task = Task::Forced;
+            input.part = Part::Asked;
+        }
+        "several" => {
+            input.task = Task::Several;
+            input.part = Part::Most;
+        }
+        _ => input.task = Task::Conflict,
+    }
+    Ok(())
+}
+
+/// What the text asks: first the number of variables, and then `clauses` with clauses that 0 ends,
+/// `assume` with literals, and `ask` with literals, `several` with a number, or `conflict`.
+pub fn read(alloc: Global, text: &str) -> Result<Input, Memory>
+    ensures plain { IfOk result (λ input. (input.problem.sums ≡ []) × (input.problem.bounds ≡ [])) }
+    ensures unnamed { IfOk result (λ input. (input.problem.terms ≡ []) × (input.problem.retired ≡ [])) }
+{
+    let (front, rest) = text.split_once(' ').unwrap_or((text, ""));
+    let vars = front.parse::<u32>().unwrap_or(0);
+    let mut input = Input {
+        problem: problem_of(alloc, vars)?,
+        assumed: Vec::new(alloc),
+        asked: Vec::new(alloc),
+        most: 0,
+        task: Task::Conflict,
+        clause: Vec::new(alloc),
+        part: Part::Clauses,
+    };
+    for word in rest.split_whitespace() {
+        take(alloc, &mut input, word)?;
+    }
+    Ok(input)
+}
