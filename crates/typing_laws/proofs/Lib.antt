@@ -10,4 +10,4 @@ pub mod Derived
 mod Integers
 mod Accepted
 mod Names
-mod WellFormed
+pub mod WellFormed

@@ -4,15 +4,12 @@ use Rattle.std.specs.List.{AllByRecursion, filter_map}
 use Rattle.kb_logic.specs.declared.vocabularies.Vocabulary.{Vocabulary}
 use Rattle.kb_logic.specs.KnownAtoms.{KnownAtoms}
 use Rattle.kb_logic.proofs.Members.{all_in}
-use Rattle.fo_syntax.specs.declared.raw_blocks.RawKb.{RawKb}
 use Rattle.fo_syntax.specs.declared.raw_blocks.Separator.{Separator}
 use Rattle.fo_syntax.specs.BlockTrees as tree
-use Rattle.fo_syntax.specs.BlockView.{as_vocabulary, structure_view}
+use Rattle.fo_syntax.specs.BlockView.{as_vocabulary, as_structure}
 use Rattle.fo_syntax.specs.Trees.{Name, name}
-use Rattle.reading_stages.proofs.OneFile.{one_file}
-use Rattle.reading_stages.specs.FileTrees.{element_after, declaration_of, vocabulary_of, structure_of, file_of}
-use Rattle.reading_stages.specs.FileView.{file_in}
-use Rattle.reading_stages.specs.Files.{VocabularyBlock, File}
+use Rattle.reading_stages.specs.FileTrees.{element_after, declaration_of, vocabulary_of, structure_of}
+use Rattle.reading_stages.specs.Files.{VocabularyBlock}
 use Rattle.reading_stages.specs.Names.{Names, names_of, text_of}
 use Rattle.reading_stages.specs.NamesStage.{declarations_of}
 use Rattle.reading_stages.specs.Numbering.{types_in, symbols_in, named_file, vocabulary_name, NamedFile, IsNamed}
@@ -65,47 +62,45 @@ first_vocabulary (tree.vocabulary p n b ds e ∷ vs) h =
 
 -- ---- files
 
-module _ (bytes : List ℕ) (kb : RawKb) (typed : TypedFile) (a : IsAccepted bytes kb typed) where
-  read : AllByRecursion IsBlockRead a.blocks
-  read = blocks_read a.blocks (subst AreRead a.parsed.0 (are_read bytes a.tokens a.scanned))
+module _ (bytes : List ℕ) (blocks : List tree.Block) (typed : TypedFile) (a : IsAccepted bytes blocks typed) where
+  read : AllByRecursion IsBlockRead blocks
+  read = blocks_read blocks (subst AreRead a.parsed.0 (are_read bytes a.tokens a.scanned))
 
-  same_file : file_in kb ≡ file_of a.blocks a.len
-  same_file = one_file a.blocks a.len kb a.read
+  of_file : IsVocabularySpelled (map vocabulary_of (filter_map as_vocabulary blocks))
+  of_file = first_vocabulary (filter_map as_vocabulary blocks) (vocabularies_read blocks read)
 
-  of_file : IsVocabularySpelled (file_in kb).vocabularies
-  of_file =
-      subst (λ (f : File). IsVocabularySpelled f.vocabularies) (sym same_file)
-      (first_vocabulary (filter_map as_vocabulary a.blocks) (vocabularies_read a.blocks read))
-
-  same_vocabulary : typed.vocabulary ≡ number.vocabulary_of (vocabulary_name (file_in kb).vocabularies)
-      (declarations_of (file_in kb).vocabularies)
+  same_vocabulary : typed.vocabulary
+      ≡ number.vocabulary_of (vocabulary_name (map vocabulary_of (filter_map as_vocabulary blocks)))
+      (declarations_of (map vocabulary_of (filter_map as_vocabulary blocks)))
   same_vocabulary = ap (λ (g : TypedFile). g.vocabulary) a.types.tree
       ∙ ap (λ (m : NamedFile). m.vocabulary) a.names.tree
 
   spelled : IsSpelledVocabulary typed.vocabulary
   spelled = subst IsSpelledVocabulary (sym same_vocabulary) of_file.0
 
-  structure_is : (s : tree.Structure) → Contains (map structure_view kb.structures) s → IsStructureRead s
-  structure_is s c =
-      all_in IsStructureRead (map structure_view kb.structures)
-      (subst (λ (ss : List tree.Structure). AllByRecursion IsStructureRead ss) (sym a.read.structures)
-      (structures_read a.blocks read)) s c
+  structure_is : (s : tree.Structure) → Contains (filter_map as_structure blocks) s → IsStructureRead s
+  structure_is s c = all_in IsStructureRead (filter_map as_structure blocks) (structures_read blocks read) s c
+
+some_mapped : (vs : List tree.Vocabulary) → vs ≢ [] → map vocabulary_of vs ≢ []
+some_mapped [] some e = some refl
+some_mapped (v ∷ vs) some e = absurd (cc)
 
 pub names_are_words : NamesAreWords
-names_are_words bytes kb typed a = (
-  spelled bytes kb typed a,
+names_are_words bytes blocks typed a = (
+  spelled bytes blocks typed a,
   λ e. subst (λ (v : Vocabulary). IsFreeWord v.name)
-      (sym (same_vocabulary bytes kb typed a)) ((of_file bytes kb typed a).1 e),
+      (sym (same_vocabulary bytes blocks typed a))
+      ((of_file bytes blocks typed a).1 (some_mapped (filter_map as_vocabulary blocks) e)),
 )
 
 title_is : (s : tree.Structure) → IsStructureRead s → IsFreeWord (text_of (structure_of s).name)
 title_is (tree.structure (tree.header p n c v b) es e) h = word_is n h.0
 
 pub data_are_words : DataAreWords
-data_are_words bytes kb typed a s c =
-    let read = structure_is bytes kb typed a s c in (
+data_are_words bytes blocks typed a s c =
+    let read = structure_is bytes blocks typed a s c in (
       title_is s read,
       λ theory answer data_of. subst (λ (k : KnownAtoms). AllByRecursion
           (AllByRecursion IsSpelled) k.domains) (sym data_of.given)
-          (domains_spelled typed.vocabulary s read (spelled bytes kb typed a).types),
+          (domains_spelled typed.vocabulary s read (spelled bytes blocks typed a).types),
     )

@@ -1,4 +1,4 @@
 mod TokenWords
 mod BlockWords
 mod DomainWords
-mod Accepted
+pub mod Accepted

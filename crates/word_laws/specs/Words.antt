@@ -1,6 +1,6 @@
 -- The names in a file are words that are read and not reserved.
-use Rattle.std.specs.Prelude.{◌≡◌, ◌≢◌, ℕ, List, [], map, false, Contains, ⊤}
-use Rattle.std.specs.List.{AllByRecursion}
+use Rattle.std.specs.Prelude.{◌≡◌, ◌≢◌, ℕ, List, [], false, Contains, ⊤}
+use Rattle.std.specs.List.{AllByRecursion, filter_map}
 use Rattle.kb_text.specs.Pieces.{WordText, IsPiece}
 use Rattle.kb_text.specs.Tokens.{unsupported_words, is_word_of}
 use Rattle.kb_logic.specs.declared.elements.Elem.{Elem}
@@ -8,15 +8,13 @@ use Rattle.kb_logic.specs.declared.elements.Elem.TheVariants.{Named, Num}
 use Rattle.kb_logic.specs.declared.vocabularies.TypeDecl.{TypeDecl}
 use Rattle.kb_logic.specs.declared.vocabularies.Vocabulary.{Vocabulary}
 use Rattle.kb_logic.specs.KnownAtoms.{KnownAtoms}
-use Rattle.fo_syntax.specs.declared.raw_blocks.RawKb.{RawKb}
 use Rattle.fo_syntax.specs.declared.terminal.Terminal.TheVariants.{Word}
 use Rattle.fo_syntax.specs.BlockTrees.{Block, Structure}
 use Rattle.fo_syntax.specs.BlockFine.{IsFile}
-use Rattle.fo_syntax.specs.BlockView.{structure_view, IsKb}
+use Rattle.fo_syntax.specs.BlockView.{as_vocabulary, as_structure}
 use Rattle.fo_syntax.specs.Items.{word_terminal, IsTokens}
 use Rattle.fo_syntax.specs.Terminals.{Tok}
-use Rattle.reading_stages.specs.FileTrees.{structure_of}
-use Rattle.reading_stages.specs.FileView.{file_in}
+use Rattle.reading_stages.specs.FileTrees.{structure_of, file_of}
 use Rattle.reading_stages.specs.Names.{text_of}
 use Rattle.reading_stages.specs.Numbering.{NamedFile, IsNamed}
 use Rattle.reading_stages.specs.TypedFiles.{TypedFile}
@@ -44,30 +42,28 @@ pub record IsSpelledVocabulary (v : Vocabulary) : Type 0 where
   pub types : AllByRecursion IsSpelledType v.types
   pub symbols : AllByRecursion (λ s. IsFreeWord s.name) v.symbols
 
--- these are the blocks of a text, kb is the file of them, and the stages of names and types accept it
-pub record IsAccepted (bytes : List ℕ) (kb : RawKb) (typed : TypedFile) : Type 0 where
+-- these are the blocks of a text, and the stages of names and types accept the file of them
+pub record IsAccepted (bytes : List ℕ) (blocks : List Block) (typed : TypedFile) : Type 0 where
   pub tokens : List Tok
-  pub blocks : List Block
   pub len : ℕ
   pub named : NamedFile
   pub scanned : IsTokens bytes tokens
   pub parsed : IsFile tokens blocks
-  pub read : IsKb blocks len kb
-  pub names : IsNamed (file_in kb) named
+  pub names : IsNamed (file_of blocks len) named
   pub types : IsTyped named typed
 
 -- the vocabulary's names are words, and so is its own name, where there is one
 abbrev pub NamesAreWords : Type 0
 NamesAreWords =
-    (bytes : List ℕ) (kb : RawKb) (typed : TypedFile) → IsAccepted bytes kb typed
+    (bytes : List ℕ) (blocks : List Block) (typed : TypedFile) → IsAccepted bytes blocks typed
     → IsSpelledVocabulary typed.vocabulary
-    × ((file_in kb).vocabularies ≢ [] → IsFreeWord typed.vocabulary.name)
+    × (filter_map as_vocabulary blocks ≢ [] → IsFreeWord typed.vocabulary.name)
 
 -- the name of each structure is a word, and so are the elements of the domains that it gives, where they are names
 abbrev pub DataAreWords : Type 0
 DataAreWords =
-    (bytes : List ℕ) (kb : RawKb) (typed : TypedFile) → IsAccepted bytes kb typed
-    → (s : Structure) → Contains (map structure_view kb.structures) s
+    (bytes : List ℕ) (blocks : List Block) (typed : TypedFile) → IsAccepted bytes blocks typed
+    → (s : Structure) → Contains (filter_map as_structure blocks) s
     → IsFreeWord (text_of (structure_of s).name)
     × ((theory : ℕ) (answer : KnownAtoms) → IsDataOf typed theory s answer
     → AllByRecursion (AllByRecursion IsSpelled) answer.domains)
