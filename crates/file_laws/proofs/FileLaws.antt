@@ -1,5 +1,5 @@
 -- What a file means is said so that it can be read.
-use Rattle.std.proofs.Common.{◌≡◌, ◌≢◌, ℕ, ℤ, pos, negsuc, ◌≤ℤ◌, ◌<◌, ◌^◌, List, [], ◌∷◌, length, map, Contains, Ok, Err, Result, refl, sym, ap, subst, ◌∙◌, arith}
+use Rattle.std.proofs.Common.{◌≡◌, ◌≢◌, ℕ, ℤ, pos, negsuc, ◌≤ℤ◌, ◌<◌, ◌^◌, List, [], ◌∷◌, length, map, Ok, Result, refl, sym, subst, arith}
 use Rattle.std.specs.Prelude.{nat_abs, neg_ℤ}
 use Rattle.std.specs.List.{AllByRecursion, filter_map}
 use Rattle.std.proofs.lemmas.Int.{ints}
@@ -22,14 +22,14 @@ use Rattle.fo_syntax.specs.Items.{IsTokens}
 use Rattle.fo_syntax.specs.Terminals.{Tok}
 use Rattle.fo_syntax.specs.Whole.{Reads, parsed, unscanned, ungrammatical}
 use Rattle.reading_stages.specs.FileTrees.{vocabulary_of}
-use Rattle.word_laws.specs.Words.{IsFreeWord, IsSpelled, IsAccepted}
+use Rattle.word_laws.specs.Words.{IsFreeWord, IsSpelled}
 use Rattle.word_laws.proofs.Accepted.{names_are_words, data_are_words}
 use Rattle.block_laws.specs.ReadBack.{IsReadBack}
 use Rattle.block_laws.proofs.Each.{distinct_right}
 use Rattle.accepted_blocks.specs.Accepted.{IsAcceptedData}
 use Rattle.accepted_blocks.proofs.Accepted.{accepted_are_writable, accepted_are_read_back}
 use Rattle.consult_text.specs.OneText.{CanBeWritten}
-use Rattle.base_reader.specs.FileMeanings.{Choice, Meaning, FileMeans, structure_name}
+use Rattle.base_reader.specs.FileMeanings.{Choice, Meaning, FileMeans}
 use Rattle.file_laws.specs.FileLaws.{FilesHaveWordNames, StructuresAreReadBack}
 
 -- ---- the tokens of a file that is read
