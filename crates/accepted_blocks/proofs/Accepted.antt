@@ -1,23 +1,20 @@
 -- An accepted structure can be printed, and is read back.
-use Rattle.std.proofs.Common.{◌≡◌, ℕ, List, [], ◌∷◌, ◌++◌, Some, None, true, map, flat_map, refl, sym, ap, subst, ◌∙◌}
+use Rattle.std.proofs.Common.{◌≡◌, ℕ, List, [], ◌∷◌, ◌++◌, true, map, flat_map, sym, ap}
 use Rattle.std.specs.List.{AllByRecursion, list_all}
 use Rattle.std.proofs.lemmas.Bool.{and_from}
 use Rattle.kb_text.specs.Bytes.{class_of, is_word_byte}
 use Rattle.kb_text.specs.Pieces.{WordText, IsPiece}
 use Rattle.kb_logic.specs.declared.elements.Elem.{Elem}
 use Rattle.kb_logic.specs.declared.elements.Elem.TheVariants.{Named, Num}
-use Rattle.kb_logic.specs.declared.vocabularies.Parent.{Parent}
 use Rattle.kb_logic.specs.declared.vocabularies.TypeDecl.{TypeDecl}
 use Rattle.kb_logic.specs.declared.vocabularies.Symbol.{Symbol}
 use Rattle.kb_logic.specs.declared.vocabularies.Vocabulary.{Vocabulary}
 use Rattle.kb_logic.specs.Domains.{IsDomainOf}
 use Rattle.kb_logic.specs.KnownAtoms.{KnownAtoms}
 use Rattle.kb_logic.specs.Structures.{IsDistinct, EachWith}
-use Rattle.fo_syntax.specs.BlockTrees.{Structure, Block}
 use Rattle.reading_stages.specs.Below.{type_above}
 use Rattle.reading_stages.specs.FileTrees.{file_of, structure_of}
 use Rattle.reading_stages.specs.Names.{text_of}
-use Rattle.reading_stages.specs.TypedFiles.{TypedFile}
 use Rattle.structure_laws.proofs.Rows.{accepted_is_given}
 use Rattle.structure_laws.proofs.GivenDomains.{accepted_have_domains}
 use Rattle.typing_laws.specs.Vocabularies.{IsTypeAmong, names_declared}
@@ -29,7 +26,7 @@ use Rattle.block_texts.specs.Names.{IsName}
 use Rattle.block_laws.specs.ReadBack.{declared_names, StandsAlone, IsNamedWell}
 use Rattle.block_laws.proofs.Each.{distinct_left}
 use Rattle.block_laws.proofs.ReadBack.{blocks_are_read_back}
-use Rattle.accepted_blocks.specs.Accepted.{IsAcceptedData, AcceptedAreWritable, AcceptedAreReadBack}
+use Rattle.accepted_blocks.specs.Accepted.{AcceptedAreWritable, AcceptedAreReadBack}
 use Rattle.accepted_blocks.proofs.Given.{accepted_are_listed}
 
 -- ---- names

@@ -1,6 +1,5 @@
 -- What a structure gives is consistent, and listed as a partial structure lists what it knows.
-use Rattle.std.proofs.Common.{◌≡◌, ℕ, List, [], ◌∷◌, ◌&&◌, ◌||◌, ◌==◌, not, true, false, map, filter, refl, sym, ap, subst, ◌∙◌, inl, inr, option_map, Contains}
-use Rattle.std.specs.Prelude.{IsTrue}
+use Rattle.std.proofs.Common.{◌≡◌, ℕ, List, ◌&&◌, ◌||◌, ◌==◌, not, true, false, map, filter, sym, ap, subst, ◌∙◌, inl, inr, option_map, Contains}
 use Rattle.std.specs.List.{AllByRecursion, list_any}
 use Rattle.std.proofs.lemmas.Bool.{cases_Bool, true≢false, and_parts, and_from, eqb-true, false_from_ne_true}
 use Rattle.kb_text.specs.declared.fault.KbFault.{KbFault}
@@ -10,7 +9,7 @@ use Rattle.kb_logic.specs.Models.{GroundAtom, IsAtomOver}
 use Rattle.kb_logic.specs.Structures.{IsDistinct}
 use Rattle.kb_logic.specs.KnownAtoms.{KnownAtoms, atoms_over}
 use Rattle.kb_logic.proofs.AllAtoms.{atom_listed, listed_over}
-use Rattle.kb_logic.proofs.Has.{Has, has_from, contains_from, filter-same}
+use Rattle.kb_logic.proofs.Has.{has_from, contains_from, filter-same}
 use Rattle.partial_structures.specs.KnownAtoms.{same_atom, same_row, same_option, both_values, is_rival}
 use Rattle.partial_structures.specs.Consistency.{IsConsistent, IsListed}
 use Rattle.partial_structures.proofs.Listed.{listed}
@@ -20,7 +19,7 @@ use Rattle.reading_stages.specs.DataEntries.{said_in}
 use Rattle.reading_stages.specs.DataDomains.{domains_of}
 use Rattle.reading_stages.specs.DataFacts.{Fact, facts_in, same_value_of, are_opposed, are_in, is_about, says_true, says_false, is_whole, is_said_true, is_said_false}
 use Rattle.reading_stages.specs.DataStage.{EntriesRefuse}
-use Rattle.reading_stages.specs.DataAnswer.{given_by, IsGivenBy}
+use Rattle.reading_stages.specs.DataAnswer.{given_by}
 use Rattle.structure_laws.proofs.Consistent.{given_is_consistent}
 use Rattle.structure_laws.proofs.Same.{same_value_is, value_itself}
 use Rattle.block_laws.proofs.Each.{has_all, has_kept, kept_has, any_has, has_any}

@@ -1,2 +1,4 @@
 pub mod Shares
 pub mod NextFact
+pub mod Kept
+pub mod KeyLemmas

@@ -8,10 +8,10 @@ use Rattle.data_entries.specs.EntryViews.{fact_view}
 use Rattle.data_entries.specs.declared.facts.Fact.{Fact}
 use Rattle.data_entries.proofs.Dropped.{front}
 
-abbrev views : List Fact → List stated.Fact
+abbrev pub views : List Fact → List stated.Fact
 views fs = map fact_view fs
 
-taken_more : (fs : List Fact) (i : ℕ) (f : Fact) → i < length fs → f ≡ get_or fs i f → views (take (i + 1) fs) ≡ views (take i fs) ++ fact_view f ∷ []
+pub taken_more : (fs : List Fact) (i : ℕ) (f : Fact) → i < length fs → f ≡ get_or fs i f → views (take (i + 1) fs) ≡ views (take i fs) ++ fact_view f ∷ []
 taken_more fs i f lt is = ap views (take_more fs i f lt ∙ ap (λ x. take i fs ++ x ∷ []) (sym is)) ∙ map-append fact_view (take i fs) (f ∷ [])
 
 pub next_fact : (note : Option KbFault → DataUse → Option KbFault) (fs : List Fact) (i : ℕ) (f : Fact) (old new whole : Option KbFault) → i < length fs → f ≡ get_or fs i f

@@ -3,4 +3,6 @@
 
 pub mod clashes;
 pub mod facts;
+pub mod keys;
 pub mod notes;
+pub mod tables;

@@ -5,6 +5,8 @@ ghost use Rattle.reading_stages.specs.DataDomains.{domains_of};
 ghost use Rattle.data_entries.specs.SaidViews.{said_view};
 ghost use Rattle.data_filling.specs.Filling.{AreAccepted};
 
+use crate::closing::close_entries;
+use crate::facts::add_entries;
 use data_entries::written::Entry;
 use kb_logic::{DomainList, Memory, Vocabulary};
 use partial_structures::Partial;
@@ -21,5 +23,8 @@ pub fn fill(
     requires accepted { AreAccepted vocab.now (map said_view entries.now) }
     ensures { IfOk result (λ p. p ≡ given_by vocab.now (map said_view entries.now)) }
 {
-    Err(Memory)
+    let mut partial = Partial::new(alloc, vocab, domains)?;
+    add_entries(alloc, entries, &mut partial)?;
+    close_entries(entries, &mut partial)?;
+    Ok(partial)
 }

@@ -1,6 +1,9 @@
 //! A partial structure from what the entries of a structure say.
 #![tactic(auto)]
 
+mod closing;
+mod elements;
+mod facts;
 mod filling;
 
 pub use filling::fill;

@@ -3,12 +3,12 @@ ghost use Rattle.std.specs.Prelude.{◌≡◌, IsNone, MatchOption, map, true, I
 ghost use Rattle.std.specs.List.{AllByRecursion};
 ghost use Rattle.kb_logic.specs.Bounds.{value_type_of};
 ghost use Rattle.kb_logic.specs.Trees.{terms_of, atom, comparison};
-ghost use Rattle.kb_logic.specs.Values.{value_view};
 ghost use Rattle.kb_logic.specs.Views.{term_view};
 ghost use Rattle.kb_logic.specs.Environments.{env_view};
 ghost use Rattle.ground_core.specs.Problems.{ProblemState, AreLitsOf};
 ghost use Rattle.term_values.specs.GroundBases.{row_index, tuples_at};
 ghost use Rattle.term_values.specs.KnownBases.{IsGroundBase};
+ghost use Rattle.term_values.specs.RowValues.{row_value};
 ghost use Rattle.def_ground.specs.Answers.{Makes, Grows, gate_of};
 ghost use Rattle.def_ground.specs.Cases.{cases_of};
 ghost use Rattle.def_ground.specs.CaseViews.{case_view, guarded_view};
@@ -19,16 +19,15 @@ ghost use Rattle.ground_walk.specs.Groundable.{HasVars, IsGroundable, HaveLits};
 use def_ground::{Answer, Case, GuardedValue, answer_of_cases, case_of, case_of_row, gate};
 use ground_core::{LitList, Memory, Problem};
 use kb_logic::environments::Env;
-use kb_logic::values::Value;
 use kb_logic::{Cmp, Term};
 use lit_core::Lit;
 use std::alloc::Global;
-use term_values::{GroundData, Rows, TupleRows};
+use term_values::{GroundData, RowValue, Rows, TupleRows};
 
 /// What a predicate's atom with these arguments comes to.
-fn atom_answer(base: &GroundData<'_>, symbol: u32, values: &[Value<'_>]) -> Answer
+fn atom_answer(base: &GroundData<'_>, symbol: u32, values: &[RowValue<'_>]) -> Answer
     requires { IsNone (value_type_of base.now.vocabulary symbol) }
-    ensures { result ≡ answer_at base.now symbol (row_index (tuples_at base.now symbol) (map value_view values.now)) }
+    ensures { result ≡ answer_at base.now symbol (row_index (tuples_at base.now symbol) (map row_value values.now)) }
 {
     match base.variable_at(symbol, values) {
         Some(var) => Answer::of_atom(base.known(var), var),

@@ -18,10 +18,14 @@ use term_values::GroundData;
 fn said_count(base: &GroundData<'_>, symbol: u32) -> Result<u64, Memory>
     ensures { IfOk result (λ n. n ≡ length (said_tuples (values_at base.now symbol) (tuples_at base.now symbol))) }
 {
-    let has_none = base.values(symbol).is_empty();
-    match base.tuple_count(symbol) {
-        Some(count) => Ok(if has_none { count.min(1) } else { count }),
-        None => { if has_none { Ok(1) } else { Err(Memory) } }
+    let count = base.tuple_count(symbol);
+    if base.values(symbol).is_empty() {
+        return Ok(count.min(1));
+    }
+    if count == u64::MAX {
+        Err(Memory)
+    } else {
+        Ok(count)
     }
 }
 

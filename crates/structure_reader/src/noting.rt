@@ -33,7 +33,7 @@ pub fn note_all<'a>(
     note_types(earliest, decls, types, kb.places.types.as_slice());
     note_entries(alloc, earliest, types, entries)?;
     let facts = facts_in(alloc, entries)?;
-    note_clashes(earliest, &facts);
+    note_clashes(alloc, earliest, &facts)?;
     note_arguments(alloc, earliest, types, kb, theory)?;
     Ok(())
 }

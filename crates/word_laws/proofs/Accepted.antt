@@ -12,7 +12,7 @@ use Rattle.reading_stages.specs.FileTrees.{element_after, declaration_of, vocabu
 use Rattle.reading_stages.specs.Files.{VocabularyBlock}
 use Rattle.reading_stages.specs.Names.{Names, names_of, text_of}
 use Rattle.reading_stages.specs.NamesStage.{declarations_of}
-use Rattle.reading_stages.specs.Numbering.{types_in, symbols_in, named_file, vocabulary_name, NamedFile, IsNamed}
+use Rattle.reading_stages.specs.Numbering.{types_in, symbols_in, vocabulary_name, NamedFile}
 use Rattle.reading_stages.specs.Numbering as number
 use Rattle.reading_stages.specs.TypedFiles.{TypedFile}
 use Rattle.word_laws.specs.Words.{IsFreeWord, IsSpelled, IsSpelledType, IsSpelledVocabulary, IsAccepted, NamesAreWords}

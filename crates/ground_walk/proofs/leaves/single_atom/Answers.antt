@@ -1,6 +1,6 @@
 use Rattle.std.proofs.Common.{map, sym, ap, ◌∙◌, arith}
 use Rattle.std.proofs.lemmas.List.{nil_from_length}
-use Rattle.kb_logic.specs.Values.{value_view}
+use Rattle.term_values.specs.RowValues.{row_value}
 use Rattle.def_ground.specs.Answers.{GroundResult}
 use Rattle.def_ground.specs.declared.answers.Answer.{Answer}
 use Rattle.ground_walk.proofs.LeafSteps.{single-row}
@@ -8,6 +8,6 @@ use Rattle.ground_walk.proofs.leaves.single_atom.Goals as goal
 
 pub returns : goal.returns
 returns c =
-    λ p. single-row c.args.base.now c.args.symbol c.args.rows.now c.guards.result.now (map value_view c.values.result.now) p
+    λ p. single-row c.args.base.now c.args.symbol c.args.rows.now c.guards.result.now (map row_value c.values.result.now) p
     (omega arith) c.guards.ensures (nil_from_length c.guards.result.now (omega arith)) c.values.ensures
     ∙ ap (λ (a : Answer). let g : GroundResult = record { answer = a; problem = p } in g) (sym c.atom_answer.ensures)

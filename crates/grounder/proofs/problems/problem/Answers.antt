@@ -1,0 +1,24 @@
+use Rattle.std.proofs.Common.{true, [], map, sym, subst}
+use Rattle.std.specs.List.{AllByRecursion}
+use Rattle.kb_logic.specs.Views.{formula_view}
+use Rattle.term_values.specs.GroundBases.{GroundBase}
+use Rattle.term_values.specs.KnownBases.{IsGroundBase}
+use Rattle.term_values.proofs.KnownLaws.{ground-base}
+use Rattle.ground_walk.specs.Groundable.{IsGroundable, KnowsAtoms}
+use Rattle.ground_walk.proofs.GroundableLaws.{knows-atoms}
+use Rattle.grounder.proofs.problems.problem.Goals as goal
+
+pub problem_of-requires-clause-given : goal.problem_of-requires-clause-given
+problem_of-requires-clause-given c =
+    subst (λ (b : GroundBase). IsGroundBase b) (sym c.in_ok-base.ensures)
+    (ground-base c.args.vocabulary.now c.args.known.now c.requires.known (λ k. true))
+
+pub problem_of-requires-clause-known : goal.problem_of-requires-clause-known
+problem_of-requires-clause-known c =
+    subst (λ (b : GroundBase). KnowsAtoms b) (sym c.in_ok-base.ensures)
+    (knows-atoms c.args.vocabulary.now c.args.known.now)
+
+pub problem_of-requires-clause-fits : goal.problem_of-requires-clause-fits
+problem_of-requires-clause-fits c =
+    subst (λ (b : GroundBase). AllByRecursion (λ f. IsGroundable b f []) (map formula_view c.args.sentences.now))
+    (sym c.in_ok-base.ensures) c.requires.fits
