@@ -5,6 +5,7 @@ ghost use Rattle.consult_base.specs.Opened.{base_of};
 ghost use Rattle.consult_text.specs.Literals.{IsLiteralOver};
 ghost use Rattle.consultant_session.specs.Queries.{Finds, IsSolverOf, IsTaskOver};
 
+use chooser::FirstGreatest;
 use clause_learning::Solver;
 use consult_base::KnowledgeBase;
 use ground_core::{Budget, Halt};
@@ -27,13 +28,13 @@ pub enum Found {
 
 /// A solver of the knowledge base's ground problem. That is not too large, since the knowledge base's weight is within
 /// its limit: only memory may be wanting.
-fn solver_of(alloc: Global, kb: &KnowledgeBase) -> Result<Solver, Memory>
+fn solver_of(alloc: Global, kb: &KnowledgeBase) -> Result<Solver<FirstGreatest>, Memory>
     ensures { IfOk result (λ solver. IsSolverOf (base_of kb.now) solver.kept) }
 {
     let Ok(problem) = ground(alloc, kb.typed(), kb.theory(), kb.data()) else {
         return Err(Memory);
     };
-    let Ok(mut solver) = Solver::new(alloc) else {
+    let Ok(mut solver) = Solver::new(alloc, FirstGreatest) else {
         return Err(Memory);
     };
     match solver.add_problem(&problem) {
@@ -43,7 +44,7 @@ fn solver_of(alloc: Global, kb: &KnowledgeBase) -> Result<Solver, Memory>
 }
 
 /// A task of the knowledge base to which nothing was said yet.
-fn task_of(alloc: Global, kb: &KnowledgeBase) -> Result<Task<Solver>, Memory>
+fn task_of(alloc: Global, kb: &KnowledgeBase) -> Result<Task<Solver<FirstGreatest>>, Memory>
     ensures { IfOk result (λ task. IsTaskOver (base_of kb.now) task.numbers task.solver.kept) }
 {
     let solver = solver_of(alloc, kb)?;

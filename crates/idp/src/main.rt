@@ -6,6 +6,7 @@ mod adapters;
 mod tests;
 
 use adapters::{CountedReader, CountedWriter, FileSystem};
+use file_laws::{files_have_word_names, structures_are_read_back};
 use idp_cli::laws::{printed_bytes_determine_the_replies, statuses_come_where_they_should};
 use idp_cli::{Status, run};
 use kb_io::NullSink;
@@ -32,6 +33,8 @@ fn words_of<R: Env + AllocGlobal>(rt: &R) -> Result<Vec<String>, AllocError> {
 fn main(rt: HostRuntime) -> ExitCode {
     statuses_come_where_they_should();
     printed_bytes_determine_the_replies();
+    files_have_word_names();
+    structures_are_read_back();
     let status = match words_of(&rt) {
         Ok(words) => run(
             rt.alloc(),
