@@ -1,4 +1,5 @@
 mod Asked
+mod AskedSteps
 mod Ended
 mod Answered
 mod Progress
