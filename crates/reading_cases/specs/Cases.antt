@@ -31,4 +31,5 @@ call_for word =
     else (if bytes_eq word (codes "pick U") then Some call.PickU
     else (if bytes_eq word (codes "names") then Some call.Names
     else (if bytes_eq word (codes "types") then Some call.Types
-    else None)))))))))
+    else (if bytes_eq word (codes "data") then Some call.Data
+    else None))))))))))

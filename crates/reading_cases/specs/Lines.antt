@@ -1,5 +1,5 @@
 -- The line that is printed of a case: what its call makes of its text, over the text's bytes alone.
-use Rattle.std.specs.Prelude.{◌≡◌, ◌++◌, ◌⊎◌, ℕ, List, [], ◌∷◌, length, codes, Option, Some, None, Ok, Err}
+use Rattle.std.specs.Prelude.{◌≡◌, ◌++◌, ◌⊎◌, ℕ, List, [], ◌∷◌, length, slice_get, codes, Option, Some, None, Ok, Err}
 use Rattle.std.specs.Fmt.{decimal}
 use Rattle.std.specs.List.{filter_map}
 use Rattle.kb_text.specs.Depth.{outermost}
@@ -12,7 +12,7 @@ use Rattle.fo_syntax.specs.Trees.{Formula, Term}
 use Rattle.fo_syntax.specs.Fine.{FineFormula, FineTerm}
 use Rattle.fo_syntax.specs.Spelling.{put_formula, put_term}
 use Rattle.fo_syntax.specs.Whole.{Reads}
-use Rattle.fo_syntax.specs.BlockTrees.{Block}
+use Rattle.fo_syntax.specs.BlockTrees.{Block, Structure}
 use Rattle.fo_syntax.specs.BlockView.{as_vocabulary, as_theory, as_structure, as_term_block}
 use Rattle.fo_syntax.specs.FileReads.{KbReads}
 use Rattle.reading_stages.specs.Scopes.{Text}
@@ -24,6 +24,10 @@ use Rattle.reading_stages.specs.NamesStage.{NamesRefuse}
 use Rattle.reading_stages.specs.Numbering.{IsNamed, NamedFile}
 use Rattle.reading_stages.specs.TypesStage.{TypesRefuse, IsTyped}
 use Rattle.reading_stages.specs.TypedFiles.{TypedFile}
+use Rattle.kb_logic.specs.KnownAtoms.{KnownAtoms}
+use Rattle.reading_stages.specs.DataStage.{StructureRefuses}
+use Rattle.reading_stages.specs.DataAnswer.{IsDataOf}
+use Rattle.reading_stages.specs.SizesStage.{Sizes, SizesRefuse, size_uses, AreSizesOf}
 use Rattle.reading_cases.specs.Cases.{call_for, first_line, further_lines}
 use Rattle.reading_cases.specs.declared.calls.Call.{Call}
 use Rattle.reading_cases.specs.declared.calls.Call.TheVariants as call
@@ -56,6 +60,9 @@ counts_text vocabularies theories structures terms end =
 abbrev pub picked_text : ℕ → ℕ → List ℕ
 picked_text theory structure =
     codes "theory " ++ (decimal theory ++ (codes " structure " ++ (decimal structure ++ codes "\n")))
+
+abbrev pub sizes_text : ℕ → ℕ → List ℕ
+sizes_text atoms weight = codes "atoms " ++ (decimal atoms ++ (codes " weight " ++ (decimal weight ++ codes "\n")))
 
 -- ---- lines
 
@@ -123,6 +130,38 @@ IsTypesLine text line =
     × (line ≡ codes "typed\n"))
     ⊎ IsFaultLine (RefusedBy text NamesOrTypes) line
 
+-- refused by the stage of data, or by that of sizes where that of data accepts
+abbrev pub DataOrSizes : TypedFile → ℕ → Structure → KbFault → Type 0
+DataOrSizes y t tree fault =
+    IsEarliest (StructureRefuses y t tree) fault
+    ⊎ ((d : KnownAtoms) × IsDataOf y t tree d × IsEarliest (SizesRefuse (size_uses y t d.domains)) fault)
+
+-- the sizes over the structure beside the theory with this number
+abbrev pub IsMeasuredLine : TypedFile → ℕ → Structure → List ℕ → Type 0
+IsMeasuredLine y t tree line =
+    ((d : KnownAtoms) × (z : Sizes) × IsDataOf y t tree d × AreSizesOf y t d.domains z × (line ≡ sizes_text z.atoms z.weight))
+    ⊎ IsFaultLine (DataOrSizes y t tree) line
+
+-- the same in a file, once its names and its types are accepted
+abbrev pub IsChosenLine : File → ℕ → Structure → List ℕ → Type 0
+IsChosenLine f t tree line =
+    ((n : NamedFile) × (y : TypedFile) × IsNamed f n × IsTyped n y × IsMeasuredLine y t tree line)
+    ⊎ IsFaultLine (NamesOrTypes f) line
+
+-- the text is that of a file, of which this theory and this structure are used where no name is given
+pub record IsReadAs (text : List ℕ) (f : File) (t : ℕ) (tree : Structure) : Type 0 where
+  pub blocks : List Block
+  pub read : KbReads text (Ok blocks)
+  pub file : f ≡ file_of blocks (length text)
+  pub number : ℕ
+  pub picked : IsPicked f None None t number
+  pub structure : slice_get (filter_map as_structure blocks) number ≡ Some tree
+
+abbrev pub IsDataLine : List ℕ → List ℕ → Type 0
+IsDataLine text line =
+    ((f : File) × (t : ℕ) × (tree : Structure) × IsReadAs text f t tree × IsChosenLine f t tree line)
+    ⊎ IsFaultLine (RefusedBy text (λ f. IsEarliest (BlocksRefuse (block_uses f None None)))) line
+
 -- the line of a text by the call that it is given to
 abbrev pub IsLineOf : Option Call → List ℕ → List ℕ → Type 0
 IsLineOf None text line = line ≡ codes "no such call\n"
@@ -136,6 +175,7 @@ IsLineOf (Some call.PickT) text line = IsPickLine (Some (codes "T")) text line
 IsLineOf (Some call.PickU) text line = IsPickLine (Some (codes "U")) text line
 IsLineOf (Some call.Names) text line = IsNamesLine text line
 IsLineOf (Some call.Types) text line = IsTypesLine text line
+IsLineOf (Some call.Data) text line = IsDataLine text line
 
 -- the line of a case
 abbrev pub IsLine : List ℕ → List ℕ → Type 0

@@ -25,6 +25,8 @@ pub enum Call {
     Names,
     /// A file with the types of its variables.
     Types,
+    /// The structure of a file and how large it makes the theory.
+    Data,
 }
 
 /// The call of this name.
@@ -51,6 +53,8 @@ pub fn call_of(word: &[u8]) -> Option<Call>
         Some(Call::Names)
     } else if word == b"types".as_slice() {
         Some(Call::Types)
+    } else if word == b"data".as_slice() {
+        Some(Call::Data)
     } else {
         None
     }

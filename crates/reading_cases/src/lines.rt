@@ -3,14 +3,19 @@ ghost use Rattle.std.specs.Prelude.{◌≡◌, IfOk, length};
 ghost use Rattle.std.specs.String.{string_bytes};
 ghost use Rattle.kb_text.specs.Tokens.{lexeme_of, lexemes};
 ghost use Rattle.block_choice.specs.Choices.{word_given};
-ghost use Rattle.reading_cases.specs.Lines.{letter_of, word_of, words_of, counts_text, fault_text, picked_text, IsCountLine, IsFileLine, IsFormulaLine, IsLine, IsNamesLine, IsPickLine, IsTermLine, IsTokensLine, IsTypesLine};
+ghost use Rattle.fo_syntax.specs.BlockView.{structure_view};
+ghost use Rattle.reading_stages.specs.FileView.{file_in};
+ghost use Rattle.type_derivation.specs.TypedViews.{typed_view};
+ghost use Rattle.reading_cases.specs.Lines.{letter_of, word_of, words_of, counts_text, fault_text, picked_text, sizes_text, IsChosenLine, IsCountLine, IsDataLine, IsFileLine, IsFormulaLine, IsLine, IsMeasuredLine, IsNamesLine, IsPickLine, IsTermLine, IsTokensLine, IsTypesLine};
 
 use crate::calls::{Call, call_of, cut};
 use fo_reader::{KbError, RawKb, read_formula, read_kb, read_term};
+use fo_syntax::RawStructure;
 use kb_names::{Picked, pick, resolve};
 use kb_text::{KbFault, Kind, LexError, Token, tokens};
 use std::alloc::{AllocError, Global};
-use type_derivation::derive;
+use structure_reader::{Measure, measure, read_structure};
+use type_derivation::{TypedKb, derive};
 
 fn letter(kind: Kind) -> &'static str
     ensures { result.now ≡ letter_of kind }
@@ -175,6 +180,76 @@ fn types_line(alloc: Global, text: &[u8]) -> Result<String, AllocError>
     }
 }
 
+fn sizes_line(alloc: Global, sizes: Measure) -> Result<String, AllocError>
+    ensures { IfOk result (λ line. string_bytes line ≡ sizes_text sizes.atoms sizes.weight) }
+{
+    let atoms = sizes.atoms;
+    let weight = sizes.weight;
+    format!(in alloc; "atoms {atoms} weight {weight}\n")
+}
+
+// The sizes over the structure beside the theory with this number.
+fn measured_line(
+    alloc: Global,
+    kb: &TypedKb,
+    theory: usize,
+    structure: &RawStructure,
+) -> Result<String, AllocError>
+    ensures { IfOk result (λ line. IsMeasuredLine (typed_view kb.now) theory (structure_view structure.now) (string_bytes line)) }
+{
+    let partial = match read_structure(alloc, kb, theory, structure) {
+        Ok(partial) => partial,
+        Err(KbError::Refused(fault)) => return fault_line(alloc, fault),
+        Err(KbError::Memory) => return Err(AllocError),
+    };
+    match measure(alloc, kb, theory, &partial) {
+        Ok(sizes) => sizes_line(alloc, sizes),
+        Err(KbError::Refused(fault)) => fault_line(alloc, fault),
+        Err(KbError::Memory) => Err(AllocError),
+    }
+}
+
+// The same for the theory with this number, in the file.
+fn chosen_line(
+    alloc: Global,
+    raw: &RawKb,
+    theory: usize,
+    structure: &RawStructure,
+) -> Result<String, AllocError>
+    ensures { IfOk result (λ line. IsChosenLine (file_in raw.now) theory (structure_view structure.now) (string_bytes line)) }
+{
+    let named = match resolve(alloc, raw) {
+        Ok(named) => named,
+        Err(KbError::Refused(fault)) => return fault_line(alloc, fault),
+        Err(KbError::Memory) => return Err(AllocError),
+    };
+    match derive(alloc, named) {
+        Ok(kb) => measured_line(alloc, &kb, theory, structure),
+        Err(KbError::Refused(fault)) => fault_line(alloc, fault),
+        Err(KbError::Memory) => Err(AllocError),
+    }
+}
+
+fn data_line(alloc: Global, text: &[u8]) -> Result<String, AllocError>
+    ensures { IfOk result (λ line. IsDataLine text.now (string_bytes line)) }
+{
+    let raw = match read_kb(alloc, text) {
+        Ok(raw) => raw,
+        Err(KbError::Refused(fault)) => return fault_line(alloc, fault),
+        Err(KbError::Memory) => return Err(AllocError),
+    };
+    let picked = match pick(alloc, &raw, None, None) {
+        Ok(picked) => picked,
+        Err(KbError::Refused(fault)) => return fault_line(alloc, fault),
+        Err(KbError::Memory) => return Err(AllocError),
+    };
+    // The structure that was picked is one of the file's.
+    let Some(structure) = raw.structures.get(picked.structure) else {
+        return Err(AllocError);
+    };
+    chosen_line(alloc, &raw, picked.theory, structure)
+}
+
 /// The line of one case.
 pub fn line(alloc: Global, case: &[u8]) -> Result<String, AllocError>
     ensures { IfOk result (λ line. IsLine case.now (string_bytes line)) }
@@ -194,5 +269,6 @@ pub fn line(alloc: Global, case: &[u8]) -> Result<String, AllocError>
         Call::PickU => pick_line(alloc, Some("U"), text),
         Call::Names => names_line(alloc, text),
         Call::Types => types_line(alloc, text),
+        Call::Data => data_line(alloc, text),
     }
 }

@@ -1,4 +1,4 @@
-//! Prints what the readers and the stages up to types make of each case on the standard input.
+//! Prints what the readers and the stages up to sizes make of each case on the standard input.
 //!
 //! A case is a line with the name of a call, and the text that the call is given. A line `====` stands between each
 //! two.
