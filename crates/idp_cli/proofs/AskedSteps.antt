@@ -1,13 +1,16 @@
 -- What the words ask, from what each part of them says.
-use Rattle.std.proofs.Common.{◌≡◌, ℕ, List, [], ◌∷◌, length, Bool, true, false, refl, sym, ap, ◌∙◌, subst, arith, codes, Option, Some, None, inl, inr, MatchOption}
+use Rattle.std.proofs.Common.{◌≡◌, ℕ, List, [], ◌∷◌, length, Bool, true, false, refl, sym, ap, ◌∙◌, subst, arith, codes, Global, Option, Some, None, inl, inr, MatchOption}
 use Rattle.std.specs.List.{list_all}
 use Rattle.std.specs.Str.{bytes_eq}
+use Rattle.std.specs.String.{string_bytes}
+use Rattle.std.specs.declared.string.String.{String}
 use Rattle.std.proofs.lemmas.Bool.{false≢true}
 use Rattle.std.proofs.lemmas.Slice.Eq.{bytes_eq-Decides}
 use Rattle.kb_text.specs.Bytes.{between}
 use Rattle.consult_text.specs.Budgets.{IsBudget}
 use Rattle.idp_cli.specs.Jobs.{consult, check, Given, nothing_given, is_option, IsBudgetText, AddsTheory, AddsStructure, AddsBudget, Adds, Gives, IsCommandLine, IsUsage}
-use Rattle.idp_cli.proofs.Asked.{apart, first_of, rest_of, one_line}
+use Rattle.idp_cli.specs.Runs.{Words, texts_of}
+use Rattle.idp_cli.proofs.Asked.{apart, first_of, rest_of, one_line, one_added}
 
 -- what holds of what was found
 pub mapped : {A : Type 0} {P P' : Type 0} {Q Q' : A → Type 0} (r : Option A) → (P → P') → ((x : A) → Q x → Q' x) → MatchOption r P Q → MatchOption r P' Q'
@@ -47,7 +50,7 @@ no_option g word value theory structure budget next (inr (inl h)) = other_word w
 no_option g word value theory structure budget next (inr (inr h)) = other_word word (codes "--budget") budget h.0
 
 -- the words are no command line
-pub IsNoLine : List (List ℕ) → Type 0
+abbrev pub IsNoLine : List (List ℕ) → Type 0
 IsNoLine words = (command file : List ℕ) (all : Given) → IsCommandLine words command file all → ⊥
 
 pub no_words : (words : List (List ℕ)) → words ≡ [] → IsNoLine words
@@ -86,3 +89,28 @@ no_check words command file g b line checks budget (consult file' c d) h =
     apart command (codes "check") (codes "consult") refl checks (one_line words command (codes "consult") file file' g h.0 line h.1).same_command
 no_check words command file g b line checks budget (check file' c) h =
     some_none b (sym budget ∙ (ap (λ (x : Given). x.budget) (one_line words command (codes "check") file file' g h.0 line h.1).given ∙ h.3))
+
+-- two words and those behind them
+pub spelled : (rest behind behind' : Words) (option value : String Global) (o v : List ℕ) → rest ≡ option ∷ behind → behind ≡ value ∷ behind'
+    → o ≡ string_bytes option → v ≡ string_bytes value → texts_of rest ≡ o ∷ (v ∷ texts_of behind')
+spelled rest behind behind' option value o v is is' iso isv =
+    ap texts_of is ∙ (ap (λ (ws : Words). string_bytes option ∷ texts_of ws) is' ∙ (λ i. sym iso i ∷ (sym isv i ∷ texts_of behind')))
+
+module _ (words texts : List (List ℕ)) (g : Given) (o v : List ℕ) (rest : List (List ℕ)) (is : texts ≡ o ∷ (v ∷ rest)) where
+  -- an option that cannot be added
+  pub no_more : ((all : Given) → Gives nothing_given words all → Gives g texts all) → ((next : Given) → Adds g o v next → ⊥)
+      → (all : Given) → Gives nothing_given words all → ⊥
+  no_more left none all h =
+      let k = subst (λ (ts : List (List ℕ)). Gives g ts all) is (left all h) in
+      none k.0 k.1
+
+  -- one that is added
+  pub more_all : (more : Given) → Adds g o v more → ((x : Given) → Gives g texts x → Gives nothing_given words x)
+      → (x : Given) → Gives more rest x → Gives nothing_given words x
+  more_all more adds all x h = all x (subst (λ (ts : List (List ℕ)). Gives g ts x) (sym is) (more, adds, h))
+
+  pub more_left : (more : Given) → Adds g o v more → ((x : Given) → Gives nothing_given words x → Gives g texts x)
+      → (x : Given) → Gives nothing_given words x → Gives more rest x
+  more_left more adds left x h =
+      let k = subst (λ (ts : List (List ℕ)). Gives g ts x) is (left x h) in
+      subst (λ (y : Given). Gives y rest x) (sym (one_added g o v more k.0 adds k.1)) k.2

@@ -8,3 +8,4 @@ mod Replying
 mod Consulting
 mod Elimination
 mod OneAnswer
+mod LongFiles

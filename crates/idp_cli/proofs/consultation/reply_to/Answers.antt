@@ -14,7 +14,7 @@ returns-in_ok-step-in-Ok-Some-clause-right c =
       said = replied c.in-Ok-Some.command c.in_ok-step-in-Ok-Some.field-0;
       right = (
         c.requires,
-        subst (λ (k : Opened). HasCommand (base_of k) c.args.line.now c.in-Ok-Some.command) c.kb.ensures.kb has,
+        subst (λ (k : Opened). HasCommand (base_of k) c.args.line.now c.in-Ok-Some.command) c.kb.ensures has,
         c.in_ok-step-in-Ok-Some.ensures.right,
       );
       reply = refl;
@@ -27,7 +27,7 @@ returns-in-Err-Refused-clause-right c =
     let has : HasRefusal (base_of c.kb.result.now) c.args.line.now c.in-Err-Refused.f = subst P c.in-Err-Refused.field-0-is c.in-Err-Refused.ensures.read in
     record {
       said = refused c.in-Err-Refused.f;
-      right = (c.requires, subst (λ (k : Opened). HasRefusal (base_of k) c.args.line.now c.in-Err-Refused.f) c.kb.ensures.kb has);
+      right = (c.requires, subst (λ (k : Opened). HasRefusal (base_of k) c.args.line.now c.in-Err-Refused.f) c.kb.ensures has);
       reply = refl;
       leaves = refl;
     }
