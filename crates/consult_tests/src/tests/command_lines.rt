@@ -60,8 +60,7 @@ pub(super) fn show_command(out: &mut Vec<u8>, command: &Command) -> Result<(), M
 }
 
 /// What the line is read as.
-fn shown(alloc: Global, line: &[u8], kb: &KnowledgeBase) -> Result<Vec<u8>, Memory>
-{
+fn shown(alloc: Global, line: &[u8], kb: &KnowledgeBase) -> Result<Vec<u8>, Memory> {
     let mut out = Vec::new(alloc);
     match read_command(alloc, line, kb) {
         Ok(None) => out.extend_from_slice(b"nothing")?,
@@ -73,8 +72,12 @@ fn shown(alloc: Global, line: &[u8], kb: &KnowledgeBase) -> Result<Vec<u8>, Memo
 }
 
 /// Whether the line is read as this.
-fn is_read_as(alloc: Global, kb: &KnowledgeBase, line: &[u8], wanted: &[u8]) -> Result<bool, Memory>
-{
+fn is_read_as(
+    alloc: Global,
+    kb: &KnowledgeBase,
+    line: &[u8],
+    wanted: &[u8],
+) -> Result<bool, Memory> {
     Ok(shown(alloc, line, kb)?.as_slice() == wanted)
 }
 

@@ -21,8 +21,7 @@ const LINES: [&[u8]; 8] = [
 ];
 
 /// Whether a copy of the line's command is shown as the command.
-fn is_copied(alloc: Global, kb: &KnowledgeBase, line: &[u8]) -> Result<bool, Memory>
-{
+fn is_copied(alloc: Global, kb: &KnowledgeBase, line: &[u8]) -> Result<bool, Memory> {
     let Ok(Some(command)) = read_command(alloc, line, kb) else {
         return Ok(false);
     };
