@@ -2,6 +2,7 @@
 ghost use Rattle.std.specs.Prelude.{◌≡◌, [], length, None};
 
 use crate::input::{Input, Task};
+use chooser::FirstGreatest;
 use clause_learning::Solver;
 use consequences::forced;
 use ground_core::{Budget, Grow};
@@ -109,7 +110,7 @@ pub fn answer(alloc: Global, input: Input) -> Found
 {
     let vars = input.problem.vars();
     let atoms = input.problem.atoms().len() as u64;
-    let Ok(mut solver) = Solver::new(alloc) else {
+    let Ok(mut solver) = Solver::new(alloc, FirstGreatest) else {
         return Found::Halted;
     };
     let Ok(()) = solver.add_problem(&input.problem) else {
