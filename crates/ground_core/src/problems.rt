@@ -187,7 +187,7 @@ impl Problem {
         }
     }
 
-    /// A new variable, of which nothing is said yet. A variable past 64 bits is want of memory, here
+    /// A new variable, of which nothing is said yet. A variable past 64 bits counts as out of memory, here
     /// and in the calls below that add one.
     pub fn add_var(&mut self) -> Result<Lit, Memory>
         ensures made { IfOk result (λ out. (out ≡ next_lit self.old) × (self.new ≡ with_var self.old)) }

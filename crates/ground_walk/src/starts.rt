@@ -14,7 +14,7 @@ use std::alloc::Global;
 use term_values::GroundData;
 
 // A function with no value takes the empty clause once: memory may not hold as many as it has tuples.
-/// How many of a function's tuples take clauses. Want of memory where a `u64` cannot count them.
+/// How many of a function's tuples take clauses. Out of memory where a `u64` cannot count them.
 fn said_count(base: &GroundData<'_>, symbol: u32) -> Result<u64, Memory>
     ensures { IfOk result (λ n. n ≡ length (said_tuples (values_at base.now symbol) (tuples_at base.now symbol))) }
 {

@@ -39,7 +39,7 @@ fn count_atoms(domains: &[ElemList], symbol: &Symbol) -> u64
     tuples.saturating_mul(count_values(domains, symbol.value))
 }
 
-/// The variable of each symbol's first atom. Want of memory, too, where there are 2^63 atoms and more.
+/// The variable of each symbol's first atom. Out of memory, too, where there are 2^63 atoms and more.
 pub(crate) fn all_first_vars(
     alloc: Global,
     domains: &[ElemList],

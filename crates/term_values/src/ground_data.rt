@@ -50,7 +50,7 @@ impl<'a> Model for GroundData<'a> {
 }
 
 impl<'a> GroundData<'a> {
-    /// What the data make known of each ground atom over their domains. Want of memory, too, where there are 2^63 atoms
+    /// What the data make known of each ground atom over their domains. Out of memory, too, where there are 2^63 atoms
     /// and more, or 2^32 symbols.
     pub fn new(
         alloc: Global,

@@ -131,7 +131,7 @@ fn push_symbol(
     push_tuples(alloc, partial, symbol, declared, tuples.as_slice(), known)
 }
 
-/// What is known of each ground atom. The symbols are numbered by a `u32`, so that more of them are want of memory.
+/// What is known of each ground atom. The symbols are numbered by a `u32`, so that more of them count as out of memory.
 pub(crate) fn all_known(alloc: Global, partial: &Partial) -> Result<Vec<Option<bool>>, Memory>
     ensures { IfOk result (λ known. known.items ≡ map (λ a. known_truth (value_at partial.now a)) (atoms_over partial.now.symbols partial.now.domains)) }
 {
