@@ -35,7 +35,7 @@ impl Model for AtomNumbers {
     ghost invariant = { IsNumbered };
 }
 
-/// The variable of each symbol's first atom. Atoms that a `u64` cannot count count as out of memory.
+/// The variable of each symbol's first atom. More atoms than a `u64` counts are answered as out of memory.
 fn first_vars(alloc: Global, domains: &[ElemList], symbols: &[Symbol]) -> Result<Vec<u64>, Memory>
     requires { length symbols.now ≤ 2 ^ 32 }
     ensures { IfOk result (λ firsts. AreNumbered domains.now symbols.now firsts.items) }
@@ -57,7 +57,7 @@ fn first_vars(alloc: Global, domains: &[ElemList], symbols: &[Symbol]) -> Result
 
 impl AtomNumbers {
     /// The numbers of the atoms over these domains, of which the value has copies. It takes time and
-    /// memory linear in the elements and symbols. Atoms that a `u64` cannot count count as out of memory.
+    /// memory linear in the elements and symbols. More atoms than a `u64` counts are answered as out of memory.
     pub fn of(
         alloc: Global,
         vocabulary: &Vocabulary,
