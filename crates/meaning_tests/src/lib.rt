@@ -11,8 +11,6 @@ mod conditions;
 #[cfg(test)]
 mod copy_tests;
 #[cfg(test)]
-mod first_tests;
-#[cfg(test)]
 mod fixtures;
 #[cfg(test)]
 mod partial_tests;

@@ -6,7 +6,7 @@ use Rattle.kb_logic.specs.declared.syntax.AggKind.{AggKind}
 use Rattle.kb_logic.specs.Denotations.{Denotation, number, compared, aggregate_value}
 use Rattle.kb_logic.specs.Values.{count_up_to}
 use Rattle.kb_logic.specs.declared.syntax.Cmp.{Cmp}
-use Rattle.kb_logic.proofs.Counts.{number_is}
+use Rattle.plain_evaluation.proofs.Counts.{number_is}
 use Rattle.kb_logic.specs.Arithmetic.{start, combined}
 use Rattle.kb_logic.specs.Trees.{FormulaTree, FormulaTrees, more_formulas, no_formulas}
 use Rattle.kb_logic.proofs.Aggregates.{aggregate_is_fold}

@@ -13,7 +13,7 @@ use Rattle.partial_structures.specs.KnownArithmetic.{gathered, GatheredFits}
 use Rattle.partial_structures.specs.declared.truths.Truth.{Truth}
 use Rattle.kb_logic.proofs.Pairs.{pairs}
 use Rattle.kb_logic.proofs.Assignments.{joined, choices-append}
-use Rattle.kb_logic.proofs.Loops.{each_inside}
+use Rattle.plain_evaluation.proofs.Loops.{each_inside}
 
 fold-pairs : {S A B C : Type 0} (f : S → C → S) (g : A → B → C) (more : List B) (xs : List A) (s : S) → fold f s (pairs g more xs) ≡ fold (λ t x. fold (λ u y. f u (g x y)) t more) s xs
 fold-pairs f g more [] s = refl

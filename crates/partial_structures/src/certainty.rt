@@ -8,7 +8,7 @@ ghost use Rattle.kb_logic.specs.Structures.{choices};
 ghost use Rattle.kb_logic.specs.Denotations.{as_number};
 ghost use Rattle.kb_logic.specs.Arithmetic.{ProductFits};
 ghost use Rattle.kb_logic.specs.Meaning.{product_from};
-ghost use Rattle.kb_logic.specs.Environments.{env_view};
+ghost use Rattle.plain_evaluation.specs.Environments.{env_view};
 ghost use Rattle.partial_structures.specs.Certainty.{known_value, known_values, known_sum, certain_truth};
 ghost use Rattle.partial_structures.specs.KnownArithmetic.{gathered, GatheredFits, ValueFits, ValuesFit, OperandsFit, CertaintyFits, PartsFit, known_front};
 ghost use Rattle.partial_structures.specs.Values.{value_view};
@@ -23,7 +23,7 @@ use crate::sides::{Side, compare_sides, weight_of};
 use crate::spots::Place;
 use crate::totals::{gather, product_more, sum_more, tally};
 use crate::truths::Truth;
-use kb_logic::environments::{Env, extend, split_in, variable_value};
+use plain_evaluation::environments::{Env, extend, split_in, variable_value};
 use kb_logic::values::{Total, Value, compare, count_value, made_value, number, total_value};
 use kb_logic::{AggKind, Bound, Elem, Formula, Signed, Term, totals};
 

@@ -3,7 +3,7 @@ ghost use Rattle.std.specs.Prelude.{◌≡◌, ◌↔◌, ◌<◌, ◌+◌, leng
 ghost use Rattle.std.specs.List.{AllByRecursion};
 ghost use Rattle.kb_logic.specs.Structures.{IsDistinct};
 ghost use Rattle.std.specs.Option.{option_map};
-ghost use Rattle.kb_logic.specs.Environments.{env_view};
+ghost use Rattle.plain_evaluation.specs.Environments.{env_view};
 ghost use Rattle.kb_logic.specs.Values.{value_view};
 ghost use Rattle.kb_logic.specs.Views.{formula_view, term_view};
 ghost use Rattle.partial_structures.specs.Certainty.{certain_truth, known_value};
@@ -26,7 +26,7 @@ use crate::known::Known;
 use crate::rows::{Mark, Rows};
 use crate::truths::Truth;
 use crate::words::Words;
-use kb_logic::environments::Env;
+use plain_evaluation::environments::Env;
 use kb_logic::values::Value;
 use kb_logic::{
     DomainList, Elem, Formula, Literal, Memory, Structure, SymbolList, Term, Vocabulary,

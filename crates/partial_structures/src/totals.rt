@@ -12,7 +12,7 @@ ghost use Rattle.partial_structures.specs.Evaluation.{tallied, summed, multiplie
 
 use crate::truths::Truth;
 use kb_logic::AggKind;
-use kb_logic::totals::{combine, signed};
+use plain_evaluation::totals::{combine, signed};
 use kb_logic::values::{Total, Value};
 
 fn add(sum: i128, part: i128) -> i128

@@ -1,6 +1,6 @@
 use Rattle.std.proofs.Common.{◌≡◌, ◌+◌, ◌<◌, ◌≤◌, ◌++◌, ◌∷◌, List, [], map, drop, true, false, length, get_or, fold, OnOk, sym, ap, subst, ◌∙◌, arith}
 use Rattle.kb_logic.specs.declared.elements.Elem.{Elem}
-use Rattle.kb_logic.specs.Environments.{env_view}
+use Rattle.plain_evaluation.specs.Environments.{env_view}
 use Rattle.kb_logic.specs.Structures.{choices}
 use Rattle.kb_logic.specs.Views.{formula_view}
 use Rattle.lit_core.specs.declared.literals.Lit.{Lit}

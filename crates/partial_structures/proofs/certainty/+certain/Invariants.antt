@@ -1,5 +1,5 @@
 use Rattle.kb_logic.specs.declared.elements.Elem.{Elem}
-use Rattle.kb_logic.specs.Environments.{env_view}
+use Rattle.plain_evaluation.specs.Environments.{env_view}
 use Rattle.kb_logic.specs.Meaning.{product_from}
 use Rattle.kb_logic.specs.Arithmetic.{ProductFits}
 use Rattle.kb_logic.specs.Denotations.{as_number}

@@ -1,0 +1,6 @@
+pub mod Counts
+pub mod Digits
+pub mod Envs
+pub mod Loops
+pub mod NoAssignments
+pub mod Sums
