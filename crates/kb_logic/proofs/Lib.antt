@@ -9,6 +9,7 @@ pub mod Has
 pub mod Intervals
 pub mod Members
 pub mod Pairs
+pub mod Shapes
 pub mod Tables
 pub mod TupleCounts
 pub mod TupleLists

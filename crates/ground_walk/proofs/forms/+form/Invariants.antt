@@ -7,7 +7,7 @@ use Rattle.ground_core.specs.Problems.{AreLitsOf}
 use Rattle.def_ground.specs.Forms.{parts_of}
 use Rattle.ground_walk.specs.Groundable.{AreGroundable}
 use Rattle.ground_walk.specs.Steps.{open_parts, part_step}
-use Rattle.partial_structures.proofs.Folds.{after_front}
+use Rattle.plain_evaluation.proofs.Folds.{after_front}
 use Rattle.ground_walk.proofs.forms.+form.Given as goal
 
 -- with the parts of the formulas that are left come all

@@ -7,7 +7,7 @@ use Rattle.ground_core.specs.Problems.{AreLitsOf}
 use Rattle.def_ground.specs.Sentences.{assert_all, assert_any}
 use Rattle.ground_walk.specs.Groundable.{AreGroundable}
 use Rattle.ground_walk.specs.Steps.{assert_step}
-use Rattle.partial_structures.proofs.Folds.{after_front}
+use Rattle.plain_evaluation.proofs.Folds.{after_front}
 use Rattle.ground_walk.proofs.sentences.+sentence.Given as goal
 
 -- with the formulas that are left come all
