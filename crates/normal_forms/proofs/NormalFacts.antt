@@ -8,8 +8,8 @@ use Rattle.kb_logic.specs.declared.structures.Structure.{Structure}
 use Rattle.kb_logic.specs.Trees.{FormulaTree, verum, falsum, atom, comparison, negation, conjunction, disjunction, implication, equivalence, universal, existential, numbered, FormulaTrees, no_formulas, more_formulas, formulas_of}
 use Rattle.kb_logic.specs.Denotations.{compared, number}
 use Rattle.kb_logic.specs.Meaning.{assignments, same_truth, truth_of, all_true, any_true}
-use Rattle.ground_core.specs.NormalForms.{signed, constant, joined_by, quantified_by, normal_form, normal_forms, IsNormal, AreNormal}
-use Rattle.ground_core.specs.Laws.{NormalFormIsTrue, NormalFormIsNormal}
+use Rattle.normal_forms.specs.NormalForms.{signed, constant, joined_by, quantified_by, normal_form, normal_forms, IsNormal, AreNormal}
+use Rattle.normal_forms.specs.Laws.{NormalFormIsTrue, NormalFormIsNormal}
 
 -- the normal forms of a list, one by one
 pub forms-of : (sign : Bool) (fs : List FormulaTree) → normal_forms sign (formulas_of fs) ≡ formulas_of (map (normal_form sign) fs)

@@ -2,10 +2,9 @@
 ghost use Rattle.std.specs.Prelude.{◌≡◌, true, map, IfOk};
 ghost use Rattle.kb_logic.specs.Trees.{formulas_of};
 ghost use Rattle.kb_logic.specs.Views.{formula_view};
-ghost use Rattle.ground_core.specs.NormalForms.{normal_form, joined_by, quantified_by, constant, signed};
+ghost use Rattle.normal_forms.specs.NormalForms.{normal_form, joined_by, quantified_by, constant, signed};
 
-use crate::errors::Memory;
-use kb_logic::{Bound, Formula};
+use kb_logic::{Bound, Formula, Memory};
 use std::alloc::Global;
 
 /// The formula with negations only before atoms, comparisons and number quantifiers.

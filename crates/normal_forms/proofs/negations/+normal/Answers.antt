@@ -2,10 +2,10 @@ use Rattle.std.proofs.Common.{◌≡◌, map, ap, sym, ◌∙◌, List, not}
 use Rattle.kb_logic.specs.Trees.{FormulaTree, formulas_of}
 use Rattle.kb_logic.specs.Views.{formula_view}
 use Rattle.kb_logic.specs.declared.syntax.Formula.{Formula, And, Or}
-use Rattle.ground_core.specs.NormalForms.{normal_form, joined_by}
-use Rattle.ground_core.proofs.NormalFacts.{forms-of}
-use Rattle.ground_core.proofs.Views.{view-And, view-Or}
-use Rattle.ground_core.proofs.normal_forms.+normal.Goals as goal
+use Rattle.normal_forms.specs.NormalForms.{normal_form, joined_by}
+use Rattle.normal_forms.proofs.NormalFacts.{forms-of}
+use Rattle.normal_forms.proofs.Views.{view-And, view-Or}
+use Rattle.normal_forms.proofs.negations.+normal.Goals as goal
 
 pub normal-returns-in_ok-normal_list-in-And : goal.normal-returns-in_ok-normal_list-in-And
 normal-returns-in_ok-normal_list-in-And t c =
