@@ -77,9 +77,6 @@ short-start s store place r h = record {
 
 -- a literal that follows from others is left out, and its reason is one more hint
 module _ (s : StoreState) (store : IsStore s) (place next : ℕ) (A B : ℕ → Type 0) (hints : List ℕ) (id : ℕ) (lower : List ℕ) (cases : (k : ℕ) → A k → (k ≡ next) ⊎ B k) (back : (k : ℕ) → B k → A k) (has_next : A next) (not : B next → ⊥) (among : (k : ℕ) → Contains lower k → B k) (d : IsRedundant s next lower id) (h : IsShort s place A hints) where
-  steps : List Step
-  steps = s.trail.steps
-
   -- what stands in force was not made true at the place that is left out
   other-place : (k : ℕ) → IsLeftAt place B k → k ≡ next → ⊥
   other-place k way e = ⊎_elim
@@ -87,18 +84,18 @@ module _ (s : StoreState) (store : IsStore s) (place next : ℕ) (A B : ℕ → 
       (λ b. not (subst B e b))
       way
 
-  dropped-open : (inforce : List Lit) → AreInForce steps (IsLeftAt place B) inforce → (l : Lit) → l.var.0 ≡ d.step.lit.var.0 → Contains inforce l → ⊥
+  dropped-open : (inforce : List Lit) → AreInForce s.trail.steps (IsLeftAt place B) inforce → (l : Lit) → l.var.0 ≡ d.step.lit.var.0 → Contains inforce l → ⊥
   dropped-open inforce f l same has =
       let w = f.from l has in
       other-place w.0 w.1 (store.trail.coherent.apart w.0 next w.2.0 d.step w.2.1 d.stands (variable-of w.2.0.lit l w.2.2 ∙ same))
 
-  more-in-force : (inforce : List Lit) → AreInForce steps (IsLeftAt place B) inforce → AreInForce steps (IsLeftAt place A) (inforce ++ d.step.lit ∷ [])
+  more-in-force : (inforce : List Lit) → AreInForce s.trail.steps (IsLeftAt place B) inforce → AreInForce s.trail.steps (IsLeftAt place A) (inforce ++ d.step.lit ∷ [])
   more-in-force inforce f = record {
     all = λ l k way made. ⊎_elim
         (λ e. Contains-append_left inforce (d.step.lit ∷ []) l (f.all l k (inl e) made))
         (λ a. ⊎_elim
         (λ (e : k ≡ next).
-        let one : made.0 ≡ d.step = same-step steps k made.0 d.step made.1 (ap (slice_get steps) e ∙ d.stands) in
+        let one : made.0 ≡ d.step = same-step s.trail.steps k made.0 d.step made.1 (ap (slice_get s.trail.steps) e ∙ d.stands) in
         subst (Contains (inforce ++ d.step.lit ∷ [])) (sym (ap (λ (x : Step). x.lit) one) ∙ made.2) (Contains-push inforce d.step.lit))
         (λ b. Contains-append_left inforce (d.step.lit ∷ []) l (f.all l k (inr b) made))
         (cases k a))

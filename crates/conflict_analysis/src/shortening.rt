@@ -1,5 +1,5 @@
 //! Leaving out the literals that a learnt clause can do without.
-ghost use Rattle.std.specs.Prelude.{◌≡◌, ◌<◌, ℕ, length, Contains, IfOk, IfNone, IfSome};
+ghost use Rattle.std.specs.Prelude.{◌≡◌, ◌<◌, ℕ, [], length, Contains, IfOk, IfNone, IfSome};
 ghost use Rattle.clause_store.specs.StoreState.{IsStore};
 ghost use Rattle.conflict_analysis.specs.Learning.{PopsLast};
 ghost use Rattle.conflict_analysis.specs.Shortening.{IsRedundant, IsShort};

@@ -95,18 +95,19 @@ impl Order {
 
     /// Makes a variable the last of those with one score more than it had.
     fn promote(&mut self, var: u64, place: usize, score: usize) {
-        let Some(start) = self.starts.get(score) else {
+        let last = score.saturating_add(1) == self.starts.len();
+        let Some(next) = self.starts.get_mut(score) else {
             return;
         };
-        let start = *start;
+        let start = *next;
         let Some(first) = self.vars.get(start) else {
             return;
         };
         let first = *first;
+        *next = start.saturating_add(1);
         self.put(place, first);
         self.put(start, var);
-        self.starts[score] = start.saturating_add(1);
-        if score + 1 == self.starts.len() {
+        if last {
             // Without memory for it the variable stays where it is from now on.
             let _ = self.starts.push(0);
         }
@@ -135,13 +136,14 @@ impl Order {
     pub fn first_open(&mut self, assignment: &Assignment) -> Option<u64>
         ensures { IfSome result (λ var. IsOpen assignment.now var) }
     {
-        while self.cursor < self.vars.len() {
-            let var = self.vars[self.cursor];
+        for place in self.cursor..self.vars.len() {
+            let var = self.vars[place];
             if is_open(assignment, Var(var)) {
+                self.cursor = place;
                 return Some(var);
             }
-            self.cursor += 1;
         }
+        self.cursor = self.vars.len();
         None
     }
 }

@@ -1,12 +1,12 @@
-use Rattle.std.proofs.Common.{refl}
+use Rattle.std.proofs.Common.{refl, Contains}
 use Rattle.std.proofs.lemmas.Option.{slice_get_within}
 use Rattle.conflict_analysis.specs.declared.analysis.Analysis.{Analysis}
 use Rattle.conflict_analysis.proofs.Learnt.{learnt}
 use Rattle.conflict_analysis.proofs.Shortened.{short-below, short-start}
 use Rattle.conflict_analysis.proofs.analysis.learn.Goals as goal
 
-pub shorten-requires-kept-clause-long : goal.shorten-requires-kept-clause-long
-shorten-requires-kept-clause-long c = short-start c.args.store.now c.requires.laws c.args.place c.args.resolvent c.requires.last
+pub shorten-requires-clause-long : goal.shorten-requires-clause-long
+shorten-requires-clause-long c = short-start c.args.store.now c.requires.laws c.args.place c.args.resolvent c.requires.last
 
 pub last_level-level-requires : goal.last_level-level-requires
 last_level-level-requires c = λ k has. let l = c.in_ok-kept.ensures.lower k has in slice_get_within c.args.store.now.trail.steps k l.0 l.1
