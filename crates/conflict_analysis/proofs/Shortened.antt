@@ -1,5 +1,7 @@
 -- Learnt clauses without the literals that follow from others.
 use Rattle.std.proofs.Common.{◌≡◌, ℕ, ◌<◌, ◌≤◌, ◌+◌, Bool, Option, Some, List, [], ◌∷◌, ◌++◌, length, reverse, refl, sym, ap, ◌∙◌, ◌⊎◌, inl, inr, ⊎_elim, arith, slice_get, subst, Contains, get_or}
+use Rattle.std.specs.BTreeSet.{insert_key}
+use Rattle.std.specs.Ordering.{nat_cmp}
 use Rattle.std.specs.List.{AllZip}
 use Rattle.std.proofs.lemmas.List.Elements.{All-contains, Contains-append_left, Contains-push, Contains-push_cases, Contains-get_or}
 use Rattle.lit_core.specs.declared.literals.Lit.{Lit}
@@ -133,10 +135,10 @@ module _ (old left kept : List ℕ) (next : ℕ) (pops : PopsLast old next left)
   pub has-next : Contains old next
   has-next = subst (λ (ks : List ℕ). Contains ks next) (sym pops.split) (Contains-push left next)
 
-  split-cases : (k : ℕ) → Contains old k → (k ≡ next) ⊎ Contains left k
+  pub split-cases : (k : ℕ) → Contains old k → (k ≡ next) ⊎ Contains left k
   split-cases k has = ⊎_elim (λ o. inr o) (λ e. inl (sym e)) (Contains-push_cases left next k (subst (λ (ks : List ℕ). Contains ks k) pops.split has))
 
-  left-old : (k : ℕ) → Contains left k → Contains old k
+  pub left-old : (k : ℕ) → Contains left k → Contains old k
   left-old k has = subst (λ (ks : List ℕ). Contains ks k) (sym pops.split) (Contains-append_left left (next ∷ []) k has)
 
   pub drop-cases : (k : ℕ) → IsLeftOrKept old kept k → (k ≡ next) ⊎ IsLeftOrKept left kept k
@@ -151,6 +153,28 @@ module _ (old left kept : List ℕ) (next : ℕ) (pops : PopsLast old next left)
       (λ l. let lt : next < next = pops.below next l in omega (arith, lt))
       (λ c. let lt : next < next = above next next c has-next in omega (arith, lt))
       way
+
+  keep-to : (k : ℕ) → IsLeftOrKept old kept k → IsLeftOrKept left (insert_key nat_cmp kept next) k
+  keep-to k way = ⊎_elim
+      (λ o. ⊎_elim (λ e. inr (subst (Contains (insert_key nat_cmp kept next)) (sym e) (inserted-new kept next))) (λ l. inl l) (split-cases k o))
+      (λ c. inr (inserted-old kept next k c))
+      way
+
+  keep-back : (k : ℕ) → IsLeftOrKept left (insert_key nat_cmp kept next) k → IsLeftOrKept old kept k
+  keep-back k way = ⊎_elim
+      (λ l. inl (left-old k l))
+      (λ c. ⊎_elim (λ o. inr o) (λ e. inl (subst (Contains old) e has-next)) (inserted-cases kept next k c))
+      way
+
+  -- a place is kept
+  pub short-keep : (s : StoreState) (place : ℕ) (hints keys : List ℕ) → keys ≡ insert_key nat_cmp kept next → IsShort s place (IsLeftOrKept old kept) hints → IsShort s place (IsLeftOrKept left keys) hints
+  short-keep s place hints keys e h = subst (λ (ks : List ℕ). IsShort s place (IsLeftOrKept left ks) hints) (sym e) (short-same s place (IsLeftOrKept old kept) (IsLeftOrKept left (insert_key nat_cmp kept next)) hints keep-to keep-back h)
+
+  pub keep-above : (keys : List ℕ) → keys ≡ insert_key nat_cmp kept next → ((k j : ℕ) → Contains kept k → Contains old j → j < k) → (k j : ℕ) → Contains keys k → Contains left j → j < k
+  keep-above keys e above k j has b = ⊎_elim
+      (λ o. above k j o (left-old j b))
+      (λ same. subst (λ (n : ℕ). j < n) same (pops.below j b))
+      (inserted-cases kept next k (subst (λ (ks : List ℕ). Contains ks k) e has))
 
 -- a literal of a reason has a step
 pub reason-placed : (s : StoreState) → IsStore s → (place id : ℕ) (t : Step) (c : List Lit) → slice_get s.trail.steps place ≡ Some t → t.reason ≡ Some id → IsHeld s id c → (m : Lit) → Contains c m → (k : ℕ) × (u : Step) × (slice_get s.trail.steps k ≡ Some u) × (u.lit.var.0 ≡ m.var.0)

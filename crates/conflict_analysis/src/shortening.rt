@@ -1,5 +1,5 @@
 //! Leaving out the literals that a learnt clause can do without.
-ghost use Rattle.std.specs.Prelude.{◌≡◌, ◌<◌, ℕ, [], length, Contains, IfOk, IfNone, IfSome};
+ghost use Rattle.std.specs.Prelude.{◌≡◌, ◌↔◌, ◌<◌, ℕ, [], length, Contains, IsTrue, IfOk, IfNone, IfSome};
 ghost use Rattle.clause_store.specs.StoreState.{IsStore};
 ghost use Rattle.conflict_analysis.specs.Learning.{PopsLast};
 ghost use Rattle.conflict_analysis.specs.Shortening.{IsRedundant, IsShort};
@@ -17,6 +17,13 @@ pub fn pop_place(places: &mut BTreeSet<usize>) -> Option<usize>
     places.pop_last()
 }
 
+/// Whether the place is one of these.
+fn is_left(places: &BTreeSet<usize>, place: usize) -> bool
+    ensures { IsTrue result ↔ Contains places.now.keys place }
+{
+    places.contains(&place)
+}
+
 /// The reason of the step at a place, where its other literals became false at places of the set.
 fn redundant_by(store: &Store, place: usize, lower: &BTreeSet<usize>) -> Option<u64>
     requires laws { IsStore store.now }
@@ -28,7 +35,7 @@ fn redundant_by(store: &Store, place: usize, lower: &BTreeSet<usize>) -> Option<
     let lits = store.lend(reason);
     for lit in lits {
         let other = store.place_of(lit.var);
-        if other != place && !lower.contains(&other) {
+        if other != place && !is_left(lower, other) {
             return None;
         }
     }
