@@ -15,8 +15,3 @@ pub returns-in-Forced : goal.returns-in-Forced
 returns-in-Forced g c =
     let p : ProblemState = (g.S.Solve.state c.args.solver.now).problem in
     subst (λ (q : Question). IfOk c.forced_of.result (λ out. IsAnswerTo p q out.items)) (sym c.in-Forced.is) c.forced_of.ensures
-
-pub returns : goal.returns
-returns g c =
-    let p : ProblemState = (g.S.Solve.state c.args.solver.now).problem in
-    subst (λ (q : Question). IfOk c.count_of.result (λ out. IsAnswerTo p q out.items)) (sym c.in-Several.is) c.count_of.ensures
