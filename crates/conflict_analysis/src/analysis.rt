@@ -105,7 +105,7 @@ fn learn(
 ///
 /// See Marques-Silva and Sakallah, "GRASP: a search algorithm for propositional satisfiability",
 /// and Zhang and others, "Efficient conflict driven learning in a Boolean satisfiability solver".
-/// Literals that are false at level 0 stay in the clause.
+/// So is a literal that is false at level 0 by a clause that has no other; one that follows there from others stays.
 pub fn analyse(alloc: Global, store: &Store, conflict: u64) -> Result<Analysis, Memory>
     requires conflict { IsConflict store.now conflict }
     requires level { 0 < store.now.trail.level }
