@@ -12,7 +12,7 @@ use Rattle.kb_text.specs.declared.bytes.Class.{Class}
 use Rattle.kb_text.specs.declared.bytes.Class.TheVariants.{Space, Letter, Digit, Mark}
 use Rattle.kb_text.specs.Bytes.{class_of, in_word, is_word_byte}
 use Rattle.kb_text.specs.Pieces.{IsPiece, WordText}
-use Rattle.consult_text.specs.Texts.{elem_text}
+use Rattle.literal_printer.specs.Texts.{elem_text}
 use Rattle.consult_text.specs.OneText.{CanBeWritten}
 
 -- it is none of the bytes that stand between names and elements

@@ -1,13 +1,13 @@
 use Rattle.std.proofs.Common.{◌≡◌, ◌≤◌, length}
 use Rattle.fo_syntax.specs.Terminals.{toks}
-use Rattle.formula_reader.specs.Results.{put_minuses}
-use Rattle.formula_reader.proofs.expressions.Reader.factor.Given as goal
+use Rattle.formula_reader.specs.Results.{put_nots}
+use Rattle.formula_reader.proofs.formulas.tildes.Given as goal
 
 abbrev pub invariant-loop-place : goal.invariant-loop-place
-invariant-loop-place g l = record {
+invariant-loop-place l = record {
   shorter : length l.rest ≤ length l.items;
-  so_far : toks l.items ≡ put_minuses l.signs (toks l.rest);
+  so_far : put_nots l.initial.signs (toks l.items) ≡ put_nots l.signs (toks l.rest);
 }
 
 abbrev pub decreases-loop-place : goal.decreases-loop-place
-decreases-loop-place g l = length l.rest
+decreases-loop-place l = length l.rest
