@@ -1,6 +1,6 @@
 //! Inputs by lines.
 
-use super::runs::source;
+use super::sources::source;
 use kb_io::{LineError, LineState, MemSource, Next, next_line};
 use std::test::Fail;
 

@@ -1,6 +1,6 @@
 //! Devices in memory, and whole inputs and outputs over them.
 
-use super::runs::source;
+use super::sources::source;
 use kb_io::{
     MemFile, MemShelf, MemSink, NullSink, ReadError, Shelf, Sink, Source, read_up_to, write_all,
 };
