@@ -1,6 +1,6 @@
 -- Where the static bounds of a term are small, the integers that come up in its rows fit 64 bits.
-use Rattle.std.proofs.Common.{◌≡◌, ℕ, suc, zero, ◌+◌, ◌*◌, ◌<◌, ℤ, pos, ◌+ℤ◌, List, [], ◌∷◌, ◌++◌, map, flat_map, Bool, true, false}
-use Rattle.std.proofs.Common.{Option, Some, None, IfSome, FitsSigned, w64, fold, slice_get, length, subst, arith, inl, inr}
+use Rattle.std.proofs.Common.{ℕ, ◌+◌, ◌*◌, ℤ, pos, ◌+ℤ◌, List, [], ◌∷◌, ◌++◌, map, flat_map, Bool, true, false}
+use Rattle.std.proofs.Common.{Option, Some, None, IfSome, FitsSigned, w64, fold, length, arith}
 use Rattle.std.specs.List.{AllByRecursion, Contains}
 use Rattle.std.specs.Option.{option_map}
 use Rattle.std.proofs.lemmas.Int.{ints}
@@ -21,7 +21,7 @@ use Rattle.kb_logic.proofs.WithinBounds.{sum_alone, some_fits, last_small}
 use Rattle.lit_core.specs.declared.literals.Lit.{Lit}
 use Rattle.term_values.specs.GroundBases.{GroundBase, known_of, first_var, row_index, tuples_at, values_at}
 use Rattle.term_values.specs.Rows.{with_row, value_rows, rows_at, pair_rows, map_rows, rows_of_term, rows_of_terms, rows_of_sum}
-use Rattle.term_values.specs.RowArithmetic.{RowsFit, TupleRowsFit, OperandRowsFit, RowSumFits, RowProductFits}
+use Rattle.term_values.specs.RowArithmetic.{RowsFit, TupleRowsFit, OperandRowsFit}
 
 -- what holds of the value of each row
 abbrev Each : {X : Type 0} → (X → Type 0) → List (List Lit × X) → Type 0

@@ -1,9 +1,8 @@
 -- Well typed formulas whose terms have small bounds can be grounded.
-use Rattle.std.proofs.Common.{◌≡◌, ℕ, List, [], ◌∷◌, ◌++◌, map, length, refl, sym, ◌∙◌, inl, inr}
+use Rattle.std.proofs.Common.{ℕ, List, [], ◌∷◌, ◌++◌, refl, sym, ◌∙◌, inl, inr}
 use Rattle.std.specs.List.{AllByRecursion}
 use Rattle.std.proofs.lemmas.List.{length-map}
 use Rattle.kb_logic.specs.declared.elements.Elem.{Elem}
-use Rattle.kb_logic.specs.declared.vocabularies.Bound.{Bound}
 use Rattle.kb_logic.specs.declared.vocabularies.Vocabulary.{Vocabulary}
 use Rattle.kb_logic.specs.Bounds.{HasTypes, IsBounded, AreBounded, types_of}
 use Rattle.kb_logic.specs.Structures.{choices}

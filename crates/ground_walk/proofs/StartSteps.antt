@@ -13,7 +13,7 @@ use Rattle.ground_core.specs.Problems.{ProblemState, AreLitsOf}
 use Rattle.term_values.specs.GroundBases.{GroundBase, atoms_in, first_var, tuples_at, values_at}
 use Rattle.term_values.specs.KnownBases.{IsGroundBase}
 use Rattle.def_ground.specs.Problems.{fact_clause, fact_clauses, function_clauses, said_tuples}
-use Rattle.def_ground.specs.Problems.{tuple_clauses, variables_from}
+use Rattle.def_ground.specs.Problems.{tuple_clauses, open_variables}
 use Rattle.term_values.proofs.Places.{atoms-count}
 use Rattle.def_ground.proofs.StartLaws.{atoms-length, said-fewer, start-room, variables-in}
 use Rattle.ground_walk.specs.Groundable.{HasVars}
@@ -63,9 +63,9 @@ module _ (b : GroundBase) (p : ProblemState) (is : IsGroundBase b) (vars : HasVa
   within : i < length (tuples_at b s)
   within = let fewer = said-fewer (values_at b s) (tuples_at b s) in omega (arith, said, fewer)
 
-  pub tuple-lits : AreLitsOf p.vars (variables_from (first_var b s + i * length (values_at b s)) (values_at b s))
+  pub tuple-lits : AreLitsOf p.vars (open_variables b (first_var b s + i * length (values_at b s)) (values_at b s))
   tuple-lits =
-      variables-in p.vars (first_var b s + i * length (values_at b s)) (values_at b s) (omega arith)
+      variables-in b p.vars (first_var b s + i * length (values_at b s)) (values_at b s) (omega arith)
       (λ j below. (room-of b p is vars).functions s i j within below)
 
 -- they are at most as many as there are

@@ -15,9 +15,9 @@ ghost use Rattle.ground_walk.specs.Steps.{PartsGrow, MakesParts, open_parts, par
 use crate::leaves::{atom, comparison};
 use def_ground::{Answer, add_part, close, same};
 use ground_core::{Memory, Problem};
-use plain_evaluation::environments::{Env, extend, split_in};
 use kb_logic::{Bound, Formula};
 use lit_core::Lit;
+use plain_evaluation::environments::{Env, extend, split_in};
 use std::alloc::Global;
 use term_values::GroundData;
 

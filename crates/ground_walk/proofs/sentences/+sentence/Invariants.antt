@@ -53,7 +53,10 @@ abbrev pub decreases-push : goal.decreases-push
 decreases-push l = 2 ^ 65 * goal.size-push l
 
 abbrev pub decreases-push_under : goal.decreases-push_under
-decreases-push_under l = 2 ^ 65 * goal.size-push_under l + 1
+decreases-push_under l = 2 ^ 65 * goal.size-push_under l + 2
+
+abbrev pub decreases-push_last : goal.decreases-push_last
+decreases-push_last l = 2 ^ 65 * goal.size-push_last l + 1
 
 abbrev pub decreases-push_joined : goal.decreases-push_joined
 decreases-push_joined l = 2 ^ 65 * goal.size-push_joined l + 3

@@ -1,7 +1,8 @@
 use Rattle.std.proofs.Common.{◌≡◌, ◌<◌, ◌+◌, suc, ℕ, Bool, Option, None, length, take, slice_get, unwrap_or, ◌++◌, sym, ap, ◌∙◌, arith}
 use Rattle.ground_core.specs.Problems.{ProblemState}
 use Rattle.term_values.specs.GroundBases.{known_of}
-use Rattle.def_ground.specs.Problems.{fact_clause, fact_clauses, with_clauses}
+use Rattle.def_ground.specs.Cases.{with_clauses}
+use Rattle.def_ground.specs.Problems.{fact_clause, fact_clauses}
 use Rattle.def_ground.proofs.WithClauses.{with_more}
 use Rattle.ground_walk.proofs.StartSteps.{next-fact}
 use Rattle.ground_walk.proofs.starts.push_facts.Goals as goal

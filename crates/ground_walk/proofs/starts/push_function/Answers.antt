@@ -3,7 +3,8 @@ use Rattle.kb_logic.specs.declared.elements.Elem.{Elem}
 use Rattle.lit_core.specs.declared.literals.Lit.{Lit}
 use Rattle.ground_core.specs.Problems.{ProblemState}
 use Rattle.term_values.specs.GroundBases.{first_var, tuples_at, values_at}
-use Rattle.def_ground.specs.Problems.{one_of_clauses, said_tuples, tuple_clauses, variables_from, with_clauses}
+use Rattle.def_ground.specs.Cases.{with_clauses}
+use Rattle.def_ground.specs.Problems.{one_of_clauses, said_tuples, tuple_clauses, open_variables}
 use Rattle.def_ground.proofs.WithClauses.{with_more}
 use Rattle.ground_walk.specs.Groundable.{HasVars}
 use Rattle.ground_walk.proofs.StartSteps.{all-said, more-times, next-said, said-so-far, tuple-below, tuple-lits}
@@ -47,10 +48,10 @@ loop-tuple-preserved c =
     let next = c.loop-tuple.next in
     let xs = c.values-values.result.now in
     let said : i < length (said_tuples (values_at b s) (tuples_at b s)) = omega (arith, c.loop-tuple-test.true, c.in_ok-count.ensures) in
-    let cs = one_of_clauses (variables_from next xs) in
+    let cs = one_of_clauses (open_variables b next xs) in
     let is : cs ≡ tuple_clauses b s i =
-    ap (λ (n : ℕ). one_of_clauses (variables_from n xs)) c.loop-tuple.invariant.next
-    ∙ ap (λ (ys : List Elem). one_of_clauses (variables_from (first_var b s + i * length (values_at b s)) ys)) c.values-values.ensures in
+    ap (λ (n : ℕ). one_of_clauses (open_variables b n xs)) c.loop-tuple.invariant.next
+    ∙ ap (λ (ys : List Elem). one_of_clauses (open_variables b (first_var b s + i * length (values_at b s)) ys)) c.values-values.ensures in
     let size = ap (λ (ys : List Elem). length ys) c.values-values.ensures in
     let times = more-times i (length (values_at b s)) in
     record {

@@ -1,7 +1,7 @@
 use Rattle.std.proofs.Common.{◌≡◌, ◌+◌, ℕ, Bool, take, ◌++◌, is_some, sym, ap, ◌∙◌, arith}
 use Rattle.kb_logic.specs.declared.vocabularies.Symbol.{Symbol}
 use Rattle.ground_core.specs.Problems.{ProblemState}
-use Rattle.def_ground.specs.Problems.{with_clauses}
+use Rattle.def_ground.specs.Cases.{with_clauses}
 use Rattle.def_ground.proofs.WithClauses.{with_more}
 use Rattle.ground_walk.proofs.StartSteps.{if-function, next-function, of-functions}
 use Rattle.ground_walk.proofs.starts.push_functions.Goals as goal
