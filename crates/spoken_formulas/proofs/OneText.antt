@@ -1,5 +1,6 @@
 -- No two formulas that are spoken by the same names have one text in which no token lies too deep.
-use Rattle.std.proofs.Common.{◌≡◌, ◌≤◌, ◌+◌, ℕ, Bool, true, false, nat_lt, List, [], ◌∷◌, length, if◌then◌else◌, Ok, Err}
+use Rattle.std.proofs.Common.{◌≡◌, ◌≤◌, ◌+◌, ℕ, Bool, true, false, nat_lt, List, [], ◌∷◌, length, if◌then◌else◌, Ok}
+use Rattle.std.proofs.Common.{Err}
 use Rattle.std.proofs.Common.{refl, sym, ap, subst, ◌∙◌}
 use Rattle.kb_text.specs.declared.fault.K.TheVariants.{TooDeep}
 use Rattle.kb_text.specs.Depth.{Around, outermost, depth_of, after_token}

@@ -39,9 +39,9 @@ AcceptedAreSpoken =
     (bytes : List ℕ) (blocks : List Block) (typed : TypedFile) → IsAccepted bytes blocks typed
     → IsSpokenFile (names_in blocks) typed
 
--- Where no token of the formula's text lies too deep, it is read back as the formula, and is the text of no other tree of
--- the grammar and of no other formula that is spoken; and where one does, the first such token is refused, and nothing
--- else.
+-- Where no token of the formula's text lies too deep, it is read back as the formula, and is the text of no other tree
+-- of the grammar and of no other formula that is spoken; and where one does, the first such token is refused, and
+-- nothing else.
 pub record IsReadAgain (v : Vocabulary) (names : Names) (f : FormulaTree) : Type 0 where
   pub back : AreShallow outermost (lexemes_at 0 (formula_parts v f)) → IsFormulaReadBack v names f
   pub alone : AreShallow outermost (lexemes_at 0 (formula_parts v f)) → (g : FormulaTree) → IsSpoken v names g
