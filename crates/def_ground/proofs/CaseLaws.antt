@@ -155,7 +155,8 @@ plain-within n (x ∷ g) (Some []) a w h = cc
 plain-within n (x ∷ g) (Some (l ∷ ls)) a w h = cc
 
 -- the clauses are over the variables
-pub side-clauses : (n : ℕ) (l : Lit) (g : List Lit) (o : Option (List Lit)) → IsLitOf n l → AreLitsOf n g → SideWithin n o
+pub side-clauses : (n : ℕ) (l : Lit) (g : List Lit) (o : Option (List Lit)) → IsLitOf n l → AreLitsOf n g
+    → SideWithin n o
     → All (AreLitsOf n) (side_clauses l g o)
 side-clauses n l g None hl hg ho = All-nil (AreLitsOf n)
 side-clauses n l g (Some ls) hl hg ho =

@@ -112,7 +112,8 @@ shown-in n ls g None q hl hg ho hq = All-nil (AreLitsOf n)
 shown-in n ls g (Some ks) q hl hg ho hq =
     let guards = All-map (IsLitOf n) negated g (λ k d lt. hg k d lt) in
     All-cons (AreLitsOf n) (ls ++ map negated g ++ shown_lits ks q) []
-    (All-append (IsLitOf n) (ls ++ map negated g) (shown_lits ks q) (All-append (IsLitOf n) ls (map negated g) hl guards)
+    (All-append (IsLitOf n) (ls ++ map negated g) (shown_lits ks q)
+    (All-append (IsLitOf n) ls (map negated g) hl guards)
     (lits-shown n ks q ho hq))
     (All-nil (AreLitsOf n))
 

@@ -39,4 +39,5 @@ next_variable b n (x ∷ xs) (suc k) h =
     ∙ ap (with_open (known_of b n) n) (next_variable b (n + 1) xs k (omega (arith, h)))
     ∙ open_more (known_of b n) n (open_variables b (n + 1) (take k xs))
     (with_open (known_of b ((n + 1) + k)) ((n + 1) + k) [])
-    ∙ ap (λ m. with_open (known_of b n) n (open_variables b (n + 1) (take k xs)) ++ with_open (known_of b m) m []) number
+    ∙ ap (λ m. with_open (known_of b n) n (open_variables b (n + 1) (take k xs)) ++ with_open
+    (known_of b m) m []) number

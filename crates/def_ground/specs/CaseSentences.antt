@@ -45,7 +45,8 @@ abbrev pub answer_or_clauses : Option Answer → Bool → List Lit → List Case
 answer_or_clauses (Some a) sign ls cs p = or_clause ls (signed_result sign (record { answer = a; problem = p }))
 answer_or_clauses None sign ls cs p = with_clauses p (clauses_saying sign ls cs)
 
--- the problem that also says: one of the literals is true, or what the cases say is, or where the sign is false it is not
+-- the problem that also says: one of the literals is true, or what the cases say is, or where the sign is false it is
+-- not
 abbrev pub assert_cases : Bool → List Lit → List Case → ProblemState → ProblemState
 assert_cases sign ls cs p = answer_or_clauses (answer_without cs) sign ls cs p
 
@@ -62,7 +63,8 @@ assert_comparison sign c (a ∷ as') bs ls p =
 abbrev pub alike_clauses : List Lit → Lit → Lit → List (List Lit)
 alike_clauses ls l m = (ls ++ negated l ∷ m ∷ []) ∷ (ls ++ l ∷ negated m ∷ []) ∷ []
 
--- the problem that also says: one of the literals is true, or two answers have one value, or where the sign is false two
+-- the problem that also says: one of the literals is true, or two answers have one value, or where the sign is false
+-- two
 abbrev pub assert_alike : Bool → Answer → Answer → List Lit → ProblemState → ProblemState
 assert_alike sign (Constant c) y ls p = or_clause ls (signed_result sign (same_of (Constant c) y p))
 assert_alike sign (Literal l) (Constant c) ls p = or_clause ls (signed_result sign (same_of (Literal l) (Constant c) p))

@@ -53,7 +53,8 @@ SentencesAreAsserted =
     → IsProblem p → HasAtoms b p → HasRoom b p → AllByRecursion (IsGroundForm b) fs
     → AssertsMore p (assert_sentences b fs p) (λ v. list_all (λ f. truth_of (structure_of b v) f []) fs)
 
--- in a valuation with what is known, the clauses of exactly one of the open variables say that exactly one of the values
+-- in a valuation with what is known, the clauses of exactly one of the open variables say that exactly one of the
+-- values
 -- is chosen
 abbrev pub OneEachByClauses : Type 0
 OneEachByClauses =

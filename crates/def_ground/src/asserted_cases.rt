@@ -106,7 +106,8 @@ fn push_shown(
     requires guards { AreLitsOf problem.old.vars guards.now }
     requires side { SideWithin problem.old.vars side.now }
     requires other { SideWithin problem.old.vars other.now }
-    ensures { OnOk result (problem.new ≡ with_clauses problem.old (shown_clauses lits.now guards.now side.now other.now)) }
+    ensures { OnOk result (problem.new ≡ with_clauses problem.old
+        (shown_clauses lits.now guards.now side.now other.now)) }
 {
     match side {
         None => Ok(()),
@@ -127,7 +128,9 @@ fn push_case(
 ) -> Result<(), Memory>
     requires lits { AreLitsOf problem.old.vars lits.now }
     requires case { IsCaseOf problem.old.vars (case_view case.now) }
-    ensures { OnOk result (problem.new ≡ with_clauses problem.old (shown_clauses lits.now case.now.guards.now (side_of sign (case_view case.now)) (side_of (not sign) (case_view case.now)))) }
+    ensures { OnOk result (problem.new ≡ with_clauses problem.old
+        (shown_clauses lits.now case.now.guards.now (side_of sign (case_view case.now))
+        (side_of (not sign) (case_view case.now)))) }
 {
     if sign {
         push_shown(alloc, lits, case.guards, &case.yes, &case.no, problem)
@@ -146,7 +149,8 @@ fn push_each_case(
 ) -> Result<(), Memory>
     requires lits { AreLitsOf problem.old.vars lits.now }
     requires cases { AllByRecursion (IsCaseOf problem.old.vars) (map case_view cases.now) }
-    ensures { OnOk result (problem.new ≡ with_clauses problem.old (clauses_saying sign lits.now (map case_view cases.now))) }
+    ensures { OnOk result (problem.new ≡ with_clauses problem.old
+        (clauses_saying sign lits.now (map case_view cases.now))) }
 {
     for case in cases {
         push_case(alloc, sign, lits, case, problem)?;
@@ -214,7 +218,8 @@ fn push_same(
     requires first { AnswerWithin problem.old.vars first }
     requires second { AnswerWithin problem.old.vars second }
     requires lits { AreLitsOf problem.old.vars lits.now }
-    ensures made { OnOk result (problem.new ≡ or_clause lits.now (signed_result sign (same_of first second problem.old))) }
+    ensures made { OnOk result
+        (problem.new ≡ or_clause lits.now (signed_result sign (same_of first second problem.old))) }
     ensures grows { OnOk result (problem.old.vars ≤ problem.new.vars) }
 {
     let answer = same(alloc, first, second, problem)?;

@@ -253,7 +253,8 @@ fn push_sides(
 /// A new variable that has in each case the case's value.
 fn add_cases(alloc: Global, cases: &[Case<'_>], problem: &mut Problem) -> Result<Answer, Memory>
     requires { AllByRecursion (IsCaseOf problem.old.vars) (map case_view cases.now) }
-    ensures { IfOk result (λ a. (a ≡ Literal (next_lit problem.old)) × (problem.new ≡ with_cases problem.old (map case_view cases.now))) }
+    ensures { IfOk result (λ a. (a ≡ Literal (next_lit problem.old))
+        × (problem.new ≡ with_cases problem.old (map case_view cases.now))) }
 {
     let out = problem.add_var()?;
     push_sides(alloc, out, cases, problem)?;

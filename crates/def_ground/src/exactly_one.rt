@@ -77,7 +77,8 @@ fn push_pairs(alloc: Global, lits: &[Lit], problem: &mut Problem) -> Result<(), 
     Ok(())
 }
 
-/// Adds that exactly one of the variables from `first` on is true, one for each value. What is known to be false is left
+/// Adds that exactly one of the variables from `first` on is true, one for each value. What is known to be false is
+/// left
 /// out, so that known values take no pairs.
 #[tactic(auto, using(crate::proofs::WithClauses::with_more))]
 pub fn push_one_of(
@@ -89,7 +90,8 @@ pub fn push_one_of(
 ) -> Result<(), Memory>
     requires few { first + length values.now ≤ 2 ^ 63 }
     requires within { AreLitsOf problem.old.vars (open_variables base.now first values.now) }
-    ensures { OnOk result (problem.new ≡ with_clauses problem.old (one_of_clauses (open_variables base.now first values.now))) }
+    ensures { OnOk result (problem.new ≡ with_clauses problem.old
+        (one_of_clauses (open_variables base.now first values.now))) }
 {
     let lits = variables(alloc, base, first, values)?;
     problem.add_clause(Clause::from_slice(alloc, lits.as_slice())?)?;

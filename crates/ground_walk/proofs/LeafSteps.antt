@@ -204,7 +204,8 @@ module _ (rs : List (List Lit × Denotation)) (k : ℕ) (g : List Lit) (x : Deno
   next-within h =
       let all : HaveLits p.vars ((g, x) ∷ drop (k + 1) rs) = subst (HaveLits p.vars) left h in
       let one = gate-grows p g all.0 in
-      rows-more p.vars q.vars (subst (λ (r : ProblemState). p.vars ≤ r.vars) (sym problem) one.0) (drop (k + 1) rs) all.1
+      rows-more p.vars q.vars (subst (λ (r : ProblemState). p.vars ≤ r.vars) (sym problem) one.0)
+      (drop (k + 1) rs) all.1
 
 -- a comparison that is asserted, whose left term has a row
 pub asserted-by-rows : (sign : Bool) (c : Cmp) (ls : List Lit) (p : ProblemState)

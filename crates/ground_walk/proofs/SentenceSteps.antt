@@ -32,7 +32,8 @@ each-asserted A (a ∷ xs) p = each-asserted A xs (A a p)
 module _ (b : GroundBase) (bs : List Bound) (f : FormulaTree) (e : List Elem) (ls : List Lit) (p : ProblemState) where
   -- where each instance is asserted
   pub all-asserted : (all sign : Bool) → beq sign all ≡ true
-      → fold (λ q x. assert_step b sign f ls q (e ++ x)) p (choices b.domains bs) ≡ assert_quantified all b sign bs f e ls p
+      → fold (λ q x. assert_step b sign f ls q (e ++ x)) p (choices b.domains bs)
+      ≡ assert_quantified all b sign bs f e ls p
   all-asserted true true h = sym (each-asserted (λ a q. assert_of b true f (e ++ a) ls q) (choices b.domains bs) p)
   all-asserted true false h = cc
   all-asserted false true h = cc
@@ -65,7 +66,8 @@ step-begins : (b : GroundBase) (all sign : Bool) (f : FormulaTree) (ls : List Li
     → Begins ls r.lits → Begins ls (part_step b all sign f r x).lits
 step-begins b all sign f ls r x h = by r.settled
   where
-    by : (s : Bool) → Begins ls (if s then r else with_part all r.lits (signed_result sign (form_of b f x r.problem))).lits
+    by : (s : Bool) → Begins ls
+        (if s then r else with_part all r.lits (signed_result sign (form_of b f x r.problem))).lits
     by true = h
     by false = answer-begins ls r.lits (signed_result sign (form_of b f x r.problem)).answer h
 
@@ -81,7 +83,11 @@ pub front-of : (ls all : List Lit) → Begins ls all → take (length ls) all �
 front-of ls all h = ap (take (length ls)) h.1 ∙ take_at ls h.0 (length ls) refl
 
 pub front-begins : (ls all : List Lit) → take (length ls) all ≡ ls → Begins ls all
-front-begins ls all h = (drop (length ls) all, sym (take-append-drop (length ls) all) ∙ ap (λ xs. xs ++ drop (length ls) all) h)
+front-begins ls all h = (
+  drop (length ls) all,
+  sym (take-append-drop (length ls) all)
+      ∙ ap (λ xs. xs ++ drop (length ls) all) h,
+)
 
 begins-by : (few : Bool) (ls : List Lit) (r t : Parts) → Begins ls r.lits → Begins ls t.lits
     → Begins ls (if few then r else t).lits
@@ -147,7 +153,8 @@ pub any-next : (b : GroundBase) (sign : Bool) (others : List Formula) (z : Formu
     ≡ unless_settled (disjuncts_of b sign (formula_view x) e ls p)
     (λ xs q. assert_any b sign (formulas_of (map formula_view (drop (i + 1) others ++ z ∷ []))) e xs q)
 any-next b sign others z e ls p i x h is =
-    let A : List Formula → ProblemState = λ ys. assert_any b sign (formulas_of (map formula_view (ys ++ z ∷ []))) e ls p in
+    let A : List Formula → ProblemState =
+    λ ys. assert_any b sign (formulas_of (map formula_view (ys ++ z ∷ []))) e ls p in
     at_drop_more A others i x h ∙ ap (λ y. A (y ∷ drop (i + 1) others)) (sym is)
     ∙ any-more b sign x (drop (i + 1) others) z e ls p
 

@@ -33,7 +33,9 @@ fn own<'a>(
     requires room { HasVars base.now problem.old }
     requires fits { IsGroundable base.now (formula_view formula.now) (env_view env.now) }
     requires lits { AreLitsOf problem.old.vars lits.old.items }
-    ensures made { IfOk result (λ s. MakesParts (own_part base.now sign (formula_view formula.now) (env_view env.now) lits.old.items problem.old) s lits.new.items problem.new) }
+    ensures made { IfOk result
+        (λ s. MakesParts (own_part base.now sign (formula_view formula.now)
+        (env_view env.now) lits.old.items problem.old) s lits.new.items problem.new) }
     ensures grows { IfOk result (λ s. PartsGrow problem.old problem.new lits.new.items) }
 {
     let answer = signed_form(alloc, base, sign, formula, env, problem)?;
@@ -56,7 +58,9 @@ pub(crate) fn disjuncts<'a>(
     requires room { HasVars base.now problem.old }
     requires fits { IsGroundable base.now (formula_view formula.now) (env_view env.now) }
     requires lits { AreLitsOf problem.old.vars lits.old.items }
-    ensures made { IfOk result (λ s. MakesParts (disjuncts_of base.now sign (formula_view formula.now) (env_view env.now) lits.old.items problem.old) s lits.new.items problem.new) }
+    ensures made { IfOk result
+        (λ s. MakesParts (disjuncts_of base.now sign (formula_view formula.now)
+        (env_view env.now) lits.old.items problem.old) s lits.new.items problem.new) }
     ensures grows { IfOk result (λ s. PartsGrow problem.old problem.new lits.new.items) }
 {
     match formula {
@@ -111,7 +115,9 @@ fn each_disjuncts<'a>(
     requires room { HasVars base.now problem.old }
     requires fits { AreGroundable base.now (formulas_of (map formula_view formulas.now)) (env_view env.now) }
     requires lits { AreLitsOf problem.old.vars lits.old.items }
-    ensures made { IfOk result (λ s. MakesParts (all_disjuncts base.now sign (formulas_of (map formula_view formulas.now)) (env_view env.now) lits.old.items problem.old) s lits.new.items problem.new) }
+    ensures made { IfOk result
+        (λ s. MakesParts (all_disjuncts base.now sign (formulas_of (map formula_view formulas.now))
+        (env_view env.now) lits.old.items problem.old) s lits.new.items problem.new) }
     ensures grows { IfOk result (λ s. PartsGrow problem.old problem.new lits.new.items) }
 {
     for formula in formulas {

@@ -85,7 +85,9 @@ pub(crate) fn atom<'a>(
     requires given { IsGroundBase base.now }
     requires room { HasVars base.now problem.old }
     requires fits { IsGroundable base.now (atom symbol (terms_of (map term_view args.now))) (env_view env.now) }
-    ensures made { IfOk result (λ a. Makes (form_of base.now (atom symbol (terms_of (map term_view args.now))) (env_view env.now) problem.old) a problem.new) }
+    ensures made { IfOk result
+        (λ a. Makes (form_of base.now (atom symbol (terms_of (map term_view args.now))) (env_view env.now) problem.old)
+        a problem.new) }
     ensures grows { IfOk result (λ a. Grows problem.old problem.new a) }
 {
     let rows = base.tuple_rows(alloc, args, env)?;
@@ -113,7 +115,8 @@ pub(crate) fn push_atom<'a>(
     requires room { HasVars base.now problem.old }
     requires fits { IsGroundable base.now (atom symbol (terms_of (map term_view args.now))) (env_view env.now) }
     requires lits { AreLitsOf problem.old.vars lits.now }
-    ensures made { OnOk result (problem.new ≡ assert_of base.now sign (atom symbol (terms_of (map term_view args.now))) (env_view env.now) lits.now problem.old) }
+    ensures made { OnOk result (problem.new ≡ assert_of base.now sign (atom symbol (terms_of (map term_view args.now)))
+        (env_view env.now) lits.now problem.old) }
     ensures grows { OnOk result (problem.old.vars ≤ problem.new.vars) }
 {
     let rows = base.tuple_rows(alloc, args, env)?;
@@ -167,7 +170,8 @@ fn comparison_cases<'r>(
     left: &'r Rows<'_>,
     right: &[GuardedValue<'_>],
 ) -> Result<Vec<Case<'r>>, Memory>
-    ensures { IfOk result (λ cs. map case_view cs.items ≡ map (comparison_case cmp (map guarded_view right.now)) left.now) }
+    ensures { IfOk result (λ cs. map case_view cs.items
+        ≡ map (comparison_case cmp (map guarded_view right.now)) left.now) }
 {
     let mut cases = Vec::new(alloc);
     for row in 0..left.len() {
@@ -210,8 +214,11 @@ pub(crate) fn comparison<'a>(
 ) -> Result<Answer, Memory>
     requires given { IsGroundBase base.now }
     requires room { HasVars base.now problem.old }
-    requires fits { IsGroundable base.now (comparison cmp (term_view left.now) (term_view right.now)) (env_view env.now) }
-    ensures made { IfOk result (λ a. Makes (form_of base.now (comparison cmp (term_view left.now) (term_view right.now)) (env_view env.now) problem.old) a problem.new) }
+    requires fits { IsGroundable base.now (comparison cmp (term_view left.now) (term_view right.now))
+        (env_view env.now) }
+    ensures made { IfOk result
+        (λ a. Makes (form_of base.now (comparison cmp (term_view left.now) (term_view right.now))
+        (env_view env.now) problem.old) a problem.new) }
     ensures grows { IfOk result (λ a. Grows problem.old problem.new a) }
 {
     let left_rows = base.rows(alloc, left, env)?;
@@ -259,9 +266,12 @@ pub(crate) fn push_comparison<'a>(
 ) -> Result<(), Memory>
     requires given { IsGroundBase base.now }
     requires room { HasVars base.now problem.old }
-    requires fits { IsGroundable base.now (comparison cmp (term_view left.now) (term_view right.now)) (env_view env.now) }
+    requires fits { IsGroundable base.now (comparison cmp (term_view left.now) (term_view right.now))
+        (env_view env.now) }
     requires lits { AreLitsOf problem.old.vars lits.now }
-    ensures made { OnOk result (problem.new ≡ assert_of base.now sign (comparison cmp (term_view left.now) (term_view right.now)) (env_view env.now) lits.now problem.old) }
+    ensures made { OnOk result
+        (problem.new ≡ assert_of base.now sign (comparison cmp (term_view left.now) (term_view right.now))
+        (env_view env.now) lits.now problem.old) }
     ensures grows { OnOk result (problem.old.vars ≤ problem.new.vars) }
 {
     let left_rows = base.rows(alloc, left, env)?;

@@ -53,9 +53,13 @@ fn push_some<'a>(
 ) -> Result<(), Memory>
     requires given { IsGroundBase base.now }
     requires room { HasVars base.now problem.old }
-    requires fits { AllByRecursion (λ a. IsGroundable base.now (formula_view formula.now) (env_view env.now ++ a)) (choices base.now.domains bounds.now) }
+    requires fits { AllByRecursion (λ a. IsGroundable base.now (formula_view formula.now) (env_view env.now ++ a))
+        (choices base.now.domains bounds.now) }
     requires lits { AreLitsOf problem.old.vars lits.old.items }
-    ensures made { OnOk result (problem.new ≡ parts_clause (fold (λ r x. part_step base.now false sign (formula_view formula.now) r (env_view env.now ++ x)) (open_parts lits.old.items problem.old) (choices base.now.domains bounds.now))) }
+    ensures made { OnOk result
+        (problem.new ≡ parts_clause
+        (fold (λ r x. part_step base.now false sign (formula_view formula.now) r (env_view env.now ++ x))
+        (open_parts lits.old.items problem.old) (choices base.now.domains bounds.now))) }
     ensures grows { OnOk result (problem.old.vars ≤ problem.new.vars) }
     ensures lits { OnOk result (lits.new.items ≡ lits.old.items) }
 {
@@ -70,7 +74,8 @@ fn push_some<'a>(
     Ok(())
 }
 
-/// Says that one of the literals is true, or the formula is, or where the sign is false is not. The formula is asked for
+/// Says that one of the literals is true, or the formula is, or where the sign is false is not. The formula is asked
+/// for
 /// as one answer.
 fn push_leaf<'a>(
     alloc: Global,
@@ -85,7 +90,9 @@ fn push_leaf<'a>(
     requires room { HasVars base.now problem.old }
     requires fits { IsGroundable base.now (formula_view formula.now) (env_view env.now) }
     requires lits { AreLitsOf problem.old.vars lits.old.items }
-    ensures made { OnOk result (problem.new ≡ or_clause lits.old.items (signed_result sign (form_of base.now (formula_view formula.now) (env_view env.now) problem.old))) }
+    ensures made { OnOk result
+        (problem.new ≡ or_clause lits.old.items
+        (signed_result sign (form_of base.now (formula_view formula.now) (env_view env.now) problem.old))) }
     ensures grows { OnOk result (problem.old.vars ≤ problem.new.vars) }
     ensures lits { OnOk result (lits.new.items ≡ lits.old.items) }
 {
@@ -93,7 +100,8 @@ fn push_leaf<'a>(
     push_answer(alloc, answer, lits.as_slice(), problem)
 }
 
-/// Says that one of the literals is true, or that two formulas have one truth, or where the sign is false that they have
+/// Says that one of the literals is true, or that two formulas have one truth, or where the sign is false that they
+/// have
 /// not.
 fn push_iff<'a>(
     alloc: Global,
@@ -110,7 +118,9 @@ fn push_iff<'a>(
     requires left { IsGroundable base.now (formula_view left.now) (env_view env.now) }
     requires right { IsGroundable base.now (formula_view right.now) (env_view env.now) }
     requires lits { AreLitsOf problem.old.vars lits.now }
-    ensures made { OnOk result (problem.new ≡ assert_of base.now sign (equivalence (formula_view left.now) (formula_view right.now)) (env_view env.now) lits.now problem.old) }
+    ensures made { OnOk result
+        (problem.new ≡ assert_of base.now sign (equivalence (formula_view left.now) (formula_view right.now))
+        (env_view env.now) lits.now problem.old) }
     ensures grows { OnOk result (problem.old.vars ≤ problem.new.vars) }
 {
     let first = form(alloc, base, left, env, problem)?;
@@ -133,7 +143,9 @@ fn push<'a>(
     requires room { HasVars base.now problem.old }
     requires fits { IsGroundable base.now (formula_view formula.now) (env_view env.now) }
     requires lits { AreLitsOf problem.old.vars lits.old.items }
-    ensures made { OnOk result (problem.new ≡ assert_of base.now sign (formula_view formula.now) (env_view env.now) lits.old.items problem.old) }
+    ensures made { OnOk result
+        (problem.new ≡ assert_of base.now sign (formula_view formula.now)
+        (env_view env.now) lits.old.items problem.old) }
     ensures grows { OnOk result (problem.old.vars ≤ problem.new.vars) }
     ensures lits { OnOk result (lits.new.items ≡ lits.old.items) }
 {
@@ -239,7 +251,9 @@ fn push_under<'a>(
     requires room { HasVars base.now problem.old }
     requires fits { IsGroundable base.now (formula_view right.now) (env_view env.now) }
     requires lits { AreLitsOf problem.old.vars lits.old.items }
-    ensures made { OnOk result (problem.new ≡ assert_under base.now settled (formula_view right.now) (env_view env.now) lits.old.items problem.old) }
+    ensures made { OnOk result
+        (problem.new ≡ assert_under base.now settled (formula_view right.now)
+        (env_view env.now) lits.old.items problem.old) }
     ensures grows { OnOk result (problem.old.vars ≤ problem.new.vars) }
     ensures lits { OnOk result (lits.new.items ≡ take before lits.old.items) }
 {
@@ -269,7 +283,9 @@ fn push_last<'a>(
     requires room { HasVars base.now problem.old }
     requires fits { IsGroundable base.now (formula_view formula.now) (env_view env.now) }
     requires lits { AreLitsOf problem.old.vars lits.old.items }
-    ensures made { OnOk result (problem.new ≡ assert_last base.now sign (formula_view formula.now) (env_view env.now) lits.old.items problem.old) }
+    ensures made { OnOk result
+        (problem.new ≡ assert_last base.now sign (formula_view formula.now)
+        (env_view env.now) lits.old.items problem.old) }
     ensures grows { OnOk result (problem.old.vars ≤ problem.new.vars) }
     ensures lits { OnOk result (lits.new.items ≡ lits.old.items) }
 {
@@ -296,7 +312,9 @@ fn push_joined<'a>(
     requires room { HasVars base.now problem.old }
     requires fits { AreGroundable base.now (formulas_of (map formula_view formulas.now)) (env_view env.now) }
     requires lits { AreLitsOf problem.old.vars lits.old.items }
-    ensures made { OnOk result (problem.new ≡ assert_joined all base.now sign (formulas_of (map formula_view formulas.now)) (env_view env.now) lits.old.items problem.old) }
+    ensures made { OnOk result
+        (problem.new ≡ assert_joined all base.now sign (formulas_of (map formula_view formulas.now))
+        (env_view env.now) lits.old.items problem.old) }
     ensures grows { OnOk result (problem.old.vars ≤ problem.new.vars) }
     ensures lits { OnOk result (lits.new.items ≡ lits.old.items) }
 {
@@ -322,7 +340,8 @@ fn push_all<'a>(
     requires room { HasVars base.now problem.old }
     requires fits { AreGroundable base.now (formulas_of (map formula_view formulas.now)) (env_view env.now) }
     requires lits { AreLitsOf problem.old.vars lits.old.items }
-    ensures made { OnOk result (problem.new ≡ assert_all base.now sign (formulas_of (map formula_view formulas.now)) (env_view env.now) lits.old.items problem.old) }
+    ensures made { OnOk result (problem.new ≡ assert_all base.now sign (formulas_of (map formula_view formulas.now))
+        (env_view env.now) lits.old.items problem.old) }
     ensures grows { OnOk result (problem.old.vars ≤ problem.new.vars) }
     ensures lits { OnOk result (lits.new.items ≡ lits.old.items) }
 {
@@ -347,7 +366,8 @@ fn push_any<'a>(
     requires room { HasVars base.now problem.old }
     requires fits { AreGroundable base.now (formulas_of (map formula_view formulas.now)) (env_view env.now) }
     requires lits { AreLitsOf problem.old.vars lits.old.items }
-    ensures made { OnOk result (problem.new ≡ assert_any base.now sign (formulas_of (map formula_view formulas.now)) (env_view env.now) lits.old.items problem.old) }
+    ensures made { OnOk result (problem.new ≡ assert_any base.now sign (formulas_of (map formula_view formulas.now))
+        (env_view env.now) lits.old.items problem.old) }
     ensures grows { OnOk result (problem.old.vars ≤ problem.new.vars) }
     ensures lits { OnOk result (lits.new.items ≡ lits.old.items) }
 {
@@ -381,9 +401,11 @@ fn push_quantified<'a>(
 ) -> Result<(), Memory>
     requires given { IsGroundBase base.now }
     requires room { HasVars base.now problem.old }
-    requires fits { AllByRecursion (λ a. IsGroundable base.now (formula_view formula.now) (env_view env.now ++ a)) (choices base.now.domains bounds.now) }
+    requires fits { AllByRecursion (λ a. IsGroundable base.now (formula_view formula.now) (env_view env.now ++ a))
+        (choices base.now.domains bounds.now) }
     requires lits { AreLitsOf problem.old.vars lits.old.items }
-    ensures made { OnOk result (problem.new ≡ assert_quantified all base.now sign bounds.now (formula_view formula.now) (env_view env.now) lits.old.items problem.old) }
+    ensures made { OnOk result (problem.new ≡ assert_quantified all base.now sign bounds.now (formula_view formula.now)
+        (env_view env.now) lits.old.items problem.old) }
     ensures grows { OnOk result (problem.old.vars ≤ problem.new.vars) }
     ensures lits { OnOk result (lits.new.items ≡ lits.old.items) }
 {
@@ -408,9 +430,12 @@ fn push_each<'a>(
 ) -> Result<(), Memory>
     requires given { IsGroundBase base.now }
     requires room { HasVars base.now problem.old }
-    requires fits { AllByRecursion (λ a. IsGroundable base.now (formula_view formula.now) (env_view env.now ++ a)) (choices base.now.domains bounds.now) }
+    requires fits { AllByRecursion (λ a. IsGroundable base.now (formula_view formula.now) (env_view env.now ++ a))
+        (choices base.now.domains bounds.now) }
     requires lits { AreLitsOf problem.old.vars lits.old.items }
-    ensures made { OnOk result (problem.new ≡ fold (λ q x. assert_step base.now sign (formula_view formula.now) lits.old.items q (env_view env.now ++ x)) problem.old (choices base.now.domains bounds.now)) }
+    ensures made { OnOk result
+        (problem.new ≡ fold (λ q x. assert_step base.now sign (formula_view formula.now) lits.old.items q
+        (env_view env.now ++ x)) problem.old (choices base.now.domains bounds.now)) }
     ensures grows { OnOk result (problem.old.vars ≤ problem.new.vars) }
     ensures lits { OnOk result (lits.new.items ≡ lits.old.items) }
 {

@@ -67,7 +67,8 @@ fn push_symbol(
     requires known { KnowsAtoms base.now }
     requires declared { symbol < length base.now.vocabulary.symbols }
     requires room { HasVars base.now problem.old }
-    ensures { OnOk result (problem.new ≡ with_clauses problem.old (if is_function then function_clauses base.now symbol else [])) }
+    ensures { OnOk result (problem.new ≡ with_clauses problem.old
+        (if is_function then function_clauses base.now symbol else [])) }
 {
     if is_function {
         push_function(alloc, base, symbol, problem)

@@ -36,7 +36,8 @@ fn push_symbol(
     symbol: u32,
     known: &mut Vec<Option<bool>>,
 ) -> Result<(), Memory>
-    ensures { OnOk result (known.new.items ≡ known.old.items ++ map (λ a. known_truth (value_at partial.now a)) (atoms_of partial.now symbol)) }
+    ensures { OnOk result (known.new.items ≡ known.old.items ++ map (λ a. known_truth (value_at partial.now a))
+        (atoms_of partial.now symbol)) }
 {
     let mut truths = Vec::new(alloc);
     partial.push_values(symbol, &mut truths)?;
@@ -45,7 +46,8 @@ fn push_symbol(
 
 /// What is known of each ground atom. The symbols are numbered by a `u32`, so that more of them count as out of memory.
 pub(crate) fn all_known(alloc: Global, partial: &Partial) -> Result<Vec<Option<bool>>, Memory>
-    ensures { IfOk result (λ known. known.items ≡ map (λ a. known_truth (value_at partial.now a)) (atoms_over partial.now.symbols partial.now.domains)) }
+    ensures { IfOk result (λ known. known.items ≡ map (λ a. known_truth (value_at partial.now a))
+        (atoms_over partial.now.symbols partial.now.domains)) }
 {
     let count = partial.symbols().len();
     let mut known = Vec::new(alloc);

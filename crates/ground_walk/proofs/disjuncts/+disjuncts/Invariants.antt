@@ -13,7 +13,8 @@ invariant-each_disjuncts-loop-formula l =
     let left = formulas_of (map formula_view (drop l.formula-index l.formulas)) in
     record {
       same : all_disjuncts l.base l.sign left (env_view l.env) l.lits.items l.problem
-          ≡ all_disjuncts l.base l.sign (formulas_of (map formula_view l.formulas)) (env_view l.env) l.fn.lits.items l.fn.problem;
+          ≡ all_disjuncts l.base l.sign (formulas_of (map formula_view l.formulas))
+          (env_view l.env) l.fn.lits.items l.fn.problem;
       fits : AreGroundable l.base left (env_view l.env);
       vars : l.fn.problem.vars ≤ l.problem.vars;
       lits : AreLitsOf l.problem.vars l.lits.items;

@@ -32,7 +32,8 @@ returns-in-Some-clause-grows c =
     let cs = map (atom_case b c.args.symbol) c.in_ok-rows.rows in
     let within : AllByRecursion (IsCaseOf p.vars) cs =
     rw c.in_ok-rows.ensures
-    (atom-cases-in b c.args.symbol (terms_of (map term_view c.args.args.now)) (env_view c.args.env.now) p c.requires.given
+    (atom-cases-in b c.args.symbol (terms_of (map term_view c.args.args.now))
+    (env_view c.args.env.now) p c.requires.given
     c.requires.room c.requires.fits.0) in
     subst (λ (g : GroundResult). Grows p g.problem g.answer) (without-made cs c.in-Some.answer p c.in-Some.ensures)
     (cases-grow p cs within)

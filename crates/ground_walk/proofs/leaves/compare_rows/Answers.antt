@@ -15,7 +15,8 @@ answer_of_cases-requires c =
       c.as_slice.ensures.value,
       c.in_ok-values.ensures.rows,
       c.in_ok-values.ensures.problem,
-    ) (comparison-cases-in c.args.cmp c.args.problem.now c.args.left.now c.args.right.now c.requires.left c.requires.right)
+    ) (comparison-cases-in c.args.cmp c.args.problem.now c.args.left.now c.args.right.now c.requires.left
+    c.requires.right)
 
 pub returns-clause-made : goal.returns-clause-made
 returns-clause-made c =
@@ -25,7 +26,9 @@ returns-clause-made c =
     let ys = c.args.right.now in
     let q = c.answer_of_cases.new.problem in
     let some : 1 ≤ length xs = omega (arith, c.if-len-eq0.false, c.len.ensures) in
-    let made : IfOk c.answer_of_cases.result (λ a. Makes (cases_of (map (comparison_case cmp (answers_of_guards ys p).rows) xs) (answers_of_guards ys p).problem) a q) =
+    let made : IfOk c.answer_of_cases.result
+    (λ a. Makes (cases_of (map (comparison_case cmp (answers_of_guards ys p).rows) xs)
+    (answers_of_guards ys p).problem) a q) =
     rw (
       c.as_slice-2.ensures.value,
       c.in_ok-cases.ensures,
@@ -33,7 +36,8 @@ returns-clause-made c =
       c.in_ok-values.ensures.rows,
       c.in_ok-values.ensures.problem,
     ) at c.answer_of_cases.ensures.made in
-    subst (λ (g : GroundResult). IfOk c.answer_of_cases.result (λ a. Makes g a q)) (sym (comparison-by-rows cmp p xs ys some)) made
+    subst (λ (g : GroundResult). IfOk c.answer_of_cases.result (λ a. Makes g a q))
+    (sym (comparison-by-rows cmp p xs ys some)) made
 
 pub returns-clause-grows : goal.returns-clause-grows
 returns-clause-grows c =

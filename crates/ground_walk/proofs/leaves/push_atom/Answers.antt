@@ -22,6 +22,8 @@ push_answer-requires-clause-answer c =
     let cs = map (atom_case b c.args.symbol) c.in_ok-rows.rows in
     let within : AllByRecursion (IsCaseOf p.vars) cs =
     rw c.in_ok-rows.ensures
-    (atom-cases-in b c.args.symbol (terms_of (map term_view c.args.args.now)) (env_view c.args.env.now) p c.requires.given
+    (atom-cases-in b c.args.symbol (terms_of (map term_view c.args.args.now))
+    (env_view c.args.env.now) p c.requires.given
     c.requires.room c.requires.fits.0) in
-    rw c.signed.ensures (signed-in p.vars c.args.sign c.in-Some.answer (answer-in p.vars cs c.in-Some.answer within c.in-Some.ensures))
+    rw c.signed.ensures (signed-in p.vars c.args.sign c.in-Some.answer
+    (answer-in p.vars cs c.in-Some.answer within c.in-Some.ensures))

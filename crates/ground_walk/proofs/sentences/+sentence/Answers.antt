@@ -30,9 +30,11 @@ push_any-returns-then-branch-clause-made t c =
     let xs = c.disjuncts.new.lits.items in
     let r = disjuncts_of b sign (formula_view x) e before p in
     let made : MakesParts r c.in_ok-disjuncts.field-0 xs q = c.in_ok-disjuncts.ensures.made in
-    let rest = λ (ys : List Lit) (r : ProblemState). assert_any b sign (formulas_of (map formula_view (drop (i + 1) others ++ z ∷ []))) e ys r in
+    let rest = λ (ys : List Lit) (r : ProblemState). assert_any b sign
+    (formulas_of (map formula_view (drop (i + 1) others ++ z ∷ []))) e ys r in
     let next = any-next b sign others z e before p i x c.loop-formula-test.true c.formula-item.is in
-    sym (next ∙ unless-stops r rest c.in_ok-disjuncts.field-0 xs q made c.if-branch.true) ∙ c.loop-formula.invariant.same
+    sym (next ∙ unless-stops r rest c.in_ok-disjuncts.field-0 xs q made c.if-branch.true)
+    ∙ c.loop-formula.invariant.same
 
 pub push_any-returns-then-branch-clause-lits : goal.push_any-returns-then-branch-clause-lits
 push_any-returns-then-branch-clause-lits t c =
@@ -67,7 +69,8 @@ push_any-loop-formula-preserved t c =
     let xs = c.disjuncts.new.lits.items in
     let r = disjuncts_of b sign (formula_view x) e before p in
     let made : MakesParts r c.in_ok-disjuncts.field-0 xs q = c.in_ok-disjuncts.ensures.made in
-    let rest = λ (ys : List Lit) (r : ProblemState). assert_any b sign (formulas_of (map formula_view (drop (i + 1) others ++ z ∷ []))) e ys r in
+    let rest = λ (ys : List Lit) (r : ProblemState). assert_any b sign
+    (formulas_of (map formula_view (drop (i + 1) others ++ z ∷ []))) e ys r in
     let next = any-next b sign others z e before p i x c.loop-formula-test.true c.formula-item.is in
     let grows = c.in_ok-disjuncts.ensures.grows in
     record {
@@ -77,7 +80,8 @@ push_any-loop-formula-preserved t c =
       vars = omega (arith, c.loop-formula.invariant.vars, grows.vars);
       front =
           front-of ls xs (subst (Begins ls) (sym made.1)
-          (disjuncts-begin b ls sign (formula_view x) e before p (front-begins ls before c.loop-formula.invariant.front)));
+          (disjuncts-begin b ls sign (formula_view x) e before p
+          (front-begins ls before c.loop-formula.invariant.front)));
       within = grows.within;
     }
 
@@ -96,14 +100,16 @@ push_each-push_each-requires t c =
     let count : c.split_in.result.0.count ≡ length cs = rw c.domains.ensures at c.split_in.ensures.count in
     let inner = env_view c.extend-inner.result in
     let within : i < length cs = rw (← count) c.loop-number-test.true in
-    let is : inner ≡ e ++ get_or cs i [] = rw (c.split_in.ensures.domains, c.domains.ensures) at c.extend-inner.ensures in (
+    let is : inner ≡ e ++ get_or cs i [] = rw (c.split_in.ensures.domains, c.domains.ensures)
+    at c.extend-inner.ensures in (
       omega (arith, c.split_in.ensures.fewer),
       (
         c.requires.given,
         (
           omega (arith, c.requires.room, c.loop-number.invariant.vars),
           (
-            each_after b.domains c.args.bounds.now these others c.split_in.ensures.parts (IsGroundable b f) e inner i within is c.requires.fits,
+            each_after b.domains c.args.bounds.now these others c.split_in.ensures.parts
+                (IsGroundable b f) e inner i within is c.requires.fits,
             c.loop-number.invariant.within,
           ),
         ),
@@ -125,14 +131,16 @@ push_each-loop-number-preserved t c =
     let count : c.split_in.result.0.count ≡ length cs = rw c.domains.ensures at c.split_in.ensures.count in
     let inner = env_view c.extend-inner.result in
     let within : i < length cs = rw (← count) c.loop-number-test.true in
-    let is : inner ≡ e ++ get_or cs i [] = rw (c.split_in.ensures.domains, c.domains.ensures) at c.extend-inner.ensures in
+    let is : inner ≡ e ++ get_or cs i [] = rw (c.split_in.ensures.domains, c.domains.ensures)
+    at c.extend-inner.ensures in
     let G = λ (q : ProblemState) (a : List Elem). assert_step b sign f ls q a in
     let F = λ (q : ProblemState) (a : List Elem). G q (e ++ a) in
     let p = c.loop-number.problem in
     let q = c.push_each.new.problem in
     let made : q ≡ fold (λ (r : ProblemState) (x : List Elem). G r (inner ++ x)) p rest =
     c.in_ok-push_each.ensures.made
-    ∙ ap (λ (ms : List Lit). fold (λ (r : ProblemState) (x : List Elem). assert_step b sign f ms r (inner ++ x)) p rest) c.loop-number.invariant.lits in
+    ∙ ap (λ (ms : List Lit). fold (λ (r : ProblemState) (x : List Elem). assert_step b sign f ms r (inner ++ x)) p rest)
+    c.loop-number.invariant.lits in
     let more : p.vars ≤ q.vars = c.in_ok-push_each.ensures.grows in
     record {
       same = fold_next (after_front F rest) cs i p q within (made ∙ inner_fold G rest e inner (get_or cs i []) p is)
@@ -184,7 +192,8 @@ push-returns-in_ok-settled-in-Implies-clause-lits t c =
     let p = c.args.problem.now in
     let xs = c.disjuncts.new.lits.items in
     let new = c.push_under.new.lits.items in
-    let made : MakesParts (disjuncts_of b false f e ls p) c.in_ok-settled-in-Implies.settled xs c.disjuncts.new.problem = c.in_ok-settled-in-Implies.ensures.made in
+    let made : MakesParts (disjuncts_of b false f e ls p) c.in_ok-settled-in-Implies.settled xs
+    c.disjuncts.new.problem = c.in_ok-settled-in-Implies.ensures.made in
     let n : c.len-before.result ≡ length ls = omega (arith, c.len-before.ensures, c.args.lits.now.ok.0) in
     let front : take c.len-before.result xs ≡ ls =
     ap (λ k. take k xs) n

@@ -19,6 +19,7 @@ loop-place-preserved c =
     let cs = fact_clause (k + 1) c.known.result in
     c.in_ok-push_fact.ensures ∙ ap (λ (q : ProblemState). with_clauses q cs) c.loop-place.invariant
     ∙ with_more p before cs
-    ∙ ap (λ (o : Option Bool). with_clauses p (before ++ fact_clause (k + 1) o)) (c.known.ensures ∙ ap (known_of b) next)
+    ∙ ap (λ (o : Option Bool). with_clauses p (before ++ fact_clause (k + 1) o)) (c.known.ensures
+    ∙ ap (known_of b) next)
     ∙ ap (λ (n : ℕ). with_clauses p (before ++ fact_clause n (unwrap_or (slice_get b.known k) None))) number
     ∙ ap (with_clauses p) (sym (next-fact 1 k b.known h))

@@ -7,4 +7,5 @@ loop-number-preserved c =
     let k = c.args.partial.now in
     let size = ap length c.symbols.ensures in
     values_more k c.loop-number.number c.loop-number.known.items c.push_symbol.new.known.items
-    (omega (arith, c.loop-number-test.true, c.len-count.ensures, size)) c.loop-number.invariant c.in_ok-push_symbol.ensures
+    (omega (arith, c.loop-number-test.true, c.len-count.ensures, size)) c.loop-number.invariant
+    c.in_ok-push_symbol.ensures

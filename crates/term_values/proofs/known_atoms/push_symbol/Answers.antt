@@ -9,5 +9,7 @@ returns c =
     let k = c.args.partial.now in
     let old = c.args.known.now.items in
     let new = c.push_truths.new.known.items in
-    let made = rw (c.as_slice.ensures.value, c.in_ok-push_values.ensures, c.new-truths.ensures.items) at c.push_truths.ensures in
-    subst (λ ys. OnOk c.push_truths.result (new ≡ old ++ ys)) (map-map known_truth (value_at k) (atoms_of k c.args.symbol)) made
+    let made = rw (c.as_slice.ensures.value, c.in_ok-push_values.ensures, c.new-truths.ensures.items)
+    at c.push_truths.ensures in
+    subst (λ ys. OnOk c.push_truths.result (new ≡ old ++ ys))
+    (map-map known_truth (value_at k) (atoms_of k c.args.symbol)) made
