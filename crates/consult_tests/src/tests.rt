@@ -2,11 +2,9 @@
 
 mod command_lines;
 mod copies;
-mod devices;
 mod faults;
 mod files;
 mod jobs;
-mod lines;
 mod paced;
 mod reply_texts;
 mod runs;
