@@ -1,0 +1,4 @@
+pub mod TotalFacts
+pub mod ShareFacts
+pub mod ListFacts
+pub mod ReasonFacts
