@@ -17,11 +17,11 @@ use Rattle.ground_core.specs.Problems.{ProblemState, IsProblem, IsLitOf, AreLits
 use Rattle.ground_core.specs.Growing.{with_retired}
 use Rattle.ground_core.specs.Solving.{IsLearnt}
 use Rattle.search_engine.specs.declared.engine.Engine.{Engine}
-use Rattle.search_engine.specs.Joining.{CanJoin, joined_problem, with_selected}
+use Rattle.kept_problem.specs.Joining.{CanJoin, joined_problem, with_selected}
 use Rattle.ground_core.specs.GateClauses.{clauses_of}
 use Rattle.search_engine.specs.Knowledge.{IsHeldAs, Knows, Pushes, RemovesAll, RemovesFrom}
 use Rattle.search_engine.specs.Resting.{IsResting, SameLists, SameSearches, held_of}
-use Rattle.search_engine.proofs.Joined.{joined-laws, joined-sums, joined-bounds, lit-wider, selected-laws}
+use Rattle.kept_problem.proofs.JoinLaws.{retired-laws, joined-laws, joined-sums, joined-bounds, lit-wider, selected-laws}
 use Rattle.search_engine.specs.Searching.{AreClosed, IsOrderly}
 use Rattle.search_engine.proofs.LearntLists.{learnt-joined, learnt-none, learnt-selected, learnt-retired}
 use Rattle.search_engine.proofs.Pushed.{front-push, take-next}
@@ -237,9 +237,6 @@ resting-selected e f c k h same lits once clauses trail store sized problem =
       fewer = rw same.same.conflicts (subst (λ (p : ProblemState). e.conflicts < 2 ^ p.vars) (sym problem) fewer);
       once = rw same.same.root_conflicts h.once;
     }
-
-pub retired-laws : (p : ProblemState) (l : Lit) → IsProblem p → IsLitOf p.vars l → IsProblem (with_retired p l)
-retired-laws p l h lit = record { atoms = h.atoms; gates = h.gates; clauses = h.clauses; sums = h.sums; terms = h.terms; bounds = h.bounds; retired = All-push (IsLitOf p.vars) p.retired l h.retired lit }
 
 -- a selector was retired
 pub resting-retired : (e f : Engine) (l : Lit) → IsResting e → SameLists e f → IsLitOf e.problem.vars l → f.store ≡ e.store → f.problem ≡ with_retired e.problem l → IsResting f

@@ -21,9 +21,10 @@ use Rattle.ground_core.specs.Solving.{Entails}
 use Rattle.ground_core.specs.GateClauses.{clauses_of, gate_clauses}
 use Rattle.ground_core.proofs.Fronts.{All-front}
 use Rattle.ground_core.proofs.Whole.{clauses-satisfied, clauses-within}
-use Rattle.search_engine.specs.Joining.{joined_problem, with_selected, CanJoin}
+use Rattle.kept_problem.specs.Joining.{joined_problem, with_selected, CanJoin}
 use Rattle.search_engine.specs.Knowledge.{IsHeldAs, IsOneOf, IsOfConstraint, IsOfSum, IsConstrained, Occurs, Knows, Pushes}
-use Rattle.search_engine.proofs.Joined.{lits-wider, joined-first, joined-second, joined-all, joined-has-first, joined-has-second, joined-constraint, joined-occurs}
+use Rattle.kept_problem.proofs.JoinLaws.{lits-wider}
+use Rattle.search_engine.proofs.Joined.{joined-first, joined-second, joined-all, joined-has-first, joined-has-second, joined-constraint, joined-occurs}
 use Rattle.search_engine.proofs.Pushed.{front-back, front-push, held-later, held-from-each}
 
 -- the same literals have the same truth

@@ -12,7 +12,7 @@ use Rattle.ground_core.specs.Problems.{ProblemState, IsLitOf}
 use Rattle.ground_core.specs.Moments.{moment_of, problem_at, IsMomentOf}
 use Rattle.ground_core.specs.Growing.{with_retired}
 use Rattle.ground_core.specs.Solving.{IsLearnt, IsLearntFrom}
-use Rattle.search_engine.specs.Joining.{joined_problem, with_selected, CanJoin}
+use Rattle.kept_problem.specs.Joining.{joined_problem, with_selected, CanJoin}
 use Rattle.search_engine.specs.Knowledge.{IsHeldAs, Knows}
 
 -- nothing was learnt yet

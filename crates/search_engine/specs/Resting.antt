@@ -6,7 +6,7 @@ use Rattle.search_engine.specs.declared.engine.Engine.{Engine}
 use Rattle.ground_core.specs.Problems.{ProblemState}
 use Rattle.ground_core.specs.Meaning.{RefutesAll}
 use Rattle.ground_core.specs.Growth.{empty_problem, with_exclusion}
-use Rattle.search_engine.specs.Joining.{joined_problem}
+use Rattle.kept_problem.specs.Joining.{joined_problem}
 use Rattle.search_engine.specs.Searching.{IsEngine, IsOrderly}
 
 -- the clauses that are held, in order

@@ -146,10 +146,6 @@ abbrev pub SettleGives : Engine → Engine → Bool → Type 0
 SettleGives old new true = (new.root_conflicts ≡ 0) × ((goal : ℕ) → StandsAt old goal → AheadAt new (goal + 1))
 SettleGives old new false = (new.root_conflicts ≡ 1) × RefutesAll old.problem []
 
--- the variables from one number on and below another have values
-abbrev pub HaveValues : List (Option Bool) → ℕ → ℕ → Type 0
-HaveValues values from end = (k : ℕ) → from ≤ k → k < end → IsSome (slice_index_or values k None)
-
 -- the values of the variables from 1 on
 pub record GivesValues (assigned : List (Option Bool)) (end : ℕ) (values : List Bool) : Type 0 where
   pub size : length values ≡ end

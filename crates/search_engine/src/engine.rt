@@ -3,13 +3,13 @@ ghost use Rattle.std.specs.Prelude.{◌≡◌, ℕ, ◌+◌, ◌≤◌, Some, No
 ghost use Rattle.clause_store.specs.StoreState.{IsConflict, IsQuiet};
 ghost use Rattle.search_engine.specs.Searching.{Continues, Extends, IsFirstAssigned, IsFirstOpen, IsLesson, IsSearch, KeepsAssumed, LessonGives, SameCounts, SettleGives, StandsAt, TurnGives};
 
-use crate::decider::Decider;
-use crate::kept::KeptProblem;
 use crate::levels::conflict_level;
 use clause_store::Store;
 use conflict_analysis::analyse;
 use ground_core::{Memory, Moment};
+use kept_problem::KeptProblem;
 use lit_core::{Clause, ClauseList, Lit};
+use search_decisions::Decider;
 use std::alloc::Global;
 
 /// What became of a conflict.

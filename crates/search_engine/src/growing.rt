@@ -3,17 +3,17 @@ ghost use Rattle.std.specs.Prelude.{◌≡◌, ◌<◌, ◌≤◌, ◌+◌, [], 
 ghost use Rattle.ground_core.specs.Problems.{AreLitsOf, IsProblem};
 ghost use Rattle.ground_core.specs.Growth.{next_lit};
 ghost use Rattle.ground_core.specs.Growing.{IsSelector, with_retired};
-ghost use Rattle.search_engine.specs.Joining.{CanJoin, with_selected};
+ghost use Rattle.kept_problem.specs.Joining.{CanJoin, with_selected};
 ghost use Rattle.search_engine.specs.Resting.{Excludes, Grows, IsHalfDone, IsNew, IsResting, Reserves, SameSearches, Stays};
 
-use crate::decider::Decider;
 use crate::engine::Engine;
 use crate::exclusions::exclusion;
-use crate::kept::KeptProblem;
 use crate::pushing::{push_problem, remove_all, remove_from};
 use clause_store::Store;
 use ground_core::{Memory, Problem};
+use kept_problem::KeptProblem;
 use lit_core::{Clause, ClauseList, Lit, Values, Var};
+use search_decisions::Decider;
 use std::alloc::Global;
 
 impl Engine {

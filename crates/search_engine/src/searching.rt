@@ -6,7 +6,8 @@ ghost use Rattle.clause_store.specs.StoreState.{IsConflict, IsQuiet, IsStore};
 ghost use Rattle.ground_core.specs.Problems.{AreLitsOf};
 ghost use Rattle.ground_core.specs.Solving.{Answers, counted};
 ghost use Rattle.search_engine.specs.Resting.{IsBegun, IsResting, KeepsProblem};
-ghost use Rattle.search_engine.specs.Searching.{AdvanceGives, AheadAt, AreTrue, Continues, GivesValues, HaltsAt, HasRoom, HaveValues, IsSearch, IsTurn, LearnsNow, OutcomeGives, StandsAt, TurnEnds};
+ghost use Rattle.search_engine.specs.Searching.{AdvanceGives, AheadAt, AreTrue, Continues, GivesValues, HaltsAt, HasRoom, IsSearch, IsTurn, LearnsNow, OutcomeGives, StandsAt, TurnEnds};
+ghost use Rattle.search_decisions.specs.Scores.{HaveValues};
 
 use crate::cores::core_of;
 use crate::engine::Engine;

@@ -3,7 +3,7 @@ use Rattle.lit_core.specs.declared.literals.Lit.{Lit}
 use Rattle.lit_core.specs.Literals.{value_in}
 use Rattle.clause_store.specs.StoreState.{StoreState}
 use Rattle.ground_core.specs.Problems.{IsLitOf}
-use Rattle.search_engine.specs.declared.decider.Decider.{Decider}
+use Rattle.search_decisions.specs.declared.decider.Decider.{Decider}
 use Rattle.search_engine.specs.declared.engine.Engine.{Engine}
 use Rattle.search_engine.specs.Searching.{GivesValues}
 use Rattle.search_engine.proofs.AnswerFacts.{values-satisfy, values-make}
