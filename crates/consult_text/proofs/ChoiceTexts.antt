@@ -7,7 +7,7 @@ use Rattle.kb_logic.specs.declared.vocabularies.Symbol.{Symbol}
 use Rattle.kb_logic.specs.declared.structures.Literal.{Literal}
 use Rattle.kb_logic.specs.Bases.{Base}
 use Rattle.kb_logic.specs.Models.{HasValueIn}
-use Rattle.kb_logic.specs.First.{IsRowOver}
+use Rattle.kb_logic.specs.Structures.{IsRowOver}
 use Rattle.kb_logic.specs.Structures.{domain_at, IsDistinct}
 use Rattle.kb_text.specs.declared.bytes.Class.TheVariants.{Mark}
 use Rattle.kb_text.specs.Bytes.{class_of}

@@ -1,7 +1,7 @@
 -- Rows over domains, from a place on.
 use Rattle.std.proofs.Common.{ℕ, List}
 use Rattle.kb_logic.specs.declared.elements.Elem.{Elem}
-use Rattle.kb_logic.specs.First.{IsRowOver}
+use Rattle.kb_logic.specs.Structures.{IsRowOver}
 
 -- the row is over the domains exactly where its rest is
 pub record SameRest (domains : List (List Elem)) (types : List ℕ) (row : List Elem) (types' : List ℕ) (row' : List Elem) : Type 0 where

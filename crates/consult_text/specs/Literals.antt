@@ -6,7 +6,7 @@ use Rattle.kb_logic.specs.declared.vocabularies.Symbol.{Symbol}
 use Rattle.kb_logic.specs.declared.structures.Literal.{Literal}
 use Rattle.kb_logic.specs.Bases.{Base}
 use Rattle.kb_logic.specs.Models.{HasValueIn}
-use Rattle.kb_logic.specs.First.{IsRowOver}
+use Rattle.kb_logic.specs.Structures.{IsRowOver}
 use Rattle.kb_text.specs.Tokens.{decimal}
 use Rattle.consult_text.specs.Written.{WrittenElem, named, integer, WrittenLiteral, atom, equation}
 

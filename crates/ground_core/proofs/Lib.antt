@@ -2,8 +2,6 @@ pub mod Locals
 pub mod Fronts
 pub mod Clauses
 pub mod Mores
-pub mod NormalFacts
-pub mod Views
 pub mod Valuations
 pub mod GrowthFacts
 pub mod CallFacts

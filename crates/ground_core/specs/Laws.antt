@@ -5,11 +5,8 @@ use Rattle.kb_logic.specs.declared.elements.Elem.{Elem}
 use Rattle.kb_logic.specs.declared.elements.ExtInt.{ExtInt}
 use Rattle.kb_logic.specs.declared.syntax.Cmp.TheVariants as cmp
 use Rattle.kb_logic.specs.declared.structures.Literal.{Literal}
-use Rattle.kb_logic.specs.declared.structures.Structure.{Structure}
 use Rattle.kb_logic.specs.declared.vocabularies.Symbol.{Symbol}
 use Rattle.kb_logic.specs.Structures.{IsDistinct}
-use Rattle.kb_logic.specs.Trees.{FormulaTree}
-use Rattle.kb_logic.specs.Meaning.{truth_of}
 use Rattle.kb_logic.specs.Denotations.{compared}
 use Rattle.lit_core.specs.declared.literals.Lit.{Lit}
 use Rattle.lit_core.specs.Literals.{valuation}
@@ -26,7 +23,6 @@ use Rattle.ground_core.specs.Solving.{SolveState, IsKept, Answers, KeepsCores, H
 use Rattle.ground_core.specs.Calls.{Keeps, Counts, Costs, GrowsByAdditions}
 use Rattle.ground_core.specs.declared.solving.Budget.{Budget}
 use Rattle.ground_core.specs.declared.solving.Verdict.TheVariants.{Unsat}
-use Rattle.ground_core.specs.NormalForms.{normal_form, IsNormal}
 
 -- a gate's clauses hold exactly where the gate does
 abbrev pub ClausesSayTheGate : Type 0
@@ -43,14 +39,6 @@ MoreInTwoSteps = (p q r : ProblemState) → DefinesMore p q → DefinesMore q r 
 -- a problem defines more than itself, in that nothing is new
 abbrev pub MoreThanItself : Type 0
 MoreThanItself = (p : ProblemState) → DefinesMore p p
-
--- a formula and its normal form have one truth in every structure
-abbrev pub NormalFormIsTrue : Type 0
-NormalFormIsTrue = (m : Structure) (f : FormulaTree) (e : List Elem) → truth_of m (normal_form true f) e ≡ truth_of m f e
-
--- a normal form is one
-abbrev pub NormalFormIsNormal : Type 0
-NormalFormIsNormal = (f : FormulaTree) → IsNormal (normal_form true f)
 
 -- one clause more is satisfied where the problem and the clause are
 abbrev pub ClauseIsAdded : Type 0

@@ -1,5 +1,4 @@
 pub mod ProblemFields
-pub mod NormalForms
 pub mod Solving
 pub mod Moments
 pub mod Growing

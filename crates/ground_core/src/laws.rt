@@ -1,5 +1,5 @@
 //! Laws of the definitions in `specs/`: each is the contract of a function that does nothing.
-ghost use Rattle.ground_core.specs.Laws.{ClausesSayTheGate, OnlyVariablesMatter, MoreInTwoSteps, MoreThanItself, NormalFormIsTrue, NormalFormIsNormal, ClauseIsAdded, ClausesSayTheProblem, ClausesAreOfTheProblem, EachAtomStandsOnce, BoundsSelect, BoundsSayNoMore, BoundsAreKept, ExclusionsSelect, ExclusionsAreKept, RetirementsAreKept, CallsAddUp, CountsAreCosts, RefusalsAreKept, RetiredBoundsAreAdditions};
+ghost use Rattle.ground_core.specs.Laws.{ClausesSayTheGate, OnlyVariablesMatter, MoreInTwoSteps, MoreThanItself, ClauseIsAdded, ClausesSayTheProblem, ClausesAreOfTheProblem, EachAtomStandsOnce, BoundsSelect, BoundsSayNoMore, BoundsAreKept, ExclusionsSelect, ExclusionsAreKept, RetirementsAreKept, CallsAddUp, CountsAreCosts, RefusalsAreKept, RetiredBoundsAreAdditions};
 
 /// A gate's clauses hold exactly where the gate does.
 pub fn clauses_say_the_gate()
@@ -19,16 +19,6 @@ pub fn more_in_two_steps()
 /// A problem defines more than itself.
 pub fn more_than_itself()
     ensures { MoreThanItself }
-{}
-
-/// A formula and its negation normal form have one truth in every structure.
-pub fn normal_form_is_true()
-    ensures { NormalFormIsTrue }
-{}
-
-/// In a negation normal form a negation stands only before an atom, a comparison or a number quantifier.
-pub fn normal_form_is_normal()
-    ensures { NormalFormIsNormal }
 {}
 
 /// A problem with one clause more is satisfied where the problem and the clause are.

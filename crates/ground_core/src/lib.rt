@@ -8,7 +8,6 @@ mod gate_clauses;
 mod growing;
 mod laws;
 mod moments;
-mod normal_forms;
 mod parts;
 mod problems;
 mod ranges;
@@ -21,11 +20,10 @@ pub use laws::{
     bounds_are_kept, bounds_say_no_more, bounds_select, calls_add_up, clause_is_added,
     clauses_are_of_the_problem, clauses_say_the_gate, clauses_say_the_problem, counts_are_costs,
     each_atom_stands_once, exclusions_are_kept, exclusions_select, more_in_two_steps,
-    more_than_itself, normal_form_is_normal, normal_form_is_true, only_variables_matter,
-    refusals_are_kept, retired_bounds_are_additions, retirements_are_kept,
+    more_than_itself, only_variables_matter, refusals_are_kept, retired_bounds_are_additions,
+    retirements_are_kept,
 };
 pub use moments::Moment;
-pub use normal_forms::nnf;
 pub use parts::{AggCon, Gate, GroundTerm, LitList, Part, PartList, TermBound};
 pub use problems::{AtomTable, Problem};
 pub use ranges::has_small_terms;

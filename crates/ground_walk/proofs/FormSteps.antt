@@ -10,7 +10,7 @@ use Rattle.ground_core.specs.Problems.{ProblemState}
 use Rattle.term_values.specs.GroundBases.{GroundBase}
 use Rattle.def_ground.specs.Answers.{GroundResult}
 use Rattle.def_ground.specs.Forms.{Parts, settles, with_answer, close_parts, parts_each, signed_result, form_of}
-use Rattle.partial_structures.proofs.Folds.{after_front, fold_next, fold_stays}
+use Rattle.plain_evaluation.proofs.Folds.{after_front, fold_next, fold_stays}
 use Rattle.ground_walk.specs.Steps.{MakesParts, with_part, open_parts, part_step}
 
 -- the parts under each assignment are a fold over them

@@ -4,7 +4,7 @@ ghost use Rattle.std.specs.List.{AllByRecursion};
 ghost use Rattle.kb_logic.specs.Trees.{formulas_of};
 ghost use Rattle.kb_logic.specs.Views.{formula_view};
 ghost use Rattle.kb_logic.specs.Structures.{choices};
-ghost use Rattle.kb_logic.specs.Environments.{env_view};
+ghost use Rattle.plain_evaluation.specs.Environments.{env_view};
 ghost use Rattle.ground_core.specs.Problems.{AreLitsOf};
 ghost use Rattle.term_values.specs.KnownBases.{IsGroundBase};
 ghost use Rattle.def_ground.specs.Answers.{Makes, Grows, AnswerWithin};
@@ -15,7 +15,7 @@ ghost use Rattle.ground_walk.specs.Steps.{PartsGrow, MakesParts, open_parts, par
 use crate::leaves::{atom, comparison};
 use def_ground::{Answer, add_part, close, same};
 use ground_core::{Memory, Problem};
-use kb_logic::environments::{Env, extend, split_in};
+use plain_evaluation::environments::{Env, extend, split_in};
 use kb_logic::{Bound, Formula};
 use lit_core::Lit;
 use std::alloc::Global;

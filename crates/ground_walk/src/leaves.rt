@@ -4,7 +4,7 @@ ghost use Rattle.std.specs.List.{AllByRecursion};
 ghost use Rattle.kb_logic.specs.Bounds.{value_type_of};
 ghost use Rattle.kb_logic.specs.Trees.{terms_of, atom, comparison};
 ghost use Rattle.kb_logic.specs.Views.{term_view};
-ghost use Rattle.kb_logic.specs.Environments.{env_view};
+ghost use Rattle.plain_evaluation.specs.Environments.{env_view};
 ghost use Rattle.ground_core.specs.Problems.{ProblemState, AreLitsOf};
 ghost use Rattle.term_values.specs.GroundBases.{row_index, tuples_at};
 ghost use Rattle.term_values.specs.KnownBases.{IsGroundBase};
@@ -18,7 +18,7 @@ ghost use Rattle.ground_walk.specs.Groundable.{HasVars, IsGroundable, HaveLits};
 
 use def_ground::{Answer, Case, GuardedValue, answer_of_cases, case_of, case_of_row, gate};
 use ground_core::{LitList, Memory, Problem};
-use kb_logic::environments::Env;
+use plain_evaluation::environments::Env;
 use kb_logic::{Cmp, Term};
 use lit_core::Lit;
 use std::alloc::Global;

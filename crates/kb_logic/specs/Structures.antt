@@ -47,6 +47,10 @@ EachWith R [] (y ∷ ys) = ⊥
 EachWith R (x ∷ xs) [] = ⊥
 EachWith R (x ∷ xs) (y ∷ ys) = R x y × EachWith R xs ys
 
+-- each element of the row is in the domain of its type
+abbrev pub IsRowOver : List (List Elem) → List ℕ → List Elem → Type 0
+IsRowOver domains types row = EachWith (λ ty x. Contains (domain_at domains ty) x) types row
+
 -- the table of a predicate has those tuples over its types that pass some test, in domain order
 pub record IsRelation (domains : List (List Elem)) (s : ℕ × Symbol) (t : Table) : Type 0 where
   pub symbol : t.symbol ≡ s.0

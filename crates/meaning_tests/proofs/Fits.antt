@@ -4,10 +4,10 @@ use Rattle.kb_logic.specs.declared.elements.Elem.{Elem}
 use Rattle.kb_logic.specs.declared.structures.Structure.{Structure}
 use Rattle.kb_logic.specs.Trees.{TermTree, FormulaTree}
 use Rattle.kb_logic.specs.Arithmetic.{ArithmeticFits, HasNoArithmetic, IsPlainTerm}
-use Rattle.kb_logic.specs.Plain.{no_arithmetic_fits}
+use Rattle.logic_laws.proofs.NoArithmetic.{no_arithmetic_fits}
 use Rattle.partial_structures.specs.KnownAtoms.{KnownAtoms}
-use Rattle.partial_structures.specs.KnownArithmetic.{CertaintyFits, ValueFits}
-use Rattle.partial_structures.proofs.Plain.{plain_certainty_fits, plain_value_fits}
+use Rattle.certain_truth.specs.KnownArithmetic.{CertaintyFits, ValueFits}
+use Rattle.certain_truth.proofs.Plain.{plain_certainty_fits, plain_value_fits}
 
 pub truth_fits : (m : Structure) (f : FormulaTree) → HasNoArithmetic f → ArithmeticFits m f []
 truth_fits m f h = no_arithmetic_fits m f [] h

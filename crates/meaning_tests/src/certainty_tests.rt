@@ -6,10 +6,11 @@ ghost use Rattle.kb_logic.specs.Views.{formula_view, term_view};
 use crate::conditions::nothing;
 use crate::fixtures::{domains, edge_and_color, variables};
 use crate::partial_tests::{close_first, coloured_areas, linked_areas};
-use kb_logic::environments::Env;
+use certain_truth::{kleene, known_term};
 use kb_logic::values::Value;
 use kb_logic::{Cmp, Formula, Memory, Term};
-use partial_structures::{Partial, Truth, kleene, known_term};
+use partial_structures::{Partial, Truth};
+use plain_evaluation::environments::Env;
 use std::alloc::Global;
 use std::test::Fail;
 

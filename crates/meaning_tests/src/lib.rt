@@ -1,4 +1,4 @@
-//! Tests of the meaning of knowledge bases: of `kb_logic` and of `partial_structures`.
+//! Tests of the meaning of knowledge bases: of `truth`, of partial structures and of certain truth.
 //!
 //! They stand apart from the libraries, so that no library is proved once more with its tests. Tables of cases are
 //! constants, which cost next to nothing to prove.
@@ -10,8 +10,6 @@ mod certainty_tests;
 mod conditions;
 #[cfg(test)]
 mod copy_tests;
-#[cfg(test)]
-mod first_tests;
 #[cfg(test)]
 mod fixtures;
 #[cfg(test)]

@@ -4,7 +4,8 @@ ghost use Rattle.kb_logic.specs.Arithmetic.{HasNoArithmetic};
 ghost use Rattle.kb_logic.specs.Views.{formula_view};
 
 use crate::fixtures::{integer_structure, variables};
-use kb_logic::{Bound, Cmp, ExtInt, Formula, Memory, Structure, Term, decimal, truth};
+use kb_logic::{Bound, Cmp, ExtInt, Formula, Memory, Structure, Term, decimal};
+use plain_evaluation::truth;
 use std::alloc::Global;
 use std::test::Fail;
 

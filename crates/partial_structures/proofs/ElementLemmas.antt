@@ -8,7 +8,7 @@ use Rattle.kb_logic.specs.declared.elements.Elem.{Elem}
 use Rattle.kb_logic.specs.Structures.{domain_at}
 use Rattle.kb_logic.specs.Denotations.{Denotation, denotation_of}
 use Rattle.kb_logic.proofs.Members.{some_one, one_is_some}
-use Rattle.partial_structures.specs.Certainty.{stands_in}
+use Rattle.partial_structures.specs.Applications.{stands_in}
 use Rattle.partial_structures.specs.Elements.{is_typed, stands_for, HasElements, has_label_of, TellsElements, HasMore}
 use Rattle.partial_structures.specs.Rows.{same_label, same_optional_label, label_of, has_label}
 use Rattle.partial_structures.specs.Values.{value_label}

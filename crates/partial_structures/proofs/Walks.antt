@@ -12,7 +12,7 @@ use Rattle.kb_logic.specs.Denotations.{Denotation, named, number, minus_infinity
 use Rattle.kb_logic.specs.Models.{GroundAtom, HasValueIn}
 use Rattle.kb_logic.proofs.Atoms.{same_is, tuple_elements}
 use Rattle.partial_structures.specs.KnownAtoms.{IsAtomOver, atoms_over, same_row, same_option, value_of_row}
-use Rattle.partial_structures.specs.Certainty.{stands_in, are_typed, arguments_typed, given_value}
+use Rattle.partial_structures.specs.Applications.{stands_in, are_typed, arguments_typed, given_value}
 use Rattle.partial_structures.specs.Rows.{child_by, node_of, label_of}
 use Rattle.partial_structures.specs.Words.{words_in, place}
 use Rattle.partial_structures.specs.Values.{value_label}
@@ -20,7 +20,7 @@ use Rattle.partial_structures.specs.Known.{Spot, known_in, status_in, rest_of, i
 use Rattle.partial_structures.specs.declared.known.Known.{Known}
 use Rattle.partial_structures.specs.declared.truths.Truth.{Truth}
 use Rattle.partial_structures.specs.declared.truths.Truth.TheVariants.{Yes, No, Unknown}
-use Rattle.partial_structures.specs.Certainty.{result_typed, value_typed}
+use Rattle.partial_structures.specs.Applications.{result_typed, value_typed}
 use Rattle.partial_structures.specs.KnownAtoms.{is_atom}
 use Rattle.partial_structures.specs.Rows.{mark_at, settled, denied, value_status, same_label, same_optional_label}
 use Rattle.partial_structures.specs.Flags.{is_closed}

@@ -4,7 +4,7 @@ use Rattle.std.specs.List.{list_any}
 use Rattle.kb_logic.specs.declared.elements.Elem.{Elem}
 use Rattle.kb_logic.specs.Structures.{domain_at}
 use Rattle.kb_logic.specs.Denotations.{Denotation}
-use Rattle.partial_structures.specs.Certainty.{stands_in}
+use Rattle.partial_structures.specs.Applications.{stands_in}
 use Rattle.partial_structures.specs.Rows.{same_label, same_optional_label, label_of}
 use Rattle.partial_structures.specs.Values.{value_label}
 use Rattle.partial_structures.specs.declared.rows.Label.{Label}

@@ -7,7 +7,7 @@ use Rattle.kb_logic.specs.Structures.{domain_at}
 use Rattle.kb_logic.specs.Denotations.{Denotation}
 use Rattle.kb_logic.specs.Models.{GroundAtom}
 use Rattle.partial_structures.specs.KnownAtoms.{KnownAtoms, atoms_over}
-use Rattle.partial_structures.specs.Certainty.{stands_in}
+use Rattle.partial_structures.specs.Applications.{stands_in}
 use Rattle.partial_structures.specs.Words.{words_in}
 use Rattle.partial_structures.specs.Rows.{child_by, node_of, status_of}
 use Rattle.partial_structures.specs.Flags.{is_closed}

@@ -6,13 +6,9 @@ pub mod Status
 pub mod Counts
 pub mod Tally
 pub mod Extension
-pub mod Certainty
+pub mod Applications
 pub mod Consistency
 pub mod Values
 pub mod Elements
 pub mod Known
-pub mod KnownArithmetic
-pub mod Evaluation
-pub mod Sides
 pub mod Laws
-pub mod Examples

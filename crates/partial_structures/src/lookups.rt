@@ -3,7 +3,7 @@ ghost use Rattle.std.specs.Prelude.{◌≡◌, List, Some, slice_get};
 ghost use Rattle.std.specs.Option.{option_map};
 ghost use Rattle.kb_logic.specs.Denotations.{Denotation};
 ghost use Rattle.kb_logic.specs.Structures.{domain_at};
-ghost use Rattle.partial_structures.specs.Certainty.{applied_known, atom_certain, value_certain, result_typed, outside_value, stands_in};
+ghost use Rattle.partial_structures.specs.Applications.{applied_known, atom_certain, value_certain, result_typed, outside_value, stands_in};
 ghost use Rattle.partial_structures.specs.Values.{value_view};
 ghost use Rattle.partial_structures.specs.Known.{known_in, place_view, start_of, stepped, spot_of, is_whole, is_function_of};
 
@@ -22,7 +22,7 @@ fn is_element(s: Known<'_>, ty: u32, value: Value<'_>) -> bool
 }
 
 /// Before the first argument.
-pub(crate) fn start<'a>(s: Known<'a>, symbol: u32) -> Place<'a>
+pub fn start<'a>(s: Known<'a>, symbol: u32) -> Place<'a>
     ensures { place_view result ≡ start_of s.entry symbol }
 {
     let node = s.rows.root(symbol);
@@ -41,7 +41,7 @@ pub(crate) fn start<'a>(s: Known<'a>, symbol: u32) -> Place<'a>
 }
 
 /// One argument further.
-pub(crate) fn next<'a>(s: Known<'a>, place: Place<'a>, value: Value<'_>) -> Place<'a>
+pub fn next<'a>(s: Known<'a>, place: Place<'a>, value: Value<'_>) -> Place<'a>
     ensures { place_view result ≡ stepped s.entry (place_view place.entry) (value_view value.entry) }
 {
     let node = s.rows.step_value(place.node, value);
@@ -102,7 +102,7 @@ fn outside(s: Known<'_>, symbol: u32) -> Truth
 }
 
 /// The known value of the function where its arguments lead.
-pub(crate) fn given_value<'a>(s: Known<'a>, symbol: u32, place: Place<'_>) -> Option<Value<'a>>
+pub fn given_value<'a>(s: Known<'a>, symbol: u32, place: Place<'_>) -> Option<Value<'a>>
     ensures { (vs : List Denotation) → place_view place.entry ≡ spot_of s.entry symbol vs → option_map value_view result ≡ applied_known (known_in s.entry) symbol (Some vs) }
 {
     if !is_complete(place) {
@@ -122,7 +122,7 @@ pub(crate) fn given_value<'a>(s: Known<'a>, symbol: u32, place: Place<'_>) -> Op
 }
 
 /// What is known of the predicate's atom where its arguments lead.
-pub(crate) fn atom_truth(s: Known<'_>, symbol: u32, place: Place<'_>) -> Truth
+pub fn atom_truth(s: Known<'_>, symbol: u32, place: Place<'_>) -> Truth
     ensures { (vs : List Denotation) → place_view place.entry ≡ spot_of s.entry symbol vs → result ≡ atom_certain (known_in s.entry) symbol (Some vs) }
 {
     if !is_complete(place) {
@@ -135,7 +135,7 @@ pub(crate) fn atom_truth(s: Known<'_>, symbol: u32, place: Place<'_>) -> Truth
 }
 
 /// What is known of the function's having this value where its arguments lead.
-pub(crate) fn value_truth(s: Known<'_>, symbol: u32, place: Place<'_>, value: Value<'_>) -> Truth
+pub fn value_truth(s: Known<'_>, symbol: u32, place: Place<'_>, value: Value<'_>) -> Truth
     ensures { (vs : List Denotation) → place_view place.entry ≡ spot_of s.entry symbol vs → result ≡ value_certain (known_in s.entry) symbol (Some vs) (Some (value_view value.entry)) }
 {
     if !is_complete(place) {

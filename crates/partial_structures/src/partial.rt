@@ -2,13 +2,7 @@
 ghost use Rattle.std.specs.Prelude.{◌≡◌, ◌↔◌, ◌<◌, ◌+◌, length, IfOk, IfSome, IsTrue, OnOk, OnErr, IsErrOf};
 ghost use Rattle.std.specs.List.{AllByRecursion};
 ghost use Rattle.kb_logic.specs.Structures.{IsDistinct};
-ghost use Rattle.std.specs.Option.{option_map};
-ghost use Rattle.kb_logic.specs.Environments.{env_view};
-ghost use Rattle.kb_logic.specs.Values.{value_view};
-ghost use Rattle.kb_logic.specs.Views.{formula_view, term_view};
-ghost use Rattle.partial_structures.specs.Certainty.{certain_truth, known_value};
 ghost use Rattle.partial_structures.specs.Known.{known_in};
-ghost use Rattle.partial_structures.specs.KnownArithmetic.{CertaintyFits, ValueFits};
 ghost use Rattle.partial_structures.specs.KnownAtoms.{IsAtomOver, atom_of, nothing_known, value_at, with_closed, with_false, with_true};
 ghost use Rattle.partial_structures.specs.Consistency.{IsConsistent, IsListed};
 ghost use Rattle.partial_structures.specs.Counts.{added_by};
@@ -17,7 +11,6 @@ ghost use Rattle.partial_structures.specs.declared.truths.Truth.TheVariants.{Yes
 ghost use Rattle.partial_structures.specs.declared.errors.SetError.TheVariants.{DataClash};
 
 use crate::atoms::{make_false, make_true, status};
-use crate::certainty::{certainty, known};
 use crate::elements::Elements;
 use crate::errors::SetError;
 use crate::extension::{are_same_domains, left_over};
@@ -26,11 +19,7 @@ use crate::known::Known;
 use crate::rows::{Mark, Rows};
 use crate::truths::Truth;
 use crate::words::Words;
-use kb_logic::environments::Env;
-use kb_logic::values::Value;
-use kb_logic::{
-    DomainList, Elem, Formula, Literal, Memory, Structure, SymbolList, Term, Vocabulary,
-};
+use kb_logic::{DomainList, Literal, Memory, Structure, SymbolList, Vocabulary};
 use std::alloc::Global;
 use std::marker::Model;
 
@@ -186,24 +175,8 @@ impl Partial {
         }
     }
 
-    /// As `kleene`.
-    fn certainty<'a>(&'a self, f: &'a Formula, env: &'a [Elem]) -> Truth
-        requires { CertaintyFits self.now (formula_view f.now) env.now }
-        ensures { result ≡ certain_truth self.now (formula_view f.now) env.now }
-    {
-        certainty(self.lent(), f, env)
-    }
-
-    /// As `known_term`.
-    fn term<'a>(&'a self, t: &'a Term, env: &'a Env<'a>) -> Option<Value<'a>>
-        requires { ValueFits self.now (term_view t.now) (env_view env.now) }
-        ensures { option_map value_view result ≡ known_value self.now (term_view t.now) (env_view env.now) }
-    {
-        known(self.lent(), t, env)
-    }
-
-    /// What is known, as the evaluator takes it.
-    fn lent(&self) -> Known<'_>
+    /// What is known, as an evaluator takes it.
+    pub fn lent(&self) -> Known<'_>
         ensures { known_in result ≡ self.now }
     {
         Known {
@@ -240,21 +213,4 @@ pub fn extends(m: &Structure, s: &Partial) -> bool
     ensures { IsTrue result ↔ ExtendsData m.now s.now }
 {
     s.is_extended_by(m)
-}
-
-/// What is certain of the formula, whose free variables have the elements of `env`.
-pub fn kleene<'a>(s: &'a Partial, f: &'a Formula, env: &'a [Elem]) -> Truth
-    requires { CertaintyFits s.now (formula_view f.now) env.now }
-    ensures { result ≡ certain_truth s.now (formula_view f.now) env.now }
-{
-    s.certainty(f, env)
-}
-
-/// The value of the term, whose free variables have the elements of `env`, where it is known. It is `Nothing` where the
-/// term is not well typed.
-pub fn known_term<'a>(s: &'a Partial, t: &'a Term, env: &'a Env<'a>) -> Option<Value<'a>>
-    requires { ValueFits s.now (term_view t.now) (env_view env.now) }
-    ensures { option_map value_view result ≡ known_value s.now (term_view t.now) (env_view env.now) }
-{
-    s.term(t, env)
 }

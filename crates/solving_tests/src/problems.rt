@@ -5,12 +5,13 @@ ghost use Rattle.ground_core.specs.Problems.{AreLitsOf, IsLitOf};
 use crate::fixtures::{are_over, blamed_by_force, no, problem_of, say, yes};
 use ground_core::{
     AtomTable, Gate, GroundTerm, LitList, Memory, Part, PartList, Problem, clauses_of_gate,
-    has_small_terms, nnf,
+    has_small_terms,
 };
 use kb_logic::{
     AggKind, Elem, ElemList, ExtInt, Formula, Literal, LiteralList, Name, NumberList, Symbol,
 };
 use lit_core::{ClauseList, Lit};
+use normal_forms::nnf;
 use std::alloc::Global;
 use std::test::Fail;
 

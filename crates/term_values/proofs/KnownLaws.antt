@@ -13,7 +13,7 @@ use Rattle.kb_logic.proofs.Members.{all_in, in_all, some_one, one_is_some}
 use Rattle.partial_structures.specs.KnownAtoms.{value_at, same_atom}
 use Rattle.partial_structures.specs.declared.truths.Truth.{Truth}
 use Rattle.partial_structures.specs.declared.truths.Truth.TheVariants.{Yes, No, Unknown}
-use Rattle.partial_structures.proofs.Certain.{known_atoms_hold}
+use Rattle.partial_structures.proofs.KnownHold.{known_atoms_hold}
 use Rattle.partial_structures.proofs.Sames.{atom_is, atom_itself}
 use Rattle.term_values.specs.GroundBases.{GroundBase, known_of, structure_of, HasKnown}
 use Rattle.term_values.specs.KnownBases.{known_truth, base_of_data, AreDataOf, IsGroundBase}

@@ -9,7 +9,7 @@ ghost use Rattle.term_values.specs.RowValues.{row_value};
 
 use crate::rows::RowValue;
 use kb_logic::Signed;
-use kb_logic::totals::signed;
+use plain_evaluation::totals::signed;
 use kb_logic::values::Value;
 
 /// The sum of the values, one for each operand. There is none where a value is no integer.

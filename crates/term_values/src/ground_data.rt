@@ -1,7 +1,7 @@
 //! What a ground problem is made over, with what is known of each of its atoms.
 ghost use Rattle.std.specs.Prelude.{◌≡◌, ◌<◌, ◌≤◌, ◌+◌, ◌*◌, ◌^◌, length, map, IfOk, IfSome, IsNone, option_map};
 ghost use Rattle.kb_logic.specs.Bounds.{value_type_of};
-ghost use Rattle.kb_logic.specs.Environments.{env_view};
+ghost use Rattle.plain_evaluation.specs.Environments.{env_view};
 ghost use Rattle.kb_logic.specs.Trees.{terms_of};
 ghost use Rattle.kb_logic.specs.Views.{term_view};
 ghost use Rattle.term_values.specs.GroundBases.{known_of, first_var as first_variable, row_index, tuples_at, values_at};
@@ -17,7 +17,7 @@ use crate::known_atoms::all_known;
 use crate::rows::{RowValue, Rows, TupleRows};
 use crate::term_rows::{push_term, put_terms};
 use crate::tuple_places::tuple_place;
-use kb_logic::environments::Env;
+use plain_evaluation::environments::Env;
 use kb_logic::values::domain_in;
 use kb_logic::{Elem, ElemList, Memory, Term, Vocabulary};
 use partial_structures::Partial;

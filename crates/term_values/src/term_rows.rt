@@ -4,7 +4,7 @@
 //! that are there, as the definition does. What a term without unknown applications needs lies on the stack.
 ghost use Rattle.std.specs.Prelude.{◌≡◌, ◌<◌, ◌≤◌, ◌+◌, ◌++◌, ◌∷◌, ◌^◌, [], drop, length, map, OnOk};
 ghost use Rattle.std.specs.List.{flat_map, AllByRecursion};
-ghost use Rattle.kb_logic.specs.Environments.{env_view};
+ghost use Rattle.plain_evaluation.specs.Environments.{env_view};
 ghost use Rattle.kb_logic.specs.Meaning.{number_value};
 ghost use Rattle.kb_logic.specs.Trees.{terms_of, summands_of};
 ghost use Rattle.kb_logic.specs.Values.{value_view};
@@ -18,7 +18,7 @@ ghost use Rattle.term_values.specs.RowValues.{row_value};
 use crate::ground_data::GroundData;
 use crate::row_lists::{push_pairs, push_products, push_sums};
 use crate::rows::{RowValue, Rows, TupleRows};
-use kb_logic::environments::{Env, variable_value};
+use plain_evaluation::environments::{Env, variable_value};
 use kb_logic::values::{Value, elem_value, made_value};
 use kb_logic::{Elem, Memory, Signed, Term};
 use lit_core::{Lit, Var};

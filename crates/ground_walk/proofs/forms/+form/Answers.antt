@@ -1,12 +1,12 @@
 use Rattle.std.proofs.Common.{◌≡◌, ◌<◌, ◌≤◌, ◌++◌, List, [], true, false, length, get_or, fold, IfOk, sym, ap, subst, ◌∙◌, arith}
 use Rattle.kb_logic.specs.declared.elements.Elem.{Elem}
-use Rattle.kb_logic.specs.Environments.{env_view}
+use Rattle.plain_evaluation.specs.Environments.{env_view}
 use Rattle.kb_logic.specs.Structures.{choices}
 use Rattle.kb_logic.specs.Views.{formula_view}
 use Rattle.def_ground.specs.Answers.{GroundResult, Makes}
 use Rattle.def_ground.specs.Forms.{Parts, close_parts}
-use Rattle.partial_structures.proofs.Folds.{after_front, each_after, fold_by_front, fold_done, fold_next, inner_fold}
-use Rattle.partial_structures.proofs.Shapes.{formula_view-All, formula_view-Any}
+use Rattle.plain_evaluation.proofs.Folds.{after_front, each_after, fold_by_front, fold_done, fold_next, inner_fold}
+use Rattle.kb_logic.proofs.Shapes.{formula_view-All, formula_view-Any}
 use Rattle.ground_walk.specs.Groundable.{IsGroundable}
 use Rattle.ground_walk.specs.Steps.{MakesParts, open_parts, part_step}
 use Rattle.ground_walk.proofs.FormSteps.{universal-is, existential-is, parts-made, made-open, settled-stays, settled-at}

@@ -1,5 +1,5 @@
 use Rattle.std.proofs.Common.{◌≡◌, ◌+◌, ◌*◌, ◌^◌, ◌≤◌, ◌++◌, map, drop, fold, length}
-use Rattle.kb_logic.specs.Environments.{env_view}
+use Rattle.plain_evaluation.specs.Environments.{env_view}
 use Rattle.kb_logic.specs.Structures.{choices}
 use Rattle.kb_logic.specs.Trees.{formulas_of}
 use Rattle.kb_logic.specs.Views.{formula_view}
@@ -7,7 +7,7 @@ use Rattle.ground_core.specs.Problems.{AreLitsOf}
 use Rattle.def_ground.specs.Forms.{parts_of}
 use Rattle.ground_walk.specs.Groundable.{AreGroundable}
 use Rattle.ground_walk.specs.Steps.{open_parts, part_step}
-use Rattle.partial_structures.proofs.Folds.{after_front}
+use Rattle.plain_evaluation.proofs.Folds.{after_front}
 use Rattle.ground_walk.proofs.forms.+form.Given as goal
 
 -- with the parts of the formulas that are left come all

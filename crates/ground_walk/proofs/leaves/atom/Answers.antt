@@ -1,6 +1,6 @@
 use Rattle.std.proofs.Common.{map, subst}
 use Rattle.std.specs.List.{AllByRecursion}
-use Rattle.kb_logic.specs.Environments.{env_view}
+use Rattle.plain_evaluation.specs.Environments.{env_view}
 use Rattle.kb_logic.specs.Trees.{terms_of}
 use Rattle.kb_logic.specs.Views.{term_view}
 use Rattle.def_ground.specs.Answers.{GroundResult, Grows}

@@ -1,4 +1,4 @@
-use Rattle.kb_logic.specs.Environments.{env_view}
+use Rattle.plain_evaluation.specs.Environments.{env_view}
 use Rattle.kb_logic.specs.Views.{term_view}
 use Rattle.ground_walk.proofs.LeafSteps.{rows-in}
 use Rattle.ground_walk.proofs.leaves.comparison.Goals as goal

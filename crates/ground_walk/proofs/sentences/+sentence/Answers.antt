@@ -1,6 +1,6 @@
 use Rattle.std.proofs.Common.{◌≡◌, ◌+◌, ◌<◌, ◌≤◌, ◌++◌, ◌∷◌, List, [], map, drop, true, false, length, get_or, fold, OnOk, sym, ap, subst, ◌∙◌, arith}
 use Rattle.kb_logic.specs.declared.elements.Elem.{Elem}
-use Rattle.kb_logic.specs.Environments.{env_view}
+use Rattle.plain_evaluation.specs.Environments.{env_view}
 use Rattle.kb_logic.specs.Structures.{choices}
 use Rattle.kb_logic.specs.Views.{formula_view}
 use Rattle.lit_core.specs.declared.literals.Lit.{Lit}
@@ -10,7 +10,7 @@ use Rattle.def_ground.specs.Answers.{Makes}
 use Rattle.def_ground.specs.Sentences.{assert_any}
 use Rattle.kb_logic.specs.Trees.{formulas_of}
 use Rattle.def_ground.proofs.Growing.{lits-more}
-use Rattle.partial_structures.proofs.Folds.{after_front, each_after, fold_by_front, fold_done, fold_next, inner_fold}
+use Rattle.plain_evaluation.proofs.Folds.{after_front, each_after, fold_by_front, fold_done, fold_next, inner_fold}
 use Rattle.ground_walk.specs.Groundable.{IsGroundable}
 use Rattle.ground_walk.specs.Steps.{assert_step}
 use Rattle.ground_walk.proofs.SentenceSteps.{Begins, all-asserted, some-asserted, answer-begins, front-begins, front-of, any-next, unless-stops, unless-goes-on, answer-lits, groundable-next}

@@ -1,6 +1,6 @@
 use Rattle.std.proofs.Common.{◌≡◌, ◌++◌, List, false, length, take, fold, sym, ap, subst, ◌∙◌, arith}
 use Rattle.kb_logic.specs.declared.elements.Elem.{Elem}
-use Rattle.kb_logic.specs.Environments.{env_view}
+use Rattle.plain_evaluation.specs.Environments.{env_view}
 use Rattle.kb_logic.specs.Structures.{choices}
 use Rattle.kb_logic.specs.Views.{formula_view}
 use Rattle.def_ground.specs.Forms.{Parts}

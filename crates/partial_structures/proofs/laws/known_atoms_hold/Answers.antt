@@ -1,4 +1,4 @@
-use Rattle.partial_structures.proofs.Certain.{known_atoms_hold}
+use Rattle.partial_structures.proofs.KnownHold.{known_atoms_hold}
 use Rattle.partial_structures.proofs.laws.known_atoms_hold.Goals as goal
 
 pub returns : goal.returns

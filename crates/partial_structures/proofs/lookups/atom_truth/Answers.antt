@@ -1,5 +1,5 @@
 use Rattle.std.proofs.Common.{◌≡◌, ◌∙◌, true, false, if◌then◌else◌, None, sym, ap, slice_get}
-use Rattle.partial_structures.specs.Certainty.{arguments_typed}
+use Rattle.partial_structures.specs.Applications.{arguments_typed}
 use Rattle.partial_structures.specs.KnownAtoms.{value_of_row}
 use Rattle.partial_structures.specs.Known.{Spot, known_in, is_whole, spot_of}
 use Rattle.partial_structures.specs.Rows.{mark_at, settled}

@@ -1,7 +1,7 @@
 use Rattle.std.proofs.Common.{◌≡◌, ◌∙◌, true, false, sym, ap, Some, None, slice_get}
 use Rattle.std.specs.Option.{option_map}
 use Rattle.kb_logic.specs.Denotations.{denotation_of}
-use Rattle.partial_structures.specs.Certainty.{arguments_typed, result_typed}
+use Rattle.partial_structures.specs.Applications.{arguments_typed, result_typed}
 use Rattle.partial_structures.specs.Known.{Spot, known_in, is_whole, spot_of}
 use Rattle.partial_structures.specs.Rows.{mark_at}
 use Rattle.partial_structures.specs.Values.{value_view}

@@ -1,5 +1,5 @@
 use Rattle.std.proofs.Common.{◌≡◌, ◌<◌, ◌-◌, ◌+◌, ◌++◌, rules, arith, length, subst, OnOk}
-use Rattle.kb_logic.specs.Environments.{env_view}
+use Rattle.plain_evaluation.specs.Environments.{env_view}
 use Rattle.kb_logic.specs.declared.syntax.Formula.{the_lemmas}
 use Rattle.kb_logic.specs.declared.syntax.Signed.{Signed}
 use Rattle.kb_logic.specs.Views.{term_view}

@@ -1,5 +1,5 @@
 use Rattle.std.proofs.Common.{◌≡◌, ◌≤◌, map, drop, length}
-use Rattle.kb_logic.specs.Environments.{env_view}
+use Rattle.plain_evaluation.specs.Environments.{env_view}
 use Rattle.kb_logic.specs.Trees.{terms_of}
 use Rattle.kb_logic.specs.Views.{term_view, signed_view}
 use Rattle.term_values.specs.Rows.{rows_of_terms}

@@ -1,0 +1,11 @@
+pub mod Certain
+pub mod Connected
+pub mod Gathered
+pub mod KnownBounds
+pub mod Monotony
+pub mod Plain
+pub mod Soundness
+pub mod Total
+pub mod Totality
+pub mod Typed
+pub mod Worked

@@ -1,0 +1,12 @@
+//! What is certain of a formula, and the value of a term as far as it is known, where only some atoms are known:
+//! Kleene's strong three-valued logic. The calls take no memory.
+#![tactic(auto)]
+
+mod certainty;
+mod connectives;
+mod kleene;
+pub mod laws;
+mod sides;
+mod totals;
+
+pub use kleene::{kleene, known_term};

@@ -1,6 +1,0 @@
-use Rattle.std.proofs.Common.{◌≡◌, ◌↔◌, length, drop}
-use Rattle.kb_logic.specs.Structures.{choices}
-use Rattle.kb_logic.proofs.environments.have_no_assignment.Given as goal
-
-abbrev pub invariant-loop-bound : goal.invariant-loop-bound
-invariant-loop-bound l = (length (choices l.domains l.bounds) ≡ 0) ↔ (length (choices l.domains (drop l.bound-index l.bounds)) ≡ 0)

@@ -1,5 +1,0 @@
-use Rattle.std.proofs.Common.{refl}
-use Rattle.kb_logic.proofs.laws.aggregate_is_over_assignments.Goals as goal
-
-pub returns : goal.returns
-returns c = λ m k bs f t e. refl

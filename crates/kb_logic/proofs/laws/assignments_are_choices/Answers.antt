@@ -1,5 +1,0 @@
-use Rattle.kb_logic.proofs.Choices.{assignments_are_choices}
-use Rattle.kb_logic.proofs.laws.assignments_are_choices.Goals as goal
-
-pub returns : goal.returns
-returns c = assignments_are_choices

@@ -1,5 +1,0 @@
-use Rattle.kb_logic.proofs.Choices.{assignments_are_distinct}
-use Rattle.kb_logic.proofs.laws.assignments_are_distinct.Goals as goal
-
-pub returns : goal.returns
-returns c = assignments_are_distinct

@@ -1,5 +1,0 @@
-use Rattle.kb_logic.proofs.Atoms.{atom_is_membership}
-use Rattle.kb_logic.proofs.laws.atom_is_membership.Goals as goal
-
-pub returns : goal.returns
-returns c = atom_is_membership

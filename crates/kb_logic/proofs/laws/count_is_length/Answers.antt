@@ -1,5 +1,0 @@
-use Rattle.kb_logic.proofs.Choices.{count_is_length}
-use Rattle.kb_logic.proofs.laws.count_is_length.Goals as goal
-
-pub returns : goal.returns
-returns c = count_is_length

@@ -1,5 +1,0 @@
-use Rattle.kb_logic.proofs.Derived.{derived_is_decided, definition_examples}
-use Rattle.kb_logic.proofs.laws.definitions_derive.Goals as goal
-
-pub returns : goal.returns
-returns c = record { decided = derived_is_decided; examples = definition_examples }

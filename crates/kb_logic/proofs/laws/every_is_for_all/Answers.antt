@@ -1,5 +1,0 @@
-use Rattle.kb_logic.proofs.Choices.{every_is_for_all}
-use Rattle.kb_logic.proofs.laws.every_is_for_all.Goals as goal
-
-pub returns : goal.returns
-returns c = every_is_for_all

@@ -1,5 +1,0 @@
-use Rattle.kb_logic.proofs.Aggregates.{greatest_is_attained}
-use Rattle.kb_logic.proofs.laws.greatest_is_attained.Goals as goal
-
-pub returns : goal.returns
-returns c = greatest_is_attained

@@ -1,5 +1,0 @@
-use Rattle.kb_logic.proofs.Choices.{number_compares_count}
-use Rattle.kb_logic.proofs.laws.number_compares_count.Goals as goal
-
-pub returns : goal.returns
-returns c = number_compares_count

@@ -1,5 +1,0 @@
-use Rattle.kb_logic.proofs.Aggregates.{sum_adds_each}
-use Rattle.kb_logic.proofs.laws.sum_adds_each.Goals as goal
-
-pub returns : goal.returns
-returns c = sum_adds_each

@@ -1,5 +1,0 @@
-use Rattle.kb_logic.proofs.WithinBounds.{values_lie_within_bounds}
-use Rattle.kb_logic.proofs.laws.values_lie_within_bounds.Goals as goal
-
-pub returns : goal.returns
-returns c = values_lie_within_bounds

@@ -1,0 +1,4 @@
+pub mod Derived
+pub mod DomainsOf
+pub mod NoArithmetic
+pub mod TypedExamples

@@ -1,0 +1,4 @@
+pub mod Derivations
+pub mod DomainExamples
+pub mod Examples
+pub mod TypingExamples

@@ -1,0 +1,2 @@
+pub mod NormalFacts
+pub mod Views

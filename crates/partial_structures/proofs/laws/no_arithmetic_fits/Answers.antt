@@ -1,5 +1,0 @@
-use Rattle.partial_structures.proofs.Plain.{plain_certainty_fits}
-use Rattle.partial_structures.proofs.laws.no_arithmetic_fits.Goals as goal
-
-pub returns : goal.returns
-returns c = plain_certainty_fits

@@ -1,5 +1,0 @@
-use Rattle.partial_structures.proofs.Total.{structures_know_all, extends_is_knows_more}
-use Rattle.partial_structures.proofs.laws.structures_know_all.Goals as goal
-
-pub returns : goal.returns
-returns c = record { all = structures_know_all; more = extends_is_knows_more }
