@@ -2,3 +2,4 @@ pub mod TotalFacts
 pub mod ShareFacts
 pub mod ListFacts
 pub mod ReasonFacts
+pub mod BreakFacts

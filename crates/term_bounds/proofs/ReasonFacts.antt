@@ -1,7 +1,7 @@
 -- Reasons, part by part.
 use Rattle.std.proofs.Common.{◌≡◌, ℕ, zero, suc, ◌+◌, ◌<◌, ℤ, pos, ◌+ℤ◌, ◌-ℤ◌, ◌≤ℤ◌, Bool, true, false, not, Option, Some, None, List, [], ◌∷◌, ◌++◌, length, drop, get_or, refl, sym, ap, ◌∙◌, subst, inl, inr, ◌⊎◌, arith, All, Any, Contains}
 use Rattle.std.proofs.lemmas.List.Elements.{All-nil, All-cons, All-push, All-contains, Contains-push, Contains-append_left, Contains-get_or}
-use Rattle.std.proofs.lemmas.List.{drop-length}
+use Rattle.std.proofs.lemmas.List.{at_drop_more}
 use Rattle.std.proofs.lemmas.Int.{ints}
 use Rattle.kb_logic.specs.declared.elements.ExtInt.{ExtInt}
 use Rattle.kb_logic.specs.declared.syntax.AggKind.{AggKind}
@@ -13,7 +13,6 @@ use Rattle.ground_core.specs.Meaning.{AreAllFalse}
 use Rattle.term_bounds.specs.Reasons.{IsReason, differ}
 use Rattle.term_bounds.specs.Shares.{least_total, raised, share}
 use Rattle.term_bounds.specs.Totals.{counted_as, total, where_true}
-use Rattle.term_bounds.proofs.ListFacts.{rest-is}
 use Rattle.term_bounds.proofs.ShareFacts.{none-least}
 
 -- the literal of a part's variable that is false where the part's literal has the value
@@ -64,6 +63,11 @@ was-value v l b e = back-by l.positive b (v l.var.0) e
 abbrev pub gap : List (Option Bool) → (ℕ → Bool) → AggKind → ExtInt → List Part → ℤ
 gap a v k bound ps = least_total a k bound ps -ℤ total v k bound ps
 
+get_or-itself : (xs : List Part) (j : ℕ) (e : Part) → j < length xs → get_or xs j (get_or xs j e) ≡ get_or xs j e
+get_or-itself [] j e l = absurd (omega arith)
+get_or-itself (x ∷ xs) zero e l = refl
+get_or-itself (x ∷ xs) (suc j) e l = get_or-itself xs j e (omega arith)
+
 -- what was given so far, where these parts are left
 pub record SoFar (a : List (Option Bool)) (k : AggKind) (bound : ExtInt) (out : Lit) (ps rest : List Part) (first spare : ℤ) (c : List Lit) : Type 0 where
   pub falsified : IsFalsified a c
@@ -92,7 +96,10 @@ module _ (a : List (Option Bool)) (k : AggKind) (bound : ExtInt) (out : Lit) (ps
     within = All-cons Within (negated out) [] (inl refl) (All-nil Within);
   }
 
-  module _ (i : ℕ) (p : Part) (spare : ℤ) (c : List Lit) (lt : i < length ps) (is : p ≡ get_or ps i p) (h : SoFar a k bound out ps (drop i ps) first spare c) where
+  module _ (i : ℕ) (d : Part) (spare : ℤ) (c : List Lit) (lt : i < length ps) (h : SoFar a k bound out ps (drop i ps) first spare c) where
+    abbrev p : Part
+    p = get_or ps i d
+
     abbrev w : ℤ
     w = counted_as k bound p.weight
 
@@ -101,11 +108,11 @@ module _ (a : List (Option Bool)) (k : AggKind) (bound : ExtInt) (out : Lit) (ps
 
     gap-here : (v : ℕ → Bool) → gap a v k bound (drop i ps) ≡ (share (value_in a p.lit) w -ℤ where_true (literal_value v p.lit) w) +ℤ gap a v k bound rest
     gap-here v =
-        let e : gap a v k bound (drop i ps) ≡ gap a v k bound (p ∷ rest) = rest-is (gap a v k bound) ps i p lt is in
+        let e : gap a v k bound (drop i ps) ≡ gap a v k bound (p ∷ rest) = at_drop_more (gap a v k bound) ps i d lt in
         omega (arith, ints, e)
 
     in-parts : Any (λ (u : Part). u.lit.var.0 ≡ p.lit.var.0) ps
-    in-parts = (i, p, lt, sym is, refl)
+    in-parts = (i, p, lt, get_or-itself ps i d lt, refl)
 
     -- the part's value is blamed
     pub so-far-kept : (b : Bool) → value_in a p.lit ≡ Some b → SoFar a k bound out ps rest first spare (c ++ false_lit p.lit b ∷ [])
@@ -115,7 +122,7 @@ module _ (a : List (Option Bool)) (k : AggKind) (bound : ExtInt) (out : Lit) (ps
       low = h.low;
       total = λ v off.
           let more : List Lit = c ++ false_lit p.lit b ∷ [] in
-          let before : AreAllFalse v c = λ j d less. All-contains (λ l. literal_value v l ≡ false) more (get_or c j d) off (Contains-append_left c (false_lit p.lit b ∷ []) (get_or c j d) (Contains-get_or c j d less)) in
+          let before : AreAllFalse v c = λ j m less. All-contains (λ l. literal_value v l ≡ false) more (get_or c j m) off (Contains-append_left c (false_lit p.lit b ∷ []) (get_or c j m) (Contains-get_or c j m less)) in
           let last : literal_value v (false_lit p.lit b) ≡ false = All-contains (λ l. literal_value v l ≡ false) more (false_lit p.lit b) off (Contains-push c (false_lit p.lit b)) in
           let same : literal_value v p.lit ≡ b = was-value v p.lit b last in
           let none : share (value_in a p.lit) w -ℤ where_true (literal_value v p.lit) w ≡ share (Some b) w -ℤ where_true b w = ap (λ o. share o w -ℤ where_true (literal_value v p.lit) w) e ∙ ap (λ x. share (Some b) w -ℤ where_true x w) same in

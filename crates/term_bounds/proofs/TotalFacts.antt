@@ -251,3 +251,10 @@ base-off base PosInf undefined = refl
 
 pub bounds-by-totals : BoundsByTotals
 bounds-by-totals v t below = base-off t.base below (parts_value v t.kind t.parts) ∙ parts-under v t.kind (lessened t.base below) t.parts
+
+-- counts and sums are totals, whatever the bound
+pub count-value : (v : ℕ → Bool) (ps : List Part) → number (total v kind.Count PosInf ps) ≡ parts_value v kind.Count ps
+count-value v ps = ap number (sym (count-total v PosInf ps))
+
+pub sum-value : (v : ℕ → Bool) (ps : List Part) → number (total v kind.Sum PosInf ps) ≡ parts_value v kind.Sum ps
+sum-value v ps = ap number (let e : total v kind.Sum PosInf ps ≡ pos 0 +ℤ total v kind.Sum PosInf ps = omega (arith, ints) in e) ∙ sym (sum-total v PosInf ps (pos 0))

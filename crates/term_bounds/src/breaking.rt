@@ -17,13 +17,13 @@ use std::alloc::Global;
 fn broken_by(
     alloc: Global,
     term: &GroundTerm,
-    bound: &TermBound,
+    bound: TermBound,
     assignment: &Assignment,
 ) -> Result<Option<Vec<Lit>>, Memory>
-    requires out { bound.now.out.var.0 < length assignment.now }
+    requires out { bound.out.var.0 < length assignment.now }
     requires within { All (λ (p : PartRow). p.lit.var.0 < length assignment.now) term.now.parts }
-    ensures broken { IfOk result (λ o. IfSome o (λ c. IsBroken term.now bound.now assignment.now c.items)) }
-    ensures holds { IfOk result (λ o. IfNone o ((v : ℕ → Bool) → IsDecidedAs assignment.now v bound.now.out → All (λ (p : PartRow). IsDecidedAs assignment.now v p.lit) term.now.parts → Holds v term.now bound.now)) }
+    ensures broken { IfOk result (λ o. IfSome o (λ c. IsBroken term.now bound assignment.now c.items)) }
+    ensures holds { IfOk result (λ o. IfNone o ((v : ℕ → Bool) → IsDecidedAs assignment.now v bound.out → All (λ (p : PartRow). IsDecidedAs assignment.now v p.lit) term.now.parts → Holds v term.now bound)) }
 {
     if assignment.value(bound.out) != Some(true) {
         return Ok(None);
@@ -49,8 +49,13 @@ pub fn broken(
     ensures broken { IfOk result (λ o. IfSome o (λ c. IsBrokenBy terms.now bounds.now assignment.now c.items)) }
     ensures hold { IfOk result (λ o. IfNone o ((v : ℕ → Bool) → HasLits (IsDecidedAs assignment.now v) terms.now bounds.now → All (BoundHolds v terms.now) bounds.now)) }
 {
-    for bound in bounds {
-        match broken_by(alloc, &terms[bound.term as usize], bound, assignment)? {
+    // The newest bounds come first: they are the tightest.
+    let mut left = bounds.len();
+    while left > 0 {
+        left -= 1;
+        let bound = bounds[left];
+        let term = &terms[bound.term as usize];
+        match broken_by(alloc, term, bound, assignment)? {
             Some(clause) => return Ok(Some(clause)),
             None => {}
         }

@@ -1,12 +1,12 @@
 //! Why a sum cannot be below its bound.
-ghost use Rattle.std.specs.Prelude.{◌≡◌, ◌<◌, ◌≤ℤ◌, pos, true, Some, length, All, IfOk};
+ghost use Rattle.std.specs.Prelude.{◌≡◌, ◌<◌, ◌≤ℤ◌, ◌-ℤ◌, pos, true, Some, length, All, IfOk};
 ghost use Rattle.lit_core.specs.Literals.{value_in};
 ghost use Rattle.ground_core.specs.declared.parts.Part.{Part as PartRow};
 ghost use Rattle.term_bounds.specs.Amounts.{amount_of};
 ghost use Rattle.term_bounds.specs.Reasons.{IsReason, differ};
 
 use crate::linear::Line;
-use crate::shares::raise_of;
+use crate::shares::part_raise;
 use ground_core::{Memory, Part};
 use lit_core::{Assignment, Lit};
 use std::alloc::Global;
@@ -19,6 +19,16 @@ fn false_one(lit: Lit, value: bool) -> Lit
         var: lit.var,
         positive: lit.positive != value,
     }
+}
+
+/// What is left of the spare.
+fn left_of(spare: i128, raise: i128) -> i128
+    requires low { pos 0 ≤ℤ raise }
+    requires room { raise ≤ℤ spare }
+    ensures value { result ≡ spare -ℤ raise }
+    ensures low { pos 0 ≤ℤ result }
+{
+    spare - raise
 }
 
 /// A clause of the negation of the bound's output, which is true, and of literals of the parts whose values
@@ -41,13 +51,13 @@ pub fn reasons(
     let mut spare = spare;
     for part in parts {
         let value = assignment.value(part.lit);
-        let raise = raise_of(value, line.count(part.weight));
+        let raise = part_raise(line, part, value);
         match value {
             Some(value) => {
                 if raise > spare {
                     clause.push(false_one(part.lit, value))?;
                 } else {
-                    spare -= raise;
+                    spare = left_of(spare, raise);
                 }
             }
             None => {}

@@ -4,6 +4,7 @@ ghost use Rattle.kb_logic.specs.Denotations.{number};
 ghost use Rattle.ground_core.specs.declared.parts.Part.{Part as PartRow};
 ghost use Rattle.term_bounds.specs.Amounts.{amount_of, is_under};
 ghost use Rattle.term_bounds.specs.Shares.{least_total, raised, share};
+ghost use Rattle.term_bounds.specs.Totals.{counted_as};
 
 use crate::amounts::Amount;
 use crate::linear::Line;
@@ -11,7 +12,7 @@ use ground_core::Part;
 use lit_core::Assignment;
 
 /// The least that a part may count.
-pub fn share_of(value: Option<bool>, count: i64) -> i64
+fn share_of(value: Option<bool>, count: i64) -> i64
     ensures { result ≡ share value count }
 {
     match value {
@@ -21,12 +22,19 @@ pub fn share_of(value: Option<bool>, count: i64) -> i64
     }
 }
 
-/// By how much a value raises it.
-pub fn raise_of(value: Option<bool>, count: i64) -> i128
-    ensures value { result ≡ raised value count }
+/// The least that this part may count, where its literal has this value.
+pub fn part_share(line: Line, part: &Part, value: Option<bool>) -> i64
+    ensures { result ≡ share value (counted_as line.kind (amount_of line.bound) part.now.weight) }
+{
+    share_of(value, line.count(part.weight))
+}
+
+/// By how much the value raises it.
+pub fn part_raise(line: Line, part: &Part, value: Option<bool>) -> i128
+    ensures value { result ≡ raised value (counted_as line.kind (amount_of line.bound) part.now.weight) }
     ensures low { pos 0 ≤ℤ result }
 {
-    i128::from(share_of(value, count)) - i128::from(share_of(None, count))
+    i128::from(part_share(line, part, value)) - i128::from(part_share(line, part, None))
 }
 
 /// The sum with one number more.
@@ -47,8 +55,7 @@ pub fn least_of(line: Line, parts: &[Part], assignment: &Assignment) -> i128
 {
     let mut sum: i128 = 0;
     for part in parts {
-        let share = share_of(assignment.value(part.lit), line.count(part.weight));
-        sum = plus(sum, share);
+        sum = plus(sum, part_share(line, part, assignment.value(part.lit)));
     }
     sum
 }

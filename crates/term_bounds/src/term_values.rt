@@ -9,7 +9,7 @@ ghost use Rattle.term_bounds.specs.Extremes.{extreme_value, extreme_with, first_
 
 use crate::amounts::Amount;
 use crate::linear::Line;
-use crate::shares::{plus, share_of};
+use crate::shares::{part_share, plus};
 use ground_core::{GroundTerm, Part};
 use kb_logic::{AggKind, ExtInt};
 use lit_core::{Lit, Values};
@@ -31,8 +31,8 @@ fn total_of(line: Line, parts: &[Part], values: &Values) -> i128
 {
     let mut sum: i128 = 0;
     for part in parts {
-        let share = share_of(Some(value_of_lit(values, part.lit)), line.count(part.weight));
-        sum = plus(sum, share);
+        let value = value_of_lit(values, part.lit);
+        sum = plus(sum, part_share(line, part, Some(value)));
     }
     sum
 }
@@ -122,14 +122,13 @@ fn parts_value_of(term: &GroundTerm, values: &Values) -> Amount
     ensures { value_of_bound (amount_of result) ≡ parts_value (valuation values.now) term.now.kind term.now.parts }
 {
     let parts = term.parts.as_slice();
+    let line = Line {
+        kind: term.kind,
+        bound: Amount::PosInf,
+    };
     match term.kind {
-        AggKind::Count | AggKind::Sum => {
-            let line = Line {
-                kind: term.kind,
-                bound: Amount::PosInf,
-            };
-            Amount::Num(total_of(line, parts, values))
-        }
+        AggKind::Count => Amount::Num(total_of(line, parts, values)),
+        AggKind::Sum => Amount::Num(total_of(line, parts, values)),
         AggKind::Min => extreme_of(false, parts, values),
         AggKind::Max => extreme_of(true, parts, values),
     }
