@@ -28,13 +28,6 @@ pushed F V items start first more whole i e one le is =
     let all : take i more ≡ more = take_all i more le in
     e ∙ rw (all, one, is) refl
 
-pub pushed_all : {X Y Z : Type 0} (F : Y → Z) (V : X → Y) (items start : List Z) (more whole : List X) (i : ℕ)
-    → items ≡ start ++ map F (map V (take i more)) → start ≡ [] → length more ≤ i → more ≡ whole
-    → items ≡ map F (map V whole)
-pushed_all F V items start more whole i e none le is =
-    let all : take i more ≡ more = take_all i more le in
-    e ∙ rw (all, none, is) refl
-
 pub noted_all : {X Y : Type 0} (N : Option KbFault → Use → Option KbFault) (G : Y → List Use) (V : X → Y) (start middle after : Option KbFault)
     (first : List Use) (more whole : List X) (i : ℕ)
     → middle ≡ fold N start first → after ≡ fold N middle (flat_map G (map V (take i more))) → length more ≤ i → more ≡ whole
@@ -42,6 +35,15 @@ pub noted_all : {X Y : Type 0} (N : Option KbFault → Use → Option KbFault) (
 noted_all N G V start middle after first more whole i e f le is =
     let all : take i more ≡ more = take_all i more le in
     f ∙ rw (all, is, e) (sym (fold-append N start first (flat_map G (map V whole))))
+
+-- the same where two operands were read before the loop
+pub links_noted : {X Y : Type 0} (N : Option KbFault → Use → Option KbFault) (G : Y → List Use) (V : X → Y)
+    (start one two after : Option KbFault) (first second : List Use) (more whole : List X) (i : ℕ)
+    → one ≡ fold N start first → two ≡ fold N one second → after ≡ fold N two (flat_map G (map V (take i more)))
+    → length more ≤ i → more ≡ whole → after ≡ fold N start (first ++ (second ++ flat_map G (map V whole)))
+links_noted N G V start one two after first second more whole i e f g le is =
+    noted_all N G V one two after second more whole i f g le is
+    ∙ rw e (sym (fold-append N start first (second ++ flat_map G (map V whole))))
 
 -- ---- the trees
 

@@ -42,9 +42,10 @@ pub fn formula<'a>(
 {
     match raw {
         RawFormula::Alone(or) => disjunction(alloc, table, scope, or, earliest),
-        RawFormula::Linked(arrow, first, links) => {
+        RawFormula::Linked(arrow, first, next, links) => {
             let first = disjunction(alloc, table, scope, first, earliest)?;
             let mut more = Vec::new(alloc);
+            more.push(disjunction(alloc, table, scope, &next.operand, earliest)?)?;
             let links = links.as_slice();
             for link in links {
                 more.push(disjunction(alloc, table, scope, &link.operand, earliest)?)?;

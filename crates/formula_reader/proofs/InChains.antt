@@ -389,6 +389,11 @@ no_arrows ts b p us h is = rw is at h
 no_arrow : (a : Arrow) (ts : List Tok) (b : Arrow) (p : ℕ) (us : List Tok) → NoArrow a ts → ts ≡ sign (t.Arrow b) p ∷ us → a ≡ b → ⊥
 no_arrow a ts b p us h is = rw is at h
 
+-- an operand before which no quantified formula stands open, and the tokens after it
+pub at_arrow : (ts : List Tok) (o : Or) (closed : Bool) (rest next : List Tok) → OrIs ts o closed rest → closed ≡ true → rest ≡ next → OrIs ts o true next
+at_arrow ts o closed rest next h e is =
+    subst (λ (us : List Tok). OrIs ts o true us) is (subst (λ (b : Bool). OrIs ts o b rest) e h)
+
 pub alone_is : (ts : List Tok) (o : Or) (closed : Bool) (rest : List Tok) (c : Chain) → OrIs ts o closed rest → (closed ≡ true → NoArrows rest) → FormulaIs ts c (alone o) rest
 alone_is ts o closed rest c h n = record {
   spelled = h.spelled;
@@ -397,28 +402,24 @@ alone_is ts o closed rest c h n = record {
   halts = halts_of closed (mode_or c o) (sort_or o) rest (h.behind.tight c) (λ e b p us is. absurd (no_arrows rest b p us (n e) is)) (λ e. h.behind.halts e c);
 }
 
-linked_reach : (ts : List Tok) (a : Arrow) (o : Or) (xs : List (ℕ × Or)) (rest : List Tok) (c : Chain) → closed_formula (formula_of a o xs) ≡ true → NoArrow a rest → (xs ≡ [] → (p : ℕ) × (us : List Tok) × (rest ≡ sign (t.Arrow a) p ∷ us))
-    → (b : Arrow) (p : ℕ) (us : List Tok) → rest ≡ sign (t.Arrow b) p ∷ us → links_on b (mode_formula c (formula_of a o xs)) (sort_formula (formula_of a o xs)) ≡ None
+linked_reach : (a : Arrow) (o : Or) (x : ℕ × Or) (xs : List (ℕ × Or)) (rest : List Tok) (c : Chain)
+    → closed_formula (formula_of a o (x ∷ xs)) ≡ true → NoArrow a rest
+    → (b : Arrow) (p : ℕ) (us : List Tok) → rest ≡ sign (t.Arrow b) p ∷ us
+    → links_on b (mode_formula c (formula_of a o (x ∷ xs))) (sort_formula (formula_of a o (x ∷ xs))) ≡ None
 unfolding closed_formula
-linked_reach ts a o [] rest c e n s b p us is = let first = s refl in absurd (no_arrow a rest a first.0 first.1 n first.2 refl)
-linked_reach ts a o (x ∷ xs) rest c e n s b p us is = links_reach a b (links_of x.1 xs) e ∙ link_other a b (no_arrow a rest b p us n is)
+linked_reach a o x xs rest c e n b p us is =
+    links_reach a b (links_of x.1 xs) e ∙ link_other a b (no_arrow a rest b p us n is)
 
-pub linked_is : (ts : List Tok) (a : Arrow) (o : Or) (xs : List (ℕ × Or)) (closed : Bool) (rest : List Tok) (c : Chain) → LinksAre ts (formula_of a o xs) closed rest → (closed ≡ true → NoArrow a rest)
-    → (xs ≡ [] → (p : ℕ) × (us : List Tok) × (rest ≡ sign (t.Arrow a) p ∷ us)) → FormulaIs ts c (formula_of a o xs) rest
-linked_is ts a o xs closed rest c h n s = record {
+pub linked_is : (ts : List Tok) (a : Arrow) (o : Or) (x : ℕ × Or) (xs : List (ℕ × Or)) (closed : Bool) (rest : List Tok) (c : Chain)
+    → LinksAre ts (formula_of a o (x ∷ xs)) closed rest → (closed ≡ true → NoArrow a rest)
+    → FormulaIs ts c (formula_of a o (x ∷ xs)) rest
+linked_is ts a o x xs closed rest c h n = record {
   spelled = h.spelled;
   fine = h.fine;
   no_args = h.behind.no_args;
-  halts = halts_of closed (mode_formula c (formula_of a o xs)) (sort_formula (formula_of a o xs)) rest (h.behind.tight c) (λ e. linked_reach ts a o xs rest c (sym h.ends ∙ e) (n e) s) (λ e. h.behind.halts e c);
+  halts = halts_of closed (mode_formula c (formula_of a o (x ∷ xs))) (sort_formula (formula_of a o (x ∷ xs))) rest
+      (h.behind.tight c) (λ e. linked_reach a o x xs rest c (sym h.ends ∙ e) (n e)) (λ e. h.behind.halts e c);
 }
-
-pub formula_kind : (a : Arrow) (o : Or) (xs : List (ℕ × Or)) → app_formula (formula_of a o xs) ≡ true → app_or o ≡ true
-formula_kind a o [] h = h
-formula_kind a o (x ∷ xs) h = absurd (cc)
-
-pub not_nil : {A : Type 0} (xs : List A) (x : A) → xs ++ x ∷ [] ≡ [] → ⊥
-not_nil [] x h = cc
-not_nil (y ∷ xs) x h = cc
 
 pub first_or : (ts : List Tok) → Context at_operand put_or FineOr at_entry put_formula FineFormula ts ts
 first_or ts = record { before = λ x. x; appends = λ x y. refl; split = refl; enters = λ e σ. (entry e, σ, refl); wraps = λ after. (after, λ a h. (alone a, h, refl)) }

@@ -7,14 +7,14 @@ ghost use Rattle.fo_syntax.specs.Fine.{FineTerm, FineFactor, FineApp};
 ghost use Rattle.token_reader.specs.Sorts.{app_formula, app_or, app_and, app_unary, app_term, app_factor};
 ghost use Rattle.fo_syntax.specs.View.{formula_view, or_view, and_view, unary_view, prim_view, term_view, factor_view, app_view};
 ghost use Rattle.token_reader.specs.Parts.{EndsFactor, EndsTerm, EndsPrim, NoNot, TermsOnly};
-ghost use Rattle.formula_reader.specs.Results.{Readers, UnaryIs, UnaryRead, AndRead, OrRead, ConjunctionRead, DisjunctionRead, FormulaRead, LinkedRead, OperandIs, OperandRead, ContentRead, SettledRead, wrap_prim, wrap_factor, nots};
+ghost use Rattle.formula_reader.specs.Results.{Readers, UnaryIs, UnaryRead, AndRead, OrIs, OrRead, ConjunctionRead, DisjunctionRead, FormulaRead, LinkedRead, OperandIs, OperandRead, ContentRead, SettledRead, wrap_prim, wrap_factor, nots};
 ghost use Rattle.fo_syntax.specs.declared.terminal.Terminal.TheVariants as t;
 
 use crate::expressions::Reader;
 use crate::kinds::{Content, Operand, Pair};
 use fo_syntax::{
-    Item, RawAnd, RawApp, RawFactor, RawFormula, RawOr, RawPrim, RawTermTree, RawUnary, ReadError,
-    Terminal,
+    Arrow, Item, RawAnd, RawApp, RawFactor, RawFormula, RawOr, RawPrim, RawTermTree, RawUnary,
+    ReadError, Terminal,
 };
 use sqlite_items::{Boxed, Items};
 use std::alloc::{AllocError, Global};
@@ -382,6 +382,34 @@ impl<
         self.ors(first, closed, rest)
     }
 
+    // The chain of this arrow, which stands at this place after its first operand; the second one is next.
+    fn chained(
+        &self,
+        first: Boxed<RawOr>,
+        arrow: Arrow,
+        place: usize,
+        items: &'a [Item<'a>],
+    ) -> Found<'a, Boxed<RawFormula>>
+        requires nests { Readers self.now.left (F.pre self.now.formula) (F.post self.now.formula) (G.pre self.now.content) (G.post self.now.content) (H.pre self.now.term) (H.post self.now.term) }
+        requires fewer { length items.now ≤ self.now.left }
+        ensures reads { (ts : List Tok) → OrIs ts (or_view first) true (sign (t.Arrow arrow) place ∷ toks items.now) → LinkedRead ts self.now.end result }
+        ensures kind { IfOk result (λ p. app_formula (formula_view p.0) ≡ false) }
+        ensures shorter { IfOk result (λ p. length p.1.now ≤ length items.now) }
+    {
+        let (operand, mut closed, mut rest) = self.disjunction(items)?;
+        let or = first.into_inner();
+        let next = build::link(place, operand);
+        let mut more = Items::new(self.alloc);
+        while let Some((place, after)) = after_same(arrow, closed, rest) {
+            let (operand, still, after) = self.disjunction(after)?;
+            more.push(build::link(place, operand))?;
+            closed = still;
+            rest = after;
+        }
+        let chain = build::linked(self.alloc, arrow, or, next, more)?;
+        Ok((chain, rest))
+    }
+
     // The formula that has begun with this operand.
     fn linked(
         &self,
@@ -395,21 +423,12 @@ impl<
         ensures kind { IfOk result (λ p. app_formula (formula_view p.0) ≡ true → app_unary (unary_view first) ≡ true) }
         ensures shorter { IfOk result (λ p. length p.1.now ≤ length items.now) }
     {
-        let (or, mut closed, mut rest) = self.ors(first, ends, items)?;
-        let or = or.into_inner();
-        let Some((arrow, _place, _after)) = after_arrow(closed, rest) else {
-            let lone = build::alone(self.alloc, or)?;
+        let (or, closed, rest) = self.ors(first, ends, items)?;
+        let Some((arrow, place, after)) = after_arrow(closed, rest) else {
+            let lone = build::alone(self.alloc, or.into_inner())?;
             return Ok((lone, rest));
         };
-        let mut more = Items::new(self.alloc);
-        while let Some((place, after)) = after_same(arrow, closed, rest) {
-            let (operand, still, after) = self.disjunction(after)?;
-            more.push(build::link(place, operand))?;
-            closed = still;
-            rest = after;
-        }
-        let chain = build::linked(self.alloc, arrow, or, more)?;
-        Ok((chain, rest))
+        self.chained(or, arrow, place, after)
     }
 
     /// A formula.

@@ -4,6 +4,7 @@ use Rattle.fo_syntax.specs.Trees as raw
 use Rattle.fo_syntax.specs.View as view
 use Rattle.fo_syntax.specs.declared.terminal.Adding.{Adding}
 use Rattle.fo_syntax.specs.declared.raw.RawApp.{the_lemmas}
+use Rattle.fo_syntax.specs.declared.raw.RawLink.{out-RawLink}
 use Rattle.fo_syntax.specs.declared.raw.RawOr.{out-RawOr}
 use Rattle.fo_syntax.specs.declared.raw.RawAnd.{out-RawAnd}
 use Rattle.fo_syntax.specs.declared.raw.RawTermTree.{out-RawTermTree}
@@ -15,7 +16,7 @@ use Rattle.reading_stages.specs.Uses.{an_aggregate, in_scope, uses_in, uses_in_o
 use Rattle.formula_names.specs.Meanings.{names_in}
 use Rattle.reading_stages.specs.NamedViews.{formula_view, term_view, signed_view}
 use Rattle.formula_names.proofs.Chains.{uses_in_or-is, uses_in_and-is, uses_in_term-is, uses_in_product-is, uses_in_terms-is, named_terms-is}
-use Rattle.formula_names.proofs.ChainEnds.{pushed, pushed_all, noted_all, or_tree, and_tree, sum_tree, product_tree, linked_tree, linked_uses, opened_noted, always_on_ok, same_grouped}
+use Rattle.formula_names.proofs.ChainEnds.{pushed, links_noted, noted_all, or_tree, and_tree, sum_tree, product_tree, linked_tree, linked_uses, opened_noted, always_on_ok, same_grouped}
 use Rattle.formula_names.proofs.formulas.+resolve.Goals as goal
 use Rattle.reading_stages.specs.NamedTrees as tree
 
@@ -121,17 +122,19 @@ arguments-returns-clause-noted t c =
 
 pub formula-returns-after-loop-link-clause-tree : goal.formula-returns-after-loop-link-clause-tree
 formula-returns-after-loop-link-clause-tree t c =
-    let seen : view.formula_view c.args.raw.now ≡ view.formula_of c.in-Linked.arrow (view.or_view c.in-Linked.first) (map view.link_view c.in-Linked.links) = rw c.in-Linked.is (search (rules, the_lemmas)) in
-    let none : map formula_view c.new-more.result.items ≡ [] = grind (arith, common_steps) in
-    let all : map formula_view c.loop-link.more.items ≡ map (λ (x : ℕ × raw.Or). named_or (names_in c.args.table.now) c.args.scope.now x.1) (map view.link_view c.in-Linked.links) =
-    pushed_all (λ (x : ℕ × raw.Or). named_or (names_in c.args.table.now) c.args.scope.now x.1) view.link_view _ _ _ _ _ c.loop-link.invariant.trees none c.loop-link-test.false c.as_slice-links.ensures in
+    let seen : view.formula_view c.args.raw.now ≡ view.formula_of c.in-Linked.arrow (view.or_view c.in-Linked.first) (view.link_view c.in-Linked.next ∷ map view.link_view c.in-Linked.links) = rw c.in-Linked.is (search (rules, the_lemmas)) in
+    let next : (view.link_view c.in-Linked.next).1 ≡ view.or_view (out-RawLink c.in-Linked.next).operand = search (rules, the_lemmas) in
+    let one : map formula_view c.push.new.self.items ≡ named_or (names_in c.args.table.now) c.args.scope.now (view.link_view c.in-Linked.next).1 ∷ [] = rw next (grind (arith, common_steps)) in
+    let all : map formula_view c.loop-link.more.items ≡ named_or (names_in c.args.table.now) c.args.scope.now (view.link_view c.in-Linked.next).1 ∷ map (λ (x : ℕ × raw.Or). named_or (names_in c.args.table.now) c.args.scope.now x.1) (map view.link_view c.in-Linked.links) =
+    pushed (λ (x : ℕ × raw.Or). named_or (names_in c.args.table.now) c.args.scope.now x.1) view.link_view _ _ _ _ _ _ c.loop-link.invariant.trees one c.loop-link-test.false c.as_slice-links.ensures in
     let whole : grouped c.in-Linked.arrow (formula_view c.in_ok-first-in-Linked.first) (map formula_view c.loop-link.more.items) ≡ named_formula (names_in c.args.table.now) c.args.scope.now (view.formula_view c.args.raw.now) =
     rw (seen, linked_tree, all, c.in_ok-first-in-Linked.ensures.tree) refl in
     same_grouped c.grouped.result c.in-Linked.arrow _ _ _ _ c.grouped.ensures c.loop-link.invariant.first whole
 
 pub formula-returns-after-loop-link-clause-noted : goal.formula-returns-after-loop-link-clause-noted
 formula-returns-after-loop-link-clause-noted t c =
-    let seen : view.formula_view c.args.raw.now ≡ view.formula_of c.in-Linked.arrow (view.or_view c.in-Linked.first) (map view.link_view c.in-Linked.links) = rw c.in-Linked.is (search (rules, the_lemmas)) in
+    let seen : view.formula_view c.args.raw.now ≡ view.formula_of c.in-Linked.arrow (view.or_view c.in-Linked.first) (view.link_view c.in-Linked.next ∷ map view.link_view c.in-Linked.links) = rw c.in-Linked.is (search (rules, the_lemmas)) in
+    let next : (view.link_view c.in-Linked.next).1 ≡ view.or_view (out-RawLink c.in-Linked.next).operand = search (rules, the_lemmas) in
     always_on_ok c.grouped.result _
-    (rw (seen, linked_uses)
-    (noted_all (name_noted (names_in c.args.table.now)) (λ (x : ℕ × raw.Or). uses_in_or (in_scope c.args.scope.now) x.1) view.link_view c.args.earliest.now.first _ _ (uses_in_or (in_scope c.args.scope.now) (view.or_view c.in-Linked.first)) _ _ _ c.in_ok-first-in-Linked.ensures.noted c.loop-link.invariant.noted c.loop-link-test.false c.as_slice-links.ensures))
+    (rw (seen, linked_uses, next)
+    (links_noted (name_noted (names_in c.args.table.now)) (λ (x : ℕ × raw.Or). uses_in_or (in_scope c.args.scope.now) x.1) view.link_view c.args.earliest.now.first _ _ _ (uses_in_or (in_scope c.args.scope.now) (view.or_view c.in-Linked.first)) _ _ _ _ c.in_ok-first-in-Linked.ensures.noted c.in_ok-disjunction.ensures.noted c.loop-link.invariant.noted c.loop-link-test.false c.as_slice-links.ensures))

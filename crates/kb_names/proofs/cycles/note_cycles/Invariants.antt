@@ -3,7 +3,7 @@ use Rattle.reading_stages.specs.Names.{Names, place_of_name}
 use Rattle.reading_stages.specs.NamesStage.{name_noted}
 use Rattle.fo_syntax.specs.Trees.{Name}
 use Rattle.reading_stages.specs.Uses.{climbing_uses}
-use Rattle.kb_names.proofs.cycles.note_each.Given as goal
+use Rattle.kb_names.proofs.cycles.note_cycles.Given as goal
 
 abbrev pub invariant-loop-ty : goal.invariant-loop-ty
 invariant-loop-ty l = (names : Names) → (types : List Name) → map place_of_name types ≡ l.places
