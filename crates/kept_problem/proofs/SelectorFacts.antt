@@ -11,7 +11,6 @@ use Rattle.std.proofs.lemmas.Option.{same_Some, slice_get-get_or, get_or_from_sl
 use Rattle.std.proofs.lemmas.Bool.{cases_eq, cases_lt, ne_eqb, both_ways}
 use Rattle.lit_core.specs.declared.literals.Lit.{Lit}
 use Rattle.lit_core.proofs.LiteralFacts.{same_literal}
-use Rattle.clause_store.specs.declared.trails.Step.{Step}
 use Rattle.ground_core.specs.Problems.{IsLitOf, AreLitsOf}
 use Rattle.kept_problem.specs.Selectors.{AreSelectors, variables_of}
 

@@ -1,5 +1,5 @@
 -- Scores of variables, and lists of those that may be decided.
-use Rattle.std.specs.Prelude.{◌≡◌, ℕ, ◌+◌, ◌-◌, ◌^◌, ◌<◌, ◌≤◌, min, Bool, Option, None, List, [], length, map, slice_index_or, All, Any, Contains, ◌⊎◌}
+use Rattle.std.specs.Prelude.{◌≡◌, ℕ, ◌+◌, ◌-◌, ◌^◌, ◌<◌, ◌≤◌, min, Bool, Option, None, IsSome, List, [], length, map, slice_index_or, All, Any, Contains, ◌⊎◌}
 use Rattle.lit_core.specs.declared.literals.Lit.{Lit}
 use Rattle.ground_core.specs.Solving.{counted}
 use Rattle.search_decisions.specs.declared.scores.Scores.{Scores}

@@ -2,9 +2,11 @@
 #![tactic(auto)]
 
 mod decider;
+mod order;
 mod phases;
 mod scores;
 
 pub use decider::Decider;
+pub use order::Order;
 pub use phases::{First, Phases};
 pub use scores::Scores;

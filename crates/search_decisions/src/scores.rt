@@ -43,7 +43,7 @@ impl Scores {
     }
 
     /// The score of a variable.
-    fn score(&self, number: u64) -> u64
+    pub fn score(&self, number: u64) -> u64
         ensures { result ≡ score_of self.now.scores.items number }
     {
         match self.scores.get(number as usize) {

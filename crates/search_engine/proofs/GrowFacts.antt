@@ -24,7 +24,8 @@ use Rattle.search_engine.specs.Resting.{IsResting, SameLists, SameSearches, held
 use Rattle.kept_problem.proofs.JoinLaws.{retired-laws, joined-laws, joined-sums, lit-wider, selected-laws}
 use Rattle.search_engine.specs.Searching.{AreClosed, IsOrderly}
 use Rattle.search_engine.proofs.LearntLists.{learnt-joined, learnt-none, learnt-selected, learnt-retired}
-use Rattle.search_engine.proofs.Pushed.{front-push, take-next}
+use Rattle.kept_problem.proofs.Prefixes.{take-next}
+use Rattle.search_engine.proofs.Pushed.{front-push}
 use Rattle.search_engine.proofs.Closing.{closed-later, closed-same}
 use Rattle.search_engine.proofs.Known.{ids-within, known-added, known-forgets, known-selected, known-retired, known-closed}
 

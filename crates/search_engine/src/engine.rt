@@ -73,12 +73,12 @@ impl Engine {
             self.root_conflicts += 1;
             return Ok(None);
         }
-        self.decider.takes_back();
         self.decider.raise(self.store.lend(conflict));
+        self.decider.takes_back(&self.store, level);
         self.store.back_to(level);
         let analysis = analyse(self.alloc, &self.store, conflict)?;
         self.conflicts = self.conflicts.saturating_add(1);
-        self.decider.takes_back();
+        self.decider.takes_back(&self.store, analysis.level);
         self.store.back_to(analysis.level);
         Ok(Some(analysis.clause))
     }

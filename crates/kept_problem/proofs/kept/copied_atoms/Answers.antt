@@ -1,5 +1,5 @@
 use Rattle.std.proofs.Common.{◌≡◌, Some, sym, slice_get}
-use Rattle.kept_problem.proofs.Pushed.{take-next}
+use Rattle.kept_problem.proofs.Prefixes.{take-next}
 use Rattle.kept_problem.proofs.kept.copied_atoms.Goals as goal
 
 pub loop-place-preserved : goal.loop-place-preserved
