@@ -1,0 +1,5 @@
+mod WordMeanings
+mod Spoken
+mod Named
+mod Trees
+pub mod Accepted
