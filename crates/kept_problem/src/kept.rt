@@ -237,16 +237,16 @@ impl KeptProblem {
         ensures ok { IfOk result (λ out. (out ≡ next_lit self.old) × (self.new ≡ with_bound self.old term below)) }
         ensures err { OnErr result (self.new ≡ self.old) }
     {
-        let Some(vars) = self.vars.checked_add(1) else {
+        let Some(var) = self.vars.checked_add(1) else {
             return Err(Memory);
         };
         let out = Lit {
-            var: Var(vars),
+            var: Var(var),
             positive: true,
         };
-        self.retired.reserve(vars as usize)?;
+        self.retired.reserve(var as usize)?;
         self.bounds.push(TermBound { out, term, below })?;
-        self.vars = vars;
+        self.vars = var;
         Ok(out)
     }
 

@@ -1,5 +1,6 @@
 -- Problems with one more bound, and clauses that bounds imply.
-use Rattle.std.proofs.Common.{◌≡◌, ℕ, suc, zero, ◌+◌, ◌^◌, ◌<◌, ◌≤◌, Bool, true, false, Option, Some, None, List, [], ◌∷◌, ◌++◌, length, take, slice_get, get_or, refl, sym, ap, ◌∙◌, subst, ◌⊎◌, inl, inr, ⊎_elim, arith, All, Any, Contains}
+use Rattle.std.proofs.Common.{◌≡◌, ℕ, ◌+◌, ◌^◌, ◌<◌, ◌≤◌, Bool, false, Option, Some, List, [], ◌∷◌, ◌++◌, length, take, slice_get, get_or, refl, sym, ap, ◌∙◌, subst, ◌⊎◌, inl, inr, ⊎_elim, arith, All, Any, Contains}
+use Rattle.std.specs.Prelude.{Result, Ok, Err, IfOk, OnErr}
 use Rattle.std.proofs.lemmas.List.{append-nil}
 use Rattle.std.proofs.lemmas.List.Elements.{All-weaker}
 use Rattle.std.proofs.lemmas.Option.{same_Some}
@@ -16,24 +17,24 @@ use Rattle.ground_core.specs.declared.parts.Part.{Part}
 use Rattle.ground_core.specs.declared.parts.TermBound.{TermBound}
 use Rattle.ground_core.specs.Problems.{ProblemState, IsProblem, IsLitOf, AreLitsOf}
 use Rattle.ground_core.specs.Meaning.{Satisfies, SumHolds, BoundHolds}
-use Rattle.ground_core.specs.Growth.{with_bound}
+use Rattle.ground_core.specs.Growth.{next_lit, with_bound}
 use Rattle.ground_core.specs.GateClauses.{clauses_of}
 use Rattle.ground_core.specs.Solving.{IsLearnt}
 use Rattle.ground_core.proofs.GrowthFacts.{bound-problem, bound-restricts}
-use Rattle.kept_problem.proofs.JoinLaws.{lits-wider, lit-wider}
+use Rattle.kept_problem.proofs.JoinLaws.{lits-wider}
 use Rattle.term_bounds.specs.Breaking.{AreOnTerms, HasLits, IsBrokenBy, IsOfBounds}
 use Rattle.search_engine.specs.declared.engine.Engine.{Engine}
-use Rattle.search_engine.specs.Knowledge.{IsHeldAs, IsOneOf, IsOfConstraint, IsOfSum, IsConstrained, Occurs, Knows}
+use Rattle.search_engine.specs.Knowledge.{IsHeldAs, IsOfConstraint, IsOfSum, IsConstrained, Occurs, Knows}
 use Rattle.search_engine.specs.Potential.{implied_of, Ahead}
-use Rattle.search_engine.specs.Resting.{IsResting, SameLists}
-use Rattle.search_engine.specs.Searching.{AreAssumed, AreClosed, AreTrue, AheadAt, Continues, IsOrderly, IsSearch, IsTurn, StandsAt, paid_of}
+use Rattle.search_engine.specs.Resting.{Bounds, IsResting, Reserves, SameLists, Stays, held_of}
+use Rattle.search_engine.specs.Searching.{AreAssumed, AreClosed, AheadAt, Continues, IsOrderly, IsSearch, IsTurn, StandsAt, paid_of}
 use Rattle.search_engine.proofs.Closing.{closed-later}
 use Rattle.search_engine.proofs.DecideFacts.{with_store}
-use Rattle.search_engine.proofs.GrowFacts.{orderly-wider, pow-le}
+use Rattle.search_engine.proofs.GrowFacts.{orderly-wider, pow-le, resting-same, same-itself, same-twice}
 use Rattle.search_engine.proofs.Known.{any-push, once-all, once-satisfied, zip-later}
 use Rattle.search_engine.proofs.LearntLists.{learnt-bounded}
 use Rattle.search_engine.proofs.Pushed.{front-push, front-refl, held-later}
-use Rattle.search_engine.proofs.SearchFacts.{continues-refl, false-within}
+use Rattle.search_engine.proofs.SearchFacts.{false-within}
 
 -- the problem with one more bound
 module _ (p : ProblemState) (term : ℕ) (below : ExtInt) where
@@ -94,6 +95,42 @@ resting-bounded e f term below lt h same store sized problem =
       fewer = rw same.same.conflicts (subst (λ (p : ProblemState). e.conflicts < 2 ^ p.vars) (sym problem) fewer);
       once = rw same.same.root_conflicts h.once;
     }
+
+-- another problem is kept
+abbrev pub with_problem : Engine → ProblemState → Engine
+with_problem e q = record {
+  alloc = e.alloc;
+  problem = q;
+  store = e.store;
+  learnt = e.learnt;
+  ids = e.ids;
+  moments = e.moments;
+  decider = e.decider;
+  searches = e.searches;
+  known = e.known;
+  conflicts = e.conflicts;
+  root_conflicts = e.root_conflicts;
+  assumed = e.assumed;
+  closed = e.closed;
+  base = e.base;
+}
+
+same-lists : (m : Engine) (q : ProblemState) → SameLists m (with_problem m q)
+same-lists m q = record { same = same-itself m (with_problem m q) refl refl refl refl refl; ids = refl; closed = refl }
+
+-- a bound was added, or there was no memory
+module _ {E : Type 0} (m : Engine) (q : ProblemState) (term : ℕ) (below : ExtInt) where
+  pub resting-either : (l : Lit) (r : Result Lit E) → term < length m.problem.terms → IsResting m → m.problem.vars + 1 < length m.store.trail.values → IfOk r (λ out. (out ≡ l) × (q ≡ with_bound m.problem term below)) → OnErr r (q ≡ m.problem) → IsResting (with_problem m q)
+  resting-either l (Ok out) lt h sized ok err = resting-bounded m (with_problem m q) term below lt h (same-lists m q) refl sized ok.1
+  resting-either l (Err e) lt h sized ok err = resting-same m (with_problem m q) h (same-lists m q) err refl refl h.engine.store
+
+  pub bounds-if-ok : (old : Engine) → Reserves old m → (r : Result Lit E) → IfOk r (λ out. (out ≡ next_lit m.problem) × (q ≡ with_bound m.problem term below)) → IfOk r (λ out. (out ≡ next_lit old.problem) × Bounds old term below (with_problem m q))
+  bounds-if-ok old res (Ok out) ok = (ok.0 ∙ ap next_lit res.problem, record { problem = ok.1 ∙ ap (λ (p : ProblemState). with_bound p term below) res.problem; same = same-twice old m (with_problem m q) res.lists.same (same-lists m q).same })
+  bounds-if-ok old res (Err e) ok = tt
+
+  pub stays-if-err : (old : Engine) → Reserves old m → (r : Result Lit E) → OnErr r (q ≡ m.problem) → OnErr r (Stays old (with_problem m q))
+  stays-if-err old res (Ok out) err = tt
+  stays-if-err old res (Err e) err = record { problem = err ∙ res.problem; held = ap held_of res.clauses; same = same-twice old m (with_problem m q) res.lists.same (same-lists m q).same }
 
 -- what a look at the bounds asks for
 pub on-terms : (p : ProblemState) → IsProblem p → AreOnTerms p.terms p.bounds

@@ -1,14 +1,13 @@
 -- Two problems together.
-use Rattle.std.proofs.Common.{◌≡◌, ℕ, zero, suc, ◌+◌, ◌<◌, ◌≤◌, Bool, true, false, List, [], ◌∷◌, ◌++◌, length, length-append, flat_map, get_or, slice_get, refl, sym, ap, ◌∙◌, subst, inl, inr, ◌⊎◌, ⊎_elim, arith, All, Any, Contains, append_assoc}
-use Rattle.std.proofs.lemmas.List.Elements.{All-append, All-push, All-weaker, All-nil, All-contains, All-contains_itself, Contains-append_left}
+use Rattle.std.proofs.Common.{◌≡◌, ℕ, zero, suc, ◌<◌, Bool, true, false, List, [], ◌∷◌, ◌++◌, length, flat_map, get_or, slice_get, refl, sym, ap, ◌∙◌, subst, inl, inr, ◌⊎◌, ⊎_elim, arith, All, Any, Contains, append_assoc}
+use Rattle.std.proofs.lemmas.List.Elements.{All-append, All-nil, All-contains, All-contains_itself, Contains-append_left}
 use Rattle.lit_core.specs.declared.literals.Lit.{Lit}
 use Rattle.lit_core.specs.Literals.{literal_value, negated}
 use Rattle.lit_core.specs.Truth.{IsSatisfied}
 use Rattle.ground_core.specs.declared.parts.Gate.{Gate}
 use Rattle.ground_core.specs.declared.parts.Part.{Part}
-use Rattle.ground_core.specs.declared.parts.AggCon.{AggCon}
 use Rattle.ground_core.specs.declared.parts.GroundTerm.{GroundTerm}
-use Rattle.ground_core.specs.Problems.{ProblemState, IsProblem, IsLitOf, AreLitsOf, IsGateOf, ArePartsOf, IsTermOf, IsSumOf, IsBoundOf}
+use Rattle.ground_core.specs.Problems.{ProblemState, IsProblem, IsBoundOf}
 use Rattle.std.specs.Prelude.{IfSome}
 use Rattle.kb_logic.specs.declared.syntax.Cmp.TheVariants as cmp
 use Rattle.kb_logic.specs.Denotations.{compared}
@@ -17,7 +16,7 @@ use Rattle.ground_core.specs.GateClauses.{clauses_of, gate_clauses}
 use Rattle.ground_core.proofs.Fronts.{All-front, All-back}
 use Rattle.search_engine.specs.Knowledge.{IsOfConstraint, IsOfSum, IsConstrained, Occurs}
 use Rattle.ground_core.specs.declared.parts.TermBound.{TermBound}
-use Rattle.kept_problem.specs.Joining.{joined_problem, with_selected, CanJoin}
+use Rattle.kept_problem.specs.Joining.{joined_problem, CanJoin}
 
 slice_get-front : {X : Type 0} (xs ys : List X) (i : ℕ) → i < length xs → slice_get (xs ++ ys) i ≡ slice_get xs i
 slice_get-front [] ys i lt = absurd (omega (arith, lt))
