@@ -103,9 +103,9 @@ fn learn(
 /// Learns a clause from a false one, by resolution up to the first unique implication point, and leaves out literals
 /// that follow from others of it.
 ///
-/// See Marques-Silva and Sakallah, "GRASP: a search algorithm for propositional satisfiability",
-/// and Zhang and others, "Efficient conflict driven learning in a Boolean satisfiability solver".
-/// Literals that are false at level 0 stay in the clause.
+/// A literal that is false at level 0 is left out where its clause has no other, and stays where it follows from some
+/// that are not in the learnt clause. See Marques-Silva and Sakallah, "GRASP: a search algorithm for propositional
+/// satisfiability", and Zhang and others, "Efficient conflict driven learning in a Boolean satisfiability solver".
 pub fn analyse(alloc: Global, store: &Store, conflict: u64) -> Result<Analysis, Memory>
     requires conflict { IsConflict store.now conflict }
     requires level { 0 < store.now.trail.level }

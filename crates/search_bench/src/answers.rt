@@ -1,5 +1,5 @@
 //! Answers a text.
-ghost use Rattle.std.specs.Prelude.{◌≡◌, [], IfOk};
+ghost use Rattle.std.specs.Prelude.{◌≡◌, [], length, IfOk};
 ghost use Rattle.search_bench.specs.Answering.{IsAnswerTo, IsAnswered};
 ghost use Rattle.search_bench.specs.Dimacs.{HasClausesAlone};
 
@@ -10,8 +10,28 @@ use crate::questions::Question;
 use crate::reading::read_problem;
 use crate::solver::solver_of;
 use crate::verdicts::verdict;
-use ground_core::{Memory, Problem};
+use ground_core::{Grow, Memory, Problem};
 use std::alloc::Global;
+
+/// What the solver answers to the question, as it is printed.
+fn asked<S: Grow>(
+    alloc: Global,
+    question: Question,
+    solver: &mut S,
+    vars: u64,
+    atoms: u64,
+) -> Result<Vec<u8>, Memory>
+    requires vars { vars ≡ (S.state solver.old).problem.vars }
+    requires atoms { atoms ≡ length (S.state solver.old).problem.atoms }
+    requires retired { (S.state solver.old).problem.retired ≡ [] }
+    ensures { IfOk result (λ out. IsAnswerTo (S.state solver.old).problem question out.items) }
+{
+    match question {
+        Question::Model => verdict(alloc, solver),
+        Question::Forced => forced_of(alloc, solver, vars, atoms),
+        Question::Several(most) => count_of(alloc, solver, most),
+    }
+}
 
 /// What a solver of the problem answers to the question, as it is printed.
 fn answer_of(alloc: Global, question: Question, problem: Problem) -> Result<Vec<u8>, Memory>
@@ -21,11 +41,7 @@ fn answer_of(alloc: Global, question: Question, problem: Problem) -> Result<Vec<
     let vars = problem.vars();
     let atoms = problem.atoms().len() as u64;
     let mut solver = solver_of(alloc, problem)?;
-    match question {
-        Question::Model => verdict(alloc, &mut solver),
-        Question::Forced => forced_of(alloc, &mut solver, vars, atoms),
-        Question::Several(most) => count_of(alloc, &mut solver, most),
-    }
+    asked(alloc, question, &mut solver, vars, atoms)
 }
 
 /// The answer to the question about the problem that the text writes, as it is printed.
