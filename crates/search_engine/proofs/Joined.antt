@@ -59,9 +59,9 @@ pub joined-constraint : (p q : ProblemState) → p.sums ≡ [] → IsProblem p �
 joined-constraint p q sums fine k way = ⊎_elim
     (λ (w : Any (λ s. (v : ℕ → Bool) → SumHolds v s → IsSatisfied v k) p.sums). absurd (any-none (λ s. (v : ℕ → Bool) → SumHolds v s → IsSatisfied v k) p.sums sums w))
     (λ (r : Any (λ b. (v : ℕ → Bool) → BoundHolds v p.terms b → IsSatisfied v k) p.bounds ⊎ Any (λ l. (v : ℕ → Bool) → literal_value v l ≡ false → IsSatisfied v k) p.retired). inr (⊎_elim
-    (λ (w : Any (λ b. (v : ℕ → Bool) → BoundHolds v p.terms b → IsSatisfied v k) p.bounds). 
-        let of : IsBoundOf p.vars p.terms w.1 = subst (IsBoundOf p.vars p.terms) w.3 (fine.bounds w.0 w.1 w.2) in
-        inl (any-front (λ b. (v : ℕ → Bool) → BoundHolds v (p.terms ++ q.terms) b → IsSatisfied v k) p.bounds q.bounds (w.0, w.1, w.2, w.3, λ v holds. w.4 v (bound-shorter v p.terms q.terms w.1 of.1 holds))))
+    (λ (w : Any (λ b. (v : ℕ → Bool) → BoundHolds v p.terms b → IsSatisfied v k) p.bounds).
+    let of : IsBoundOf p.vars p.terms w.1 = subst (IsBoundOf p.vars p.terms) w.3 (fine.bounds w.0 w.1 w.2) in
+    inl (any-front (λ b. (v : ℕ → Bool) → BoundHolds v (p.terms ++ q.terms) b → IsSatisfied v k) p.bounds q.bounds (w.0, w.1, w.2, w.3, λ v holds. w.4 v (bound-shorter v p.terms q.terms w.1 of.1 holds))))
     (λ (w : Any (λ l. (v : ℕ → Bool) → literal_value v l ≡ false → IsSatisfied v k) p.retired). inr w)
     r))
     way

@@ -31,5 +31,5 @@ returns-in_ok-reasons-in-Some-clause-broken c =
     let spare-fits : FitsSigned w128 c.in-Some.spare = search rules in
     let same : spare ≡ c.in-Some.spare = to_z-of_z w128 c.in-Some.spare spare-fits in
     let above : (z : ℤ) → least_total c.args.assignment.now k bound ps ≤ℤ (z +ℤ spare) → is_under (total_bound k bound) (number z) ≡ false =
-        λ z le. subst (λ m. is_under m (number z) ≡ false) c.total_bound.ensures (c.in-Some.ensures.some.1 z (omega (arith, ints, le, back, same))) in
+    λ z le. subst (λ m. is_under m (number z) ≡ false) c.total_bound.ensures (c.in-Some.ensures.some.1 z (omega (arith, ints, le, back, same))) in
     broken-where-not c.args.term.now c.args.bound c.args.assignment.now k bound ps c.of-line.ensures.kind c.of-line.ensures.bound c.as_slice-parts.ensures spare c.in_ok-reasons-in-Some.field-0.items c.in_ok-reasons-in-Some.ensures.reason above

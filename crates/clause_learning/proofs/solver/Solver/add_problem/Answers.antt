@@ -1,4 +1,4 @@
-use Rattle.std.proofs.Common.{◌≡◌, [], subst, sym, ◌<◌, ◌^◌, ◌⊎◌, ⊎_elim}
+use Rattle.std.proofs.Common.{◌≡◌, [], subst, sym, ◌⊎◌, ⊎_elim}
 use Rattle.ground_core.specs.Problems.{ProblemState}
 use Rattle.ground_core.specs.Meaning.{HasTermsInRange}
 use Rattle.search_engine.specs.declared.engine.Engine.{Engine}
