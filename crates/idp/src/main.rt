@@ -6,7 +6,9 @@ mod adapters;
 mod tests;
 
 use adapters::{CountedReader, CountedWriter, FileSystem};
-use file_laws::{files_are_spoken, files_have_word_names, sentences_are_read_back, structures_are_read_back};
+use file_laws::{
+    files_are_spoken, files_have_word_names, sentences_are_read_back, structures_are_read_back,
+};
 use idp_cli::laws::{printed_bytes_determine_the_replies, statuses_come_where_they_should};
 use idp_cli::{Status, run};
 use kb_io::NullSink;

@@ -1,5 +1,6 @@
 -- The laws of two problems together.
-use Rattle.std.proofs.Common.{◌≡◌, ℕ, ◌+◌, ◌≤◌, List, [], ◌++◌, length, length-append, sym, ap, ◌∙◌, subst, ⊎_elim, arith, All}
+use Rattle.std.proofs.Common.{◌≡◌, ℕ, ◌+◌, ◌≤◌, ◌<◌, List, [], ◌++◌, length, length-append, refl, sym, ap, ◌∙◌, subst, ⊎_elim, arith, All}
+use Rattle.std.proofs.lemmas.List.{append-nil}
 use Rattle.std.proofs.lemmas.List.Elements.{All-append, All-push, All-weaker, All-nil}
 use Rattle.lit_core.specs.declared.literals.Lit.{Lit}
 use Rattle.ground_core.specs.declared.parts.AggCon.{AggCon}
@@ -55,12 +56,16 @@ retired-laws p l h lit = record { atoms = h.atoms; gates = h.gates; clauses = h.
 none-append : {X : Type 0} (xs ys : List X) → xs ≡ [] → ys ≡ [] → xs ++ ys ≡ []
 none-append xs ys e f = ap (λ zs. zs ++ ys) e ∙ f
 
-module _ (p q : ProblemState) (sums : p.sums ≡ []) (bounds : p.bounds ≡ []) (more-sums : q.sums ≡ []) (more-bounds : q.bounds ≡ []) where
+-- a bound is one on more terms, too
+bound-more : (m n : ℕ) (terms more : List GroundTerm) → m ≤ n → (b : TermBound) → IsBoundOf m terms b → IsBoundOf n (terms ++ more) b
+bound-more m n terms more le b h =
+    let len : length (terms ++ more) ≡ length terms + length more = length-append terms more in
+    let lt : b.term < length terms = h.1 in
+    (lit-wider m n le b.out h.0, omega (arith, len, lt))
+
+module _ (p q : ProblemState) (sums : p.sums ≡ []) (more-sums : q.sums ≡ []) (more-bounds : q.bounds ≡ []) where
   pub joined-sums : p.sums ++ q.sums ≡ []
   joined-sums = none-append p.sums q.sums sums more-sums
-
-  pub joined-bounds : p.bounds ++ q.bounds ≡ []
-  joined-bounds = none-append p.bounds q.bounds bounds more-bounds
 
   atoms-fit : length p.atoms ≤ p.vars → length q.atoms ≤ q.vars → CanJoin p q → length (p.atoms ++ q.atoms) ≤ q.vars
   atoms-fit a b can =
@@ -78,6 +83,18 @@ module _ (p q : ProblemState) (sums : p.sums ≡ []) (bounds : p.bounds ≡ []) 
     clauses = All-append (AreLitsOf q.vars) p.clauses q.clauses (All-weaker (AreLitsOf p.vars) (AreLitsOf q.vars) (lits-wider p.vars q.vars can.vars) p.clauses a.clauses) b.clauses;
     sums = subst (All (IsSumOf q.vars)) (sym joined-sums) (All-nil (IsSumOf q.vars));
     terms = All-append (IsTermOf q.vars) p.terms q.terms (All-weaker (IsTermOf p.vars) (IsTermOf q.vars) (term-wider p.vars q.vars can.vars) p.terms a.terms) b.terms;
-    bounds = subst (All (IsBoundOf q.vars (p.terms ++ q.terms))) (sym joined-bounds) (All-nil (IsBoundOf q.vars (p.terms ++ q.terms)));
+    bounds = All-append (IsBoundOf q.vars (p.terms ++ q.terms)) p.bounds q.bounds
+        (All-weaker (IsBoundOf p.vars p.terms) (IsBoundOf q.vars (p.terms ++ q.terms)) (bound-more p.vars q.vars p.terms q.terms can.vars) p.bounds a.bounds)
+        (subst (All (IsBoundOf q.vars (p.terms ++ q.terms))) (sym more-bounds) (All-nil (IsBoundOf q.vars (p.terms ++ q.terms))));
     retired = lits-wider p.vars q.vars can.vars p.retired a.retired;
   }
+
+-- what both say, where the second has no sums and no bounds
+abbrev pub kept_both : ProblemState → ProblemState → ProblemState
+kept_both p q = record { atoms = p.atoms ++ q.atoms; vars = q.vars; gates = p.gates ++ q.gates; clauses = p.clauses ++ q.clauses; sums = p.sums; terms = p.terms ++ q.terms; bounds = p.bounds; retired = p.retired }
+
+pub same-both : (p q : ProblemState) → q.sums ≡ [] → q.bounds ≡ [] → joined_problem p q ≡ kept_both p q
+same-both p q sums bounds =
+    let a : p.sums ++ q.sums ≡ p.sums = ap (λ (xs : List AggCon). p.sums ++ xs) sums ∙ append-nil p.sums in
+    let b : p.bounds ++ q.bounds ≡ p.bounds = ap (λ (xs : List TermBound). p.bounds ++ xs) bounds ∙ append-nil p.bounds in
+    rw (a, b) refl

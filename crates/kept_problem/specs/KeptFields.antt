@@ -5,9 +5,9 @@ use Rattle.ground_core.specs.Problems.{ProblemState, IsProblem}
 use Rattle.kept_problem.specs.declared.kept.KeptProblem.TheInside.{Inside}
 use Rattle.kept_problem.specs.Selectors.{AreSelectors}
 
--- constraints on sums and bounds are not kept yet
+-- constraints on sums are not kept yet
 abbrev pub state_of : Inside → ProblemState
-state_of p = record { atoms = p.atoms.items; vars = p.vars; gates = p.gates.items; clauses = p.clauses.items; sums = []; terms = p.terms.items; bounds = []; retired = p.retired.items }
+state_of p = record { atoms = p.atoms.items; vars = p.vars; gates = p.gates.items; clauses = p.clauses.items; sums = []; terms = p.terms.items; bounds = p.bounds.items; retired = p.retired.items }
 
 pub record IsKept (p : Inside) : Type 0 where
   pub laws : IsProblem (state_of p)

@@ -2,18 +2,18 @@
 ghost use Rattle.std.specs.Prelude.{◌≡◌, ◌≤◌, ◌<◌, ◌+◌, ◌++◌, ◌↔◌, [], length, slice_get, slice_index_or, Contains, IsTrue, IfOk, OnOk, OnErr, vec_len, vec_capacity};
 ghost use Rattle.ground_core.specs.Problems.{AreLitsOf, IsProblem};
 ghost use Rattle.ground_core.specs.Moments.{moment_of};
-ghost use Rattle.ground_core.specs.Growth.{empty_problem};
+ghost use Rattle.ground_core.specs.Growth.{empty_problem, next_lit, with_bound};
 ghost use Rattle.ground_core.specs.Growing.{IsSelector, with_retired};
 ghost use Rattle.kept_problem.specs.Joining.{CanJoin, joined_problem, with_selected};
 ghost use Rattle.kept_problem.specs.Selectors.{AreSelectors};
 
-use ground_core::{AtomTable, Gate, GroundTerm, Memory, Moment, Problem};
-use kb_logic::{ListOf, Literal};
-use lit_core::{Clause, Lit};
+use ground_core::{AtomTable, Gate, GroundTerm, Memory, Moment, Problem, TermBound};
+use kb_logic::{ExtInt, ListOf, Literal};
+use lit_core::{Clause, Lit, Var};
 use std::alloc::Global;
 use std::marker::Model;
 
-/// A problem of gates and clauses, to which others are joined, and the selectors that are false for good.
+/// A problem of gates, clauses and bounds on terms, to which others are joined, and the selectors that are false for good.
 #[derive(Drop)]
 pub struct KeptProblem {
     atoms: Vec<Literal>,
@@ -21,6 +21,7 @@ pub struct KeptProblem {
     gates: Vec<Gate>,
     clauses: Vec<Clause>,
     terms: Vec<GroundTerm>,
+    bounds: Vec<TermBound>,
     /// Selectors that are retired, with room for every variable, so that retiring takes no memory.
     retired: Vec<Lit>,
 }
@@ -131,6 +132,7 @@ impl KeptProblem {
             gates: Vec::new(alloc),
             clauses: Vec::new(alloc),
             terms: Vec::new(alloc),
+            bounds: Vec::new(alloc),
             retired: Vec::new(alloc),
         }
     }
@@ -140,7 +142,6 @@ impl KeptProblem {
         ensures value { result ≡ self.now.vars }
         ensures laws { IsProblem self.now }
         ensures sums { self.now.sums ≡ [] }
-        ensures bounds { self.now.bounds ≡ [] }
         ensures retired { AreSelectors self.now.retired }
     {
         self.vars
@@ -155,7 +156,7 @@ impl KeptProblem {
             gates: self.gates.len() as u64,
             clauses: self.clauses.len() as u64,
             sums: 0,
-            bounds: 0,
+            bounds: self.bounds.len() as u64,
             retired: self.retired.len() as u64,
         }
     }
@@ -182,6 +183,22 @@ impl KeptProblem {
             Some(clause) => clause.as_slice(),
             None => &[],
         }
+    }
+
+    /// The terms in order.
+    pub fn terms(&self) -> &[GroundTerm]
+        ensures value { result.now ≡ self.now.terms }
+        ensures laws { IsProblem self.now }
+    {
+        self.terms.as_slice()
+    }
+
+    /// The bounds on terms in order.
+    pub fn bounds(&self) -> &[TermBound]
+        ensures value { result.now ≡ self.now.bounds }
+        ensures laws { IsProblem self.now }
+    {
+        self.bounds.as_slice()
     }
 
     /// How many selectors are retired.
@@ -212,6 +229,25 @@ impl KeptProblem {
         self.clauses.push(clause)?;
         self.vars = vars;
         Ok(())
+    }
+
+    /// Says that under a new variable the term is below the number, and makes the room to retire it.
+    pub fn add_bound(&mut self, term: u32, below: ExtInt) -> Result<Lit, Memory>
+        requires { term < length self.old.terms }
+        ensures ok { IfOk result (λ out. (out ≡ next_lit self.old) × (self.new ≡ with_bound self.old term below)) }
+        ensures err { OnErr result (self.new ≡ self.old) }
+    {
+        let Some(var) = self.vars.checked_add(1) else {
+            return Err(Memory);
+        };
+        let out = Lit {
+            var: Var(var),
+            positive: true,
+        };
+        self.retired.reserve(var as usize)?;
+        self.bounds.push(TermBound { out, term, below })?;
+        self.vars = var;
+        Ok(out)
     }
 
     /// Makes the selector false for good.

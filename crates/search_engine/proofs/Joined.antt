@@ -1,29 +1,40 @@
 -- Two problems together.
-use Rattle.std.proofs.Common.{◌≡◌, ℕ, ◌+◌, ◌<◌, ◌≤◌, Bool, false, List, [], ◌∷◌, ◌++◌, length, length-append, flat_map, refl, sym, ap, ◌∙◌, subst, inl, inr, ◌⊎◌, ⊎_elim, arith, All, Any, Contains, append_assoc}
-use Rattle.std.proofs.lemmas.List.Elements.{All-append, All-push, All-weaker, All-nil, All-contains, All-contains_itself, Contains-append_left}
+use Rattle.std.proofs.Common.{◌≡◌, ℕ, zero, suc, ◌<◌, Bool, true, false, List, [], ◌∷◌, ◌++◌, length, flat_map, get_or, slice_get, refl, sym, ap, ◌∙◌, subst, inl, inr, ◌⊎◌, ⊎_elim, arith, All, Any, Contains, append_assoc}
+use Rattle.std.proofs.lemmas.List.Elements.{All-append, All-nil, All-contains, All-contains_itself, Contains-append_left}
 use Rattle.lit_core.specs.declared.literals.Lit.{Lit}
 use Rattle.lit_core.specs.Literals.{literal_value, negated}
 use Rattle.lit_core.specs.Truth.{IsSatisfied}
 use Rattle.ground_core.specs.declared.parts.Gate.{Gate}
 use Rattle.ground_core.specs.declared.parts.Part.{Part}
-use Rattle.ground_core.specs.declared.parts.AggCon.{AggCon}
 use Rattle.ground_core.specs.declared.parts.GroundTerm.{GroundTerm}
-use Rattle.ground_core.specs.Problems.{ProblemState, IsProblem, IsLitOf, AreLitsOf, IsGateOf, ArePartsOf, IsTermOf, IsSumOf, IsBoundOf}
-use Rattle.ground_core.specs.Meaning.{Satisfies, GateHolds, SumHolds, BoundHolds, AreAllFalse}
+use Rattle.ground_core.specs.Problems.{ProblemState, IsProblem, IsBoundOf}
+use Rattle.std.specs.Prelude.{IfSome}
+use Rattle.kb_logic.specs.declared.syntax.Cmp.TheVariants as cmp
+use Rattle.kb_logic.specs.Denotations.{compared}
+use Rattle.ground_core.specs.Meaning.{Satisfies, GateHolds, SumHolds, BoundHolds, AreAllFalse, term_value, value_of_bound}
 use Rattle.ground_core.specs.GateClauses.{clauses_of, gate_clauses}
 use Rattle.ground_core.proofs.Fronts.{All-front, All-back}
 use Rattle.search_engine.specs.Knowledge.{IsOfConstraint, IsOfSum, IsConstrained, Occurs}
 use Rattle.ground_core.specs.declared.parts.TermBound.{TermBound}
-use Rattle.kept_problem.specs.Joining.{joined_problem, with_selected, CanJoin}
+use Rattle.kept_problem.specs.Joining.{joined_problem, CanJoin}
 
-module _ (p q : ProblemState) (sums : p.sums ≡ []) (bounds : p.bounds ≡ []) (more-sums : q.sums ≡ []) (more-bounds : q.bounds ≡ []) where
+slice_get-front : {X : Type 0} (xs ys : List X) (i : ℕ) → i < length xs → slice_get (xs ++ ys) i ≡ slice_get xs i
+slice_get-front [] ys i lt = absurd (omega (arith, lt))
+slice_get-front (x ∷ xs) ys zero lt = refl
+slice_get-front (x ∷ xs) ys (suc i) lt = slice_get-front xs ys i (omega (arith, lt))
+
+-- a bound on one of the first terms holds where it does among more terms
+pub bound-shorter : (v : ℕ → Bool) (terms more : List GroundTerm) (b : TermBound) → b.term < length terms → BoundHolds v (terms ++ more) b → BoundHolds v terms b
+bound-shorter v terms more b lt h on = subst (λ o. IfSome o (λ t. compared cmp.Lt (term_value v t) (value_of_bound b.below) ≡ true)) (slice_get-front terms more b.term lt) (h on)
+
+module _ (p q : ProblemState) (fine : IsProblem p) (more-bounds : q.bounds ≡ []) where
   -- what satisfies both satisfies each
   pub joined-first : (v : ℕ → Bool) → Satisfies (joined_problem p q) v → Satisfies p v
   joined-first v s = record {
     gates = All-front (GateHolds v) p.gates q.gates s.gates;
     clauses = All-front (IsSatisfied v) p.clauses q.clauses s.clauses;
     sums = All-front (SumHolds v) p.sums q.sums s.sums;
-    bounds = subst (All (BoundHolds v p.terms)) (sym bounds) (All-nil (BoundHolds v p.terms));
+    bounds = λ k d lt. bound-shorter v p.terms q.terms (get_or p.bounds k d) (fine.bounds k d lt).1 (All-front (BoundHolds v (p.terms ++ q.terms)) p.bounds q.bounds s.bounds k d lt);
     retired = s.retired;
   }
 
@@ -44,11 +55,13 @@ any-none : {X : Type 0} (P : X → Type 0) (xs : List X) → xs ≡ [] → Any P
 any-none P xs none w = let lt : w.0 < length xs = w.2 in let len : length xs ≡ 0 = ap length none in omega (arith, lt, len)
 
 -- a constraint of the first is one of both
-pub joined-constraint : (p q : ProblemState) → p.sums ≡ [] → p.bounds ≡ [] → (k : List Lit) → IsOfConstraint p k → IsOfConstraint (joined_problem p q) k
-joined-constraint p q sums bounds k way = ⊎_elim
+pub joined-constraint : (p q : ProblemState) → p.sums ≡ [] → IsProblem p → (k : List Lit) → IsOfConstraint p k → IsOfConstraint (joined_problem p q) k
+joined-constraint p q sums fine k way = ⊎_elim
     (λ (w : Any (λ s. (v : ℕ → Bool) → SumHolds v s → IsSatisfied v k) p.sums). absurd (any-none (λ s. (v : ℕ → Bool) → SumHolds v s → IsSatisfied v k) p.sums sums w))
     (λ (r : Any (λ b. (v : ℕ → Bool) → BoundHolds v p.terms b → IsSatisfied v k) p.bounds ⊎ Any (λ l. (v : ℕ → Bool) → literal_value v l ≡ false → IsSatisfied v k) p.retired). inr (⊎_elim
-    (λ (w : Any (λ b. (v : ℕ → Bool) → BoundHolds v p.terms b → IsSatisfied v k) p.bounds). absurd (any-none (λ b. (v : ℕ → Bool) → BoundHolds v p.terms b → IsSatisfied v k) p.bounds bounds w))
+    (λ (w : Any (λ b. (v : ℕ → Bool) → BoundHolds v p.terms b → IsSatisfied v k) p.bounds).
+    let of : IsBoundOf p.vars p.terms w.1 = subst (IsBoundOf p.vars p.terms) w.3 (fine.bounds w.0 w.1 w.2) in
+    inl (any-front (λ b. (v : ℕ → Bool) → BoundHolds v (p.terms ++ q.terms) b → IsSatisfied v k) p.bounds q.bounds (w.0, w.1, w.2, w.3, λ v holds. w.4 v (bound-shorter v p.terms q.terms w.1 of.1 holds))))
     (λ (w : Any (λ l. (v : ℕ → Bool) → literal_value v l ≡ false → IsSatisfied v k) p.retired). inr w)
     r))
     way

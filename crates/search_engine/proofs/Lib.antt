@@ -20,3 +20,4 @@ pub mod AnswerFacts
 pub mod TurnFacts
 pub mod GrowFacts
 pub mod Removed
+pub mod BoundFacts

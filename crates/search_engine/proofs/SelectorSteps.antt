@@ -1,18 +1,13 @@
 -- Selectors whose variables have steps.
-use Rattle.std.proofs.Common.{◌≡◌, ℕ, ◌≤◌, ◌+◌, Bool, true, false, ◌||◌, ◌<◌, slice_get, Some, None, List, [], ◌∷◌, ◌++◌, Contains, All, length, map, get_or, eqb, eq-eqb, rules, refl, sym, ap, ◌∙◌, subst, arith, ⊎_elim, zero, suc}
-use Rattle.std.proofs.lemmas.List.Elements.{All-cons, All-head, All-tail, All-push, All-weaker, All-contains_itself}
-use Rattle.std.specs.Cmp.{IsEquivalence}
-use Rattle.std.specs.List.{list_any, IsDistinct, AllByRecursion}
-use Rattle.std.proofs.lemmas.List.{length-map, map_push}
+use Rattle.std.proofs.Common.{◌≡◌, ℕ, ◌≤◌, Bool, true, false, ◌||◌, slice_get, Some, None, List, [], ◌∷◌, Contains, All, length, map, eqb, eq-eqb, refl, sym, ap, ◌∙◌, subst, arith, ⊎_elim, zero, suc}
+use Rattle.std.proofs.lemmas.List.Elements.{All-head, All-tail, All-weaker, All-contains_itself}
+use Rattle.std.specs.List.{list_any}
+use Rattle.std.proofs.lemmas.List.{length-map}
 use Rattle.std.proofs.lemmas.Map.Made.{length-le_from_is_member}
-use Rattle.std.proofs.lemmas.Map.Steps.{length-le_from_distinct_below}
-use Rattle.std.proofs.lemmas.Map.Keys.{IsDistinct-push}
-use Rattle.std.proofs.lemmas.Option.{same_Some, slice_get-get_or, get_or_from_slice_get}
-use Rattle.std.proofs.lemmas.Bool.{cases_eq, cases_lt, ne_eqb, both_ways}
+use Rattle.std.proofs.lemmas.Option.{same_Some}
+use Rattle.std.proofs.lemmas.Bool.{cases_eq, ne_eqb}
 use Rattle.lit_core.specs.declared.literals.Lit.{Lit}
-use Rattle.lit_core.proofs.LiteralFacts.{same_literal}
 use Rattle.clause_store.specs.declared.trails.Step.{Step}
-use Rattle.ground_core.specs.Problems.{IsLitOf, AreLitsOf}
 use Rattle.kept_problem.specs.Selectors.{AreSelectors, variables_of}
 use Rattle.kept_problem.proofs.SelectorFacts.{eqb-laws}
 
