@@ -194,7 +194,7 @@ fn number_of(values: &Values) -> u32 {
     for atom in 0..4u32 {
         let lit = yes(u64::from(atom) + 1);
         if lit.var.0 < values.len() as u64 && values.holds(lit) {
-            number += 1 << atom;
+            number |= 1 << atom;
         }
     }
     number
