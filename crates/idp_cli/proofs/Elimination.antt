@@ -12,11 +12,11 @@ use Rattle.idp_cli.specs.declared.status.Status.{Status}
 use Rattle.idp_cli.specs.declared.status.Status.TheVariants as status
 use Rattle.idp_cli.proofs.Asked.{one_job}
 
-told : (o : Option (List ℕ)) (bytes : List ℕ) (P : List ℕ → Type 0) → o ≡ Some bytes → IfObservable o P → P bytes
+pub told : (o : Option (List ℕ)) (bytes : List ℕ) (P : List ℕ → Type 0) → o ≡ Some bytes → IfObservable o P → P bytes
 told o bytes P is holds = let Q : Option (List ℕ) → Type 0 = λ o. IfObservable o P in subst Q is holds
 
 -- where the words ask a job, the run ended as that job
-done : (s : Status) (words : Words) (before now : Outside) (job : Job) → Asks (texts_of words) job
+pub done : (s : Status) (words : Words) (before now : Outside) (job : Job) → Asks (texts_of words) job
     → RunEnds s words before now → JobEnds s job before now
 done s words before now job is (inl usage) = absurd (usage.0 job is)
 done s words before now job is (inr ends) =
