@@ -1,16 +1,17 @@
 //! Runs over a shelf, a source and a sink in memory, told what to do by a plan.
 ghost use Rattle.std.specs.Prelude.{◌≡◌, IfOk};
 
+use super::bases::EITHER_P_OR_Q;
 use idp_cli::{Status, run};
 use kb_io::{MemFile, MemShelf, MemSink, MemSource};
 use std::alloc::AllocError;
 use std::test::Fail;
 
-pub(super) const EITHER_P_OR_Q: &[u8] =
-    b"vocabulary V { p  q }\ntheory T : V { p | q.  ~p. }\nstructure S : V { }\n";
-
 /// The words of a consultation about the file of a plan.
 pub(super) const CONSULT: &[&str] = &["consult", "kb"];
+
+/// The words of a check of it.
+pub(super) const CHECK: &[&str] = &["check", "kb"];
 
 /// What the devices of a run do. The numbers in `failing` are those of the calls that fail.
 #[derive(Clone, Copy)]

@@ -1,17 +1,13 @@
 //! Each reply is flushed before the next line is read.
 ghost use Rattle.std.specs.Prelude.{None};
 
+use super::bases::COVER;
 use super::runs::{CONSULT, PLAN, Plan, shelf, sink, words};
 use idp_cli::run;
 use kb_io::{Failed, Sink, Source};
 use std::cell::Cell;
 use std::rc::Rc;
 use std::test::Fail;
-
-const COVER: &[u8] = b"vocabulary V { type N  P(N)  Q(N) }
-theory T : V { !x[N]: P(x) | Q(x).  !x[N]: ~(P(x) & Q(x)). }
-structure S : V { N = {a; b}  P = {a} }
-";
 
 const LINES: [&[u8]; 3] = [b"assert Q(b).\n", b"choices.\n", b"model.\n"];
 
