@@ -1,6 +1,8 @@
 //! Small problems for the tests of solvers and of the tasks over them.
 #![tactic(auto)]
 
+mod kept;
 mod problems;
 
-pub use problems::{are_over, no, problem_of, said, say, yes};
+pub use kept::{Kept, solver_of};
+pub use problems::{are_over, name_sum, no, problem_of, said, say, yes};

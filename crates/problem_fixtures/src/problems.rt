@@ -1,9 +1,9 @@
 //! Literals and problems.
-ghost use Rattle.std.specs.Prelude.{◌≡◌, [], IsTrue, IfOk};
-ghost use Rattle.ground_core.specs.Problems.{AreLitsOf};
+ghost use Rattle.std.specs.Prelude.{◌≡◌, ◌+◌, [], length, IsTrue, IfOk, OnOk};
+ghost use Rattle.ground_core.specs.Problems.{AreLitsOf, ArePartsOf};
 
-use ground_core::{AtomTable, Memory, Problem};
-use kb_logic::{ElemList, Literal, LiteralList};
+use ground_core::{AtomTable, GroundTerm, Memory, Part, Problem};
+use kb_logic::{AggKind, ElemList, ListOf, Literal, LiteralList, Name};
 use lit_core::{Clause, Lit, Var};
 use std::alloc::Global;
 
@@ -81,4 +81,34 @@ pub fn said(alloc: Global, atoms: u32, clauses: &[[Lit; 4]]) -> Result<Problem, 
     let mut problem = problem_of(alloc, atoms)?;
     say_all(alloc, &mut problem, clauses)?;
     Ok(problem)
+}
+
+/// Whether the parts have variables up to this one.
+fn are_parts_over(vars: u64, parts: &[Part]) -> bool
+    ensures { IsTrue result → ArePartsOf vars parts.now }
+{
+    parts
+        .iter()
+        .all(|part| 1 <= part.lit.var.0 && part.lit.var.0 <= vars)
+}
+
+/// Names the sum of the parts as the next term. Parts of other variables count as out of memory.
+pub fn name_sum(alloc: Global, problem: &mut Problem, parts: Vec<Part>) -> Result<(), Memory>
+    ensures one { OnOk result (length problem.new.terms ≡ length problem.old.terms + 1) }
+    ensures vars { problem.new.vars ≡ problem.old.vars }
+    ensures sums { problem.new.sums ≡ problem.old.sums }
+    ensures bounds { problem.new.bounds ≡ problem.old.bounds }
+    ensures retired { problem.new.retired ≡ problem.old.retired }
+{
+    if !are_parts_over(problem.vars(), parts.as_slice()) {
+        return Err(Memory);
+    }
+    let name = Name::new(alloc, b"sum")?;
+    let term = GroundTerm {
+        name,
+        kind: AggKind::Sum,
+        base: 0,
+        parts: ListOf::from_vec(parts),
+    };
+    problem.add_term(term)
 }
