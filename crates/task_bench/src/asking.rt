@@ -2,14 +2,15 @@
 ghost use Rattle.std.specs.Prelude.{◌≡◌, [], length, None};
 
 use crate::input::{Input, Task};
-use chooser::FirstGreatest;
-use clause_learning::Solver;
 use consequences::forced;
 use ground_core::{Budget, Grow};
+use kb_logic::ExtInt;
 use lit_core::{Lit, Values};
 use model_expansion::several;
-use problem_fixtures::are_over;
+use model_minimiser::least;
+use problem_fixtures::{are_over, name_sum, solver_of};
 use std::alloc::Global;
+use std::mem;
 use support_explainer::conflict;
 
 /// What was found.
@@ -22,6 +23,8 @@ pub enum Found {
     More(usize),
     /// So many of the assumptions, none of which can be left out, have no model.
     Conflict(usize),
+    /// The least value of the sum.
+    Least(ExtInt),
     /// There is no model; or, of a conflict, there is one.
     Nothing,
     /// There was no memory, or a literal is of no variable.
@@ -103,30 +106,52 @@ fn ask_conflict<S: Grow>(alloc: Global, solver: &mut S, vars: u64, assumed: &[Li
     }
 }
 
-/// What the kept solver answers.
-pub fn answer(alloc: Global, input: Input) -> Found
-    requires plain { (input.problem.sums ≡ []) × (input.problem.bounds ≡ []) }
-    requires unnamed { (input.problem.terms ≡ []) × (input.problem.retired ≡ []) }
+fn ask_least<S: Grow>(alloc: Global, solver: &mut S, vars: u64, assumed: &[Lit]) -> Found
+    requires vars { vars ≡ (S.state solver.old).problem.vars }
+    requires term { length (S.state solver.old).problem.terms ≡ 1 }
+    requires retired { (S.state solver.old).problem.retired ≡ [] }
+{
+    let mut budget = unlimited();
+    if !are_over(vars, assumed) {
+        return Found::Halted;
+    }
+    match least(alloc, solver, assumed, 0, &mut budget) {
+        Ok(Some(minimum)) => Found::Least(minimum.value),
+        Ok(None) => Found::Nothing,
+        Err(_) => Found::Halted,
+    }
+}
+
+/// What the solver of the input's problem answers.
+fn ask<S: Grow>(alloc: Global, solver: &mut S, input: &Input) -> Found
+    requires vars { input.now.problem.vars ≡ (S.state solver.old).problem.vars }
+    requires atoms { input.now.problem.atoms ≡ (S.state solver.old).problem.atoms }
+    requires term { length (S.state solver.old).problem.terms ≡ 1 }
+    requires retired { (S.state solver.old).problem.retired ≡ [] }
 {
     let vars = input.problem.vars();
     let atoms = input.problem.atoms().len() as u64;
-    let Ok(mut solver) = Solver::new(alloc, FirstGreatest) else {
-        return Found::Halted;
-    };
-    let Ok(()) = solver.add_problem(&input.problem) else {
-        return Found::Halted;
-    };
     let assumed = input.assumed.as_slice();
+    let asked = input.asked.as_slice();
     match input.task {
-        Task::Forced => ask_forced(
-            alloc,
-            &mut solver,
-            vars,
-            atoms,
-            assumed,
-            input.asked.as_slice(),
-        ),
-        Task::Several => ask_several(alloc, &mut solver, vars, assumed, input.most),
-        Task::Conflict => ask_conflict(alloc, &mut solver, vars, assumed),
+        Task::Forced => ask_forced(alloc, solver, vars, atoms, assumed, asked),
+        Task::Several => ask_several(alloc, solver, vars, assumed, input.most),
+        Task::Least => ask_least(alloc, solver, vars, assumed),
+        Task::Conflict => ask_conflict(alloc, solver, vars, assumed),
     }
+}
+
+/// What the kept solver answers. Its problem names one term, the sum, which has no parts where none is minimised.
+pub fn answer(alloc: Global, input: &mut Input) -> Found
+    requires plain { (input.old.problem.sums ≡ []) × (input.old.problem.bounds ≡ []) }
+    requires unnamed { (input.old.problem.terms ≡ []) × (input.old.problem.retired ≡ []) }
+{
+    let parts = mem::replace(&mut input.parts, Vec::new(alloc));
+    let Ok(()) = name_sum(alloc, &mut input.problem, parts) else {
+        return Found::Halted;
+    };
+    let Ok(mut solver) = solver_of(alloc, &input.problem) else {
+        return Found::Halted;
+    };
+    ask(alloc, &mut solver, input)
 }

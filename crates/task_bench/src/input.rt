@@ -1,7 +1,7 @@
 //! Reads what is asked.
 ghost use Rattle.std.specs.Prelude.{◌≡◌, [], IfOk, OnOk};
 
-use ground_core::{Memory, Problem};
+use ground_core::{Memory, Part, Problem};
 use lit_core::{Lit, Var};
 use problem_fixtures::{problem_of, say};
 use std::alloc::Global;
@@ -11,16 +11,18 @@ use std::alloc::Global;
 pub enum Task {
     Forced,
     Several,
+    Least,
     Conflict,
 }
 
 /// What the numbers that come next are.
 #[derive(Clone, Copy)]
-enum Part {
+enum Section {
     Clauses,
     Assumed,
     Asked,
     Most,
+    Weighted,
 }
 
 /// A problem, and what is asked of it.
@@ -31,9 +33,12 @@ pub struct Input {
     pub asked: Vec<Lit>,
     /// How many models are asked for.
     pub most: u32,
+    /// What the sum that is minimised counts.
+    pub parts: Vec<Part>,
     pub task: Task,
     clause: Vec<Lit>,
-    part: Part,
+    weight: Option<i64>,
+    section: Section,
 }
 
 /// The literal that the number other than 0 is.
@@ -60,6 +65,20 @@ fn take_of_clause(alloc: Global, input: &mut Input, number: i64) -> Result<(), M
     Ok(())
 }
 
+/// Takes a weight, or the literal that has the weight before it.
+fn take_weighted(input: &mut Input, number: i64) -> Result<(), Memory>
+    ensures { input.new.problem ≡ input.old.problem }
+{
+    let Some(weight) = input.weight else {
+        input.weight = Some(number);
+        return Ok(());
+    };
+    input.weight = None;
+    let lit = lit_of(number);
+    input.parts.push(Part { lit, weight })?;
+    Ok(())
+}
+
 /// Takes a number.
 fn take_number(alloc: Global, input: &mut Input, number: i64) -> Result<(), Memory>
     ensures sums { input.new.problem.sums ≡ input.old.problem.sums }
@@ -67,11 +86,12 @@ fn take_number(alloc: Global, input: &mut Input, number: i64) -> Result<(), Memo
     ensures terms { input.new.problem.terms ≡ input.old.problem.terms }
     ensures retired { input.new.problem.retired ≡ input.old.problem.retired }
 {
-    match input.part {
-        Part::Clauses => take_of_clause(alloc, input, number),
-        Part::Assumed => Ok(input.assumed.push(lit_of(number))?),
-        Part::Asked => Ok(input.asked.push(lit_of(number))?),
-        Part::Most => {
+    match input.section {
+        Section::Clauses => take_of_clause(alloc, input, number),
+        Section::Assumed => Ok(input.assumed.push(lit_of(number))?),
+        Section::Asked => Ok(input.asked.push(lit_of(number))?),
+        Section::Weighted => take_weighted(input, number),
+        Section::Most => {
             input.most = u32::try_from(number).unwrap_or(0);
             Ok(())
         }
@@ -89,15 +109,19 @@ fn take(alloc: Global, input: &mut Input, word: &str) -> Result<(), Memory>
         return take_number(alloc, input, number);
     }
     match word {
-        "clauses" => input.part = Part::Clauses,
-        "assume" => input.part = Part::Assumed,
+        "clauses" => input.section = Section::Clauses,
+        "assume" => input.section = Section::Assumed,
         "ask" => {
             input.task = Task::Forced;
-            input.part = Part::Asked;
+            input.section = Section::Asked;
         }
         "several" => {
             input.task = Task::Several;
-            input.part = Part::Most;
+            input.section = Section::Most;
+        }
+        "minimize" => {
+            input.task = Task::Least;
+            input.section = Section::Weighted;
         }
         _ => input.task = Task::Conflict,
     }
@@ -105,7 +129,8 @@ fn take(alloc: Global, input: &mut Input, word: &str) -> Result<(), Memory>
 }
 
 /// What the text asks: first the number of variables, and then `clauses` with clauses that 0 ends,
-/// `assume` with literals, and `ask` with literals, `several` with a number, or `conflict`.
+/// `assume` with literals, and `ask` with literals, `several` with a number, `minimize` with weights, each before its
+/// literal, or `conflict`.
 pub fn read(alloc: Global, text: &str) -> Result<Input, Memory>
     ensures plain { IfOk result (λ input. (input.problem.sums ≡ []) × (input.problem.bounds ≡ [])) }
     ensures unnamed { IfOk result (λ input. (input.problem.terms ≡ []) × (input.problem.retired ≡ [])) }
@@ -117,9 +142,11 @@ pub fn read(alloc: Global, text: &str) -> Result<Input, Memory>
         assumed: Vec::new(alloc),
         asked: Vec::new(alloc),
         most: 0,
+        parts: Vec::new(alloc),
         task: Task::Conflict,
         clause: Vec::new(alloc),
-        part: Part::Clauses,
+        weight: None,
+        section: Section::Clauses,
     };
     for word in rest.split_whitespace() {
         take(alloc, &mut input, word)?;
