@@ -6,6 +6,8 @@ mod fixtures;
 #[cfg(test)]
 mod forcing;
 #[cfg(test)]
+mod minima;
+#[cfg(test)]
 mod models;
 #[cfg(test)]
 mod reasons;
