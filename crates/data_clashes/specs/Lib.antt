@@ -1,1 +1,4 @@
 pub mod Tables
+pub mod Opposing
+pub mod RunViews
+pub mod SinglesViews

@@ -53,7 +53,7 @@ pub fn same_value_of(a: Option<Element<'_>>, b: Option<Element<'_>>) -> bool
 }
 
 /// At shared arguments, the same atom both ways or two values.
-fn are_opposed(a: bool, b: bool, same: bool) -> bool
+pub fn are_opposed(a: bool, b: bool, same: bool) -> bool
     ensures { result ≡ stated.are_opposed a b same }
 {
     if a {

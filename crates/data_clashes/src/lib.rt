@@ -5,4 +5,6 @@ pub mod clashes;
 pub mod facts;
 pub mod keys;
 pub mod notes;
+pub mod runs;
+pub mod singles;
 pub mod tables;

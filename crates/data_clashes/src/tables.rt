@@ -107,7 +107,7 @@ impl<'a> Table<'a> {
     }
 
     /// From now on the symbol's facts are compared one by one.
-    fn widen(&mut self, symbol: usize) -> Result<(), Memory>
+    pub fn widen(&mut self, symbol: usize) -> Result<(), Memory>
         ensures kept { OnOk result ((f : stated.Fact) → IsKept self.old f → IsKept self.new f) }
         ensures wide { OnOk result (IsTrue (is_wide self.new.wide.keys symbol)) }
     {

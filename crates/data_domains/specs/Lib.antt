@@ -1,3 +1,4 @@
 pub mod Traits
 pub mod TypeSets
 pub mod Lookups
+pub mod Positions

@@ -1,15 +1,17 @@
 //! The cells of types.
-ghost use Rattle.std.specs.Prelude.{◌≡◌, ◌++◌, ◌∷◌, [], filter, map, IfOk, OnOk};
-ghost use Rattle.std.specs.List.{filter_map, flat_map};
+ghost use Rattle.std.specs.Prelude.{◌≡◌, ◌++◌, ◌∷◌, ◌==◌, [], filter, map, IfOk, OnOk};
+ghost use Rattle.std.specs.List.{filter_map, flat_map, list_any};
 ghost use Rattle.reading_stages.specs.DataEntries as said;
 ghost use Rattle.reading_stages.specs.DataDomains as domain;
-ghost use Rattle.data_entries.specs.EntryViews.{cell_view, spot_view};
+ghost use Rattle.data_entries.specs.EntryViews.{cell_view, spot_view, subject_view};
 ghost use Rattle.data_entries.specs.SaidViews.{said_view};
+ghost use Rattle.data_domains.specs.Positions.{has_position};
 
 use crate::kinds::parent_of;
 use crate::traits::{Traits, is_list_of};
 use data_entries::elements::{Cell, Element};
 use data_entries::spots::Spot;
+use data_entries::subjects::Subject;
 use data_entries::written::Entry;
 use kb_logic::{Memory, TypeDecl};
 use std::alloc::Global;
@@ -48,6 +50,16 @@ fn add_listed<'a>(ty: usize, entries: &[Entry<'a>], cells: &mut Vec<Cell<'a>>) -
     Ok(())
 }
 
+/// Whether it is the type with this number.
+fn is_this(ty: usize, at: Option<usize>) -> bool
+    ensures { result ≡ domain.is_this ty at }
+{
+    match at {
+        Some(at) => at == ty,
+        None => false,
+    }
+}
+
 /// Whether what is written here occurs at a position of the type.
 fn occurs_at(types: &[TypeDecl], ty: usize, spot: &Spot<'_>) -> bool
     ensures { result ≡ domain.occurs_at types.now ty (spot_view spot.now) }
@@ -57,9 +69,40 @@ fn occurs_at(types: &[TypeDecl], ty: usize, spot: &Spot<'_>) -> bool
     } else {
         Some(spot.ty)
     };
-    match at {
-        Some(at) => at == ty,
+    is_this(ty, at)
+}
+
+fn is_a_value_of(ty: usize, value: Option<u32>) -> bool
+    ensures { result ≡ domain.is_this ty value }
+{
+    match value {
+        Some(at) => at as usize == ty,
         None => false,
+    }
+}
+
+fn is_an_argument_of(ty: usize, args: &[u32]) -> bool
+    ensures { result ≡ list_any (λ u. u == ty) args.now }
+{
+    for at in args {
+        if *at as usize == ty {
+            return true;
+        }
+    }
+    false
+}
+
+/// Whether the rows of what a word names have a position of the type: where they have none, the rows are not looked at.
+fn has_position(types: &[TypeDecl], ty: usize, subject: Subject<'_>) -> bool
+    ensures { result ≡ has_position types.now ty (subject_view subject.entry) }
+{
+    match subject {
+        Subject::Nothing => false,
+        Subject::OfElement => false,
+        Subject::OfType(own, _) => is_this(ty, parent_of(types, own)),
+        Subject::OfSymbol(_, symbol) => {
+            is_an_argument_of(ty, symbol.args.as_slice()) || is_a_value_of(ty, symbol.value)
+        }
     }
 }
 
@@ -72,6 +115,9 @@ fn add_occurring<'a>(
 ) -> Result<(), Memory>
     ensures { OnOk result (map cell_view cells.new.items ≡ map cell_view cells.old.items ++ filter_map (λ s. s.cell) (filter (domain.occurs_at types.now ty) (said.spots_of (said_view entry.now)))) }
 {
+    if !has_position(types, ty, entry.subject) {
+        return Ok(());
+    }
     for spot in &entry.spots {
         if occurs_at(types, ty, spot) {
             if let Some(cell) = spot.cell {

@@ -1,11 +1,13 @@
 -- Sets of elements in memory.
-use Rattle.std.specs.Prelude.{◌≡◌, ℕ, List, map, length}
+use Rattle.std.specs.Prelude.{◌≡◌, ℤ, List, map, length}
 use Rattle.std.specs.List.{list_any}
 use Rattle.std.specs.Str.{bytes_eq}
+use Rattle.kb_logic.specs.declared.elements.Elem.TheVariants.{Num}
 use Rattle.kb_logic.specs.Bounds.{Interval as AnInterval}
 use Rattle.reading_stages.specs.Scopes.{Text}
-use Rattle.reading_stages.specs.Elements.{Cell, as_interval, intervals_of, words_of}
+use Rattle.reading_stages.specs.Elements.{Cell, as_interval, is_among, words_of}
 use Rattle.data_entries.specs.WholeViews.{whole_view}
+use Rattle.element_sets.specs.Runs.{is_inside, AreApart}
 use Rattle.element_sets.specs.declared.intervals.Interval.{Interval}
 use Rattle.element_sets.specs.declared.sets.ElementSet.{ElementSet}
 
@@ -21,7 +23,12 @@ pub record AreSameWords (xs ys : List Text) : Type 0 where
 abbrev pub words_in : ElementSet → List Text
 words_in s = map (λ w. w.now) s.words.keys
 
--- the set has the elements of these cells, and no others
+-- the intervals in memory
+abbrev pub runs_in : ElementSet → List AnInterval
+runs_in s = map interval_view s.intervals.items
+
+-- the set has the elements of these cells, and no others; its intervals are apart
 pub record IsSetOf (cells : List Cell) (s : ElementSet) : Type 0 where
   pub words : AreSameWords (words_in s) (words_of cells)
-  pub intervals : map interval_view s.intervals.items ≡ intervals_of cells
+  pub integers : (z : ℤ) → is_inside (runs_in s) z ≡ is_among cells (Num z)
+  pub apart : AreApart (runs_in s)

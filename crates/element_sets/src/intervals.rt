@@ -1,13 +1,11 @@
-//! Integers as intervals of which no two meet.
-ghost use Rattle.std.specs.Prelude.{◌≡◌, ◌==◌, ◌≤ℤ◌, pos, negsuc, map, IfOk};
+//! Integers as intervals.
+ghost use Rattle.std.specs.Prelude.{◌≡◌, ◌==◌, ◌&&◌, ◌≤ℤ◌, ◌+ℤ◌, pos, negsuc, not, int_lt};
 ghost use Rattle.std.specs.Int.{int_max, int_min};
 ghost use Rattle.reading_stages.specs.Elements as set;
 ghost use Rattle.data_entries.specs.WholeViews.{whole_view};
 ghost use Rattle.element_sets.specs.Sets.{interval_view};
 
 use data_entries::wholes::Whole;
-use kb_logic::Memory;
-use std::alloc::Global;
 
 /// The integers from the first to the second; there are none where the first is the greater.
 #[derive(Clone, Copy)]
@@ -57,7 +55,7 @@ impl Interval {
     }
 
     /// The interval from the least to the greatest of both.
-    fn joined(self, other: Interval) -> Interval
+    pub fn joined(self, other: Interval) -> Interval
         ensures { interval_view result ≡ set.joined (interval_view self) (interval_view other) }
     {
         Interval {
@@ -72,25 +70,18 @@ impl Interval {
     {
         self.common(other).size() > 0
     }
-}
 
-/// One more interval among some that do not meet: it takes in those that it meets.
-pub fn with_interval(
-    alloc: Global,
-    added: Interval,
-    old: &[Interval],
-) -> Result<Vec<Interval>, Memory>
-    ensures { IfOk result (λ is. map interval_view is.items ≡ set.with_interval (interval_view added) (map interval_view old.now)) }
-{
-    let mut taken = added;
-    let mut kept = Vec::with_capacity(alloc, old.len())?;
-    for one in old {
-        if taken.meets(*one) {
-            taken = taken.joined(*one);
-        } else {
-            kept.push(*one)?;
-        }
+    /// Whether no integer stands between this interval and a later one.
+    pub fn reaches(self, later: Interval) -> bool
+        ensures { result ≡ not (int_lt ((interval_view self).high +ℤ pos 1) (interval_view later).low) }
+    {
+        !(self.high.value() + 1 < later.low.value())
     }
-    kept.push(taken)?;
-    Ok(kept)
+
+    /// Whether the other one lies in this one, its ends included.
+    pub fn includes(self, other: Interval) -> bool
+        ensures { result ≡ (not (int_lt (interval_view other).low (interval_view self).low) && not (int_lt (interval_view self).high (interval_view other).high)) }
+    {
+        !other.low.is_below(self.low) && !self.high.is_below(other.high)
+    }
 }

@@ -3,4 +3,5 @@
 
 pub mod intervals;
 pub mod listings;
+pub mod runs;
 pub mod sets;

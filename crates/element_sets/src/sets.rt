@@ -1,5 +1,5 @@
 //! Sets of elements.
-ghost use Rattle.std.specs.Prelude.{◌≡◌, ◌==◌, ◌≤ℤ◌, List, fold, map, sum_by, IfOk, OnOk};
+ghost use Rattle.std.specs.Prelude.{◌≡◌, ◌||◌, ◌≤ℤ◌, ℤ, false, List, fold, map, sum_by, IfOk, OnOk};
 ghost use Rattle.std.specs.List.{list_any};
 ghost use Rattle.kb_logic.specs.declared.elements.Elem.TheVariants as elem;
 ghost use Rattle.reading_stages.specs.Scopes.{Text};
@@ -7,16 +7,18 @@ ghost use Rattle.reading_stages.specs.Elements as set;
 ghost use Rattle.reading_stages.specs.SizesStage.{capped};
 ghost use Rattle.data_entries.specs.WholeViews.{whole_view};
 ghost use Rattle.data_entries.specs.EntryViews.{cell_view, elem_view};
-ghost use Rattle.element_sets.specs.Sets.{interval_view, words_in, AreSameWords, IsSetOf};
+ghost use Rattle.element_sets.specs.Runs.{is_hollow, is_inside};
+ghost use Rattle.element_sets.specs.Sets.{interval_view, AreSameWords, IsSetOf};
 
-use crate::intervals::{Interval, with_interval};
+use crate::intervals::Interval;
+use crate::runs::{merged, reaching};
 use data_entries::elements::{Cell, Element};
 use data_entries::wholes::Whole;
 use indexmap::IndexSet;
 use kb_logic::Memory;
 use std::alloc::Global;
 
-/// Some words, and some integers in intervals of which no two meet.
+/// Some words, and some integers in intervals that rise, with a gap before each next one.
 #[derive(Drop)]
 pub struct ElementSet<'a> {
     pub words: IndexSet<&'a [u8]>,
@@ -34,59 +36,66 @@ fn capped_size(interval: Interval) -> u64
     }
 }
 
+fn add_word<'a>(words: &mut IndexSet<&'a [u8]>, word: &'a [u8]) -> Result<(), Memory>
+    ensures { OnOk result ((ws : List Text) → AreSameWords (map (λ w. w.now) words.old.keys) ws → AreSameWords (map (λ w. w.now) words.new.keys) (set.with_word ws word.now)) }
+{
+    words.insert_full(word)?;
+    Ok(())
+}
+
+/// One more interval, unless it is empty.
+fn add_interval(intervals: &mut Vec<Interval>, interval: Interval) -> Result<(), Memory>
+    ensures hollow { OnOk result (list_any is_hollow (map interval_view intervals.old.items) ≡ false → list_any is_hollow (map interval_view intervals.new.items) ≡ false) }
+    ensures inside { OnOk result ((z : ℤ) → is_inside (map interval_view intervals.new.items) z ≡ (is_inside (map interval_view intervals.old.items) z || set.is_between (interval_view interval).low (interval_view interval).high z)) }
+{
+    if !interval.is_empty() {
+        intervals.push(interval)?;
+    }
+    Ok(())
+}
+
+/// The words and the integers of a cell.
+fn add_cell<'a>(
+    words: &mut IndexSet<&'a [u8]>,
+    intervals: &mut Vec<Interval>,
+    cell: Cell<'a>,
+) -> Result<(), Memory>
+    ensures words { OnOk result ((ws : List Text) → AreSameWords (map (λ w. w.now) words.old.keys) ws → AreSameWords (map (λ w. w.now) words.new.keys) (fold set.with_word ws (set.words_in (cell_view cell.entry)))) }
+    ensures hollow { OnOk result (list_any is_hollow (map interval_view intervals.old.items) ≡ false → list_any is_hollow (map interval_view intervals.new.items) ≡ false) }
+    ensures inside { OnOk result ((z : ℤ) → is_inside (map interval_view intervals.new.items) z ≡ (is_inside (map interval_view intervals.old.items) z || set.is_in (elem.Num z) (cell_view cell.entry))) }
+{
+    match cell {
+        Cell::One(x) => match x {
+            Element::Word(word) => add_word(words, word),
+            Element::Number(n) => add_interval(intervals, Interval { low: n, high: n }),
+        },
+        Cell::Span(low, high) => add_interval(intervals, Interval { low, high }),
+    }
+}
+
 impl<'a> ElementSet<'a> {
     /// The elements of these cells.
     pub fn of(alloc: Global, cells: &[Cell<'a>]) -> Result<ElementSet<'a>, Memory>
         ensures { IfOk result (IsSetOf (map cell_view cells.now)) }
     {
-        let mut elements = ElementSet {
-            words: IndexSet::new(alloc),
-            intervals: Vec::new(alloc),
-        };
+        let mut words = IndexSet::new(alloc);
+        let mut intervals = Vec::new(alloc);
         for cell in cells {
-            elements.add(alloc, *cell)?;
+            add_cell(&mut words, &mut intervals, *cell)?;
         }
-        Ok(elements)
-    }
-
-    fn add_word(&mut self, word: &'a [u8]) -> Result<(), Memory>
-        ensures words { OnOk result ((ws : List Text) → AreSameWords (words_in self.old) ws → AreSameWords (words_in self.new) (set.with_word ws word.now)) }
-        ensures intervals { self.new.intervals ≡ self.old.intervals }
-    {
-        self.words.insert_full(word)?;
-        Ok(())
-    }
-
-    fn add_interval(&mut self, alloc: Global, interval: Interval) -> Result<(), Memory>
-        ensures words { self.new.words ≡ self.old.words }
-        ensures intervals { OnOk result (map interval_view self.new.intervals.items ≡ set.with_interval (interval_view interval) (map interval_view self.old.intervals.items)) }
-    {
-        self.intervals = with_interval(alloc, interval, &self.intervals)?;
-        Ok(())
-    }
-
-    fn add(&mut self, alloc: Global, cell: Cell<'a>) -> Result<(), Memory>
-        ensures words { OnOk result ((ws : List Text) → AreSameWords (words_in self.old) ws → AreSameWords (words_in self.new) (fold set.with_word ws (set.words_in (cell_view cell.entry)))) }
-        ensures intervals { OnOk result (map interval_view self.new.intervals.items ≡ fold (λ js i. set.with_interval i js) (map interval_view self.old.intervals.items) (set.intervals_in (cell_view cell.entry))) }
-    {
-        match cell {
-            Cell::One(x) => match x {
-                Element::Word(word) => self.add_word(word),
-                Element::Number(n) => self.add_interval(alloc, Interval { low: n, high: n }),
-            },
-            Cell::Span(low, high) => self.add_interval(alloc, Interval { low, high }),
-        }
+        Ok(ElementSet {
+            words,
+            intervals: merged(alloc, intervals)?,
+        })
     }
 
     fn has_number(&self, n: Whole) -> bool
-        ensures { result ≡ list_any (λ i. set.is_between i.low i.high (whole_view n)) (map interval_view self.now.intervals.items) }
+        ensures { (cells : List set.Cell) → IsSetOf cells self.now → result ≡ set.is_among cells (elem.Num (whole_view n)) }
     {
-        for interval in &self.intervals {
-            if !n.is_below(interval.low) && !interval.high.is_below(n) {
-                return true;
-            }
+        match reaching(&self.intervals, n) {
+            Some(interval) => !n.is_below(interval.low),
+            None => false,
         }
-        false
     }
 
     pub fn contains(&self, x: Element<'a>) -> bool
@@ -109,19 +118,17 @@ impl<'a> ElementSet<'a> {
         count
     }
 
-    /// Whether each integer of the interval is in the set.
+    /// Whether each integer of the interval is in the set: all lie in one interval, since there are gaps between these.
     fn covers_interval(&self, wanted: Interval) -> bool
-        ensures { result ≡ (set.size_of (interval_view wanted) == sum_by (λ j. set.size_of (set.common (interval_view wanted) j)) (map interval_view self.now.intervals.items)) }
+        ensures { (cells : List set.Cell) → IsSetOf cells self.now → result ≡ set.is_covered cells (set.span (whole_view wanted.low) (whole_view wanted.high)) }
     {
-        let all = wanted.size();
-        let mut found = 0i128;
-        for interval in &self.intervals {
-            found += wanted.common(*interval).size();
-            if found > all {
-                return false;
-            }
+        if wanted.is_empty() {
+            return true;
         }
-        found == all
+        match reaching(&self.intervals, wanted.low) {
+            Some(interval) => interval.includes(wanted),
+            None => false,
+        }
     }
 
     /// Whether each element of the cell is in the set.
@@ -131,6 +138,29 @@ impl<'a> ElementSet<'a> {
         match cell {
             Cell::One(x) => self.contains(x),
             Cell::Span(low, high) => self.covers_interval(Interval { low, high }),
+        }
+    }
+
+    /// Whether some integer of the interval is in the set.
+    fn meets_interval(&self, wanted: Interval) -> bool
+        ensures { (cells : List set.Cell) → IsSetOf cells self.now → result ≡ list_any (set.do_share (set.span (whole_view wanted.low) (whole_view wanted.high))) cells }
+    {
+        if wanted.is_empty() {
+            return false;
+        }
+        match reaching(&self.intervals, wanted.low) {
+            Some(interval) => !wanted.high.is_below(interval.low),
+            None => false,
+        }
+    }
+
+    /// Whether some element of the cell is in the set.
+    pub fn meets(&self, cell: Cell<'a>) -> bool
+        ensures { (cells : List set.Cell) → IsSetOf cells self.now → result ≡ list_any (set.do_share (cell_view cell.entry)) cells }
+    {
+        match cell {
+            Cell::One(x) => self.contains(x),
+            Cell::Span(low, high) => self.meets_interval(Interval { low, high }),
         }
     }
 }

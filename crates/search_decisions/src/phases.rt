@@ -287,6 +287,17 @@ impl Phases {
         }
     }
 
+    /// Whether the variable was true in fewer than half of the answers. Where it was in half of them the salt decides, so
+    /// that later answers are not all the same but for a few variables, which their exclusions would have to tell apart.
+    fn is_due(&self, var: Var, salt: u64) -> bool
+        ensures due { result ≡ true → times_seen self.now var.0 + times_seen self.now var.0 ≤ self.now.answers }
+        ensures not { result ≡ false → self.now.answers ≤ times_seen self.now var.0 + times_seen self.now var.0 }
+    {
+        let seen = self.times_seen(var);
+        let unseen = self.answers.saturating_sub(seen);
+        seen < unseen || seen == unseen && 0 < seen && mixed(var, salt) % 2 == 0
+    }
+
     /// Whether no open atom of the first choice that has the variable comes before it, or where
     /// there is no choice, whether it was true in fewer than half of the answers.
     ///
@@ -300,13 +311,13 @@ impl Phases {
         salt: u64,
     ) -> bool
         ensures same { KeepsAll self.old self.new }
-        ensures alone { choice_of self.old var.0 ≡ None → (IsTrue result ↔ (times_seen self.old var.0 + times_seen self.old var.0 < self.old.answers)) }
+        ensures alone { choice_of self.old var.0 ≡ None → result ≡ true → times_seen self.old var.0 + times_seen self.old var.0 ≤ self.old.answers }
+        ensures alone_not { choice_of self.old var.0 ≡ None → result ≡ false → self.old.answers ≤ times_seen self.old var.0 + times_seen self.old var.0 }
         ensures choice { IfSome (choice_of self.old var.0) (λ place. IsFoundFor assignment.now place var salt result self.new) }
         ensures least { HasChoice problem.now.clauses self.old var.0 → IsFirstRight problem.now.clauses assignment.now self.old → IsFirstRight problem.now.clauses assignment.now self.new }
     {
         let Some(place) = self.choice_of(var) else {
-            let seen = self.times_seen(var);
-            return seen < self.answers.saturating_sub(seen);
+            return self.is_due(var, salt);
         };
         let first = self.first_at(problem, assignment, place, var, salt);
         self.first = Some(First {

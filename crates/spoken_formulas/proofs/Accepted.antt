@@ -38,6 +38,7 @@ use Rattle.spoken_formulas.specs.Spoken.{IsSpokenTerm, IsSpokenFile, AcceptedAre
 use Rattle.spoken_formulas.specs.Spoken.{names_in, AcceptedAreReadAgain}
 use Rattle.spoken_formulas.proofs.WordMeanings.{IsCalledAt, found, words_called, called_at, type_again}
 use Rattle.spoken_formulas.proofs.Trees.{formula_good, term_good}
+use Rattle.spoken_formulas.proofs.OneText.{same_formula}
 
 -- ---- the blocks of each kind
 
@@ -185,7 +186,11 @@ accepted_are_spoken bytes blocks typed a =
 -- ---- what is printed of it
 
 read_again : (v : Vocabulary) (names : Names) (f : FormulaTree) → IsSpoken v names f → IsReadAgain v names f
-read_again v names f h = record { back = formulas_are_read_back v names f h; deep = depth_alone_is_refused v names f h }
+read_again v names f h = record {
+  back = formulas_are_read_back v names f h;
+  alone = same_formula v names f h;
+  deep = depth_alone_is_refused v names f h;
+}
 
 pub accepted_are_read_again : AcceptedAreReadAgain
 accepted_are_read_again bytes blocks typed a =

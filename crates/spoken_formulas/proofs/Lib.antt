@@ -2,4 +2,5 @@ mod WordMeanings
 mod Spoken
 mod Named
 mod Trees
+mod OneText
 pub mod Accepted

@@ -39,10 +39,13 @@ AcceptedAreSpoken =
     (bytes : List ℕ) (blocks : List Block) (typed : TypedFile) → IsAccepted bytes blocks typed
     → IsSpokenFile (names_in blocks) typed
 
--- The formula's text is read back as the formula, and is the text of no other tree, where no token lies too deep; and
--- where one does, the first such token is refused, and nothing else.
+-- Where no token of the formula's text lies too deep, it is read back as the formula, and is the text of no other tree
+-- of the grammar and of no other formula that is spoken; and where one does, the first such token is refused, and
+-- nothing else.
 pub record IsReadAgain (v : Vocabulary) (names : Names) (f : FormulaTree) : Type 0 where
   pub back : AreShallow outermost (lexemes_at 0 (formula_parts v f)) → IsFormulaReadBack v names f
+  pub alone : AreShallow outermost (lexemes_at 0 (formula_parts v f)) → (g : FormulaTree) → IsSpoken v names g
+      → formula_text v [] g ≡ formula_text v [] f → g ≡ f
   pub deep : TokensFrom outermost 0 (formula_text v [] f) (outcome_at outermost 0 (formula_parts v f))
 
 -- so it is with each sentence of each theory

@@ -225,3 +225,22 @@ listed_are_counted cells =
     sym (length-from_same_keys same_equivalence (listed cells) (in_kinds cells) (distinct (listed cells) (all_once [] (flat_map members cells) tt)) (distinct (in_kinds cells) (kinds_once cells))
     (λ q. sym (listed_are_among cells q) ∙ in_kinds_too cells q)
     ∙ length-in_kinds cells)
+
+-- ---- the same integers in other intervals
+
+all_length : (ks : List Interval) → length (flat_map integers_in ks) ≡ sum_by size_of ks
+all_length ks = length-flat_map integers_in ks ∙ sizes_sum ks
+
+alike : (js ks : List Interval) → ((z : ℤ) → list_any (lies_in z) js ≡ list_any (lies_in z) ks) → (q : Elem)
+    → list_any (same_element q) (flat_map integers_in js) ≡ list_any (same_element q) (flat_map integers_in ks)
+alike js ks same (Named n) = no_words n js ∙ sym (no_words n ks)
+alike js ks same (Num z) = in_some z js ∙ same z ∙ sym (in_some z ks)
+
+-- intervals of which no two meet have as many integers as others with the same ones
+pub same_sizes : (js ks : List Interval) → KeptApart js → KeptApart ks → ((z : ℤ) → list_any (lies_in z) js ≡ list_any (lies_in z) ks) → sum_by size_of js ≡ sum_by size_of ks
+same_sizes js ks d e same =
+    sym (all_length js)
+    ∙ length-from_same_keys same_equivalence (flat_map integers_in js) (flat_map integers_in ks)
+    (distinct (flat_map integers_in js) (all_integers_once js d)) (distinct (flat_map integers_in ks) (all_integers_once ks e))
+    (alike js ks same)
+    ∙ all_length ks

@@ -39,7 +39,7 @@ is_listed z a (suc k) h l = elim (cases_Bool (same_element (Num z) (Num a))) [
     further : (y c : ℤ) → (y ≡ c → ⊥) → c ≤ℤ y → (c +ℤ pos 1) ≤ℤ y
     further y c ne below = by_lt_z y (c +ℤ pos 1) (λ l. absurd (ne (omega (arith, ints, below, l)))) (λ g. g)
 
-one_more_is : (y : ℤ) → pos 0 ≤ℤ y → pos (one_more y) ≡ (y +ℤ pos 1)
+pub one_more_is : (y : ℤ) → pos 0 ≤ℤ y → pos (one_more y) ≡ (y +ℤ pos 1)
 one_more_is (pos n) h = omega (arith, ints)
 one_more_is (negsuc n) h = absurd (omega (arith, ints, h))
 

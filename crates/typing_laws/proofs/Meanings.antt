@@ -56,7 +56,8 @@ IsMeaning types symbols k (variable level) = level < k
 abbrev pub IsRest : {X : Type 0} → List X → ℕ → List X → Type 0
 IsRest {X} whole n xs = (i : ℕ) (x : X) → slice_get xs i ≡ Some x → slice_get whole (n + i) ≡ Some x
 
-pub rest_head : {X : Type 0} (whole : List X) (n : ℕ) (x : X) (xs : List X) → IsRest whole n (x ∷ xs) → slice_get whole n
+pub rest_head : {X : Type 0} (whole : List X) (n : ℕ) (x : X) (xs : List X) → IsRest whole n (x ∷ xs)
+    → slice_get whole n
     ≡ Some x
 rest_head whole n x xs h = let same : n + 0 ≡ n = omega arith in
     subst (λ (k : ℕ). slice_get whole k ≡ Some x) same (h 0 x refl)

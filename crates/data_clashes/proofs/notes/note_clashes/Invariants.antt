@@ -4,6 +4,7 @@ use Rattle.reading_stages.specs.DataEntries.{Said}
 use Rattle.reading_stages.specs.DataFacts.{Fact}
 use Rattle.reading_stages.specs.DataStage as stage
 use Rattle.data_entries.specs.EntryViews.{fact_view}
+use Rattle.data_clashes.specs.SinglesViews.{AreSinglesOf}
 use Rattle.data_clashes.specs.Tables.{IsKept}
 use Rattle.data_clashes.proofs.notes.note_clashes.Given as goal
 
@@ -13,4 +14,5 @@ invariant-loop-i l = record {
       → fold (stage.data_noted all es) l.earliest.first (stage.uses_of_facts (map fact_view (take l.i l.facts)) (map fact_view (drop l.i l.facts)))
       ≡ fold (stage.data_noted all es) l.fn.earliest.first (stage.uses_of_facts [] (map fact_view l.facts));
   kept : (f : Fact) → Contains (map fact_view (take l.i l.facts)) f → IsKept l.table f;
+  singles : AreSinglesOf (map fact_view (take l.i l.facts)) l.singles;
 }

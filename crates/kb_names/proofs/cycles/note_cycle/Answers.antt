@@ -1,8 +1,7 @@
-use Rattle.std.proofs.Common.{◌≡◌, Bool, true, false, Option, None, Some, if◌then◌else◌, refl, sym}
+use Rattle.std.proofs.Common.{◌≡◌, ◌∙◌, ℕ, Bool, true, false, Option, None, Some, refl, sym, ap}
 use Rattle.kb_text.specs.declared.fault.KbFault.{KbFault}
 use Rattle.kb_text.specs.declared.fault.K.{K}
 use Rattle.kb_text.specs.declared.fault.K.TheVariants as k
-use Rattle.kb_text.specs.declared.fault.K.TheVariants.{Redeclared}
 use Rattle.reading_stages.specs.Earliest.{refusal, comes_first, noted_if}
 use Rattle.kb_names.proofs.cycles.note_cycle.Goals as goal
 
@@ -10,8 +9,13 @@ use Rattle.kb_names.proofs.cycles.note_cycle.Goals as goal
 same_first : (b : Bool) (cause : K) (place : ℕ) (first : Option KbFault) → comes_first first (refusal cause place) ≡ false
     → first ≡ noted_if b cause place first
 same_first false cause place first e = refl
-same_first true cause place None e = absurd e
+same_first true cause place None e = absurd (cc)
 same_first true cause place (Some f) e = rw e refl
 
-pub returns : goal.returns
-returns c = c
+pub returns-then-would_be_first : goal.returns-then-would_be_first
+returns-then-would_be_first c =
+    c.note_if.ensures ∙ ap (λ (b : Bool). noted_if b k.Redeclared c.args.place c.args.earliest.now.first) c.comes_back-begins.ensures
+
+pub returns-else-would_be_first : goal.returns-else-would_be_first
+returns-else-would_be_first c =
+    same_first _ k.Redeclared c.args.place c.args.earliest.now.first (sym c.would_be_first.ensures ∙ c.if-would_be_first.false)

@@ -1,9 +1,5 @@
-use Rattle.std.proofs.Common.{◌∙◌, refl, sym, ap, List, ℕ, Bor}
-use Rattle.std.specs.List.{list_any}
+use Rattle.std.proofs.Common.{◌∙◌, refl, sym, Bor, List, ℕ}
 use Rattle.std.specs.Str.{bytes_eq}
-use Rattle.data_entries.specs.WholeViews.{whole_view}
-use Rattle.structure_laws.proofs.Covering.{lies_in}
-use Rattle.structure_laws.proofs.Covered.{among_apart}
 use Rattle.element_sets.proofs.Keys.{list_any-map}
 use Rattle.element_sets.proofs.WordSets.{words_among}
 use Rattle.element_sets.proofs.sets.ElementSet.contains.Goals as goal
@@ -16,6 +12,4 @@ returns-in-Word c = λ cells s.
     ∙ s.words.among w ∙ words_among w cells)
 
 pub returns-in-Number : goal.returns-in-Number
-returns-in-Number c = λ cells s.
-    let z = whole_view c.in-Number.n in
-    rw c.in-Number.is (c.has_number.ensures ∙ ap (list_any (lies_in z)) s.intervals ∙ sym (among_apart z cells))
+returns-in-Number c = λ cells s. rw c.in-Number.is (c.has_number.ensures cells s)

@@ -1,9 +1,10 @@
-use Rattle.std.proofs.Common.{◌≡◌, ◌≤◌, ◌+◌, ◌∙◌, drop, length, map, ap, arith}
+use Rattle.std.proofs.Common.{◌≡◌, ◌≤◌, ◌+◌, drop, length, map, ap, arith}
 use Rattle.std.specs.List.{sum_by}
 use Rattle.std.proofs.lemmas.List.{drop_all}
-use Rattle.reading_stages.specs.Elements.{count_of, intervals_of, size_of, words_of}
+use Rattle.reading_stages.specs.Elements.{intervals_of, size_of, words_of}
 use Rattle.reading_stages.specs.SizesStage.{capped}
-use Rattle.element_sets.specs.Sets.{interval_view, words_in}
+use Rattle.element_sets.specs.Sets.{interval_view, runs_in, words_in}
+use Rattle.element_sets.proofs.CellRuns.{sizes_alike}
 use Rattle.element_sets.proofs.sets.ElementSet.count.Goals as goal
 
 pub returns : goal.returns
@@ -13,7 +14,7 @@ returns c = λ cells s.
     let past : length is ≤ i = rw (← c.deref-interval-items.ensures.value) c.loop-interval-test.false in
     let rest : sum_by size_of (map interval_view (drop i is)) ≡ 0 = ap (λ xs. sum_by size_of (map interval_view xs)) (drop_all i is past) in
     let words : length (words_in c.args.self.now) ≡ length (words_of cells) = s.words.count in
-    let areas : sum_by size_of (map interval_view is) ≡ sum_by size_of (intervals_of cells) = ap (sum_by size_of) s.intervals in
+    let areas : sum_by size_of (runs_in c.args.self.now) ≡ sum_by size_of (intervals_of cells) = sizes_alike cells (runs_in c.args.self.now) s.apart.start s.integers s.apart.from in
     let small = c.loop-interval.invariant.small in
-    let sum : capped (c.loop-interval.count + sum_by size_of (map interval_view (drop i is))) ≡ capped (length (words_in c.args.self.now) + sum_by size_of (map interval_view is)) = c.loop-interval.invariant.sum in
+    let sum : capped (c.loop-interval.count + sum_by size_of (map interval_view (drop i is))) ≡ capped (length (words_in c.args.self.now) + sum_by size_of (runs_in c.args.self.now)) = c.loop-interval.invariant.sum in
     omega (arith, rest, words, areas, small, sum)

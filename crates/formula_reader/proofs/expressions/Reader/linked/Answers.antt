@@ -19,6 +19,6 @@ returns-in_default-clause-reads g c = rw (c.in_ok-lone.ensures, c.into_inner.ens
 pub returns-in_default-clause-kind : goal.returns-in_default-clause-kind
 returns-in_default-clause-kind g c = rw (c.in_ok-lone.ensures, c.into_inner.ensures) c.in_ok-or.ensures.kind
 
-pub returns-in-Some-clause-reads : goal.returns-in-Some-clause-reads
-returns-in-Some-clause-reads g c = λ first.
+pub returns-clause-reads : goal.returns-clause-reads
+returns-clause-reads g c = λ first.
     c.chained.ensures.reads _ (at_arrow _ _ _ _ _ (c.in_ok-or.ensures.reads first) c.in-Some.ensures.closed c.in-Some.ensures.some)
