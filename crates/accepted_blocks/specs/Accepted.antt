@@ -21,7 +21,8 @@ AcceptedAreListed =
     → AllByRecursion IsDistinct k.domains → IsConsistent k × IsListed k
 
 -- s is a structure of an accepted file with a vocabulary, and the stage of data accepts it and returns k
-pub record IsAcceptedData (bytes : List ℕ) (blocks : List Block) (typed : TypedFile) (s : Structure) (k : KnownAtoms) : Type 0 where
+pub record IsAcceptedData (bytes : List ℕ) (blocks : List Block) (typed : TypedFile) (s : Structure)
+    (k : KnownAtoms) : Type 0 where
   pub file : IsAccepted bytes blocks typed
   pub vocabulary : filter_map as_vocabulary blocks ≢ []
   pub structure : Contains (filter_map as_structure blocks) s

@@ -23,7 +23,8 @@ theories_many f named typed is types =
     ap (λ (t : TypedFile). length t.theories) types.tree ∙ (length-map named.theories _
     ∙ (ap (λ (n : NamedFile). length n.theories) is.tree ∙ length-map f.theories _))
 
-pub read_map : {A B : Type 0} (g : A → B) (xs : List A) (n : ℕ) (x : A) → slice_get xs n ≡ Some x → slice_get (map g xs) n ≡ Some (g x)
+pub read_map : {A B : Type 0} (g : A → B) (xs : List A) (n : ℕ) (x : A) → slice_get xs n ≡ Some x
+    → slice_get (map g xs) n ≡ Some (g x)
 read_map g [] n x e = absurd (cc)
 read_map {A} {B} g (y ∷ xs) zero x e = let f : y ≡ x = cc in ap (λ (z : A). Some (g z)) f
 read_map g (y ∷ xs) (suc n) x e = read_map g xs n x e

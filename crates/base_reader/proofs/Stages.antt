@@ -42,7 +42,8 @@ use Rattle.base_reader.specs.Readings.{AreBlocksOf, FailsWith, HasTypedFile, Nam
 
 -- a law on raw files: what the stages see in one is what they see in its blocks
 abbrev pub FilesAreTheirBlocks : Type 0
-FilesAreTheirBlocks = (blocks : List Block) (len : ℕ) (kb : RawKb) → IsKb blocks len kb → file_in kb ≡ file_of blocks len
+FilesAreTheirBlocks = (blocks : List Block) (len : ℕ) (kb : RawKb) → IsKb blocks len kb
+    → file_in kb ≡ file_of blocks len
 
 -- reading fails
 pub text_fails : (c : Choice) (bytes : List ℕ) (e : KbError) → KbRead bytes (Err e) → FailsWith c bytes e
@@ -55,7 +56,8 @@ module _ (same : FilesAreTheirBlocks) where
       → blocks.FailsWith (file_in kb) c.theory c.structure e → FailsWith c bytes e
   choice_fails c bytes kb Memory read h = tt
   choice_fails c bytes kb (Refused q) read h =
-      let at = subst (λ (f : File). blocks.FailsWith f c.theory c.structure (Refused q)) (same read.0 (length bytes) kb read.2) h in
+      let at = subst (λ (f : File). blocks.FailsWith f c.theory c.structure (Refused q))
+      (same read.0 (length bytes) kb read.2) h in
       refused.blocks read.0 q read.1 at
 
   pub has_blocks : (c : Choice) (bytes : List ℕ) (kb : RawKb) (t s : ℕ) → KbRead bytes (Ok kb)
@@ -75,12 +77,14 @@ names_fail f Memory h = tt
 names_fail f (Refused q) h = inl h
 
 -- the stage of types fails
-pub types_fail : (f : File) (named : NamedFile) (e : KbError) → IsNamed f named → types.FailsWith named e → NamesOrTypes f e
+pub types_fail : (f : File) (named : NamedFile) (e : KbError) → IsNamed f named → types.FailsWith named e
+    → NamesOrTypes f e
 types_fail f named Memory is h = tt
 types_fail f named (Refused q) is h = inr (named, is, h)
 
 -- the stage of data fails
-pub data_fail : (f : TypedFile) (theory : ℕ) (s : raw.Structure) (e : KbError) → DataFailsWith f theory s e → DataOrSizes f theory s e
+pub data_fail : (f : TypedFile) (theory : ℕ) (s : raw.Structure) (e : KbError) → DataFailsWith f theory s e
+    → DataOrSizes f theory s e
 data_fail f theory s Memory h = tt
 data_fail f theory s (Refused q) h = inl h
 
@@ -90,7 +94,8 @@ pub sizes_fail : (f : TypedFile) (theory : ℕ) (s : raw.Structure) (known : Kno
 sizes_fail f theory s known Memory is h = tt
 sizes_fail f theory s known (Refused q) is h = inr (known, is, h)
 
-module _ (same : FilesAreTheirBlocks) (c : Choice) (bytes : List ℕ) (kb : RawKb) (t s : ℕ) (blocks : AreBlocksOf c bytes kb t s) where
+module _ (same : FilesAreTheirBlocks) (c : Choice) (bytes : List ℕ) (kb : RawKb) (t s : ℕ)
+    (blocks : AreBlocksOf c bytes kb t s) where
   at_blocks : file_in kb ≡ file_of blocks.blocks (length bytes)
   at_blocks = same blocks.blocks (length bytes) kb blocks.is
 
@@ -111,7 +116,8 @@ module _ (same : FilesAreTheirBlocks) (c : Choice) (bytes : List ℕ) (kb : RawK
       subst (λ (xs : List raw.Structure). slice_get xs s ≡ Some (structure_view x)) blocks.is.structures
       (read_map structure_view kb.structures s x at)
 
-  has_types : (typed : TypedFile) (x : RawStructure) → HasTypedFile (file_in kb) typed → slice_get kb.structures s ≡ Some x
+  has_types : (typed : TypedFile) (x : RawStructure) → HasTypedFile (file_in kb) typed
+      → slice_get kb.structures s ≡ Some x
       → HasTypes c bytes (record { file = typed; theory = t; structure = structure_view x })
   has_types typed x is at = record {
     blocks = blocks.blocks;
@@ -123,16 +129,20 @@ module _ (same : FilesAreTheirBlocks) (c : Choice) (bytes : List ℕ) (kb : RawK
   }
 
   -- the stage of data or that of sizes refuses the structure
-  pub data_refused : (typed : TypedFile) (x : RawStructure) → HasTypedFile (file_in kb) typed → slice_get kb.structures s ≡ Some x
+  pub data_refused : (typed : TypedFile) (x : RawStructure) → HasTypedFile (file_in kb) typed
+      → slice_get kb.structures s ≡ Some x
       → (e : KbError) → DataOrSizes typed t (structure_view x) e → FailsWith c bytes e
   data_refused typed x is at Memory h = tt
   data_refused typed x is at (Refused q) (inl entries) =
-      refused.entries (record { file = typed; theory = t; structure = structure_view x }) q (has_types typed x is at) entries
+      refused.entries (record { file = typed; theory = t; structure = structure_view x }) q
+      (has_types typed x is at) entries
   data_refused typed x is at (Refused q) (inr sizes) =
-      refused.sizes (record { file = typed; theory = t; structure = structure_view x }) sizes.0 q (has_types typed x is at) sizes.1 sizes.2
+      refused.sizes (record { file = typed; theory = t; structure = structure_view x }) sizes.0 q
+      (has_types typed x is at) sizes.1 sizes.2
 
   -- the file means this
-  pub means : (typed : TypedFile) (x : RawStructure) (known : KnownAtoms) (title : Text) → HasTypedFile (file_in kb) typed
+  pub means : (typed : TypedFile) (x : RawStructure) (known : KnownAtoms) (title : Text)
+      → HasTypedFile (file_in kb) typed
       → slice_get kb.structures s ≡ Some x → IsSizedData typed t (structure_view x) known → title ≡ x.header.name.text
       → FileMeans c bytes (record { file = typed; theory = t; structure = title; known = known })
   means typed x known title is at sized named = record {
@@ -170,7 +180,8 @@ module _ (same : FilesAreTheirBlocks) (c : Choice) (bytes : List ℕ) (kb : RawK
       )
 
   -- what is opened is a knowledge base
-  pub is_opened : AcceptedCanBeGrounded → AcceptedIsBounded → DerivedIsWellFormed → (typed : TypedKb) (x : RawStructure) (known : KnownAtoms) (title : Text)
+  pub is_opened : AcceptedCanBeGrounded → AcceptedIsBounded → DerivedIsWellFormed → (typed : TypedKb) (x : RawStructure)
+      (known : KnownAtoms) (title : Text)
       → HasTypedFile (file_in kb) (typed_view typed) → IsSizedData (typed_view typed) t (structure_view x) known
       → IsKnowledgeBase (opened typed t title known)
   is_opened grounded bounded formed typed x known title is sized = record {

@@ -42,14 +42,16 @@ pub record Meaning : Type 0 where
   pub structure : Text
   pub known : KnownAtoms
 
--- the stages of the text and of blocks accept: the bytes are these blocks, and of them the theory and the structure with
+-- the stages of the text and of blocks accept: the bytes are these blocks, and of them the theory and the structure
+-- with
 -- these numbers are chosen
 pub record HasBlocks (c : Choice) (bytes : List ℕ) (blocks : List Block) (theory structure : ℕ) : Type 0 where
   pub read : KbReads bytes (Ok blocks)
   pub picked : IsPicked (file_of blocks (length bytes)) c.theory c.structure theory structure
 
 -- the stage of names accepts too
-pub record HasNames (c : Choice) (bytes : List ℕ) (blocks : List Block) (theory structure : ℕ) (named : NamedFile) : Type 0 where
+pub record HasNames (c : Choice) (bytes : List ℕ) (blocks : List Block) (theory structure : ℕ)
+    (named : NamedFile) : Type 0 where
   pub has : HasBlocks c bytes blocks theory structure
   pub is : IsNamed (file_of blocks (length bytes)) named
 

@@ -10,4 +10,5 @@ abbrev pub HasOneRefusal : Type 0
 HasOneRefusal = (c : Choice) (bytes : List ℕ) (q r : KbFault) → IsRefused c bytes q → IsRefused c bytes r → q ≡ r
 
 abbrev pub MeansOrIsRefused : Type 0
-MeansOrIsRefused = (c : Choice) (bytes : List ℕ) (m : Meaning) (q : KbFault) → FileMeans c bytes m → IsRefused c bytes q → ⊥
+MeansOrIsRefused = (c : Choice) (bytes : List ℕ) (m : Meaning) (q : KbFault) → FileMeans c bytes m
+    → IsRefused c bytes q → ⊥

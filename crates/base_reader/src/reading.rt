@@ -27,7 +27,8 @@ fn read_blocks(
     theory: Option<&str>,
     structure: Option<&str>,
 ) -> Result<(RawKb, Picked), KbError>
-    ensures ok { IfOk result (λ p. AreBlocksOf (choice theory.entry structure.entry) bytes.now p.0 p.1.theory p.1.structure) }
+    ensures ok { IfOk result
+        (λ p. AreBlocksOf (choice theory.entry structure.entry) bytes.now p.0 p.1.theory p.1.structure) }
     ensures err { IfErr result (FailsWith (choice theory.entry structure.entry) bytes.now) }
 {
     files_are_their_blocks();

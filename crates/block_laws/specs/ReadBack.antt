@@ -50,14 +50,16 @@ pub record IsReadBack (v : Vocabulary) (title : List ℕ) (k : KnownAtoms) : Typ
   pub scanned : IsTokens (block_text v title k) tokens
   pub tree : Structure
   pub spelled : IsFile tokens (structure_block tree ∷ [])
-  pub only : (ts : List Tok) (blocks : List Block) → IsTokens (block_text v title k) ts → IsFile ts blocks → blocks ≡ structure_block tree ∷ []
+  pub only : (ts : List Tok) (blocks : List Block) → IsTokens (block_text v title k) ts → IsFile ts blocks
+      → blocks ≡ structure_block tree ∷ []
   pub name : name_in tree ≡ title
   pub of : of_in tree ≡ v.name
   pub given : (places : List ℕ) → IsGivenBy v places tree k
 
 abbrev pub BlocksAreReadBack : Type 0
 BlocksAreReadBack =
-    (v : Vocabulary) (title : List ℕ) (k : KnownAtoms) → IsWritable v title k → IsConsistent k → IsListed k → IsReadBack v title k
+    (v : Vocabulary) (title : List ℕ) (k : KnownAtoms) → IsWritable v title k → IsConsistent k → IsListed k
+    → IsReadBack v title k
 
 -- no two partial structures over one vocabulary have one text, nor two names
 abbrev pub NoTwoHaveOneText : Type 0

@@ -1,6 +1,6 @@
 -- What is certain of a term or a formula where only some atoms are known: Kleene's strong three-valued logic, under the
 -- elements e that are assigned to the variables in scope, the outermost first.
-use Rattle.std.specs.Prelude.{ℕ, suc, ℤ, pos, List, [], ◌∷◌, ◌++◌, Bool, true, false, ◌&&◌, ◌==◌, if◌then◌else◌, Option, None, Some, option_map, is_some, slice_get}
+use Rattle.std.specs.Prelude.{ℕ, suc, ℤ, pos, List, [], ◌∷◌, ◌++◌, Bool, if◌then◌else◌, Option, None, Some, option_map, slice_get}
 use Rattle.kb_logic.specs.declared.elements.Elem.{Elem}
 use Rattle.kb_logic.specs.declared.syntax.Cmp.{Cmp}
 use Rattle.kb_logic.specs.declared.syntax.Cmp.TheVariants as cmp

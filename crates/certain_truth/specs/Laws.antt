@@ -12,8 +12,7 @@ use Rattle.kb_logic.specs.Structures.{choices, domain_at, IsStructure}
 use Rattle.kb_logic.specs.Domains.{AreDomainsOf}
 use Rattle.kb_logic.specs.Typing.{IsTypedOver, TermIsTypedOver, element_of, sort_of}
 use Rattle.kb_logic.specs.KnownAtoms.{known_of}
-use Rattle.kb_logic.specs.Models.{GroundAtom, AtomHolds}
-use Rattle.partial_structures.specs.KnownAtoms.{KnownAtoms, IsAtomOver, value_at}
+use Rattle.partial_structures.specs.KnownAtoms.{KnownAtoms, IsAtomOver}
 use Rattle.partial_structures.specs.Extension.{ExtendsData, IsStructureOver}
 use Rattle.kb_logic.specs.Bounds.{HasTypes, IsBounded, TermIsBounded}
 use Rattle.certain_truth.specs.Certainty.{truth_if, known_value, certain_truth}

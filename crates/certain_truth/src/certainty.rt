@@ -22,12 +22,12 @@ use crate::totals::{gather, product_more, sum_more, tally};
 use kb_logic::values::{Total, Value, compare, count_value, made_value, number, total_value};
 use kb_logic::{AggKind, Bound, Elem, Formula, Signed, Term};
 use partial_structures::lookups::{atom_truth, given_value, next, start};
-use partial_structures::{Known, Place, Truth};
+use partial_structures::{Known, Partial, Place, Truth};
 use plain_evaluation::environments::{Env, extend, split_in, variable_value};
 use plain_evaluation::totals::start as start_of_total;
 
 #[cycle(certain)]
-pub(crate) fn known<'a>(s: Known<'a>, term: &'a Term, env: &'a Env<'a>) -> Option<Value<'a>>
+fn known<'a>(s: Known<'a>, term: &'a Term, env: &'a Env<'a>) -> Option<Value<'a>>
     requires { ValueFits (known_in s) (term_view term.now) (env_view env.now) }
     ensures { option_map value_view result ≡ known_value (known_in s.entry) (term_view term.now) (env_view env.now) }
 {
@@ -266,10 +266,27 @@ fn aggregate<'a>(
     total
 }
 
-/// What is certain of the formula, whose free variables have the elements of `env`.
-pub(crate) fn certainty<'a>(s: Known<'a>, formula: &'a Formula, env: &'a [Elem]) -> Truth
+/// As `kleene`.
+fn certainty<'a>(s: Known<'a>, formula: &'a Formula, env: &'a [Elem]) -> Truth
     requires { CertaintyFits (known_in s) (formula_view formula.now) env.now }
     ensures { result ≡ certain_truth (known_in s.entry) (formula_view formula.now) env.now }
 {
     certain(s, formula, &Env::Given(env))
+}
+
+/// What is certain of the formula, whose free variables have the elements of `env`.
+pub fn kleene<'a>(s: &'a Partial, f: &'a Formula, env: &'a [Elem]) -> Truth
+    requires { CertaintyFits s.now (formula_view f.now) env.now }
+    ensures { result ≡ certain_truth s.now (formula_view f.now) env.now }
+{
+    certainty(s.lent(), f, env)
+}
+
+/// The value of the term, whose free variables have the elements of `env`, where it is known. It is `Nothing` where the
+/// term is not well typed.
+pub fn known_term<'a>(s: &'a Partial, t: &'a Term, env: &'a Env<'a>) -> Option<Value<'a>>
+    requires { ValueFits s.now (term_view t.now) (env_view env.now) }
+    ensures { option_map value_view result ≡ known_value s.now (term_view t.now) (env_view env.now) }
+{
+    known(s.lent(), t, env)
 }

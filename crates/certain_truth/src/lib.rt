@@ -4,9 +4,8 @@
 
 mod certainty;
 mod connectives;
-mod kleene;
 pub mod laws;
 mod sides;
 mod totals;
 
-pub use kleene::{kleene, known_term};
+pub use certainty::{kleene, known_term};

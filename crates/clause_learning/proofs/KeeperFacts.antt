@@ -1,24 +1,26 @@
 -- Searches with kept cores, within a budget.
-use Rattle.std.proofs.Common.{◌≡◌, ℕ, ◌+◌, ◌-◌, ◌^◌, ◌<◌, ◌≤◌, Bool, true, Option, Some, None, IfSome, List, [], ◌∷◌, ◌++◌, length, take, drop, replicate, refl, sym, ap, ◌∙◌, subst, inl, inr, ◌⊎◌, ⊎_elim, arith, All, Contains}
+use Rattle.std.proofs.Common.{◌≡◌, ℕ, ◌+◌, ◌-◌, ◌^◌, ◌<◌, ◌≤◌, Bool, true, Option, Some, None, IfSome, List, [], ◌∷◌, ◌++◌, length, take, drop, replicate, refl, sym, ap, ◌∙◌, subst, inl, inr, ◌⊎◌, ⊎_elim, arith, All, Contains, slice_get}
 use Rattle.std.proofs.lemmas.Nat.{pow_pos}
 use Rattle.std.proofs.lemmas.List.{take-append-drop, append-nil}
-use Rattle.std.proofs.lemmas.List.Elements.{All-contains, All-weaker}
-use Rattle.std.proofs.lemmas.Option.{same_Some}
+use Rattle.std.proofs.lemmas.List.Elements.{All-append, All-contains, All-nil, All-weaker}
+use Rattle.std.proofs.lemmas.Option.{get_or_from_slice_get, same_Some, slice_get_within}
 use Rattle.lit_core.specs.declared.literals.Lit.{Lit}
 use Rattle.lit_core.specs.Literals.{literal_value}
-use Rattle.ground_core.specs.declared.parts.GroundTerm.{GroundTerm}
 use Rattle.std.specs.Prelude.{Result, Ok, Err, OnOk, OnErr}
 use Rattle.ground_core.specs.declared.solving.Budget.{Budget}
 use Rattle.ground_core.specs.declared.solving.Halt.{Halt}
 use Rattle.ground_core.specs.declared.solving.Verdict.{Verdict}
 use Rattle.ground_core.specs.declared.solving.Verdict.TheVariants.{Sat, Unsat}
-use Rattle.ground_core.specs.Problems.{ProblemState}
-use Rattle.ground_core.specs.Meaning.{Satisfies, RefutesAll}
+use Rattle.kb_logic.specs.declared.elements.ExtInt.{ExtInt}
+use Rattle.ground_core.specs.declared.parts.GroundTerm.{GroundTerm}
+use Rattle.ground_core.specs.Growing.{HasValue, value_of_term}
+use Rattle.ground_core.specs.Problems.{ProblemState, IsProblem}
+use Rattle.ground_core.specs.Meaning.{HasTermsInRange, IsInRange, Satisfies, RefutesAll, term_value, value_of_bound}
 use Rattle.ground_core.specs.Moments.{moment_of}
 use Rattle.ground_core.specs.Solving.{SolveState, Answers, Spends, IsPrefix, IsBudgetOf, IsSublist, HasCoreWithin, KeepsCores}
 use Rattle.ground_core.proofs.CoreFacts.{within-trans, sublist-within}
 use Rattle.search_engine.specs.Joining.{joined_problem, CanJoin}
-use Rattle.search_engine.proofs.Joined.{joined-first}
+use Rattle.search_engine.proofs.Joined.{joined-first, joined-second}
 use Rattle.search_engine.specs.declared.engine.Engine.{Engine}
 use Rattle.search_engine.specs.Resting.{IsResting, Grows}
 use Rattle.clause_learning.specs.declared.keeper.Keeper.{Keeper}
@@ -83,12 +85,15 @@ pub none-within : (cores : List (List Lit)) (core lits : List Lit) → IsSublist
 none-within cores core lits sub none w = none (w.0, w.1, w.2, w.3, within-trans w.1 core lits w.4 (sublist-within core lits sub))
 
 -- where another problem is joined
-module _ (p q : ProblemState) (sums : p.sums ≡ []) (bounds : p.bounds ≡ []) (more-sums : q.sums ≡ []) (more-bounds : q.bounds ≡ []) (can : CanJoin p q) where
-  pub joined-terms : p.terms ≡ [] → q.terms ≡ [] → p.terms ++ q.terms ≡ []
-  joined-terms a b = ap (λ (ts : List GroundTerm). ts ++ q.terms) a ∙ b
+module _ (p q : ProblemState) (fine : IsProblem p) (more-bounds : q.bounds ≡ []) (can : CanJoin p q) where
+  pub joined-terms : HasTermsInRange p → HasTermsInRange q → HasTermsInRange (joined_problem p q)
+  joined-terms a b v sat =
+      All-append (λ t. IsInRange (term_value v t)) p.terms q.terms
+      (a v (joined-first p q fine more-bounds v sat))
+      (b v (joined-second p q fine more-bounds can v sat))
 
   pub joined-refuted : (cores : List (List Lit)) → All (RefutesAll p) cores → All (RefutesAll (joined_problem p q)) cores
-  joined-refuted cores h = All-weaker (RefutesAll p) (RefutesAll (joined_problem p q)) (λ c r v sat make. r v (joined-first p q sums bounds more-sums more-bounds v sat) make) cores h
+  joined-refuted cores h = All-weaker (RefutesAll p) (RefutesAll (joined_problem p q)) (λ c r v sat make. r v (joined-first p q fine more-bounds v sat) make) cores h
 
 pub either : {T E : Type 0} (A B : Type 0) (r : Result T E) → OnOk r A → OnErr r B → A ⊎ B
 either A B (Ok x) a b = inl a
@@ -99,13 +104,13 @@ module _ (a : Keeper) (f : Engine) (h : IsKeeper a) (resting : IsResting f) wher
   with_engine = record { alloc = a.alloc; engine = f; index = a.index; additions = a.additions }
 
   -- another problem was joined
-  pub keeper-joined : (q : ProblemState) → CanJoin a.engine.problem q → q.sums ≡ [] → q.bounds ≡ [] → q.terms ≡ [] → Grows a.engine q f → IsKeeper with_engine
-  keeper-joined q can sums bounds terms g = record {
+  pub keeper-joined : (q : ProblemState) → CanJoin a.engine.problem q → q.bounds ≡ [] → HasTermsInRange q → Grows a.engine q f → IsKeeper with_engine
+  keeper-joined q can bounds terms g = record {
     resting = resting;
-    terms = ap (λ (p : ProblemState). p.terms) g.problem ∙ joined-terms a.engine.problem q h.resting.engine.sums h.resting.engine.bounds sums bounds can h.terms terms;
+    terms = subst HasTermsInRange (sym g.problem) (joined-terms a.engine.problem q h.resting.engine.problem bounds can h.terms terms);
     few = subst (λ (p : ProblemState). length p.retired ≤ p.vars) (sym g.problem) (let le : a.engine.problem.vars ≤ q.vars = can.vars in let few : length a.engine.problem.retired ≤ a.engine.problem.vars = h.few in omega (arith, le, few));
     indexed = h.indexed;
-    refuted = subst (λ (p : ProblemState). All (RefutesAll p) a.index.cores.items) (sym g.problem) (joined-refuted a.engine.problem q h.resting.engine.sums h.resting.engine.bounds sums bounds can a.index.cores.items h.refuted);
+    refuted = subst (λ (p : ProblemState). All (RefutesAll p) a.index.cores.items) (sym g.problem) (joined-refuted a.engine.problem q h.resting.engine.problem bounds can a.index.cores.items h.refuted);
     counted = rw g.same.searches h.counted;
   }
 
@@ -113,7 +118,7 @@ module _ (a : Keeper) (f : Engine) (h : IsKeeper a) (resting : IsResting f) wher
   pub keeper-stays : f.problem ≡ a.engine.problem → f.searches < 2 ^ 64 → IsKeeper with_engine
   keeper-stays problem counted = record {
     resting = resting;
-    terms = ap (λ (p : ProblemState). p.terms) problem ∙ h.terms;
+    terms = subst HasTermsInRange (sym problem) h.terms;
     few = subst (λ (p : ProblemState). length p.retired ≤ p.vars) (sym problem) h.few;
     indexed = h.indexed;
     refuted = subst (λ (p : ProblemState). All (RefutesAll p) a.index.cores.items) (sym problem) h.refuted;
@@ -123,6 +128,22 @@ module _ (a : Keeper) (f : Engine) (h : IsKeeper a) (resting : IsResting f) wher
 -- a problem that says more refutes what was refuted
 pub refuted-more : (p q : ProblemState) → ((v : ℕ → Bool) → Satisfies q v → Satisfies p v) → (cores : List (List Lit)) → All (RefutesAll p) cores → All (RefutesAll q) cores
 refuted-more p q less cores h = All-weaker (RefutesAll p) (RefutesAll q) (λ c r v sat make. r v (less v sat) make) cores h
+
+-- and keeps its terms in range
+pub range-more : (p q : ProblemState) → q.terms ≡ p.terms → ((v : ℕ → Bool) → Satisfies q v → Satisfies p v) → HasTermsInRange p → HasTermsInRange q
+range-more p q same less h v sat = subst (All (λ t. IsInRange (term_value v t))) (sym same) (h v (less v sat))
+
+-- without terms there is nothing to keep in range
+pub none-in-range : (p : ProblemState) → p.terms ≡ [] → HasTermsInRange p
+none-in-range p none v sat = subst (All (λ t. IsInRange (term_value v t))) (sym none) (All-nil (λ t. IsInRange (term_value v t)))
+
+-- a term of the problem has the value of this term
+pub value-at : (p : ProblemState) (term : ℕ) (t : GroundTerm) (v : ℕ → Bool) (n : ExtInt) → slice_get p.terms term ≡ Some t → value_of_bound n ≡ term_value v t → HasValue p term v n
+value-at p term t v n at is = ap (λ o. value_of_term o v) at ∙ sym is
+
+-- and it is in range
+pub in-range-at : (p : ProblemState) (term : ℕ) (t : GroundTerm) (v : ℕ → Bool) → slice_get p.terms term ≡ Some t → HasTermsInRange p → Satisfies p v → IsInRange (term_value v t)
+in-range-at p term t v at h sat = subst (λ (u : GroundTerm). IsInRange (term_value v u)) (get_or_from_slice_get p.terms term t t at) (h v sat term t (slice_get_within p.terms term t at))
 
 -- kept cores stay
 pub cores-prefix : (before after : List (List Lit)) (r : Result Verdict Halt) → KeepsCores before r after → IsPrefix before after

@@ -8,7 +8,6 @@ use Rattle.lit_core.specs.Truth.{IsSatisfied}
 use Rattle.lit_core.proofs.LiteralFacts.{Contains-cons_cases, Contains-head, Contains-tail, nothing_in_none}
 use Rattle.clause_store.specs.StoreState.{IsEachOnceOf}
 use Rattle.ground_core.specs.Problems.{ProblemState}
-use Rattle.ground_core.specs.Meaning.{IsInRange, term_value}
 use Rattle.ground_core.specs.GateClauses.{clauses_of}
 use Rattle.search_engine.specs.declared.engine.Engine.{Engine}
 use Rattle.clause_learning.specs.declared.keeper.Keeper.{Keeper}
@@ -59,7 +58,7 @@ comes-from p learnt ids cl h id k e = ⊎_elim
 pub kept-laws : (a : Keeper) → IsKeeper a → IsKept (kept_of a)
 kept-laws a h = record {
   problem = h.resting.engine.problem;
-  terms = λ v sat. rw h.terms (All-nil (λ t. IsInRange (term_value v t)));
+  terms = h.terms;
   learnt = h.resting.engine.learnt;
   refuted = h.refuted;
   counted = h.counted;
@@ -72,7 +71,7 @@ solver-laws a h =
     let knows : Knows e.problem e.learnt e.ids.items cl = h.resting.engine.knows in
     record {
       kept = kept-laws a h;
-      plain = (h.resting.engine.sums, h.resting.engine.bounds, h.terms);
+      plain = h.resting.engine.sums;
       implied = λ v sat. all-held (IsSatisfied v) cl (knows.implied v sat);
       said_held = λ c has live. let w = All-contains (λ d. (id : ℕ) × IsHeldAs cl id d × (Contains e.ids.items id → ⊥)) (clauses_of e.problem) c knows.problem has in (w.1.0, contains-held cl w.0 w.1.0 w.1.1, w.1.2);
       learnt_held = zip-has cl e.ids.items e.learnt knows.learnt_held;

@@ -3,7 +3,7 @@ use Rattle.std.specs.Prelude.{◌≡◌, ℕ, ◌+◌, ◌-◌, ◌<◌, ◌≤�
 use Rattle.ground_core.specs.declared.solving.Budget.{Budget}
 use Rattle.ground_core.specs.declared.solving.Verdict.{Verdict}
 use Rattle.ground_core.specs.declared.solving.Verdict.TheVariants.{Sat, Unsat}
-use Rattle.ground_core.specs.Meaning.{RefutesAll}
+use Rattle.ground_core.specs.Meaning.{HasTermsInRange, RefutesAll}
 use Rattle.ground_core.specs.Solving.{SolveState, HasCoreWithin}
 use Rattle.search_engine.specs.Resting.{IsNew, IsResting, held_of}
 use Rattle.clause_learning.specs.declared.keeper.Keeper.{Keeper}
@@ -24,7 +24,7 @@ kept_of a = record {
 -- what holds while no search is running
 pub record IsKeeper (a : Keeper) : Type 0 where
   pub resting : IsResting a.engine
-  pub terms : a.engine.problem.terms ≡ []
+  pub terms : HasTermsInRange a.engine.problem
   pub few : length a.engine.problem.retired ≤ a.engine.problem.vars
   pub indexed : IsIndexed a.index
   pub refuted : All (RefutesAll a.engine.problem) a.index.cores.items

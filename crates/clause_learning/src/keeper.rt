@@ -4,15 +4,19 @@ ghost use Rattle.ground_core.specs.declared.solving.Halt.TheVariants as halt;
 ghost use Rattle.ground_core.specs.Problems.{AreLitsOf};
 ghost use Rattle.ground_core.specs.Solving.{Answers, HaltedAt, HasCoreWithin, IsBudgetOf, IsKnown, KeepsCores, Spends, counted};
 ghost use Rattle.ground_core.specs.Growth.{next_lit};
-ghost use Rattle.ground_core.specs.Growing.{IsSelector, excluded, retired};
+ghost use Rattle.ground_core.specs.Growing.{HasValue, IsSelector, bounded, excluded, retired};
+ghost use Rattle.ground_core.specs.Meaning.{Satisfies};
+ghost use Rattle.lit_core.specs.Literals.{valuation};
 ghost use Rattle.clause_learning.specs.Keeping.{IsKeeper, IsMost, IsNewRefusal, IsNewKeeper, SameCounts, SameKeeping, kept_of};
 
 use crate::core_index::CoreIndex;
 use chooser::Choose;
 use ground_core::{Addition, Budget, Halt, Memory, Verdict};
+use kb_logic::ExtInt;
 use lit_core::{Lit, Values};
 use search_engine::Engine;
 use std::alloc::Global;
+use term_bounds::value_of;
 
 /// An engine, and the cores of its answers.
 #[derive(Drop)]
@@ -147,6 +151,32 @@ impl Keeper {
         self.additions.reserve(1)?;
         let out = self.engine.exclude(values)?;
         self.additions.push_reserved(Addition::Exclusion(copy));
+        Ok(out)
+    }
+
+    /// The term's value under values that satisfy the problem.
+    pub fn value(&self, term: u32, values: &Values) -> ExtInt
+        requires keeper { IsKeeper self.now }
+        requires term { term < length self.now.engine.problem.terms }
+        requires satisfied { Satisfies self.now.engine.problem (valuation values.now) }
+        ensures { HasValue self.now.engine.problem term (valuation values.now) result }
+    {
+        let terms = self.engine.problem.terms();
+        value_of(&terms[term as usize], values)
+    }
+
+    /// Adds a selector under which the term is below the number.
+    pub fn bound(&mut self, term: u32, below: ExtInt) -> Result<Lit, Memory>
+        requires keeper { IsKeeper self.old }
+        requires term { term < length self.old.engine.problem.terms }
+        ensures keeper { IsKeeper self.new }
+        ensures ok { IfOk result (λ out. (out ≡ next_lit self.old.engine.problem) × (kept_of self.new ≡ bounded (kept_of self.old) term below)) }
+        ensures err { OnErr result (SameKeeping self.old self.new) }
+        ensures counts { SameCounts self.old self.new }
+    {
+        self.additions.reserve(1)?;
+        let out = self.engine.bound(term, below)?;
+        self.additions.push_reserved(Addition::Bound(term, below));
         Ok(out)
     }
 

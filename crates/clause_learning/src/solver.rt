@@ -3,7 +3,9 @@ ghost use Rattle.std.specs.Prelude.{◌≡◌, ◌≤◌, ◌<◌, ◌+◌, ℕ,
 ghost use Rattle.ground_core.specs.Problems.{AreLitsOf};
 ghost use Rattle.ground_core.specs.Solving.{Answers, AreUnretired, HaltedAt, HasCoreWithin, IsBudgetOf, IsKept, IsKnown, KeepsCores, Spends, counted};
 ghost use Rattle.ground_core.specs.Growth.{next_lit};
-ghost use Rattle.ground_core.specs.Growing.{IsSelector, excluded, retired};
+ghost use Rattle.ground_core.specs.Growing.{IsSelector, bounded, excluded, retired};
+ghost use Rattle.ground_core.specs.Meaning.{HasTermsInRange};
+ghost use Rattle.kb_logic.specs.declared.elements.ExtInt.TheVariants.{NegInf};
 ghost use Rattle.search_engine.specs.Joining.{CanJoin};
 ghost use Rattle.clause_learning.specs.GoingOn.{GoesOn};
 ghost use Rattle.clause_learning.specs.SolverState.{AddsProblem, Forgets, IsSolver, SameCounts, empty_solver};
@@ -16,7 +18,7 @@ use lit_core::{ClauseList, Lit, Values};
 use std::alloc::Global;
 use std::marker::Model;
 
-/// A solver that keeps a problem of gates and clauses, the clauses that it learnt of it, and the
+/// A solver that keeps a problem of gates, clauses and bounds on terms, the clauses that it learnt of it, and the
 /// cores that it found.
 ///
 /// It decides what is assumed, each at a level of its own, and then what its rule chooses: an unassigned ground atom
@@ -56,13 +58,13 @@ impl<C: Choose + Drop> Solver<C> {
         })
     }
 
-    /// Says all that another problem of gates and clauses says, too. It has no sums and no terms: what is said of
-    /// these is not searched yet.
+    /// Says all that another problem of gates, clauses and terms says, too. It has no sums, since what is said of
+    /// these is not searched yet, and its terms stay in range.
     pub fn add_problem(&mut self, more: &Problem) -> Result<(), Memory>
         requires can { CanJoin self.old.kept.problem more.now }
         requires sums { more.now.sums ≡ [] }
         requires bounds { more.now.bounds ≡ [] }
-        requires terms { more.now.terms ≡ [] }
+        requires range { HasTermsInRange more.now }
         ensures ok { OnOk result (AddsProblem self.old more.now self.new) }
         ensures err { OnErr result (self.new ≡ self.old) }
         ensures laws { IsSolver self.new }
@@ -158,18 +160,21 @@ impl<C: Choose + Drop> Solve for Solver<C> {
 }
 
 impl<C: Choose + Drop> Grow for Solver<C> {
-    /// It can be called for no term, since the problem has none.
-    fn value(&self, _term: u32, _values: &Values) -> ExtInt {
-        // What is known of the problem comes with this.
-        let _searches = self.keeper.engine.searches;
-        ExtInt::PosInf
+    fn value(&self, term: u32, values: &Values) -> ExtInt {
+        self.keeper.value(term, values)
     }
 
-    /// It can be called for no term, since the problem has none.
-    fn bound(&mut self, _term: u32, _below: ExtInt) -> Result<Lit, Memory> {
-        // What is known of the problem comes with this.
-        let _searches = self.keeper.engine.searches;
-        Err(Memory)
+    fn bound(&mut self, term: u32, below: ExtInt) -> Result<Lit, Memory>
+        requires term { term < length self.old.kept.problem.terms }
+        requires below { below ≡ NegInf → ⊥ }
+        ensures ok { IfOk result (λ out. (out ≡ next_lit self.old.kept.problem) × (self.new.kept ≡ bounded self.old.kept term below)) }
+        ensures err { OnErr result (self.new ≡ self.old) }
+        ensures kept { IsKept self.new.kept }
+        ensures later { GoesOn self.old.kept self.new.kept }
+        ensures counts { SameCounts self.old self.new }
+        ensures laws { IsSolver self.new }
+    {
+        self.keeper.bound(term, below)
     }
 
     fn exclude(&mut self, values: &Values) -> Result<Lit, Memory>

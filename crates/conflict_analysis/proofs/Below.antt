@@ -27,7 +27,7 @@ map-cases xs l has =
     let lt : has.0 < length xs = subst (λ (n : ℕ). has.0 < n) (length-map xs negated) has.1 in
     (get_or xs has.0 l, Contains-get_or xs has.0 l lt, sym (get_or-map negated xs has.0 l l lt) ∙ has.2)
 
-prepend : (inforce : List Lit) (c : List Lit) (l : Lit) (cs : List (List Lit)) → IsUnitUnder inforce c l → RefutesInOrder (inforce ++ l ∷ []) cs → RefutesInOrder inforce (c ∷ cs)
+pub prepend : (inforce : List Lit) (c : List Lit) (l : Lit) (cs : List (List Lit)) → IsUnitUnder inforce c l → RefutesInOrder (inforce ++ l ∷ []) cs → RefutesInOrder inforce (c ∷ cs)
 prepend inforce c l [] unit rest = absurd rest
 prepend inforce c l (d ∷ cs) unit rest = (l, unit, rest)
 

@@ -1,5 +1,5 @@
 -- The clause that is learnt.
-use Rattle.std.proofs.Common.{◌≡◌, ℕ, ◌<◌, ◌≤◌, ◌+◌, Bool, false, Option, Some, None, List, [], ◌∷◌, ◌++◌, length, reverse, refl, sym, ap, ◌∙◌, ◌⊎◌, inl, inr, ⊎_elim, arith, slice_get, subst, All, Contains, get_or}
+use Rattle.std.proofs.Common.{◌≡◌, ℕ, ◌<◌, ◌≤◌, ◌+◌, Bool, false, Option, Some, None, List, [], ◌∷◌, ◌++◌, length, map, reverse, refl, sym, ap, ◌∙◌, ◌⊎◌, inl, inr, ⊎_elim, arith, slice_get, subst, All, Contains, get_or}
 use Rattle.std.specs.List.{AllZip}
 use Rattle.std.proofs.lemmas.Option.{slice_get_within, get_or_from_slice_get}
 use Rattle.std.proofs.lemmas.List.Elements.{Contains-append_left, Contains-push, Contains-push_cases, Contains-get_or}
@@ -18,7 +18,8 @@ use Rattle.conflict_analysis.specs.Learning.{IsLastLevel, IsClauseOf, IsClauseAb
 use Rattle.conflict_analysis.specs.Resolvents.{IsMadeAt, IsMarked, IsNew, Absorbs, TakesLast}
 use Rattle.conflict_analysis.specs.Tracing.{IsNeeded, IsSourced, IsTaken, NoLiteral, HasUpper, IsCurrent, IsLast}
 use Rattle.conflict_analysis.proofs.Places.{same-step, variable-of, of-conflict, lower-place}
-use Rattle.conflict_analysis.proofs.Below.{below-finish, resolvent-start, resolvent-take, resolvent-resolve}
+use Rattle.conflict_analysis.specs.Shortening.{AreInForce, IsLeftAt, IsShort}
+use Rattle.conflict_analysis.proofs.Below.{map-cases, map-contains, resolvent-start, resolvent-take, resolvent-resolve}
 use Rattle.conflict_analysis.proofs.Traced.{once-push, once-single}
 
 -- analysis begins with a literal of the current level
@@ -91,15 +92,6 @@ current-last s place old mid h takes none = record {
   none = none;
 }
 
--- the places of lower levels are below the last one
-pub places-below : (s : StoreState) → IsStore s → (place : ℕ) (r : Resolvent) → IsLast s place r → (k : ℕ) → Contains r.lower.keys k → k < place
-places-below s store place r h k has =
-    let l = h.taken.lower k has in
-    let u = h.taken.taken in
-    let low : l.0.level < r.floor = l.2 in
-    let up : r.floor ≤ u.0.level = u.2 in
-    lower-place s.trail.values s.trail.steps store.trail.coherent k place l.0 u.0 l.1 u.1 (omega (arith, low, up))
-
 contains-at : (xs : List Lit) (j : ℕ) (x : Lit) → slice_get xs j ≡ Some x → Contains xs x
 contains-at xs j x h = (j, slice_get_within xs j x h, get_or_from_slice_get xs j x x h)
 
@@ -162,51 +154,45 @@ clause-done steps place lower left c h none = record {
 }
 
 -- what is left where one literal of the current level is: the clause that is learnt
-module _ (s : StoreState) (store : IsStore s) (high : 0 < s.trail.level) (place : ℕ) (r : Resolvent) (h : IsLast s place r) (level : ℕ) (is_level : IsLastLevel s.trail.steps r.lower.keys level) (c : List Lit) (clause : IsClauseOf s.trail.steps place r.lower.keys c) where
-  learnt-from : (hints : List ℕ) → hints ≡ reverse r.hints.items → FollowsFrom s c hints
-  learnt-from hints e = record {
-    hinted = h.taken.hinted;
-    held = subst (λ (ids : List ℕ). AllZip (IsHeld s) ids h.taken.hinted) (sym e) h.taken.held;
-    follows = below-finish s.trail.steps (length s.trail.steps) (place + 1) (IsNeeded s.trail.steps NoLiteral (λ k. (k ≡ place) ⊎ IsMarked r k)) h.taken.hinted c
-        (λ l n. ⊎_elim
-        (λ b. absurd b)
-        (λ w. ⊎_elim
+module _ (s : StoreState) (store : IsStore s) (high : 0 < s.trail.level) (place : ℕ) (lower : List ℕ) (hints : List ℕ) (h : IsShort s place (Contains lower) hints) (level : ℕ) (is_level : IsLastLevel s.trail.steps lower level) (c : List Lit) (clause : IsClauseOf s.trail.steps place lower c) where
+  -- in force are the negations of its literals
+  negations : AreInForce s.trail.steps (IsLeftAt place (Contains lower)) (map negated c)
+  negations = record {
+    all = λ l k way made. ⊎_elim
         (λ e.
-        let one : w.2.0 ≡ clause.made.0 = same-step s.trail.steps place w.2.0 clause.made.0 (ap (slice_get s.trail.steps) (sym e) ∙ w.2.1) clause.made.1 in
-        let same : negated clause.asserting ≡ l = sym clause.made.2 ∙ (sym (ap (λ (x : Step). x.lit) one) ∙ w.2.2) in
-        subst (Contains c) (sym (negated-negated clause.asserting) ∙ ap negated same) (contains-at c 0 clause.asserting clause.first))
-        (λ m. ⊎_elim
-        (λ u. absurd (nothing_in_none w.0 (subst (λ (ks : List ℕ). Contains ks w.0) h.none u)))
-        (λ o. subst (λ (x : Lit). Contains c (negated x)) w.2.2 (clause.all w.0 w.2.0 o w.2.1))
-        m)
-        w.1)
-        n)
-        (λ m has k t above below at some same. ⊎_elim
-        (λ e.
-        let one : place ≡ k = store.trail.coherent.apart place k clause.made.0 t clause.made.1 at (variable-of clause.made.0.lit (negated clause.asserting) clause.made.2 ∙ (sym (variable-of m clause.asserting e) ∙ same)) in
-        omega (arith, one, above))
-        (λ w.
-        let one : w.0 ≡ k = store.trail.coherent.apart w.0 k w.2.0 t w.2.1 at (variable-of w.2.0.lit (negated m) w.2.2 ∙ same) in
-        let lt : w.0 < place = places-below s store place r h w.0 w.1 in
-        omega (arith, one, above, lt))
-        (clause.from m has))
-        h.taken.refuted;
+        let one : made.0 ≡ clause.made.0 = same-step s.trail.steps place made.0 clause.made.0 (ap (slice_get s.trail.steps) (sym e) ∙ made.1) clause.made.1 in
+        let same : negated clause.asserting ≡ l = sym clause.made.2 ∙ (sym (ap (λ (x : Step). x.lit) one) ∙ made.2) in
+        subst (Contains (map negated c)) same (map-contains c clause.asserting (contains-at c 0 clause.asserting clause.first)))
+        (λ o. subst (Contains (map negated c)) (negated-negated made.0.lit ∙ made.2) (map-contains c (negated made.0.lit) (clause.all k made.0 o made.1)))
+        way;
+    from = λ l has.
+        let w = map-cases c l has in
+        ⊎_elim
+        (λ e. (place, inl refl, subst (IsMadeAt s.trail.steps place) (sym (ap negated e) ∙ w.2) clause.made))
+        (λ o. (o.0, inr o.1, subst (IsMadeAt s.trail.steps o.0) w.2 o.2))
+        (clause.from w.0 w.1);
+  }
+
+  learnt-from : (ids : List ℕ) → ids ≡ reverse hints → FollowsFrom s c ids
+  learnt-from ids e = record {
+    hinted = h.hinted;
+    held = subst (λ (xs : List ℕ). AllZip (IsHeld s) xs h.hinted) (sym e) h.held;
+    follows = h.refuted (map negated c) negations;
   }
 
   low-level : level < s.trail.level
   low-level = ⊎_elim
       (λ e. let flat : level ≡ 0 = e.1 in omega (arith, flat, high))
       (λ w.
-      let l = h.taken.lower w.0 w.2 in
-      let low : l.0.level < r.floor = l.2 in
+      let l = h.lower w.0 w.2 in
+      let low : l.0.level < s.trail.level = l.2 in
       let one : l.0.level ≡ w.1.level = ap (λ (x : Step). x.level) (same-step s.trail.steps w.0 l.0 w.1 l.1 w.3) in
       let same : w.1.level ≡ level = w.4 in
-      let floor : r.floor ≡ s.trail.level = h.floor in
-      omega (arith, low, one, same, floor))
+      omega (arith, low, one, same))
       is_level
 
   -- the literals of lower places became false up to the level
-  low-false : (m : Lit) (k : ℕ) → Contains r.lower.keys k → IsMadeAt s.trail.steps k (negated m) → IsFalseUpTo s.trail level m
+  low-false : (m : Lit) (k : ℕ) → Contains lower k → IsMadeAt s.trail.steps k (negated m) → IsFalseUpTo s.trail level m
   low-false m k has w = ⊎_elim
       (λ e. absurd (nothing_in_none k (subst (λ (ks : List ℕ). Contains ks k) e.0 has)))
       (λ l.
@@ -218,12 +204,11 @@ module _ (s : StoreState) (store : IsStore s) (high : 0 < s.trail.level) (place 
   current-false : IsFalseSince s.trail s.trail.level clause.asserting
   current-false =
       let t : Step = clause.made.0 in
-      let u = h.taken.taken in
+      let u = h.current in
       let one : u.0.level ≡ t.level = ap (λ (x : Step). x.level) (same-step s.trail.steps place u.0 t u.1 clause.made.1) in
-      let up : r.floor ≤ u.0.level = u.2 in
-      let floor : r.floor ≡ s.trail.level = h.floor in
+      let up : s.trail.level ≤ u.0.level = u.2 in
       let most : t.level ≤ s.trail.level = store.trail.top place t clause.made.1 in
-      (place, t, clause.made.1, clause.made.2, omega (arith, one, up, floor, most))
+      (place, t, clause.made.1, clause.made.2, omega (arith, one, up, most))
 
   least-level : (level ≡ 0) ⊎ ((m : Lit) × Contains c m × IsFalseSince s.trail level m)
   least-level = ⊎_elim
@@ -247,11 +232,11 @@ module _ (s : StoreState) (store : IsStore s) (high : 0 < s.trail.level) (place 
 
   is-held : (m : Lit) → Contains c m → IsHeldLiteral s m
   is-held m has = ⊎_elim
-      (λ (e : m ≡ clause.asserting). subst (IsHeldLiteral s) (sym e) (of-held clause.asserting place clause.made (h.taken.sourced place (inl refl))))
-      (λ w. of-held m w.0 w.2 (h.taken.sourced w.0 (inr (inr w.1))))
+      (λ (e : m ≡ clause.asserting). subst (IsHeldLiteral s) (sym e) (of-held clause.asserting place clause.made (h.sourced place (inl refl))))
+      (λ w. of-held m w.0 w.2 (h.sourced w.0 (inr w.1)))
       (clause.from m has)
 
-  pub learnt : (a : Analysis) → a.clause.items ≡ c → a.level ≡ level → a.hints.items ≡ reverse r.hints.items → IsAnalysis s a
+  pub learnt : (a : Analysis) → a.clause.items ≡ c → a.level ≡ level → a.hints.items ≡ reverse hints → IsAnalysis s a
   learnt a same_clause same_level same_hints = record {
     follows = subst (λ (x : List Lit). FollowsFrom s x a.hints.items) (sym same_clause) (learnt-from a.hints.items same_hints);
     unit_back = subst (λ (x : List Lit). IsUnitBackAt s.trail a.level x) (sym same_clause) (subst (λ (n : ℕ). IsUnitBackAt s.trail n c) (sym same_level) (record {

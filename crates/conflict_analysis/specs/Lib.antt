@@ -2,4 +2,5 @@ pub mod Analyses
 pub mod Laws
 pub mod Learning
 pub mod Resolvents
+pub mod Shortening
 pub mod Tracing

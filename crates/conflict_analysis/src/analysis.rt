@@ -2,10 +2,11 @@
 ghost use Rattle.std.specs.Prelude.{◌≡◌, ◌<◌, ℕ, [], length, Contains, IfOk, IfNone, IfSome};
 ghost use Rattle.clause_store.specs.StoreState.{IsConflict, IsStore};
 ghost use Rattle.conflict_analysis.specs.Analyses.{HasCurrent, IsAnalysis};
-ghost use Rattle.conflict_analysis.specs.Learning.{IsLastLevel, IsClauseOf, PopsLast};
+ghost use Rattle.conflict_analysis.specs.Learning.{IsLastLevel, IsClauseOf};
 ghost use Rattle.conflict_analysis.specs.Tracing.{IsCurrent, IsLast};
 
 use crate::resolvent::Resolvent;
+use crate::shortening::{pop_place, shorten};
 use clause_store::Store;
 use lit_core::{Lit, Memory};
 use std::alloc::Global;
@@ -54,14 +55,6 @@ fn last_level(store: &Store, places: &BTreeSet<usize>) -> u64
     }
 }
 
-/// Takes off the last place.
-fn pop_place(places: &mut BTreeSet<usize>) -> Option<usize>
-    ensures none { IfNone result (places.old.keys ≡ []) }
-    ensures some { IfSome result (λ place. PopsLast places.old.keys place places.new.keys) }
-{
-    places.pop_last()
-}
-
 /// The clause of the literals that became false at a place and at lower ones.
 fn clause_of(
     alloc: Global,
@@ -95,9 +88,10 @@ fn learn(
     ensures { IfOk result (IsAnalysis store.now) }
 {
     let Resolvent { lower, hints, .. } = resolvent;
-    let level = last_level(store, &lower);
-    let clause = clause_of(alloc, store, place, lower)?;
     let mut hints = hints;
+    let kept = shorten(alloc, store, place, lower, &mut hints)?;
+    let level = last_level(store, &kept);
+    let clause = clause_of(alloc, store, place, kept)?;
     hints.reverse();
     Ok(Analysis {
         clause,
@@ -106,11 +100,12 @@ fn learn(
     })
 }
 
-/// Learns a clause from a false one, by resolution up to the first unique implication point.
+/// Learns a clause from a false one, by resolution up to the first unique implication point, and leaves out literals
+/// that follow from others of it.
 ///
-/// See Marques-Silva and Sakallah, "GRASP: a search algorithm for propositional satisfiability",
-/// and Zhang and others, "Efficient conflict driven learning in a Boolean satisfiability solver".
-/// Literals that are false at level 0 stay in the clause.
+/// A literal that is false at level 0 is left out where its clause has no other, and stays where it follows from some
+/// that are not in the learnt clause. See Marques-Silva and Sakallah, "GRASP: a search algorithm for propositional
+/// satisfiability", and Zhang and others, "Efficient conflict driven learning in a Boolean satisfiability solver".
 pub fn analyse(alloc: Global, store: &Store, conflict: u64) -> Result<Analysis, Memory>
     requires conflict { IsConflict store.now conflict }
     requires level { 0 < store.now.trail.level }

@@ -6,6 +6,7 @@ mod analysis;
 mod laws;
 mod refutations;
 mod resolvent;
+mod shortening;
 
 pub use analysis::{Analysis, analyse};
 pub use laws::learnt_is_unit_after_step_back;

@@ -28,7 +28,8 @@ impl Model for KnowledgeBase {
 
     ghost view = { λ k. record { typed = k.typed; theory = k.theory; structure = k.structure; known = k.known } };
 
-    ghost invariant = { λ k. IsKnowledgeBase (record { typed = k.typed; theory = k.theory; structure = k.structure; known = k.known }) };
+    ghost invariant = { λ k. IsKnowledgeBase
+        (record { typed = k.typed; theory = k.theory; structure = k.structure; known = k.known }) };
 }
 
 impl KnowledgeBase {

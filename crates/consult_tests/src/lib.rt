@@ -1,5 +1,5 @@
-//! Tests of the devices, of command lines and replies, of the session, of the first reader and of the top call.
-//! What a list of cases can say stands in consult_cases.
+//! Tests of the session, of copies of commands and replies, and of files too long for a case.
+//! What a list of cases can say stands in consult_cases, what devices do in device_tests and run_tests.
 #![tactic(auto)]
 
 #[cfg(test)]

@@ -1,15 +1,5 @@
 //! What no clause says and no case of consult_cases can show.
 
-mod command_lines;
 mod copies;
-mod devices;
-mod faults;
 mod files;
-mod jobs;
-mod lines;
-mod paced;
-mod reply_texts;
-mod runs;
-mod samples;
 mod sessions;
-mod worked_rows;

@@ -13,11 +13,13 @@ grows n (b ∷ bs) = omega (arith, grows (10 * n + (b - 48)) bs)
 decimal_front : (i : ℕ) (text : List ℕ) → decimal (take i text) ≤ decimal text
 decimal_front i text =
     let f : ℕ → ℕ → ℕ = λ n b. 10 * n + (b - 48) in
-    let whole : decimal text ≡ fold f (decimal (take i text)) (drop i text) = ap decimal (sym (take-append-drop i text)) ∙ fold-append f 0 (take i text) (drop i text) in
+    let whole : decimal text ≡ fold f (decimal (take i text)) (drop i text) = ap decimal (sym (take-append-drop i text))
+    ∙ fold-append f 0 (take i text) (drop i text) in
     rw whole (grows (decimal (take i text)) (drop i text))
 
 -- the value with one more digit is no greater than the whole one
-pub digit_fits : (text : List ℕ) (i n : ℕ) → i < length text → n ≡ decimal (take i text) → 10 * n + (get_or text i 0 - 48) ≤ decimal text
+pub digit_fits : (text : List ℕ) (i n : ℕ) → i < length text → n ≡ decimal (take i text)
+    → 10 * n + (get_or text i 0 - 48) ≤ decimal text
 digit_fits text i n lt value =
     let more = fold_more (λ n b. 10 * n + (b - 48)) 0 text i 0 lt in
     omega (arith, more, decimal_front (i + 1) text)

@@ -12,7 +12,7 @@ use Rattle.kb_text.specs.declared.bytes.Class.{Class}
 use Rattle.kb_text.specs.declared.bytes.Class.TheVariants.{Space, Letter, Digit, Mark}
 use Rattle.kb_text.specs.Bytes.{class_of, in_word, is_word_byte}
 use Rattle.kb_text.specs.Pieces.{IsPiece, WordText}
-use Rattle.consult_text.specs.Texts.{elem_text}
+use Rattle.literal_printer.specs.Texts.{elem_text}
 use Rattle.consult_text.specs.OneText.{CanBeWritten}
 
 -- it is none of the bytes that stand between names and elements
@@ -124,23 +124,29 @@ pub elem_text_same : (x y : Elem) → CanBeWritten x → CanBeWritten y → elem
 elem_text_same (Named name) (Named other) h k e = ap (λ (t : List ℕ). Named t) e
 elem_text_same (Named name) (Num z) h k e = absurd (no_integer_word z k (subst (IsPiece WordText) e h))
 elem_text_same (Num z) (Named name) h k e = absurd (no_integer_word z h (subst (IsPiece WordText) (sym e) k))
-elem_text_same (Num (pos m)) (Num (pos n)) h k e = ap (λ (x : ℤ). Num x) (signed_decimal_injective (pos m) (pos n) h k e)
-elem_text_same (Num (pos m)) (Num (negsuc n)) h k e = ap (λ (x : ℤ). Num x) (signed_decimal_injective (pos m) (negsuc n) h (omega arith) e)
-elem_text_same (Num (negsuc m)) (Num (pos n)) h k e = ap (λ (x : ℤ). Num x) (signed_decimal_injective (negsuc m) (pos n) (omega arith) k e)
-elem_text_same (Num (negsuc m)) (Num (negsuc n)) h k e = ap (λ (x : ℤ). Num x) (signed_decimal_injective (negsuc m) (negsuc n) (omega arith) (omega arith) e)
+elem_text_same (Num (pos m)) (Num (pos n)) h k e =
+    ap (λ (x : ℤ). Num x) (signed_decimal_injective (pos m) (pos n) h k e)
+elem_text_same (Num (pos m)) (Num (negsuc n)) h k e =
+    ap (λ (x : ℤ). Num x) (signed_decimal_injective (pos m) (negsuc n) h (omega arith) e)
+elem_text_same (Num (negsuc m)) (Num (pos n)) h k e =
+    ap (λ (x : ℤ). Num x) (signed_decimal_injective (negsuc m) (pos n) (omega arith) k e)
+elem_text_same (Num (negsuc m)) (Num (negsuc n)) h k e =
+    ap (λ (x : ℤ). Num x) (signed_decimal_injective (negsuc m) (negsuc n) (omega arith) (omega arith) e)
 
 -- an element is written with some byte
 pub elem_some : (x : Elem) → CanBeWritten x → [] ≢ elem_text x
 elem_some (Named []) h e = h
 elem_some (Named (b ∷ bs)) h e = absurd (cc)
-elem_some (Num (pos n)) h e = let some = (decimal_is_IsNumeral n (omega arith)).0.0 in let none = ap length e in absurd (omega arith)
+elem_some (Num (pos n)) h e = let some = (decimal_is_IsNumeral n (omega arith)).0.0 in let none = ap length e in
+    absurd (omega arith)
 elem_some (Num (negsuc n)) h e = absurd (cc)
 
 -- what follows begins with a byte that is in no name
 abbrev pub Stopped : List ℕ → Type 0
 Stopped a = (b : ℕ) (t : List ℕ) → a ≡ b ∷ t → Inner b → ⊥
 
-pub split_same : (xs ys a b : List ℕ) → AllByRecursion Inner xs → AllByRecursion Inner ys → Stopped a → Stopped b → xs ++ a ≡ ys ++ b → (xs ≡ ys) × (a ≡ b)
+pub split_same : (xs ys a b : List ℕ) → AllByRecursion Inner xs → AllByRecursion Inner ys → Stopped a → Stopped b
+    → xs ++ a ≡ ys ++ b → (xs ≡ ys) × (a ≡ b)
 split_same [] [] a b all all' stop stop' q = (refl, q)
 split_same [] (y ∷ ys) a b all all' stop stop' q = absurd (stop y (ys ++ b) q all'.0)
 split_same (x ∷ xs) [] a b all all' stop stop' q = absurd (stop' x (xs ++ a) (sym q) all.0)

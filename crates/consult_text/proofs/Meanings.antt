@@ -48,7 +48,8 @@ same_equals true false q = absurd (sign_above 126 61 (omega arith) (sym q))
 same_equals false true q = absurd (sign_above 126 61 (omega arith) q)
 same_equals false false q = refl
 
-same_atoms : (name name' : List ℕ) (args args' : List WrittenElem) (r r' : List Tok) → IsClosed r → IsClosed r' → word name ∷ put_args args r ≡ word name' ∷ put_args args' r' → (name ≡ name') × (args ≡ args') × (r ≡ r')
+same_atoms : (name name' : List ℕ) (args args' : List WrittenElem) (r r' : List Tok) → IsClosed r → IsClosed r'
+    → word name ∷ put_args args r ≡ word name' ∷ put_args args' r' → (name ≡ name') × (args ≡ args') × (r ≡ r')
 same_atoms name name' args args' r r' closed closed' q =
     let tails : put_args args r ≡ put_args args' r' = cc in
     let same = args_same args args' r r' closed closed' tails in
@@ -60,7 +61,8 @@ literal_same (atom true name args) (atom true name' args') q =
     let e = same.0 in let f = same.1 in cc
 literal_same (atom true name args) (atom false name' args') q = absurd (no_sign_word (sym q))
 literal_same (atom true name args) (equation p' name' args' v') q =
-    absurd (no_equals_dot p' (same_atoms name name' args args' dot (sign (equals p') ∷ put_elem v' dot) (dot_closed []) (equals_closed p' (put_elem v' dot)) q).2)
+    absurd (no_equals_dot p' (same_atoms name name' args args' dot (sign (equals p') ∷ put_elem v' dot) (dot_closed [])
+    (equals_closed p' (put_elem v' dot)) q).2)
 literal_same (atom false name args) (atom true name' args') q = absurd (no_sign_word q)
 literal_same (atom false name args) (atom false name' args') q =
     let tails : word name ∷ put_args args dot ≡ word name' ∷ put_args args' dot = cc in
@@ -68,10 +70,12 @@ literal_same (atom false name args) (atom false name' args') q =
     let e = same.0 in let f = same.1 in cc
 literal_same (atom false name args) (equation p' name' args' v') q = absurd (no_sign_word q)
 literal_same (equation p name args v) (atom true name' args') q =
-    absurd (no_equals_dot p (same_atoms name' name args' args dot (sign (equals p) ∷ put_elem v dot) (dot_closed []) (equals_closed p (put_elem v dot)) (sym q)).2)
+    absurd (no_equals_dot p (same_atoms name' name args' args dot (sign (equals p) ∷ put_elem v dot) (dot_closed [])
+    (equals_closed p (put_elem v dot)) (sym q)).2)
 literal_same (equation p name args v) (atom false name' args') q = absurd (no_sign_word (sym q))
 literal_same (equation p name args v) (equation p' name' args' v') q =
-    let same = same_atoms name name' args args' (sign (equals p) ∷ put_elem v dot) (sign (equals p') ∷ put_elem v' dot) (equals_closed p (put_elem v dot)) (equals_closed p' (put_elem v' dot)) q in
+    let same = same_atoms name name' args args' (sign (equals p) ∷ put_elem v dot) (sign (equals p') ∷ put_elem v' dot)
+    (equals_closed p (put_elem v dot)) (equals_closed p' (put_elem v' dot)) q in
     let e = same.0 in
     let f = same.1 in
     let g = same_equals p p' same.2 in
@@ -81,7 +85,8 @@ literal_same (equation p name args v) (equation p' name' args' v') q =
 
 -- no tokens spell two commands
 command_same : (w w' : WrittenCommand) → put_command w ≡ put_command w' → w ≡ w'
-command_same (written.assert l) (written.assert l') q = ap (λ (x : WrittenLiteral). written.assert x) (literal_same l l' (behind_same q))
+command_same (written.assert l) (written.assert l') q =
+    ap (λ (x : WrittenLiteral). written.assert x) (literal_same l l' (behind_same q))
 command_same (written.assert l) (written.retract l') q = absurd (words_apart (codes "assert") (codes "retract") refl q)
 command_same (written.assert l) written.reset q = absurd (words_apart (codes "assert") (codes "reset") refl q)
 command_same (written.assert l) written.choices q = absurd (words_apart (codes "assert") (codes "choices") refl q)
@@ -90,7 +95,8 @@ command_same (written.assert l) (written.budget t') q = absurd (words_apart (cod
 command_same (written.assert l) written.unlimited q = absurd (words_apart (codes "assert") (codes "budget") refl q)
 command_same (written.assert l) written.forget q = absurd (words_apart (codes "assert") (codes "forget") refl q)
 command_same (written.retract l) (written.assert l') q = absurd (words_apart (codes "retract") (codes "assert") refl q)
-command_same (written.retract l) (written.retract l') q = ap (λ (x : WrittenLiteral). written.retract x) (literal_same l l' (behind_same q))
+command_same (written.retract l) (written.retract l') q =
+    ap (λ (x : WrittenLiteral). written.retract x) (literal_same l l' (behind_same q))
 command_same (written.retract l) written.reset q = absurd (words_apart (codes "retract") (codes "reset") refl q)
 command_same (written.retract l) written.choices q = absurd (words_apart (codes "retract") (codes "choices") refl q)
 command_same (written.retract l) written.model q = absurd (words_apart (codes "retract") (codes "model") refl q)
@@ -147,9 +153,11 @@ command_same written.forget written.unlimited q = absurd (words_apart (codes "fo
 command_same written.forget written.forget q = refl
 
 -- a line has at most one written command
-written_same : {line : List ℕ} (w w' : WrittenCommand) → HasOneOutcome line → IsWritten line w → IsWritten line w' → w ≡ w'
+written_same : {line : List ℕ} (w w' : WrittenCommand) → HasOneOutcome line → IsWritten line w
+    → IsWritten line w' → w ≡ w'
 written_same w w' one h h' =
-    command_same w w' (sym h.spelled ∙ (ap (map tok_of) (same_lexemes h.lexemes h'.lexemes one h.tokens h'.tokens) ∙ h'.spelled))
+    command_same w w' (sym h.spelled ∙ (ap (map tok_of) (same_lexemes h.lexemes h'.lexemes one h.tokens h'.tokens)
+    ∙ h'.spelled))
 
 -- and none where it is blank
 some_token : (w : WrittenCommand) → [] ≡ put_command w → ⊥
@@ -166,7 +174,8 @@ blank_written : {line : List ℕ} (w : WrittenCommand) → HasOneOutcome line �
 blank_written w one blank h = some_token w (ap (map tok_of) (same_lexemes [] h.lexemes one blank h.tokens) ∙ h.spelled)
 
 -- a name has one first symbol
-first_same : (xs : List Symbol) (name : List ℕ) (n m : ℕ) (s t : Symbol) → IsFirstNamed xs name n s → IsFirstNamed xs name m t → (n ≡ m) × (s ≡ t)
+first_same : (xs : List Symbol) (name : List ℕ) (n m : ℕ) (s t : Symbol) → IsFirstNamed xs name n s
+    → IsFirstNamed xs name m t → (n ≡ m) × (s ≡ t)
 first_same xs name n m s t h h' =
     let same : n ≡ m = numbers in
     (same, let e = h.at in let e' = h'.at in cc)
@@ -188,8 +197,10 @@ literal_of_line kb w l l' h h' =
 -- the cause of a refusal
 data Cause (kb : Base) (w : WrittenLiteral) : F → Type 0 where
   unknown : ((s : Symbol) → Contains kb.vocabulary.symbols s → s.name ≢ name_of w) → Cause kb w refusal.UnknownSymbol
-  form : (n : ℕ) (s : Symbol) → IsFirstNamed kb.vocabulary.symbols (name_of w) n s → (HasFormOf s w → ⊥) → Cause kb w refusal.WrongArity
-  element : (n : ℕ) (s : Symbol) → IsFirstNamed kb.vocabulary.symbols (name_of w) n s → HasFormOf s w → (IsLiteralOver kb (literal_of n w) → ⊥) → Cause kb w refusal.NotAnElement
+  form : (n : ℕ) (s : Symbol) → IsFirstNamed kb.vocabulary.symbols (name_of w) n s → (HasFormOf s w → ⊥)
+      → Cause kb w refusal.WrongArity
+  element : (n : ℕ) (s : Symbol) → IsFirstNamed kb.vocabulary.symbols (name_of w) n s → HasFormOf s w
+      → (IsLiteralOver kb (literal_of n w) → ⊥) → Cause kb w refusal.NotAnElement
 
 cause_of : (kb : Base) (w : WrittenLiteral) (f : F) → IsRefusedFor kb w f → Cause kb w f
 cause_of kb w refusal.UnknownSymbol h = unknown h
@@ -201,11 +212,20 @@ cause_of kb w refusal.NotChosen h = absurd h
 cause_of kb w refusal.GivenByData h = absurd h
 cause_of kb w refusal.LineTooLong h = absurd h
 
-is_declared : (kb : Base) (name : List ℕ) (n : ℕ) (s : Symbol) → IsFirstNamed kb.vocabulary.symbols name n s → ((t : Symbol) → Contains kb.vocabulary.symbols t → t.name ≢ name) → ⊥
-is_declared kb name n s h none = none s (n, slice_get_within kb.vocabulary.symbols n s h.at, get_or_from_slice_get kb.vocabulary.symbols n s s h.at) h.named
+is_declared : (kb : Base) (name : List ℕ) (n : ℕ) (s : Symbol) → IsFirstNamed kb.vocabulary.symbols name n s
+    → ((t : Symbol) → Contains kb.vocabulary.symbols t → t.name ≢ name) → ⊥
+is_declared kb name n s h none =
+    none s (
+      n,
+      slice_get_within kb.vocabulary.symbols n s h.at,
+      get_or_from_slice_get kb.vocabulary.symbols n s s
+          h.at,
+    ) h.named
 
-no_form : (kb : Base) (w : WrittenLiteral) (n m : ℕ) (s t : Symbol) → IsFirstNamed kb.vocabulary.symbols (name_of w) n s → IsFirstNamed kb.vocabulary.symbols (name_of w) m t → (HasFormOf s w → ⊥) → HasFormOf t w → ⊥
-no_form kb w n m s t h h' other is = other (subst (λ (x : Symbol). HasFormOf x w) (sym (first_same kb.vocabulary.symbols (name_of w) n m s t h h').1) is)
+no_form : (kb : Base) (w : WrittenLiteral) (n m : ℕ) (s t : Symbol) → IsFirstNamed kb.vocabulary.symbols (name_of w) n s
+    → IsFirstNamed kb.vocabulary.symbols (name_of w) m t → (HasFormOf s w → ⊥) → HasFormOf t w → ⊥
+no_form kb w n m s t h h' other is =
+    other (subst (λ (x : Symbol). HasFormOf x w) (sym (first_same kb.vocabulary.symbols (name_of w) n m s t h h').1) is)
 
 cause_same : (kb : Base) (w : WrittenLiteral) (f g : F) → Cause kb w f → Cause kb w g → f ≡ g
 cause_same kb w f g (unknown none) (unknown none') = refl
@@ -226,13 +246,17 @@ no_cause kb w l f h (element n s h' is other) =
     other (subst (IsLiteralOver kb) (h.4 ∙ ap (λ (x : ℕ). literal_of x w) same) h.5)
 
 asks_same : (kb : Base) (w : WrittenCommand) (c d : Command) → Asks kb w c → Asks kb w d → c ≡ d
-asks_same kb (written.assert w) (command.Assert l) (command.Assert l') h h' = ap (λ (x : Literal). command.Assert x) (literal_of_line kb w l l' h h')
-asks_same kb (written.retract w) (command.Retract l) (command.Retract l') h h' = ap (λ (x : Literal). command.Retract x) (literal_of_line kb w l l' h h')
+asks_same kb (written.assert w) (command.Assert l) (command.Assert l') h h' =
+    ap (λ (x : Literal). command.Assert x) (literal_of_line kb w l l' h h')
+asks_same kb (written.retract w) (command.Retract l) (command.Retract l') h h' =
+    ap (λ (x : Literal). command.Retract x) (literal_of_line kb w l l' h h')
 asks_same kb written.reset command.Reset command.Reset h h' = refl
 asks_same kb written.choices command.Choices command.Choices h h' = refl
 asks_same kb written.model command.Model command.Model h h' = refl
-asks_same kb (written.budget t) (command.Budget b) (command.Budget b') h h' = ap (λ (x : Option ℕ). command.Budget x) (h ∙ sym h')
-asks_same kb written.unlimited (command.Budget b) (command.Budget b') h h' = ap (λ (x : Option ℕ). command.Budget x) (h ∙ sym h')
+asks_same kb (written.budget t) (command.Budget b) (command.Budget b') h h' =
+    ap (λ (x : Option ℕ). command.Budget x) (h ∙ sym h')
+asks_same kb written.unlimited (command.Budget b) (command.Budget b') h h' =
+    ap (λ (x : Option ℕ). command.Budget x) (h ∙ sym h')
 asks_same kb written.forget command.Forget command.Forget h h' = refl
 asks_same kb (written.assert w) (command.Assert l) d h h' = absurd h'
 asks_same kb (written.retract w) (command.Retract l) d h h' = absurd h'
@@ -280,16 +304,19 @@ refusal_of kb line refusal.NotChosen h = some h.0 h.1 h.2
 refusal_of kb line refusal.GivenByData h = some h.0 h.1 h.2
 refusal_of kb line refusal.LineTooLong h = some h.0 h.1 h.2
 
-refusal_same : (kb : Base) (line : List ℕ) (f g : F) → HasOneOutcome line → Refusal kb line f → Refusal kb line g → f ≡ g
+refusal_same : (kb : Base) (line : List ℕ) (f g : F) → HasOneOutcome line → Refusal kb line f
+    → Refusal kb line g → f ≡ g
 refusal_same kb line f g one (none h) (none h') = refl
 refusal_same kb line f g one (none h) (some w is r) = absurd (h.1 w is)
 refusal_same kb line f g one (some w is r) (none h) = absurd (h.1 w is)
 refusal_same kb line f g one (some w is r) (some w' is' r') =
     refuses_same kb w f g r (subst (λ (x : WrittenCommand). RefusesFor kb x g) (written_same w' w one is' is) r')
 
-not_refused : (kb : Base) (line : List ℕ) (c : Command) (f : F) → HasOneOutcome line → HasCommand kb line c → Refusal kb line f → ⊥
+not_refused : (kb : Base) (line : List ℕ) (c : Command) (f : F) → HasOneOutcome line → HasCommand kb line c
+    → Refusal kb line f → ⊥
 not_refused kb line c f one h (none no_command) = no_command.1 h.0 h.1
-not_refused kb line c f one h (some w is r) = no_refusal kb h.0 c f h.2 (subst (λ (x : WrittenCommand). RefusesFor kb x f) (written_same w h.0 one is h.1) r)
+not_refused kb line c f one h (some w is r) =
+    no_refusal kb h.0 c f h.2 (subst (λ (x : WrittenCommand). RefusesFor kb x f) (written_same w h.0 one is h.1) r)
 
 not_blank : (kb : Base) (line : List ℕ) (f : F) → HasOneOutcome line → IsBlank line → Refusal kb line f → ⊥
 not_blank kb line f one blank (none h) = h.0 blank
@@ -301,11 +328,14 @@ one_meaning kb line one (Ok None) (Ok (Some d)) h h' = absurd (blank_written h'.
 one_meaning kb line one (Ok None) (Err g) h h' = absurd (not_blank kb line g one h (refusal_of kb line g h'))
 one_meaning kb line one (Ok (Some c)) (Ok None) h h' = absurd (blank_written h.0 one h' h.1)
 one_meaning kb line one (Ok (Some c)) (Ok (Some d)) h h' =
-    ap (λ (x : Command). Ok (Some x)) (asks_same kb h.0 c d h.2 (subst (λ (x : WrittenCommand). Asks kb x d) (written_same h'.0 h.0 one h'.1 h.1) h'.2))
+    ap (λ (x : Command). Ok (Some x))
+    (asks_same kb h.0 c d h.2
+    (subst (λ (x : WrittenCommand). Asks kb x d) (written_same h'.0 h.0 one h'.1 h.1) h'.2))
 one_meaning kb line one (Ok (Some c)) (Err g) h h' = absurd (not_refused kb line c g one h (refusal_of kb line g h'))
 one_meaning kb line one (Err f) (Ok None) h h' = absurd (not_blank kb line f one h' (refusal_of kb line f h))
 one_meaning kb line one (Err f) (Ok (Some d)) h h' = absurd (not_refused kb line d f one h' (refusal_of kb line f h))
-one_meaning kb line one (Err f) (Err g) h h' = ap (λ (x : F). Err x) (refusal_same kb line f g one (refusal_of kb line f h) (refusal_of kb line g h'))
+one_meaning kb line one (Err f) (Err g) h h' =
+    ap (λ (x : F). Err x) (refusal_same kb line f g one (refusal_of kb line f h) (refusal_of kb line g h'))
 
 over_by : (kb : Base) (w : WrittenCommand) (c : Command) → Asks kb w c → IsCommandOver kb c
 over_by kb (written.assert w) (command.Assert l) h = h.5

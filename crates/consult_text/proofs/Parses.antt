@@ -20,19 +20,26 @@ pub record HasOneOutcome (line : List ℕ) : Type 0 where
   pub tokens : TokensFrom outermost 0 line outcome
   pub only : (t : Outcome) → TokensFrom outermost 0 line t → t ≡ outcome
 
-pub one_outcome : (line : List ℕ) → ((src : List ℕ) → (r : Outcome) × TokensFrom outermost 0 src r × ((t : Outcome) → TokensFrom outermost 0 src t → t ≡ r)) → HasOneOutcome line
+pub one_outcome : (line : List ℕ)
+    → ((src : List ℕ) → (r : Outcome) × TokensFrom outermost 0 src r × ((t : Outcome) → TokensFrom outermost 0 src t
+    → t ≡ r)) → HasOneOutcome line
 one_outcome line one = let o = one line in record { outcome = o.0; tokens = o.1; only = o.2 }
 
-pub same_lexemes : {line : List ℕ} (ls ls' : List Lexeme) → HasOneOutcome line → TokensFrom outermost 0 line (Ok ls) → TokensFrom outermost 0 line (Ok ls') → ls ≡ ls'
+pub same_lexemes : {line : List ℕ} (ls ls' : List Lexeme) → HasOneOutcome line → TokensFrom outermost 0 line (Ok ls)
+    → TokensFrom outermost 0 line (Ok ls') → ls ≡ ls'
 same_lexemes ls ls' one h h' = let e = one.only (Ok ls) h in let e' = one.only (Ok ls') h' in cc
 
-pub refused_tokens : {line : List ℕ} (f : KbFault) → HasOneOutcome line → TokensFrom outermost 0 line (Err f) → (w : WrittenCommand) → IsWritten line w → ⊥
+pub refused_tokens : {line : List ℕ} (f : KbFault) → HasOneOutcome line → TokensFrom outermost 0 line (Err f)
+    → (w : WrittenCommand) → IsWritten line w → ⊥
 refused_tokens f one h w is = let e = one.only (Err f) h in let e' = one.only (Ok is.lexemes) is.tokens in absurd (cc)
 
-pub no_spelling : {line : List ℕ} (ts slice : List Token) (found : Option CommandText) → HasOneOutcome line → TokensFrom outermost 0 line (Ok (lexemes ts)) → slice ≡ ts → ParsesCommand (toks slice) found → found ≡ None → (w : WrittenCommand) → IsWritten line w → ⊥
+pub no_spelling : {line : List ℕ} (ts slice : List Token) (found : Option CommandText) → HasOneOutcome line
+    → TokensFrom outermost 0 line (Ok (lexemes ts)) → slice ≡ ts → ParsesCommand (toks slice) found → found ≡ None
+    → (w : WrittenCommand) → IsWritten line w → ⊥
 no_spelling ts slice found one h same cut is w written =
     let none = subst (ParsesCommand (toks slice)) is cut in
-    none w written.formed (ap toks same ∙ (ap (map tok_of) (sym (same_lexemes written.lexemes (lexemes ts) one written.tokens h)) ∙ written.spelled))
+    none w written.formed (ap toks same
+    ∙ (ap (map tok_of) (sym (same_lexemes written.lexemes (lexemes ts) one written.tokens h)) ∙ written.spelled))
 
 -- an integer's digits have a value of 63 bits
 abbrev FitsTok : Tok → Type 0
@@ -49,21 +56,28 @@ fits_tok Procedure text h = tt
 
 fits_all : (ls : List Lexeme) → All IsSpelled ls → AllByRecursion FitsTok (map tok_of ls)
 fits_all [] h = tt
-fits_all (l ∷ ls) h = (fits_tok l.kind l.text (h 0 l (omega arith)).1, fits_all ls (λ k d lt. h (suc k) d (omega arith)))
+fits_all (l ∷ ls) h = (
+  fits_tok l.kind l.text (h 0 l (omega arith)).1,
+  fits_all ls
+      (λ k d lt. h (suc k) d (omega arith)),
+)
 
-elem_fits : (e : WrittenElem) (ts : List Tok) → AllByRecursion FitsTok (put_elem e ts) → IsInRange e × AllByRecursion FitsTok ts
+elem_fits : (e : WrittenElem) (ts : List Tok) → AllByRecursion FitsTok (put_elem e ts)
+    → IsInRange e × AllByRecursion FitsTok ts
 elem_fits (named text) ts h = (tt, h.1)
 elem_fits (integer true text) ts h = (h.1.0, h.1.1)
 elem_fits (integer false text) ts h = (h.0, h.1)
 
-further_fits : (es : List WrittenElem) (ts : List Tok) → AllByRecursion FitsTok (put_further es ts) → AllByRecursion IsInRange es × AllByRecursion FitsTok ts
+further_fits : (es : List WrittenElem) (ts : List Tok) → AllByRecursion FitsTok (put_further es ts)
+    → AllByRecursion IsInRange es × AllByRecursion FitsTok ts
 further_fits [] ts h = (tt, h)
 further_fits (e ∷ es) ts h =
     let one = elem_fits e (put_further es ts) h.1 in
     let more = further_fits es ts one.1 in
     ((one.0, more.0), more.1)
 
-args_fit : (es : List WrittenElem) (ts : List Tok) → AllByRecursion FitsTok (put_args es ts) → AllByRecursion IsInRange es × AllByRecursion FitsTok ts
+args_fit : (es : List WrittenElem) (ts : List Tok) → AllByRecursion FitsTok (put_args es ts)
+    → AllByRecursion IsInRange es × AllByRecursion FitsTok ts
 args_fit [] ts h = (tt, h)
 args_fit (e ∷ es) ts h =
     let one = elem_fits e (put_further es (close ts)) h.1 in
@@ -103,14 +117,17 @@ no_tokens [] e = refl
 no_tokens (t ∷ ts) e = absurd (omega (arith, e))
 
 -- a line without tokens is blank
-pub is_blank : {line : List ℕ} (ts : List Token) → TokensFrom outermost 0 line (Ok (lexemes ts)) → length ts ≡ 0 → IsBlank line
+pub is_blank : {line : List ℕ} (ts : List Token) → TokensFrom outermost 0 line (Ok (lexemes ts)) → length ts ≡ 0
+    → IsBlank line
 is_blank {line} ts h none = subst (λ (ls : List Lexeme). TokensFrom outermost 0 line (Ok ls)) (no_tokens ts none) h
 
 -- and one with some is not
-pub not_blank : {line : List ℕ} (ts : List Token) → HasOneOutcome line → TokensFrom outermost 0 line (Ok (lexemes ts)) → (length ts ≡ 0 → ⊥) → IsBlank line → ⊥
+pub not_blank : {line : List ℕ} (ts : List Token) → HasOneOutcome line → TokensFrom outermost 0 line (Ok (lexemes ts))
+    → (length ts ≡ 0 → ⊥) → IsBlank line → ⊥
 not_blank [] one h some blank = some refl
 not_blank (t ∷ ts) one h some blank = let e = same_lexemes (lexemes (t ∷ ts)) [] one h blank in absurd (cc)
 
 -- nor is one whose tokens are refused
-pub refused_blank : {line : List ℕ} (f : KbFault) → HasOneOutcome line → TokensFrom outermost 0 line (Err f) → IsBlank line → ⊥
+pub refused_blank : {line : List ℕ} (f : KbFault) → HasOneOutcome line → TokensFrom outermost 0 line (Err f)
+    → IsBlank line → ⊥
 refused_blank f one h blank = let e = one.only (Err f) h in let e' = one.only (Ok []) blank in absurd (cc)

@@ -30,14 +30,17 @@ elem_same (integer false text) (integer true text') r r' q = absurd (cc)
 elem_same (integer false text) (integer false text') r r' q = (cc, cc)
 
 -- the first token that is behind some elements is that of a longer list or the parenthesis
-pub further_front : (es es' : List WrittenElem) (cur r : List Tok) → AllByRecursion HasName es' → put_further es cur ≡ put_further es' (close r) → (more : List WrittenElem) × AllByRecursion HasName more × (cur ≡ put_further more (close r))
+pub further_front : (es es' : List WrittenElem) (cur r : List Tok) → AllByRecursion HasName es'
+    → put_further es cur ≡ put_further es' (close r) → (more : List WrittenElem) × AllByRecursion HasName more
+    × (cur ≡ put_further more (close r))
 further_front [] es' cur r well q = (es', well, q)
 further_front (e ∷ es) [] cur r well q = absurd (comma_close q)
 further_front (e ∷ es) (e' ∷ es') cur r well q =
     let tails : put_elem e (put_further es cur) ≡ put_elem e' (put_further es' (close r)) = cc in
     further_front es es' cur r well.1 (elem_same e e' _ _ tails).1
 
-pub further_same : (es es' : List WrittenElem) (r r' : List Tok) → put_further es (close r) ≡ put_further es' (close r') → (es ≡ es') × (r ≡ r')
+pub further_same : (es es' : List WrittenElem) (r r' : List Tok) → put_further es (close r) ≡ put_further es' (close r')
+    → (es ≡ es') × (r ≡ r')
 further_same [] [] r r' q = (refl, cc)
 further_same [] (e' ∷ es') r r' q = absurd (comma_close (sym q))
 further_same (e ∷ es) [] r r' q = absurd (comma_close q)
@@ -50,7 +53,8 @@ further_same (e ∷ es) (e' ∷ es') r r' q =
     (cc, below.1)
 
 -- arguments in parentheses, against any
-pub some_same : (e : WrittenElem) (es es' : List WrittenElem) (r r' : List Tok) → IsClosed r' → put_args (e ∷ es) r ≡ put_args es' r' → (e ∷ es ≡ es') × (r ≡ r')
+pub some_same : (e : WrittenElem) (es es' : List WrittenElem) (r r' : List Tok) → IsClosed r'
+    → put_args (e ∷ es) r ≡ put_args es' r' → (e ∷ es ≡ es') × (r ≡ r')
 some_same e es [] r r' closed q = absurd (closed _ (sym q))
 some_same e es (e' ∷ es') r r' closed q =
     let tails : put_elem e (put_further es (close r)) ≡ put_elem e' (put_further es' (close r')) = cc in
@@ -60,7 +64,8 @@ some_same e es (e' ∷ es') r r' closed q =
     let tail = below.0 in
     (cc, below.1)
 
-pub args_same : (es es' : List WrittenElem) (r r' : List Tok) → IsClosed r → IsClosed r' → put_args es r ≡ put_args es' r' → (es ≡ es') × (r ≡ r')
+pub args_same : (es es' : List WrittenElem) (r r' : List Tok) → IsClosed r → IsClosed r'
+    → put_args es r ≡ put_args es' r' → (es ≡ es') × (r ≡ r')
 args_same [] [] r r' closed closed' q = (refl, q)
 args_same [] (e' ∷ es') r r' closed closed' q = absurd (closed _ q)
 args_same (e ∷ es) es' r r' closed closed' q = some_same e es es' r r' closed' q

@@ -44,15 +44,19 @@ IsNoCommand line = (IsBlank line → ⊥) × ((w : WrittenCommand) → IsWritten
 -- the written literal stands for this one
 abbrev pub StandsFor : Base → WrittenLiteral → Literal → Type 0
 StandsFor kb w l =
-    (number : ℕ) × (s : Symbol) × IsFirstNamed kb.vocabulary.symbols (name_of w) number s × HasFormOf s w × (l ≡ literal_of number w) × IsLiteralOver kb l
+    (number : ℕ) × (s : Symbol) × IsFirstNamed kb.vocabulary.symbols (name_of w) number s × HasFormOf s w
+    × (l ≡ literal_of number w) × IsLiteralOver kb l
 
--- the written literal is refused, for the first of its causes: its symbol is not declared, is of another form, or an element
+-- the written literal is refused, for the first of its causes: its symbol is not declared, is of another form, or an
+-- element
 -- is not in its position's type
 abbrev pub IsRefusedFor : Base → WrittenLiteral → F → Type 0
 IsRefusedFor kb w refusal.UnknownSymbol = (s : Symbol) → Contains kb.vocabulary.symbols s → s.name ≢ name_of w
-IsRefusedFor kb w refusal.WrongArity = (number : ℕ) × (s : Symbol) × IsFirstNamed kb.vocabulary.symbols (name_of w) number s × (HasFormOf s w → ⊥)
+IsRefusedFor kb w refusal.WrongArity = (number : ℕ) × (s : Symbol)
+    × IsFirstNamed kb.vocabulary.symbols (name_of w) number s × (HasFormOf s w → ⊥)
 IsRefusedFor kb w refusal.NotAnElement =
-    (number : ℕ) × (s : Symbol) × IsFirstNamed kb.vocabulary.symbols (name_of w) number s × HasFormOf s w × (IsLiteralOver kb (literal_of number w) → ⊥)
+    (number : ℕ) × (s : Symbol) × IsFirstNamed kb.vocabulary.symbols (name_of w) number s × HasFormOf s w
+    × (IsLiteralOver kb (literal_of number w) → ⊥)
 IsRefusedFor kb w _ = ⊥
 
 -- what the written command asks

@@ -38,10 +38,13 @@ pub record IsFirstNamed (symbols : List Symbol) (name : List ℕ) (number : ℕ)
 
 -- the literal that is written, of the symbol with this number
 abbrev pub literal_of : ℕ → WrittenLiteral → Literal
-literal_of number (atom positive name args) = record { positive = positive; symbol = number; args = map elem_of args; value = None }
-literal_of number (equation positive name args value) = record { positive = positive; symbol = number; args = map elem_of args; value = Some (elem_of value) }
+literal_of number (atom positive name args) =
+    record { positive = positive; symbol = number; args = map elem_of args; value = None }
+literal_of number (equation positive name args value) =
+    record { positive = positive; symbol = number; args = map elem_of args; value = Some (elem_of value) }
 
--- the symbol has that number of arguments; it is a predicate where an atom is written, and a function where an equation is
+-- the symbol has that number of arguments; it is a predicate where an atom is written, and a function where an equation
+-- is
 abbrev pub HasFormOf : Symbol → WrittenLiteral → Type 0
 HasFormOf s (atom positive name args) = (s.value ≡ None) × (length s.args ≡ length args)
 HasFormOf s (equation positive name args value) = ((ty : ℕ) × (s.value ≡ Some ty)) × (length s.args ≡ length args)

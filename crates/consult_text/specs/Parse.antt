@@ -67,9 +67,11 @@ close ts = sign (codes ")") ∷ ts
 
 -- further elements and the closing parenthesis; they are added to those before
 abbrev pub ParsesFurther : List ElemText → List ElemText → List Tok → Option (Bor (List Token)) → Type 0
-ParsesFurther before now ts None = (es : List WrittenElem) (rest : List Tok) → AllByRecursion HasName es → ts ≢ put_further es (close rest)
+ParsesFurther before now ts None = (es : List WrittenElem) (rest : List Tok) → AllByRecursion HasName es
+    → ts ≢ put_further es (close rest)
 ParsesFurther before now ts (Some rest) =
-    (es : List WrittenElem) × (elem_views now ≡ elem_views before ++ es) × (ts ≡ put_further es (close (toks rest.now))) × AllByRecursion HasName es
+    (es : List WrittenElem) × (elem_views now ≡ elem_views before ++ es) × (ts ≡ put_further es (close (toks rest.now)))
+    × AllByRecursion HasName es
 
 -- no opening parenthesis comes first
 abbrev pub IsClosed : List Tok → Type 0
@@ -78,18 +80,23 @@ IsClosed ts = (rest : List Tok) → ts ≢ sign (codes "(") ∷ rest
 -- arguments, and what is behind them wherever no opening parenthesis is
 abbrev pub ParsesArgs : List Tok → List WrittenElem → List Tok → Type 0
 ParsesArgs ts es rest =
-    (ts ≡ put_args es rest) × AllByRecursion HasName es × ((es' : List WrittenElem) (rest' : List Tok) → IsClosed rest' → ts ≡ put_args es' rest' → rest' ≡ rest)
+    (ts ≡ put_args es rest) × AllByRecursion HasName es × ((es' : List WrittenElem) (rest' : List Tok) → IsClosed rest'
+    → ts ≡ put_args es' rest' → rest' ≡ rest)
 
 abbrev pub HasNoArgs : List Tok → Type 0
-HasNoArgs ts = (es : List WrittenElem) (rest : List Tok) → AllByRecursion HasName es → IsClosed rest → ts ≢ put_args es rest
+HasNoArgs ts = (es : List WrittenElem) (rest : List Tok) → AllByRecursion HasName es → IsClosed rest
+    → ts ≢ put_args es rest
 
 -- a name with arguments, and what is behind them wherever no opening parenthesis is
 abbrev pub ParsesHead : List Tok → List ℕ → List WrittenElem → List Tok → Type 0
 ParsesHead ts name es rest =
-    (ts ≡ word name ∷ put_args es rest) × IsName name × AllByRecursion HasName es × ((name' : List ℕ) (es' : List WrittenElem) (rest' : List Tok) → IsClosed rest' → ts ≡ word name' ∷ put_args es' rest' → rest' ≡ rest)
+    (ts ≡ word name ∷ put_args es rest) × IsName name × AllByRecursion HasName es
+    × ((name' : List ℕ) (es' : List WrittenElem) (rest' : List Tok) → IsClosed rest'
+    → ts ≡ word name' ∷ put_args es' rest' → rest' ≡ rest)
 
 abbrev pub HasNoHead : List Tok → Type 0
-HasNoHead ts = (name : List ℕ) (es : List WrittenElem) (rest : List Tok) → IsName name → AllByRecursion HasName es → IsClosed rest → ts ≢ word name ∷ put_args es rest
+HasNoHead ts = (name : List ℕ) (es : List WrittenElem) (rest : List Tok) → IsName name → AllByRecursion HasName es
+    → IsClosed rest → ts ≢ word name ∷ put_args es rest
 
 -- the literal with this sign, name, arguments and value
 abbrev pub head_literal : Bool → Head → Option ElemText → WrittenLiteral
@@ -106,12 +113,16 @@ ParsesEquality ts (Some p) = ts ≡ sign (equals p.0) ∷ toks p.1.now
 
 -- the tokens behind the sign of an atom that is false
 abbrev pub ParsesNegated : List Tok → Option LiteralText → Type 0
-ParsesNegated ts None = (name : List ℕ) (es : List WrittenElem) → IsName name → AllByRecursion HasName es → ts ≢ word name ∷ put_args es dot
+ParsesNegated ts None = (name : List ℕ) (es : List WrittenElem) → IsName name → AllByRecursion HasName es
+    → ts ≢ word name ∷ put_args es dot
 ParsesNegated ts (Some l) = (sign (codes "~") ∷ ts ≡ put_literal (literal_view l) dot) × HasNames (literal_view l)
 
 -- the tokens of a literal with no `~` before it
 abbrev pub ParsesPositive : List Tok → Option LiteralText → Type 0
-ParsesPositive ts None = ((name : List ℕ) (es : List WrittenElem) → IsName name → AllByRecursion HasName es → ts ≢ word name ∷ put_args es dot) × ((positive : Bool) (name : List ℕ) (es : List WrittenElem) (e : WrittenElem) → IsName name → AllByRecursion HasName es → HasName e → ts ≢ word name ∷ put_args es (sign (equals positive) ∷ put_elem e dot))
+ParsesPositive ts None = ((name : List ℕ) (es : List WrittenElem) → IsName name → AllByRecursion HasName es
+    → ts ≢ word name ∷ put_args es dot) × ((positive : Bool) (name : List ℕ) (es : List WrittenElem) (e : WrittenElem)
+    → IsName name → AllByRecursion HasName es → HasName e
+    → ts ≢ word name ∷ put_args es (sign (equals positive) ∷ put_elem e dot))
 ParsesPositive ts (Some l) = (ts ≡ put_literal (literal_view l) dot) × HasNames (literal_view l)
 
 -- the tokens are those of a literal and the dot
@@ -121,7 +132,8 @@ ParsesLiteral ts (Some l) = (ts ≡ put_literal (literal_view l) dot) × HasName
 
 -- the tokens behind the word `budget`
 abbrev pub ParsesBudget : List Tok → Option CommandText → Type 0
-ParsesBudget ts None = ((text : List ℕ) → IsBudget text → ts ≢ digits text ∷ dot) × (ts ≢ word (codes "unlimited") ∷ dot)
+ParsesBudget ts None = ((text : List ℕ) → IsBudget text → ts ≢ digits text ∷ dot)
+    × (ts ≢ word (codes "unlimited") ∷ dot)
 ParsesBudget ts (Some c) = (word (codes "budget") ∷ ts ≡ put_command (command_view c)) × IsWellFormed (command_view c)
 
 -- the tokens are those of a command of one word

@@ -57,7 +57,8 @@ equals false = codes "~="
 
 abbrev pub put_literal : WrittenLiteral → List Tok → List Tok
 put_literal (atom positive name args) ts = put_sign positive (word name ∷ put_args args ts)
-put_literal (equation positive name args value) ts = word name ∷ put_args args (sign (equals positive) ∷ put_elem value ts)
+put_literal (equation positive name args value) ts =
+    word name ∷ put_args args (sign (equals positive) ∷ put_elem value ts)
 
 -- the tokens of the command
 abbrev pub put_command : WrittenCommand → List Tok
@@ -72,7 +73,9 @@ put_command forget = word (codes "forget") ∷ sign (codes ".") ∷ []
 
 -- words that are no names
 abbrev pub reserved_words : List (List ℕ)
-reserved_words = codes "vocabulary" ∷ codes "theory" ∷ codes "structure" ∷ codes "term" ∷ codes "procedure" ∷ codes "type" ∷ codes "isa" ∷ codes "constructed" ∷ codes "true" ∷ codes "false" ∷ codes "sum" ∷ codes "min" ∷ codes "max" ∷ []
+reserved_words = codes "vocabulary" ∷ codes "theory" ∷ codes "structure" ∷ codes "term" ∷ codes "procedure"
+    ∷ codes "type" ∷ codes "isa" ∷ codes "constructed" ∷ codes "true" ∷ codes "false" ∷ codes "sum" ∷ codes "min"
+    ∷ codes "max" ∷ []
 
 abbrev pub IsName : List ℕ → Type 0
 IsName text = is_word_of reserved_words text ≡ false

@@ -14,8 +14,8 @@ use crate::lines::CommandError;
 use crate::refusals::F;
 use crate::written::{ElemText, LiteralText};
 use consult_base::KnowledgeBase;
-use kb_logic::values::domain_in;
 use kb_logic::{Elem, ElemList, Literal, Memory, Name, Symbol};
+use partial_structures::Partial;
 use std::alloc::Global;
 
 fn integer(negative: bool, digits: &[u8]) -> i64
@@ -71,7 +71,8 @@ fn make_literal(alloc: Global, number: u32, text: &LiteralText<'_>) -> Result<Li
 /// The first symbol of this name, and its number.
 fn find_symbol<'a>(symbols: &'a [Symbol], name: &[u8]) -> Option<(u32, &'a Symbol)>
     requires { length symbols.now ≤ 2 ^ 32 }
-    ensures { MatchOption result ((s : Symbol) → Contains symbols.now s → s.name ≢ name.now) (λ p. IsFirstNamed symbols.now name.now p.0 p.1.now) }
+    ensures { MatchOption result ((s : Symbol) → Contains symbols.now s → s.name ≢ name.now)
+        (λ p. IsFirstNamed symbols.now name.now p.0 p.1.now) }
 {
     for number in 0..symbols.len() {
         if symbols[number].name.text() == name {
@@ -82,7 +83,8 @@ fn find_symbol<'a>(symbols: &'a [Symbol], name: &[u8]) -> Option<(u32, &'a Symbo
 }
 
 fn has_form(symbol: &Symbol, text: &LiteralText<'_>) -> bool
-    ensures { MatchBool result (HasFormOf symbol.now (literal_view text.now)) (HasFormOf symbol.now (literal_view text.now) → ⊥) }
+    ensures { MatchBool result (HasFormOf symbol.now (literal_view text.now))
+        (HasFormOf symbol.now (literal_view text.now) → ⊥) }
 {
     if symbol.args.len() != text.args.len() {
         return false;
@@ -101,45 +103,26 @@ fn is_alike(ty: Option<u32>, value: &Option<ElemText<'_>>) -> bool
     }
 }
 
-fn is_same(x: &Elem, y: &Elem) -> bool
-    ensures { MatchBool result (x.now ≡ y.now) (x.now ≢ y.now) }
-{
-    match (x, y) {
-        (Elem::Named(name), Elem::Named(other)) => name.text() == other.text(),
-        (Elem::Num(n), Elem::Num(other)) => n == other,
-        _ => false,
-    }
-}
-
-fn is_in(domain: &[Elem], elem: &Elem) -> bool
-    ensures { MatchBool result (Contains domain.now elem.now) (Contains domain.now elem.now → ⊥) }
-{
-    for member in domain {
-        if is_same(member, elem) {
-            return true;
-        }
-    }
-    false
-}
-
-fn is_row_over(domains: &[ElemList], types: &[u32], row: &[Elem]) -> bool
+fn is_row_over(known: &Partial, types: &[u32], row: &[Elem]) -> bool
     requires { length types.now ≡ length row.now }
-    ensures { MatchBool result (IsRowOver domains.now types.now row.now) (IsRowOver domains.now types.now row.now → ⊥) }
+    ensures { MatchBool result (IsRowOver known.now.domains types.now row.now)
+        (IsRowOver known.now.domains types.now row.now → ⊥) }
 {
     for place in 0..row.len() {
-        if !is_in(domain_in(domains, types[place]), &row[place]) {
+        if !known.has_element(types[place], &row[place]) {
             return false;
         }
     }
     true
 }
 
-fn is_value_over(domains: &[ElemList], ty: Option<u32>, value: &Option<Elem>) -> bool
-    ensures { MatchBool result (HasValueIn domains.now ty value.now) (HasValueIn domains.now ty value.now → ⊥) }
+fn is_value_over(known: &Partial, ty: Option<u32>, value: &Option<Elem>) -> bool
+    ensures { MatchBool result (HasValueIn known.now.domains ty value.now)
+        (HasValueIn known.now.domains ty value.now → ⊥) }
 {
     match (ty, value) {
         (None, None) => true,
-        (Some(ty), Some(elem)) => is_in(domain_in(domains, ty), elem),
+        (Some(ty), Some(elem)) => known.has_element(ty, elem),
         _ => false,
     }
 }
@@ -148,11 +131,11 @@ fn is_value_over(domains: &[ElemList], ty: Option<u32>, value: &Option<Elem>) ->
 fn is_literal_over(kb: &KnowledgeBase, symbol: &Symbol, literal: &Literal) -> bool
     requires declared { slice_get kb.now.typed.vocab.symbols literal.now.symbol ≡ Some symbol.now }
     requires args { length symbol.now.args ≡ length literal.now.args }
-    ensures { MatchBool result (IsLiteralOver (base_of kb.now) literal.now) (IsLiteralOver (base_of kb.now) literal.now → ⊥) }
+    ensures { MatchBool result (IsLiteralOver (base_of kb.now) literal.now)
+        (IsLiteralOver (base_of kb.now) literal.now → ⊥) }
 {
-    let domains = kb.data().domains().as_slice();
-    is_row_over(domains, symbol.args.as_slice(), literal.args.as_slice())
-        && is_value_over(domains, symbol.value, &literal.value)
+    is_row_over(kb.data(), symbol.args.as_slice(), literal.args.as_slice())
+        && is_value_over(kb.data(), symbol.value, &literal.value)
 }
 
 /// The literal that is written.

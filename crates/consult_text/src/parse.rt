@@ -43,7 +43,8 @@ fn is_reserved(text: &[u8]) -> bool
 }
 
 fn is_sign(token: &Token<'_>, text: &[u8]) -> bool
-    ensures { MatchBool result (tok_of (lexeme_of token.now) ≡ sign text.now) (tok_of (lexeme_of token.now) ≢ sign text.now) }
+    ensures { MatchBool result (tok_of (lexeme_of token.now) ≡ sign text.now)
+        (tok_of (lexeme_of token.now) ≢ sign text.now) }
 {
     match token.kind {
         Kind::Sign => token.text == text,
@@ -52,7 +53,8 @@ fn is_sign(token: &Token<'_>, text: &[u8]) -> bool
 }
 
 fn is_word(token: &Token<'_>, text: &[u8]) -> bool
-    ensures { MatchBool result (tok_of (lexeme_of token.now) ≡ word text.now) (tok_of (lexeme_of token.now) ≢ word text.now) }
+    ensures { MatchBool result (tok_of (lexeme_of token.now) ≡ word text.now)
+        (tok_of (lexeme_of token.now) ≢ word text.now) }
 {
     match token.kind {
         Kind::Word => token.text == text,
@@ -160,7 +162,8 @@ fn parse_args<'a, 'b>(
     alloc: Global,
     tokens: &'b [Token<'a>],
 ) -> Result<Option<(Vec<ElemText<'a>>, &'b [Token<'a>])>, Memory>
-    ensures { IfOk result (λ found. MatchOption found (HasNoArgs (toks tokens.now)) (λ p. ParsesArgs (toks tokens.now) (elem_views p.0.items) (toks p.1.now))) }
+    ensures { IfOk result (λ found. MatchOption found (HasNoArgs (toks tokens.now))
+        (λ p. ParsesArgs (toks tokens.now) (elem_views p.0.items) (toks p.1.now))) }
 {
     let mut args = Vec::new(alloc);
     let Some(behind) = behind_sign(b"(", tokens) else {
@@ -181,7 +184,8 @@ fn parse_head<'a, 'b>(
     alloc: Global,
     tokens: &'b [Token<'a>],
 ) -> Result<Option<(Head<'a>, &'b [Token<'a>])>, Memory>
-    ensures { IfOk result (λ found. MatchOption found (HasNoHead (toks tokens.now)) (λ p. ParsesHead (toks tokens.now) p.0.name.now (elem_views p.0.args.items) (toks p.1.now))) }
+    ensures { IfOk result (λ found. MatchOption found (HasNoHead (toks tokens.now))
+        (λ p. ParsesHead (toks tokens.now) p.0.name.now (elem_views p.0.args.items) (toks p.1.now))) }
 {
     let Some((name, behind)) = parse_name(tokens) else {
         return Ok(None);

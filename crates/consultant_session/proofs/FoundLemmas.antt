@@ -16,15 +16,24 @@ use Rattle.consult_text.specs.Searches.{weight}
 use Rattle.consultant_session.specs.Queries.{IsTaskOver}
 
 -- what two facts say of what was found
-pub if_ok : {A E : Type 0} {P Q R : A → Type 0} (r : Result A E) → ((x : A) → P x → Q x → R x) → IfOk r P → IfOk r Q → IfOk r R
+pub if_ok : {A E : Type 0} {P Q R : A → Type 0} (r : Result A E) → ((x : A) → P x → Q x → R x) → IfOk r P
+    → IfOk r Q → IfOk r R
 if_ok (Ok x) f p q = f x p q
 if_ok (Err e) f p q = tt
 
 -- the choices are over the atoms of the task
-over_at : (kb : Base) (ls : List Literal) → AllByRecursion (IsLiteralOver kb) ls → AllByRecursion (λ l. IsAtomOver kb.vocabulary.symbols kb.known.domains (atom_of l)) ls
+over_at : (kb : Base) (ls : List Literal) → AllByRecursion (IsLiteralOver kb) ls
+    → AllByRecursion (λ l. IsAtomOver kb.vocabulary.symbols kb.known.domains (atom_of l)) ls
 over_at kb [] over = tt
-over_at kb (l ∷ ls) over =
-    ((over.0.symbol, over.0.declared, elements_tuple kb.known.domains over.0.symbol.args l.args over.0.args, over.0.value), over_at kb ls over.1)
+over_at kb (l ∷ ls) over = (
+  (
+    over.0.symbol,
+    over.0.declared,
+    elements_tuple kb.known.domains over.0.symbol.args l.args over.0.args,
+    over.0.value,
+  ),
+  over_at kb ls over.1,
+)
 
 pub choices_over : (kb : Base) (numbers : GroundBase) (s : SolveState) (ls : List Literal) → IsTaskOver kb numbers s
     → AllByRecursion (IsLiteralOver kb) ls → AreOver numbers ls
@@ -56,5 +65,7 @@ power_grows (suc a) zero le = absurd (omega (arith, le))
 power_grows (suc a) (suc b) le = omega (arith, power_grows a b (omega (arith, le)))
 
 -- what one search spends is less than what is enough
-pub less_than_enough : (kb : Base) (free spent : ℕ) → free ≤ weight kb → spent - 0 < 1 * 2 ^ (free + 1) → spent < 1 * 2 ^ (weight kb + 1)
-less_than_enough kb free spent small few = omega (arith, few, power_grows (free + 1) (weight kb + 1) (omega (arith, small)))
+pub less_than_enough : (kb : Base) (free spent : ℕ) → free ≤ weight kb → spent - 0 < 1 * 2 ^ (free + 1)
+    → spent < 1 * 2 ^ (weight kb + 1)
+less_than_enough kb free spent small few =
+    omega (arith, few, power_grows (free + 1) (weight kb + 1) (omega (arith, small)))

@@ -19,11 +19,13 @@ ChosenIsMembership = (s : State) (l : Literal) → IsTrue (is_chosen s l) ↔ Co
 
 -- without a literal, the choices are exactly the other ones
 abbrev pub WithoutRemovesOne : Type 0
-WithoutRemovesOne = (l c : Literal) (choices : List Literal) → Contains (without l choices) c ↔ (Contains choices c × (c ≢ l))
+WithoutRemovesOne = (l c : Literal) (choices : List Literal) → Contains (without l choices) c
+    ↔ (Contains choices c × (c ≢ l))
 
 -- where no literal is a choice twice, a command leaves it so
 abbrev pub ChoicesStayDistinct : Type 0
-ChoicesStayDistinct = (kb : Base) (s : State) (c : Command) → IsDistinct s.choices → IsDistinct (state_after kb s c).choices
+ChoicesStayDistinct = (kb : Base) (s : State) (c : Command) → IsDistinct s.choices
+    → IsDistinct (state_after kb s c).choices
 
 -- no command but `budget` changes the budget
 abbrev pub BudgetStays : Type 0
@@ -35,4 +37,5 @@ opposite l = record l { positive = not l.positive }
 
 -- there is no model where a literal and its opposite are choices
 abbrev pub OppositeChoicesHaveNoModel : Type 0
-OppositeChoicesHaveNoModel = (kb : Base) (s : State) (l : Literal) (m : Structure) → Contains s.choices l → Contains s.choices (opposite l) → ModelOfState kb s m → ⊥
+OppositeChoicesHaveNoModel = (kb : Base) (s : State) (l : Literal) (m : Structure) → Contains s.choices l
+    → Contains s.choices (opposite l) → ModelOfState kb s m → ⊥

@@ -122,7 +122,8 @@ impl Session {
 
     fn retract(&mut self, literal: &Literal) -> Reply
         ensures right { RightReply (base_of self.old.kb) self.old.state (command.Retract literal.now) result }
-        ensures after { self.new.state ≡ state_after (base_of self.old.kb) self.old.state (command.Retract literal.now) }
+        ensures after { self.new.state ≡ state_after (base_of self.old.kb) self.old.state
+            (command.Retract literal.now) }
         ensures kb { self.new.kb ≡ self.old.kb }
     {
         if !is_among(self.choices.as_slice(), literal) {

@@ -30,7 +30,7 @@ not-and : (a b : Bool) → (not a || not b) ≡ not (a && b)
 not-and true b = refl
 not-and false b = refl
 
-any-negated : (v : ℕ → Bool) (ls : List Lit)
+pub any-negated : (v : ℕ → Bool) (ls : List Lit)
     → list_any (literal_value v) (map negated ls) ≡ not (list_all (literal_value v) ls)
 any-negated v [] = refl
 any-negated v (l ∷ ls) =
@@ -155,7 +155,8 @@ plain-within n (x ∷ g) (Some []) a w h = cc
 plain-within n (x ∷ g) (Some (l ∷ ls)) a w h = cc
 
 -- the clauses are over the variables
-pub side-clauses : (n : ℕ) (l : Lit) (g : List Lit) (o : Option (List Lit)) → IsLitOf n l → AreLitsOf n g → SideWithin n o
+pub side-clauses : (n : ℕ) (l : Lit) (g : List Lit) (o : Option (List Lit)) → IsLitOf n l → AreLitsOf n g
+    → SideWithin n o
     → All (AreLitsOf n) (side_clauses l g o)
 side-clauses n l g None hl hg ho = All-nil (AreLitsOf n)
 side-clauses n l g (Some ls) hl hg ho =
@@ -430,9 +431,7 @@ module _ (p : ProblemState) (cs : List Case) (V : (ℕ → Bool) → Bool) (fine
 
   abbrev got : Bool → Bool → Option Answer → GroundResult
   got a c o =
-      if a then record { answer = Constant true; problem = p }
-      else (if c then record { answer = Constant false; problem = p }
-      else answer_or_cases o cs p)
+      answer_or_cases (if a then Some (Constant true) else (if c then Some (Constant false) else o)) cs p
 
   got-right : (a c : Bool) (o : Option Answer) → list_all (λ (d : Case). is_always d.yes) cs ≡ a
       → list_all (λ (d : Case). is_always d.no) cs ≡ c → plain_answer cs ≡ o

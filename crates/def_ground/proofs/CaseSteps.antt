@@ -1,6 +1,6 @@
 -- Steps over cases.
 use Rattle.std.proofs.Common.{◌≡◌, ℕ, ◌+◌, ◌<◌, Bool, true, false, not, ◌&&◌, cond, if◌then◌else◌, List, [], ◌∷◌, ◌++◌}
-use Rattle.std.proofs.Common.{map, filter, length, drop, get_or, Option, Some, None, refl, sym, ap, ◌∙◌, arith}
+use Rattle.std.proofs.Common.{map, filter, length, drop, get_or, Option, Some, None, refl, sym, ap, subst, ◌∙◌, arith}
 use Rattle.std.specs.List.{list_all, AllByRecursion}
 use Rattle.std.proofs.lemmas.List.{at_drop_more}
 use Rattle.lit_core.specs.declared.literals.Lit.{Lit}
@@ -9,8 +9,9 @@ use Rattle.ground_core.specs.Problems.{ProblemState, IsLitOf, AreLitsOf}
 use Rattle.def_ground.specs.declared.cases.Case.{Case as CaseOfCode}
 use Rattle.def_ground.specs.declared.answers.Answer.{Answer}
 use Rattle.def_ground.specs.declared.answers.Answer.TheVariants.{Constant, Literal}
-use Rattle.def_ground.specs.Answers.{GroundResult, Grows}
-use Rattle.def_ground.specs.Cases.{Case, is_always, only_literal, only_guard, plain_answer, answer_or_cases, cases_of}
+use Rattle.def_ground.specs.Answers.{GroundResult, Grows, AnswerWithin, opposite_of}
+use Rattle.def_ground.specs.Cases.{Case, is_always, only_literal, only_guard, plain_answer, answer_or_cases, answer_without}
+use Rattle.def_ground.specs.Cases.{cases_of}
 use Rattle.def_ground.specs.CaseViews.{case_view}
 use Rattle.def_ground.specs.Meanings.{IsCaseOf}
 use Rattle.def_ground.proofs.CaseLaws.{side-clauses, plain-of-within}
@@ -47,9 +48,7 @@ side-clause-in n l g ls here guards side = side-clauses n l g (Some ls) here gua
 module _ (p : ProblemState) (cs : List Case) (h : AllByRecursion (IsCaseOf p.vars) cs) where
   abbrev made : Bool → Bool → Option Answer → GroundResult
   made a c o =
-      if a then record { answer = Constant true; problem = p }
-      else (if c then record { answer = Constant false; problem = p }
-      else answer_or_cases o cs p)
+      answer_or_cases (if a then Some (Constant true) else (if c then Some (Constant false) else o)) cs p
 
   made-grows : (a c : Bool) (o : Option Answer) → plain_answer cs ≡ o
       → Grows p (made a c o).problem (made a c o).answer
@@ -63,3 +62,22 @@ module _ (p : ProblemState) (cs : List Case) (h : AllByRecursion (IsCaseOf p.var
   cases-grow =
       made-grows (list_all (λ (c : Case). is_always c.yes) cs) (list_all (λ (c : Case). is_always c.no) cs)
       (plain_answer cs) refl
+
+-- an answer that needs no variable is over the problem's
+pub answer-in : (n : ℕ) (cs : List Case) (a : Answer) → AllByRecursion (IsCaseOf n) cs → answer_without cs ≡ Some a
+    → AnswerWithin n a
+answer-in n cs a are h =
+    by (list_all (λ (c : Case). is_always c.yes) cs) (list_all (λ (c : Case). is_always c.no) cs) (plain_answer cs)
+    (plain-of-within n cs a are) h
+  where
+    by : (t u : Bool) (o : Option Answer) → (o ≡ Some a → AnswerWithin n a)
+        → (if t then Some (Constant true) else (if u then Some (Constant false) else o)) ≡ Some a → AnswerWithin n a
+    by true u o f e = let is : Constant true ≡ a = cc in subst (AnswerWithin n) is tt
+    by false true o f e = let is : Constant false ≡ a = cc in subst (AnswerWithin n) is tt
+    by false false o f e = f e
+
+pub signed-in : (n : ℕ) (sign : Bool) (a : Answer) → AnswerWithin n a
+    → AnswerWithin n (if sign then a else opposite_of a)
+signed-in n true a h = h
+signed-in n false (Constant c) h = tt
+signed-in n false (Literal l) h = h

@@ -25,12 +25,14 @@ use Rattle.def_ground.specs.declared.answers.Answer.{Answer}
 use Rattle.def_ground.specs.declared.answers.Answer.TheVariants.{Constant, Literal}
 use Rattle.term_values.specs.GroundBases.{GroundBase}
 use Rattle.term_values.specs.Rows.{rows_of_term, rows_of_terms}
-use Rattle.def_ground.specs.Cases.{answer_or_cases, Case, is_always, plain_answer, cases_of}
+use Rattle.def_ground.specs.Cases.{answer_or_cases, answer_without, Case, is_always, plain_answer, cases_of}
+use Rattle.def_ground.specs.CaseSentences.{or_clause, answer_or_clauses, assert_comparison, assert_alike}
+use Rattle.def_ground.specs.Disjuncts.{own_part, disjuncts_of, all_disjuncts}
 use Rattle.def_ground.specs.Answers.{GroundResult, gate_of}
 use Rattle.def_ground.specs.Comparisons.{guard_answers, comparison_case, comparison_of}
 use Rattle.def_ground.specs.Forms.{atom_case, signed_result, Parts, settles, with_answer, next_parts, no_more_parts}
 use Rattle.def_ground.specs.Forms.{parts_each, close_parts, opposite_result, same_of, form_of, parts_of}
-use Rattle.def_ground.specs.Sentences.{or_clause, parts_clause, assert_each, assert_of, assert_all, assert_any}
+use Rattle.def_ground.specs.Sentences.{are_few, parts_clause, assert_each, assert_of, assert_all, assert_any}
 use Rattle.def_ground.specs.Sentences.{assert_sentences}
 use Rattle.def_ground.specs.Problems.{start_problem}
 use Rattle.def_ground.proofs.TypedForms.{IsTypedForm, AreTypedForms, typed-form}
@@ -59,19 +61,13 @@ next-vars : (s : Bool) (ls : List Lit) (q : ProblemState) (rest : Parts) (m k n 
 next-vars true ls q rest m k n h r = omega (arith, h)
 next-vars false ls q rest m k n h r = omega (arith, h, r)
 
-cases-by : (a c : Bool) (o : Option Answer) (cs : List Case) (p : ProblemState)
-    → (let g : GroundResult = (if a then record { answer = Constant true; problem = p } else
-    (if c then record { answer = Constant false; problem = p } else answer_or_cases o cs p)) in
-    g.problem.vars ≤ p.vars + 1)
-cases-by true c o cs p = omega arith
-cases-by false true o cs p = omega arith
-cases-by false false (Some x) cs p = omega arith
-cases-by false false None cs p = omega arith
+answer-vars : (o : Option Answer) (cs : List Case) (p : ProblemState)
+    → (answer_or_cases o cs p).problem.vars ≤ p.vars + 1
+answer-vars (Some x) cs p = omega arith
+answer-vars None cs p = omega arith
 
 cases-vars : (cs : List Case) (p : ProblemState) → (cases_of cs p).problem.vars ≤ p.vars + 1
-cases-vars cs p =
-    cases-by (list_all (λ (c : Case). is_always c.yes) cs) (list_all (λ (c : Case). is_always c.no) cs)
-    (plain_answer cs) cs p
+cases-vars cs p = answer-vars (answer_without cs) cs p
 
 singles-vars : (bs : List (List Lit × Denotation)) (p : ProblemState)
     → (guard_answers bs p).problem.vars ≤ p.vars + length bs
@@ -85,8 +81,8 @@ always-none c [] = refl
 always-none c (x ∷ xs) = always-none c xs
 
 constant-vars : (a c : Bool) (o : Option Answer) (cs : List Case) (p : ProblemState) → a ≡ true
-    → (let g : GroundResult = (if a then record { answer = Constant true; problem = p } else
-    (if c then record { answer = Constant false; problem = p } else answer_or_cases o cs p)) in g.problem.vars ≤ p.vars)
+    → (answer_or_cases (if a then Some (Constant true) else (if c then Some (Constant false) else o)) cs p).problem.vars
+    ≤ p.vars
 constant-vars true c o cs p e = omega arith
 constant-vars false c o cs p e = cc
 
@@ -233,6 +229,55 @@ clause-vars : (s : Bool) (q : ProblemState) (ls : List Lit) → (if s then q els
 clause-vars true q ls = refl
 clause-vars false q ls = refl
 
+either-vars : (few : Bool) (q r : ProblemState) (n : ℕ) → q.vars ≤ n → r.vars ≤ n → (if few then q else r).vars ≤ n
+either-vars true q r n h k = h
+either-vars false q r n h k = k
+
+shown-vars : (o : Option Answer) (sign : Bool) (ls : List Lit) (cs : List Case) (p : ProblemState)
+    → (answer_or_clauses o sign ls cs p).vars ≡ p.vars
+shown-vars (Some a) sign ls cs p =
+    let g : GroundResult = record { answer = a; problem = p } in
+    let one = signed-problem sign g in
+    let two = clause-vars (settles false (signed_result sign g).answer) (signed_result sign g).problem
+    (with_answer (signed_result sign g).answer ls) in
+    two ∙ one
+shown-vars None sign ls cs p = refl
+
+assert-comparison-vars : (sign : Bool) (c : Cmp) (xs ys : List (List Lit × Denotation)) (ls : List Lit)
+    (p : ProblemState) (a b : ℕ) → length xs ≤ a → length ys ≤ b
+    → (assert_comparison sign c xs ys ls p).vars ≤ p.vars + 4 * (a * b)
+assert-comparison-vars sign c [] ys ls p a b hx hy =
+    let k = shown-vars (Some (Constant true)) sign ls [] p in omega (arith, k)
+assert-comparison-vars sign c (x ∷ xs) ys ls p a b hx hy =
+    let s = singles-vars ys p in
+    let q = guard_answers ys p in
+    let cs = map (comparison_case c q.rows) (x ∷ xs) in
+    let k = shown-vars (answer_without cs) sign ls cs q.problem in
+    let one : 1 * length ys ≤ a * b = mul-le 1 (length ys) a b (omega (arith, hx)) hy in
+    omega (arith, s, k, one)
+
+folded-vars : (sign : Bool) (ls : List Lit) (g : GroundResult) (n : ℕ) → g.problem.vars ≤ n
+    → (or_clause ls (signed_result sign g)).vars ≤ n
+folded-vars sign ls g n h =
+    let one = signed-problem sign g in
+    let two = clause-vars (settles false (signed_result sign g).answer) (signed_result sign g).problem
+    (with_answer (signed_result sign g).answer ls) in
+    omega (arith, h, one, two)
+
+alike-vars : (sign : Bool) (x y : Answer) (ls : List Lit) (p : ProblemState)
+    → (assert_alike sign x y ls p).vars ≤ p.vars + 1
+alike-vars sign (Constant c) y ls p =
+    folded-vars sign ls (same_of (Constant c) y p) (p.vars + 1) (same-vars (Constant c) y p)
+alike-vars sign (Literal l) (Constant c) ls p =
+    folded-vars sign ls (same_of (Literal l) (Constant c) p) (p.vars + 1) (same-vars (Literal l) (Constant c) p)
+alike-vars true (Literal l) (Literal m) ls p = omega arith
+alike-vars false (Literal l) (Literal m) ls p = omega arith
+
+more-vars : (s : Bool) (r t : Parts) (m k n : ℕ) → r.problem.vars ≤ m + k → t.problem.vars ≤ r.problem.vars + n
+    → (if s then r else t).problem.vars ≤ m + (k + n)
+more-vars true r t m k n h l = omega (arith, h)
+more-vars false r t m k n h l = omega (arith, h, l)
+
 unless-vars : (s : Bool) (q r : ProblemState) (m k n : ℕ) → q.vars ≤ m + k → r.vars ≤ q.vars + n
     → (if s then q else r).vars ≤ m + (k + n)
 unless-vars true q r m k n h l = omega (arith, h)
@@ -257,6 +302,67 @@ module _ (b : GroundBase) where
       let one = signed-problem sign (form_of b f e p) in
       let two = clause-vars (settles false g.answer) g.problem (with_answer g.answer ls) in
       omega (arith, k, one, two)
+
+  own-vars : (sign : Bool) (f : FormulaTree) (scope : List ℕ) (e : List Elem) (ls : List Lit) (p : ProblemState)
+      → HasTypes b.domains scope e → IsTypedForm b.vocabulary b.domains scope f
+      → (own_part b sign f e ls p).problem.vars ≤ p.vars + 4 * occurrences b.vocabulary b.domains f 1
+  own-vars sign f scope e ls p types h =
+      let g = signed_result sign (form_of b f e p) in
+      let xs = with_answer g.answer ls in
+      let k = form-vars b f scope e p types h in
+      let one = signed-problem sign (form_of b f e p) in
+      let all = next-vars (settles false g.answer) xs g.problem (no_more_parts xs g.problem) p.vars
+      (4 * occurrences b.vocabulary b.domains f 1) 0 (omega (arith, k, one)) (omega arith) in
+      omega (arith, all)
+
+  mutual
+    disjuncts-vars : (sign : Bool) (f : FormulaTree) (scope : List ℕ) (e : List Elem) (ls : List Lit)
+        (p : ProblemState) → HasTypes b.domains scope e → IsTypedForm b.vocabulary b.domains scope f
+        → (disjuncts_of b sign f e ls p).problem.vars ≤ p.vars + 4 * occurrences b.vocabulary b.domains f 1
+    disjuncts-vars sign verum scope e ls p types h = own-vars sign verum scope e ls p types h
+    disjuncts-vars sign falsum scope e ls p types h = own-vars sign falsum scope e ls p types h
+    disjuncts-vars sign (atom s ts) scope e ls p types h = own-vars sign (atom s ts) scope e ls p types h
+    disjuncts-vars sign (comparison c x y) scope e ls p types h =
+        own-vars sign (comparison c x y) scope e ls p types h
+    disjuncts-vars sign (equivalence f g) scope e ls p types h =
+        own-vars sign (equivalence f g) scope e ls p types h
+    disjuncts-vars sign (universal bs f) scope e ls p types h = own-vars sign (universal bs f) scope e ls p types h
+    disjuncts-vars sign (existential bs f) scope e ls p types h =
+        own-vars sign (existential bs f) scope e ls p types h
+    disjuncts-vars sign (numbered c n bs f) scope e ls p types h = absurd h
+    disjuncts-vars true (negation f) scope e ls p types h =
+        let k = disjuncts-vars false f scope e ls p types h in omega (arith, k)
+    disjuncts-vars false (negation f) scope e ls p types h =
+        let k = disjuncts-vars true f scope e ls p types h in omega (arith, k)
+    disjuncts-vars true (conjunction fs) scope e ls p types h =
+        own-vars true (conjunction fs) scope e ls p types h
+    disjuncts-vars false (conjunction fs) scope e ls p types h =
+        let k = all-disjuncts-vars false fs scope e ls p types h in omega (arith, k)
+    disjuncts-vars true (disjunction fs) scope e ls p types h =
+        let k = all-disjuncts-vars true fs scope e ls p types h in omega (arith, k)
+    disjuncts-vars false (disjunction fs) scope e ls p types h =
+        own-vars false (disjunction fs) scope e ls p types h
+    disjuncts-vars true (implication f g) scope e ls p types h =
+        let r = disjuncts_of b false f e ls p in
+        let one = disjuncts-vars false f scope e ls p types h.0 in
+        let two = disjuncts-vars true g scope e r.lits r.problem types h.1 in
+        let k = more-vars r.settled r (disjuncts_of b true g e r.lits r.problem) p.vars
+        (4 * occurrences b.vocabulary b.domains f 1) (4 * occurrences b.vocabulary b.domains g 1) one two in
+        omega (arith, k)
+    disjuncts-vars false (implication f g) scope e ls p types h =
+        own-vars false (implication f g) scope e ls p types h
+
+    all-disjuncts-vars : (sign : Bool) (fs : FormulaTrees) (scope : List ℕ) (e : List Elem) (ls : List Lit)
+        (p : ProblemState) → HasTypes b.domains scope e → AreTypedForms b.vocabulary b.domains scope fs
+        → (all_disjuncts b sign fs e ls p).problem.vars ≤ p.vars + 4 * all_occurrences b.vocabulary b.domains fs 1
+    all-disjuncts-vars sign no_formulas scope e ls p types h = omega arith
+    all-disjuncts-vars sign (more_formulas f fs) scope e ls p types h =
+        let r = disjuncts_of b sign f e ls p in
+        let one = disjuncts-vars sign f scope e ls p types h.0 in
+        let two = all-disjuncts-vars sign fs scope e r.lits r.problem types h.1 in
+        let k = more-vars r.settled r (all_disjuncts b sign fs e r.lits r.problem) p.vars
+        (4 * occurrences b.vocabulary b.domains f 1) (4 * all_occurrences b.vocabulary b.domains fs 1) one two in
+        omega (arith, k)
 
   instances-vars : (sign : Bool) (f : FormulaTree) (scope : List ℕ) (bs : List Bound) (e : List Elem) (ls : List Lit)
       (p : ProblemState) → HasTypes b.domains scope e
@@ -283,9 +389,21 @@ module _ (b : GroundBase) where
     assert-vars false verum scope e ls p types h = omega arith
     assert-vars true falsum scope e ls p types h = omega arith
     assert-vars false falsum scope e ls p types h = omega arith
-    assert-vars sign (atom s ts) scope e ls p types h = leaf-vars sign (atom s ts) scope e ls p types h
-    assert-vars sign (comparison c x y) scope e ls p types h = leaf-vars sign (comparison c x y) scope e ls p types h
-    assert-vars sign (equivalence f g) scope e ls p types h = leaf-vars sign (equivalence f g) scope e ls p types h
+    assert-vars sign (atom s ts) scope e ls p types h =
+        let cs = map (atom_case b s) (rows_of_terms b ts e) in
+        let k = shown-vars (answer_without cs) sign ls cs p in omega (arith, k)
+    assert-vars sign (comparison c x y) scope e ls p types h =
+        let k = assert-comparison-vars sign c (rows_of_term b x e) (rows_of_term b y e) ls p
+        (application_count b.vocabulary b.domains x) (application_count b.vocabulary b.domains y)
+        (term-few b scope e types x h.0) (term-few b scope e types y h.1) in
+        omega (arith, k)
+    assert-vars sign (equivalence f g) scope e ls p types h =
+        let x = form_of b f e p in
+        let y = form_of b g e x.problem in
+        let one = form-vars b f scope e p types h.0 in
+        let two = form-vars b g scope e x.problem types h.1 in
+        let k = alike-vars sign x.answer y.answer ls y.problem in
+        omega (arith, one, two, k)
     assert-vars sign (numbered c n bs f) scope e ls p types h = absurd h
     assert-vars true (negation f) scope e ls p types h =
         let k = assert-vars false f scope e ls p types h in omega (arith, k)
@@ -300,12 +418,15 @@ module _ (b : GroundBase) where
     assert-vars false (disjunction fs) scope e ls p types h =
         let k = all-vars false fs scope e ls p types h in omega (arith, k)
     assert-vars true (implication f g) scope e ls p types h =
-        let x = signed_result false (form_of b f e p) in
-        let one = form-vars b f scope e p types h.0 in
-        let two = assert-vars true g scope e (with_answer x.answer ls) x.problem types h.1 in
-        let k = unless-vars (settles false x.answer) x.problem
-        (assert_of b true g e (with_answer x.answer ls) x.problem) p.vars (4 * occurrences b.vocabulary b.domains f 1)
-        (4 * occurrences b.vocabulary b.domains g 1) one two in
+        let r = disjuncts_of b false f e ls p in
+        let n = 4 * occurrences b.vocabulary b.domains g 1 in
+        let direct = assert_of b true g e r.lits r.problem in
+        let other = or_clause r.lits (signed_result true (form_of b g e r.problem)) in
+        let one = disjuncts-vars false f scope e ls p types h.0 in
+        let two = either-vars (are_few r.lits) direct other (r.problem.vars + n)
+        (assert-vars true g scope e r.lits r.problem types h.1) (leaf-vars true g scope e r.lits r.problem types h.1) in
+        let k = unless-vars r.settled r.problem (if are_few r.lits then direct else other) p.vars
+        (4 * occurrences b.vocabulary b.domains f 1) n one two in
         omega (arith, k)
     assert-vars false (implication f g) scope e ls p types h =
         let one = assert-vars true f scope e ls p types h.0 in
@@ -352,16 +473,17 @@ module _ (b : GroundBase) where
         → (assert_any b sign fs e ls p).vars ≤ p.vars + 4 * all_occurrences b.vocabulary b.domains fs 1
     any-vars sign no_formulas scope e ls p types h = omega arith
     any-vars sign (more_formulas f no_formulas) scope e ls p types h =
-        let k = assert-vars sign f scope e ls p types h.0 in omega (arith, k)
+        let k = either-vars (are_few ls) (assert_of b sign f e ls p)
+        (or_clause ls (signed_result sign (form_of b f e p))) (p.vars + 4 * occurrences b.vocabulary b.domains f 1)
+        (assert-vars sign f scope e ls p types h.0) (leaf-vars sign f scope e ls p types h.0) in
+        omega (arith, k)
     any-vars sign (more_formulas f (more_formulas g fs)) scope e ls p types h =
-        let x = signed_result sign (form_of b f e p) in
-        let one = form-vars b f scope e p types h.0 in
-        let same = signed-problem sign (form_of b f e p) in
-        let two = any-vars sign (more_formulas g fs) scope e (with_answer x.answer ls) x.problem types h.1 in
-        let k = unless-vars (settles false x.answer) x.problem
-        (assert_any b sign (more_formulas g fs) e (with_answer x.answer ls) x.problem) p.vars
+        let r = disjuncts_of b sign f e ls p in
+        let one = disjuncts-vars sign f scope e ls p types h.0 in
+        let two = any-vars sign (more_formulas g fs) scope e r.lits r.problem types h.1 in
+        let k = unless-vars r.settled r.problem (assert_any b sign (more_formulas g fs) e r.lits r.problem) p.vars
         (4 * occurrences b.vocabulary b.domains f 1)
-        (4 * all_occurrences b.vocabulary b.domains (more_formulas g fs) 1) (omega (arith, one, same)) two in
+        (4 * all_occurrences b.vocabulary b.domains (more_formulas g fs) 1) one two in
         omega (arith, k)
 
   sentences-vars : (fs : List FormulaTree) (p : ProblemState)

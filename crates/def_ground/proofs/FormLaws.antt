@@ -251,7 +251,7 @@ same-one : (c d : Bool) → d ≡ same_truth true d
 same-one c d = refl
 
 -- whether two answers are the same
-iff-right : (p q r : ProblemState) (x y : Answer) (F G : (ℕ → Bool) → Bool) → Means p q x F → Means q r y G
+pub iff-right : (p q r : ProblemState) (x y : Answer) (F G : (ℕ → Bool) → Bool) → Means p q x F → Means q r y G
     → (let g = same_of x y r in Means p g.problem g.answer (λ v. same_truth (F v) (G v)))
 iff-right p q r (Constant true) y F G h k =
     record {

@@ -1,7 +1,6 @@
 -- What is said stays said: a problem that grows keeps its atoms, and its clauses stay the first ones.
 use Rattle.std.proofs.Common.{◌≡◌, ℕ, ◌+◌, Bool, true, false, List, [], ◌∷◌, ◌++◌, map, if◌then◌else◌, Option, Some, None, refl}
 use Rattle.std.proofs.Common.{sym, ap, ◌∙◌}
-use Rattle.std.specs.List.{list_all}
 use Rattle.std.proofs.lemmas.List.{append-nil, append_assoc}
 use Rattle.kb_logic.specs.declared.elements.Elem.{Elem}
 use Rattle.kb_logic.specs.declared.syntax.Cmp.{Cmp}
@@ -11,6 +10,7 @@ use Rattle.kb_logic.specs.Trees.{FormulaTree, verum, falsum, atom, comparison, n
 use Rattle.kb_logic.specs.Trees.{implication, equivalence, universal, existential, numbered, FormulaTrees, no_formulas}
 use Rattle.kb_logic.specs.Trees.{more_formulas}
 use Rattle.lit_core.specs.declared.literals.Lit.{Lit}
+use Rattle.lit_core.specs.Literals.{negated}
 use Rattle.ground_core.specs.declared.parts.Gate.{Gate}
 use Rattle.ground_core.specs.Problems.{ProblemState}
 use Rattle.ground_core.specs.Growth.{next_lit, with_clause, with_gate, clauses_of_same}
@@ -19,11 +19,14 @@ use Rattle.term_values.specs.Rows.{rows_of_term, rows_of_terms}
 use Rattle.def_ground.specs.declared.answers.Answer.{Answer}
 use Rattle.def_ground.specs.declared.answers.Answer.TheVariants.{Constant, Literal}
 use Rattle.def_ground.specs.Answers.{GroundResult, gate_of}
-use Rattle.def_ground.specs.Cases.{Case, is_always, plain_answer, answer_or_cases, clauses_of_cases, cases_of}
+use Rattle.def_ground.specs.Cases.{Case, answer_or_cases, answer_without, clauses_of_cases, cases_of}
 use Rattle.def_ground.specs.Comparisons.{guard_answers, comparison_case, comparison_of}
 use Rattle.def_ground.specs.Forms.{Parts, settles, with_answer, next_parts, no_more_parts, parts_each, close_parts}
 use Rattle.def_ground.specs.Forms.{opposite_result, signed_result, same_of, atom_case, form_of, parts_of}
-use Rattle.def_ground.specs.Sentences.{or_clause, parts_clause, assert_each, assert_of, assert_all, assert_any}
+use Rattle.def_ground.specs.CaseSentences.{or_clause, clauses_saying, answer_or_clauses, assert_cases}
+use Rattle.def_ground.specs.CaseSentences.{assert_comparison, alike_clauses, assert_alike}
+use Rattle.def_ground.specs.Disjuncts.{own_part, disjuncts_of, all_disjuncts}
+use Rattle.def_ground.specs.Sentences.{are_few, parts_clause, assert_each, assert_of, assert_all, assert_any}
 use Rattle.def_ground.specs.Sentences.{assert_sentences}
 use Rattle.def_ground.specs.Problems.{start_problem}
 use Rattle.def_ground.specs.Groundings.{ground_base, ProblemSaysClauses}
@@ -89,17 +92,8 @@ answer-keeps (Some a) cs p = keeps-all p
 answer-keeps None cs p =
     let more = clauses_of_cases (next_lit p) cs in grown p (p.vars + 1) p.gates (p.clauses ++ more) more refl
 
-cases-by : (a c : Bool) (o : Option Answer) (cs : List Case) (p : ProblemState)
-    → (let g : GroundResult = (if a then record { answer = Constant true; problem = p } else
-    (if c then record { answer = Constant false; problem = p } else answer_or_cases o cs p)) in Keeps p g.problem)
-cases-by true c o cs p = keeps-all p
-cases-by false true o cs p = keeps-all p
-cases-by false false o cs p = answer-keeps o cs p
-
 cases-keep : (cs : List Case) (p : ProblemState) → Keeps p (cases_of cs p).problem
-cases-keep cs p =
-    cases-by (list_all (λ (c : Case). is_always c.yes) cs) (list_all (λ (c : Case). is_always c.no) cs)
-    (plain_answer cs) cs p
+cases-keep cs p = answer-keeps (answer_without cs) cs p
 
 guards-keep : (bs : List (List Lit × Denotation)) (p : ProblemState) → Keeps p (guard_answers bs p).problem
 guards-keep [] p = keeps-all p
@@ -202,6 +196,51 @@ parts-clause-keeps : (p : ProblemState) (r : Parts) → Keeps p r.problem → Ke
 parts-clause-keeps p r h =
     unless-keeps r.settled p r.problem (with_clause r.problem r.lits) h (keeps-clause r.problem r.lits)
 
+either-keeps : (few : Bool) (p q r : ProblemState) → Keeps p q → Keeps p r → Keeps p (if few then q else r)
+either-keeps true p q r h k = h
+either-keeps false p q r h k = k
+
+shown-keeps : (o : Option Answer) (sign : Bool) (ls : List Lit) (cs : List Case) (p : ProblemState)
+    → Keeps p (answer_or_clauses o sign ls cs p)
+shown-keeps (Some a) sign ls cs p =
+    let g : GroundResult = record { answer = a; problem = p } in
+    or-keeps ls p (signed_result sign g) (signed-keeps sign p g (keeps-all p))
+shown-keeps None sign ls cs p =
+    let more = clauses_saying sign ls cs in grown p p.vars p.gates (p.clauses ++ more) more refl
+
+assert-cases-keep : (sign : Bool) (ls : List Lit) (cs : List Case) (p : ProblemState)
+    → Keeps p (assert_cases sign ls cs p)
+assert-cases-keep sign ls cs p = shown-keeps (answer_without cs) sign ls cs p
+
+assert-comparison-keeps : (sign : Bool) (c : Cmp) (xs ys : List (List Lit × Denotation)) (ls : List Lit)
+    (p : ProblemState) → Keeps p (assert_comparison sign c xs ys ls p)
+assert-comparison-keeps sign c [] ys ls p =
+    let g : GroundResult = record { answer = Constant true; problem = p } in
+    or-keeps ls p (signed_result sign g) (signed-keeps sign p g (keeps-all p))
+assert-comparison-keeps sign c (x ∷ xs) ys ls p =
+    let s = guard_answers ys p in
+    let cs = map (comparison_case c s.rows) (x ∷ xs) in
+    keeps-on p s.problem (assert_cases sign ls cs s.problem) (guards-keep ys p)
+    (assert-cases-keep sign ls cs s.problem)
+
+alike-keeps : (sign : Bool) (x y : Answer) (ls : List Lit) (p : ProblemState)
+    → Keeps p (assert_alike sign x y ls p)
+alike-keeps sign (Constant c) y ls p =
+    let g = same_of (Constant c) y p in
+    or-keeps ls p (signed_result sign g) (signed-keeps sign p g (same-keeps (Constant c) y p))
+alike-keeps sign (Literal l) (Constant c) ls p =
+    let g = same_of (Literal l) (Constant c) p in
+    or-keeps ls p (signed_result sign g) (signed-keeps sign p g (same-keeps (Literal l) (Constant c) p))
+alike-keeps true (Literal l) (Literal m) ls p =
+    let more = alike_clauses ls l m in grown p p.vars p.gates (p.clauses ++ more) more refl
+alike-keeps false (Literal l) (Literal m) ls p =
+    let more = alike_clauses ls l (negated m) in grown p p.vars p.gates (p.clauses ++ more) more refl
+
+more-keep : (s : Bool) (p : ProblemState) (r t : Parts) → Keeps p r.problem → Keeps r.problem t.problem
+    → Keeps p (if s then r else t).problem
+more-keep true p r t h k = h
+more-keep false p r t h k = keeps-on p r.problem t.problem h k
+
 assert-each-keeps : (A : List Elem → ProblemState → ProblemState)
     → ((a : List Elem) (p : ProblemState) → Keeps p (A a p)) → (xs : List (List Elem)) (p : ProblemState)
     → Keeps p (assert_each A xs p)
@@ -214,6 +253,45 @@ module _ (b : GroundBase) where
       → Keeps p (or_clause ls (signed_result sign (form_of b f e p)))
   leaf-keeps sign f e ls p =
       or-keeps ls p (signed_result sign (form_of b f e p)) (signed-keeps sign p (form_of b f e p) (form-keeps b f e p))
+
+  own-keeps : (sign : Bool) (f : FormulaTree) (e : List Elem) (ls : List Lit) (p : ProblemState)
+      → Keeps p (own_part b sign f e ls p).problem
+  own-keeps sign f e ls p =
+      let g = signed_result sign (form_of b f e p) in
+      let xs = with_answer g.answer ls in
+      next-keeps (settles false g.answer) xs p g.problem (no_more_parts xs g.problem)
+      (signed-keeps sign p (form_of b f e p) (form-keeps b f e p)) (keeps-all g.problem)
+
+  mutual
+    disjuncts-keep : (sign : Bool) (f : FormulaTree) (e : List Elem) (ls : List Lit) (p : ProblemState)
+        → Keeps p (disjuncts_of b sign f e ls p).problem
+    disjuncts-keep sign verum e ls p = own-keeps sign verum e ls p
+    disjuncts-keep sign falsum e ls p = own-keeps sign falsum e ls p
+    disjuncts-keep sign (atom s ts) e ls p = own-keeps sign (atom s ts) e ls p
+    disjuncts-keep sign (comparison c x y) e ls p = own-keeps sign (comparison c x y) e ls p
+    disjuncts-keep sign (equivalence f g) e ls p = own-keeps sign (equivalence f g) e ls p
+    disjuncts-keep sign (universal bs f) e ls p = own-keeps sign (universal bs f) e ls p
+    disjuncts-keep sign (existential bs f) e ls p = own-keeps sign (existential bs f) e ls p
+    disjuncts-keep sign (numbered c n bs f) e ls p = own-keeps sign (numbered c n bs f) e ls p
+    disjuncts-keep true (negation f) e ls p = disjuncts-keep false f e ls p
+    disjuncts-keep false (negation f) e ls p = disjuncts-keep true f e ls p
+    disjuncts-keep true (conjunction fs) e ls p = own-keeps true (conjunction fs) e ls p
+    disjuncts-keep false (conjunction fs) e ls p = all-disjuncts-keep false fs e ls p
+    disjuncts-keep true (disjunction fs) e ls p = all-disjuncts-keep true fs e ls p
+    disjuncts-keep false (disjunction fs) e ls p = own-keeps false (disjunction fs) e ls p
+    disjuncts-keep true (implication f g) e ls p =
+        let r = disjuncts_of b false f e ls p in
+        more-keep r.settled p r (disjuncts_of b true g e r.lits r.problem) (disjuncts-keep false f e ls p)
+        (disjuncts-keep true g e r.lits r.problem)
+    disjuncts-keep false (implication f g) e ls p = own-keeps false (implication f g) e ls p
+
+    all-disjuncts-keep : (sign : Bool) (fs : FormulaTrees) (e : List Elem) (ls : List Lit) (p : ProblemState)
+        → Keeps p (all_disjuncts b sign fs e ls p).problem
+    all-disjuncts-keep sign no_formulas e ls p = keeps-all p
+    all-disjuncts-keep sign (more_formulas f fs) e ls p =
+        let r = disjuncts_of b sign f e ls p in
+        more-keep r.settled p r (all_disjuncts b sign fs e r.lits r.problem) (disjuncts-keep sign f e ls p)
+        (all-disjuncts-keep sign fs e r.lits r.problem)
 
   instances-keep : (sign : Bool) (f : FormulaTree) (e : List Elem) (ls : List Lit) (xs : List (List Elem))
       (p : ProblemState)
@@ -230,9 +308,16 @@ module _ (b : GroundBase) where
     assert-keeps false verum e ls p = keeps-clause p ls
     assert-keeps true falsum e ls p = keeps-clause p ls
     assert-keeps false falsum e ls p = keeps-all p
-    assert-keeps sign (atom s ts) e ls p = leaf-keeps sign (atom s ts) e ls p
-    assert-keeps sign (comparison c x y) e ls p = leaf-keeps sign (comparison c x y) e ls p
-    assert-keeps sign (equivalence f g) e ls p = leaf-keeps sign (equivalence f g) e ls p
+    assert-keeps sign (atom s ts) e ls p =
+        assert-cases-keep sign ls (map (atom_case b s) (rows_of_terms b ts e)) p
+    assert-keeps sign (comparison c x y) e ls p =
+        assert-comparison-keeps sign c (rows_of_term b x e) (rows_of_term b y e) ls p
+    assert-keeps sign (equivalence f g) e ls p =
+        let x = form_of b f e p in
+        let y = form_of b g e x.problem in
+        keeps-on p x.problem (assert_alike sign x.answer y.answer ls y.problem) (form-keeps b f e p)
+        (keeps-on x.problem y.problem (assert_alike sign x.answer y.answer ls y.problem) (form-keeps b g e x.problem)
+        (alike-keeps sign x.answer y.answer ls y.problem))
     assert-keeps sign (numbered c n bs f) e ls p = leaf-keeps sign (numbered c n bs f) e ls p
     assert-keeps true (negation f) e ls p = assert-keeps false f e ls p
     assert-keeps false (negation f) e ls p = assert-keeps true f e ls p
@@ -241,9 +326,12 @@ module _ (b : GroundBase) where
     assert-keeps true (disjunction fs) e ls p = any-keep true fs e ls p
     assert-keeps false (disjunction fs) e ls p = all-keep false fs e ls p
     assert-keeps true (implication f g) e ls p =
-        let x = signed_result false (form_of b f e p) in
-        unless-keeps (settles false x.answer) p x.problem (assert_of b true g e (with_answer x.answer ls) x.problem)
-        (form-keeps b f e p) (assert-keeps true g e (with_answer x.answer ls) x.problem)
+        let r = disjuncts_of b false f e ls p in
+        let one = assert_of b true g e r.lits r.problem in
+        let two = or_clause r.lits (signed_result true (form_of b g e r.problem)) in
+        unless-keeps r.settled p r.problem (if are_few r.lits then one else two) (disjuncts-keep false f e ls p)
+        (either-keeps (are_few r.lits) r.problem one two (assert-keeps true g e r.lits r.problem)
+        (leaf-keeps true g e r.lits r.problem))
     assert-keeps false (implication f g) e ls p =
         let q = assert_of b true f e ls p in
         keeps-on p q (assert_of b false g e ls q) (assert-keeps true f e ls p) (assert-keeps false g e ls q)
@@ -266,13 +354,13 @@ module _ (b : GroundBase) where
     any-keep : (sign : Bool) (fs : FormulaTrees) (e : List Elem) (ls : List Lit) (p : ProblemState)
         → Keeps p (assert_any b sign fs e ls p)
     any-keep sign no_formulas e ls p = keeps-clause p ls
-    any-keep sign (more_formulas f no_formulas) e ls p = assert-keeps sign f e ls p
+    any-keep sign (more_formulas f no_formulas) e ls p =
+        either-keeps (are_few ls) p (assert_of b sign f e ls p) (or_clause ls (signed_result sign (form_of b f e p)))
+        (assert-keeps sign f e ls p) (leaf-keeps sign f e ls p)
     any-keep sign (more_formulas f (more_formulas g fs)) e ls p =
-        let x = signed_result sign (form_of b f e p) in
-        unless-keeps (settles false x.answer) p x.problem
-        (assert_any b sign (more_formulas g fs) e (with_answer x.answer ls) x.problem)
-        (signed-keeps sign p (form_of b f e p) (form-keeps b f e p))
-        (any-keep sign (more_formulas g fs) e (with_answer x.answer ls) x.problem)
+        let r = disjuncts_of b sign f e ls p in
+        unless-keeps r.settled p r.problem (assert_any b sign (more_formulas g fs) e r.lits r.problem)
+        (disjuncts-keep sign f e ls p) (any-keep sign (more_formulas g fs) e r.lits r.problem)
 
   pub sentences-keep : (fs : List FormulaTree) (p : ProblemState) → Keeps p (assert_sentences b fs p)
   sentences-keep [] p = keeps-all p

@@ -1,5 +1,5 @@
 -- Atoms and comparisons.
-use Rattle.std.proofs.Common.{◌≡◌, ℕ, ◌+◌, ◌*◌, ◌<◌, ◌≤◌, Bool, true, false, not, List, [], ◌∷◌, ◌++◌, map, flat_map}
+use Rattle.std.proofs.Common.{◌≡◌, ℕ, ◌+◌, ◌*◌, ◌<◌, ◌≤◌, Bool, true, false, not, ◌||◌, List, [], ◌∷◌, ◌++◌, map, flat_map}
 use Rattle.std.proofs.Common.{length, if◌then◌else◌, Option, Some, None, refl, sym, ap, ◌∙◌, arith}
 use Rattle.std.specs.List.{list_all, AllByRecursion}
 use Rattle.std.proofs.lemmas.List.Elements.{All-append, All-cons, All-nil, All-push}
@@ -8,6 +8,7 @@ use Rattle.kb_logic.specs.declared.elements.Elem.{Elem}
 use Rattle.kb_logic.specs.declared.syntax.Cmp.{Cmp}
 use Rattle.kb_logic.specs.Trees.{TermTree, variable, integer, constructed, application, summation, product, aggregate}
 use Rattle.kb_logic.specs.Trees.{TermTrees, no_terms, more_terms, SummandTrees, no_summands, more_summands, atom}
+use Rattle.kb_logic.specs.Trees.{FormulaTree}
 use Rattle.kb_logic.specs.Trees.{comparison}
 use Rattle.kb_logic.specs.Denotations.{Denotation, denotation_of, compared}
 use Rattle.kb_logic.specs.Meaning.{has_row, value_of, values_of, truth_of, number_value, summand_plus, product_from}
@@ -25,19 +26,31 @@ use Rattle.term_values.specs.Rows.{positive_lit, with_row, value_rows, rows_at, 
 use Rattle.term_values.specs.Rows.{rows_of_terms, rows_of_sum, selected_values}
 use Rattle.def_ground.specs.Comparisons.{comparison_of, guard_answers, or_literal, any_where, side_where}
 use Rattle.def_ground.specs.Comparisons.{comparison_case}
-use Rattle.def_ground.specs.Cases.{Case, case_of, cases_of}
+use Rattle.def_ground.specs.Cases.{Case, case_of}
+use Rattle.def_ground.specs.CaseSentences.{assert_comparison}
+use Rattle.def_ground.specs.Sentences.{assert_of}
+use Rattle.def_ground.specs.GroundForms.{IsGroundForm}
 use Rattle.def_ground.specs.Answers.{answer_value, gate_of, AnswerWithin}
-use Rattle.def_ground.specs.Forms.{answer_of_atom, atom_answer}
-use Rattle.def_ground.specs.Meanings.{Means, HasAtoms, HasRoom, IsCaseOf, SideWithin}
+use Rattle.def_ground.specs.Forms.{answer_of_atom, atom_answer, atom_case, signed_result}
+use Rattle.def_ground.specs.Meanings.{Means, AssertsMore, HasAtoms, HasRoom, IsCaseOf, SideWithin}
 use Rattle.term_values.specs.GroundTerms.{IsGroundTerm}
 use Rattle.def_ground.specs.Laws.{FormIsRight}
 use Rattle.term_values.proofs.RowFacts.{place-below}
 use Rattle.term_values.proofs.RowLaws.{term-right, terms-right}
 use Rattle.def_ground.proofs.Growing.{more-refl, lit-more, lits-more}
-use Rattle.def_ground.proofs.CaseLaws.{cases-hold}
-use Rattle.def_ground.proofs.FormLaws.{LeafIsRight, gate-right, means-then, form-right}
+use Rattle.def_ground.proofs.FormLaws.{LeafIsRight, gate-right, form-right}
+use Rattle.def_ground.proofs.AssertSteps.{any-of, signed-truth, signed-means, clause-right}
+use Rattle.def_ground.proofs.ReadyCases.{AreReady, ready-means, ready-asserts}
 use Rattle.def_ground.proofs.LeafLaws.{predicate-is, predicate-rows-at, atom-value, case-selected, case-yes, case-no}
 use Rattle.def_ground.proofs.LeafLaws.{case-guards, chosen-answers, side-right}
+
+-- a leaf of a sentence: it is asserted, or its opposite, or one of the literals
+abbrev pub LeafSays : FormulaTree → Type 0
+LeafSays f =
+    (b : GroundBase) (e : List Elem) (p : ProblemState) (sign : Bool) (ls : List Lit) → IsProblem p → HasAtoms b p
+    → HasRoom b p → IsGroundForm b f → AreLitsOf p.vars ls
+    → AssertsMore p (assert_of b sign f e ls p)
+    (λ v. any-of ls v || signed-truth sign (truth_of (structure_of b v) f e))
 
 abbrev pub RowsIn : {X : Type 0} → ℕ → List (List Lit × X) → Type 0
 RowsIn n rs = AllByRecursion (λ r. AreLitsOf n r.0) rs
@@ -134,32 +147,39 @@ pub cases-in : {X : Type 0} (n m : ℕ) (C : List Lit × X → Case) (rs : List 
 cases-in n m C [] f h = tt
 cases-in n m C (r ∷ rs) f h = (f r h.0, cases-in n m C rs f h.1)
 
-pub atom-right : (s : ℕ) (ts : TermTrees) → LeafIsRight (atom s ts)
-atom-right s ts b e p fine at room h =
+-- the cases of an atom say what it is
+pub atom-ready : (s : ℕ) (ts : TermTrees) (b : GroundBase) (e : List Elem) (p : ProblemState) → IsProblem p
+    → HasAtoms b p → HasRoom b p → IsGroundForm b (atom s ts)
+    → AreReady p p (map (atom_case b s) (rows_of_terms b ts e)) (λ v. truth_of (structure_of b v) (atom s ts) e)
+atom-ready s ts b e p fine at room h =
     let rows = rows_of_terms b ts e in
     let A : List Denotation → Answer = λ vs. atom_answer b s (row_index (tuples_at b s) vs) in
     let C : List Lit × List Denotation → Case = λ r. case_of r.0 (A r.1) in
     let V : (ℕ → Bool) → Bool = λ v. truth_of (structure_of b v) (atom s ts) e in
-    cases-hold p (map C rows) V fine
-    (cases-in p.vars p.vars C rows
-    (λ r g. case-in p.vars r.0 (A r.1) g (inside (row_index (tuples_at b s) r.1) (place-below (tuples_at b s) r.1)))
-    (terms-in b p room e ts))
-    (λ v w agree. ap (λ m. truth_of m (atom s ts) e) (room.same v w agree))
-    (λ v sat.
-    let over = at v sat in
-    let vs = values_of (structure_of b v) ts e in
-    let c = case-selected v C (λ r. case-guards r.0 (A r.1)) rows vs (terms-right b v over e ts h.1) in
-    let value : answer_value v (A c.0.1) ≡ V v =
-    ap (λ ws. answer_value v (A ws)) c.1 ∙ atom-value b v over.known s (row_index (tuples_at b s) vs)
-    ∙ sym (predicate-is v (first_var b s) (tuples_at b s) vs)
-    ∙ sym (ap (λ rs. has_row rs vs) (predicate-rows-at b v s h.0)) in
     record {
-      case = C c.0;
-      one = c.2;
-      yes = case-yes v c.0.0 (A c.0.1) ∙ value;
-      no = case-no v c.0.0 (A c.0.1)
-          ∙ ap not value;
-    })
+      fine = fine;
+      more = more-refl p;
+      are =
+          cases-in p.vars p.vars C rows
+          (λ r g. case-in p.vars r.0 (A r.1) g
+          (inside (row_index (tuples_at b s) r.1) (place-below (tuples_at b s) r.1)))
+          (terms-in b p room e ts);
+      local = λ v w agree. ap (λ m. truth_of m (atom s ts) e) (room.same v w agree);
+      say = λ v sat.
+          let over = at v sat in
+          let vs = values_of (structure_of b v) ts e in
+          let c = case-selected v C (λ r. case-guards r.0 (A r.1)) rows vs (terms-right b v over e ts h.1) in
+          let value : answer_value v (A c.0.1) ≡ V v =
+          ap (λ ws. answer_value v (A ws)) c.1 ∙ atom-value b v over.known s (row_index (tuples_at b s) vs)
+          ∙ sym (predicate-is v (first_var b s) (tuples_at b s) vs)
+          ∙ sym (ap (λ rs. has_row rs vs) (predicate-rows-at b v s h.0)) in
+          record {
+            case = C c.0;
+            one = c.2;
+            yes = case-yes v c.0.0 (A c.0.1) ∙ value;
+            no = case-no v c.0.0 (A c.0.1) ∙ ap not value;
+          };
+    }
   where
     inside : (o : Option ℕ) → ((i : ℕ) → o ≡ Some i → i < length (tuples_at b s))
         → AnswerWithin p.vars (atom_answer b s o)
@@ -167,6 +187,17 @@ atom-right s ts b e p fine at room h =
     inside (Some i) f =
         let low = first-above b s in known-in p.vars (first_var b s + i) (known_of b (first_var b s + i))
         (omega (arith, low)) (room.predicates s i h.0.value (f i refl))
+
+pub atom-right : (s : ℕ) (ts : TermTrees) → LeafIsRight (atom s ts)
+atom-right s ts b e p fine at room h =
+    ready-means p p (map (atom_case b s) (rows_of_terms b ts e)) (λ v. truth_of (structure_of b v) (atom s ts) e)
+    (atom-ready s ts b e p fine at room h)
+
+-- an atom that is asserted
+pub atom-says : (s : ℕ) (ts : TermTrees) → LeafSays (atom s ts)
+atom-says s ts b e p sign ls fine at room h within =
+    ready-asserts p p (map (atom_case b s) (rows_of_terms b ts e)) (λ v. truth_of (structure_of b v) (atom s ts) e)
+    sign ls (atom-ready s ts b e p fine at room h) within
 
 -- one literal in place of each row's guards
 record SinglesAre (p : ProblemState) (bs : List (List Lit × Denotation)) (q : ProblemState)
@@ -225,51 +256,93 @@ pub side-in : (n : ℕ) (test : Denotation → Bool) (rs : List (Answer × Denot
 side-in n test rs h =
     if-in n (list_all (λ (r : Answer × Denotation). test r.1) rs) None (any_where test rs) tt (any-in n test rs h)
 
+-- the cases of a comparison say what it is
+comparison-ready : (c : Cmp) (x y : TermTree) (b : GroundBase) (e : List Elem) (p : ProblemState) → IsProblem p
+    → HasAtoms b p → HasRoom b p → IsGroundTerm b y
+    → (xs : List (List Lit × Denotation)) → RowsIn p.vars xs
+    → ((v : ℕ → Bool) → Satisfies p v → selected_values v xs ≡ value_of (structure_of b v) x e ∷ [])
+    → (let s = guard_answers (rows_of_term b y e) p in
+    AreReady p s.problem (map (comparison_case c s.rows) xs) (λ v. truth_of (structure_of b v) (comparison c x y) e))
+comparison-ready c x y b e p fine at room h xs within sel =
+    let ys = rows_of_term b y e in
+    let s = singles-right ys p fine (term-in b p room e y) in
+    let q = (guard_answers ys p).problem in
+    let rs = (guard_answers ys p).rows in
+    let C : List Lit × Denotation → Case = comparison_case c rs in
+    record {
+      fine = s.fine;
+      more = s.more;
+      are =
+          cases-in q.vars p.vars C xs (λ r g. record {
+            guards = lits-more p.vars q.vars s.more.grows r.0 g;
+            yes =
+                side-in q.vars (λ d. compared c r.1 d) rs s.within;
+            no =
+                side-in q.vars (λ d. not (compared c r.1 d)) rs s.within;
+          }) within;
+      local = λ v w agree. ap (λ m. truth_of m (comparison c x y) e) (room.same v w agree);
+      say = λ v sat.
+          let old = s.more.restricts v sat in
+          let over = at v old in
+          let vx = value_of (structure_of b v) x e in
+          let vy = value_of (structure_of b v) y e in
+          let k = case-selected v C (λ r. refl) xs vx (sel v old) in
+          let one : chosen-answers v rs ≡ vy ∷ [] = s.right v sat ∙ term-right b v over e y h in
+          record {
+            case = C k.0;
+            one = k.2;
+            yes = side-right v (λ d. compared c k.0.1 d) rs vy one ∙ ap (λ d. compared c d vy) k.1;
+            no = side-right v (λ d. not (compared c k.0.1 d)) rs vy one ∙ ap (λ d. not (compared c d vy)) k.1;
+          };
+    }
+
+-- where the left term has no row, no valuation satisfies the problem
+none-means : (c : Cmp) (x y : TermTree) (b : GroundBase) (e : List Elem) (p : ProblemState) → IsProblem p
+    → ((v : ℕ → Bool) → Satisfies p v → [] ≡ value_of (structure_of b v) x e ∷ [])
+    → Means p p (Constant true) (λ v. truth_of (structure_of b v) (comparison c x y) e)
+none-means c x y b e p fine sel =
+    record { fine = fine; more = more-refl p; within = tt; right = λ v s. let z = sel v s in cc }
+
 comparison-by : (c : Cmp) (x y : TermTree) (b : GroundBase) (e : List Elem) (p : ProblemState) → IsProblem p
     → HasAtoms b p → HasRoom b p → IsGroundTerm b y
     → (xs : List (List Lit × Denotation)) → RowsIn p.vars xs
     → ((v : ℕ → Bool) → Satisfies p v → selected_values v xs ≡ value_of (structure_of b v) x e ∷ [])
     → (let g = comparison_of c xs (rows_of_term b y e) p in
     Means p g.problem g.answer (λ v. truth_of (structure_of b v) (comparison c x y) e))
-comparison-by c x y b e p fine at room h [] within sel =
-    record { fine = fine; more = more-refl p; within = tt; right = λ v s. let z = sel v s in cc }
+comparison-by c x y b e p fine at room h [] within sel = none-means c x y b e p fine sel
 comparison-by c x y b e p fine at room h (x1 ∷ more) within sel =
-    let xs = x1 ∷ more in
-    let ys = rows_of_term b y e in
-    let s = singles-right ys p fine (term-in b p room e y) in
-    let q = (guard_answers ys p).problem in
-    let rs = (guard_answers ys p).rows in
-    let C : List Lit × Denotation → Case = comparison_case c rs in
-    let V : (ℕ → Bool) → Bool = λ v. truth_of (structure_of b v) (comparison c x y) e in
-    means-then p q (cases_of (map C xs) q).problem (cases_of (map C xs) q).answer V V s.more
-    (cases-hold q (map C xs) V s.fine
-    (cases-in q.vars p.vars C xs (λ r g. record {
-      guards = lits-more p.vars q.vars s.more.grows r.0 g;
-      yes =
-          side-in q.vars (λ d. compared c r.1 d) rs s.within;
-      no =
-          side-in q.vars (λ d. not (compared c r.1 d)) rs s.within;
-    }) within)
-    (λ v w agree. ap (λ m. truth_of m (comparison c x y) e)
-    (room.same v w (λ k low high. agree k low (omega (arith, high, s.more.grows)))))
-    (λ v sat.
-    let old = s.more.restricts v sat in
-    let over = at v old in
-    let vx = value_of (structure_of b v) x e in
-    let vy = value_of (structure_of b v) y e in
-    let k = case-selected v C (λ r. refl) xs vx (sel v old) in
-    let one : chosen-answers v rs ≡ vy ∷ [] = s.right v sat ∙ term-right b v over e y h in
-    record {
-      case = C k.0;
-      one = k.2;
-      yes = side-right v (λ d. compared c k.0.1 d) rs vy one ∙ ap (λ d. compared c d vy) k.1;
-      no = side-right v (λ d. not (compared c k.0.1 d)) rs vy one ∙ ap (λ d. not (compared c d vy)) k.1;
-    }))
-    (λ v sat. refl)
+    let s = guard_answers (rows_of_term b y e) p in
+    ready-means p s.problem (map (comparison_case c s.rows) (x1 ∷ more))
+    (λ v. truth_of (structure_of b v) (comparison c x y) e)
+    (comparison-ready c x y b e p fine at room h (x1 ∷ more) within sel)
 
 pub comparison-right : (c : Cmp) (x y : TermTree) → LeafIsRight (comparison c x y)
 comparison-right c x y b e p fine at room h =
     comparison-by c x y b e p fine at room h.1 (rows_of_term b x e) (term-in b p room e x)
+    (λ v s. term-right b v (at v s) e x h.0)
+
+-- a comparison that is asserted
+comparison-says-by : (c : Cmp) (x y : TermTree) (b : GroundBase) (e : List Elem) (p : ProblemState) (sign : Bool)
+    (ls : List Lit) → IsProblem p → HasAtoms b p → HasRoom b p → IsGroundTerm b y → AreLitsOf p.vars ls
+    → (xs : List (List Lit × Denotation)) → RowsIn p.vars xs
+    → ((v : ℕ → Bool) → Satisfies p v → selected_values v xs ≡ value_of (structure_of b v) x e ∷ [])
+    → AssertsMore p (assert_comparison sign c xs (rows_of_term b y e) ls p)
+    (λ v. any-of ls v || signed-truth sign (truth_of (structure_of b v) (comparison c x y) e))
+comparison-says-by c x y b e p sign ls fine at room h inside [] within sel =
+    let V : (ℕ → Bool) → Bool = λ v. truth_of (structure_of b v) (comparison c x y) e in
+    clause-right p (signed_result sign (record { answer = Constant true; problem = p })) ls
+    (λ v. signed-truth sign (V v)) inside
+    (λ v w agree. ap (λ m. signed-truth sign (truth_of m (comparison c x y) e)) (room.same v w agree))
+    (signed-means p sign (record { answer = Constant true; problem = p }) V (none-means c x y b e p fine sel))
+comparison-says-by c x y b e p sign ls fine at room h inside (x1 ∷ more) within sel =
+    let s = guard_answers (rows_of_term b y e) p in
+    ready-asserts p s.problem (map (comparison_case c s.rows) (x1 ∷ more))
+    (λ v. truth_of (structure_of b v) (comparison c x y) e) sign ls
+    (comparison-ready c x y b e p fine at room h (x1 ∷ more) within sel) inside
+
+pub comparison-says : (c : Cmp) (x y : TermTree) → LeafSays (comparison c x y)
+comparison-says c x y b e p sign ls fine at room h inside =
+    comparison-says-by c x y b e p sign ls fine at room h.1 inside (rows_of_term b x e) (term-in b p room e x)
     (λ v s. term-right b v (at v s) e x h.0)
 
 pub form-is-right : FormIsRight

@@ -4,6 +4,12 @@ pub mod CaseSteps
 pub mod FormLaws
 pub mod LeafLaws
 pub mod Leaves
+pub mod AssertSteps
+pub mod SignedTruths
+pub mod CaseSentenceLaws
+pub mod ReadyCases
+pub mod AlikeLaws
+pub mod DisjunctLaws
 pub mod AssertLaws
 pub mod SentenceLaws
 pub mod TypedForms

@@ -1,6 +1,6 @@
 -- Sentences one by one, and functions with one value each.
 use Rattle.std.proofs.Common.{◌≡◌, ℕ, ◌+◌, Bool, true, false, not, ◌&&◌, ◌||◌, List, [], ◌∷◌, map, fold, if◌then◌else◌}
-use Rattle.std.proofs.Common.{refl, sym, ap, ◌∙◌}
+use Rattle.std.proofs.Common.{Option, Some, None, refl, sym, ap, ◌∙◌}
 use Rattle.std.specs.List.{list_all, list_any}
 use Rattle.std.proofs.lemmas.List.Elements.{All-nil}
 use Rattle.std.proofs.lemmas.List.Folds.{list_all-append}
@@ -11,11 +11,12 @@ use Rattle.lit_core.specs.Literals.{literal_value, negated}
 use Rattle.lit_core.proofs.Soundness.{value-negated}
 use Rattle.ground_core.proofs.Clauses.{clause_value, clauses-true, clauses-hold}
 use Rattle.ground_core.specs.Problems.{IsLitOf}
-use Rattle.term_values.specs.GroundBases.{structure_of, true_values}
+use Rattle.term_values.specs.GroundBases.{GroundBase, structure_of, true_values, HasKnown, known_of}
 use Rattle.def_ground.specs.Sentences.{assert_of}
-use Rattle.def_ground.specs.Problems.{pair_clauses, one_of_clauses, variables_from}
+use Rattle.def_ground.specs.Problems.{pair_clauses, one_of_clauses, with_open, open_variables}
 use Rattle.def_ground.specs.Laws.{SentencesAreAsserted, OneEachByClauses}
-use Rattle.def_ground.proofs.AssertLaws.{says-right, says-two, says-nothing, truth-local, room-grown}
+use Rattle.def_ground.proofs.AssertSteps.{says-two, says-nothing}
+use Rattle.def_ground.proofs.AssertLaws.{says-right, truth-local, room-grown}
 
 pub sentences-said : SentencesAreAsserted
 sentences-said b [] p fine at room h = says-nothing p (λ v. true) fine (λ v. refl)
@@ -95,12 +96,24 @@ some-step : (c a : Bool) (x : Elem) (ys : List Elem) → a ≡ some-value ys
 some-step true a x ys e = refl
 some-step false a x ys e = e
 
-some-chosen : (v : ℕ → Bool) (n : ℕ) (xs : List Elem)
-    → list_any (literal_value v) (variables_from n xs) ≡ some-value (true_values v n xs)
-some-chosen v n [] = refl
-some-chosen v n (x ∷ xs) =
-    some-step (v n) (list_any (literal_value v) (variables_from (n + 1) xs)) x (true_values v (n + 1) xs)
-    (some-chosen v (n + 1) xs)
+-- a value whose variable is known to be false is not chosen
+denied : (c : Bool) (x : Elem) (ys : List Elem) → c ≡ false → ys ≡ (if c then x ∷ ys else ys)
+denied true x ys h = cc
+denied false x ys h = refl
+
+some-open : (v : ℕ → Bool) (o : Option Bool) (n : ℕ) (ls : List Lit) (x : Elem) (ys : List Elem)
+    → ((c : Bool) → o ≡ Some c → v n ≡ c) → list_any (literal_value v) ls ≡ some-value ys
+    → list_any (literal_value v) (with_open o n ls) ≡ some-value (if v n then x ∷ ys else ys)
+some-open v None n ls x ys known e = some-step (v n) (list_any (literal_value v) ls) x ys e
+some-open v (Some true) n ls x ys known e = some-step (v n) (list_any (literal_value v) ls) x ys e
+some-open v (Some false) n ls x ys known e = e ∙ ap some-value (denied (v n) x ys (known false refl))
+
+some-chosen : (b : GroundBase) (v : ℕ → Bool) (n : ℕ) (xs : List Elem) → HasKnown b v
+    → list_any (literal_value v) (open_variables b n xs) ≡ some-value (true_values v n xs)
+some-chosen b v n [] known = refl
+some-chosen b v n (x ∷ xs) known =
+    some-open v (known_of b n) n (open_variables b (n + 1) xs) x (true_values v (n + 1) xs) (known n)
+    (some-chosen b v (n + 1) xs known)
 
 first-one : (x : Elem) (ys : List Elem) → not (some-value ys) ≡ one-value (x ∷ ys)
 first-one x [] = refl
@@ -111,12 +124,20 @@ chosen-step : (c a o : Bool) (x : Elem) (ys : List Elem) → a ≡ some-value ys
 chosen-step true a o x ys e f = ap not e ∙ first-one x ys
 chosen-step false a o x ys e f = f
 
-one-chosen : (v : ℕ → Bool) (n : ℕ) (xs : List Elem) → one-true v (variables_from n xs) ≡ one-value (true_values v n xs)
-one-chosen v n [] = refl
-one-chosen v n (x ∷ xs) =
-    chosen-step (v n) (list_any (literal_value v) (variables_from (n + 1) xs))
-    (one-true v (variables_from (n + 1) xs)) x (true_values v (n + 1) xs) (some-chosen v (n + 1) xs)
-    (one-chosen v (n + 1) xs)
+one-open : (v : ℕ → Bool) (o : Option Bool) (n : ℕ) (ls : List Lit) (x : Elem) (ys : List Elem)
+    → ((c : Bool) → o ≡ Some c → v n ≡ c) → list_any (literal_value v) ls ≡ some-value ys
+    → one-true v ls ≡ one-value ys → one-true v (with_open o n ls) ≡ one-value (if v n then x ∷ ys else ys)
+one-open v None n ls x ys known e f = chosen-step (v n) (list_any (literal_value v) ls) (one-true v ls) x ys e f
+one-open v (Some true) n ls x ys known e f =
+    chosen-step (v n) (list_any (literal_value v) ls) (one-true v ls) x ys e f
+one-open v (Some false) n ls x ys known e f = f ∙ ap one-value (denied (v n) x ys (known false refl))
+
+one-chosen : (b : GroundBase) (v : ℕ → Bool) (n : ℕ) (xs : List Elem) → HasKnown b v
+    → one-true v (open_variables b n xs) ≡ one-value (true_values v n xs)
+one-chosen b v n [] known = refl
+one-chosen b v n (x ∷ xs) known =
+    one-open v (known_of b n) n (open_variables b (n + 1) xs) x (true_values v (n + 1) xs) (known n)
+    (some-chosen b v (n + 1) xs known) (one-chosen b v (n + 1) xs known)
 
 is-one : (ys : List Elem) → one-value ys ≡ true → (x : Elem) × (ys ≡ x ∷ [])
 is-one [] h = cc
@@ -124,10 +145,10 @@ is-one (x ∷ []) h = (x, refl)
 is-one (x ∷ y ∷ ys) h = cc
 
 pub one-each : OneEachByClauses
-one-each v n xs = (
+one-each b v n xs known = (
   λ h. is-one (true_values v n xs)
-      (sym (one-chosen v n xs) ∙ sym (clauses-say-one v (variables_from n xs))
-      ∙ clauses-true v (one_of_clauses (variables_from n xs)) h),
-  λ x e. clauses-hold v (one_of_clauses (variables_from n xs))
-      (clauses-say-one v (variables_from n xs) ∙ one-chosen v n xs ∙ ap one-value e),
+      (sym (one-chosen b v n xs known) ∙ sym (clauses-say-one v (open_variables b n xs))
+      ∙ clauses-true v (one_of_clauses (open_variables b n xs)) h),
+  λ x e. clauses-hold v (one_of_clauses (open_variables b n xs))
+      (clauses-say-one v (open_variables b n xs) ∙ one-chosen b v n xs known ∙ ap one-value e),
 )

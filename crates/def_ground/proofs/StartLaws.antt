@@ -24,13 +24,14 @@ use Rattle.ground_core.specs.Problems.{IsProblem, IsLitOf, AreLitsOf, IsGateOf, 
 use Rattle.ground_core.specs.Meaning.{Satisfies, GateHolds, SumHolds, BoundHolds}
 use Rattle.ground_core.proofs.Fronts.{All-front, All-back}
 use Rattle.ground_core.proofs.Clauses.{clause-true, clause-holds}
-use Rattle.term_values.specs.GroundBases.{GroundBase, known_of, tuples_at, values_at, first_var, IsOver}
+use Rattle.term_values.specs.GroundBases.{GroundBase, known_of, tuples_at, values_at, first_var, HasKnown, IsOver}
 use Rattle.term_values.specs.KnownBases.{IsGroundBase}
 use Rattle.term_values.specs.Rows.{positive_lit}
 use Rattle.term_values.proofs.Places.{plain-atom, valued-atom, predicate-variable, function-variable}
 use Rattle.term_values.proofs.StructureAtoms.{tuples-are, values-are}
 use Rattle.term_values.proofs.StructureLaws.{declared-function, function-of, is-function, only-atoms-matter}
-use Rattle.def_ground.specs.Problems.{fact_of, pair_clauses, one_of_clauses, variables_from, tuple_clauses, said_tuples, function_clauses}
+use Rattle.def_ground.specs.Problems.{fact_of, pair_clauses, one_of_clauses, with_open, open_variables, tuple_clauses, said_tuples}
+use Rattle.def_ground.specs.Problems.{function_clauses}
 use Rattle.def_ground.specs.Problems.{all_function_clauses, fact_clauses, start_problem}
 use Rattle.def_ground.specs.Meanings.{HasAtoms, HasRoom}
 use Rattle.def_ground.proofs.SentenceLaws.{one-each}
@@ -90,13 +91,17 @@ pairs-in n (l ∷ ls) h =
     (All-cons (IsLitOf n) (negated (get_or ls k d)) [] (rest k d lt) (All-nil (IsLitOf n)))))
     (pairs-in n ls rest)
 
-pub variables-in : (n k : ℕ) (xs : List Elem) → 1 ≤ k → ((j : ℕ) → j < length xs → k + j ≤ n)
-    → AreLitsOf n (variables_from k xs)
-variables-in n k [] low high = All-nil (IsLitOf n)
-variables-in n k (x ∷ xs) low high =
-    All-cons (IsLitOf n) (positive_lit k) (variables_from (k + 1) xs)
-    (low, (let z = high 0 (omega arith) in omega (arith, z)))
-    (variables-in n (k + 1) xs (omega (arith, low))
+open-in : (n k : ℕ) (o : Option Bool) (ls : List Lit) → 1 ≤ k → k ≤ n → AreLitsOf n ls → AreLitsOf n (with_open o k ls)
+open-in n k None ls low high h = All-cons (IsLitOf n) (positive_lit k) ls (low, high) h
+open-in n k (Some true) ls low high h = All-cons (IsLitOf n) (positive_lit k) ls (low, high) h
+open-in n k (Some false) ls low high h = h
+
+pub variables-in : (b : GroundBase) (n k : ℕ) (xs : List Elem) → 1 ≤ k → ((j : ℕ) → j < length xs → k + j ≤ n)
+    → AreLitsOf n (open_variables b k xs)
+variables-in b n k [] low high = All-nil (IsLitOf n)
+variables-in b n k (x ∷ xs) low high =
+    open-in n k (known_of b k) (open_variables b (k + 1) xs) low (let z = high 0 (omega arith) in omega (arith, z))
+    (variables-in b n (k + 1) xs (omega (arith, low))
     (λ j below. let z = high (1 + j) (omega (arith, below)) in omega (arith, z)))
 
 facts-in : (m n : ℕ) (os : List (Option Bool)) → 1 ≤ n → n + length os ≤ m + 1 → All (AreLitsOf m) (fact_clauses n os)
@@ -114,17 +119,18 @@ said-fewer [] [] = omega arith
 said-fewer [] (t ∷ ts) = omega arith
 said-fewer (x ∷ xs) ts = omega arith
 
-said-all : (P : List Lit → Type 0) (n : ℕ) (xs : List Elem) (ts : List (List Elem)) (i : ℕ) → i < length ts
-    → All P (flat_map (λ (q : ℕ × List Elem). one_of_clauses (variables_from (n + q.0 * length xs) xs))
+said-all : (b : GroundBase) (P : List Lit → Type 0) (n : ℕ) (xs : List Elem) (ts : List (List Elem)) (i : ℕ)
+    → i < length ts
+    → All P (flat_map (λ (q : ℕ × List Elem). one_of_clauses (open_variables b (n + q.0 * length xs) xs))
     (enumerate_from 0 (said_tuples xs ts)))
-    → All P (one_of_clauses (variables_from (n + i * length xs) xs))
-said-all P n [] [] i h all = absurd (omega (arith, h))
-said-all P n [] (t ∷ ts) i h all = All-front P ([] ∷ []) [] all
-said-all P n (x ∷ xs) ts i h all =
+    → All P (one_of_clauses (open_variables b (n + i * length xs) xs))
+said-all b P n [] [] i h all = absurd (omega (arith, h))
+said-all b P n [] (t ∷ ts) i h all = All-front P ([] ∷ []) [] all
+said-all b P n (x ∷ xs) ts i h all =
     let r = get_or ts i [] in
     let numbered = has_enumerated 0 i ts r (slice_get-get_or ts i [] h) in
     let index : 0 + i ≡ i = omega arith in
-    part-all P (λ (q : ℕ × List Elem). one_of_clauses (variables_from (n + q.0 * length (x ∷ xs)) (x ∷ xs)))
+    part-all P (λ (q : ℕ × List Elem). one_of_clauses (open_variables b (n + q.0 * length (x ∷ xs)) (x ∷ xs)))
     (enumerate_from 0 ts) (i, r) all (subst (λ m. Has (enumerate_from 0 ts) (m, r)) index numbered)
 
 -- facts
@@ -227,8 +233,8 @@ module _ (b : GroundBase) (is : IsGroundBase b) where
   tuple-in s i d ty at value below =
       let m = length (ground_atoms b.vocabulary.symbols b.domains) in
       let n = first_var b s + i * length (values_at b s) in
-      let ls = variables_from n (values_at b s) in
-      let within : AreLitsOf m ls = variables-in m n (values_at b s) (omega arith)
+      let ls = open_variables b n (values_at b s) in
+      let within : AreLitsOf m ls = variables-in b m n (values_at b s) (omega arith)
       (λ j under. function-in s i j d ty at value below under) in
       All-cons (AreLitsOf m) ls (pair_clauses ls) within (pairs-in m ls within)
 
@@ -319,27 +325,27 @@ module _ (b : GroundBase) (is : IsGroundBase b) where
       → IsSome (value_type_of b.vocabulary s) → All (IsSatisfied v) (tuple_clauses b s i)
   tuple-true v s i h below some =
       let p = declared-function (slice_get b.vocabulary.symbols s) some in
-      said-all (IsSatisfied v) (first_var b s) (values_at b s) (tuples_at b s) i below
+      said-all b (IsSatisfied v) (first_var b s) (values_at b s) (tuples_at b s) i below
       (part-all (IsSatisfied v) (λ (q : ℕ × Symbol). function_clauses b q.0) (functions_of b.vocabulary) (s, p.0) h
       (function_has b.vocabulary s p.0 p.1 p.2 p.3))
+
+  known-at : (v : ℕ → Bool) → All (IsSatisfied v) (fact_clauses 1 b.known) → HasKnown b v
+  known-at v facts zero x h = cc
+  known-at v facts (suc n) x h =
+      let number : suc n ≡ 1 + n = omega arith in
+      ap v number ∙ facts-known v 1 b.known facts n x (unwrapped (slice_get b.known n) x h)
 
   pub start-atoms : HasAtoms b (start_problem b)
   start-atoms v s =
       let functions = All-front (IsSatisfied v) (all_function_clauses b) (fact_clauses 1 b.known) s.clauses in
       let facts = All-back (IsSatisfied v) (all_function_clauses b) (fact_clauses 1 b.known) s.clauses in
+      let known : HasKnown b v = known-at v facts in
       record {
         one =
-            λ f i below some. (one-each v (first_var b f + i * length (values_at b f)) (values_at b f)).0
+            λ f i below some. (one-each b v (first_var b f + i * length (values_at b f)) (values_at b f) known).0
             (tuple-true v f i functions below some);
-        known = λ n x. known-at v facts n x;
+        known = known;
       }
-    where
-      known-at : (v : ℕ → Bool) → All (IsSatisfied v) (fact_clauses 1 b.known) → (n : ℕ) (x : Bool)
-          → known_of b n ≡ Some x → v n ≡ x
-      known-at v facts zero x h = cc
-      known-at v facts (suc n) x h =
-          let number : suc n ≡ 1 + n = omega arith in
-          ap v number ∙ facts-known v 1 b.known facts n x (unwrapped (slice_get b.known n) x h)
 
   pub start-satisfied : (v : ℕ → Bool) → IsOver b v → Satisfies (start_problem b) v
   start-satisfied v over = record {
@@ -357,7 +363,7 @@ module _ (b : GroundBase) (is : IsGroundBase b) where
         let fewer = said-fewer (values_at b s.0) (tuples_at b s.0) in
         let below : q.0 < length (tuples_at b s.0) = omega (arith, within, fewer) in
         let x = over.one s.0 r.0 (omega (arith, index, below)) (is-function b s.0 s.1 p.1.0 p.0 p.1.1) in
-        (one-each v (first_var b s.0 + r.0 * length (values_at b s.0)) (values_at b s.0)).1 x.0 x.1)))
+        (one-each b v (first_var b s.0 + r.0 * length (values_at b s.0)) (values_at b s.0) over.known).1 x.0 x.1)))
         (known-facts v 1 b.known (λ j x at. let number : 1 + j ≡ suc j = omega arith in ap v number
         ∙ over.known (suc j) x (ap (λ o. unwrap_or o None) at)));
     sums = All-nil (SumHolds v);

@@ -1,9 +1,8 @@
 -- What cases and guarded values are, without where they lie in memory.
-use Rattle.std.specs.Prelude.{List, Bool, true, false, not, Option}
+use Rattle.std.specs.Prelude.{Bool, true, false, not}
 use Rattle.kb_logic.specs.declared.syntax.Cmp.{Cmp}
 use Rattle.kb_logic.specs.Denotations.{Denotation, compared}
 use Rattle.kb_logic.specs.Values.{value_view}
-use Rattle.lit_core.specs.declared.literals.Lit.{Lit}
 use Rattle.def_ground.specs.declared.answers.Answer.{Answer}
 use Rattle.def_ground.specs.declared.cases.Case.{Case as CaseOfCode}
 use Rattle.def_ground.specs.declared.sides.GuardedValue.{GuardedValue}
@@ -12,11 +11,6 @@ use Rattle.def_ground.specs.Cases.{Case}
 -- the case
 abbrev pub case_view : CaseOfCode → Case
 case_view c = record { guards = c.guards.now; yes = c.yes; no = c.no }
-
--- the side of a sign
-abbrev pub side_of : Bool → Case → Option (List Lit)
-side_of true c = c.yes
-side_of false c = c.no
 
 -- a row with one answer in place of its guards
 abbrev pub guarded_view : GuardedValue → Answer × Denotation

@@ -19,6 +19,11 @@ pub record Case : Type 0 where
   pub yes : Option (List Lit)
   pub no : Option (List Lit)
 
+-- the side of a sign
+abbrev pub side_of : Bool → Case → Option (List Lit)
+side_of true c = c.yes
+side_of false c = c.no
+
 -- the value of a side
 abbrev pub side_value : (ℕ → Bool) → Option (List Lit) → Bool
 side_value v None = true
@@ -28,6 +33,10 @@ side_value v (Some ls) = list_any (literal_value v) ls
 abbrev pub side_clauses : Lit → List Lit → Option (List Lit) → List (List Lit)
 side_clauses l guards None = []
 side_clauses l guards (Some ls) = (l ∷ map negated guards ++ ls) ∷ []
+
+-- the problem with more clauses
+abbrev pub with_clauses : ProblemState → List (List Lit) → ProblemState
+with_clauses p cs = record p { clauses = p.clauses ++ cs }
 
 -- the clauses that give the output its value in each case
 abbrev pub clauses_of_cases : Lit → List Case → List (List Lit)
@@ -101,12 +110,16 @@ abbrev pub answer_or_cases : Option Answer → List Case → ProblemState → Gr
 answer_or_cases (Some a) cs p = record { answer = a; problem = p }
 answer_or_cases None cs p = record { answer = Literal (next_lit p); problem = with_cases p cs }
 
--- what the cases come to: a constant where all are true, or all false
+-- the answer that needs no variable: a constant where all cases are true, or all false, or else the plain one
+abbrev pub answer_without : List Case → Option Answer
+answer_without cs =
+    if list_all (λ (c : Case). is_always c.yes) cs then Some (Constant true)
+    else if list_all (λ (c : Case). is_always c.no) cs then Some (Constant false)
+    else plain_answer cs
+
+-- what the cases come to
 abbrev pub cases_of : List Case → ProblemState → GroundResult
-cases_of cs p =
-    if list_all (λ (c : Case). is_always c.yes) cs then record { answer = Constant true; problem = p }
-    else if list_all (λ (c : Case). is_always c.no) cs then record { answer = Constant false; problem = p }
-    else answer_or_cases (plain_answer cs) cs p
+cases_of cs p = answer_or_cases (answer_without cs) cs p
 
 -- the case that an answer is, under guards
 abbrev pub case_of : List Lit → Answer → Case

@@ -61,17 +61,16 @@ abbrev in_order : List FormulaTree
 in_order = comparison cmp.Lt (application 0 no_terms) (application 1 no_terms) ∷ []
 
 -- P(a), P(b), Q(a) and Q(b) are the variables 1 to 4: the facts, then Q(b) and not Q(a), with no gate.
--- c = 1, c = 2, d = 1 and d = 2 are the variables 1 to 4 too: one value each, and one variable more for the comparison,
--- which
--- says for each value of c which values d has
+-- c = 1, c = 2, d = 1 and d = 2 are the variables 1 to 4 too: one value each, and no variable more for the comparison,
+-- which says that c and d are not both 1, and that c is not 2, since no value of d is greater
 pub record ProblemsAsWorkedOut : Type 0 where
   pub plain_vars : (problem_of predicates one_of_both).vars ≡ 4
   pub plain_gates : (problem_of predicates one_of_both).gates ≡ []
   pub plain_clauses :
       (problem_of predicates one_of_both).clauses ≡ (yes_ 1 ∷ []) ∷ (no_ 2 ∷ []) ∷ (yes_ 4 ∷ []) ∷ (no_ 3 ∷ []) ∷ []
-  pub order_vars : (problem_of constants in_order).vars ≡ 5
+  pub order_vars : (problem_of constants in_order).vars ≡ 4
   pub order_gates : (problem_of constants in_order).gates ≡ []
   pub order_clauses :
       (problem_of constants in_order).clauses
       ≡ (yes_ 1 ∷ yes_ 2 ∷ []) ∷ (no_ 1 ∷ no_ 2 ∷ []) ∷ (yes_ 3 ∷ yes_ 4 ∷ []) ∷ (no_ 3 ∷ no_ 4 ∷ [])
-      ∷ (no_ 5 ∷ no_ 1 ∷ yes_ 4 ∷ []) ∷ (yes_ 5 ∷ no_ 1 ∷ yes_ 3 ∷ []) ∷ (no_ 5 ∷ no_ 2 ∷ []) ∷ (yes_ 5 ∷ []) ∷ []
+      ∷ (no_ 1 ∷ no_ 3 ∷ []) ∷ (no_ 2 ∷ []) ∷ []

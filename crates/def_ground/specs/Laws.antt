@@ -14,11 +14,11 @@ use Rattle.lit_core.specs.Truth.{IsSatisfied}
 use Rattle.ground_core.specs.Problems.{ProblemState, IsProblem, AreLitsOf}
 use Rattle.ground_core.specs.Meaning.{Satisfies}
 use Rattle.ground_core.specs.More.{Agree}
-use Rattle.term_values.specs.GroundBases.{GroundBase, structure_of, true_values}
+use Rattle.term_values.specs.GroundBases.{GroundBase, structure_of, true_values, HasKnown}
 use Rattle.def_ground.specs.Cases.{Case, cases_of}
 use Rattle.def_ground.specs.Forms.{form_of}
 use Rattle.def_ground.specs.Sentences.{assert_of, assert_sentences}
-use Rattle.def_ground.specs.Problems.{one_of_clauses, variables_from}
+use Rattle.def_ground.specs.Problems.{one_of_clauses, open_variables}
 use Rattle.def_ground.specs.GroundForms.{IsGroundForm, HasNoCounting}
 use Rattle.def_ground.specs.Meanings.{Means, AssertsMore, HasAtoms, HasRoom, IsCaseOf, CasesSay}
 
@@ -53,12 +53,14 @@ SentencesAreAsserted =
     → IsProblem p → HasAtoms b p → HasRoom b p → AllByRecursion (IsGroundForm b) fs
     → AssertsMore p (assert_sentences b fs p) (λ v. list_all (λ f. truth_of (structure_of b v) f []) fs)
 
--- the clauses of exactly one of the variables say that exactly one of the values is chosen
+-- in a valuation with what is known, the clauses of exactly one of the open variables say that exactly one of the
+-- values
+-- is chosen
 abbrev pub OneEachByClauses : Type 0
 OneEachByClauses =
-    (v : ℕ → Bool) (n : ℕ) (xs : List Elem)
-    → (All (IsSatisfied v) (one_of_clauses (variables_from n xs)) → (x : Elem) × (true_values v n xs ≡ x ∷ []))
-    × ((x : Elem) → true_values v n xs ≡ x ∷ [] → All (IsSatisfied v) (one_of_clauses (variables_from n xs)))
+    (b : GroundBase) (v : ℕ → Bool) (n : ℕ) (xs : List Elem) → HasKnown b v
+    → (All (IsSatisfied v) (one_of_clauses (open_variables b n xs)) → (x : Elem) × (true_values v n xs ≡ x ∷ []))
+    × ((x : Elem) → true_values v n xs ≡ x ∷ [] → All (IsSatisfied v) (one_of_clauses (open_variables b n xs)))
 
 -- a well typed formula adds no more than four variables for each of its occurrences
 abbrev pub FewVariables : Type 0

@@ -3,6 +3,8 @@ pub mod Cases
 pub mod CaseViews
 pub mod Comparisons
 pub mod Forms
+pub mod CaseSentences
+pub mod Disjuncts
 pub mod Sentences
 pub mod Problems
 pub mod GroundForms

@@ -1,6 +1,6 @@
 -- The ground problem of a list of sentences: a function has one value at each tuple, known atoms are facts, and each
 -- sentence is asserted.
-use Rattle.std.specs.Prelude.{ℕ, ◌+◌, ◌*◌, List, [], ◌∷◌, ◌++◌, map, flat_map, length, take, Bool, Option, Some, None}
+use Rattle.std.specs.Prelude.{ℕ, ◌+◌, ◌*◌, List, [], ◌∷◌, ◌++◌, map, flat_map, length, take, Bool, true, false, Option, Some, None}
 use Rattle.std.specs.List.{enumerate_from}
 use Rattle.kb_logic.specs.declared.elements.Elem.{Elem}
 use Rattle.kb_logic.specs.declared.vocabularies.Symbol.{Symbol}
@@ -10,13 +10,9 @@ use Rattle.lit_core.specs.declared.literals.Lit.{Lit}
 use Rattle.lit_core.specs.Literals.{negated}
 use Rattle.ground_core.specs.Problems.{ProblemState}
 use Rattle.ground_core.specs.Atoms.{ground_atoms}
-use Rattle.term_values.specs.GroundBases.{GroundBase, tuples_at, values_at, first_var}
+use Rattle.term_values.specs.GroundBases.{GroundBase, known_of, tuples_at, values_at, first_var}
 use Rattle.term_values.specs.Rows.{positive_lit}
 use Rattle.def_ground.specs.Sentences.{assert_sentences}
-
--- the problem with more clauses
-abbrev pub with_clauses : ProblemState → List (List Lit) → ProblemState
-with_clauses p cs = record p { clauses = p.clauses ++ cs }
 
 -- not the literal together with one of these
 abbrev pub pairs_with : Lit → List Lit → List (List Lit)
@@ -31,14 +27,20 @@ pair_clauses (l ∷ ls) = pairs_with l ls ++ pair_clauses ls
 abbrev pub one_of_clauses : List Lit → List (List Lit)
 one_of_clauses ls = ls ∷ pair_clauses ls
 
--- the variables from n on, one for each value
-abbrev pub variables_from : ℕ → List Elem → List Lit
-variables_from n [] = []
-variables_from n (x ∷ xs) = positive_lit n ∷ variables_from (n + 1) xs
+-- a variable more, unless its atom is known to be false
+abbrev pub with_open : Option Bool → ℕ → List Lit → List Lit
+with_open None n ls = positive_lit n ∷ ls
+with_open (Some true) n ls = positive_lit n ∷ ls
+with_open (Some false) n ls = ls
+
+-- those of the variables from n on, one for each value, whose atoms are not known to be false
+abbrev pub open_variables : GroundBase → ℕ → List Elem → List Lit
+open_variables b n [] = []
+open_variables b n (x ∷ xs) = with_open (known_of b n) n (open_variables b (n + 1) xs)
 
 -- the function has one value at the tuple with this index
 abbrev pub tuple_clauses : GroundBase → ℕ → ℕ → List (List Lit)
-tuple_clauses b s i = one_of_clauses (variables_from (first_var b s + i * length (values_at b s)) (values_at b s))
+tuple_clauses b s i = one_of_clauses (open_variables b (first_var b s + i * length (values_at b s)) (values_at b s))
 
 -- the tuples at which this is said: all, or the first alone where a function has no value, since that says it all
 abbrev pub said_tuples : List Elem → List (List Elem) → List (List Elem)

@@ -1,5 +1,5 @@
 -- Sentences as clauses: what stands at the top needs no gate.
-use Rattle.std.specs.Prelude.{List, [], ◌∷◌, ◌++◌, fold, Bool, true, false, not, if◌then◌else◌}
+use Rattle.std.specs.Prelude.{ℕ, nat_le, List, [], ◌∷◌, ◌++◌, length, map, fold, Bool, true, false, not, if◌then◌else◌}
 use Rattle.kb_logic.specs.declared.elements.Elem.{Elem}
 use Rattle.kb_logic.specs.Trees.{FormulaTree, verum, falsum, atom, comparison, negation, conjunction, disjunction}
 use Rattle.kb_logic.specs.Trees.{implication, equivalence, universal, existential, numbered}
@@ -9,20 +9,26 @@ use Rattle.lit_core.specs.declared.literals.Lit.{Lit}
 use Rattle.ground_core.specs.Problems.{ProblemState}
 use Rattle.ground_core.specs.Growth.{with_clause}
 use Rattle.term_values.specs.GroundBases.{GroundBase}
-use Rattle.def_ground.specs.Answers.{GroundResult}
-use Rattle.def_ground.specs.Forms.{Parts, settles, with_answer, parts_each, signed_result, form_of}
+use Rattle.term_values.specs.Rows.{rows_of_term, rows_of_terms}
+use Rattle.def_ground.specs.Forms.{Parts, parts_each, signed_result, form_of, atom_case}
+use Rattle.def_ground.specs.CaseSentences.{or_clause, assert_cases, assert_comparison, assert_alike}
+use Rattle.def_ground.specs.Disjuncts.{disjuncts_of}
 
--- the clause of the literals and the answer
-abbrev pub or_clause : List Lit → GroundResult → ProblemState
-or_clause ls g = if settles false g.answer then g.problem else with_clause g.problem (with_answer g.answer ls)
+-- unless the parts settle the clause, what comes next, with their literals
+abbrev pub unless_settled : Parts → (List Lit → ProblemState → ProblemState) → ProblemState
+unless_settled r rest = if r.settled then r.problem else rest r.lits r.problem
 
 -- the clause of all the literals, unless a part settles it
 abbrev pub parts_clause : Parts → ProblemState
-parts_clause r = if r.settled then r.problem else with_clause r.problem r.lits
+parts_clause r = unless_settled r (λ xs q. with_clause q xs)
 
--- unless the answer settles the clause, what comes next, with the answer's literal
-abbrev pub unless_settled : GroundResult → List Lit → (List Lit → ProblemState → ProblemState) → ProblemState
-unless_settled g ls rest = if settles false g.answer then g.problem else rest (with_answer g.answer ls) g.problem
+-- how many literals each of many clauses may have in common: a constant, so that all clauses together stay linear
+abbrev pub longest_shared : ℕ
+longest_shared = 8
+
+-- so few literals that each of many clauses may have them
+abbrev pub are_few : List Lit → Bool
+are_few ls = nat_le (length ls) longest_shared
 
 -- under each assignment, with the problem that the ones before made
 abbrev pub assert_each : (List Elem → ProblemState → ProblemState) → List (List Elem) → ProblemState → ProblemState
@@ -36,9 +42,13 @@ abbrev mutual
   assert_of b false verum e ls p = with_clause p ls
   assert_of b true falsum e ls p = with_clause p ls
   assert_of b false falsum e ls p = p
-  assert_of b sign (atom s ts) e ls p = or_clause ls (signed_result sign (form_of b (atom s ts) e p))
-  assert_of b sign (comparison c x y) e ls p = or_clause ls (signed_result sign (form_of b (comparison c x y) e p))
-  assert_of b sign (equivalence f g) e ls p = or_clause ls (signed_result sign (form_of b (equivalence f g) e p))
+  assert_of b sign (atom s ts) e ls p = assert_cases sign ls (map (atom_case b s) (rows_of_terms b ts e)) p
+  assert_of b sign (comparison c x y) e ls p =
+      assert_comparison sign c (rows_of_term b x e) (rows_of_term b y e) ls p
+  assert_of b sign (equivalence f g) e ls p =
+      let x = form_of b f e p in
+      let y = form_of b g e x.problem in
+      assert_alike sign x.answer y.answer ls y.problem
   assert_of b sign (numbered c n bs f) e ls p = or_clause ls (signed_result sign (form_of b (numbered c n bs f) e p))
   assert_of b sign (negation f) e ls p = assert_of b (not sign) f e ls p
   assert_of b true (conjunction fs) e ls p = assert_all b true fs e ls p
@@ -46,7 +56,8 @@ abbrev mutual
   assert_of b true (disjunction fs) e ls p = assert_any b true fs e ls p
   assert_of b false (disjunction fs) e ls p = assert_all b false fs e ls p
   assert_of b true (implication f g) e ls p =
-      unless_settled (signed_result false (form_of b f e p)) ls (λ xs q. assert_of b true g e xs q)
+      unless_settled (disjuncts_of b false f e ls p)
+      (λ xs q. if are_few xs then assert_of b true g e xs q else or_clause xs (signed_result true (form_of b g e q)))
   assert_of b false (implication f g) e ls p = assert_of b false g e ls (assert_of b true f e ls p)
   assert_of b true (universal bs f) e ls p =
       assert_each (λ a q. assert_of b true f (e ++ a) ls q) (choices b.domains bs) p
@@ -62,12 +73,13 @@ abbrev mutual
   assert_all b sign no_formulas e ls p = p
   assert_all b sign (more_formulas f fs) e ls p = assert_all b sign fs e ls (assert_of b sign f e ls p)
 
-  -- one of the formulas: the last one is asserted under the literals of the others
+  -- one of the formulas: the last one is asserted under the literals of the others, where these are few
   pub assert_any : GroundBase → Bool → FormulaTrees → List Elem → List Lit → ProblemState → ProblemState
   assert_any b sign no_formulas e ls p = with_clause p ls
-  assert_any b sign (more_formulas f no_formulas) e ls p = assert_of b sign f e ls p
+  assert_any b sign (more_formulas f no_formulas) e ls p =
+      if are_few ls then assert_of b sign f e ls p else or_clause ls (signed_result sign (form_of b f e p))
   assert_any b sign (more_formulas f (more_formulas g fs)) e ls p =
-      unless_settled (signed_result sign (form_of b f e p)) ls (λ xs q. assert_any b sign (more_formulas g fs) e xs q)
+      unless_settled (disjuncts_of b sign f e ls p) (λ xs q. assert_any b sign (more_formulas g fs) e xs q)
 
 -- sentences one after another
 abbrev pub assert_sentences : GroundBase → List FormulaTree → ProblemState → ProblemState

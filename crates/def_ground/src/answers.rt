@@ -1,5 +1,5 @@
 //! What a formula comes to.
-ghost use Rattle.std.specs.Prelude.{◌≡◌};
+ghost use Rattle.std.specs.Prelude.{◌≡◌, if◌then◌else◌};
 ghost use Rattle.def_ground.specs.Answers.{opposite_of};
 ghost use Rattle.def_ground.specs.Forms.{answer_of_atom};
 
@@ -34,5 +34,12 @@ impl Answer {
             Answer::Constant(value) => Answer::Constant(!value),
             Answer::Literal(lit) => Answer::Literal(lit.negated()),
         }
+    }
+
+    /// The answer, or the one with the other value where the sign is false.
+    pub fn signed(self, sign: bool) -> Answer
+        ensures { result ≡ (if sign then self else opposite_of self) }
+    {
+        if sign { self } else { self.opposite() }
     }
 }

@@ -7,10 +7,10 @@ ghost use Rattle.ground_core.specs.Growth.{next_lit};
 ghost use Rattle.def_ground.specs.declared.answers.Answer.TheVariants.{Literal};
 ghost use Rattle.def_ground.specs.Answers.{Makes, Grows};
 ghost use Rattle.def_ground.specs.Cases.{is_always, is_certain, only_literal, only_guard, single_answer, plain_answer};
-ghost use Rattle.def_ground.specs.Cases.{unguarded_answer, side_clauses, clauses_of_cases, with_cases, cases_of, case_of as case_of_answer};
-ghost use Rattle.def_ground.specs.CaseViews.{case_view, side_of};
+ghost use Rattle.def_ground.specs.Cases.{unguarded_answer, side_of, side_clauses, clauses_of_cases, with_clauses, with_cases};
+ghost use Rattle.def_ground.specs.Cases.{answer_without, cases_of, case_of as case_of_answer};
+ghost use Rattle.def_ground.specs.CaseViews.{case_view};
 ghost use Rattle.def_ground.specs.Meanings.{IsCaseOf, SideWithin};
-ghost use Rattle.def_ground.specs.Problems.{with_clauses};
 
 use crate::answers::Answer;
 use ground_core::{LitList, Memory, Problem};
@@ -86,7 +86,7 @@ fn none_has_always(cases: &[Case<'_>], sign: bool) -> bool
     true
 }
 
-fn only_literal(lits: &[Lit]) -> Option<Lit>
+pub(crate) fn only_literal(lits: &[Lit]) -> Option<Lit>
     ensures { result ≡ only_literal lits.now }
 {
     match lits {
@@ -152,6 +152,19 @@ fn plain(cases: &[Case<'_>]) -> Option<Answer>
             None => None,
         },
     }
+}
+
+/// The answer that needs no variable: a constant where all cases are true, or all false, or else the plain one.
+pub(crate) fn without_variable(cases: &[Case<'_>]) -> Option<Answer>
+    ensures { result ≡ answer_without (map case_view cases.now) }
+{
+    if all_have_always(cases, true) {
+        return Some(Answer::Constant(true));
+    }
+    if all_have_always(cases, false) {
+        return Some(Answer::Constant(false));
+    }
+    plain(cases)
 }
 
 fn one_literal(alloc: Global, lit: Lit) -> Result<LitList, Memory>
@@ -240,7 +253,8 @@ fn push_sides(
 /// A new variable that has in each case the case's value.
 fn add_cases(alloc: Global, cases: &[Case<'_>], problem: &mut Problem) -> Result<Answer, Memory>
     requires { AllByRecursion (IsCaseOf problem.old.vars) (map case_view cases.now) }
-    ensures { IfOk result (λ a. (a ≡ Literal (next_lit problem.old)) × (problem.new ≡ with_cases problem.old (map case_view cases.now))) }
+    ensures { IfOk result (λ a. (a ≡ Literal (next_lit problem.old))
+        × (problem.new ≡ with_cases problem.old (map case_view cases.now))) }
 {
     let out = problem.add_var()?;
     push_sides(alloc, out, cases, problem)?;
@@ -257,13 +271,7 @@ pub fn answer_of_cases(
     ensures made { IfOk result (λ a. Makes (cases_of (map case_view cases.now) problem.old) a problem.new) }
     ensures grows { IfOk result (λ a. Grows problem.old problem.new a) }
 {
-    if all_have_always(cases, true) {
-        return Ok(Answer::Constant(true));
-    }
-    if all_have_always(cases, false) {
-        return Ok(Answer::Constant(false));
-    }
-    match plain(cases) {
+    match without_variable(cases) {
         Some(answer) => Ok(answer),
         None => add_cases(alloc, cases, problem),
     }

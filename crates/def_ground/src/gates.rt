@@ -67,7 +67,9 @@ pub fn close(
     problem: &mut Problem,
 ) -> Result<Answer, Memory>
     requires { AreLitsOf problem.old.vars lits.items }
-    ensures made { IfOk result (λ a. Makes (close_parts all (record { settled = settled; lits = lits.items; problem = problem.old })) a problem.new) }
+    ensures made { IfOk result
+        (λ a. Makes (close_parts all (record { settled = settled; lits = lits.items; problem = problem.old })) a
+        problem.new) }
     ensures grows { IfOk result (λ a. Grows problem.old problem.new a) }
 {
     if settled {

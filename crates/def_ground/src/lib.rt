@@ -3,6 +3,7 @@
 #![tactic(auto)]
 
 mod answers;
+mod asserted_cases;
 mod cases;
 mod exactly_one;
 mod gates;
@@ -10,6 +11,7 @@ mod laws;
 mod sides;
 
 pub use answers::Answer;
+pub use asserted_cases::{push_alike, push_answer, push_cases};
 pub use cases::{Case, answer_of_cases, case_of};
 pub use exactly_one::push_one_of;
 pub use gates::{add_part, close, gate, same};

@@ -52,7 +52,8 @@ fn any_passes(
     x: Value<'_>,
     rows: &[GuardedValue<'_>],
 ) -> Result<Option<LitList>, Memory>
-    ensures { IfOk result (λ s. s ≡ any_where (λ y. compared_with sign cmp (value_view x.entry) y) (map guarded_view rows.now)) }
+    ensures { IfOk result (λ s. s ≡ any_where (λ y. compared_with sign cmp (value_view x.entry) y)
+        (map guarded_view rows.now)) }
 {
     let mut lits = Vec::new(alloc);
     for row in rows {
@@ -71,7 +72,8 @@ fn side(
     x: Value<'_>,
     rows: &[GuardedValue<'_>],
 ) -> Result<Option<LitList>, Memory>
-    ensures { IfOk result (λ s. s ≡ side_where (λ y. compared_with sign cmp (value_view x.entry) y) (map guarded_view rows.now)) }
+    ensures { IfOk result (λ s. s ≡ side_where (λ y. compared_with sign cmp (value_view x.entry) y)
+        (map guarded_view rows.now)) }
 {
     if all_pass(sign, cmp, x, rows) {
         return Ok(None);
@@ -87,7 +89,8 @@ pub fn case_of_row<'a>(
     value: Value<'_>,
     rows: &[GuardedValue<'_>],
 ) -> Result<Case<'a>, Memory>
-    ensures { IfOk result (λ c. case_view c ≡ comparison_case cmp (map guarded_view rows.now) (guards.now, value_view value.entry)) }
+    ensures { IfOk result (λ c. case_view c ≡ comparison_case cmp (map guarded_view rows.now)
+        (guards.now, value_view value.entry)) }
 {
     let yes = side(alloc, true, cmp, value, rows)?;
     let no = side(alloc, false, cmp, value, rows)?;

@@ -1,5 +1,10 @@
 //! Laws of what a file means, as it is printed.
-ghost use Rattle.file_laws.specs.FileLaws.{FilesHaveWordNames, StructuresAreReadBack};
+ghost use Rattle.file_laws.specs.FileLaws.{
+  FilesAreSpoken,
+  FilesHaveWordNames,
+  SentencesAreReadBack,
+  StructuresAreReadBack,
+};
 
 /// The names of what a file means are words, so that no two replies over it have one text.
 pub fn files_have_word_names()
@@ -10,4 +15,15 @@ pub fn files_have_word_names()
 /// has its text.
 pub fn structures_are_read_back()
     ensures { StructuresAreReadBack }
+{}
+
+/// Each sentence of a file can be written with the words of the file's vocabulary, which mean it again, and so can the
+/// term of each term block.
+pub fn files_are_spoken()
+    ensures { FilesAreSpoken }
+{}
+
+/// The text that is printed of each sentence of a file is read back as the sentence; depth alone refuses it.
+pub fn sentences_are_read_back()
+    ensures { SentencesAreReadBack }
 {}

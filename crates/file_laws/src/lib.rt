@@ -3,4 +3,6 @@
 
 mod laws;
 
-pub use laws::{files_have_word_names, structures_are_read_back};
+pub use laws::{
+    files_are_spoken, files_have_word_names, sentences_are_read_back, structures_are_read_back,
+};

@@ -104,7 +104,7 @@ factor_step (layer.Aggregate a b f c x q) = aggregate a b.place b.brace (vars_vi
 
 abbrev pub formula_step : RawFormula-F App Factor Formula Prim Unary And (ℕ × Unary) (ℕ × Or) Or (ℕ × And) Product (ℕ × Factor) (Adding × ℕ × Product) Term Terms (ℕ × Term) → Formula
 formula_step (layer.Alone o) = alone o
-formula_step (layer.Linked a o xs) = formula_of a o xs
+formula_step (layer.Linked a o x xs) = formula_of a o (x ∷ xs)
 
 abbrev pub prim_step : RawPrim-F App Factor Formula Prim Unary And (ℕ × Unary) (ℕ × Or) Or (ℕ × And) Product (ℕ × Factor) (Adding × ℕ × Product) Term Terms (ℕ × Term) → Prim
 prim_step (layer.Group p f q) = group p f q

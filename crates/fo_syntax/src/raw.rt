@@ -54,14 +54,15 @@ pub enum RawNumber {
     Compared(Comparison, usize, RawInteger),
 }
 
-/// A chain of one arrow, or its one operand.
+/// An operand alone, or a chain of one arrow: its first operand, the first link, and the further ones.
 #[cycle(raw)]
 #[derive(Drop)]
 pub enum RawFormula {
     Alone(RawOr),
-    Linked(Arrow, RawOr, Items<RawLink>),
+    Linked(Arrow, RawOr, RawLink, Items<RawLink>),
 }
 
+/// The place of an arrow, and the operand after it.
 #[cycle(raw)]
 #[derive(Drop)]
 pub struct RawLink {

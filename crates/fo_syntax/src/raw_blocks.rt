@@ -69,7 +69,7 @@ pub struct RawElementTail {
 }
 
 /// What stands between the names of a constructed type.
-#[derive(Clone, Copy, PartialEq, Eq)]
+#[derive(Clone, Copy)]
 pub enum Separator {
     Comma,
     Semicolon,

@@ -23,7 +23,7 @@ pub enum Arrow {
 }
 
 /// A word that opens an aggregate with a term.
-#[derive(Clone, Copy, PartialEq, Eq)]
+#[derive(Clone, Copy)]
 pub enum Aggregation {
     Sum,
     Min,
@@ -56,7 +56,7 @@ pub enum Outer {
 }
 
 /// A token as the grammar sees it; the text of a word stands beside it.
-#[derive(Clone, Copy, PartialEq, Eq)]
+#[derive(Clone, Copy)]
 pub enum Terminal {
     Word,
     Integer(u64),

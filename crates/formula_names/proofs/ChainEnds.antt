@@ -1,23 +1,22 @@
 -- What a loop over the further operands of a chain comes to.
-use Rattle.std.proofs.Common.{◌≡◌, ◌≤◌, ◌<◌, ℕ, Bool, List, [], ◌∷◌, ◌++◌, length, Option, fold, refl, ap, ◌∙◌, sym, map, take, append-nil, arith, false}
+use Rattle.std.proofs.Common.{◌≡◌, ◌≤◌, ◌<◌, ℕ, Bool, List, [], ◌∷◌, ◌++◌, length, Option, fold, refl, ap, ◌∙◌, sym, map, take, arith, false}
 use Rattle.std.specs.List.{flat_map}
 use Rattle.std.specs.Prelude.{Result, Ok, Err, OnOk, IfOk}
 use Rattle.std.proofs.lemmas.Grind.{fold-append}
-use Rattle.std.proofs.lemmas.List.{take_all}
+use Rattle.std.proofs.lemmas.List.{append_assoc, take_all}
 use Rattle.kb_text.specs.declared.fault.KbFault.{KbFault}
 use Rattle.fo_syntax.specs.declared.terminal.Adding.{Adding}
 use Rattle.fo_syntax.specs.declared.terminal.Arrow.{Arrow}
-use Rattle.fo_syntax.specs.declared.terminal.Arrow.TheVariants as arrow
 use Rattle.fo_syntax.specs.Trees as raw
-use Rattle.fo_syntax.specs.View.{formula_of, or_of, and_of, term_of, product_of}
+use Rattle.fo_syntax.specs.View.{or_of, and_of, term_of, product_of}
 use Rattle.reading_stages.specs.Scopes.{Text}
 use Rattle.reading_stages.specs.Names.{Names}
-use Rattle.reading_stages.specs.Uses.{Context, Use, uses_in, uses_in_or}
+use Rattle.reading_stages.specs.Uses.{Use}
 use Rattle.reading_stages.specs.NamedTrees as tree
-use Rattle.reading_stages.specs.Numbering.{grouped, named_formula, named_or, named_and, named_unary, named_term, named_product, named_factor, is_minus}
+use Rattle.reading_stages.specs.Numbering.{grouped, named_or, named_and, named_unary, named_term, named_product, named_factor, is_minus}
 use Rattle.reading_stages.specs.NamedViews.{formula_view}
 use Rattle.reading_stages.specs.declared.named.NamedFormula.{NamedFormula}
-use Rattle.formula_names.proofs.Chains.{disjuncts-is, conjuncts-is, summands-is, factors-is, named_links-is, uses_in_links-is}
+use Rattle.formula_names.proofs.Chains.{disjuncts-is, conjuncts-is, summands-is, factors-is}
 
 -- ---- the operands that were pushed, and what was noted
 
@@ -28,12 +27,13 @@ pushed F V items start first more whole i e one le is =
     let all : take i more ≡ more = take_all i more le in
     e ∙ rw (all, one, is) refl
 
-pub pushed_all : {X Y Z : Type 0} (F : Y → Z) (V : X → Y) (items start : List Z) (more whole : List X) (i : ℕ)
-    → items ≡ start ++ map F (map V (take i more)) → start ≡ [] → length more ≤ i → more ≡ whole
-    → items ≡ map F (map V whole)
-pushed_all F V items start more whole i e none le is =
+-- the same where some stand before them
+pub pushed_more : {X Y Z : Type 0} (F : Y → Z) (V : X → Y) (items start old : List Z) (first : Z) (more whole : List X) (i : ℕ)
+    → items ≡ start ++ map F (map V (take i more)) → start ≡ old ++ first ∷ [] → length more ≤ i → more ≡ whole
+    → items ≡ old ++ first ∷ map F (map V whole)
+pushed_more F V items start old first more whole i e one le is =
     let all : take i more ≡ more = take_all i more le in
-    e ∙ rw (all, none, is) refl
+    e ∙ rw (all, one, is) (append_assoc old (first ∷ []) (map F (map V whole)))
 
 pub noted_all : {X Y : Type 0} (N : Option KbFault → Use → Option KbFault) (G : Y → List Use) (V : X → Y) (start middle after : Option KbFault)
     (first : List Use) (more whole : List X) (i : ℕ)
@@ -42,6 +42,11 @@ pub noted_all : {X Y : Type 0} (N : Option KbFault → Use → Option KbFault) (
 noted_all N G V start middle after first more whole i e f le is =
     let all : take i more ≡ more = take_all i more le in
     f ∙ rw (all, is, e) (sym (fold-append N start first (flat_map G (map V whole))))
+
+-- what was noted of two parts, one after the other
+pub noted_twice : (N : Option KbFault → Use → Option KbFault) (start middle after : Option KbFault) (first second : List Use)
+    → middle ≡ fold N start first → after ≡ fold N middle second → after ≡ fold N start (first ++ second)
+noted_twice N start middle after first second e f = f ∙ rw e (sym (fold-append N start first second))
 
 -- ---- the trees
 
@@ -74,21 +79,6 @@ pub product_tree : {X : Type 0} (n : Names) (s : List Text) (f : raw.Factor) (V 
 product_tree n s f V [] place ts some at e = absurd (omega arith)
 product_tree n s f V (y ∷ ys) place ts some at e =
     rw (e, at) (ap (λ (us : tree.NamedTerms). tree.at (tree.place_of (named_factor n s f)) (tree.product (tree.more_terms (named_factor n s f) us))) (sym (factors-is n s (V y).1 (map V ys))))
-
-grouped_alone : (a : Arrow) (f : tree.NamedFormula) → f ≡ grouped a f []
-grouped_alone arrow.Implies f = refl
-grouped_alone arrow.ImpliedBy f = refl
-grouped_alone arrow.Equivalent f = refl
-
-pub linked_tree : (n : Names) (s : List Text) (a : Arrow) (o : raw.Or) (xs : List (ℕ × raw.Or))
-    → named_formula n s (formula_of a o xs) ≡ grouped a (named_or n s o) (map (λ (x : ℕ × raw.Or). named_or n s x.1) xs)
-linked_tree n s a o [] = grouped_alone a (named_or n s o)
-linked_tree n s a o (x ∷ xs) = ap (grouped a (named_or n s o)) (named_links-is n s x.1 xs)
-
-pub linked_uses : (s : Context) (a : Arrow) (o : raw.Or) (xs : List (ℕ × raw.Or))
-    → uses_in s (formula_of a o xs) ≡ uses_in_or s o ++ flat_map (λ (x : ℕ × raw.Or). uses_in_or s x.1) xs
-linked_uses s a o [] = sym (append-nil (uses_in_or s o))
-linked_uses s a o (x ∷ xs) = ap (λ (us : List Use). uses_in_or s o ++ us) (uses_in_links-is s x.1 xs)
 
 -- ---- aggregates
 

@@ -1,3 +1,4 @@
 pub mod Meanings
 pub mod Levels
 pub mod Tails
+pub mod LaterLinks

@@ -1,5 +1,6 @@
 //! Formulas and terms with numbers for words.
 ghost use Rattle.std.specs.Prelude.{◌≡◌, [], ◌∷◌, ◌++◌, fold, map, IfOk, OnOk};
+ghost use Rattle.formula_names.specs.LaterLinks.{later_operands, later_uses};
 ghost use Rattle.reading_stages.specs.NamesStage.{name_noted};
 ghost use Rattle.reading_stages.specs.NamedTrees.{terms_of};
 ghost use Rattle.reading_stages.specs.Numbering as numbers;
@@ -10,13 +11,13 @@ ghost use Rattle.reading_stages.specs.NamedViews.{formula_view, term_view, var_v
 
 use crate::arrows::grouped;
 use crate::binders::binders;
+use crate::closing::{existential, gathered, negation, opposite, universal};
 use crate::nodes::{all_of, any_of, multiplied, place_of, placed, signed, summed};
 use crate::scopes::Scope;
 use crate::tables::Table;
 use crate::uses::{formula_word, term_word};
 use crate::words::{
-    aggregated, app_count, app_name, application, comparison_of, kind_of, note_aggregate,
-    note_number, quantified,
+    app_count, app_name, application, comparison_of, kind_of, note_aggregate, note_number,
 };
 use fo_syntax::{
     Adding, RawAnd, RawApp, RawFactor, RawFormula, RawOpening, RawOr, RawPrim, RawProduct,
@@ -42,16 +43,40 @@ pub fn formula<'a>(
 {
     match raw {
         RawFormula::Alone(or) => disjunction(alloc, table, scope, or, earliest),
-        RawFormula::Linked(arrow, first, links) => {
+        RawFormula::Linked(arrow, first, _, _) => {
             let first = disjunction(alloc, table, scope, first, earliest)?;
             let mut more = Vec::new(alloc);
-            let links = links.as_slice();
-            for link in links {
-                more.push(disjunction(alloc, table, scope, &link.operand, earliest)?)?;
-            }
+            add_links(alloc, table, scope, raw, &mut more, earliest)?;
             grouped(alloc, *arrow, first, more)
         }
     }
+}
+
+/// Adds the operands after an arrow. The list is lent, so that no way out of the loop has to give it up.
+#[cycle(resolve)]
+fn add_links<'a>(
+    alloc: Global,
+    table: &Table<'a>,
+    scope: &mut Scope<'a>,
+    raw: &'a RawFormula,
+    more: &mut Vec<NamedFormula>,
+    earliest: &mut Earliest,
+) -> Result<(), Memory>
+    ensures trees { OnOk result (map formula_view more.new.items
+        ≡ map formula_view more.old.items ++ later_operands (names_in table.now) scope.old (seen.formula_view raw.now)) }
+    ensures scope { OnOk result (scope.new ≡ scope.old) }
+    ensures noted { OnOk result (earliest.new.first ≡ fold (name_noted (names_in table.now)) earliest.old.first
+        (later_uses (use_of.in_scope scope.old) (seen.formula_view raw.now))) }
+{
+    let RawFormula::Linked(_, _, next, links) = raw else {
+        return Ok(());
+    };
+    more.push(disjunction(alloc, table, scope, &next.operand, earliest)?)?;
+    let links = links.as_slice();
+    for link in links {
+        more.push(disjunction(alloc, table, scope, &link.operand, earliest)?)?;
+    }
+    Ok(())
 }
 
 #[cycle(resolve)]
@@ -119,22 +144,20 @@ fn unary<'a>(
     match raw {
         RawUnary::Not(_, inner) => {
             let inner = unary(alloc, table, scope, inner.get(), earliest)?;
-            Ok(NamedFormula::Not(Box::new(alloc, inner)?))
+            negation(alloc, inner)
         }
         RawUnary::Every(_, vars, _, inner) => {
             let outer = scope.len();
             let vars = binders(alloc, table, scope, vars.get(), earliest)?;
             let inner = formula(alloc, table, scope, inner.get(), earliest)?;
-            scope.leave(outer)?;
-            Ok(NamedFormula::All(vars, Box::new(alloc, inner)?))
+            universal(alloc, scope, outer, vars, inner)
         }
         RawUnary::Some(place, number, vars, _, inner) => {
             note_number(number, *place, earliest);
             let outer = scope.len();
             let vars = binders(alloc, table, scope, vars.get(), earliest)?;
             let inner = formula(alloc, table, scope, inner.get(), earliest)?;
-            scope.leave(outer)?;
-            quantified(alloc, number, vars, inner)
+            existential(alloc, scope, outer, number, vars, inner)
         }
         RawUnary::Prim(inner) => prim(alloc, table, scope, inner, earliest),
     }
@@ -249,26 +272,37 @@ fn factor<'a>(
         }
         RawFactor::Negative(place, inner) => {
             let inner = factor(alloc, table, scope, inner.get(), earliest)?;
-            let mut operands = Vec::new(alloc);
-            operands.push(NamedSigned {
-                minus: true,
-                term: inner,
-            })?;
-            Ok(summed(*place, operands))
+            opposite(alloc, *place, inner)
         }
         RawFactor::Count(opening, inner, _) => {
             let outer = scope.len();
             let (vars, inner) = opened(alloc, table, scope, opening, inner.get(), earliest)?;
-            scope.leave(outer)?;
             let one = placed(opening.place, NamedNode::Int(1));
-            aggregated(alloc, opening.place, AggKind::Count, vars, inner, one)
+            gathered(
+                alloc,
+                scope,
+                outer,
+                opening.place,
+                AggKind::Count,
+                vars,
+                inner,
+                one,
+            )
         }
         RawFactor::Aggregate(how, opening, inner, _, weight, _) => {
             let outer = scope.len();
             let (vars, inner) = opened(alloc, table, scope, opening, inner.get(), earliest)?;
             let weight = term(alloc, table, scope, weight.get(), earliest)?;
-            scope.leave(outer)?;
-            aggregated(alloc, opening.place, kind_of(*how), vars, inner, weight)
+            gathered(
+                alloc,
+                scope,
+                outer,
+                opening.place,
+                kind_of(*how),
+                vars,
+                inner,
+                weight,
+            )
         }
     }
 }

@@ -3,6 +3,7 @@
 
 mod arrows;
 mod binders;
+mod closing;
 pub mod formulas;
 mod nodes;
 pub mod positions;

@@ -1,5 +1,5 @@
 -- Where a chain of operands is stuck, and what it is.
-use Rattle.std.proofs.Common.{◌≡◌, ℕ, List, [], ◌∷◌, ◌++◌, Bool, true, false, Some, None, Result, Ok, Err, Bor, refl, sym, ap, ◌∙◌}
+use Rattle.std.proofs.Common.{◌≡◌, ℕ, List, [], ◌∷◌, ◌++◌, Bool, true, false, Some, None, Result, Ok, Err, Bor, refl, sym, ap, subst, ◌∙◌}
 use Rattle.fo_syntax.specs.declared.stops.ReadError.{ReadError}
 use Rattle.fo_syntax.specs.declared.terminal.Item.{Item}
 use Rattle.fo_syntax.specs.declared.terminal.Arrow.{Arrow}
@@ -17,6 +17,7 @@ use Rattle.token_reader.specs.Machine.{need, Chain, unsettled, fresh, chained, M
 use Rattle.token_reader.specs.Modes.{formula_sort, mode_formula, mode_links, mode_or, mode_and, mode_unary, mode_prim, sort_formula, sort_links, sort_or, sort_and, sort_unary, sort_prim}
 use Rattle.fo_syntax.specs.View.{links_of, formula_of, or_of, and_of}
 use Rattle.token_reader.specs.Parts.{EndsFactor, EndsPrim, NoAnd, NoOr, NoArrows, NoArrow, Connects, NoConnective, Halts, unaries, ands, ors, Tight, Behind, Entry, sentence, bracket, entry, at_operand, at_unary, at_entry, at_sentence, at_bracket}
+use Rattle.formula_reader.specs.Chains.{AndsAre, OrsAre, LinksAre, closed_links, closed_formula}
 use Rattle.formula_reader.specs.Results.{UnaryIs, AndIs, OrIs, FormulaIs, AndRead, OrRead, ConjunctionRead, DisjunctionRead, FormulaRead, LinkedRead}
 use Rattle.token_reader.proofs.Append.{formula-append, or-append, and-append}
 use Rattle.token_reader.proofs.Behind.{settled_twice, connects_and, links_or, link_same}
@@ -84,13 +85,6 @@ and_push_mode u (x ∷ xs) p v c = and_push_mode x.1 xs p v (settled c) ∙ ap (
 and_push_sort : (u : Unary) (xs : List (ℕ × Unary)) (p : ℕ) (v : Unary) → sort_and (and_of u (xs ++ (p, v) ∷ [])) ≡ sort_unary v
 and_push_sort u [] p v = refl
 and_push_sort u (x ∷ xs) p v = and_push_sort x.1 xs p v
-
--- the operands so far, after which a connective may come
-pub record AndsAre (ts : List Tok) (a : And) (closed : Bool) (rest : List Tok) : Type 0 where
-  pub spelled : ts ≡ put_and a rest
-  pub fine : FineAnd a
-  pub ends : closed ≡ closed_and a
-  pub behind : Behind unaries closed (λ c. mode_and c a) (sort_and a) rest
 
 pub ands_first : (ts : List Tok) (u : Unary) (closed : Bool) (rest : List Tok) → UnaryIs ts u closed rest → AndsAre ts (and_of u []) closed rest
 ands_first ts u closed rest h = record { spelled = h.spelled; fine = h.fine; ends = h.ends; behind = h.behind }
@@ -177,12 +171,6 @@ or_push_sort : (u : And) (xs : List (ℕ × And)) (p : ℕ) (v : And) → sort_o
 or_push_sort u [] p v = refl
 or_push_sort u (x ∷ xs) p v = or_push_sort x.1 xs p v
 
-pub record OrsAre (ts : List Tok) (a : Or) (closed : Bool) (rest : List Tok) : Type 0 where
-  pub spelled : ts ≡ put_or a rest
-  pub fine : FineOr a
-  pub ends : closed ≡ closed_or a
-  pub behind : Behind ands closed (λ c. mode_or c a) (sort_or a) rest
-
 pub ors_first : (ts : List Tok) (u : And) (closed : Bool) (rest : List Tok) → AndIs ts u closed rest → OrsAre ts (or_of u []) closed rest
 ors_first ts u closed rest h = record { spelled = h.spelled; fine = h.fine; ends = h.ends; behind = h.behind }
 
@@ -230,15 +218,6 @@ disjunction_read ts us len (Err e) is h = fails_in len e (from_unary_or ts us is
 
 -- ---- chains of an arrow
 
--- no quantified formula stands at its end
-closed_links : Links → Bool
-closed_links (last o) = closed_or o
-closed_links (link o p os) = closed_links os
-
-pub closed_formula : Formula → Bool
-closed_formula (alone o) = closed_or o
-closed_formula (linked a o p os) = closed_links os
-
 links_join : Links → ℕ → Or → Links
 links_join (last o) p b = link o p (last b)
 links_join (link o q os) p b = link o q (links_join os p b)
@@ -249,7 +228,7 @@ links_join_put a (last o) p b ts = refl
 links_join_put a (link o q os) p b ts = ap (λ (v : List Tok). put_or o (sign (t.Arrow a) q ∷ v)) (links_join_put a os p b ts)
 
 links_join_fine : (os : Links) (p : ℕ) (b : Or) → closed_links os ≡ true → FineLinks os → FineOr b → FineLinks (links_join os p b)
-unfolding links_join closed_links
+unfolding links_join
 links_join_fine (last o) p b e h k = (e, h, k)
 links_join_fine (link o q os) p b e h k = (h.0, h.1, links_join_fine os p b e h.2 k)
 
@@ -262,22 +241,18 @@ formula_push a o [] p v ts = refl
 formula_push a o (x ∷ xs) p v ts = ap (λ (w : List Tok). put_or o (sign (t.Arrow a) x.0 ∷ w)) (links_push a x.1 xs p v ts)
 
 links_push_fine : (o : Or) (xs : List (ℕ × Or)) (p : ℕ) (v : Or) → closed_links (links_of o xs) ≡ true → FineLinks (links_of o xs) → FineOr v → FineLinks (links_of o (xs ++ (p, v) ∷ []))
-unfolding closed_links
 links_push_fine o [] p v e h k = (e, h, k)
 links_push_fine o (x ∷ xs) p v e h k = (h.0, h.1, links_push_fine x.1 xs p v e h.2 k)
 
 formula_push_fine : (a : Arrow) (o : Or) (xs : List (ℕ × Or)) (p : ℕ) (v : Or) → closed_formula (formula_of a o xs) ≡ true → FineFormula (formula_of a o xs) → FineOr v → FineFormula (formula_of a o (xs ++ (p, v) ∷ []))
-unfolding closed_formula
 formula_push_fine a o [] p v e h k = (e, h, k)
 formula_push_fine a o (x ∷ xs) p v e h k = (h.0, h.1, links_push_fine x.1 xs p v e h.2 k)
 
 links_push_closed : (o : Or) (xs : List (ℕ × Or)) (p : ℕ) (v : Or) → closed_or v ≡ closed_links (links_of o (xs ++ (p, v) ∷ []))
-unfolding closed_links
 links_push_closed o [] p v = refl
 links_push_closed o (x ∷ xs) p v = links_push_closed x.1 xs p v
 
 formula_push_closed : (a : Arrow) (o : Or) (xs : List (ℕ × Or)) (p : ℕ) (v : Or) → closed_or v ≡ closed_formula (formula_of a o (xs ++ (p, v) ∷ []))
-unfolding closed_formula closed_links
 formula_push_closed a o [] p v = refl
 formula_push_closed a o (x ∷ xs) p v = links_push_closed x.1 xs p v
 
@@ -298,7 +273,6 @@ formula_push_sort a o [] p v = refl
 formula_push_sort a o (x ∷ xs) p v = links_push_sort x.1 xs p v
 
 links_reach : (a b : Arrow) (os : Links) → closed_links os ≡ true → links_on b (mode_links a os) (sort_links os) ≡ link_on (chained a) b
-unfolding closed_links
 links_reach a b (last o) h = links_or b (chained a) o h
 links_reach a b (link o p os) h = links_reach a b os h
 
@@ -307,7 +281,6 @@ entry_linkable sentence = tt
 entry_linkable bracket = tt
 
 formula_reach : (e : Entry) (a : Arrow) (o : Or) (xs : List (ℕ × Or)) → closed_formula (formula_of a o xs) ≡ true → links_on a (mode_formula (entry e) (formula_of a o xs)) (sort_formula (formula_of a o xs)) ≡ Some (need (chained a))
-unfolding closed_formula
 formula_reach e a o [] h = links_or a (entry e) o h ∙ link_first (entry e) (entry_linkable e) a
 formula_reach e a o (x ∷ xs) h = links_reach a a (links_of x.1 xs) h ∙ link_same a
 
@@ -332,18 +305,11 @@ formula_join_put a o [] p b ts = refl
 formula_join_put a o (x ∷ xs) p b ts = ap (λ (v : List Tok). put_or o (sign (t.Arrow a) x.0 ∷ v)) (links_join_put a (links_of x.1 xs) p b ts)
 
 formula_join_fine : (a : Arrow) (o : Or) (xs : List (ℕ × Or)) (p : ℕ) (b : Or) → closed_formula (formula_of a o xs) ≡ true → FineFormula (formula_of a o xs) → FineOr b → FineFormula (formula_join a o xs p b)
-unfolding formula_join closed_formula
+unfolding formula_join
 formula_join_fine a o [] p b e h k = (e, h, k)
 formula_join_fine a o (x ∷ xs) p b e h k = (h.0, h.1, links_join_fine (links_of x.1 xs) p b e h.2 k)
 
-pub record LinksAre (ts : List Tok) (f : Formula) (closed : Bool) (rest : List Tok) : Type 0 where
-  pub spelled : ts ≡ put_formula f rest
-  pub fine : FineFormula f
-  pub ends : closed ≡ closed_formula f
-  pub behind : Behind ors closed (λ c. mode_formula c f) (sort_formula f) rest
-
 pub links_first : (ts : List Tok) (a : Arrow) (o : Or) (closed : Bool) (rest : List Tok) → OrIs ts o closed rest → LinksAre ts (formula_of a o []) closed rest
-unfolding closed_formula
 links_first ts a o closed rest h = record { spelled = h.spelled; fine = h.fine; ends = h.ends; behind = h.behind }
 
 pub links_more : (ts : List Tok) (a : Arrow) (o : Or) (xs : List (ℕ × Or)) (closed : Bool) (rest : List Tok) (p : ℕ) (v : Or) (ending : Bool) (us next : List Tok) → LinksAre ts (formula_of a o xs) closed rest → closed ≡ true
@@ -389,6 +355,11 @@ no_arrows ts b p us h is = rw is at h
 no_arrow : (a : Arrow) (ts : List Tok) (b : Arrow) (p : ℕ) (us : List Tok) → NoArrow a ts → ts ≡ sign (t.Arrow b) p ∷ us → a ≡ b → ⊥
 no_arrow a ts b p us h is = rw is at h
 
+-- an operand before which no quantified formula stands open, and the tokens after it
+pub at_arrow : (ts : List Tok) (o : Or) (closed : Bool) (rest next : List Tok) → OrIs ts o closed rest → closed ≡ true → rest ≡ next → OrIs ts o true next
+at_arrow ts o closed rest next h e is =
+    subst (λ (us : List Tok). OrIs ts o true us) is (subst (λ (b : Bool). OrIs ts o b rest) e h)
+
 pub alone_is : (ts : List Tok) (o : Or) (closed : Bool) (rest : List Tok) (c : Chain) → OrIs ts o closed rest → (closed ≡ true → NoArrows rest) → FormulaIs ts c (alone o) rest
 alone_is ts o closed rest c h n = record {
   spelled = h.spelled;
@@ -397,28 +368,23 @@ alone_is ts o closed rest c h n = record {
   halts = halts_of closed (mode_or c o) (sort_or o) rest (h.behind.tight c) (λ e b p us is. absurd (no_arrows rest b p us (n e) is)) (λ e. h.behind.halts e c);
 }
 
-linked_reach : (ts : List Tok) (a : Arrow) (o : Or) (xs : List (ℕ × Or)) (rest : List Tok) (c : Chain) → closed_formula (formula_of a o xs) ≡ true → NoArrow a rest → (xs ≡ [] → (p : ℕ) × (us : List Tok) × (rest ≡ sign (t.Arrow a) p ∷ us))
-    → (b : Arrow) (p : ℕ) (us : List Tok) → rest ≡ sign (t.Arrow b) p ∷ us → links_on b (mode_formula c (formula_of a o xs)) (sort_formula (formula_of a o xs)) ≡ None
-unfolding closed_formula
-linked_reach ts a o [] rest c e n s b p us is = let first = s refl in absurd (no_arrow a rest a first.0 first.1 n first.2 refl)
-linked_reach ts a o (x ∷ xs) rest c e n s b p us is = links_reach a b (links_of x.1 xs) e ∙ link_other a b (no_arrow a rest b p us n is)
+linked_reach : (a : Arrow) (o : Or) (x : ℕ × Or) (xs : List (ℕ × Or)) (rest : List Tok) (c : Chain)
+    → closed_formula (formula_of a o (x ∷ xs)) ≡ true → NoArrow a rest
+    → (b : Arrow) (p : ℕ) (us : List Tok) → rest ≡ sign (t.Arrow b) p ∷ us
+    → links_on b (mode_formula c (formula_of a o (x ∷ xs))) (sort_formula (formula_of a o (x ∷ xs))) ≡ None
+linked_reach a o x xs rest c e n b p us is =
+    links_reach a b (links_of x.1 xs) e ∙ link_other a b (no_arrow a rest b p us n is)
 
-pub linked_is : (ts : List Tok) (a : Arrow) (o : Or) (xs : List (ℕ × Or)) (closed : Bool) (rest : List Tok) (c : Chain) → LinksAre ts (formula_of a o xs) closed rest → (closed ≡ true → NoArrow a rest)
-    → (xs ≡ [] → (p : ℕ) × (us : List Tok) × (rest ≡ sign (t.Arrow a) p ∷ us)) → FormulaIs ts c (formula_of a o xs) rest
-linked_is ts a o xs closed rest c h n s = record {
+pub linked_is : (ts : List Tok) (a : Arrow) (o : Or) (x : ℕ × Or) (xs : List (ℕ × Or)) (closed : Bool) (rest : List Tok) (c : Chain)
+    → LinksAre ts (formula_of a o (x ∷ xs)) closed rest → (closed ≡ true → NoArrow a rest)
+    → FormulaIs ts c (formula_of a o (x ∷ xs)) rest
+linked_is ts a o x xs closed rest c h n = record {
   spelled = h.spelled;
   fine = h.fine;
   no_args = h.behind.no_args;
-  halts = halts_of closed (mode_formula c (formula_of a o xs)) (sort_formula (formula_of a o xs)) rest (h.behind.tight c) (λ e. linked_reach ts a o xs rest c (sym h.ends ∙ e) (n e) s) (λ e. h.behind.halts e c);
+  halts = halts_of closed (mode_formula c (formula_of a o (x ∷ xs))) (sort_formula (formula_of a o (x ∷ xs))) rest
+      (h.behind.tight c) (λ e. linked_reach a o x xs rest c (sym h.ends ∙ e) (n e)) (λ e. h.behind.halts e c);
 }
-
-pub formula_kind : (a : Arrow) (o : Or) (xs : List (ℕ × Or)) → app_formula (formula_of a o xs) ≡ true → app_or o ≡ true
-formula_kind a o [] h = h
-formula_kind a o (x ∷ xs) h = absurd (cc)
-
-pub not_nil : {A : Type 0} (xs : List A) (x : A) → xs ++ x ∷ [] ≡ [] → ⊥
-not_nil [] x h = cc
-not_nil (y ∷ xs) x h = cc
 
 pub first_or : (ts : List Tok) → Context at_operand put_or FineOr at_entry put_formula FineFormula ts ts
 first_or ts = record { before = λ x. x; appends = λ x y. refl; split = refl; enters = λ e σ. (entry e, σ, refl); wraps = λ after. (after, λ a h. (alone a, h, refl)) }

@@ -1,8 +1,9 @@
 -- Where a part of a factor is stuck.
-use Rattle.std.proofs.Common.{◌≡◌, ℕ, List, [], ◌∷◌, ◌++◌, true, Option, Some, None, refl, sym, ap, ◌∙◌}
+use Rattle.std.proofs.Common.{◌≡◌, ℕ, List, [], ◌∷◌, ◌++◌, true, Option, Some, None, Result, Bor, refl, sym, ap, ◌∙◌}
 use Rattle.fo_syntax.specs.declared.stops.ReadError.{ReadError}
 use Rattle.fo_syntax.specs.declared.stops.ReadError.TheVariants.{Memory, Stuck}
 use Rattle.fo_syntax.specs.declared.terminal.Item.{Item}
+use Rattle.fo_syntax.specs.declared.raw.RawFactor.{RawFactor}
 use Rattle.fo_syntax.specs.declared.terminal.Terminal.{Terminal}
 use Rattle.fo_syntax.specs.declared.terminal.Terminal.TheVariants as t
 use Rattle.fo_syntax.specs.declared.terminal.Adding.TheVariants.{Plus, Minus}
@@ -15,7 +16,7 @@ use Rattle.token_reader.specs.Machine.{Frame, want, done, paren, close_brace, fo
 use Rattle.token_reader.specs.Modes.{mode_formula, sort_formula}
 use Rattle.token_reader.specs.Parts.{EndsFactor, NoMinus, wanted, at_factor, at_either, at_sentence, Halts, Lacks, Fails}
 use Rattle.token_reader.specs.Binders.{Whole}
-use Rattle.formula_reader.specs.Results.{Opening, opening, put_opening, at_opening, Shut, ShutFactor, IsUnsigned, UnsignedIs, FactorIs, TermIs, FormulaIs, negatives, put_minuses}
+use Rattle.formula_reader.specs.Results.{Opening, opening, put_opening, at_opening, Shut, ShutFactor, IsUnsigned, UnsignedIs, UnsignedRead, FactorIs, TermIs, FormulaIs, negatives, put_minuses}
 use Rattle.token_reader.specs.Parts.{Unsealed}
 use Rattle.token_reader.proofs.Append.{vars-append, formula-append, term-append, factor-append}
 use Rattle.token_reader.proofs.Behind.{ends_formula}
@@ -284,3 +285,22 @@ unclosed_fold k p o f d x items us rest vs last len e is found next of h = lacks
   where
     closed : (o : Opening) (after : List Tok) → (b : Factor) × (more : List Tok) × FineFactor b × (sign (t.Aggregate k) p ∷ put_opening o (put_formula f (sign t.Colon d ∷ put_term x more)) ≡ put_factor b after)
     closed (opening b vs c) after = (aggregate k p b vs c f d x 0, sign t.CloseBrace 0 ∷ after, (found.fine, of.fine), refl)
+
+pub to_the_brace : (d e : ℕ) (x : Term) (ts vs rest last : List Tok) → ts ≡ sign t.Colon d ∷ vs → TermIs vs x rest → rest ≡ sign t.CloseBrace e ∷ last
+    → (ts ≡ sign t.Colon d ∷ put_term x (sign t.CloseBrace e ∷ last)) × FineTerm x
+to_the_brace d e x ts vs rest last is of next =
+    (is ∙ ap (λ (v : List Tok). sign t.Colon d ∷ v) (of.spelled ∙ ap (λ (v : List Tok). put_term x v) next), of.fine)
+
+pub fold_is : (k : Aggregation) (p b : ℕ) (vs : Vars) (c : ℕ) (f : Formula) (d : ℕ) (x : Term) (e : ℕ) (items us rest last : List Tok)
+    → items ≡ put_opening (opening b vs c) us → FormulaIs us fresh f rest → rest ≡ sign t.Colon d ∷ put_term x (sign t.CloseBrace e ∷ last) → FineTerm x
+    → UnsignedIs (sign (t.Aggregate k) p ∷ items) (aggregate k p b vs c f d x e) last
+fold_is k p b vs c f d x e items us rest last is found next fine = record {
+  spelled = ap (λ (v : List Tok). sign (t.Aggregate k) p ∷ v)
+      (is ∙ ap (λ (v : List Tok). put_opening (opening b vs c) v) (found.spelled ∙ ap (λ (v : List Tok). put_formula f v) next));
+  fine = (found.fine, fine);
+  shut = tt;
+  unsigned = tt;
+}
+
+pub unsigned_from : (ts us : List Tok) (len : ℕ) (r : Result (RawFactor × Bor (List Item)) ReadError) → ts ≡ us → UnsignedRead us len r → UnsignedRead ts len r
+unsigned_from ts us len r e h = rw e h

@@ -5,7 +5,8 @@ use Rattle.fo_syntax.specs.declared.terminal.Item.{Item}
 use Rattle.fo_syntax.specs.declared.raw.RawTermTree.{RawTermTree}
 use Rattle.fo_syntax.specs.declared.terminal.Terminal.TheVariants as t
 use Rattle.fo_syntax.specs.declared.terminal.Adding.{Adding}
-use Rattle.fo_syntax.specs.Terminals.{Tok, tok_at, mark, sign}
+use Rattle.std.specs.Prelude.{IfOk, IfErr}
+use Rattle.fo_syntax.specs.Terminals.{Tok, toks, tok_at, mark, sign}
 use Rattle.fo_syntax.specs.Trees.{Name, name, var, untyped, Term, product, sum, Product, factor, times, Factor, brackets, apply, Terms, final, then}
 use Rattle.fo_syntax.specs.Spelling.{put_name, put_term, put_product, put_factor, put_app, put_terms}
 use Rattle.fo_syntax.specs.Fine.{FineTerm, FineProduct, FineFactor, FineApp, FineTerms}
@@ -15,6 +16,7 @@ use Rattle.token_reader.specs.Modes.{term_sort}
 use Rattle.fo_syntax.specs.View.{terms_of, product_of, term_of}
 use Rattle.token_reader.specs.Parts.{EndsFactor, EndsTerm, NoClose, NoComma, NoTimes, NoAdd, Position, wanted, needed, at_position, mode_at, sort_at, at_factor, at_either, at_vars, Lacks, Fails}
 use Rattle.token_reader.specs.Binders.{Binder, binder, put_binder, Whole}
+use Rattle.formula_reader.specs.Chains.{MoreTerms}
 use Rattle.formula_reader.specs.Results.{Opening, opening, put_opening, at_opening, TermIs, SumRead, TermRead}
 use Rattle.token_reader.proofs.Append.{name-append, term-append, product-append, terms-append}
 use Rattle.token_reader.proofs.Ends.{terms_no_close}
@@ -175,6 +177,14 @@ unclosed_arguments n start xs items us len e is fine z none h = lacks_fails at_e
     (λ x y. ap (λ (v : List Tok). put_name n (sign t.Open start ∷ v)) (terms-append xs x y) ∙ name-append n (sign t.Open start ∷ put_terms xs x) y) (ap (λ (v : List Tok). put_name n v) is)
     (λ k i σ. to_terms n start xs items us is fine (term_no_args us z) i σ ∙ args_stuck (mode_at i) (sort_at i) σ us z none k)
     (λ after. (apply n start xs 0, sign t.Close 0 ∷ after, fine, refl)) h
+
+-- the closing bracket, or what stands in its place
+pub closed_arguments : (n : Name) (start : ℕ) (x : Term) (xs : List (ℕ × Term)) (items us : List Tok) (len : ℕ) (r : Result (ℕ × Bor (List Item)) ReadError)
+    → items ≡ sign t.Open start ∷ put_terms (terms_of x xs) us → FineTerms (terms_of x xs) → EndsTerm us → NoComma us
+    → IfOk r (λ p. us ≡ sign t.Close p.0 ∷ toks p.1.now) → IfErr r (λ e. Lacks t.Close us len e) → MoreTerms n items start x xs len r
+closed_arguments n start x xs items us len (Ok p) is fine z none ok err =
+    (is ∙ ap (λ (v : List Tok). sign t.Open start ∷ put_terms (terms_of x xs) v) ok, fine)
+closed_arguments n start x xs items us len (Err e) is fine z none ok err = unclosed_arguments n start (terms_of x xs) items us len e is fine z none err
 
 pub terms_step : (x : Term) (xs : List (ℕ × Term)) (p : ℕ) (y : Term) (start : ℕ) (items rest us last : List Tok) → items ≡ sign t.Open start ∷ put_terms (terms_of x xs) rest → rest ≡ sign t.Comma p ∷ us → us ≡ put_term y last
     → items ≡ sign t.Open start ∷ put_terms (terms_of x (xs ++ (p, y) ∷ [])) last

@@ -119,6 +119,12 @@ abbrev pub ContentRead : List Tok → ℕ → Result (Content × Bor (List Item)
 ContentRead ts len (Ok p) = ContentIs ts p.0 (toks p.1.now)
 ContentRead ts len (Err e) = Fails at_bracket put_formula FineFormula ts len e
 
+-- the same with the closing bracket, wherever the opening one stands
+abbrev pub InsideRead : List Tok → ℕ → Result (Content × ℕ × Bor (List Item)) ReadError → Type 0
+InsideRead ts len (Ok p) =
+    (rest : List Tok) × ContentIs ts p.0 rest × (rest ≡ sign t.Close p.1 ∷ toks p.2.now) × EndsFactor (toks p.2.now)
+InsideRead ts len (Err e) = (p : ℕ) → Fails at_operand put_unary FineUnary (sign t.Open p ∷ ts) len e
+
 -- a reader of what is shorter than so many tokens
 pub record Nests {R : Type 0} (left : ℕ) (Read : List Tok → ℕ → Result (R × Bor (List Item)) ReadError → Type 0)
     (pre : Global → Bor (List Item) → ℕ → Type 0) (post : Global → Bor (List Item) → ℕ → Result (R × Bor (List Item)) ReadError → Type 0) : Type 0 where
@@ -215,6 +221,12 @@ abbrev pub AggregateRead : List Tok → ℕ → Result (RawFactor × Bor (List I
 AggregateRead ts len (Ok p) = UnsignedIs ts (factor_view p.0) (toks p.1.now)
 AggregateRead ts len (Err e) = Fails at_factor put_factor FineFactor ts len e
 
+-- the colon of an aggregate, its term and its closing brace
+abbrev pub WeighedRead : List Tok → List Tok → ℕ → Result (ℕ × RawTermTree × ℕ × Bor (List Item)) ReadError → Type 0
+WeighedRead whole ts len (Ok p) =
+    (ts ≡ sign t.Colon p.0 ∷ put_term (term_view p.1) (sign t.CloseBrace p.2 ∷ toks p.3.now)) × FineTerm (term_view p.1)
+WeighedRead whole ts len (Err e) = Fails at_factor put_factor FineFactor whole len e
+
 -- ---- signs before a factor
 
 abbrev pub negatives : List ℕ → Factor → Factor
@@ -224,6 +236,11 @@ negatives (p ∷ ps) x = negative p (negatives ps x)
 abbrev pub put_minuses : List ℕ → List Tok → List Tok
 put_minuses [] ts = ts
 put_minuses (p ∷ ps) ts = sign (t.Add Minus) p ∷ put_minuses ps ts
+
+-- a factor after these signs
+abbrev pub BareRead : List ℕ → List Tok → ℕ → Result (RawFactor × Bor (List Item)) ReadError → Type 0
+BareRead ps ts len (Ok p) = FactorIs ts (negatives ps (factor_view p.0)) (toks p.1.now)
+BareRead ps ts len (Err e) = Fails at_factor put_factor FineFactor ts len e
 
 -- ---- the parts of formulas
 

@@ -1,20 +1,21 @@
 //! Formulas, and the operands of which they are made.
-ghost use Rattle.std.specs.Prelude.{◌≡◌, ◌∷◌, ◌≤◌, ◌<◌, List, length, true, false, IfOk};
+ghost use Rattle.std.specs.Prelude.{◌≡◌, ◌∷◌, ◌≤◌, ◌<◌, ℕ, List, length, map, true, false, IfOk};
 ghost use Rattle.fo_syntax.specs.Terminals.{Tok, toks, tok_at, word, sign};
 ghost use Rattle.fo_syntax.specs.Trees as tree;
 ghost use Rattle.fo_syntax.specs.Spelling.{put_unary, put_prim, put_term, put_factor};
 ghost use Rattle.fo_syntax.specs.Fine.{FineTerm, FineFactor, FineApp};
 ghost use Rattle.token_reader.specs.Sorts.{app_formula, app_or, app_and, app_unary, app_term, app_factor};
-ghost use Rattle.fo_syntax.specs.View.{formula_view, or_view, and_view, unary_view, prim_view, term_view, factor_view, app_view};
+ghost use Rattle.fo_syntax.specs.View.{formula_of, or_of, and_of, link_view, or_tail_view, and_tail_view, formula_view, or_view, and_view, unary_view, prim_view, term_view, factor_view, app_view};
 ghost use Rattle.token_reader.specs.Parts.{EndsFactor, EndsTerm, EndsPrim, NoNot, TermsOnly};
-ghost use Rattle.formula_reader.specs.Results.{Readers, UnaryIs, UnaryRead, AndRead, OrRead, ConjunctionRead, DisjunctionRead, FormulaRead, LinkedRead, OperandIs, OperandRead, ContentRead, SettledRead, wrap_prim, wrap_factor, nots};
+ghost use Rattle.formula_reader.specs.Chains.{AndsAre, OrsAre, LinksAre, MoreAnds, MoreOrs, MoreLinks};
+ghost use Rattle.formula_reader.specs.Results.{Readers, UnaryIs, UnaryRead, AndRead, OrIs, OrRead, ConjunctionRead, DisjunctionRead, FormulaRead, LinkedRead, OperandIs, OperandRead, ContentRead, InsideRead, SettledRead, wrap_prim, wrap_factor, nots, put_nots};
 ghost use Rattle.fo_syntax.specs.declared.terminal.Terminal.TheVariants as t;
 
 use crate::expressions::Reader;
 use crate::kinds::{Content, Operand, Pair};
 use fo_syntax::{
-    Item, RawAnd, RawApp, RawFactor, RawFormula, RawOr, RawPrim, RawTermTree, RawUnary, ReadError,
-    Terminal,
+    Arrow, Item, RawAnd, RawAndTail, RawApp, RawFactor, RawFormula, RawLink, RawOr, RawOrTail,
+    RawPrim, RawTermTree, RawUnary, ReadError, Terminal,
 };
 use sqlite_items::{Boxed, Items};
 use std::alloc::{AllocError, Global};
@@ -77,6 +78,20 @@ fn bracketed(
         rest = after;
     }
     Ok(found)
+}
+
+// The signs `~` before an operand, the outermost first.
+fn tildes<'a>(signs: &mut Items<usize>, items: &'a [Item<'a>]) -> Result<&'a [Item<'a>], AllocError>
+    ensures reads { IfOk result (λ r. put_nots signs.old (toks items.now) ≡ put_nots signs.new (toks r.now)) }
+    ensures ends { IfOk result (λ r. NoNot (toks r.now)) }
+    ensures shorter { IfOk result (λ r. length r.now ≤ length items.now) }
+{
+    let (_count, mut rest) = start(items);
+    while let Some((place, after)) = after_not(rest) {
+        signs.push(place)?;
+        rest = after;
+    }
+    Ok(rest)
 }
 
 // The operand after these signs, the outermost first.
@@ -195,6 +210,19 @@ impl<
         self.applied(app, Items::new(self.alloc), rest)
     }
 
+    // What stands in brackets up to the closing one, and the place of that.
+    fn inside(&self, items: &'a [Item<'a>]) -> Result<(Content, usize, &'a [Item<'a>]), ReadError>
+        requires nests { Readers self.now.left (F.pre self.now.formula) (F.post self.now.formula) (G.pre self.now.content) (G.post self.now.content) (H.pre self.now.term) (H.post self.now.term) }
+        requires fewer { length items.now < self.now.left }
+        ensures reads { InsideRead (toks items.now) self.now.end result }
+        ensures shorter { IfOk result (λ p. length p.2.now ≤ length items.now) }
+    {
+        let (inner, rest) = self.content(items)?;
+        let (place, last) = close(rest, self.end)?;
+        sealed(last)?;
+        Ok((inner, place, last))
+    }
+
     // What stands in brackets, and what it begins.
     fn enclosed(&self, begin: usize, items: &'a [Item<'a>]) -> Found<'a, Operand>
         requires nests { Readers self.now.left (F.pre self.now.formula) (F.post self.now.formula) (G.pre self.now.content) (G.post self.now.content) (H.pre self.now.term) (H.post self.now.term) }
@@ -202,9 +230,7 @@ impl<
         ensures reads { OperandRead (sign t.Open begin ∷ toks items.now) self.now.end result }
         ensures shorter { IfOk result (λ p. length p.1.now ≤ length items.now) }
     {
-        let (inner, rest) = self.content(items)?;
-        let (place, last) = close(rest, self.end)?;
-        sealed(last)?;
+        let (inner, place, last) = self.inside(items)?;
         match inner {
             Content::Formula(formula) => {
                 let found = build::prim(self.alloc, build::group(begin, formula, place))?;
@@ -280,12 +306,8 @@ impl<
         ensures reads { OperandRead (toks items.now) self.now.end result }
         ensures shorter { IfOk result (λ p. length p.1.now ≤ length items.now) }
     {
-        let (_count, mut rest) = start(items);
         let mut signs = Items::new(self.alloc);
-        while let Some((place, after)) = after_not(rest) {
-            signs.push(place)?;
-            rest = after;
-        }
+        let rest = tildes(&mut signs, items)?;
         let (found, last) = self.plain(rest)?;
         if signs.is_empty() {
             return Ok((found, last));
@@ -307,6 +329,31 @@ impl<
         Ok((inner, closed, last))
     }
 
+    // The further operands of a chain of `&`, and whether no quantified formula stands at its end. What is kept across
+    // the loop is lent, so that no way out of it has to give up a tree.
+    fn more_ands(
+        &self,
+        more: &mut Items<RawAndTail>,
+        ends: bool,
+        items: &'a [Item<'a>],
+    ) -> Found<'a, bool>
+        requires nests { Readers self.now.left (F.pre self.now.formula) (F.post self.now.formula) (G.pre self.now.content) (G.post self.now.content) (H.pre self.now.term) (H.post self.now.term) }
+        requires fewer { length items.now ≤ self.now.left }
+        ensures reads { (ts : List Tok) (u : tree.Unary) → AndsAre ts (and_of u (map and_tail_view more.old)) ends (toks items.now)
+            → MoreAnds ts u (map and_tail_view more.new) self.now.end result }
+        ensures shorter { IfOk result (λ p. length p.1.now ≤ length items.now) }
+    {
+        let (_count, mut rest) = start(items);
+        let mut closed = ends;
+        while let Some((place, after)) = after_and(closed, rest) {
+            let (operand, still, after) = self.unary(after)?;
+            more.push(build::and_tail(place, operand))?;
+            closed = still;
+            rest = after;
+        }
+        Ok((closed, rest))
+    }
+
     // The chain of `&` that has begun with this operand.
     fn ands(
         &self,
@@ -320,17 +367,9 @@ impl<
         ensures kind { IfOk result (λ p. app_and (and_view p.0) ≡ true → app_unary (unary_view first) ≡ true) }
         ensures shorter { IfOk result (λ p. length p.2.now ≤ length items.now) }
     {
-        let (_count, mut rest) = start(items);
-        let first = first.into_inner();
-        let mut closed = ends;
         let mut more = Items::new(self.alloc);
-        while let Some((place, after)) = after_and(closed, rest) {
-            let (operand, still, after) = self.unary(after)?;
-            more.push(build::and_tail(place, operand))?;
-            closed = still;
-            rest = after;
-        }
-        let chain = build::and(self.alloc, first, more)?;
+        let (closed, rest) = self.more_ands(&mut more, ends, items)?;
+        let chain = build::and(self.alloc, first.into_inner(), more)?;
         Ok((chain, closed, rest))
     }
 
@@ -343,6 +382,30 @@ impl<
     {
         let (first, closed, rest) = self.unary(items)?;
         self.ands(first, closed, rest)
+    }
+
+    // The further operands of a chain of `|`.
+    fn more_ors(
+        &self,
+        more: &mut Items<RawOrTail>,
+        ends: bool,
+        items: &'a [Item<'a>],
+    ) -> Found<'a, bool>
+        requires nests { Readers self.now.left (F.pre self.now.formula) (F.post self.now.formula) (G.pre self.now.content) (G.post self.now.content) (H.pre self.now.term) (H.post self.now.term) }
+        requires fewer { length items.now ≤ self.now.left }
+        ensures reads { (ts : List Tok) (a : tree.And) → OrsAre ts (or_of a (map or_tail_view more.old)) ends (toks items.now)
+            → MoreOrs ts a (map or_tail_view more.new) self.now.end result }
+        ensures shorter { IfOk result (λ p. length p.1.now ≤ length items.now) }
+    {
+        let (_count, mut rest) = start(items);
+        let mut closed = ends;
+        while let Some((place, after)) = after_or(closed, rest) {
+            let (operand, still, after) = self.conjunction(after)?;
+            more.push(build::or_tail(place, operand))?;
+            closed = still;
+            rest = after;
+        }
+        Ok((closed, rest))
     }
 
     // The chain of `|` that has begun with this operand.
@@ -358,16 +421,10 @@ impl<
         ensures kind { IfOk result (λ p. app_or (or_view p.0) ≡ true → app_unary (unary_view first) ≡ true) }
         ensures shorter { IfOk result (λ p. length p.2.now ≤ length items.now) }
     {
-        let (and, mut closed, mut rest) = self.ands(first, ends, items)?;
-        let and = and.into_inner();
+        let (and, closed, rest) = self.ands(first, ends, items)?;
         let mut more = Items::new(self.alloc);
-        while let Some((place, after)) = after_or(closed, rest) {
-            let (operand, still, after) = self.conjunction(after)?;
-            more.push(build::or_tail(place, operand))?;
-            closed = still;
-            rest = after;
-        }
-        let chain = build::or(self.alloc, and, more)?;
+        let (closed, rest) = self.more_ors(&mut more, closed, rest)?;
+        let chain = build::or(self.alloc, and.into_inner(), more)?;
         Ok((chain, closed, rest))
     }
 
@@ -380,6 +437,53 @@ impl<
     {
         let (first, closed, rest) = self.unary(items)?;
         self.ors(first, closed, rest)
+    }
+
+    // The further operands of a chain of this arrow.
+    fn more_links(
+        &self,
+        more: &mut Items<RawLink>,
+        arrow: Arrow,
+        ends: bool,
+        items: &'a [Item<'a>],
+    ) -> Result<&'a [Item<'a>], ReadError>
+        requires nests { Readers self.now.left (F.pre self.now.formula) (F.post self.now.formula) (G.pre self.now.content) (G.post self.now.content) (H.pre self.now.term) (H.post self.now.term) }
+        requires fewer { length items.now ≤ self.now.left }
+        ensures reads { (ts : List Tok) (o : tree.Or) (x : ℕ × tree.Or) → LinksAre ts (formula_of arrow o (x ∷ map link_view more.old)) ends (toks items.now)
+            → MoreLinks ts arrow o (x ∷ map link_view more.new) self.now.end result }
+        ensures shorter { IfOk result (λ r. length r.now ≤ length items.now) }
+    {
+        let (_count, mut rest) = start(items);
+        let mut closed = ends;
+        while let Some((place, after)) = after_same(arrow, closed, rest) {
+            let (operand, still, after) = self.disjunction(after)?;
+            more.push(build::link(place, operand))?;
+            closed = still;
+            rest = after;
+        }
+        Ok(rest)
+    }
+
+    // The chain of this arrow, which stands at this place after its first operand; the second one is next.
+    fn chained(
+        &self,
+        first: Boxed<RawOr>,
+        arrow: Arrow,
+        place: usize,
+        items: &'a [Item<'a>],
+    ) -> Found<'a, Boxed<RawFormula>>
+        requires nests { Readers self.now.left (F.pre self.now.formula) (F.post self.now.formula) (G.pre self.now.content) (G.post self.now.content) (H.pre self.now.term) (H.post self.now.term) }
+        requires fewer { length items.now ≤ self.now.left }
+        ensures reads { (ts : List Tok) → OrIs ts (or_view first) true (sign (t.Arrow arrow) place ∷ toks items.now) → LinkedRead ts self.now.end result }
+        ensures kind { IfOk result (λ p. app_formula (formula_view p.0) ≡ false) }
+        ensures shorter { IfOk result (λ p. length p.1.now ≤ length items.now) }
+    {
+        let (operand, closed, rest) = self.disjunction(items)?;
+        let next = build::link(place, operand);
+        let mut more = Items::new(self.alloc);
+        let last = self.more_links(&mut more, arrow, closed, rest)?;
+        let chain = build::linked(self.alloc, arrow, first.into_inner(), next, more)?;
+        Ok((chain, last))
     }
 
     // The formula that has begun with this operand.
@@ -395,21 +499,12 @@ impl<
         ensures kind { IfOk result (λ p. app_formula (formula_view p.0) ≡ true → app_unary (unary_view first) ≡ true) }
         ensures shorter { IfOk result (λ p. length p.1.now ≤ length items.now) }
     {
-        let (or, mut closed, mut rest) = self.ors(first, ends, items)?;
-        let or = or.into_inner();
-        let Some((arrow, _place, _after)) = after_arrow(closed, rest) else {
-            let lone = build::alone(self.alloc, or)?;
+        let (or, closed, rest) = self.ors(first, ends, items)?;
+        let Some((arrow, place, after)) = after_arrow(closed, rest) else {
+            let lone = build::alone(self.alloc, or.into_inner())?;
             return Ok((lone, rest));
         };
-        let mut more = Items::new(self.alloc);
-        while let Some((place, after)) = after_same(arrow, closed, rest) {
-            let (operand, still, after) = self.disjunction(after)?;
-            more.push(build::link(place, operand))?;
-            closed = still;
-            rest = after;
-        }
-        let chain = build::linked(self.alloc, arrow, or, more)?;
-        Ok((chain, rest))
+        self.chained(or, arrow, place, after)
     }
 
     /// A formula.

@@ -1,18 +1,22 @@
 //! Terms, and the parts of them.
-ghost use Rattle.std.specs.Prelude.{◌≡◌, ◌∷◌, ◌≤◌, ◌<◌, length, IfOk};
-ghost use Rattle.fo_syntax.specs.Terminals.{toks, sign};
-ghost use Rattle.fo_syntax.specs.Spelling.{put_name, put_factor};
-ghost use Rattle.fo_syntax.specs.Fine.{FineFactor};
-ghost use Rattle.fo_syntax.specs.View.{name_view, factor_view};
-ghost use Rattle.token_reader.specs.Parts.{EndsFactor, NoMinus};
-ghost use Rattle.formula_reader.specs.Results.{Readers, ArgumentsRead, OpeningRead, UnsignedRead, FactorRead, ProductRead, SumRead, TermRead, negatives};
+ghost use Rattle.std.specs.Prelude.{◌≡◌, ◌∷◌, ◌≤◌, ◌<◌, ℕ, List, length, map, IfOk};
+ghost use Rattle.fo_syntax.specs.Terminals.{Tok, toks, tok_at, word, sign};
+ghost use Rattle.fo_syntax.specs.Trees.{Name, Formula, Term, Product, Factor};
+ghost use Rattle.fo_syntax.specs.declared.terminal.Aggregation.{Aggregation};
+ghost use Rattle.token_reader.specs.Machine.{fresh};
+ghost use Rattle.fo_syntax.specs.Spelling.{put_name, put_term, put_product, put_factor, put_terms};
+ghost use Rattle.fo_syntax.specs.Fine.{FineTerm, FineProduct, FineFactor, FineTerms};
+ghost use Rattle.fo_syntax.specs.View.{name_view, factor_view, product_tail_view, sum_tail_view, terms_tail_view, product_of, term_of, terms_of};
+ghost use Rattle.token_reader.specs.Parts.{EndsFactor, EndsTerm, NoClose, NoMinus, NoTimes};
+ghost use Rattle.formula_reader.specs.Chains.{MoreFactors, MoreProducts, MoreTerms, ListedRead};
+ghost use Rattle.formula_reader.specs.Results.{Readers, Opening, put_opening, FormulaIs, WeighedRead, ArgumentsRead, OpeningRead, UnsignedRead, BareRead, put_minuses, FactorRead, ProductRead, SumRead, TermRead, negatives};
 ghost use Rattle.fo_syntax.specs.declared.terminal.Terminal.TheVariants as t;
 
 use crate::expressions::Reader;
 use crate::kinds::Content;
 use fo_syntax::{
-    Aggregation, Item, RawApp, RawFactor, RawFormula, RawName, RawOpening, RawProduct, RawTermTree,
-    ReadError, Terminal,
+    Aggregation, Item, RawApp, RawFactor, RawFormula, RawName, RawOpening, RawProduct,
+    RawProductTail, RawSumTail, RawTermTree, RawTerms, RawTermsTail, ReadError, Terminal,
 };
 use sqlite_items::{Boxed, Items};
 use std::alloc::{AllocError, Global};
@@ -44,6 +48,23 @@ fn opening<'a>(
     Ok((opening, last))
 }
 
+// The signs before a factor, the outermost first.
+fn minuses<'a>(
+    signs: &mut Items<usize>,
+    items: &'a [Item<'a>],
+) -> Result<&'a [Item<'a>], AllocError>
+    ensures reads { IfOk result (λ r. put_minuses signs.old (toks items.now) ≡ put_minuses signs.new (toks r.now)) }
+    ensures ends { IfOk result (λ r. NoMinus (toks r.now)) }
+    ensures shorter { IfOk result (λ r. length r.now ≤ length items.now) }
+{
+    let (_count, mut rest) = start(items);
+    while let Some((place, after)) = after_minus(rest) {
+        signs.push(place)?;
+        rest = after;
+    }
+    Ok(rest)
+}
+
 // The factor after these signs, the outermost first.
 fn signed(
     alloc: Global,
@@ -65,6 +86,39 @@ impl<
     G: Fn(Global, &'a [Item<'a>], usize) -> Found<'a, Content>,
     H: Fn(Global, &'a [Item<'a>], usize) -> Found<'a, Boxed<RawTermTree>>,
 > Reader<F, G, H> {
+    // The further terms of a list in brackets, and the place of the closing bracket.
+    fn more_terms(&self, more: &mut Items<RawTermsTail>, items: &'a [Item<'a>]) -> Found<'a, usize>
+        requires nests { Readers self.now.left (F.pre self.now.formula) (F.post self.now.formula) (G.pre self.now.content) (G.post self.now.content) (H.pre self.now.term) (H.post self.now.term) }
+        requires fewer { length items.now ≤ self.now.left }
+        requires ends { EndsTerm (toks items.now) }
+        ensures reads { (n : Name) (ts : List Tok) (start : ℕ) (x : Term)
+            → ts ≡ sign t.Open start ∷ put_terms (terms_of x (map terms_tail_view more.old)) (toks items.now)
+            → FineTerms (terms_of x (map terms_tail_view more.old))
+            → MoreTerms n ts start x (map terms_tail_view more.new) self.now.end result }
+        ensures shorter { IfOk result (λ p. length p.1.now ≤ length items.now) }
+    {
+        let (_count, mut rest) = start(items);
+        while let Some((place, after)) = after_comma(rest) {
+            let (operand, after) = self.term(after)?;
+            more.push(build::terms_tail(place, operand))?;
+            rest = after;
+        }
+        close(rest, self.end)
+    }
+
+    // The terms of a list in brackets, which is not empty, and the place of the closing bracket.
+    fn listed(&self, items: &'a [Item<'a>]) -> Result<(RawTerms, usize, &'a [Item<'a>]), ReadError>
+        requires nests { Readers self.now.left (F.pre self.now.formula) (F.post self.now.formula) (G.pre self.now.content) (G.post self.now.content) (H.pre self.now.term) (H.post self.now.term) }
+        requires fewer { length items.now < self.now.left }
+        ensures reads { (n : Name) (start : ℕ) → NoClose (toks items.now) → ListedRead n (sign t.Open start ∷ toks items.now) start self.now.end result }
+        ensures shorter { IfOk result (λ p. length p.2.now ≤ length items.now) }
+    {
+        let (first, rest) = self.term(items)?;
+        let mut more = Items::new(self.alloc);
+        let (place, last) = self.more_terms(&mut more, rest)?;
+        Ok((build::terms(first.into_inner(), more), place, last))
+    }
+
     /// The arguments after a word, if it has any.
     pub fn arguments(&self, name: RawName, items: &'a [Item<'a>]) -> Found<'a, Boxed<RawApp>>
         requires nests { Readers self.now.left (F.pre self.now.formula) (F.post self.now.formula) (G.pre self.now.content) (G.post self.now.content) (H.pre self.now.term) (H.post self.now.term) }
@@ -78,16 +132,7 @@ impl<
         if let Some((place, last)) = after_close(rest) {
             return Ok((build::empty(self.alloc, name, begin, place)?, last));
         }
-        let (first, mut rest) = self.term(rest)?;
-        let first = first.into_inner();
-        let mut more = Items::new(self.alloc);
-        while let Some((place, after)) = after_comma(rest) {
-            let (operand, after) = self.term(after)?;
-            more.push(build::terms_tail(place, operand))?;
-            rest = after;
-        }
-        let (place, last) = close(rest, self.end)?;
-        let terms = build::terms(first, more);
+        let (terms, place, last) = self.listed(rest)?;
         Ok((build::apply(self.alloc, name, begin, terms, place)?, last))
     }
 
@@ -114,6 +159,23 @@ impl<
         Ok((build::count(self.alloc, head, inner, brace)?, last))
     }
 
+    // The colon of an aggregate, its term and its closing brace, with the places of both signs.
+    fn weighed(
+        &self,
+        items: &'a [Item<'a>],
+    ) -> Result<(usize, Boxed<RawTermTree>, usize, &'a [Item<'a>]), ReadError>
+        requires nests { Readers self.now.left (F.pre self.now.formula) (F.post self.now.formula) (G.pre self.now.content) (G.post self.now.content) (H.pre self.now.term) (H.post self.now.term) }
+        requires fewer { length items.now < self.now.left }
+        ensures reads { (how : Aggregation) (place : ℕ) (o : Opening) (f : Formula) (ts us : List Tok) → ts ≡ put_opening o us
+            → FormulaIs us fresh f (toks items.now) → WeighedRead (sign (t.Aggregate how) place ∷ ts) (toks items.now) self.now.end result }
+        ensures shorter { IfOk result (λ p. length p.3.now ≤ length items.now) }
+    {
+        let (second, rest) = colon(items, self.end)?;
+        let (of, rest) = self.term(rest)?;
+        let (brace, last) = close_brace(rest, self.end)?;
+        Ok((second, of, brace, last))
+    }
+
     fn aggregate(
         &self,
         how: Aggregation,
@@ -127,11 +189,25 @@ impl<
     {
         let (head, rest) = opening(self.alloc, place, items, self.end)?;
         let (inner, rest) = self.formula(rest)?;
-        let (second, rest) = colon(rest, self.end)?;
-        let (of, rest) = self.term(rest)?;
-        let (brace, last) = close_brace(rest, self.end)?;
+        let (second, of, brace, last) = self.weighed(rest)?;
         let found = build::aggregate(self.alloc, how, head, inner, second, of, brace)?;
         Ok((found, last))
+    }
+
+    fn valued(
+        &self,
+        text: &[u8],
+        place: usize,
+        items: &'a [Item<'a>],
+    ) -> Found<'a, Boxed<RawFactor>>
+        requires nests { Readers self.now.left (F.pre self.now.formula) (F.post self.now.formula) (G.pre self.now.content) (G.post self.now.content) (H.pre self.now.term) (H.post self.now.term) }
+        requires fewer { length items.now < self.now.left }
+        ensures reads { UnsignedRead (tok_at (word text.now) place ∷ toks items.now) self.now.end result }
+        ensures shorter { IfOk result (λ p. length p.1.now ≤ length items.now) }
+    {
+        let name = build::named(self.alloc, text, place)?;
+        let (app, last) = self.arguments(name, items)?;
+        Ok((build::value(self.alloc, app)?, last))
     }
 
     fn unsigned(&self, items: &'a [Item<'a>]) -> Found<'a, Boxed<RawFactor>>
@@ -148,16 +224,25 @@ impl<
             Terminal::Integer(number) => {
                 Ok((build::integer(self.alloc, number, item.place)?, rest))
             }
-            Terminal::Word => {
-                let name = build::named(self.alloc, item.text, item.place)?;
-                let (app, last) = self.arguments(name, rest)?;
-                Ok((build::value(self.alloc, app)?, last))
-            }
+            Terminal::Word => self.valued(item.text, item.place, rest),
             Terminal::Open => self.brackets(item.place, rest),
             Terminal::Count => self.count(item.place, rest),
             Terminal::Aggregate(how) => self.aggregate(how, item.place, rest),
             _ => Err(ReadError::Stuck(item.place)),
         }
+    }
+
+    // A factor without `-` before it, after which no arguments stand but those that it has.
+    fn bare(&self, items: &'a [Item<'a>]) -> Found<'a, Boxed<RawFactor>>
+        requires nests { Readers self.now.left (F.pre self.now.formula) (F.post self.now.formula) (G.pre self.now.content) (G.post self.now.content) (H.pre self.now.term) (H.post self.now.term) }
+        requires fewer { length items.now ≤ self.now.left }
+        requires unsigned { NoMinus (toks items.now) }
+        ensures reads { (ps : List ℕ) (ts : List Tok) → ts ≡ put_minuses ps (toks items.now) → BareRead ps ts self.now.end result }
+        ensures shorter { IfOk result (λ p. length p.1.now ≤ length items.now) }
+    {
+        let (found, last) = self.unsigned(items)?;
+        sealed(last)?;
+        Ok((found, last))
     }
 
     /// A factor.
@@ -167,15 +252,34 @@ impl<
         ensures reads { FactorRead (toks items.now) self.now.end result }
         ensures shorter { IfOk result (λ p. length p.1.now ≤ length items.now) }
     {
-        let (_count, mut rest) = start(items);
         let mut signs = Items::new(self.alloc);
-        while let Some((place, after)) = after_minus(rest) {
-            signs.push(place)?;
+        let rest = minuses(&mut signs, items)?;
+        let (found, last) = self.bare(rest)?;
+        Ok((signed(self.alloc, signs, found)?, last))
+    }
+
+    // The further factors of a product.
+    fn more_factors(
+        &self,
+        more: &mut Items<RawProductTail>,
+        items: &'a [Item<'a>],
+    ) -> Result<&'a [Item<'a>], ReadError>
+        requires nests { Readers self.now.left (F.pre self.now.formula) (F.post self.now.formula) (G.pre self.now.content) (G.post self.now.content) (H.pre self.now.term) (H.post self.now.term) }
+        requires fewer { length items.now ≤ self.now.left }
+        requires ends { EndsFactor (toks items.now) }
+        ensures reads { (ts : List Tok) (x : Factor)
+            → ts ≡ put_product (product_of x (map product_tail_view more.old)) (toks items.now)
+            → FineProduct (product_of x (map product_tail_view more.old))
+            → MoreFactors ts x (map product_tail_view more.new) self.now.end result }
+        ensures shorter { IfOk result (λ r. length r.now ≤ length items.now) }
+    {
+        let (_count, mut rest) = start(items);
+        while let Some((place, after)) = after_times(rest) {
+            let (operand, after) = self.factor(after)?;
+            more.push(build::product_tail(place, operand))?;
             rest = after;
         }
-        let (found, last) = self.unsigned(rest)?;
-        sealed(last)?;
-        Ok((signed(self.alloc, signs, found)?, last))
+        Ok(rest)
     }
 
     fn multiplied(
@@ -190,16 +294,36 @@ impl<
         ensures reads { ProductRead (put_factor (factor_view first) (toks items.now)) self.now.end result }
         ensures shorter { IfOk result (λ p. length p.1.now ≤ length items.now) }
     {
-        let (_count, mut rest) = start(items);
-        let first = first.into_inner();
         let mut more = Items::new(self.alloc);
-        while let Some((place, after)) = after_times(rest) {
-            let (operand, after) = self.factor(after)?;
-            more.push(build::product_tail(place, operand))?;
+        let rest = self.more_factors(&mut more, items)?;
+        let chain = build::product(self.alloc, first.into_inner(), more)?;
+        Ok((chain, rest))
+    }
+
+    // The further products of a sum.
+    fn more_products(
+        &self,
+        more: &mut Items<RawSumTail>,
+        items: &'a [Item<'a>],
+    ) -> Result<&'a [Item<'a>], ReadError>
+        requires nests { Readers self.now.left (F.pre self.now.formula) (F.post self.now.formula) (G.pre self.now.content) (G.post self.now.content) (H.pre self.now.term) (H.post self.now.term) }
+        requires fewer { length items.now ≤ self.now.left }
+        requires ends { EndsFactor (toks items.now) }
+        requires no_times { NoTimes (toks items.now) }
+        ensures reads { (ts : List Tok) (x : Product)
+            → ts ≡ put_term (term_of x (map sum_tail_view more.old)) (toks items.now)
+            → FineTerm (term_of x (map sum_tail_view more.old))
+            → MoreProducts ts x (map sum_tail_view more.new) self.now.end result }
+        ensures shorter { IfOk result (λ r. length r.now ≤ length items.now) }
+    {
+        let (_count, mut rest) = start(items);
+        while let Some((sign, place, after)) = after_add(rest) {
+            let (factor, after) = self.factor(after)?;
+            let (operand, after) = self.multiplied(factor, after)?;
+            more.push(build::sum_tail(sign, place, operand))?;
             rest = after;
         }
-        let chain = build::product(self.alloc, first, more)?;
-        Ok((chain, rest))
+        Ok(rest)
     }
 
     /// The term that has begun with this factor.
@@ -215,17 +339,11 @@ impl<
         ensures reads { SumRead (put_factor (factor_view first) (toks items.now)) self.now.end result }
         ensures shorter { IfOk result (λ p. length p.1.now ≤ length items.now) }
     {
-        let (product, mut rest) = self.multiplied(first, items)?;
-        let product = product.into_inner();
+        let (product, rest) = self.multiplied(first, items)?;
         let mut more = Items::new(self.alloc);
-        while let Some((sign, place, after)) = after_add(rest) {
-            let (factor, after) = self.factor(after)?;
-            let (operand, after) = self.multiplied(factor, after)?;
-            more.push(build::sum_tail(sign, place, operand))?;
-            rest = after;
-        }
-        let chain = build::term(self.alloc, product, more)?;
-        Ok((chain, rest))
+        let last = self.more_products(&mut more, rest)?;
+        let chain = build::term(self.alloc, product.into_inner(), more)?;
+        Ok((chain, last))
     }
 
     /// A term.

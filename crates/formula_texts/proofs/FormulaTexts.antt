@@ -4,20 +4,31 @@ use Rattle.std.specs.Prelude.{codes}
 use Rattle.std.proofs.lemmas.List.{append-nil}
 use Rattle.kb_text.specs.Tokens.{is_word_of}
 use Rattle.printed_tokens.specs.Written.{Part, text_with, text_of}
-use Rattle.formula_texts.specs.Formulas.{Binder, binder, Binders, one_binder, more_binders, Fm, truth, atom, comparison, negation, conjunction, disjunction, implication, equivalence, universal, existential, numbered, Fms, one_fm, more_fms, Tm, application, integer, summation, product, count, aggregate, Tms, no_tms, some_tms, Others, no_others, more_others, Summands, no_summands, more_summands, Factors, one_factor, more_factors, opened, write_binder, write_binders, write_fm, write_fms, write_tm, write_tms, write_others, write_summands, write_factors}
-use Rattle.formula_texts.specs.FormulaTexts.{opened_text, binder_text, binders_text, fm_text, fms_text, tm_text, tms_text, others_text, summands_text, factors_text}
+use Rattle.formula_texts.specs.Formulas.{Binder, binder, Binders, one_binder, more_binders, Fm, truth, atom, comparison}
+use Rattle.formula_texts.specs.Formulas.{negation, conjunction, disjunction, implication, equivalence, universal}
+use Rattle.formula_texts.specs.Formulas.{existential, numbered, Fms, one_fm, more_fms, Tm, application, integer}
+use Rattle.formula_texts.specs.Formulas.{summation, product, count, aggregate, Tms, no_tms, some_tms, Others, no_others}
+use Rattle.formula_texts.specs.Formulas.{more_others, Summands, no_summands, more_summands, Factors, one_factor}
+use Rattle.formula_texts.specs.Formulas.{more_factors, opened, write_binder, write_binders, write_fm, write_fms}
+use Rattle.formula_texts.specs.Formulas.{write_tm, write_tms, write_others, write_summands, write_factors}
+use Rattle.formula_texts.specs.FormulaTexts.{opened_text, binder_text, binders_text, fm_text, fms_text, tm_text}
+use Rattle.formula_texts.specs.FormulaTexts.{tms_text, others_text, summands_text, factors_text}
 
-opened_written : (words : List (List ℕ)) (text n : List ℕ) (rest : List Part) (z : List ℕ) → text_with (opened words text n rest) z ≡ opened_text words text n ++ text_with rest z
+opened_written : (words : List (List ℕ)) (text n : List ℕ) (rest : List Part) (z : List ℕ)
+    → text_with (opened words text n rest) z ≡ opened_text words text n ++ text_with rest z
 opened_written words text n rest z = by_word (is_word_of words n) refl
   where
-    by_word : (b : Bool) → is_word_of words n ≡ b → text_with (opened words text n rest) z ≡ opened_text words text n ++ text_with rest z
+    by_word : (b : Bool) → is_word_of words n ≡ b
+        → text_with (opened words text n rest) z ≡ opened_text words text n ++ text_with rest z
     by_word true e = rw e refl
     by_word false e = rw e refl
 
-binder_written : (x : Binder) (rest : List Part) (z : List ℕ) → text_with (write_binder x rest) z ≡ binder_text x ++ text_with rest z
+binder_written : (x : Binder) (rest : List Part) (z : List ℕ)
+    → text_with (write_binder x rest) z ≡ binder_text x ++ text_with rest z
 binder_written (binder n ty) rest z = simp (append_assoc, opened_written)
 
-binders_written : (xs : Binders) (rest : List Part) (z : List ℕ) → text_with (write_binders xs rest) z ≡ binders_text xs ++ text_with rest z
+binders_written : (xs : Binders) (rest : List Part) (z : List ℕ)
+    → text_with (write_binders xs rest) z ≡ binders_text xs ++ text_with rest z
 binders_written (one_binder x) rest z = binder_written x rest z
 binders_written (more_binders x xs) rest z = simp (append_assoc, binder_written, binders_written xs)
 
@@ -35,7 +46,8 @@ mutual
   fm_written (existential vs f) rest z = simp (append_assoc, binders_written, fm_written f)
   fm_written (numbered c n vs f) rest z = simp (append_assoc, binders_written, fm_written f)
 
-  fms_written : (text : List ℕ) (fs : Fms) (rest : List Part) (z : List ℕ) → text_with (write_fms text fs rest) z ≡ fms_text text fs ++ text_with rest z
+  fms_written : (text : List ℕ) (fs : Fms) (rest : List Part) (z : List ℕ)
+      → text_with (write_fms text fs rest) z ≡ fms_text text fs ++ text_with rest z
   fms_written text (one_fm f) rest z = fm_written f rest z
   fms_written text (more_fms f fs) rest z = simp (append_assoc, fm_written f, fms_written text fs)
 
@@ -48,19 +60,23 @@ mutual
   tm_written (count vs f) rest z = simp (append_assoc, binders_written, fm_written f)
   tm_written (aggregate a vs f x) rest z = simp (append_assoc, binders_written, fm_written f, tm_written x)
 
-  tms_written : (n : List ℕ) (ts : Tms) (rest : List Part) (z : List ℕ) → text_with (write_tms n ts rest) z ≡ tms_text n ts ++ text_with rest z
+  tms_written : (n : List ℕ) (ts : Tms) (rest : List Part) (z : List ℕ)
+      → text_with (write_tms n ts rest) z ≡ tms_text n ts ++ text_with rest z
   tms_written n no_tms rest z = refl
   tms_written n (some_tms x xs) rest z = simp (append_assoc, opened_written, tm_written x, others_written xs)
 
-  others_written : (xs : Others) (rest : List Part) (z : List ℕ) → text_with (write_others xs rest) z ≡ others_text xs ++ text_with rest z
+  others_written : (xs : Others) (rest : List Part) (z : List ℕ)
+      → text_with (write_others xs rest) z ≡ others_text xs ++ text_with rest z
   others_written no_others rest z = refl
   others_written (more_others x xs) rest z = simp (append_assoc, tm_written x, others_written xs)
 
-  summands_written : (ss : Summands) (rest : List Part) (z : List ℕ) → text_with (write_summands ss rest) z ≡ summands_text ss ++ text_with rest z
+  summands_written : (ss : Summands) (rest : List Part) (z : List ℕ)
+      → text_with (write_summands ss rest) z ≡ summands_text ss ++ text_with rest z
   summands_written no_summands rest z = refl
   summands_written (more_summands m x ss) rest z = simp (append_assoc, tm_written x, summands_written ss)
 
-  factors_written : (fs : Factors) (rest : List Part) (z : List ℕ) → text_with (write_factors fs rest) z ≡ factors_text fs ++ text_with rest z
+  factors_written : (fs : Factors) (rest : List Part) (z : List ℕ)
+      → text_with (write_factors fs rest) z ≡ factors_text fs ++ text_with rest z
   factors_written (one_factor x) rest z = tm_written x rest z
   factors_written (more_factors x xs) rest z = simp (append_assoc, tm_written x, factors_written xs)
 

@@ -40,7 +40,8 @@ formulas_are_read_back v names f h shallow =
     let text : formula_text v [] f ≡ fm_text (speak_fm v [] f) = sym (text_spoken v names [] f h.means) in
     let scanned : IsTokens (formula_text v [] f) (toks_at 0 parts) = record {
       lexemes = lexemes_at 0 parts;
-      scanned = rw (text, formula_written (speak_fm v [] f)) (whole parts (fm_parted (speak_fm v [] f) h.words [] [] refl refl) shallow);
+      scanned = rw (text, formula_written (speak_fm v [] f))
+          (whole parts (fm_parted (speak_fm v [] f) h.words [] [] refl refl) shallow);
       same = refl;
     } in
     record {
@@ -48,11 +49,13 @@ formulas_are_read_back v names f h shallow =
       scanned = scanned;
       tree = as_formula laid.tree;
       spelled = (laid.spelled [], laid.fine);
-      only = λ ts g read parsed. one_formula g (as_formula laid.tree) parsed.1 laid.fine (sym parsed.0 ∙ one_list (formula_text v [] f) ts (toks_at 0 parts) read scanned ∙ laid.spelled []);
+      only = λ ts g read parsed. one_formula g (as_formula laid.tree) parsed.1 laid.fine (sym parsed.0
+          ∙ one_list (formula_text v [] f) ts (toks_at 0 parts) read scanned ∙ laid.spelled []);
       typed = laid.means v names [] [] ∙ spoken v names [] f h.means;
     }
 
 pub depth_alone_is_refused : DepthAloneIsRefused
 depth_alone_is_refused v names f h =
     let text : formula_text v [] f ≡ fm_text (speak_fm v [] f) = sym (text_spoken v names [] f h.means) in
-    rw (text, formula_written (speak_fm v [] f)) (scanned outermost 0 (formula_parts v f) (fm_parted (speak_fm v [] f) h.words [] [] refl refl))
+    rw (text, formula_written (speak_fm v [] f))
+    (scanned outermost 0 (formula_parts v f) (fm_parted (speak_fm v [] f) h.words [] [] refl refl))

@@ -9,7 +9,11 @@ use Rattle.kb_logic.specs.declared.syntax.Cmp.TheVariants as cmp
 use Rattle.kb_logic.specs.declared.vocabularies.Bound.{Bound}
 use Rattle.kb_logic.specs.declared.vocabularies.TypeDecl.{TypeDecl}
 use Rattle.kb_logic.specs.declared.vocabularies.Vocabulary.{Vocabulary}
-use Rattle.kb_logic.specs.Trees.{TermTree, variable, integer, constructed, application, summation, product, aggregate, TermTrees, no_terms, more_terms, SummandTrees, no_summands, more_summands, FormulaTree, verum, falsum, atom, comparison, negation, conjunction, disjunction, implication, equivalence, universal, existential, numbered, FormulaTrees, no_formulas, more_formulas}
+use Rattle.kb_logic.specs.Trees.{TermTree, variable, integer, constructed, application, summation, product, aggregate}
+use Rattle.kb_logic.specs.Trees.{TermTrees, no_terms, more_terms, SummandTrees, no_summands, more_summands, FormulaTree}
+use Rattle.kb_logic.specs.Trees.{verum, falsum, atom, comparison, negation, conjunction, disjunction, implication}
+use Rattle.kb_logic.specs.Trees.{equivalence, universal, existential, numbered, FormulaTrees, no_formulas}
+use Rattle.kb_logic.specs.Trees.{more_formulas}
 use Rattle.literal_printer.specs.Texts.{name_of}
 use Rattle.formula_texts.specs.FormulaTexts.{spaced_text, opened_text, minus_text}
 use Rattle.formula_texts.specs.Formulas.{add_text}
@@ -71,15 +75,23 @@ abbrev mutual
   formula_text v scope verum = codes "true"
   formula_text v scope falsum = codes "false"
   formula_text v scope (atom s ts) = symbol_word v s ++ arguments_text v scope (symbol_word v s) ts
-  formula_text v scope (comparison c x y) = codes "(" ++ (term_text v scope x ++ (spaced_text (cmp_sign c) ++ (term_text v scope y ++ codes ")")))
+  formula_text v scope (comparison c x y) =
+      codes "(" ++ (term_text v scope x ++ (spaced_text (cmp_sign c) ++ (term_text v scope y ++ codes ")")))
   formula_text v scope (negation f) = codes "(~" ++ (formula_text v scope f ++ codes ")")
   formula_text v scope (conjunction fs) = codes "(" ++ (formulas_text v scope (codes " & ") fs ++ codes ")")
   formula_text v scope (disjunction fs) = codes "(" ++ (formulas_text v scope (codes " | ") fs ++ codes ")")
-  formula_text v scope (implication f g) = codes "(" ++ (formula_text v scope f ++ (codes " => " ++ (formula_text v scope g ++ codes ")")))
-  formula_text v scope (equivalence f g) = codes "(" ++ (formula_text v scope f ++ (codes " <=> " ++ (formula_text v scope g ++ codes ")")))
-  formula_text v scope (universal bs f) = codes "(!" ++ (bounds_text v bs ++ (codes ": " ++ (formula_text v (scope ++ bound_names bs) f ++ codes ")")))
-  formula_text v scope (existential bs f) = codes "(?" ++ (bounds_text v bs ++ (codes ": " ++ (formula_text v (scope ++ bound_names bs) f ++ codes ")")))
-  formula_text v scope (numbered c n bs f) = codes "(?" ++ (cmp_sign c ++ (signed_decimal n ++ (codes " " ++ (bounds_text v bs ++ (codes ": " ++ (formula_text v (scope ++ bound_names bs) f ++ codes ")"))))))
+  formula_text v scope (implication f g) =
+      codes "(" ++ (formula_text v scope f ++ (codes " => " ++ (formula_text v scope g ++ codes ")")))
+  formula_text v scope (equivalence f g) =
+      codes "(" ++ (formula_text v scope f ++ (codes " <=> " ++ (formula_text v scope g ++ codes ")")))
+  formula_text v scope (universal bs f) =
+      codes "(!" ++ (bounds_text v bs ++ (codes ": " ++ (formula_text v (scope ++ bound_names bs) f ++ codes ")")))
+  formula_text v scope (existential bs f) =
+      codes "(?" ++ (bounds_text v bs ++ (codes ": " ++ (formula_text v (scope ++ bound_names bs) f ++ codes ")")))
+  formula_text v scope (numbered c n bs f) =
+      codes "(?" ++ (cmp_sign c
+      ++ (signed_decimal n ++ (codes " "
+      ++ (bounds_text v bs ++ (codes ": " ++ (formula_text v (scope ++ bound_names bs) f ++ codes ")"))))))
 
   pub formulas_text : Vocabulary → List (List ℕ) → List ℕ → FormulaTrees → List ℕ
   formulas_text v scope sep no_formulas = []
@@ -96,11 +108,15 @@ abbrev mutual
   term_text v scope (application s ts) = symbol_word v s ++ arguments_text v scope (symbol_word v s) ts
   term_text v scope (summation ss) = codes "(" ++ (summands_text v scope ss ++ codes ")")
   term_text v scope (product ts) = codes "(" ++ (terms_text v scope (codes " * ") ts ++ codes ")")
-  term_text v scope (aggregate k bs f x) = kind_word k ++ (codes "{" ++ (bounds_text v bs ++ (codes ": " ++ (formula_text v (scope ++ bound_names bs) f ++ with_weight k (term_text v (scope ++ bound_names bs) x)))))
+  term_text v scope (aggregate k bs f x) =
+      kind_word k ++ (codes "{"
+      ++ (bounds_text v bs ++ (codes ": "
+      ++ (formula_text v (scope ++ bound_names bs) f ++ with_weight k (term_text v (scope ++ bound_names bs) x)))))
 
   pub arguments_text : Vocabulary → List (List ℕ) → List ℕ → TermTrees → List ℕ
   arguments_text v scope n no_terms = []
-  arguments_text v scope n (more_terms t ts) = opened_text unsupported_call_words (codes "(") n ++ (term_text v scope t ++ (later_terms v scope (codes ",") ts ++ codes ")"))
+  arguments_text v scope n (more_terms t ts) = opened_text unsupported_call_words (codes "(") n
+      ++ (term_text v scope t ++ (later_terms v scope (codes ",") ts ++ codes ")"))
 
   pub terms_text : Vocabulary → List (List ℕ) → List ℕ → TermTrees → List ℕ
   terms_text v scope sep no_terms = []
@@ -116,7 +132,8 @@ abbrev mutual
 
   pub later_summands : Vocabulary → List (List ℕ) → SummandTrees → List ℕ
   later_summands v scope no_summands = []
-  later_summands v scope (more_summands m t ss) = spaced_text (add_text m) ++ (term_text v scope t ++ later_summands v scope ss)
+  later_summands v scope (more_summands m t ss) =
+      spaced_text (add_text m) ++ (term_text v scope t ++ later_summands v scope ss)
 
 -- lists, as loops see them
 abbrev pub later_list : Vocabulary → List (List ℕ) → List ℕ → List FormulaTree → List ℕ

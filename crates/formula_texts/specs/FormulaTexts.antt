@@ -3,7 +3,12 @@ use Rattle.std.specs.Prelude.{ℕ, List, [], ◌++◌, Bool, true, false, if◌t
 use Rattle.std.specs.Fmt.{decimal}
 use Rattle.kb_text.specs.Tokens.{is_word_of, unsupported_chain_words, unsupported_call_words}
 use Rattle.block_texts.specs.Texts.{truth_text}
-use Rattle.formula_texts.specs.Formulas.{Binder, binder, Binders, one_binder, more_binders, Fm, truth, atom, comparison, negation, conjunction, disjunction, implication, equivalence, universal, existential, numbered, Fms, one_fm, more_fms, Tm, application, integer, summation, product, count, aggregate, Tms, no_tms, some_tms, Others, no_others, more_others, Summands, no_summands, more_summands, Factors, one_factor, more_factors, cmp_text, aggregate_word, add_text}
+use Rattle.formula_texts.specs.Formulas.{Binder, binder, Binders, one_binder, more_binders, Fm, truth, atom, comparison}
+use Rattle.formula_texts.specs.Formulas.{negation, conjunction, disjunction, implication, equivalence, universal}
+use Rattle.formula_texts.specs.Formulas.{existential, numbered, Fms, one_fm, more_fms, Tm, application, integer}
+use Rattle.formula_texts.specs.Formulas.{summation, product, count, aggregate, Tms, no_tms, some_tms, Others, no_others}
+use Rattle.formula_texts.specs.Formulas.{more_others, Summands, no_summands, more_summands, Factors, one_factor}
+use Rattle.formula_texts.specs.Formulas.{more_factors, cmp_text, aggregate_word, add_text}
 
 -- with a space on both sides
 abbrev pub spaced_text : List ℕ → List ℕ
@@ -35,7 +40,9 @@ abbrev mutual
   fm_text (equivalence f g) = codes "(" ++ (fm_text f ++ (codes " <=> " ++ (fm_text g ++ codes ")")))
   fm_text (universal vs f) = codes "(!" ++ (binders_text vs ++ (codes ": " ++ (fm_text f ++ codes ")")))
   fm_text (existential vs f) = codes "(?" ++ (binders_text vs ++ (codes ": " ++ (fm_text f ++ codes ")")))
-  fm_text (numbered c n vs f) = codes "(?" ++ (cmp_text c ++ (decimal n ++ (codes " " ++ (binders_text vs ++ (codes ": " ++ (fm_text f ++ codes ")"))))))
+  fm_text (numbered c n vs f) =
+      codes "(?" ++ (cmp_text c
+      ++ (decimal n ++ (codes " " ++ (binders_text vs ++ (codes ": " ++ (fm_text f ++ codes ")"))))))
 
   pub fms_text : List ℕ → Fms → List ℕ
   fms_text text (one_fm f) = fm_text f
@@ -47,11 +54,14 @@ abbrev mutual
   tm_text (summation m x ss) = codes "(" ++ (minus_text m ++ (tm_text x ++ (summands_text ss ++ codes ")")))
   tm_text (product x fs) = codes "(" ++ (tm_text x ++ (codes " * " ++ (factors_text fs ++ codes ")")))
   tm_text (count vs f) = codes "#{" ++ (binders_text vs ++ (codes ": " ++ (fm_text f ++ codes "}")))
-  tm_text (aggregate a vs f x) = aggregate_word a ++ (codes "{" ++ (binders_text vs ++ (codes ": " ++ (fm_text f ++ (codes ": " ++ (tm_text x ++ codes "}"))))))
+  tm_text (aggregate a vs f x) =
+      aggregate_word a ++ (codes "{"
+      ++ (binders_text vs ++ (codes ": " ++ (fm_text f ++ (codes ": " ++ (tm_text x ++ codes "}"))))))
 
   pub tms_text : List ℕ → Tms → List ℕ
   tms_text n no_tms = []
-  tms_text n (some_tms x xs) = opened_text unsupported_call_words (codes "(") n ++ (tm_text x ++ (others_text xs ++ codes ")"))
+  tms_text n (some_tms x xs) = opened_text unsupported_call_words (codes "(") n
+      ++ (tm_text x ++ (others_text xs ++ codes ")"))
 
   pub others_text : Others → List ℕ
   others_text no_others = []

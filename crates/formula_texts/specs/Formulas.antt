@@ -1,4 +1,5 @@
--- Formulas and terms with words for numbers, as they are written; what a tree of the grammar says; and the parts that write it.
+-- Formulas and terms with words for numbers, as they are written; what a tree of the grammar says; and the parts that
+-- write it.
 use Rattle.std.specs.Prelude.{◌<◌, ◌^◌, ℕ, List, [], ◌∷◌, Bool, true, false, if◌then◌else◌, codes}
 use Rattle.std.specs.Fmt.{decimal}
 use Rattle.kb_text.specs.declared.token.Kind.TheVariants.{Word, Int}
@@ -95,7 +96,8 @@ abbrev pub opened : List (List ℕ) → List ℕ → List ℕ → List Part → 
 opened words text n rest = if is_word_of words n then space ∷ sign text ∷ rest else sign text ∷ rest
 
 abbrev pub write_binder : Binder → List Part → List Part
-write_binder (binder n ty) rest = piece Word n ∷ opened unsupported_chain_words (codes "[") n (piece Word ty ∷ sign (codes "]") ∷ rest)
+write_binder (binder n ty) rest = piece Word n ∷ opened unsupported_chain_words (codes "[") n
+    (piece Word ty ∷ sign (codes "]") ∷ rest)
 
 abbrev pub write_binders : Binders → List Part → List Part
 write_binders (one_binder x) rest = write_binder x rest
@@ -113,15 +115,25 @@ abbrev mutual
   pub write_fm : Fm → List Part → List Part
   write_fm (truth b) rest = piece Word (truth_text b) ∷ rest
   write_fm (atom n ts) rest = piece Word n ∷ write_tms n ts rest
-  write_fm (comparison c x y) rest = sign (codes "(") ∷ write_tm x (between (cmp_text c) (write_tm y (sign (codes ")") ∷ rest)))
+  write_fm (comparison c x y) rest =
+      sign (codes "(") ∷ write_tm x (between (cmp_text c) (write_tm y (sign (codes ")") ∷ rest)))
   write_fm (negation f) rest = sign (codes "(") ∷ sign (codes "~") ∷ write_fm f (sign (codes ")") ∷ rest)
-  write_fm (conjunction f fs) rest = sign (codes "(") ∷ write_fm f (between (codes "&") (write_fms (codes "&") fs (sign (codes ")") ∷ rest)))
-  write_fm (disjunction f fs) rest = sign (codes "(") ∷ write_fm f (between (codes "|") (write_fms (codes "|") fs (sign (codes ")") ∷ rest)))
-  write_fm (implication f g) rest = sign (codes "(") ∷ write_fm f (between (codes "=>") (write_fm g (sign (codes ")") ∷ rest)))
-  write_fm (equivalence f g) rest = sign (codes "(") ∷ write_fm f (between (codes "<=>") (write_fm g (sign (codes ")") ∷ rest)))
-  write_fm (universal vs f) rest = sign (codes "(") ∷ sign (codes "!") ∷ write_binders vs (sign (codes ":") ∷ space ∷ write_fm f (sign (codes ")") ∷ rest))
-  write_fm (existential vs f) rest = sign (codes "(") ∷ sign (codes "?") ∷ write_binders vs (sign (codes ":") ∷ space ∷ write_fm f (sign (codes ")") ∷ rest))
-  write_fm (numbered c n vs f) rest = sign (codes "(") ∷ sign (codes "?") ∷ sign (cmp_text c) ∷ piece Int (decimal n) ∷ space ∷ write_binders vs (sign (codes ":") ∷ space ∷ write_fm f (sign (codes ")") ∷ rest))
+  write_fm (conjunction f fs) rest =
+      sign (codes "(") ∷ write_fm f (between (codes "&") (write_fms (codes "&") fs (sign (codes ")") ∷ rest)))
+  write_fm (disjunction f fs) rest =
+      sign (codes "(") ∷ write_fm f (between (codes "|") (write_fms (codes "|") fs (sign (codes ")") ∷ rest)))
+  write_fm (implication f g) rest =
+      sign (codes "(") ∷ write_fm f (between (codes "=>") (write_fm g (sign (codes ")") ∷ rest)))
+  write_fm (equivalence f g) rest =
+      sign (codes "(") ∷ write_fm f (between (codes "<=>") (write_fm g (sign (codes ")") ∷ rest)))
+  write_fm (universal vs f) rest =
+      sign (codes "(") ∷ sign (codes "!") ∷ write_binders vs
+      (sign (codes ":") ∷ space ∷ write_fm f (sign (codes ")") ∷ rest))
+  write_fm (existential vs f) rest =
+      sign (codes "(") ∷ sign (codes "?") ∷ write_binders vs
+      (sign (codes ":") ∷ space ∷ write_fm f (sign (codes ")") ∷ rest))
+  write_fm (numbered c n vs f) rest = sign (codes "(") ∷ sign (codes "?") ∷ sign (cmp_text c) ∷ piece Int (decimal n)
+      ∷ space ∷ write_binders vs (sign (codes ":") ∷ space ∷ write_fm f (sign (codes ")") ∷ rest))
 
   pub write_fms : List ℕ → Fms → List Part → List Part
   write_fms text (one_fm f) rest = write_fm f rest
@@ -130,14 +142,20 @@ abbrev mutual
   pub write_tm : Tm → List Part → List Part
   write_tm (application n ts) rest = piece Word n ∷ write_tms n ts rest
   write_tm (integer n) rest = piece Int (decimal n) ∷ rest
-  write_tm (summation m x ss) rest = sign (codes "(") ∷ write_minus m (write_tm x (write_summands ss (sign (codes ")") ∷ rest)))
-  write_tm (product x fs) rest = sign (codes "(") ∷ write_tm x (between (codes "*") (write_factors fs (sign (codes ")") ∷ rest)))
-  write_tm (count vs f) rest = sign (codes "#") ∷ sign (codes "{") ∷ write_binders vs (sign (codes ":") ∷ space ∷ write_fm f (sign (codes "}") ∷ rest))
-  write_tm (aggregate a vs f x) rest = piece Word (aggregate_word a) ∷ sign (codes "{") ∷ write_binders vs (sign (codes ":") ∷ space ∷ write_fm f (sign (codes ":") ∷ space ∷ write_tm x (sign (codes "}") ∷ rest)))
+  write_tm (summation m x ss) rest =
+      sign (codes "(") ∷ write_minus m (write_tm x (write_summands ss (sign (codes ")") ∷ rest)))
+  write_tm (product x fs) rest =
+      sign (codes "(") ∷ write_tm x (between (codes "*") (write_factors fs (sign (codes ")") ∷ rest)))
+  write_tm (count vs f) rest =
+      sign (codes "#") ∷ sign (codes "{") ∷ write_binders vs
+      (sign (codes ":") ∷ space ∷ write_fm f (sign (codes "}") ∷ rest))
+  write_tm (aggregate a vs f x) rest = piece Word (aggregate_word a) ∷ sign (codes "{") ∷ write_binders vs
+      (sign (codes ":") ∷ space ∷ write_fm f (sign (codes ":") ∷ space ∷ write_tm x (sign (codes "}") ∷ rest)))
 
   pub write_tms : List ℕ → Tms → List Part → List Part
   write_tms n no_tms rest = rest
-  write_tms n (some_tms x xs) rest = opened unsupported_call_words (codes "(") n (write_tm x (write_others xs (sign (codes ")") ∷ rest)))
+  write_tms n (some_tms x xs) rest =
+      opened unsupported_call_words (codes "(") n (write_tm x (write_others xs (sign (codes ")") ∷ rest)))
 
   pub write_others : Others → List Part → List Part
   write_others no_others rest = rest

@@ -34,12 +34,14 @@ pub record IsFormulaReadBack (v : Vocabulary) (names : Names) (f : FormulaTree) 
   pub scanned : IsTokens (formula_text v [] f) tokens
   pub tree : Formula
   pub spelled : ParsesTo put_formula FineFormula tokens tree
-  pub only : (ts : List Tok) (g : Formula) → IsTokens (formula_text v [] f) ts → ParsesTo put_formula FineFormula ts g → g ≡ tree
+  pub only : (ts : List Tok) (g : Formula) → IsTokens (formula_text v [] f) ts
+      → ParsesTo put_formula FineFormula ts g → g ≡ tree
   pub typed : typed_formula v [] (named_formula names [] tree) ≡ f
 
 abbrev pub FormulasAreReadBack : Type 0
 FormulasAreReadBack =
-    (v : Vocabulary) (names : Names) (f : FormulaTree) → IsSpoken v names f → AreShallow outermost (lexemes_at 0 (formula_parts v f))
+    (v : Vocabulary) (names : Names) (f : FormulaTree) → IsSpoken v names f
+    → AreShallow outermost (lexemes_at 0 (formula_parts v f))
     → IsFormulaReadBack v names f
 
 -- and where a token lies too deep, the first such token is refused, and nothing else

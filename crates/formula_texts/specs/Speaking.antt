@@ -15,7 +15,12 @@ use Rattle.fo_syntax.specs.Trees.{name}
 use Rattle.reading_stages.specs.Names.{Names, meaning_of, meaning_at}
 use Rattle.reading_stages.specs.Numbering.{type_number, predicate_number}
 use Rattle.reading_stages.specs.TypedTrees.{integer_of}
-use Rattle.formula_texts.specs.Formulas.{Binder, binder, Binders, one_binder, more_binders, Fm, truth, atom, comparison, negation, conjunction, disjunction, implication, equivalence, universal, existential, numbered, Fms, one_fm, more_fms, Tm, application, integer, summation, product, count, aggregate, Tms, no_tms, some_tms, Others, no_others, more_others, Summands, no_summands, more_summands, Factors, one_factor, more_factors, unwritten, unwritten_term}
+use Rattle.formula_texts.specs.Formulas.{Binder, binder, Binders, one_binder, more_binders, Fm, truth, atom, comparison}
+use Rattle.formula_texts.specs.Formulas.{negation, conjunction, disjunction, implication, equivalence, universal}
+use Rattle.formula_texts.specs.Formulas.{existential, numbered, Fms, one_fm, more_fms, Tm, application, integer}
+use Rattle.formula_texts.specs.Formulas.{summation, product, count, aggregate, Tms, no_tms, some_tms, Others, no_others}
+use Rattle.formula_texts.specs.Formulas.{more_others, Summands, no_summands, more_summands, Factors, one_factor}
+use Rattle.formula_texts.specs.Formulas.{more_factors, unwritten, unwritten_term}
 use Rattle.formula_texts.specs.Meanings.{tms_count, node_meaning}
 use Rattle.formula_texts.specs.FormulaPrints.{symbol_word, type_word, made_in, scope_word, bound_names}
 
@@ -57,15 +62,19 @@ abbrev mutual
   speak_fm v scope (tree.negation f) = negation (speak_fm v scope f)
   speak_fm v scope (tree.conjunction tree.no_formulas) = unwritten
   speak_fm v scope (tree.conjunction (tree.more_formulas f tree.no_formulas)) = unwritten
-  speak_fm v scope (tree.conjunction (tree.more_formulas f (tree.more_formulas g gs))) = conjunction (speak_fm v scope f) (speak_more v scope (speak_fm v scope g) gs)
+  speak_fm v scope (tree.conjunction (tree.more_formulas f (tree.more_formulas g gs))) =
+      conjunction (speak_fm v scope f) (speak_more v scope (speak_fm v scope g) gs)
   speak_fm v scope (tree.disjunction tree.no_formulas) = unwritten
   speak_fm v scope (tree.disjunction (tree.more_formulas f tree.no_formulas)) = unwritten
-  speak_fm v scope (tree.disjunction (tree.more_formulas f (tree.more_formulas g gs))) = disjunction (speak_fm v scope f) (speak_more v scope (speak_fm v scope g) gs)
+  speak_fm v scope (tree.disjunction (tree.more_formulas f (tree.more_formulas g gs))) =
+      disjunction (speak_fm v scope f) (speak_more v scope (speak_fm v scope g) gs)
   speak_fm v scope (tree.implication f g) = implication (speak_fm v scope f) (speak_fm v scope g)
   speak_fm v scope (tree.equivalence f g) = equivalence (speak_fm v scope f) (speak_fm v scope g)
   speak_fm v scope (tree.universal bs f) = speak_all v bs (λ vs. universal vs (speak_fm v (scope ++ bound_names bs) f))
-  speak_fm v scope (tree.existential bs f) = speak_all v bs (λ vs. existential vs (speak_fm v (scope ++ bound_names bs) f))
-  speak_fm v scope (tree.numbered c (pos n) bs f) = speak_all v bs (λ vs. numbered (sign_of c) n vs (speak_fm v (scope ++ bound_names bs) f))
+  speak_fm v scope (tree.existential bs f) =
+      speak_all v bs (λ vs. existential vs (speak_fm v (scope ++ bound_names bs) f))
+  speak_fm v scope (tree.numbered c (pos n) bs f) =
+      speak_all v bs (λ vs. numbered (sign_of c) n vs (speak_fm v (scope ++ bound_names bs) f))
   speak_fm v scope (tree.numbered c (negsuc n) bs f) = unwritten
 
   -- one that is spoken already, and others
@@ -80,11 +89,15 @@ abbrev mutual
   speak_tm v scope (tree.constructed t i) = application (made_in (slice_get v.types t) i) no_tms
   speak_tm v scope (tree.application s ts) = application (symbol_word v s) (speak_tms v scope ts)
   speak_tm v scope (tree.summation tree.no_summands) = unwritten_term
-  speak_tm v scope (tree.summation (tree.more_summands m x ss)) = summation m (speak_tm v scope x) (speak_summands v scope ss)
+  speak_tm v scope (tree.summation (tree.more_summands m x ss)) =
+      summation m (speak_tm v scope x) (speak_summands v scope ss)
   speak_tm v scope (tree.product tree.no_terms) = unwritten_term
   speak_tm v scope (tree.product (tree.more_terms x tree.no_terms)) = unwritten_term
-  speak_tm v scope (tree.product (tree.more_terms x (tree.more_terms y ys))) = product (speak_tm v scope x) (speak_factors v scope (speak_tm v scope y) ys)
-  speak_tm v scope (tree.aggregate k bs f x) = speak_term_of v bs (λ vs. speak_kind k vs (speak_fm v (scope ++ bound_names bs) f) (speak_tm v (scope ++ bound_names bs) x))
+  speak_tm v scope (tree.product (tree.more_terms x (tree.more_terms y ys))) =
+      product (speak_tm v scope x) (speak_factors v scope (speak_tm v scope y) ys)
+  speak_tm v scope (tree.aggregate k bs f x) =
+      speak_term_of v bs (λ vs. speak_kind k vs (speak_fm v (scope ++ bound_names bs) f)
+      (speak_tm v (scope ++ bound_names bs) x))
 
   pub speak_tms : Vocabulary → List (List ℕ) → TermTrees → Tms
   speak_tms v scope tree.no_terms = no_tms
@@ -125,20 +138,25 @@ abbrev mutual
   pub Said : Vocabulary → Names → List (List ℕ) → FormulaTree → Type 0
   Said v names scope tree.verum = Unit {0}
   Said v names scope tree.falsum = Unit {0}
-  Said v names scope (tree.atom s ts) = (predicate_number (meaning_at names scope (name (symbol_word v s) 0) (tms_count (speak_tms v scope ts))) ≡ s) × SaidTerms v names scope ts
+  Said v names scope (tree.atom s ts) =
+      (predicate_number (meaning_at names scope (name (symbol_word v s) 0) (tms_count (speak_tms v scope ts))) ≡ s)
+      × SaidTerms v names scope ts
   Said v names scope (tree.comparison c x y) = SaidTerm v names scope x × SaidTerm v names scope y
   Said v names scope (tree.negation f) = Said v names scope f
   Said v names scope (tree.conjunction tree.no_formulas) = ⊥
   Said v names scope (tree.conjunction (tree.more_formulas f tree.no_formulas)) = ⊥
-  Said v names scope (tree.conjunction (tree.more_formulas f (tree.more_formulas g gs))) = Said v names scope f × Said v names scope g × SaidAll v names scope gs
+  Said v names scope (tree.conjunction (tree.more_formulas f (tree.more_formulas g gs))) = Said v names scope f
+      × Said v names scope g × SaidAll v names scope gs
   Said v names scope (tree.disjunction tree.no_formulas) = ⊥
   Said v names scope (tree.disjunction (tree.more_formulas f tree.no_formulas)) = ⊥
-  Said v names scope (tree.disjunction (tree.more_formulas f (tree.more_formulas g gs))) = Said v names scope f × Said v names scope g × SaidAll v names scope gs
+  Said v names scope (tree.disjunction (tree.more_formulas f (tree.more_formulas g gs))) = Said v names scope f
+      × Said v names scope g × SaidAll v names scope gs
   Said v names scope (tree.implication f g) = Said v names scope f × Said v names scope g
   Said v names scope (tree.equivalence f g) = Said v names scope f × Said v names scope g
   Said v names scope (tree.universal bs f) = SomeBounds v names bs × Said v names (scope ++ bound_names bs) f
   Said v names scope (tree.existential bs f) = SomeBounds v names bs × Said v names (scope ++ bound_names bs) f
-  Said v names scope (tree.numbered c (pos n) bs f) = (integer_of n ≡ n) × SomeBounds v names bs × Said v names (scope ++ bound_names bs) f
+  Said v names scope (tree.numbered c (pos n) bs f) = (integer_of n ≡ n) × SomeBounds v names bs
+      × Said v names (scope ++ bound_names bs) f
   Said v names scope (tree.numbered c (negsuc n) bs f) = ⊥
 
   pub SaidAll : Vocabulary → Names → List (List ℕ) → FormulaTrees → Type 0
@@ -146,17 +164,25 @@ abbrev mutual
   SaidAll v names scope (tree.more_formulas f fs) = Said v names scope f × SaidAll v names scope fs
 
   pub SaidTerm : Vocabulary → Names → List (List ℕ) → TermTree → Type 0
-  SaidTerm v names scope (tree.variable n) = node_meaning (meaning_at names scope (name (scope_word scope n) 0) 0) tree.no_terms ≡ tree.variable n
+  SaidTerm v names scope (tree.variable n) =
+      node_meaning (meaning_at names scope (name (scope_word scope n) 0) 0) tree.no_terms ≡ tree.variable n
   SaidTerm v names scope (tree.integer (pos n)) = integer_of n ≡ n
   SaidTerm v names scope (tree.integer (negsuc n)) = ⊥
-  SaidTerm v names scope (tree.constructed t i) = node_meaning (meaning_at names scope (name (made_in (slice_get v.types t) i) 0) 0) tree.no_terms ≡ tree.constructed t i
-  SaidTerm v names scope (tree.application s ts) = (node_meaning (meaning_at names scope (name (symbol_word v s) 0) (tms_count (speak_tms v scope ts))) ts ≡ tree.application s ts) × SaidTerms v names scope ts
+  SaidTerm v names scope (tree.constructed t i) =
+      node_meaning (meaning_at names scope (name (made_in (slice_get v.types t) i) 0) 0) tree.no_terms
+      ≡ tree.constructed t i
+  SaidTerm v names scope (tree.application s ts) =
+      (node_meaning (meaning_at names scope (name (symbol_word v s) 0) (tms_count (speak_tms v scope ts))) ts
+      ≡ tree.application s ts) × SaidTerms v names scope ts
   SaidTerm v names scope (tree.summation tree.no_summands) = ⊥
-  SaidTerm v names scope (tree.summation (tree.more_summands m x ss)) = SaidTerm v names scope x × SaidSummands v names scope ss
+  SaidTerm v names scope (tree.summation (tree.more_summands m x ss)) = SaidTerm v names scope x
+      × SaidSummands v names scope ss
   SaidTerm v names scope (tree.product tree.no_terms) = ⊥
   SaidTerm v names scope (tree.product (tree.more_terms x tree.no_terms)) = ⊥
-  SaidTerm v names scope (tree.product (tree.more_terms x (tree.more_terms y ys))) = SaidTerm v names scope x × SaidTerm v names scope y × SaidTerms v names scope ys
-  SaidTerm v names scope (tree.aggregate k bs f x) = IsWeight k x × SomeBounds v names bs × Said v names (scope ++ bound_names bs) f × SaidTerm v names (scope ++ bound_names bs) x
+  SaidTerm v names scope (tree.product (tree.more_terms x (tree.more_terms y ys))) = SaidTerm v names scope x
+      × SaidTerm v names scope y × SaidTerms v names scope ys
+  SaidTerm v names scope (tree.aggregate k bs f x) = IsWeight k x × SomeBounds v names bs
+      × Said v names (scope ++ bound_names bs) f × SaidTerm v names (scope ++ bound_names bs) x
 
   pub SaidTerms : Vocabulary → Names → List (List ℕ) → TermTrees → Type 0
   SaidTerms v names scope tree.no_terms = Unit {0}

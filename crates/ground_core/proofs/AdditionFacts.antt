@@ -1,5 +1,5 @@
 -- Problems that grow by additions whose selectors are retired.
-use Rattle.std.proofs.Common.{ℕ, ◌<◌, ◌≤◌, List, get_or, refl, subst, arith, inl, inr, ⊎_elim}
+use Rattle.std.proofs.Common.{◌<◌, ◌≤◌, List, refl, subst, arith, inl, inr, ⊎_elim}
 use Rattle.std.proofs.lemmas.List.Elements.{All-contains, Contains-push_cases}
 use Rattle.lit_core.specs.declared.literals.Lit.{Lit}
 use Rattle.ground_core.specs.Problems.{ProblemState, IsLitOf, AreLitsOf}

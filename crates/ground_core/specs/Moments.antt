@@ -1,5 +1,5 @@
 -- When a clause was learnt.
-use Rattle.std.specs.Prelude.{ℕ, ◌≤◌, length, take}
+use Rattle.std.specs.Prelude.{◌≤◌, length, take}
 use Rattle.ground_core.specs.declared.moments.Moment.{Moment}
 use Rattle.ground_core.specs.Problems.{ProblemState}
 

@@ -33,7 +33,8 @@ use Rattle.ground_task.proofs.ChoiceFacts.{each-item, contains-item}
 
 -- a literal is true in the structure exactly where its variable's literal is
 module _ (b : GroundBase) (is : IsGroundBase b) (v : ℕ → Bool) (l : Literal) (lit : Lit) (n : HasNumber b l lit) where
-  iff : (AtomHolds (structure_of b v) (atom_of l) → v (suc n.place) ≡ true) × (v (suc n.place) ≡ true → AtomHolds (structure_of b v) (atom_of l))
+  iff : (AtomHolds (structure_of b v) (atom_of l) → v (suc n.place) ≡ true)
+      × (v (suc n.place) ≡ true → AtomHolds (structure_of b v) (atom_of l))
   iff = atom-true b is v n.place (atom_of l) n.atom
 
   value-is : literal_value v lit ≡ by_sign l.positive (v (suc n.place))
@@ -57,17 +58,20 @@ module _ (b : GroundBase) (is : IsGroundBase b) (v : ℕ → Bool) (l : Literal)
       at false e = λ holds. both_ways false refl (sym (ap not (iff.0 holds)) ∙ e)
 
 -- the literals are of ground atoms
-pub of-atoms : (b : GroundBase) (n : ℕ) → n ≡ length (atoms_over b.vocabulary.symbols b.domains) → (choices : List Literal) (lits : List Lit) → EachWith (HasNumber b) choices lits → AreLitsOf n lits
+pub of-atoms : (b : GroundBase) (n : ℕ) → n ≡ length (atoms_over b.vocabulary.symbols b.domains)
+    → (choices : List Literal) (lits : List Lit) → EachWith (HasNumber b) choices lits → AreLitsOf n lits
 of-atoms b n size [] [] h = All-nil (IsLitOf n)
 of-atoms b n size [] (l ∷ lits) h = absurd h
 of-atoms b n size (c ∷ choices) [] h = absurd h
 of-atoms b n size (c ∷ choices) (l ∷ lits) h =
     let within = slice_get_within (atoms_over b.vocabulary.symbols b.domains) h.0.place (atom_of c) h.0.atom in
     let var : l.var.0 ≡ suc h.0.place = h.0.var in
-    All-cons (IsLitOf n) l lits (omega (arith, var), omega (arith, var, within, size)) (of-atoms b n size choices lits h.1)
+    All-cons (IsLitOf n) l lits (omega (arith, var), omega (arith, var, within, size))
+    (of-atoms b n size choices lits h.1)
 
 -- what the solver's values make true is chosen
-pub all-chosen : (b : GroundBase) → IsGroundBase b → (v : ℕ → Bool) (choices : List Literal) (lits : List Lit) → EachWith (HasNumber b) choices lits → MakesTrue v lits → AllByRecursion (HoldsIn (structure_of b v)) choices
+pub all-chosen : (b : GroundBase) → IsGroundBase b → (v : ℕ → Bool) (choices : List Literal) (lits : List Lit)
+    → EachWith (HasNumber b) choices lits → MakesTrue v lits → AllByRecursion (HoldsIn (structure_of b v)) choices
 all-chosen b is v [] [] h t = tt
 all-chosen b is v [] (l ∷ lits) h t = absurd h
 all-chosen b is v (c ∷ choices) [] h t = absurd h
@@ -81,54 +85,79 @@ module _ (base : Base) (b : GroundBase) (p : ProblemState) (h : IsTaskOf base b 
   fine = subst IsGroundBase (sym h.numbers) h.fine
 
   atoms-number : length p.atoms ≡ length (atoms_over b.vocabulary.symbols b.domains)
-  atoms-number = h.represents.atoms ∙ ap (λ (x : GroundBase). length (atoms_over x.vocabulary.symbols x.domains)) (sym h.numbers)
+  atoms-number = h.represents.atoms ∙ ap (λ (x : GroundBase). length (atoms_over x.vocabulary.symbols x.domains))
+      (sym h.numbers)
 
   module _ (choices : List Literal) (lits : List Lit) (each : EachWith (HasNumber b) choices lits) where
     atom-lits : AreLitsOf (length p.atoms) lits
     atom-lits = of-atoms b (length p.atoms) atoms-number choices lits each
 
     pub problem-lits : IsProblem p → AreLitsOf p.vars lits
-    problem-lits problem = λ k d lt. ((atom-lits k d lt).0, let x : (get_or lits k d).var.0 ≤ length p.atoms = (atom-lits k d lt).1 in let y : length p.atoms ≤ p.vars = problem.atoms in omega (arith, x, y))
+    problem-lits problem = λ k d lt. (
+      (atom-lits k d lt).0,
+      let x : (get_or lits k d).var.0 ≤ length p.atoms =
+          (atom-lits k d lt).1 in let y : length p.atoms ≤ p.vars = problem.atoms in omega (arith, x, y),
+    )
 
     pub not-retired : AreUnretired p lits
     not-retired = λ l gone has.
-        let x : length p.atoms < l.var.0 = All-contains (λ (k : Lit). length p.atoms < k.var.0) p.retired l h.unretired gone in
+        let x : length p.atoms < l.var.0 =
+        All-contains (λ (k : Lit). length p.atoms < k.var.0) p.retired l h.unretired gone in
         let y : l.var.0 ≤ length p.atoms = (All-contains (IsLitOf (length p.atoms)) lits l atom-lits has).1 in
         omega (arith, x, y)
 
     pub is-model : (v : ℕ → Bool) → Satisfies p v → MakesTrue v lits → IsModelUnder base choices (structure_of b v)
     is-model v s t =
-        let m : IsModelUnder base [] (structure_of b v) = subst (λ (x : GroundBase). IsModelUnder base [] (structure_of x v)) (sym h.numbers) (h.represents.gives v s) in
-        record { structure = m.structure; extends = m.extends; theory = m.theory; chosen = all-chosen b fine v choices lits each t }
+        let m : IsModelUnder base [] (structure_of b v) =
+        subst (λ (x : GroundBase). IsModelUnder base [] (structure_of x v)) (sym h.numbers)
+        (h.represents.gives v s) in
+        record {
+          structure = m.structure;
+          extends = m.extends;
+          theory = m.theory;
+          chosen = all-chosen b fine v choices lits each t;
+        }
 
-    pub is-none : (core : List Lit) (some : List Literal) → IsSublist core lits → RefutesAll p core → AreChosen core lits choices (length choices) some → (m : Structure) → IsModelUnder base some m → ⊥
+    pub is-none : (core : List Lit) (some : List Literal) → IsSublist core lits → RefutesAll p core
+        → AreChosen core lits choices (length choices) some → (m : Structure) → IsModelUnder base some m → ⊥
     is-none core some sub refuted chosen m under =
-        let e = h.represents.extends m (record { structure = under.structure; extends = under.extends; theory = under.theory; chosen = tt }) in
+        let e = h.represents.extends m
+        (record { structure = under.structure; extends = under.extends; theory = under.theory; chosen = tt }) in
         let same : structure_of b e.0 ≡ m = ap (λ (x : GroundBase). structure_of x e.0) h.numbers ∙ e.2 in
-        refuted e.0 e.1 (λ k d lt. core-true e.0 same (get_or core k d) (contains-item core k d lt) (sublist-within core lits sub k d lt))
+        refuted e.0 e.1 (λ k d lt. core-true e.0 same (get_or core k d) (contains-item core k d lt)
+        (sublist-within core lits sub k d lt))
       where
-        core-true : (v : ℕ → Bool) → structure_of b v ≡ m → (l : Lit) → Contains core l → Contains lits l → literal_value v l ≡ true
+        core-true : (v : ℕ → Bool) → structure_of b v ≡ m → (l : Lit) → Contains core l → Contains lits l
+            → literal_value v l ≡ true
         core-true v same l in_core has =
             let c = each-item (HasNumber b) choices lits each has.0 l has.1 has.2 in
-            let kept : Contains some c.0 = subst (Contains some) c.2 (chosen.all has.0 l c.0 c.1 (subst (Contains core) (sym has.2) in_core)) in
+            let kept : Contains some c.0 =
+            subst (Contains some) c.2 (chosen.all has.0 l c.0 c.1 (subst (Contains core) (sym has.2) in_core)) in
             let holds : HoldsIn m c.0 = all_in (HoldsIn m) some under.chosen c.0 kept in
             holds-true b fine v c.0 l c.3 (subst (λ (x : Structure). HoldsIn x c.0) (sym same) holds)
 
-    pub are-some : (core : List Lit) (some : List Literal) → AreChosen core lits choices (length choices) some → IsSublist some choices
+    pub are-some : (core : List Lit) (some : List Literal) → AreChosen core lits choices (length choices) some
+        → IsSublist some choices
     are-some core some chosen = subst (IsSublist some) (take-length choices) chosen.among
 
 abbrev AreDomains : Vocabulary → KnownAtoms → Type 0
 AreDomains v k = AreDomainsOf v k.domains
 
 -- the task over a solver of a ground problem
-pub opened : (v : Vocabulary) (k : KnownAtoms) (p : ProblemState) (b : GroundBase) → AreDataOf v k → b ≡ bare_base v k.domains → p.retired ≡ [] → (base : Base) → base.vocabulary ≡ v → base.known ≡ k → IsGroundingOf base p → IsTaskOf base b p
+pub opened : (v : Vocabulary) (k : KnownAtoms) (p : ProblemState) (b : GroundBase) → AreDataOf v k
+    → b ≡ bare_base v k.domains → p.retired ≡ [] → (base : Base) → base.vocabulary ≡ v → base.known ≡ k
+    → IsGroundingOf base p → IsTaskOf base b p
 opened v k p b data_of is none base voc known g = record {
-  numbers = is ∙ ap (λ (x : Vocabulary). bare_base x k.domains) (sym voc) ∙ ap (λ (x : KnownAtoms). bare_base base.vocabulary x.domains) (sym known);
-  fine = domains-ground (atom_base base) (subst (λ (x : KnownAtoms). AreDomains base.vocabulary x) (sym known) (subst (λ (x : Vocabulary). AreDomains x k) (sym voc) data_of.domains));
+  numbers = is ∙ ap (λ (x : Vocabulary). bare_base x k.domains) (sym voc)
+      ∙ ap (λ (x : KnownAtoms). bare_base base.vocabulary x.domains) (sym known);
+  fine = domains-ground (atom_base base)
+      (subst (λ (x : KnownAtoms). AreDomains base.vocabulary x) (sym known)
+      (subst (λ (x : Vocabulary). AreDomains x k) (sym voc) data_of.domains));
   represents = record {
     atoms = ap length g.atoms ∙ atoms-length base.vocabulary.symbols base.known.domains;
     gives = g.gives;
     extends = g.extends;
   };
-  unretired = subst (λ (ls : List Lit). All (λ (l : Lit). length p.atoms < l.var.0) ls) (sym none) (All-nil (λ (l : Lit). length p.atoms < l.var.0));
+  unretired = subst (λ (ls : List Lit). All (λ (l : Lit). length p.atoms < l.var.0) ls) (sym none)
+      (All-nil (λ (l : Lit). length p.atoms < l.var.0));
 }

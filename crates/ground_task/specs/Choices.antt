@@ -14,4 +14,5 @@ AreOver b ls = All (λ l. IsAtomOver b.vocabulary.symbols b.domains (atom_of l))
 -- some of the first i choices, in their order: among them each whose literal is one of the core
 pub record AreChosen (core lits : List Lit) (choices : List Literal) (i : ℕ) (some : List Literal) : Type 0 where
   pub among : IsSublist some (take i choices)
-  pub all : (k : ℕ) (d : Lit) (e : Literal) → k < i → Contains core (get_or lits k d) → Contains some (get_or choices k e)
+  pub all : (k : ℕ) (d : Lit) (e : Literal) → k < i → Contains core (get_or lits k d)
+      → Contains some (get_or choices k e)

@@ -22,7 +22,8 @@ atom_base base = bare_base base.vocabulary base.known.domains
 pub record Represents (base : Base) (p : ProblemState) : Type 0 where
   pub atoms : length p.atoms ≡ length (atoms_over base.vocabulary.symbols base.known.domains)
   pub gives : (v : ℕ → Bool) → Satisfies p v → IsModelUnder base [] (structure_of (atom_base base) v)
-  pub extends : (m : Structure) → IsModelUnder base [] m → (v : ℕ → Bool) × Satisfies p v × (structure_of (atom_base base) v ≡ m)
+  pub extends : (m : Structure) → IsModelUnder base [] m
+      → (v : ℕ → Bool) × Satisfies p v × (structure_of (atom_base base) v ≡ m)
 
 -- these are the numbers of the knowledge base's atoms, and the problem stands for its models; no atom is retired
 pub record IsTaskOf (base : Base) (b : GroundBase) (p : ProblemState) : Type 0 where

@@ -3,6 +3,7 @@
 
 pub mod answers;
 mod choices;
+mod kept;
 mod task;
 
 pub use task::Task;

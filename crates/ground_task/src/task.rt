@@ -28,7 +28,7 @@ use std::alloc::Global;
 #[derive(Drop)]
 pub struct Task<S> {
     numbers: AtomNumbers,
-    solver: S,
+    pub(crate) solver: S,
 }
 
 impl<S: Solve + Drop> Task<S> {
@@ -42,7 +42,8 @@ impl<S: Solve + Drop> Task<S> {
         requires data { AreDataOf vocabulary.now data.now }
         requires few { length vocabulary.now.symbols ≤ 2 ^ 32 }
         requires fresh { (S.state solver).problem.retired ≡ [] }
-        ensures task { IfOk result (λ t. (base : Base) → base.vocabulary ≡ vocabulary.now → base.known ≡ data.now → IsGroundingOf base (S.state solver).problem → IsTaskOf base t.numbers (S.state t.solver).problem) }
+        ensures task { IfOk result (λ t. (base : Base) → base.vocabulary ≡ vocabulary.now → base.known ≡ data.now
+            → IsGroundingOf base (S.state solver).problem → IsTaskOf base t.numbers (S.state t.solver).problem) }
         ensures solver { IfOk result (λ t. t.solver ≡ solver) }
     {
         let numbers = AtomNumbers::of(alloc, vocabulary, data.domains())?;
@@ -76,8 +77,10 @@ impl<S: Solve> Task<S> {
         requires task { IsTask self.old.numbers (S.state self.old.solver).problem }
         requires choices { AreOver self.old.numbers choices.now }
         requires budget { IsBudgetOf (S.state self.old.solver).learnt budget.old }
-        ensures answer { IfOk result (λ a. (base : Base) → IsTaskOf base self.old.numbers (S.state self.old.solver).problem → IsAnswer base choices.now a) }
-        ensures task { (base : Base) → IsTaskOf base self.old.numbers (S.state self.old.solver).problem → IsTaskOf base self.new.numbers (S.state self.new.solver).problem }
+        ensures answer { IfOk result (λ a. (base : Base)
+            → IsTaskOf base self.old.numbers (S.state self.old.solver).problem → IsAnswer base choices.now a) }
+        ensures task { (base : Base) → IsTaskOf base self.old.numbers (S.state self.old.solver).problem
+            → IsTaskOf base self.new.numbers (S.state self.new.solver).problem }
         ensures halt { IfErr result (HaltedAt budget.new) }
         ensures stays { Stays (S.state self.old.solver) (S.state self.new.solver) }
         ensures keeps { Keeps (S.state self.old.solver) (S.state self.new.solver) budget.old budget.new }

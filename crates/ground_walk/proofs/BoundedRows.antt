@@ -1,6 +1,6 @@
 -- Where the static bounds of a term are small, the integers that come up in its rows fit 64 bits.
-use Rattle.std.proofs.Common.{◌≡◌, ℕ, suc, zero, ◌+◌, ◌*◌, ◌<◌, ℤ, pos, ◌+ℤ◌, List, [], ◌∷◌, ◌++◌, map, flat_map, Bool, true, false}
-use Rattle.std.proofs.Common.{Option, Some, None, IfSome, FitsSigned, w64, fold, slice_get, length, subst, arith, inl, inr}
+use Rattle.std.proofs.Common.{ℕ, ◌+◌, ◌*◌, ℤ, pos, ◌+ℤ◌, List, [], ◌∷◌, ◌++◌, map, flat_map, Bool, true, false}
+use Rattle.std.proofs.Common.{Option, Some, None, IfSome, FitsSigned, w64, fold, length, arith}
 use Rattle.std.specs.List.{AllByRecursion, Contains}
 use Rattle.std.specs.Option.{option_map}
 use Rattle.std.proofs.lemmas.Int.{ints}
@@ -21,7 +21,7 @@ use Rattle.kb_logic.proofs.WithinBounds.{sum_alone, some_fits, last_small}
 use Rattle.lit_core.specs.declared.literals.Lit.{Lit}
 use Rattle.term_values.specs.GroundBases.{GroundBase, known_of, first_var, row_index, tuples_at, values_at}
 use Rattle.term_values.specs.Rows.{with_row, value_rows, rows_at, pair_rows, map_rows, rows_of_term, rows_of_terms, rows_of_sum}
-use Rattle.term_values.specs.RowArithmetic.{RowsFit, TupleRowsFit, OperandRowsFit, RowSumFits, RowProductFits}
+use Rattle.term_values.specs.RowArithmetic.{RowsFit, TupleRowsFit, OperandRowsFit}
 
 -- what holds of the value of each row
 abbrev Each : {X : Type 0} → (X → Type 0) → List (List Lit × X) → Type 0
@@ -50,23 +50,27 @@ each-mapped : {X Y : Type 0} (F : X → Y) (P : X → Type 0) (R : Y → Type 0)
 each-mapped F P R f [] h = tt
 each-mapped F P R f (r ∷ rs) h = (f r.1 h.0, each-mapped F P R f rs h.1)
 
-each-flat : {X Y : Type 0} (R : Y → Type 0) (E : List Lit × X → List (List Lit × Y)) → ((r : List Lit × X) → Each R (E r))
+each-flat : {X Y : Type 0} (R : Y → Type 0) (E : List Lit × X → List (List Lit × Y))
+    → ((r : List Lit × X) → Each R (E r))
     → (rs : List (List Lit × X)) → Each R (flat_map E rs)
 each-flat R E f [] = tt
 each-flat R E f (r ∷ rs) = each-append R (E r) (flat_map E rs) (f r) (each-flat R E f rs)
 
-each-weaker : {X : Type 0} (P Q : X → Type 0) → ((x : X) → P x → Q x) → (rs : List (List Lit × X)) → Each P rs → Each Q rs
+each-weaker : {X : Type 0} (P Q : X → Type 0) → ((x : X) → P x → Q x) → (rs : List (List Lit × X))
+    → Each P rs → Each Q rs
 each-weaker P Q f [] h = tt
 each-weaker P Q f (r ∷ rs) h = (f r.1 h.0, each-weaker P Q f rs h.1)
 
 -- a value is in the range of its domain
-row-within : (i : Interval) (o : Option Bool) (n : ℕ) (g : List Lit) (x : Denotation) (rows : List (List Lit × Denotation))
+row-within : (i : Interval) (o : Option Bool) (n : ℕ) (g : List Lit) (x : Denotation)
+    (rows : List (List Lit × Denotation))
     → ValueIsWithin i x → Each (ValueIsWithin i) rows → Each (ValueIsWithin i) (with_row o n g x rows)
 row-within i None n g x rows h k = (h, k)
 row-within i (Some true) n g x rows h k = (h, k)
 row-within i (Some false) n g x rows h k = k
 
-values-within : (b : GroundBase) (g : List Lit) (n : ℕ) (xs all : List Elem) → ((x : Elem) → Contains xs x → Contains all x)
+values-within : (b : GroundBase) (g : List Lit) (n : ℕ) (xs all : List Elem)
+    → ((x : Elem) → Contains xs x → Contains all x)
     → Each (ValueIsWithin (range_of all)) (value_rows b g n xs)
 values-within b g n [] all f = tt
 values-within b g n (x ∷ xs) all f =
@@ -113,13 +117,15 @@ module _ (b : GroundBase) (scope : List ℕ) (e : List Elem) (types : HasTypes b
         (sum-within ss (exactly (pos 0)))
     term-within (product ts) =
         let whole = bounds_of b.vocabulary b.domains (product ts) scope in
-        each-mapped (λ vs. number_value (product_from (pos 1) vs)) (ProductIsWithin (exactly (pos 1)) whole) (ValueIsWithin whole)
+        each-mapped (λ vs. number_value (product_from (pos 1) vs)) (ProductIsWithin (exactly (pos 1)) whole)
+        (ValueIsWithin whole)
         (λ vs h. number_within whole (product_from (pos 1) vs) (h (pos 1) one-within)) (rows_of_terms b ts e)
         (factors-within ts (exactly (pos 1)))
     term-within (aggregate k bs f t) = tt
 
     sum-within : (ss : SummandTrees) (i : Interval)
-        → Each (SumIsWithin i (fold interval_sum i (summand_bounds b.vocabulary b.domains ss scope))) (rows_of_sum b ss e)
+        → Each (SumIsWithin i (fold interval_sum i (summand_bounds b.vocabulary b.domains ss scope)))
+        (rows_of_sum b ss e)
     sum-within no_summands i =
         (λ z k. record { low = omega (arith, ints, k.low); high = omega (arith, ints, k.high) }, tt)
     sum-within (more_summands minus t ss) i =
@@ -162,7 +168,8 @@ module _ (b : GroundBase) (scope : List ℕ) (e : List Elem) (types : HasTypes b
     rows-fit (summation ss) small =
         let start : IsSmall (exactly (pos 0)) = (omega (arith, ints), omega (arith, ints)) in
         let whole = bounds_of b.vocabulary b.domains (summation ss) scope in
-        let bound = last_small interval_sum (exactly (pos 0)) (summand_bounds b.vocabulary b.domains ss scope) start small.0 in (
+        let bound = last_small interval_sum (exactly (pos 0)) (summand_bounds b.vocabulary b.domains ss scope) start
+        small.0 in (
           each-weaker (SumIsWithin (exactly (pos 0)) whole) (λ o. IfSome o (λ z. FitsSigned w64 z))
               (λ o h. some_fits whole o bound (sum_alone whole o (h (pos 0) zero-within))) (rows_of_sum b ss e)
               (sum-within ss (exactly (pos 0))),
@@ -187,6 +194,7 @@ pub small-rows-fit : (b : GroundBase) (t : TermTree) (scope : List ℕ) (e : Lis
     → TermIsBounded b.vocabulary b.domains t scope → RowsFit b t e
 small-rows-fit b t scope e types small = rows-fit b scope e types t small
 
-pub small-tuple-rows-fit : (b : GroundBase) (ts : TermTrees) (scope : List ℕ) (e : List Elem) → HasTypes b.domains scope e
+pub small-tuple-rows-fit : (b : GroundBase) (ts : TermTrees) (scope : List ℕ) (e : List Elem)
+    → HasTypes b.domains scope e
     → TermsAreBounded b.vocabulary b.domains ts scope → TupleRowsFit b ts e
 small-tuple-rows-fit b ts scope e types small = tuple-rows-fit b scope e types ts small

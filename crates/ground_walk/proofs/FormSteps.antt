@@ -19,7 +19,11 @@ module _ (G : List Elem → ProblemState → GroundResult) (all : Bool) where
   step r a = if r.settled then r else with_part all r.lits (G a r.problem)
 
   stays : (xs : List (List Elem)) (ls : List Lit) (p : ProblemState)
-      → fold step (record { settled = true; lits = ls; problem = p }) xs ≡ record { settled = true; lits = ls; problem = p }
+      → fold step (record { settled = true; lits = ls; problem = p }) xs ≡ record {
+        settled = true;
+        lits = ls;
+        problem = p;
+      }
   stays xs ls p = fold_stays step xs (record { settled = true; lits = ls; problem = p }) (λ x. refl)
 
   one-step : (s : Bool) (ls : List Lit) (q : ProblemState) (xs : List (List Elem))
@@ -77,4 +81,5 @@ pub settled-at : (F : Parts → List Elem → Parts) (rest cs : List (List Elem)
     → fold (after_front F rest) s (drop i cs) ≡ t
 settled-at F rest cs i s t h e stay =
     sym (fold_next (after_front F rest) cs i s t h e)
-    ∙ fold_stays (after_front F rest) (drop (i + 1) cs) t (λ a. fold_stays (λ u x. F u (a ++ x)) rest t (λ x. stay (a ++ x)))
+    ∙ fold_stays (after_front F rest) (drop (i + 1) cs) t
+    (λ a. fold_stays (λ u x. F u (a ++ x)) rest t (λ x. stay (a ++ x)))

@@ -1,9 +1,8 @@
 -- Well typed formulas whose terms have small bounds can be grounded.
-use Rattle.std.proofs.Common.{◌≡◌, ℕ, List, [], ◌∷◌, ◌++◌, map, length, refl, sym, ◌∙◌, inl, inr}
+use Rattle.std.proofs.Common.{ℕ, List, [], ◌∷◌, ◌++◌, refl, sym, ◌∙◌, inl, inr}
 use Rattle.std.specs.List.{AllByRecursion}
 use Rattle.std.proofs.lemmas.List.{length-map}
 use Rattle.kb_logic.specs.declared.elements.Elem.{Elem}
-use Rattle.kb_logic.specs.declared.vocabularies.Bound.{Bound}
 use Rattle.kb_logic.specs.declared.vocabularies.Vocabulary.{Vocabulary}
 use Rattle.kb_logic.specs.Bounds.{HasTypes, IsBounded, AreBounded, types_of}
 use Rattle.kb_logic.specs.Structures.{choices}
@@ -49,7 +48,8 @@ module _ (b : GroundBase) where
         (λ a m. groundable f (scope ++ types_of bs) (e ++ a) (choice-types b.domains scope bs e a types m) h k)
     groundable (numbered c n bs f) scope e types h k = absurd h
 
-    groundables : (fs : FormulaTrees) (scope : List ℕ) (e : List Elem) → HasTypes b.domains scope e → AreGroundForms b fs
+    groundables : (fs : FormulaTrees) (scope : List ℕ) (e : List Elem) → HasTypes b.domains scope e
+        → AreGroundForms b fs
         → AreBounded b.vocabulary b.domains fs scope → AreGroundable b fs e
     groundables no_formulas scope e types h k = tt
     groundables (more_formulas f fs) scope e types h k =
@@ -63,4 +63,5 @@ sentences-groundable b (f ∷ fs) h k = (groundable b f [] [] tt h.0 k.0, senten
 -- data know of each atom whether it is known
 pub knows-atoms : (v : Vocabulary) (k : KnownAtoms) → KnowsAtoms (base_of_data v k)
 knows-atoms v k =
-    length-map (atoms_over v.symbols k.domains) (λ a. known_truth (value_at k a)) ∙ sym (atoms-length v.symbols k.domains)
+    length-map (atoms_over v.symbols k.domains) (λ a. known_truth (value_at k a))
+    ∙ sym (atoms-length v.symbols k.domains)

@@ -1,6 +1,6 @@
 -- Steps over the rows of atoms and comparisons.
-use Rattle.std.proofs.Common.{◌≡◌, ℕ, zero, suc, ◌+◌, ◌<◌, ◌≤◌, true, false, not, List, [], ◌∷◌, ◌++◌, map, length, take}
-use Rattle.std.proofs.Common.{drop, Option, Some, None, slice_get, refl, sym, ap, subst, ◌∙◌, arith}
+use Rattle.std.proofs.Common.{◌≡◌, ℕ, zero, suc, ◌+◌, ◌<◌, ◌≤◌, Bool, true, false, not, if◌then◌else◌, List, [], ◌∷◌, ◌++◌, map, length, take}
+use Rattle.std.proofs.Common.{OnOk, Result, Ok, Err, drop, Option, Some, None, slice_get, refl, sym, ap, subst, ◌∙◌, arith}
 use Rattle.std.specs.Option.{option_map}
 use Rattle.std.specs.List.{AllByRecursion}
 use Rattle.kb_logic.specs.declared.elements.Elem.{Elem}
@@ -15,10 +15,11 @@ use Rattle.term_values.specs.Rows.{rows_of_term, rows_of_terms}
 use Rattle.term_values.proofs.RowFacts.{place-below}
 use Rattle.def_ground.specs.declared.answers.Answer.{Answer}
 use Rattle.def_ground.specs.declared.answers.Answer.TheVariants.{Constant, Literal}
-use Rattle.def_ground.specs.Answers.{AnswerWithin, gate_of}
-use Rattle.def_ground.specs.Cases.{case_of, cases_of}
+use Rattle.def_ground.specs.Answers.{AnswerWithin, opposite_of, gate_of}
+use Rattle.def_ground.specs.Cases.{Case, case_of, cases_of, answer_without, answer_or_cases}
+use Rattle.def_ground.specs.CaseSentences.{or_clause, answer_or_clauses, assert_cases, assert_comparison}
 use Rattle.def_ground.specs.Comparisons.{guard_answers, comparison_case, comparison_of}
-use Rattle.def_ground.specs.Forms.{answer_of_atom, atom_answer, atom_case}
+use Rattle.def_ground.specs.Forms.{answer_of_atom, atom_answer, atom_case, signed_result}
 use Rattle.def_ground.specs.Problems.{start_problem}
 use Rattle.def_ground.specs.GroundForms.{IsPredicateOf}
 use Rattle.def_ground.specs.Meanings.{HasRoom, IsCaseOf}
@@ -70,24 +71,41 @@ row-left (r ∷ rs) (suc k) g x hg hx =
     let next : suc (k + 1) ≡ suc k + 1 = omega arith in
     row-left rs k g x hg hx ∙ ap (λ n. (g, x) ∷ drop n (r ∷ rs)) next
 
-one-case : (a : Answer) (p : ProblemState) → cases_of (case_of [] a ∷ []) p ≡ record { answer = a; problem = p }
-one-case (Constant true) p = refl
-one-case (Constant false) p = refl
-one-case (Literal l) p = refl
+one-case : (a : Answer) → answer_without (case_of [] a ∷ []) ≡ Some a
+one-case (Constant true) = refl
+one-case (Constant false) = refl
+one-case (Literal l) = refl
 
 -- an atom with one row without guards is its answer
 pub single-row : (b : GroundBase) (s : ℕ) (rs : List (List Lit × List Denotation)) (g : List Lit) (vs : List Denotation)
-    (p : ProblemState) → length rs ≡ 1 → option_map (λ r. r.0) (slice_get rs 0) ≡ Some g → g ≡ []
+    → length rs ≡ 1 → option_map (λ r. r.0) (slice_get rs 0) ≡ Some g → g ≡ []
     → option_map (λ r. r.1) (slice_get rs 0) ≡ Some vs
-    → cases_of (map (atom_case b s) rs) p ≡ record { answer = atom_answer b s (row_index (tuples_at b s) vs); problem = p }
-single-row b s [] g vs p one hg none hx = absurd (omega (arith, one))
-single-row b s (r ∷ q ∷ rs) g vs p one hg none hx = absurd (omega (arith, one))
-single-row b s (r ∷ []) g vs p one hg none hx =
+    → answer_without (map (atom_case b s) rs) ≡ Some (atom_answer b s (row_index (tuples_at b s) vs))
+single-row b s [] g vs one hg none hx = absurd (omega (arith, one))
+single-row b s (r ∷ q ∷ rs) g vs one hg none hx = absurd (omega (arith, one))
+single-row b s (r ∷ []) g vs one hg none hx =
     let guards : r.0 ≡ g = cc in
     let value : r.1 ≡ vs = cc in
     let A : List Denotation → Answer = λ ws. atom_answer b s (row_index (tuples_at b s) ws) in
-    ap (λ l. cases_of (case_of l (A r.1) ∷ []) p) (guards ∙ none)
-    ∙ ap (λ ws. cases_of (case_of [] (A ws) ∷ []) p) value ∙ one-case (A vs) p
+    ap (λ l. answer_without (case_of l (A r.1) ∷ [])) (guards ∙ none)
+    ∙ ap (λ ws. answer_without (case_of [] (A ws) ∷ [])) value ∙ one-case (A vs)
+
+-- what cases come to where no variable is needed, and what is asserted by them
+pub without-made : (cs : List Case) (a : Answer) (p : ProblemState) → answer_without cs ≡ Some a
+    → cases_of cs p ≡ record { answer = a; problem = p }
+without-made cs a p h = ap (λ o. answer_or_cases o cs p) h
+
+pub without-said : (sign : Bool) (ls : List Lit) (cs : List Case) (a : Answer) (p : ProblemState)
+    → answer_without cs ≡ Some a
+    → or_clause ls (signed_result sign (record { answer = a; problem = p })) ≡ assert_cases sign ls cs p
+without-said sign ls cs a p h = sym (ap (λ o. answer_or_clauses o sign ls cs p) h)
+
+-- an answer with its sign
+pub signed-is : (sign : Bool) (ls : List Lit) (a : Answer) (p : ProblemState)
+    → or_clause ls (record { answer = (if sign then a else opposite_of a); problem = p }) ≡
+    or_clause ls (signed_result sign (record { answer = a; problem = p }))
+signed-is true ls a p = refl
+signed-is false ls a p = refl
 
 -- the cases of an atom are over the problem's variables
 pub atom-cases-in : (b : GroundBase) (s : ℕ) (ts : TermTrees) (e : List Elem) (p : ProblemState) → IsGroundBase b
@@ -186,4 +204,18 @@ module _ (rs : List (List Lit × Denotation)) (k : ℕ) (g : List Lit) (x : Deno
   next-within h =
       let all : HaveLits p.vars ((g, x) ∷ drop (k + 1) rs) = subst (HaveLits p.vars) left h in
       let one = gate-grows p g all.0 in
-      rows-more p.vars q.vars (subst (λ (r : ProblemState). p.vars ≤ r.vars) (sym problem) one.0) (drop (k + 1) rs) all.1
+      rows-more p.vars q.vars (subst (λ (r : ProblemState). p.vars ≤ r.vars) (sym problem) one.0)
+      (drop (k + 1) rs) all.1
+
+-- a comparison that is asserted, whose left term has a row
+pub asserted-by-rows : (sign : Bool) (c : Cmp) (ls : List Lit) (p : ProblemState)
+    (xs ys : List (List Lit × Denotation)) → 1 ≤ length xs
+    → assert_comparison sign c xs ys ls p
+    ≡ assert_cases sign ls (map (comparison_case c (guard_answers ys p).rows) xs) (guard_answers ys p).problem
+asserted-by-rows sign c ls p [] ys h = absurd (omega (arith, h))
+asserted-by-rows sign c ls p (x ∷ xs) ys h = refl
+
+-- what an Ok promises gives what it gives
+pub on-ok : {A E : Type 0} {P Q : Type 0} (r : Result A E) → (P → Q) → OnOk r P → OnOk r Q
+on-ok (Ok x) f h = f h
+on-ok (Err e) f h = h

@@ -13,7 +13,7 @@ use Rattle.ground_core.specs.Problems.{ProblemState, AreLitsOf}
 use Rattle.term_values.specs.GroundBases.{GroundBase, atoms_in, first_var, tuples_at, values_at}
 use Rattle.term_values.specs.KnownBases.{IsGroundBase}
 use Rattle.def_ground.specs.Problems.{fact_clause, fact_clauses, function_clauses, said_tuples}
-use Rattle.def_ground.specs.Problems.{tuple_clauses, variables_from}
+use Rattle.def_ground.specs.Problems.{tuple_clauses, open_variables}
 use Rattle.term_values.proofs.Places.{atoms-count}
 use Rattle.def_ground.proofs.StartLaws.{atoms-length, said-fewer, start-room, variables-in}
 use Rattle.ground_walk.specs.Groundable.{HasVars}
@@ -55,7 +55,8 @@ pub all-said : (b : GroundBase) (s k : ℕ) → length (said_tuples (values_at b
 all-said b s k h =
     let ts = said_tuples (values_at b s) (tuples_at b s) in
     let e = length-numbered 0 ts in
-    ap (flat_map (λ (r : ℕ × List Elem). tuple_clauses b s r.0)) (take_all k (enumerate_from 0 ts) (omega (arith, h, e)))
+    ap (flat_map (λ (r : ℕ × List Elem). tuple_clauses b s r.0))
+    (take_all k (enumerate_from 0 ts) (omega (arith, h, e)))
 
 -- the variables of a tuple are those of atoms
 module _ (b : GroundBase) (p : ProblemState) (is : IsGroundBase b) (vars : HasVars b p) (s i : ℕ)
@@ -63,9 +64,9 @@ module _ (b : GroundBase) (p : ProblemState) (is : IsGroundBase b) (vars : HasVa
   within : i < length (tuples_at b s)
   within = let fewer = said-fewer (values_at b s) (tuples_at b s) in omega (arith, said, fewer)
 
-  pub tuple-lits : AreLitsOf p.vars (variables_from (first_var b s + i * length (values_at b s)) (values_at b s))
+  pub tuple-lits : AreLitsOf p.vars (open_variables b (first_var b s + i * length (values_at b s)) (values_at b s))
   tuple-lits =
-      variables-in p.vars (first_var b s + i * length (values_at b s)) (values_at b s) (omega arith)
+      variables-in b p.vars (first_var b s + i * length (values_at b s)) (values_at b s) (omega arith)
       (λ j below. (room-of b p is vars).functions s i j within below)
 
 -- they are at most as many as there are
@@ -88,14 +89,17 @@ tuple-below b is s i said = by (values_at b s) refl
         let k : length xs < length (values_at b s) = subst (λ ys. length xs < length ys) (sym e) (omega arith) in
         let fewer = said-fewer (values_at b s) (tuples_at b s) in
         let top = (start-room b is).functions s i (length xs) (omega (arith, said, fewer)) k in
-        let top' : first_var b s + i * length (x ∷ xs) + length xs ≤ length (ground_atoms b.vocabulary.symbols b.domains) =
-        subst (λ (ys : List Elem). first_var b s + i * length ys + length xs ≤ length (ground_atoms b.vocabulary.symbols b.domains)) e top in
+        let top' : first_var b s + i * length (x ∷ xs) + length xs
+        ≤ length (ground_atoms b.vocabulary.symbols b.domains) =
+        subst (λ (ys : List Elem). first_var b s + i * length ys + length xs
+        ≤ length (ground_atoms b.vocabulary.symbols b.domains)) e top in
         omega (arith, top')
 
 -- the clauses of the functions among symbols with these numbers
 abbrev pub of-functions : GroundBase → ℕ → List Symbol → List (List Lit)
 of-functions b n xs =
-    flat_map (λ (s : ℕ × Symbol). function_clauses b s.0) (filter (λ (s : ℕ × Symbol). is_some s.1.value) (enumerate_from n xs))
+    flat_map (λ (s : ℕ × Symbol). function_clauses b s.0)
+    (filter (λ (s : ℕ × Symbol). is_some s.1.value) (enumerate_from n xs))
 
 abbrev pub if-function : GroundBase → Bool → ℕ → List (List Lit)
 if-function b t s = if t then function_clauses b s else []

@@ -8,7 +8,8 @@ use Rattle.ground_core.specs.Problems.{ProblemState, AreLitsOf}
 use Rattle.term_values.specs.GroundBases.{GroundBase}
 use Rattle.def_ground.specs.Answers.{GroundResult}
 use Rattle.def_ground.specs.Forms.{Parts, settles, with_answer, signed_result, form_of}
-use Rattle.def_ground.specs.Sentences.{assert_of}
+use Rattle.def_ground.specs.CaseSentences.{or_clause}
+use Rattle.def_ground.specs.Sentences.{are_few, assert_of}
 
 -- the problem grew, and the literals of the parts are over its variables
 pub record PartsGrow (p q : ProblemState) (ls : List Lit) : Type 0 where
@@ -35,6 +36,15 @@ open_parts ls p = record { settled = false; lits = ls; problem = p }
 abbrev pub part_step : GroundBase → Bool → Bool → FormulaTree → Parts → List Elem → Parts
 part_step b all sign f r a =
     if r.settled then r else with_part all r.lits (signed_result sign (form_of b f a r.problem))
+
+-- the problem that also asserts the last part of a disjunction under the literals of the others
+abbrev pub assert_last : GroundBase → Bool → FormulaTree → List Elem → List Lit → ProblemState → ProblemState
+assert_last b sign f e ls p =
+    if are_few ls then assert_of b sign f e ls p else or_clause ls (signed_result sign (form_of b f e p))
+
+-- so where the others may settle the whole
+abbrev pub assert_under : GroundBase → Bool → FormulaTree → List Elem → List Lit → ProblemState → ProblemState
+assert_under b settled f e ls p = if settled then p else assert_last b true f e ls p
 
 -- the problem that also asserts the formula under one assignment more
 abbrev pub assert_step : GroundBase → Bool → FormulaTree → List Lit → ProblemState → List Elem → ProblemState

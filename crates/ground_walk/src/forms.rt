@@ -15,9 +15,9 @@ ghost use Rattle.ground_walk.specs.Steps.{PartsGrow, MakesParts, open_parts, par
 use crate::leaves::{atom, comparison};
 use def_ground::{Answer, add_part, close, same};
 use ground_core::{Memory, Problem};
-use plain_evaluation::environments::{Env, extend, split_in};
 use kb_logic::{Bound, Formula};
 use lit_core::Lit;
+use plain_evaluation::environments::{Env, extend, split_in};
 use std::alloc::Global;
 use term_values::GroundData;
 
@@ -33,7 +33,8 @@ pub fn form<'a>(
     requires given { IsGroundBase base.now }
     requires room { HasVars base.now problem.old }
     requires fits { IsGroundable base.now (formula_view formula.now) (env_view env.now) }
-    ensures made { IfOk result (λ a. Makes (form_of base.now (formula_view formula.now) (env_view env.now) problem.old) a problem.new) }
+    ensures made { IfOk result
+        (λ a. Makes (form_of base.now (formula_view formula.now) (env_view env.now) problem.old) a problem.new) }
     ensures grows { IfOk result (λ a. Grows problem.old problem.new a) }
 {
     match formula {
@@ -73,7 +74,9 @@ pub(crate) fn signed_form<'a>(
     requires given { IsGroundBase base.now }
     requires room { HasVars base.now problem.old }
     requires fits { IsGroundable base.now (formula_view formula.now) (env_view env.now) }
-    ensures made { IfOk result (λ a. Makes (signed_result sign (form_of base.now (formula_view formula.now) (env_view env.now) problem.old)) a problem.new) }
+    ensures made { IfOk result
+        (λ a. Makes (signed_result sign (form_of base.now (formula_view formula.now) (env_view env.now) problem.old)) a
+        problem.new) }
     ensures grows { IfOk result (λ a. Grows problem.old problem.new a) }
 {
     let answer = form(alloc, base, formula, env, problem)?;
@@ -93,7 +96,10 @@ fn joined<'a>(
     requires given { IsGroundBase base.now }
     requires room { HasVars base.now problem.old }
     requires fits { AreGroundable base.now (formulas_of (map formula_view formulas.now)) (env_view env.now) }
-    ensures made { IfOk result (λ a. Makes (close_parts all (parts_of base.now all (formulas_of (map formula_view formulas.now)) (env_view env.now) [] problem.old)) a problem.new) }
+    ensures made { IfOk result
+        (λ a. Makes (close_parts all
+        (parts_of base.now all (formulas_of (map formula_view formulas.now)) (env_view env.now) [] problem.old)) a
+        problem.new) }
     ensures grows { IfOk result (λ a. Grows problem.old problem.new a) }
 {
     let mut lits = Vec::new(alloc);
@@ -116,7 +122,9 @@ pub(crate) fn parts<'a>(
     requires room { HasVars base.now problem.old }
     requires fits { AreGroundable base.now (formulas_of (map formula_view formulas.now)) (env_view env.now) }
     requires lits { AreLitsOf problem.old.vars lits.old.items }
-    ensures made { IfOk result (λ s. MakesParts (parts_of base.now all (formulas_of (map formula_view formulas.now)) (env_view env.now) lits.old.items problem.old) s lits.new.items problem.new) }
+    ensures made { IfOk result
+        (λ s. MakesParts (parts_of base.now all (formulas_of (map formula_view formulas.now))
+        (env_view env.now) lits.old.items problem.old) s lits.new.items problem.new) }
     ensures grows { IfOk result (λ s. PartsGrow problem.old problem.new lits.new.items) }
 {
     for formula in formulas {
@@ -142,7 +150,10 @@ fn implied<'a>(
     requires room { HasVars base.now problem.old }
     requires fits { IsGroundable base.now (formula_view second.now) (env_view env.now) }
     requires within { AnswerWithin problem.old.vars first }
-    ensures made { IfOk result (λ a. Makes (close_parts false (next_parts false (record { answer = first; problem = problem.old }) [] (λ xs q. next_parts false (form_of base.now (formula_view second.now) (env_view env.now) q) xs no_more_parts))) a problem.new) }
+    ensures made { IfOk result
+        (λ a. Makes (close_parts false (next_parts false (record { answer = first; problem = problem.old }) []
+        (λ xs q. next_parts false (form_of base.now (formula_view second.now) (env_view env.now) q) xs no_more_parts)))
+        a problem.new) }
     ensures grows { IfOk result (λ a. Grows problem.old problem.new a) }
 {
     let mut lits = Vec::new(alloc);
@@ -168,7 +179,9 @@ fn alike<'a>(
     requires room { HasVars base.now problem.old }
     requires fits { IsGroundable base.now (formula_view second.now) (env_view env.now) }
     requires within { AnswerWithin problem.old.vars first }
-    ensures made { IfOk result (λ a. let y = form_of base.now (formula_view second.now) (env_view env.now) problem.old in Makes (same_of first y.answer y.problem) a problem.new) }
+    ensures made { IfOk result (λ a. let y =
+        form_of base.now (formula_view second.now) (env_view env.now) problem.old in
+        Makes (same_of first y.answer y.problem) a problem.new) }
     ensures grows { IfOk result (λ a. Grows problem.old problem.new a) }
 {
     let answer = form(alloc, base, second, env, problem)?;
@@ -188,8 +201,12 @@ fn quantified<'a>(
 ) -> Result<Answer, Memory>
     requires given { IsGroundBase base.now }
     requires room { HasVars base.now problem.old }
-    requires fits { AllByRecursion (λ a. IsGroundable base.now (formula_view formula.now) (env_view env.now ++ a)) (choices base.now.domains bounds.now) }
-    ensures made { IfOk result (λ a. Makes (close_parts all (fold (λ r x. part_step base.now all true (formula_view formula.now) r (env_view env.now ++ x)) (open_parts [] problem.old) (choices base.now.domains bounds.now))) a problem.new) }
+    requires fits { AllByRecursion (λ a. IsGroundable base.now (formula_view formula.now) (env_view env.now ++ a))
+        (choices base.now.domains bounds.now) }
+    ensures made { IfOk result
+        (λ a. Makes (close_parts all
+        (fold (λ r x. part_step base.now all true (formula_view formula.now) r (env_view env.now ++ x))
+        (open_parts [] problem.old) (choices base.now.domains bounds.now))) a problem.new) }
     ensures grows { IfOk result (λ a. Grows problem.old problem.new a) }
 {
     let mut lits = Vec::new(alloc);
@@ -215,9 +232,12 @@ pub(crate) fn instances<'a>(
 ) -> Result<bool, Memory>
     requires given { IsGroundBase base.now }
     requires room { HasVars base.now problem.old }
-    requires fits { AllByRecursion (λ a. IsGroundable base.now (formula_view formula.now) (env_view env.now ++ a)) (choices base.now.domains bounds.now) }
+    requires fits { AllByRecursion (λ a. IsGroundable base.now (formula_view formula.now) (env_view env.now ++ a))
+        (choices base.now.domains bounds.now) }
     requires lits { AreLitsOf problem.old.vars lits.old.items }
-    ensures made { IfOk result (λ s. MakesParts (fold (λ r x. part_step base.now all sign (formula_view formula.now) r (env_view env.now ++ x)) (open_parts lits.old.items problem.old) (choices base.now.domains bounds.now)) s lits.new.items problem.new) }
+    ensures made { IfOk result
+        (λ s. MakesParts (fold (λ r x. part_step base.now all sign (formula_view formula.now) r (env_view env.now ++ x))
+        (open_parts lits.old.items problem.old) (choices base.now.domains bounds.now)) s lits.new.items problem.new) }
     ensures grows { IfOk result (λ s. PartsGrow problem.old problem.new lits.new.items) }
 {
     if bounds.is_empty() {

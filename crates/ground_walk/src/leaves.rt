@@ -1,26 +1,31 @@
 //! Atoms and comparisons, by the rows of their terms.
-ghost use Rattle.std.specs.Prelude.{◌≡◌, IsNone, MatchOption, map, true, IfOk, ⊤};
+ghost use Rattle.std.specs.Prelude.{◌≡◌, ◌≤◌, IsNone, MatchOption, Some, map, true, IfOk, OnOk, ⊤};
 ghost use Rattle.std.specs.List.{AllByRecursion};
 ghost use Rattle.kb_logic.specs.Bounds.{value_type_of};
 ghost use Rattle.kb_logic.specs.Trees.{terms_of, atom, comparison};
 ghost use Rattle.kb_logic.specs.Views.{term_view};
 ghost use Rattle.plain_evaluation.specs.Environments.{env_view};
-ghost use Rattle.ground_core.specs.Problems.{ProblemState, AreLitsOf};
+ghost use Rattle.ground_core.specs.Problems.{AreLitsOf};
 ghost use Rattle.term_values.specs.GroundBases.{row_index, tuples_at};
 ghost use Rattle.term_values.specs.KnownBases.{IsGroundBase};
 ghost use Rattle.term_values.specs.RowValues.{row_value};
 ghost use Rattle.def_ground.specs.Answers.{Makes, Grows, gate_of};
-ghost use Rattle.def_ground.specs.Cases.{cases_of};
+ghost use Rattle.def_ground.specs.Cases.{answer_without};
+ghost use Rattle.def_ground.specs.CaseSentences.{assert_comparison};
 ghost use Rattle.def_ground.specs.CaseViews.{case_view, guarded_view};
 ghost use Rattle.def_ground.specs.Comparisons.{guard_answers as answers_of_guards, comparison_case, comparison_of};
 ghost use Rattle.def_ground.specs.Forms.{form_of, atom_case, atom_answer as answer_at};
+ghost use Rattle.def_ground.specs.Sentences.{assert_of};
 ghost use Rattle.ground_walk.specs.Groundable.{HasVars, IsGroundable, HaveLits};
 
-use def_ground::{Answer, Case, GuardedValue, answer_of_cases, case_of, case_of_row, gate};
+use def_ground::{
+    Answer, Case, GuardedValue, answer_of_cases, case_of, case_of_row, gate, push_answer,
+    push_cases,
+};
 use ground_core::{LitList, Memory, Problem};
-use plain_evaluation::environments::Env;
 use kb_logic::{Cmp, Term};
 use lit_core::Lit;
+use plain_evaluation::environments::Env;
 use std::alloc::Global;
 use term_values::{GroundData, RowValue, Rows, TupleRows};
 
@@ -39,8 +44,7 @@ fn atom_answer(base: &GroundData<'_>, symbol: u32, values: &[RowValue<'_>]) -> A
 /// What the atom comes to where its arguments have one row, without guards.
 fn single_atom(base: &GroundData<'_>, symbol: u32, rows: &TupleRows<'_>) -> Option<Answer>
     requires { IsNone (value_type_of base.now.vocabulary symbol) }
-    ensures { MatchOption result ⊤ (λ a. (p : ProblemState) → cases_of (map (atom_case base.now symbol) rows.now) p
-        ≡ record { answer = a; problem = p }) }
+    ensures { MatchOption result ⊤ (λ a. answer_without (map (atom_case base.now symbol) rows.now) ≡ Some a) }
 {
     if rows.len() != 1 {
         return None;
@@ -81,7 +85,9 @@ pub(crate) fn atom<'a>(
     requires given { IsGroundBase base.now }
     requires room { HasVars base.now problem.old }
     requires fits { IsGroundable base.now (atom symbol (terms_of (map term_view args.now))) (env_view env.now) }
-    ensures made { IfOk result (λ a. Makes (form_of base.now (atom symbol (terms_of (map term_view args.now))) (env_view env.now) problem.old) a problem.new) }
+    ensures made { IfOk result
+        (λ a. Makes (form_of base.now (atom symbol (terms_of (map term_view args.now))) (env_view env.now) problem.old)
+        a problem.new) }
     ensures grows { IfOk result (λ a. Grows problem.old problem.new a) }
 {
     let rows = base.tuple_rows(alloc, args, env)?;
@@ -90,6 +96,35 @@ pub(crate) fn atom<'a>(
         None => {
             let cases = atom_cases(alloc, base, symbol, &rows)?;
             answer_of_cases(alloc, cases.as_slice(), problem)
+        }
+    }
+}
+
+/// Says that one of the literals is true, or the atom is, or where the sign is false is not.
+pub(crate) fn push_atom<'a>(
+    alloc: Global,
+    base: &'a GroundData<'a>,
+    sign: bool,
+    symbol: u32,
+    args: &'a [Term],
+    env: &'a Env<'a>,
+    lits: &[Lit],
+    problem: &mut Problem,
+) -> Result<(), Memory>
+    requires given { IsGroundBase base.now }
+    requires room { HasVars base.now problem.old }
+    requires fits { IsGroundable base.now (atom symbol (terms_of (map term_view args.now))) (env_view env.now) }
+    requires lits { AreLitsOf problem.old.vars lits.now }
+    ensures made { OnOk result (problem.new ≡ assert_of base.now sign (atom symbol (terms_of (map term_view args.now)))
+        (env_view env.now) lits.now problem.old) }
+    ensures grows { OnOk result (problem.old.vars ≤ problem.new.vars) }
+{
+    let rows = base.tuple_rows(alloc, args, env)?;
+    match single_atom(base, symbol, &rows) {
+        Some(answer) => push_answer(alloc, answer.signed(sign), lits, problem),
+        None => {
+            let cases = atom_cases(alloc, base, symbol, &rows)?;
+            push_cases(alloc, sign, lits, cases.as_slice(), problem)
         }
     }
 }
@@ -135,7 +170,8 @@ fn comparison_cases<'r>(
     left: &'r Rows<'_>,
     right: &[GuardedValue<'_>],
 ) -> Result<Vec<Case<'r>>, Memory>
-    ensures { IfOk result (λ cs. map case_view cs.items ≡ map (comparison_case cmp (map guarded_view right.now)) left.now) }
+    ensures { IfOk result (λ cs. map case_view cs.items
+        ≡ map (comparison_case cmp (map guarded_view right.now)) left.now) }
 {
     let mut cases = Vec::new(alloc);
     for row in 0..left.len() {
@@ -178,11 +214,67 @@ pub(crate) fn comparison<'a>(
 ) -> Result<Answer, Memory>
     requires given { IsGroundBase base.now }
     requires room { HasVars base.now problem.old }
-    requires fits { IsGroundable base.now (comparison cmp (term_view left.now) (term_view right.now)) (env_view env.now) }
-    ensures made { IfOk result (λ a. Makes (form_of base.now (comparison cmp (term_view left.now) (term_view right.now)) (env_view env.now) problem.old) a problem.new) }
+    requires fits { IsGroundable base.now (comparison cmp (term_view left.now) (term_view right.now))
+        (env_view env.now) }
+    ensures made { IfOk result
+        (λ a. Makes (form_of base.now (comparison cmp (term_view left.now) (term_view right.now))
+        (env_view env.now) problem.old) a problem.new) }
     ensures grows { IfOk result (λ a. Grows problem.old problem.new a) }
 {
     let left_rows = base.rows(alloc, left, env)?;
     let right_rows = base.rows(alloc, right, env)?;
     compare_rows(alloc, cmp, &left_rows, &right_rows, problem)
+}
+
+/// Says that one of the literals is true, or the comparison of terms with these rows is, or where the sign is false is
+/// not.
+fn push_compared(
+    alloc: Global,
+    sign: bool,
+    cmp: Cmp,
+    left: &Rows<'_>,
+    right: &Rows<'_>,
+    lits: &[Lit],
+    problem: &mut Problem,
+) -> Result<(), Memory>
+    requires left { HaveLits problem.old.vars left.now }
+    requires right { HaveLits problem.old.vars right.now }
+    requires lits { AreLitsOf problem.old.vars lits.now }
+    ensures made { OnOk result (problem.new ≡ assert_comparison sign cmp left.now right.now lits.now problem.old) }
+    ensures grows { OnOk result (problem.old.vars ≤ problem.new.vars) }
+{
+    if left.len() == 0 {
+        let always = Answer::Constant(true);
+        return push_answer(alloc, always.signed(sign), lits, problem);
+    }
+    let values = guard_answers(alloc, right, problem)?;
+    let cases = comparison_cases(alloc, cmp, left, values.as_slice())?;
+    push_cases(alloc, sign, lits, cases.as_slice(), problem)
+}
+
+/// Says that one of the literals is true, or the comparison is, or where the sign is false is not.
+pub(crate) fn push_comparison<'a>(
+    alloc: Global,
+    base: &'a GroundData<'a>,
+    sign: bool,
+    cmp: Cmp,
+    left: &'a Term,
+    right: &'a Term,
+    env: &'a Env<'a>,
+    lits: &[Lit],
+    problem: &mut Problem,
+) -> Result<(), Memory>
+    requires given { IsGroundBase base.now }
+    requires room { HasVars base.now problem.old }
+    requires fits { IsGroundable base.now (comparison cmp (term_view left.now) (term_view right.now))
+        (env_view env.now) }
+    requires lits { AreLitsOf problem.old.vars lits.now }
+    ensures made { OnOk result
+        (problem.new ≡ assert_of base.now sign (comparison cmp (term_view left.now) (term_view right.now))
+        (env_view env.now) lits.now problem.old) }
+    ensures grows { OnOk result (problem.old.vars ≤ problem.new.vars) }
+{
+    let left_rows = base.rows(alloc, left, env)?;
+    let right_rows = base.rows(alloc, right, env)?;
+    push_compared(alloc, sign, cmp, &left_rows, &right_rows, lits, problem)
 }

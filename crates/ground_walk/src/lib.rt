@@ -2,6 +2,7 @@
 //! definition of `def_ground`.
 #![tactic(auto)]
 
+mod disjuncts;
 mod forms;
 mod laws;
 mod leaves;

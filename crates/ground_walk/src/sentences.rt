@@ -1,25 +1,27 @@
 //! Sentences as clauses: what stands at the top needs no gate.
-ghost use Rattle.std.specs.Prelude.{◌≡◌, ◌≤◌, ◌++◌, [], map, fold, true, false, if◌then◌else◌, OnOk};
+ghost use Rattle.std.specs.Prelude.{◌≡◌, ◌≤◌, ◌++◌, [], map, fold, take, true, false, if◌then◌else◌, OnOk};
 ghost use Rattle.std.specs.List.{AllByRecursion};
-ghost use Rattle.kb_logic.specs.Trees.{formulas_of};
+ghost use Rattle.kb_logic.specs.Trees.{formulas_of, equivalence};
 ghost use Rattle.kb_logic.specs.Views.{formula_view};
 ghost use Rattle.kb_logic.specs.Structures.{choices};
 ghost use Rattle.plain_evaluation.specs.Environments.{env_view};
 ghost use Rattle.ground_core.specs.Problems.{AreLitsOf};
 ghost use Rattle.ground_core.specs.Growth.{with_clause};
 ghost use Rattle.term_values.specs.KnownBases.{IsGroundBase};
-ghost use Rattle.def_ground.specs.Answers.{AnswerWithin};
-ghost use Rattle.def_ground.specs.Sentences.{assert_of, assert_all, assert_any, or_clause, parts_clause, unless_settled};
+ghost use Rattle.def_ground.specs.CaseSentences.{or_clause};
+ghost use Rattle.def_ground.specs.Sentences.{are_few, assert_of, assert_all, assert_any, parts_clause};
 ghost use Rattle.def_ground.specs.Forms.{form_of, signed_result};
 ghost use Rattle.ground_walk.specs.Groundable.{HasVars, IsGroundable, AreGroundable};
-ghost use Rattle.ground_walk.specs.Steps.{open_parts, part_step, assert_step, assert_joined, assert_quantified};
+ghost use Rattle.ground_walk.specs.Steps.{open_parts, part_step, assert_last, assert_under, assert_step, assert_joined, assert_quantified};
 
-use crate::forms::{instances, signed_form};
-use def_ground::{Answer, add_part};
+use crate::disjuncts::disjuncts;
+use crate::forms::{form, instances, signed_form};
+use crate::leaves::{push_atom, push_comparison};
+use def_ground::{push_alike, push_answer};
 use ground_core::{Memory, Problem};
-use plain_evaluation::environments::{Env, extend, split_in};
 use kb_logic::{Bound, Formula};
 use lit_core::{Clause, Lit};
+use plain_evaluation::environments::{Env, extend, split_in};
 use std::alloc::Global;
 use term_values::GroundData;
 
@@ -31,25 +33,11 @@ fn push_clause(alloc: Global, lits: &[Lit], problem: &mut Problem) -> Result<(),
     problem.add_clause(Clause::from_slice(alloc, lits)?)
 }
 
-/// Says that one of the literals is true, or the answer is.
-fn push_answer(
-    alloc: Global,
-    answer: Answer,
-    lits: &mut Vec<Lit>,
-    problem: &mut Problem,
-) -> Result<(), Memory>
-    requires answer { AnswerWithin problem.old.vars answer }
-    requires lits { AreLitsOf problem.old.vars lits.old.items }
-    ensures made { OnOk result (problem.new ≡ or_clause lits.old.items (record { answer = answer; problem = problem.old })) }
-    ensures lits { OnOk result (lits.new.items ≡ lits.old.items) }
+/// Whether there are so few literals that each of many clauses may have them.
+fn are_few(lits: &[Lit]) -> bool
+    ensures { result ≡ are_few lits.now }
 {
-    let before = lits.len();
-    if add_part(false, answer, lits)? {
-        return Ok(());
-    }
-    push_clause(alloc, lits.as_slice(), problem)?;
-    lits.truncate(before);
-    Ok(())
+    lits.len() <= 8
 }
 
 /// Says that one of the literals is true, or some instance of the formula is, or where the sign is false some is not.
@@ -65,9 +53,13 @@ fn push_some<'a>(
 ) -> Result<(), Memory>
     requires given { IsGroundBase base.now }
     requires room { HasVars base.now problem.old }
-    requires fits { AllByRecursion (λ a. IsGroundable base.now (formula_view formula.now) (env_view env.now ++ a)) (choices base.now.domains bounds.now) }
+    requires fits { AllByRecursion (λ a. IsGroundable base.now (formula_view formula.now) (env_view env.now ++ a))
+        (choices base.now.domains bounds.now) }
     requires lits { AreLitsOf problem.old.vars lits.old.items }
-    ensures made { OnOk result (problem.new ≡ parts_clause (fold (λ r x. part_step base.now false sign (formula_view formula.now) r (env_view env.now ++ x)) (open_parts lits.old.items problem.old) (choices base.now.domains bounds.now))) }
+    ensures made { OnOk result
+        (problem.new ≡ parts_clause
+        (fold (λ r x. part_step base.now false sign (formula_view formula.now) r (env_view env.now ++ x))
+        (open_parts lits.old.items problem.old) (choices base.now.domains bounds.now))) }
     ensures grows { OnOk result (problem.old.vars ≤ problem.new.vars) }
     ensures lits { OnOk result (lits.new.items ≡ lits.old.items) }
 {
@@ -82,7 +74,8 @@ fn push_some<'a>(
     Ok(())
 }
 
-/// Says that one of the literals is true, or the formula is, or where the sign is false is not. The formula is asked for
+/// Says that one of the literals is true, or the formula is, or where the sign is false is not. The formula is asked
+/// for
 /// as one answer.
 fn push_leaf<'a>(
     alloc: Global,
@@ -97,12 +90,42 @@ fn push_leaf<'a>(
     requires room { HasVars base.now problem.old }
     requires fits { IsGroundable base.now (formula_view formula.now) (env_view env.now) }
     requires lits { AreLitsOf problem.old.vars lits.old.items }
-    ensures made { OnOk result (problem.new ≡ or_clause lits.old.items (signed_result sign (form_of base.now (formula_view formula.now) (env_view env.now) problem.old))) }
+    ensures made { OnOk result
+        (problem.new ≡ or_clause lits.old.items
+        (signed_result sign (form_of base.now (formula_view formula.now) (env_view env.now) problem.old))) }
     ensures grows { OnOk result (problem.old.vars ≤ problem.new.vars) }
     ensures lits { OnOk result (lits.new.items ≡ lits.old.items) }
 {
     let answer = signed_form(alloc, base, sign, formula, env, problem)?;
-    push_answer(alloc, answer, lits, problem)
+    push_answer(alloc, answer, lits.as_slice(), problem)
+}
+
+/// Says that one of the literals is true, or that two formulas have one truth, or where the sign is false that they
+/// have
+/// not.
+fn push_iff<'a>(
+    alloc: Global,
+    base: &'a GroundData<'a>,
+    sign: bool,
+    left: &'a Formula,
+    right: &'a Formula,
+    env: &'a Env<'a>,
+    lits: &[Lit],
+    problem: &mut Problem,
+) -> Result<(), Memory>
+    requires given { IsGroundBase base.now }
+    requires room { HasVars base.now problem.old }
+    requires left { IsGroundable base.now (formula_view left.now) (env_view env.now) }
+    requires right { IsGroundable base.now (formula_view right.now) (env_view env.now) }
+    requires lits { AreLitsOf problem.old.vars lits.now }
+    ensures made { OnOk result
+        (problem.new ≡ assert_of base.now sign (equivalence (formula_view left.now) (formula_view right.now))
+        (env_view env.now) lits.now problem.old) }
+    ensures grows { OnOk result (problem.old.vars ≤ problem.new.vars) }
+{
+    let first = form(alloc, base, left, env, problem)?;
+    let second = form(alloc, base, right, env, problem)?;
+    push_alike(alloc, sign, first, second, lits, problem)
 }
 
 /// Says that one of the literals is true, or the formula is, or where the sign is false is not.
@@ -120,16 +143,52 @@ fn push<'a>(
     requires room { HasVars base.now problem.old }
     requires fits { IsGroundable base.now (formula_view formula.now) (env_view env.now) }
     requires lits { AreLitsOf problem.old.vars lits.old.items }
-    ensures made { OnOk result (problem.new ≡ assert_of base.now sign (formula_view formula.now) (env_view env.now) lits.old.items problem.old) }
+    ensures made { OnOk result
+        (problem.new ≡ assert_of base.now sign (formula_view formula.now)
+        (env_view env.now) lits.old.items problem.old) }
     ensures grows { OnOk result (problem.old.vars ≤ problem.new.vars) }
     ensures lits { OnOk result (lits.new.items ≡ lits.old.items) }
 {
     match formula {
         Formula::True => push_constant(alloc, sign, lits, problem),
         Formula::False => push_constant(alloc, !sign, lits, problem),
-        Formula::Atom(..) => push_leaf(alloc, base, sign, formula, env, lits, problem),
-        Formula::Compare(..) => push_leaf(alloc, base, sign, formula, env, lits, problem),
-        Formula::Iff(..) => push_leaf(alloc, base, sign, formula, env, lits, problem),
+        Formula::Atom(symbol, args) => {
+            push_atom(
+                alloc,
+                base,
+                sign,
+                *symbol,
+                args,
+                env,
+                lits.as_slice(),
+                problem,
+            )
+        }
+        Formula::Compare(cmp, left, right) => {
+            push_comparison(
+                alloc,
+                base,
+                sign,
+                *cmp,
+                left,
+                right,
+                env,
+                lits.as_slice(),
+                problem,
+            )
+        }
+        Formula::Iff(left, right) => {
+            push_iff(
+                alloc,
+                base,
+                sign,
+                left,
+                right,
+                env,
+                lits.as_slice(),
+                problem,
+            )
+        }
         Formula::Number(..) => push_leaf(alloc, base, sign, formula, env, lits, problem),
         Formula::Not(inner) => push(alloc, base, !sign, inner, env, lits, problem),
         Formula::And(formulas) => push_joined(
@@ -140,8 +199,9 @@ fn push<'a>(
         ),
         Formula::Implies(left, right) => {
             if sign {
-                let first = signed_form(alloc, base, false, left, env, problem)?;
-                push_under(alloc, base, first, right, env, lits, problem)
+                let before = lits.len();
+                let settled = disjuncts(alloc, base, false, left, env, lits, problem)?;
+                push_under(alloc, base, settled, before, right, env, lits, problem)
             } else {
                 push(alloc, base, true, left, env, lits, problem)?;
                 push(alloc, base, false, right, env, lits, problem)
@@ -174,33 +234,66 @@ fn push_constant(
     }
 }
 
-/// The second part of an implication, whose first part has this opposite.
+/// The right part of an implication, under the literals of the left one, unless these settle the whole. The literals
+/// behind the first `before` are cut off.
 #[cycle(sentence)]
 fn push_under<'a>(
     alloc: Global,
     base: &'a GroundData<'a>,
-    first: Answer,
-    second: &'a Formula,
+    settled: bool,
+    before: usize,
+    right: &'a Formula,
     env: &'a Env<'a>,
     lits: &mut Vec<Lit>,
     problem: &mut Problem,
 ) -> Result<(), Memory>
     requires given { IsGroundBase base.now }
     requires room { HasVars base.now problem.old }
-    requires fits { IsGroundable base.now (formula_view second.now) (env_view env.now) }
-    requires first { AnswerWithin problem.old.vars first }
+    requires fits { IsGroundable base.now (formula_view right.now) (env_view env.now) }
     requires lits { AreLitsOf problem.old.vars lits.old.items }
-    ensures made { OnOk result (problem.new ≡ unless_settled (record { answer = first; problem = problem.old }) lits.old.items (λ xs q. assert_of base.now true (formula_view second.now) (env_view env.now) xs q)) }
+    ensures made { OnOk result
+        (problem.new ≡ assert_under base.now settled (formula_view right.now)
+        (env_view env.now) lits.old.items problem.old) }
+    ensures grows { OnOk result (problem.old.vars ≤ problem.new.vars) }
+    ensures lits { OnOk result (lits.new.items ≡ take before lits.old.items) }
+{
+    if settled {
+        lits.truncate(before);
+        return Ok(());
+    }
+    push_last(alloc, base, true, right, env, lits, problem)?;
+    lits.truncate(before);
+    Ok(())
+}
+
+// Where there are many literals the formula is asked for as one answer, so that a long clause is not copied for each of
+// its instances.
+/// The last part of a disjunction, under the literals of the others.
+#[cycle(sentence)]
+fn push_last<'a>(
+    alloc: Global,
+    base: &'a GroundData<'a>,
+    sign: bool,
+    formula: &'a Formula,
+    env: &'a Env<'a>,
+    lits: &mut Vec<Lit>,
+    problem: &mut Problem,
+) -> Result<(), Memory>
+    requires given { IsGroundBase base.now }
+    requires room { HasVars base.now problem.old }
+    requires fits { IsGroundable base.now (formula_view formula.now) (env_view env.now) }
+    requires lits { AreLitsOf problem.old.vars lits.old.items }
+    ensures made { OnOk result
+        (problem.new ≡ assert_last base.now sign (formula_view formula.now)
+        (env_view env.now) lits.old.items problem.old) }
     ensures grows { OnOk result (problem.old.vars ≤ problem.new.vars) }
     ensures lits { OnOk result (lits.new.items ≡ lits.old.items) }
 {
-    let before = lits.len();
-    if add_part(false, first, lits)? {
-        return Ok(());
+    if are_few(lits.as_slice()) {
+        push(alloc, base, sign, formula, env, lits, problem)
+    } else {
+        push_leaf(alloc, base, sign, formula, env, lits, problem)
     }
-    push(alloc, base, true, second, env, lits, problem)?;
-    lits.truncate(before);
-    Ok(())
 }
 
 /// The conjunction of the formulas where `all`, and else their disjunction.
@@ -219,7 +312,9 @@ fn push_joined<'a>(
     requires room { HasVars base.now problem.old }
     requires fits { AreGroundable base.now (formulas_of (map formula_view formulas.now)) (env_view env.now) }
     requires lits { AreLitsOf problem.old.vars lits.old.items }
-    ensures made { OnOk result (problem.new ≡ assert_joined all base.now sign (formulas_of (map formula_view formulas.now)) (env_view env.now) lits.old.items problem.old) }
+    ensures made { OnOk result
+        (problem.new ≡ assert_joined all base.now sign (formulas_of (map formula_view formulas.now))
+        (env_view env.now) lits.old.items problem.old) }
     ensures grows { OnOk result (problem.old.vars ≤ problem.new.vars) }
     ensures lits { OnOk result (lits.new.items ≡ lits.old.items) }
 {
@@ -245,7 +340,8 @@ fn push_all<'a>(
     requires room { HasVars base.now problem.old }
     requires fits { AreGroundable base.now (formulas_of (map formula_view formulas.now)) (env_view env.now) }
     requires lits { AreLitsOf problem.old.vars lits.old.items }
-    ensures made { OnOk result (problem.new ≡ assert_all base.now sign (formulas_of (map formula_view formulas.now)) (env_view env.now) lits.old.items problem.old) }
+    ensures made { OnOk result (problem.new ≡ assert_all base.now sign (formulas_of (map formula_view formulas.now))
+        (env_view env.now) lits.old.items problem.old) }
     ensures grows { OnOk result (problem.old.vars ≤ problem.new.vars) }
     ensures lits { OnOk result (lits.new.items ≡ lits.old.items) }
 {
@@ -270,7 +366,8 @@ fn push_any<'a>(
     requires room { HasVars base.now problem.old }
     requires fits { AreGroundable base.now (formulas_of (map formula_view formulas.now)) (env_view env.now) }
     requires lits { AreLitsOf problem.old.vars lits.old.items }
-    ensures made { OnOk result (problem.new ≡ assert_any base.now sign (formulas_of (map formula_view formulas.now)) (env_view env.now) lits.old.items problem.old) }
+    ensures made { OnOk result (problem.new ≡ assert_any base.now sign (formulas_of (map formula_view formulas.now))
+        (env_view env.now) lits.old.items problem.old) }
     ensures grows { OnOk result (problem.old.vars ≤ problem.new.vars) }
     ensures lits { OnOk result (lits.new.items ≡ lits.old.items) }
 {
@@ -279,13 +376,12 @@ fn push_any<'a>(
     };
     let before = lits.len();
     for formula in others {
-        let answer = signed_form(alloc, base, sign, formula, env, problem)?;
-        if add_part(false, answer, lits)? {
+        if disjuncts(alloc, base, sign, formula, env, lits, problem)? {
             lits.truncate(before);
             return Ok(());
         }
     }
-    push(alloc, base, sign, last, env, lits, problem)?;
+    push_last(alloc, base, sign, last, env, lits, problem)?;
     lits.truncate(before);
     Ok(())
 }
@@ -305,9 +401,11 @@ fn push_quantified<'a>(
 ) -> Result<(), Memory>
     requires given { IsGroundBase base.now }
     requires room { HasVars base.now problem.old }
-    requires fits { AllByRecursion (λ a. IsGroundable base.now (formula_view formula.now) (env_view env.now ++ a)) (choices base.now.domains bounds.now) }
+    requires fits { AllByRecursion (λ a. IsGroundable base.now (formula_view formula.now) (env_view env.now ++ a))
+        (choices base.now.domains bounds.now) }
     requires lits { AreLitsOf problem.old.vars lits.old.items }
-    ensures made { OnOk result (problem.new ≡ assert_quantified all base.now sign bounds.now (formula_view formula.now) (env_view env.now) lits.old.items problem.old) }
+    ensures made { OnOk result (problem.new ≡ assert_quantified all base.now sign bounds.now (formula_view formula.now)
+        (env_view env.now) lits.old.items problem.old) }
     ensures grows { OnOk result (problem.old.vars ≤ problem.new.vars) }
     ensures lits { OnOk result (lits.new.items ≡ lits.old.items) }
 {
@@ -332,9 +430,12 @@ fn push_each<'a>(
 ) -> Result<(), Memory>
     requires given { IsGroundBase base.now }
     requires room { HasVars base.now problem.old }
-    requires fits { AllByRecursion (λ a. IsGroundable base.now (formula_view formula.now) (env_view env.now ++ a)) (choices base.now.domains bounds.now) }
+    requires fits { AllByRecursion (λ a. IsGroundable base.now (formula_view formula.now) (env_view env.now ++ a))
+        (choices base.now.domains bounds.now) }
     requires lits { AreLitsOf problem.old.vars lits.old.items }
-    ensures made { OnOk result (problem.new ≡ fold (λ q x. assert_step base.now sign (formula_view formula.now) lits.old.items q (env_view env.now ++ x)) problem.old (choices base.now.domains bounds.now)) }
+    ensures made { OnOk result
+        (problem.new ≡ fold (λ q x. assert_step base.now sign (formula_view formula.now) lits.old.items q
+        (env_view env.now ++ x)) problem.old (choices base.now.domains bounds.now)) }
     ensures grows { OnOk result (problem.old.vars ≤ problem.new.vars) }
     ensures lits { OnOk result (lits.new.items ≡ lits.old.items) }
 {

@@ -3,8 +3,9 @@
 ghost use Rattle.std.specs.Prelude.{◌≡◌, ◌<◌, ◌≤◌, ◌^◌, [], if◌then◌else◌, length, IfOk, OnOk};
 ghost use Rattle.term_values.specs.GroundBases.{tuples_at, values_at};
 ghost use Rattle.term_values.specs.KnownBases.{IsGroundBase};
+ghost use Rattle.def_ground.specs.Cases.{with_clauses};
 ghost use Rattle.def_ground.specs.Problems.{said_tuples, function_clauses, all_function_clauses, fact_clause, fact_clauses};
-ghost use Rattle.def_ground.specs.Problems.{with_clauses, start_problem};
+ghost use Rattle.def_ground.specs.Problems.{start_problem};
 ghost use Rattle.ground_walk.specs.Groundable.{HasVars, KnowsAtoms};
 
 use def_ground::push_one_of;
@@ -48,7 +49,7 @@ fn push_function(
     let _atoms = base.atoms();
     let mut next = base.first_var(symbol);
     for _tuple in 0..count {
-        push_one_of(alloc, next, values, problem)?;
+        push_one_of(alloc, base, next, values, problem)?;
         next += values.len() as u64;
     }
     Ok(())
@@ -66,7 +67,8 @@ fn push_symbol(
     requires known { KnowsAtoms base.now }
     requires declared { symbol < length base.now.vocabulary.symbols }
     requires room { HasVars base.now problem.old }
-    ensures { OnOk result (problem.new ≡ with_clauses problem.old (if is_function then function_clauses base.now symbol else [])) }
+    ensures { OnOk result (problem.new ≡ with_clauses problem.old
+        (if is_function then function_clauses base.now symbol else [])) }
 {
     if is_function {
         push_function(alloc, base, symbol, problem)

@@ -55,8 +55,10 @@ fn problem(
 ) -> Result<Problem, Memory>
     requires known { AreDataOf vocabulary.now known.now }
     requires few { length vocabulary.now.symbols ≤ 2 ^ 32 }
-    requires fits { AllByRecursion (λ f. IsGroundable (base_of_data vocabulary.now known.now) f []) (map formula_view sentences.now) }
-    ensures { IfOk result (λ p. p ≡ problem_of_sentences (base_of_data vocabulary.now known.now) (map formula_view sentences.now)) }
+    requires fits { AllByRecursion (λ f. IsGroundable (base_of_data vocabulary.now known.now) f [])
+        (map formula_view sentences.now) }
+    ensures { IfOk result (λ p. p ≡ problem_of_sentences (base_of_data vocabulary.now known.now)
+        (map formula_view sentences.now)) }
 {
     let base = GroundData::new(alloc, vocabulary, known)?;
     problem_of(alloc, &base, sentences)

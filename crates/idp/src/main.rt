@@ -6,8 +6,13 @@ mod adapters;
 mod tests;
 
 use adapters::{CountedReader, CountedWriter, FileSystem};
-use file_laws::{files_have_word_names, structures_are_read_back};
-use idp_cli::laws::{printed_bytes_determine_the_replies, statuses_come_where_they_should};
+use file_laws::{
+    files_are_spoken, files_have_word_names, sentences_are_read_back, structures_are_read_back,
+};
+use idp_cli::laws::{
+    printed_bytes_determine_the_replies, statuses_come_where_they_should,
+    what_is_printed_of_a_file_can_be_read,
+};
 use idp_cli::{Status, run};
 use kb_io::NullSink;
 use std::alloc::AllocError;
@@ -35,6 +40,9 @@ fn main(rt: HostRuntime) -> ExitCode {
     printed_bytes_determine_the_replies();
     files_have_word_names();
     structures_are_read_back();
+    files_are_spoken();
+    sentences_are_read_back();
+    what_is_printed_of_a_file_can_be_read();
     let status = match words_of(&rt) {
         Ok(words) => run(
             rt.alloc(),

@@ -28,12 +28,15 @@ one_added g word value a b (inl h) (inr (inl k)) = apart word (codes "--theory")
 one_added g word value a b (inl h) (inr (inr k)) = apart word (codes "--theory") (codes "--budget") refl h.0 k.0
 one_added g word value a b (inr (inl h)) (inl k) = apart word (codes "--structure") (codes "--theory") refl h.0 k.0
 one_added g word value a b (inr (inl h)) (inr (inl k)) = h.1.2 ∙ sym k.1.2
-one_added g word value a b (inr (inl h)) (inr (inr k)) = apart word (codes "--structure") (codes "--budget") refl h.0 k.0
+one_added g word value a b (inr (inl h)) (inr (inr k)) =
+    apart word (codes "--structure") (codes "--budget") refl h.0 k.0
 one_added g word value a b (inr (inr h)) (inl k) = apart word (codes "--budget") (codes "--theory") refl h.0 k.0
-one_added g word value a b (inr (inr h)) (inr (inl k)) = apart word (codes "--budget") (codes "--structure") refl h.0 k.0
+one_added g word value a b (inr (inr h)) (inr (inl k)) =
+    apart word (codes "--budget") (codes "--structure") refl h.0 k.0
 one_added g word value a b (inr (inr h)) (inr (inr k)) =
     let same = one_budget value h.1.1.0 k.1.1.0 h.1.1.1 k.1.1.1 in
-    h.1.1.2 ∙ (ap (λ (x : Option ℕ). record { theory = g.theory; structure = g.structure; budget = Some x }) same ∙ sym k.1.1.2)
+    h.1.1.2 ∙ (ap (λ (x : Option ℕ). record { theory = g.theory; structure = g.structure; budget = Some x }) same
+    ∙ sym k.1.1.2)
 
 pub one_given : (words : List (List ℕ)) (g a b : Given) → Gives g words a → Gives g words b → a ≡ b
 one_given [] g a b h k = h ∙ sym k
@@ -54,7 +57,8 @@ first_of e = cc
 pub rest_of : {x y : List ℕ} {xs ys : List (List ℕ)} → x ∷ xs ≡ y ∷ ys → xs ≡ ys
 rest_of e = cc
 
-pub one_line : (words : List (List ℕ)) (command command' file file' : List ℕ) (a b : Given) → IsCommandLine words command file a
+pub one_line : (words : List (List ℕ)) (command command' file file' : List ℕ) (a b : Given)
+    → IsCommandLine words command file a
     → IsCommandLine words command' file' b → AreOne command command' file file' a b
 one_line words command command' file file' a b h k =
     let all : command ∷ (file ∷ h.options) ≡ command' ∷ (file' ∷ k.options) = sym h.spelled ∙ k.spelled in
@@ -62,7 +66,8 @@ one_line words command command' file file' a b h k =
     record {
       same_command = first_of all;
       same_file = first_of tails;
-      given = one_given k.options nothing_given a b (subst (λ (ws : List (List ℕ)). Gives nothing_given ws a) (rest_of tails) h.given) k.given;
+      given = one_given k.options nothing_given a b
+          (subst (λ (ws : List (List ℕ)). Gives nothing_given ws a) (rest_of tails) h.given) k.given;
     }
 
 no_other : (words : List (List ℕ)) (file file' : List ℕ) (a b : Given) → IsCommandLine words (codes "consult") file a

@@ -9,3 +9,4 @@ mod Consulting
 mod Elimination
 mod OneAnswer
 mod LongFiles
+mod FileLaws

@@ -10,5 +10,10 @@ pub long_file : (c : Choice) (n : ℕ) (file : Option (List ℕ))
     → IfObservable file (λ told. (most_bytes < length told) × (n ≡ newlines (take most_bytes told)))
     → IfObservable file (IsRefusedAt c TooLong (n + 1))
 long_file c n None is = tt
-long_file c n (Some told) is =
-    (record { cause = TooLong; place = most_bytes }, text (record { cause = TooLong; place = most_bytes }) (too_long is.0), refl, ap (λ (x : ℕ). x + 1) is.1)
+long_file c n (Some told) is = (
+  record { cause = TooLong; place = most_bytes },
+  text (record { cause = TooLong; place = most_bytes })
+      (too_long is.0),
+  refl,
+  ap (λ (x : ℕ). x + 1) is.1,
+)

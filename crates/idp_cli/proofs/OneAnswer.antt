@@ -28,11 +28,13 @@ small_budget None k within is = absurd (cc)
 small_budget (Some n) k within is = let same : n ≡ k = cc in omega (arith, within, same)
 
 -- a right reply is one over the knowledge base
-answer_over : (kb : Base) (s : State) (c : Command) (r : Reply) → IsStateOver kb s → RightAnswer kb s c r → IsReplyOver kb r
+answer_over : (kb : Base) (s : State) (c : Command) (r : Reply) → IsStateOver kb s → RightAnswer kb s c r
+    → IsReplyOver kb r
 answer_over kb s (command.Assert l) r over is = let P : Reply → Type 0 = λ r. IsReplyOver kb r in subst P (sym is) tt
 answer_over kb s (command.Retract l) r over is = let P : Reply → Type 0 = λ r. IsReplyOver kb r in subst P (sym is) tt
 answer_over kb s command.Reset r over is = let P : Reply → Type 0 = λ r. IsReplyOver kb r in subst P (sym is) tt
-answer_over kb s command.Choices r over is = let P : Reply → Type 0 = λ r. IsReplyOver kb r in subst P (sym is) over.choices
+answer_over kb s command.Choices r over is = let P : Reply → Type 0 = λ r. IsReplyOver kb r in
+    subst P (sym is) over.choices
 answer_over kb s (command.Budget b) r over is = let P : Reply → Type 0 = λ r. IsReplyOver kb r in subst P (sym is) tt
 answer_over kb s command.Forget r over is = let P : Reply → Type 0 = λ r. IsReplyOver kb r in subst P (sym is) tt
 answer_over kb s command.Model reply.Fine over is = absurd is
@@ -42,17 +44,21 @@ answer_over kb s command.Model (reply.Model m) over is = (is.structure, is.exten
 answer_over kb s command.Model reply.Inconsistent over is = tt
 answer_over kb s command.Model (reply.Undecided k) over is = small_budget s.budget k over.budget is.0
 
-reply_over : (f : Option F) (kb : Base) (s : State) (c : Command) (r : Reply) → IsStateOver kb s → RightUnless f kb s c r → IsReplyOver kb r
+reply_over : (f : Option F) (kb : Base) (s : State) (c : Command) (r : Reply) → IsStateOver kb s
+    → RightUnless f kb s c r → IsReplyOver kb r
 reply_over None kb s c r over is = answer_over kb s c r over is
 reply_over (Some f) kb s c r over is = let P : Reply → Type 0 = λ r. IsReplyOver kb r in subst P (sym is) tt
 
 -- and one to its command
 answer_to : (kb : Base) (s : State) (c : Command) (r : Reply) → RightAnswer kb s c r → IsReplyTo c r
-answer_to kb s (command.Assert l) r is = let P : Reply → Type 0 = λ r. IsReplyTo (command.Assert l) r in subst P (sym is) tt
-answer_to kb s (command.Retract l) r is = let P : Reply → Type 0 = λ r. IsReplyTo (command.Retract l) r in subst P (sym is) tt
+answer_to kb s (command.Assert l) r is = let P : Reply → Type 0 = λ r. IsReplyTo (command.Assert l) r in
+    subst P (sym is) tt
+answer_to kb s (command.Retract l) r is = let P : Reply → Type 0 = λ r. IsReplyTo (command.Retract l) r in
+    subst P (sym is) tt
 answer_to kb s command.Reset r is = let P : Reply → Type 0 = λ r. IsReplyTo command.Reset r in subst P (sym is) tt
 answer_to kb s command.Choices r is = let P : Reply → Type 0 = λ r. IsReplyTo command.Choices r in subst P (sym is) tt
-answer_to kb s (command.Budget b) r is = let P : Reply → Type 0 = λ r. IsReplyTo (command.Budget b) r in subst P (sym is) tt
+answer_to kb s (command.Budget b) r is = let P : Reply → Type 0 = λ r. IsReplyTo (command.Budget b) r in
+    subst P (sym is) tt
 answer_to kb s command.Forget r is = let P : Reply → Type 0 = λ r. IsReplyTo command.Forget r in subst P (sym is) tt
 answer_to kb s command.Model reply.Fine is = absurd is
 answer_to kb s command.Model (reply.Refused f) is = absurd is
@@ -71,8 +77,10 @@ IsSame kb s a b after after' = (reply_of a ≡ reply_of b) × (state_left kb s a
 
 module _ (meanings : (kb : Base) (line : List ℕ) → HasOneMeaning kb line) (texts : NoTwoRepliesHaveOneText) where
   -- two replies to one command
-  same_command : (kb : Base) (s : State) (c : Command) (r q : Reply) (after after' : List ℕ) → HasWordNames kb → IsStateOver kb s
-      → RightReply kb s c r → RightReply kb s c q → reply_text kb.vocabulary r ++ after ≡ reply_text kb.vocabulary q ++ after'
+  same_command : (kb : Base) (s : State) (c : Command) (r q : Reply) (after after' : List ℕ) → HasWordNames kb
+      → IsStateOver kb s
+      → RightReply kb s c r → RightReply kb s c q
+      → reply_text kb.vocabulary r ++ after ≡ reply_text kb.vocabulary q ++ after'
       → IsSame kb s (replied c r) (replied c q) after after'
   same_command kb s c r q after after' names over right right' same =
       let f = command_refusal kb s c in
@@ -86,45 +94,59 @@ module _ (meanings : (kb : Base) (line : List ℕ) → HasOneMeaning kb line) (t
       one : (x y : Meaning) → Means kb line x → Means kb line y → x ≡ y
       one = meanings kb line
 
-      go : (a b : Said) → IsRightAnswer kb s line a → IsRightAnswer kb s line b → said_text kb.vocabulary a ++ after ≡ said_text kb.vocabulary b ++ after' → IsSame kb s a b after after'
+      go : (a b : Said) → IsRightAnswer kb s line a → IsRightAnswer kb s line b
+          → said_text kb.vocabulary a ++ after ≡ said_text kb.vocabulary b ++ after' → IsSame kb s a b after after'
       go nothing nothing right right' same = (refl, refl, same)
       go nothing too_long right right' same = absurd (omega (arith, right.0, right'))
-      go nothing (refused f) right right' same = absurd (let clash : ⊥ = cc (one (Ok None) (Err f) right.1 right'.1) in clash)
-      go nothing (replied c r) right right' same = absurd (let clash : ⊥ = cc (one (Ok None) (Ok (Some c)) right.1 right'.1) in clash)
+      go nothing (refused f) right right' same =
+          absurd (let clash : ⊥ = cc (one (Ok None) (Err f) right.1 right'.1) in clash)
+      go nothing (replied c r) right right' same =
+          absurd (let clash : ⊥ = cc (one (Ok None) (Ok (Some c)) right.1 right'.1) in clash)
       go too_long nothing right right' same = absurd (omega (arith, right, right'.0))
-      go too_long too_long right right' same = (refl, refl, append_cancel_left (said_text kb.vocabulary too_long) after after' same)
+      go too_long too_long right right' same =
+          (refl, refl, append_cancel_left (said_text kb.vocabulary too_long) after after' same)
       go too_long (refused f) right right' same = absurd (omega (arith, right, right'.0))
       go too_long (replied c r) right right' same = absurd (omega (arith, right, right'.0))
-      go (refused f) nothing right right' same = absurd (let clash : ⊥ = cc (one (Err f) (Ok None) right.1 right'.1) in clash)
+      go (refused f) nothing right right' same =
+          absurd (let clash : ⊥ = cc (one (Err f) (Ok None) right.1 right'.1) in clash)
       go (refused f) too_long right right' same = absurd (omega (arith, right.0, right'))
       go (refused f) (refused g) right right' same =
           let is : f ≡ g = cc (one (Err f) (Err g) right.1 right'.1) in
-          let tails = append_cancel_left (said_text kb.vocabulary (refused g)) after after' (ap (λ (h : F). said_text kb.vocabulary (refused h) ++ after) (sym is) ∙ same) in
+          let tails = append_cancel_left (said_text kb.vocabulary (refused g)) after after'
+          (ap (λ (h : F). said_text kb.vocabulary (refused h) ++ after) (sym is) ∙ same) in
           (ap (λ (h : F). Some (reply.Refused h)) is, refl, tails)
-      go (refused f) (replied c r) right right' same = absurd (let clash : ⊥ = cc (one (Err f) (Ok (Some c)) right.1 right'.1) in clash)
-      go (replied c r) nothing right right' same = absurd (let clash : ⊥ = cc (one (Ok (Some c)) (Ok None) right.1 right'.1) in clash)
+      go (refused f) (replied c r) right right' same =
+          absurd (let clash : ⊥ = cc (one (Err f) (Ok (Some c)) right.1 right'.1) in clash)
+      go (replied c r) nothing right right' same =
+          absurd (let clash : ⊥ = cc (one (Ok (Some c)) (Ok None) right.1 right'.1) in clash)
       go (replied c r) too_long right right' same = absurd (omega (arith, right.0, right'))
-      go (replied c r) (refused f) right right' same = absurd (let clash : ⊥ = cc (one (Ok (Some c)) (Err f) right.1 right'.1) in clash)
+      go (replied c r) (refused f) right right' same =
+          absurd (let clash : ⊥ = cc (one (Ok (Some c)) (Err f) right.1 right'.1) in clash)
       go (replied c r) (replied d q) right right' same =
           let is : c ≡ d = cc (one (Ok (Some c)) (Ok (Some d)) right.1 right'.1) in
           let right_q = subst (λ (e : Command). RightReply kb s e q) (sym is) right'.2 in
           let both = same_command kb s c r q after after' names over right.2 right_q same in
           (both.0, ap (state_after kb s) is, both.2)
 
-all_append : {T : Type 0} (W : T → Type 0) (xs ys : List T) → AllByRecursion W xs → AllByRecursion W ys → AllByRecursion W (xs ++ ys)
+all_append : {T : Type 0} (W : T → Type 0) (xs ys : List T) → AllByRecursion W xs → AllByRecursion W ys
+    → AllByRecursion W (xs ++ ys)
 all_append W [] ys front back = back
 all_append W (x ∷ xs) ys front back = (front.0, all_append W xs ys front.1 back)
 
-all_filter : {T : Type 0} (W : T → Type 0) (passes : T → Bool) (xs : List T) → AllByRecursion W xs → AllByRecursion W (filter passes xs)
+all_filter : {T : Type 0} (W : T → Type 0) (passes : T → Bool) (xs : List T) → AllByRecursion W xs
+    → AllByRecursion W (filter passes xs)
 all_filter W passes [] all = tt
 all_filter {T} W passes (x ∷ xs) all =
     elim (passes x) as (λ (b : Bool). AllByRecursion W (cond b (x ∷ filter passes xs) (filter passes xs)))
     [ true ↦ (all.0, all_filter W passes xs all.1) | false ↦ all_filter W passes xs all.1 ]
 
 -- a budget that a line gives is in its range
-budget_asked : (kb : Base) (w : WrittenCommand) (b : Option ℕ) → IsWellFormed w → Asks kb w (command.Budget b) → IsBudgetInRange b
-budget_asked kb (written.budget text) b formed is = let P : Option ℕ → Type 0 = λ b. IsBudgetInRange b in subst P (sym is) formed.most
-budget_asked kb written.unlimited b formed is = let P : Option ℕ → Type 0 = λ b. IsBudgetInRange b in subst P (sym is) tt
+budget_asked : (kb : Base) (w : WrittenCommand) (b : Option ℕ) → IsWellFormed w → Asks kb w (command.Budget b)
+    → IsBudgetInRange b
+budget_asked kb (written.budget text) b formed is = let P : Option ℕ → Type 0 = λ b. IsBudgetInRange b in
+    subst P (sym is) formed.most
+budget_asked kb written.unlimited b formed is = let P : Option ℕ → Type 0 = λ b. IsBudgetInRange b in
+    subst P (sym is) tt
 budget_asked kb (written.assert l) b formed is = absurd is
 budget_asked kb (written.retract l) b formed is = absurd is
 budget_asked kb written.reset b formed is = absurd is
@@ -132,11 +154,15 @@ budget_asked kb written.choices b formed is = absurd is
 budget_asked kb written.model b formed is = absurd is
 budget_asked kb written.forget b formed is = absurd is
 
-carried_over : (kb : Base) (s : State) (c : Command) (line : List ℕ) → IsStateOver kb s → IsCommandOver kb c → HasCommand kb line c → IsStateOver kb (carried_out s c)
+carried_over : (kb : Base) (s : State) (c : Command) (line : List ℕ) → IsStateOver kb s → IsCommandOver kb c
+    → HasCommand kb line c → IsStateOver kb (carried_out s c)
 carried_over kb s (command.Assert l) line over is has =
     record { choices = all_append (IsLiteralOver kb) s.choices (l ∷ []) over.choices (is, tt); budget = over.budget }
 carried_over kb s (command.Retract l) line over is has =
-    record { choices = all_filter (IsLiteralOver kb) (λ c. not (same_literal l c)) s.choices over.choices; budget = over.budget }
+    record {
+      choices = all_filter (IsLiteralOver kb) (λ c. not (same_literal l c)) s.choices over.choices;
+      budget = over.budget;
+    }
 carried_over kb s command.Reset line over is has = record { choices = tt; budget = over.budget }
 carried_over kb s command.Choices line over is has = over
 carried_over kb s command.Model line over is has = over
@@ -144,26 +170,32 @@ carried_over kb s (command.Budget b) line over is has =
     record { choices = over.choices; budget = budget_asked kb has.0 b has.1.formed has.2 }
 carried_over kb s command.Forget line over is has = over
 
-unless_over : (kb : Base) (f : Option F) (s t : State) → IsStateOver kb s → IsStateOver kb t → IsStateOver kb (unless_refused f s t)
+unless_over : (kb : Base) (f : Option F) (s t : State) → IsStateOver kb s → IsStateOver kb t
+    → IsStateOver kb (unless_refused f s t)
 unless_over kb None s t before after = after
 unless_over kb (Some f) s t before after = before
 
 module _ (commands : CommandsAreOverTheBase) where
-  left_over : (kb : Base) (s : State) (line : List ℕ) (said : Said) → IsStateOver kb s → IsRightAnswer kb s line said → IsStateOver kb (state_left kb s said)
+  left_over : (kb : Base) (s : State) (line : List ℕ) (said : Said) → IsStateOver kb s → IsRightAnswer kb s line said
+      → IsStateOver kb (state_left kb s said)
   left_over kb s line nothing over right = over
   left_over kb s line too_long over right = over
   left_over kb s line (refused f) over right = over
   left_over kb s line (replied c r) over right =
-      unless_over kb (command_refusal kb s c) s (carried_out s c) over (carried_over kb s c line over (commands kb line c right.1) right.1)
+      unless_over kb (command_refusal kb s c) s (carried_out s c) over
+      (carried_over kb s c line over (commands kb line c right.1) right.1)
 
-  consulted_over : (kb : Base) (s : State) (lines : List (List ℕ)) (said : List Said) (t : State) → IsStateOver kb s → Consultation kb s lines said t → IsStateOver kb t
+  consulted_over : (kb : Base) (s : State) (lines : List (List ℕ)) (said : List Said) (t : State) → IsStateOver kb s
+      → Consultation kb s lines said t → IsStateOver kb t
   consulted_over kb s [] [] t over is = let P : State → Type 0 = λ t. IsStateOver kb t in subst P (sym is) over
   consulted_over kb s [] (a ∷ said) t over is = absurd is
   consulted_over kb s (line ∷ lines) [] t over is = absurd is
-  consulted_over kb s (line ∷ lines) (a ∷ said) t over is = consulted_over kb (state_left kb s a) lines said t (left_over kb s line a over is.0) is.1
+  consulted_over kb s (line ∷ lines) (a ∷ said) t over is =
+      consulted_over kb (state_left kb s a) lines said t (left_over kb s line a over is.0) is.1
 
   pub states_over : StatesLaw
-  states_over kb budget lines said t within is = consulted_over kb (first_state budget) lines said t (record { choices = tt; budget = within }) is
+  states_over kb budget lines said t within is =
+      consulted_over kb (first_state budget) lines said t (record { choices = tt; budget = within }) is
 
 module _ (commands : CommandsAreOverTheBase) (one : OneAnswerLaw) where
   pub one_consultation : OneConsultationLaw
@@ -175,5 +207,6 @@ module _ (commands : CommandsAreOverTheBase) (one : OneAnswerLaw) where
   one_consultation kb s t u (line ∷ lines) (x ∷ a) (y ∷ b) names over is is' same =
       let first = one kb s line x y (said_texts kb a) (said_texts kb b) names over is.0 is'.0 same in
       let later = subst (λ (v : State). Consultation kb v lines b u) (sym first.1) is'.1 in
-      let more = one_consultation kb (state_left kb s x) t u lines a b names (left_over commands kb s line x over is.0) is.1 later first.2 in
+      let more = one_consultation kb (state_left kb s x) t u lines a b names (left_over commands kb s line x over is.0)
+      is.1 later first.2 in
       λ i. first.0 i ∷ more i

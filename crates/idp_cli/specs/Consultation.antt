@@ -56,7 +56,8 @@ Consultation kb s (line ∷ lines) [] t = ⊥
 Consultation kb s (line ∷ lines) (said ∷ more) t = IsRightAnswer kb s line said × Consultation kb
     (state_left kb s said) lines more t
 
--- the lines have their right answers from the state `first` on, they leave t, and out grew by exactly the answers' bytes
+-- the lines have their right answers from the state `first` on, they leave t, and out grew by exactly the answers'
+-- bytes
 abbrev pub AnswersTo : Base → State → List (List ℕ) → State → Option (List ℕ) → Option (List ℕ) → Type 0
 AnswersTo kb first lines t old new = (said : List Said) × Consultation kb first lines said t × Appends old new
     (said_texts kb said)

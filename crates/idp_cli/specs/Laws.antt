@@ -58,7 +58,8 @@ ShortLaw = (words : Words) (before now : Outside) (file bytes script : List ℕ)
     → before.streams.script ≡ Some script → length script ≤ most_bytes
     → RunEnds status.ScriptTooLong words before now → ⊥
 
--- where a file that means something is consulted about and the commands are within their limit, all of them are answered
+-- where a file that means something is consulted about and the commands are within their limit, all of them are
+-- answered
 abbrev pub DoneLaw : Type 0
 DoneLaw = (s : Status) (words : Words) (before now : Outside) (file bytes script : List ℕ) (c : Choice)
     (budget : Option ℕ) (m : Meaning) → Asks (texts_of words) (consult file c budget)

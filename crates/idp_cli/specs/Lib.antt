@@ -10,4 +10,5 @@ pub mod Runs
 pub mod Printing
 pub mod Laws
 pub mod OneAnswer
+pub mod FileLaws
 pub mod Codes

@@ -49,12 +49,14 @@ pub record SaysInPart (text : List ℕ) (before now : Outside) : Type 0 where
   pub out : AppendsPrefix before.streams.out now.streams.out text
 
 -- the lines of the commands were answered by what the file means, as far as both are observable
-pub record AnswersByFile (s : Status) (file : List ℕ) (c : Choice) (budget : Option ℕ) (before now : Outside) : Type 0 where
+pub record AnswersByFile (s : Status) (file : List ℕ) (c : Choice)
+    (budget : Option ℕ) (before now : Outside) : Type 0 where
   pub shelf : now.shelf_faults ≡ before.shelf_faults
   pub reason : HasReason s before.streams now.streams
   pub answers : IfObservable (before.files file) (λ bytes. (m : Meaning) × FileMeans c bytes m
       × IfObservable before.streams.script
-      (λ script. AnswersScript s (base_of_meaning m) (first_state budget) script now.streams.script before.streams.out now.streams.out))
+      (λ script. AnswersScript s (base_of_meaning m) (first_state budget) script now.streams.script before.streams.out
+      now.streams.out))
 
 -- nothing was printed and no command was taken, since the file could not be read
 abbrev pub FailsToRead : Outside → Outside → Type 0
@@ -87,7 +89,8 @@ ConsultationEnds status.WriteFault file c budget before now =
 ConsultationEnds status.Memory file c budget before now =
     StaysAsBefore before now ⊎ AnswersByFile status.Memory file c budget before now
 ConsultationEnds status.Done file c budget before now = AnswersByFile status.Done file c budget before now
-ConsultationEnds status.ScriptTooLong file c budget before now = AnswersByFile status.ScriptTooLong file c budget before now
+ConsultationEnds status.ScriptTooLong file c budget before now =
+    AnswersByFile status.ScriptTooLong file c budget before now
 
 -- the canonical text of the structure that is chosen
 abbrev pub structure_text : Meaning → List ℕ
@@ -96,7 +99,8 @@ structure_text m = block_text m.file.vocabulary m.structure m.known
 -- the structure is printed, or a part of it; the file means it where it is observable
 abbrev pub PrintsStructure : (List ℕ → Outside → Outside → Type 0) → List ℕ → Choice → Outside → Outside → Type 0
 PrintsStructure Prints file c before now =
-    (m : Meaning) × IfObservable (before.files file) (λ bytes. FileMeans c bytes m) × Prints (structure_text m) before now
+    (m : Meaning) × IfObservable (before.files file) (λ bytes. FileMeans c bytes m)
+    × Prints (structure_text m) before now
 
 -- What each status says of a check of this file: no command is taken, and nothing is written but the structure or that
 -- the file is refused.

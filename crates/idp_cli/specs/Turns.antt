@@ -76,4 +76,5 @@ pub record ConsultantState : Type 0 where
 
 -- a consultant that has read no line
 abbrev pub just_opened : Opened → Option ℕ → ConsultantState
-just_opened kb budget = record { kb = kb; state = first_state budget; lines = record { taken = 0; ahead = []; line = [] } }
+just_opened kb budget =
+    record { kb = kb; state = first_state budget; lines = record { taken = 0; ahead = []; line = [] } }

@@ -20,7 +20,8 @@ use std::marker::Model;
 /// The reply to a line; none to a blank one.
 fn reply_to(alloc: Global, session: &mut Session, line: &[u8]) -> Result<Option<Reply>, Memory>
     requires { length line.now ≤ longest_line }
-    ensures right { IfOk result (λ reply. RepliesTo (base_of session.old.kb) session.old.state line.now reply session.new.state) }
+    ensures right { IfOk result
+        (λ reply. RepliesTo (base_of session.old.kb) session.old.state line.now reply session.new.state) }
     ensures kb { session.new.kb ≡ session.old.kb }
 {
     commands_are_over_the_base();
@@ -72,7 +73,8 @@ impl Consultant {
 
     /// Writes a reply and flushes.
     fn write<W: Sink>(&mut self, reply: &Reply, out: &mut W) -> Result<(), Status>
-        ensures written { Writes result (reply_text self.old.kb.typed.vocab reply.now) (W.holds out.old) (W.holds out.new)
+        ensures written { Writes result (reply_text self.old.kb.typed.vocab reply.now) (W.holds out.old)
+            (W.holds out.new)
             (W.faults out.old) (W.faults out.new) }
         ensures kept { self.new ≡ self.old }
     {

@@ -74,7 +74,8 @@ fn budget_in(text: &str) -> Option<Option<u64>>
 
 /// What is given with this theory's name.
 fn with_theory<'a>(given: Given<'a>, name: &'a str) -> Option<Given<'a>>
-    ensures { MatchOption result ((next : asked.Given) → AddsTheory (given_view given.entry) name.now next → ⊥) (λ all. AddsTheory (given_view given.entry) name.now (given_view all)) }
+    ensures { MatchOption result ((next : asked.Given) → AddsTheory (given_view given.entry) name.now next
+        → ⊥) (λ all. AddsTheory (given_view given.entry) name.now (given_view all)) }
 {
     if given.options.theory.is_some() {
         return None;
@@ -93,7 +94,8 @@ fn with_theory<'a>(given: Given<'a>, name: &'a str) -> Option<Given<'a>>
 
 /// What is given with this structure's name.
 fn with_structure<'a>(given: Given<'a>, name: &'a str) -> Option<Given<'a>>
-    ensures { MatchOption result ((next : asked.Given) → AddsStructure (given_view given.entry) name.now next → ⊥) (λ all. AddsStructure (given_view given.entry) name.now (given_view all)) }
+    ensures { MatchOption result ((next : asked.Given) → AddsStructure (given_view given.entry) name.now next
+        → ⊥) (λ all. AddsStructure (given_view given.entry) name.now (given_view all)) }
 {
     if given.options.structure.is_some() {
         return None;
@@ -112,7 +114,8 @@ fn with_structure<'a>(given: Given<'a>, name: &'a str) -> Option<Given<'a>>
 
 /// What is given with this budget.
 fn with_budget<'a>(given: Given<'a>, text: &str) -> Option<Given<'a>>
-    ensures { MatchOption result ((next : asked.Given) → AddsBudget (given_view given.entry) text.now next → ⊥) (λ all. AddsBudget (given_view given.entry) text.now (given_view all)) }
+    ensures { MatchOption result ((next : asked.Given) → AddsBudget (given_view given.entry) text.now next
+        → ⊥) (λ all. AddsBudget (given_view given.entry) text.now (given_view all)) }
 {
     if given.budget.is_some() {
         return None;
@@ -128,7 +131,8 @@ fn with_budget<'a>(given: Given<'a>, text: &str) -> Option<Given<'a>>
 
 /// What is given with this option and its value.
 fn added<'a>(given: Given<'a>, option: &str, value: &'a str) -> Option<Given<'a>>
-    ensures { MatchOption result ((next : asked.Given) → Adds (given_view given.entry) option.now value.now next → ⊥) (λ all. Adds (given_view given.entry) option.now value.now (given_view all)) }
+    ensures { MatchOption result ((next : asked.Given) → Adds (given_view given.entry) option.now value.now next
+        → ⊥) (λ all. Adds (given_view given.entry) option.now value.now (given_view all)) }
 {
     match option {
         "--theory" => with_theory(given, value),
@@ -140,7 +144,8 @@ fn added<'a>(given: Given<'a>, option: &str, value: &'a str) -> Option<Given<'a>
 
 /// What these options with their values give.
 fn options_of(words: &[String]) -> Option<Given<'_>>
-    ensures { MatchOption result ((all : asked.Given) → Gives nothing_given (texts_of words.now) all → ⊥) (λ all. Gives nothing_given (texts_of words.now) (given_view all)) }
+    ensures { MatchOption result ((all : asked.Given) → Gives nothing_given (texts_of words.now) all
+        → ⊥) (λ all. Gives nothing_given (texts_of words.now) (given_view all)) }
 {
     let mut given = Given {
         options: Options {
@@ -167,7 +172,9 @@ fn options_of(words: &[String]) -> Option<Given<'_>>
 
 /// The file of a command line, and what its options give.
 fn command_line(words: &[String]) -> Option<(&str, &str, Given<'_>)>
-    ensures { MatchOption result ((command file : List ℕ) (all : asked.Given) → IsCommandLine (texts_of words.now) command file all → ⊥) (λ line. IsCommandLine (texts_of words.now) line.0.now line.1.now (given_view line.2)) }
+    ensures { MatchOption result ((command file : List ℕ) (all : asked.Given)
+        → IsCommandLine (texts_of words.now) command file all
+        → ⊥) (λ line. IsCommandLine (texts_of words.now) line.0.now line.1.now (given_view line.2)) }
 {
     let Some((command, behind)) = words.split_first() else {
         return None;

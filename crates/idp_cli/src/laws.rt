@@ -1,9 +1,11 @@
 //! Laws on how a run ends, and on what it prints. The functions do nothing else: their contracts are laws.
 ghost use Rattle.idp_cli.specs.Laws.{UsageLaw, CommandLaw, RefusalLaw, TakingLaw, LengthLaw, ShortLaw, DoneLaw, CheckedLaw};
 ghost use Rattle.idp_cli.specs.OneAnswer.{OneAnswerLaw, OneConsultationLaw, StatesLaw};
+ghost use Rattle.idp_cli.specs.FileLaws.{FileRepliesLaw, CheckedIsReadBackLaw};
 
 use base_reader::{accepted_or_refused, one_file_refusal};
 use consult_text::{commands_are_over_the_base, no_two_replies_have_one_text, one_meaning};
+use file_laws::{files_have_word_names, structures_are_read_back};
 
 /// Usage, a refusal, ScriptTooLong and Done come exactly where they should, unless a device failed or memory ran out.
 pub fn statuses_come_where_they_should()
@@ -32,4 +34,15 @@ pub fn printed_bytes_determine_the_replies()
     one_meaning();
     commands_are_over_the_base();
     no_two_replies_have_one_text();
+}
+
+/// What is printed about a file can be read, whatever the file: over what it means, the printed bytes determine the
+/// replies; and where a check is done, the printed text is read back as the structure that was checked.
+pub fn what_is_printed_of_a_file_can_be_read()
+    ensures replies { FileRepliesLaw }
+    ensures checked { CheckedIsReadBackLaw }
+{
+    printed_bytes_determine_the_replies();
+    files_have_word_names();
+    structures_are_read_back();
 }

@@ -79,7 +79,8 @@ pub fn load<H: Shelf>(
     name: &str,
     options: Options<'_>,
 ) -> Result<KnowledgeBase, LoadError>
-    ensures loaded { Loads (choice_view options.entry) result (H.file shelf.old name.now) (H.faults shelf.old) (H.faults shelf.new) }
+    ensures loaded { Loads (choice_view options.entry) result (H.file shelf.old name.now) (H.faults shelf.old)
+        (H.faults shelf.new) }
     ensures asked { GrewByName (H.asked shelf.old) (H.asked shelf.new) name.now }
     ensures closed { KeptNumber (H.open_sources shelf.old) (H.open_sources shelf.new) }
 {

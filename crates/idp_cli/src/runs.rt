@@ -73,7 +73,8 @@ fn check<H: Shelf, W: Sink>(
     shelf: &mut H,
     out: &mut W,
 ) -> Status
-    ensures ends { (script : Option (List ℕ)) (script_faults : ℕ) → CheckEnds result name.now (choice_view options.entry)
+    ensures ends { (script : Option (List ℕ)) (script_faults : ℕ)
+        → CheckEnds result name.now (choice_view options.entry)
         (outside (H.file shelf.old) (H.faults shelf.old)
         (streams script script_faults (W.holds out.old) (W.faults out.old)))
         (outside (H.file shelf.new) (H.faults shelf.new)

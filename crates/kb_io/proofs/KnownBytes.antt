@@ -11,7 +11,8 @@ consumes_none None = tt
 consumes_none (Some xs) = refl
 
 -- one taking after another
-pub consumes_more : (a b c : Option (List ℕ)) (xs ys : List ℕ) → Consumes a b xs → Consumes b c ys → Consumes a c (xs ++ ys)
+pub consumes_more : (a b c : Option (List ℕ)) (xs ys : List ℕ) → Consumes a b xs → Consumes b c ys
+    → Consumes a c (xs ++ ys)
 consumes_more None b c xs ys p q = tt
 consumes_more (Some ps) None c xs ys p q = absurd p
 consumes_more (Some ps) (Some bs) None xs ys p q = absurd q
@@ -55,7 +56,8 @@ keeps_more (Some ps) (Some bs) None p q = absurd q
 keeps_more (Some ps) (Some bs) (Some cs) p q = q ∙ p
 
 -- the names grew, and then stayed
-pub names_kept : (a b c : Option (List (List ℕ))) (name : List ℕ) → GrewByName a b name → KeptNames b c → GrewByName a c name
+pub names_kept : (a b c : Option (List (List ℕ))) (name : List ℕ) → GrewByName a b name → KeptNames b c
+    → GrewByName a c name
 names_kept a b None name p q = tt
 names_kept None None (Some cs) name p q = absurd q
 names_kept None (Some bs) (Some cs) name p q = absurd p

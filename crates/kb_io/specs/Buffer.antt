@@ -53,4 +53,8 @@ pub record IsSound (buffer : Buffer) : Type 0 where
   pub taken : buffer.taken ≤ most_bytes + 1
 
 abbrev pub pending : Buffer → Pending
-pending buffer = record { taken = buffer.taken; ahead = begun buffer.line ++ unread buffer; line = answered buffer.line }
+pending buffer = record {
+  taken = buffer.taken;
+  ahead = begun buffer.line ++ unread buffer;
+  line = answered buffer.line;
+}

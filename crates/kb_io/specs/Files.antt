@@ -18,7 +18,8 @@ pub record ShelfState : Type 0 where
 -- the source of the first file of this name
 abbrev pub source_named : List MemFile → List ℕ → Option SourceState
 source_named [] name = None
-source_named (file ∷ files) name = if bytes_eq (string_bytes file.name) name then Some file.source else source_named files name
+source_named (file ∷ files) name = if bytes_eq (string_bytes file.name) name then Some file.source
+    else source_named files name
 
 -- the bytes that the first file of this name has left
 abbrev pub file_named : List MemFile → List ℕ → Option (List ℕ)

@@ -27,7 +27,8 @@ FinishesLast End old new = (begun old ≡ []) × (new ≡ old)
 -- the line under way ends within the bytes that are unread, or takes them all
 abbrev pub Cuts : Option Next → Buffer → Buffer → Type 0
 Cuts None old new =
-    (newlines (unread old) ≡ 0) × (new.at ≡ new.end) × IsUnderWay new.line × StandsFor (begun new.line) (begun old.line ++ unread old)
+    (newlines (unread old) ≡ 0) × (new.at ≡ new.end) × IsUnderWay new.line
+    × StandsFor (begun new.line) (begun old.line ++ unread old)
 Cuts (Some Line) old new =
     (piece : List ℕ) × (unread old ≡ piece ++ 10 ∷ unread new) × (newlines piece ≡ 0) × (begun new.line ≡ [])
     × (answered new.line ≡ begun old.line ++ piece) × (length (begun old.line ++ piece) ≤ longest_line)
@@ -39,8 +40,11 @@ Cuts (Some End) old new = ⊥
 -- a chunk is taken of the source, at most one byte of it beyond the bytes that may be taken
 abbrev pub Refills : Result ℕ LineError → Buffer → Buffer → Option (List ℕ) → Option (List ℕ) → ℕ → ℕ → Type 0
 Refills (Ok n) old new left left' before now =
-    Consumes left left' (unread new) × (length (unread new) ≡ n) × (new.taken ≡ old.taken + n) × (new.taken ≤ most_bytes) × (n ≡ 0 → IsAtEnd left') × (now ≡ before)
+    Consumes left left' (unread new) × (length (unread new) ≡ n) × (new.taken ≡ old.taken + n)
+    × (new.taken ≤ most_bytes) × (n ≡ 0 → IsAtEnd left') × (now ≡ before)
 Refills (Err Fault) old new left left' before now =
-    (new.at ≡ new.end) × Keeps left left' × (new.taken ≡ old.taken) × (new.taken ≤ most_bytes) × (before ≤ now) × Rose before now
+    (new.at ≡ new.end) × Keeps left left' × (new.taken ≡ old.taken) × (new.taken ≤ most_bytes) × (before ≤ now)
+    × Rose before now
 Refills (Err TooLong) old new left left' before now =
-    (beyond : List ℕ) × (new.at ≡ new.end) × Consumes left left' beyond × (new.taken ≡ old.taken + length beyond) × (new.taken ≡ most_bytes + 1) × (length beyond ≤ 1) × (now ≡ before)
+    (beyond : List ℕ) × (new.at ≡ new.end) × Consumes left left' beyond × (new.taken ≡ old.taken + length beyond)
+    × (new.taken ≡ most_bytes + 1) × (length beyond ≤ 1) × (now ≡ before)

@@ -26,12 +26,14 @@ ended (line ∷ lines) = line ++ 10 ∷ ended lines
 -- line that is not empty and may end with the bytes.
 pub record AreCutAtNewlines (bytes : List ℕ) (lines : List (List ℕ)) : Type 0 where
   pub whole : AllByRecursion (λ line. newlines line ≡ 0) lines
-  pub cut : (bytes ≡ ended lines) ⊎ ((front : List (List ℕ)) × (last : List ℕ) × (lines ≡ front ++ last ∷ []) × (0 < length last) × (bytes ≡ ended front ++ last))
+  pub cut : (bytes ≡ ended lines) ⊎ ((front : List (List ℕ)) × (last : List ℕ) × (lines ≡ front ++ last ∷ [])
+      × (0 < length last) × (bytes ≡ ended front ++ last))
 
 -- The first line of these bytes is `line`, and `rest` follows it: it ends by a newline, or by the end of the input
 -- where it is not empty.
 abbrev pub IsNextLine : List ℕ → List ℕ → List ℕ → Option (List ℕ) → Type 0
-IsNextLine bytes line rest left = (newlines line ≡ 0) × ((bytes ≡ line ++ 10 ∷ rest) ⊎ ((bytes ≡ line) × (0 < length line) × (rest ≡ []) × IsAtEnd left))
+IsNextLine bytes line rest left = (newlines line ≡ 0)
+    × ((bytes ≡ line ++ 10 ∷ rest) ⊎ ((bytes ≡ line) × (0 < length line) × (rest ≡ []) × IsAtEnd left))
 
 -- the longest line that is kept
 abbrev pub longest_line : ℕ
@@ -53,7 +55,8 @@ StandsFor kept bytes = (kept ≡ bytes) ⊎ (IsLong kept × IsLong bytes)
 abbrev pub BeginsLines : List ℕ → Option (List ℕ) → List ℕ → List ℕ → Option (List ℕ) → Type 0
 BeginsLines ahead None line rest left = Unit {0}
 BeginsLines ahead (Some before) line rest None = ⊥
-BeginsLines ahead (Some before) line rest (Some now) = command_lines (ahead ++ before) ≡ line ∷ command_lines (rest ++ now)
+BeginsLines ahead (Some before) line rest (Some now) =
+    command_lines (ahead ++ before) ≡ line ∷ command_lines (rest ++ now)
 
 -- what is ahead and left has no line
 abbrev pub HasNoLines : List ℕ → Option (List ℕ) → Type 0

@@ -19,7 +19,8 @@ pub record Pending : Type 0 where
 abbrev pub most_bytes : ℕ
 most_bytes = 67108864
 
--- The bytes that were taken of the source follow those that were ahead, and all of them begin with this line. `left` and
+-- The bytes that were taken of the source follow those that were ahead, and all of them begin with this line. `left`
+-- and
 -- `left'` are what is observed to be left of the source before and after.
 pub record TakesLine (line : List ℕ) (old new : Pending) (left left' : Option (List ℕ)) : Type 0 where
   pub bytes : List ℕ
@@ -64,7 +65,8 @@ abbrev pub NextLine : Result Next LineError → Pending → Pending → Option (
 NextLine (Ok Line) old new left left' before now =
     (now ≡ before) × TakesLine new.line old new left left' × (length new.line ≤ longest_line)
 NextLine (Ok LongLine) old new left left' before now =
-    (now ≡ before) × ((line : List ℕ) × TakesLine line old new left left' × (longest_line < length line)) × (new.line ≡ [])
+    (now ≡ before) × ((line : List ℕ) × TakesLine line old new left left' × (longest_line < length line))
+    × (new.line ≡ [])
 NextLine (Ok End) old new left left' before now = (now ≡ before) × FindsEnd old new left left'
 NextLine (Err Fault) old new left left' before now = (before ≤ now) × Rose before now × BreaksOff old new left left'
 NextLine (Err TooLong) old new left left' before now = (now ≡ before) × GoesBeyond old new left left'
@@ -73,7 +75,8 @@ NextLine (Err TooLong) old new left left' before now = (now ≡ before) × GoesB
 -- were ahead and left, and the others are ahead and left then.
 abbrev pub GivesLine : Result Next LineError → Pending → Pending → Option (List ℕ) → Option (List ℕ) → Type 0
 GivesLine (Ok Line) old new left left' = BeginsLines old.ahead left new.line new.ahead left'
-GivesLine (Ok LongLine) old new left left' = (line : List ℕ) × (longest_line < length line) × BeginsLines old.ahead left line new.ahead left'
+GivesLine (Ok LongLine) old new left left' = (line : List ℕ) × (longest_line < length line)
+    × BeginsLines old.ahead left line new.ahead left'
 GivesLine (Ok End) old new left left' = HasNoLines old.ahead left
 GivesLine (Err Fault) old new left left' = Unit {0}
 GivesLine (Err TooLong) old new left left' = Unit {0}

@@ -11,13 +11,17 @@ use Rattle.kb_io.specs.declared.read_write.ReadError.TheVariants.{TooLong, Fault
 -- What an error of `read_up_to` says: which bytes were taken, and why it came.
 abbrev pub Stopped : ReadError → ℕ → Option (List ℕ) → Option (List ℕ) → ℕ → ℕ → Type 0
 Stopped (TooLong n) limit old new before now =
-    (taken : List ℕ) × Consumes old new taken × (length taken ≡ limit + 1) × (n ≡ newlines (take limit taken)) × (now ≡ before)
-Stopped Fault limit old new before now = (taken : List ℕ) × Consumes old new taken × (length taken ≤ limit) × Rose before now × (before ≤ now)
-Stopped Memory limit old new before now = (taken : List ℕ) × Consumes old new taken × (length taken ≤ limit + 1) × (now ≡ before)
+    (taken : List ℕ) × Consumes old new taken × (length taken ≡ limit + 1) × (n ≡ newlines (take limit taken))
+    × (now ≡ before)
+Stopped Fault limit old new before now = (taken : List ℕ) × Consumes old new taken × (length taken ≤ limit)
+    × Rose before now × (before ≤ now)
+Stopped Memory limit old new before now = (taken : List ℕ) × Consumes old new taken × (length taken ≤ limit + 1)
+    × (now ≡ before)
 
 -- All that a source had left was read, and it was at most limit bytes; or why not.
 abbrev pub ReadUpTo : Result (Vec ℕ Global) ReadError → ℕ → Option (List ℕ) → Option (List ℕ) → ℕ → ℕ → Type 0
-ReadUpTo (Ok bytes) limit old new before now = Consumes old new bytes.items × IsAtEnd new × (length bytes.items ≤ limit) × (now ≡ before)
+ReadUpTo (Ok bytes) limit old new before now = Consumes old new bytes.items × IsAtEnd new × (length bytes.items ≤ limit)
+    × (now ≡ before)
 ReadUpTo (Err e) limit old new before now = Stopped e limit old new before now
 
 -- a prefix of these bytes was appended

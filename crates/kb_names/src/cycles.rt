@@ -1,6 +1,8 @@
 //! Cycles of `isa`.
-ghost use Rattle.std.specs.Prelude.{◌≡◌, Some, List, Bool, ℕ, fold, map, take, slice_get};
-ghost use Rattle.reading_stages.specs.NamesStage.{name_noted, stepped};
+ghost use Rattle.std.specs.Prelude.{◌≡◌, Some, List, Bool, ℕ, fold, map, slice_get};
+ghost use Rattle.kb_text.specs.declared.fault.K.TheVariants as k;
+ghost use Rattle.reading_stages.specs.Earliest.{noted_if};
+ghost use Rattle.reading_stages.specs.NamesStage.{begins_cycle, name_noted, stepped};
 ghost use Rattle.reading_stages.specs.NamesStage as stage;
 ghost use Rattle.reading_stages.specs.Names.{Names, place_of_name};
 ghost use Rattle.fo_syntax.specs.Trees.{Name};
@@ -8,9 +10,6 @@ ghost use Rattle.reading_stages.specs.Uses.{climbing_uses};
 
 use kb_text::K;
 use reading_stages::Earliest;
-
-/// The number of the first type past the greatest count. It is refused, so no later cycle is the earliest refusal.
-const FIRST_TOO_MANY: usize = 257;
 
 /// The parent of a type, where it is another type.
 fn parent(parents: &[Option<usize>], ty: usize) -> Option<usize>
@@ -42,29 +41,24 @@ fn comes_back(parents: &[Option<usize>], steps: usize, ty: usize, from: usize) -
     false
 }
 
-fn note_each(parents: &[Option<usize>], places: &[usize], earliest: &mut Earliest)
-    ensures { (names : Names) → (types : List Name) → map place_of_name types ≡ places.now → earliest.new.first ≡ fold (name_noted names) earliest.old.first (climbing_uses parents.now 0 types) }
+/// Notes a cycle of which a type is the first. It is not sought where another refusal would come before it. In a text
+/// with too many types the one after the 256th is refused, and stands before all later ones, so that few are followed.
+fn note_cycle(parents: &[Option<usize>], ty: usize, place: usize, earliest: &mut Earliest)
+    ensures { earliest.new.first ≡ noted_if (begins_cycle parents.now ty) k.Redeclared place earliest.old.first }
+{
+    if earliest.would_be_first(K::Redeclared, place) {
+        let begins = comes_back(parents, parents.len(), ty, ty);
+        earliest.note_if(begins, K::Redeclared, place);
+    }
+}
+
+/// Notes each cycle of `isa` at its first type. The types' parents and the places of their names are in the order of
+/// the text.
+pub fn note_cycles(parents: &[Option<usize>], places: &[usize], earliest: &mut Earliest)
+    ensures { (names : Names) → (types : List Name) → map place_of_name types ≡ places.now
+        → earliest.new.first ≡ fold (name_noted names) earliest.old.first (climbing_uses parents.now 0 types) }
 {
     for (ty, place) in places.iter().enumerate() {
-        let begins = comes_back(parents, parents.len(), ty, ty);
-        earliest.note_if(begins, K::Redeclared, *place);
+        note_cycle(parents, ty, *place, earliest);
     }
-}
-
-fn first_places(places: &[usize]) -> &[usize]
-    ensures { result.now ≡ take 257 places.now }
-{
-    if places.len() <= FIRST_TOO_MANY {
-        places
-    } else {
-        places.split_at(FIRST_TOO_MANY).0
-    }
-}
-
-/// Notes each cycle of `isa` at its first type, as far as it can be the earliest refusal. The types' parents and the
-/// places of their names are in the order of the text.
-pub fn note_cycles(parents: &[Option<usize>], places: &[usize], earliest: &mut Earliest)
-    ensures { (names : Names) → (types : List Name) → map place_of_name types ≡ places.now → earliest.new.first ≡ fold (name_noted names) earliest.old.first (climbing_uses parents.now 0 (take 257 types)) }
-{
-    note_each(parents, first_places(places), earliest);
 }

@@ -1,5 +1,5 @@
 //! A raw knowledge base with numbers for words, or the earliest refusal.
-ghost use Rattle.std.specs.Prelude.{◌≡◌, fold, map, take, OnOk, IfOk, IfErr};
+ghost use Rattle.std.specs.Prelude.{◌≡◌, fold, map, OnOk, IfOk, IfErr};
 ghost use Rattle.std.specs.List.{flat_map};
 ghost use Rattle.reading_stages.specs.Below.{HasNoCycle, type_parents};
 ghost use Rattle.reading_stages.specs.FileView.{declaration_in, file_in, term_in, theory_in, vocabulary_in};
@@ -64,7 +64,9 @@ fn climbed_types<'a>(
     earliest: &mut Earliest,
 ) -> Result<Items<usize>, Memory>
     ensures places { IfOk result (λ ps. ps ≡ number.type_places (map declaration_in declarations.now)) }
-    ensures noted { OnOk result (earliest.new.first ≡ fold (name_noted (names_in table.now)) earliest.old.first (climbing_uses (use_of.parents_in (names_in table.now) (map declaration_in declarations.now)) 0 (take 257 (type_names (map declaration_in declarations.now))))) }
+    ensures noted { OnOk result (earliest.new.first ≡ fold (name_noted (names_in table.now)) earliest.old.first
+        (climbing_uses (use_of.parents_in (names_in table.now) (map declaration_in declarations.now)) 0
+        (type_names (map declaration_in declarations.now)))) }
 {
     let places = type_places(alloc, declarations)?;
     let parents = parents_in(alloc, table, declarations)?;

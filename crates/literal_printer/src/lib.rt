@@ -5,5 +5,5 @@ mod literals;
 pub mod pieces;
 mod tables;
 
-pub use literals::print_literal;
-pub use tables::print_symbols;
+pub use literals::{print_literal, push_literal};
+pub use tables::{print_symbols, push_symbols};

@@ -23,7 +23,7 @@ pub fn print_literal(
 }
 
 /// As `print_literal`, but where memory runs out a part may have been appended.
-fn push_literal(out: &mut Vec<u8>, v: &Vocabulary, l: &Literal) -> Result<(), Memory>
+pub fn push_literal(out: &mut Vec<u8>, v: &Vocabulary, l: &Literal) -> Result<(), Memory>
     ensures { OnOk result (out.new.items ≡ out.old.items ++ literal_text v.now l.now) }
 {
     match &l.value {

@@ -1,5 +1,5 @@
-//! What every printer appends. Where memory runs out, a part of the text may have been appended: a printer that promises
-//! more writes into a text of its own first.
+//! What every printer appends. Where memory runs out, a part of the text may have been appended: a printer that
+//! promises more writes into a text of its own first.
 ghost use Rattle.std.specs.Prelude.{◌≡◌, ◌++◌, OnOk};
 ghost use Rattle.literal_printer.specs.Texts.{elem_text, row_text};
 

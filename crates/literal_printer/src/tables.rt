@@ -36,7 +36,7 @@ pub fn print_symbols(
 }
 
 /// As `print_symbols`, but where memory runs out a part may have been appended.
-fn push_symbols(out: &mut Vec<u8>, v: &Vocabulary, m: &Structure) -> Result<(), Memory>
+pub fn push_symbols(out: &mut Vec<u8>, v: &Vocabulary, m: &Structure) -> Result<(), Memory>
     ensures { OnOk result (out.new.items ≡ out.old.items ++ symbol_lines v.now m.now) }
 {
     let symbols = v.symbols.as_slice();

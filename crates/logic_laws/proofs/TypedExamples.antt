@@ -1,5 +1,5 @@
 -- What is well typed, worked out.
-use Rattle.std.proofs.Common.{◌≡◌, ◌<◌, ℕ, ℤ, pos, List, [], ◌∷◌, length, false, Some, None, refl, sym, ap, ◌∙◌, subst, arith, inl, inr, slice_get}
+use Rattle.std.proofs.Common.{◌≡◌, ◌<◌, ℕ, ℤ, pos, [], ◌∷◌, length, false, Some, None, refl, sym, ap, ◌∙◌, subst, arith, inl, inr, slice_get}
 use Rattle.kb_logic.specs.declared.vocabularies.Parent.{Parent}
 use Rattle.kb_logic.specs.declared.vocabularies.Parent.TheVariants.{Root, Nat, Of}
 use Rattle.kb_logic.specs.declared.vocabularies.TypeDecl.{TypeDecl}

@@ -1,7 +1,6 @@
 -- Worked examples of typing, over a constructed type, a number type and a type below that.
-use Rattle.std.specs.Prelude.{ℕ, pos, List, [], ◌∷◌, Bool, true, false, Option, Some, None}
+use Rattle.std.specs.Prelude.{ℕ, pos, List, [], ◌∷◌, true, false, Option, Some, None}
 use Rattle.kb_logic.specs.declared.syntax.Cmp.TheVariants as cmp
-use Rattle.kb_logic.specs.declared.vocabularies.Bound.{Bound}
 use Rattle.kb_logic.specs.declared.vocabularies.Parent.{Parent}
 use Rattle.kb_logic.specs.declared.vocabularies.Parent.TheVariants.{Root, Nat, Of}
 use Rattle.kb_logic.specs.declared.vocabularies.TypeDecl.{TypeDecl}

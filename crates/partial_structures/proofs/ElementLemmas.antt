@@ -1,5 +1,5 @@
 -- The table of the elements of the types.
-use Rattle.std.proofs.Common.{◌≡◌, ℕ, zero, suc, ◌+◌, ◌<◌, List, [], ◌∷◌, ◌++◌, length, take, Bool, true, false, ◌&&◌, ◌||◌, ◌==◌, if◌then◌else◌, Option, None, Some, is_some, refl, sym, ap, ◌∙◌, subst, get_or, inl, inr, arith}
+use Rattle.std.proofs.Common.{◌≡◌, ℕ, zero, suc, ◌+◌, ◌<◌, List, [], ◌∷◌, ◌++◌, length, take, Bool, true, false, ◌&&◌, ◌||◌, ◌==◌, if◌then◌else◌, Option, None, Some, is_some, refl, sym, ap, ◌∙◌, subst, get_or, inl, inr, arith, Contains, MatchBool}
 use Rattle.std.specs.List.{list_any}
 use Rattle.std.proofs.lemmas.Bool.{cases_Bool, true≢false, false_from_ne_true, and_parts, eqb-true}
 use Rattle.std.proofs.lemmas.Bool.Decides.{nat_tests}
@@ -19,6 +19,7 @@ use Rattle.partial_structures.specs.contracts.elements.TypedPartialEq.TheImpl.{g
 use Rattle.partial_structures.proofs.Growth.{same_label_refl}
 use Rattle.partial_structures.proofs.Labelled.{typed_labelled}
 use Rattle.partial_structures.proofs.Labels.{label_test}
+use Rattle.kb_logic.proofs.Atoms.{denotes_one}
 use Rattle.kb_logic.proofs.Has.{has_from}
 use Rattle.partial_structures.proofs.Nodes.{same_label_is}
 use Rattle.partial_structures.proofs.Walks.{stands, stands_is, value_injective, label_same}
@@ -153,3 +154,18 @@ tells_elements ws domains table words has = λ ty v. by ty v (value_label ws v) 
         let none : label_of ws r.0 ≡ None = sym (label_same ws r.0) ∙ ap (value_label ws) r.2 ∙ e in
         let some : has_label ws r.0 ≡ true = subst (λ us. has_label us r.0 ≡ true) (sym words) (typed_labelled domains ty r.0 (has_from (domain_at domains ty) r.0 r.1)) in
         true≢false (sym some ∙ ap is_some none)))
+
+-- so it tells of each element whether it is one of a type's
+pub tells_membership : (ws : List (List ℕ)) (domains : List (List Elem)) (table : List Typed) → ws ≡ words_of domains → HasElements ws domains table
+    → (ty : ℕ) (x : Elem) → MatchBool (has_label_of table ty (label_of ws x)) (Contains (domain_at domains ty) x) (Contains (domain_at domains ty) x → ⊥)
+tells_membership ws domains table words has ty x =
+    let d = domain_at domains ty in
+    let told : has_label_of table ty (label_of ws x) ≡ stands_in d (denotation_of x) =
+    ap (has_label_of table ty) (sym (label_same ws x)) ∙ tells_elements ws domains table words has ty (denotation_of x) in
+    subst (λ b. MatchBool b (Contains d x) (Contains d x → ⊥)) (sym told) (by d (stands_in d (denotation_of x)) refl)
+  where
+    by : (d : List Elem) (b : Bool) → stands_in d (denotation_of x) ≡ b → MatchBool b (Contains d x) (Contains d x → ⊥)
+    by d true e =
+        let r = stands d (denotation_of x) e in
+        subst (Contains d) (denotes_one r.0 x r.2) r.1
+    by d false e = λ m. true≢false (sym (stands_is d x (has_from d x m)) ∙ e)

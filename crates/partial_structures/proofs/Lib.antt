@@ -1,3 +1,4 @@
+pub mod Ordering
 pub mod Places
 pub mod Labels
 pub mod Nodes

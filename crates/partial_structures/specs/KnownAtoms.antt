@@ -1,9 +1,11 @@
 -- What is known of the atoms over symbols and domains, and what a change of it makes known.
-use Rattle.std.specs.Prelude.{ℕ, List, [], ◌∷◌, map, filter, Bool, true, false, not, ◌&&◌, ◌||◌, ◌==◌, if◌then◌else◌, Option, None, Some, option_map}
+use Rattle.std.specs.Prelude.{ℕ, List, [], ◌∷◌, map, filter, Bool, true, false, not, ◌&&◌, ◌||◌, ◌==◌, if◌then◌else◌, Option, None, Some, option_map, slice_get}
 use Rattle.std.specs.List.{list_any}
+use Rattle.std.specs.Option.{option_map_or}
 use Rattle.kb_logic.specs.declared.elements.Elem.{Elem}
 use Rattle.kb_logic.specs.declared.vocabularies.Symbol.{Symbol}
 use Rattle.kb_logic.specs.Denotations.{Denotation, denotation_of, same_value}
+use Rattle.kb_logic.specs.Structures.{tuples_of}
 use Rattle.kb_logic.specs.Models.{GroundAtom}
 pub use Rattle.kb_logic.specs.Models.{IsAtomOver, atom_of}
 pub use Rattle.kb_logic.specs.KnownAtoms.{KnownAtoms, atoms_with, atoms_over}
@@ -48,6 +50,10 @@ both_values _ _ = false
 -- b gives a function another value than a does, at the same arguments
 abbrev pub is_rival : GroundAtom → GroundAtom → Bool
 is_rival a b = (b.symbol == a.symbol) && (same_row b.args (map denotation_of a.args) && (both_values a.value b.value && not (same_option b.value (option_map denotation_of a.value))))
+
+-- the atoms of the symbol with this number, in the order of all atoms
+abbrev pub atoms_of : KnownAtoms → ℕ → List GroundAtom
+atoms_of k s = option_map_or (λ (d : Symbol). atoms_with k.domains s (tuples_of k.domains d.args) d.value) (slice_get k.symbols s) []
 
 -- the atoms with this test, in their order
 abbrev pub atoms_where : KnownAtoms → (GroundAtom → Bool) → List GroundAtom

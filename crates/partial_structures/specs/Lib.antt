@@ -2,6 +2,7 @@ pub mod KnownAtoms
 pub mod Words
 pub mod Rows
 pub mod Flags
+pub mod Ordered
 pub mod Status
 pub mod Counts
 pub mod Tally

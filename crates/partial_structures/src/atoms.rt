@@ -2,6 +2,7 @@
 ghost use Rattle.std.specs.Prelude.{IfOk, Some, ◌≡◌, List, ℕ, All, IfSome, IsTrue, OnOk, OnErr};
 ghost use Rattle.kb_logic.specs.declared.elements.Elem.{Elem as Element};
 ghost use Rattle.partial_structures.specs.Words.{words_in};
+ghost use Rattle.partial_structures.specs.Ordered.{value_behind};
 ghost use Rattle.partial_structures.specs.Rows.{Grows, MadeFalse, MadeTrue, node_of, row_of, denied, has_label, mark_of, settled, status_of};
 
 use crate::rows::{Mark, Rows};
@@ -36,17 +37,10 @@ pub(crate) fn predicate_status(rows: &Rows, closed: bool, symbol: u32, args: &[E
     if_closed(closed, rows.mark(rows.find(symbol, args)).known)
 }
 
-/// What is known of a function's atom, in the same way.
-pub(crate) fn function_status(
-    rows: &Rows,
-    closed: bool,
-    symbol: u32,
-    args: &[Elem],
-    value: &Elem,
-) -> Truth
-    ensures { result ≡ status_of (words_in rows.now.words) rows.now.nodes.entries closed symbol args.now (Some value.now) }
+/// What is known of a function's having this value where its arguments lead to the node.
+pub(crate) fn value_known(rows: &Rows, closed: bool, front: Option<usize>, value: &Elem) -> Truth
+    ensures { result ≡ value_behind (words_in rows.now.words) rows.now.nodes.entries closed front value.now }
 {
-    let front = rows.find(symbol, args);
     match rows.mark(front).value {
         Some(label) => {
             if rows.label(value) == Some(label) {
@@ -57,6 +51,19 @@ pub(crate) fn function_status(
         }
         None => if_closed(closed, denial(rows.mark(rows.step(front, value)).known)),
     }
+}
+
+/// What is known of a function's atom, in the same way.
+pub(crate) fn function_status(
+    rows: &Rows,
+    closed: bool,
+    symbol: u32,
+    args: &[Elem],
+    value: &Elem,
+) -> Truth
+    ensures { result ≡ status_of (words_in rows.now.words) rows.now.nodes.entries closed symbol args.now (Some value.now) }
+{
+    value_known(rows, closed, rows.find(symbol, args), value)
 }
 
 /// What is known of the atom, in the same way.

@@ -12,6 +12,7 @@ mod flags;
 mod known;
 pub mod laws;
 pub mod lookups;
+mod ordered;
 mod partial;
 mod rows;
 mod spots;

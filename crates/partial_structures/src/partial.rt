@@ -1,9 +1,9 @@
 //! Partial structures.
-ghost use Rattle.std.specs.Prelude.{◌≡◌, ◌↔◌, ◌<◌, ◌+◌, length, IfOk, IfSome, IsTrue, OnOk, OnErr, IsErrOf};
+ghost use Rattle.std.specs.Prelude.{◌≡◌, ◌↔◌, ◌<◌, ◌+◌, ◌++◌, length, map, Contains, IfOk, IfSome, IsTrue, MatchBool, OnOk, OnErr, IsErrOf};
 ghost use Rattle.std.specs.List.{AllByRecursion};
-ghost use Rattle.kb_logic.specs.Structures.{IsDistinct};
+ghost use Rattle.kb_logic.specs.Structures.{IsDistinct, domain_at};
 ghost use Rattle.partial_structures.specs.Known.{known_in};
-ghost use Rattle.partial_structures.specs.KnownAtoms.{IsAtomOver, atom_of, nothing_known, value_at, with_closed, with_false, with_true};
+ghost use Rattle.partial_structures.specs.KnownAtoms.{IsAtomOver, atom_of, atoms_of, nothing_known, value_at, with_closed, with_false, with_true};
 ghost use Rattle.partial_structures.specs.Consistency.{IsConsistent, IsListed};
 ghost use Rattle.partial_structures.specs.Counts.{added_by};
 ghost use Rattle.partial_structures.specs.Extension.{ExtendsData, IsStructureOver};
@@ -16,10 +16,11 @@ use crate::errors::SetError;
 use crate::extension::{are_same_domains, left_over};
 use crate::flags::flag;
 use crate::known::Known;
+use crate::ordered::push_beyond;
 use crate::rows::{Mark, Rows};
 use crate::truths::Truth;
 use crate::words::Words;
-use kb_logic::{DomainList, Literal, Memory, Structure, SymbolList, Vocabulary};
+use kb_logic::{DomainList, Elem, Literal, Memory, Structure, SymbolList, Vocabulary};
 use std::alloc::Global;
 use std::marker::Model;
 
@@ -100,6 +101,13 @@ impl Partial {
         &self.domains
     }
 
+    /// Whether the element is one of the type's. It takes no more time than the element is long.
+    pub fn has_element(&self, ty: u32, elem: &Elem) -> bool
+        ensures { MatchBool result (Contains (domain_at self.now.domains ty) elem.now) (Contains (domain_at self.now.domains ty) elem.now → ⊥) }
+    {
+        self.elements.contains(ty, self.rows.label(elem))
+    }
+
     /// What is known is consistent: no function has two values at the same arguments, and no atom is both
     /// true and false. It is listed in the order of all atoms, and a function's other values are false where
     /// one is true. It does nothing.
@@ -117,6 +125,24 @@ impl Partial {
         ensures { result ≡ value_at self.now (atom_of atom.now) }
     {
         status(&self.rows, flag(&self.closed, atom.symbol), atom)
+    }
+
+    /// Pushes what is known of each atom of the symbol, in their order; nothing where there is no such symbol.
+    pub fn push_values(&self, symbol: u32, out: &mut Vec<Truth>) -> Result<(), Memory>
+        ensures { OnOk result (out.new.items ≡ out.old.items ++ map (value_at self.now) (atoms_of self.now symbol)) }
+    {
+        let s = self.lent();
+        match self.symbols.get(symbol as usize) {
+            None => Ok(()),
+            Some(declared) => push_beyond(
+                s,
+                flag(s.closed, symbol),
+                s.rows.root(symbol),
+                declared.args.as_slice(),
+                declared.value,
+                out,
+            ),
+        }
     }
 
     /// Makes an atom over the domains certainly true, whether the literal affirms or denies it.

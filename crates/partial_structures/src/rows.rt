@@ -104,9 +104,12 @@ impl Rows {
     pub fn step(&self, node: Option<usize>, elem: &Elem) -> Option<usize>
         ensures { result ≡ child_by self.now.nodes.entries node (label_of (words_in self.now.words) elem.now) }
     {
-        match (node, self.label(elem)) {
-            (Some(parent), Some(label)) => self.child(parent, label),
-            _ => None,
+        match node {
+            None => None,
+            Some(parent) => match self.label(elem) {
+                None => None,
+                Some(label) => self.child(parent, label),
+            },
         }
     }
 

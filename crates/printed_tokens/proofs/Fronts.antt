@@ -1,5 +1,6 @@
 -- Each part that stands is the longest at its place.
-use Rattle.std.proofs.Common.{◌≡◌, ℕ, suc, Bool, true, false, List, [], ◌∷◌, ◌++◌, length, refl, ap, subst, arith, eqb, inl, inr}
+use Rattle.std.proofs.Common.{◌≡◌, ℕ, suc, Bool, true, false, List, [], ◌∷◌, ◌++◌, length, refl, ap, subst, arith, eqb}
+use Rattle.std.proofs.Common.{inl, inr}
 use Rattle.std.specs.Prelude.{not, ◌&&◌, ◌||◌, if◌then◌else◌}
 use Rattle.std.specs.List.{list_all, prefix_len}
 use Rattle.std.proofs.Math.Numerals.{one-add}
@@ -9,7 +10,8 @@ use Rattle.kb_text.specs.declared.bytes.Class.TheVariants.{Space, Letter, Digit,
 use Rattle.kb_text.specs.Bytes.{class_of, is_word_byte, is_digit_byte, is_pair, is_triple}
 use Rattle.kb_text.specs.Pieces.{WordText, IntText, SignText, IsLongest}
 use Rattle.kb_text.proofs.Pieces.{word_opened, digits_found, one_sign, two_sign, three_sign}
-use Rattle.printed_tokens.specs.Written.{goes_on, is_space_class, is_letter_class, is_digit_class, is_mark_class, is_word, is_number, may_grow, sign_stands}
+use Rattle.printed_tokens.specs.Written.{goes_on, is_space_class, is_letter_class, is_digit_class, is_mark_class}
+use Rattle.printed_tokens.specs.Written.{is_word, is_number, may_grow, sign_stands}
 
 pub not_true : (x : Bool) → not x ≡ true → x ≡ false
 not_true true e = absurd (cc)
@@ -52,7 +54,8 @@ is_mark Refused e = absurd (cc)
 is_mark Unknown e = absurd (cc)
 
 -- a run that is followed by none of its bytes
-run_ends : (test : ℕ → Bool) (xs behind : List ℕ) → list_all test xs ≡ true → goes_on test behind ≡ false → prefix_len test (xs ++ behind) ≡ length xs
+run_ends : (test : ℕ → Bool) (xs behind : List ℕ) → list_all test xs ≡ true → goes_on test behind ≡ false
+    → prefix_len test (xs ++ behind) ≡ length xs
 run_ends test [] [] all ends = refl
 run_ends test [] (b ∷ bs) all ends = rw ends refl
 run_ends test (x ∷ xs) behind all ends =
@@ -65,24 +68,30 @@ letter_in_word b e = rw e refl
 digit_in_number : (b : ℕ) → class_of b ≡ Digit → is_digit_byte b ≡ true
 digit_in_number b e = rw e refl
 
-pub word_run : (text behind : List ℕ) → is_word text ≡ true → goes_on is_word_byte behind ≡ false → prefix_len is_word_byte (text ++ behind) ≡ length text
+pub word_run : (text behind : List ℕ) → is_word text ≡ true → goes_on is_word_byte behind ≡ false
+    → prefix_len is_word_byte (text ++ behind) ≡ length text
 word_run [] behind e ends = absurd (cc)
 word_run (b ∷ bs) behind e ends =
     let both = and_parts (is_letter_class (class_of b)) (list_all is_word_byte bs) e in
-    rw (letter_in_word b (is_letter (class_of b) both.0), one-add) (ap suc (run_ends is_word_byte bs behind both.1 ends))
+    rw (letter_in_word b (is_letter (class_of b) both.0), one-add)
+    (ap suc (run_ends is_word_byte bs behind both.1 ends))
 
-pub word_longest : (text behind : List ℕ) → is_word text ≡ true → goes_on is_word_byte behind ≡ false → IsLongest (text ++ behind) WordText (length text)
+pub word_longest : (text behind : List ℕ) → is_word text ≡ true → goes_on is_word_byte behind ≡ false
+    → IsLongest (text ++ behind) WordText (length text)
 word_longest [] behind e ends = absurd (cc)
 word_longest (b ∷ bs) behind e ends =
     let both = and_parts (is_letter_class (class_of b)) (list_all is_word_byte bs) e in
-    subst (λ (n : ℕ). IsLongest (b ∷ bs ++ behind) WordText n) (word_run (b ∷ bs) behind e ends) (word_opened (b ∷ bs ++ behind) (is_letter (class_of b) both.0))
+    subst (λ (n : ℕ). IsLongest (b ∷ bs ++ behind) WordText n) (word_run (b ∷ bs) behind e ends)
+    (word_opened (b ∷ bs ++ behind) (is_letter (class_of b) both.0))
 
-pub number_longest : (text behind : List ℕ) → is_number text ≡ true → goes_on is_digit_byte behind ≡ false → IsLongest (text ++ behind) IntText (length text)
+pub number_longest : (text behind : List ℕ) → is_number text ≡ true → goes_on is_digit_byte behind ≡ false
+    → IsLongest (text ++ behind) IntText (length text)
 number_longest [] behind e ends = absurd (cc)
 number_longest (b ∷ bs) behind e ends =
     let both = and_parts (is_digit_class (class_of b)) (list_all is_digit_byte bs) e in
     let first = is_digit (class_of b) both.0 in
-    let run : prefix_len is_digit_byte (b ∷ bs ++ behind) ≡ suc (length bs) = rw (digit_in_number b first, one-add) (ap suc (run_ends is_digit_byte bs behind both.1 ends)) in
+    let run : prefix_len is_digit_byte (b ∷ bs ++ behind) ≡ suc (length bs) =
+    rw (digit_in_number b first, one-add) (ap suc (run_ends is_digit_byte bs behind both.1 ends)) in
     subst (λ (n : ℕ). IsLongest (b ∷ bs ++ behind) IntText n) run (digits_found (b ∷ bs ++ behind) (omega arith) first)
 
 or_parts : (x y : Bool) → (x || y) ≡ false → (x ≡ false) × (y ≡ false)
@@ -103,7 +112,8 @@ no_pair a b e =
     let t = or_parts (eqb a 46) _ s.1 in
     rw (p.0, q.0, r.0, s.0, t.0, t.1) (simp and_none)
 
-alone : (a b : ℕ) (behind : List ℕ) → (if may_grow a then not (goes_on (is_pair a) (b ∷ behind)) else true) ≡ true → is_pair a b ≡ false
+alone : (a b : ℕ) (behind : List ℕ) → (if may_grow a then not (goes_on (is_pair a) (b ∷ behind)) else true) ≡ true
+    → is_pair a b ≡ false
 alone a b behind e =
     elim (cases_Bool (may_grow a)) [
       | inl grows ↦ not_true (is_pair a b) (rw grows at e)
@@ -121,14 +131,17 @@ no_triple a b c e =
       | inr other ↦ rw other refl
     ]
 
-paired : (a b c : ℕ) (behind : List ℕ) → (if eqb a 60 && eqb b 61 then not (goes_on (is_triple a b) (c ∷ behind)) else true) ≡ true → is_triple a b c ≡ false
+paired : (a b c : ℕ) (behind : List ℕ)
+    → (if eqb a 60 && eqb b 61 then not (goes_on (is_triple a b) (c ∷ behind)) else true) ≡ true
+    → is_triple a b c ≡ false
 paired a b c behind e =
     elim (cases_Bool (eqb a 60 && eqb b 61)) [
       | inl grows ↦ rw grows (not_true (eqb c 62) (rw grows at e))
       | inr other ↦ rw other refl
     ]
 
-pub sign_longest : (text behind : List ℕ) → sign_stands text behind ≡ true → IsLongest (text ++ behind) SignText (length text)
+pub sign_longest : (text behind : List ℕ) → sign_stands text behind ≡ true
+    → IsLongest (text ++ behind) SignText (length text)
 sign_longest [] behind e = absurd (cc)
 sign_longest (a ∷ []) [] e =
     let both = and_parts (is_mark_class (class_of a)) _ e in

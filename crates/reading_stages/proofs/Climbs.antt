@@ -1,5 +1,5 @@
 -- The uses that look for cycles of `isa`, one after another.
-use Rattle.std.proofs.Common.{◌≡◌, ◌<◌, ◌==◌, ℕ, zero, suc, ◌+◌, ◌-◌, Bool, true, false, if◌then◌else◌, nat_lt, None, Some, slice_get, List, [], ◌∷◌, Option, length, get_or, drop, take, map, fold, refl, ap, ◌∙◌, sym, add-one, subst, arith}
+use Rattle.std.proofs.Common.{◌≡◌, ◌<◌, ◌==◌, ℕ, zero, suc, ◌+◌, ◌-◌, Bool, true, false, if◌then◌else◌, nat_lt, None, Some, slice_get, List, [], ◌∷◌, Option, length, get_or, drop, map, fold, refl, ap, ◌∙◌, sym, add-one, subst, arith}
 use Rattle.std.proofs.lemmas.List.{length-map}
 use Rattle.std.proofs.lemmas.Bool.Decides.{nat_tests}
 use Rattle.kb_text.specs.declared.fault.KbFault.{KbFault}
@@ -19,11 +19,6 @@ type_places-is [] = refl
 type_places-is (type_under n p ∷ ds) = ap (λ (ps : List ℕ). place_of_name n ∷ ps) (type_places-is ds)
 type_places-is (constructed_type n ns ∷ ds) = ap (λ (ps : List ℕ). place_of_name n ∷ ps) (type_places-is ds)
 type_places-is (symbol n args to ∷ ds) = type_places-is ds
-
-pub map-take : {X Y : Type 0} (f : X → Y) (n : ℕ) (xs : List X) → map f (take n xs) ≡ take n (map f xs)
-map-take f zero xs = refl
-map-take f (suc n) [] = refl
-map-take f (suc n) (x ∷ xs) = ap (λ (ys : List _). f x ∷ ys) (map-take f n xs)
 
 -- the name after the first i ones, and its place
 name_at : (ts : List Name) (i : ℕ) → i < length ts → (n : Name) × (drop i ts ≡ n ∷ drop (suc i) ts) × (place_of_name n ≡ get_or (map place_of_name ts) i 0)

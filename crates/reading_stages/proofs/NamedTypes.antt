@@ -1,8 +1,7 @@
 -- Where the stage of names refuses nothing, no type begins a cycle.
-use Rattle.std.proofs.Common.{◌≡◌, ◌≤◌, ◌<◌, ◌⊎◌, inl, inr, ℕ, zero, suc, ◌+◌, Bool, true, false, IsTrue, is_some, if◌then◌else◌, nat_lt, unwrap_or, List, [], ◌∷◌, ◌++◌, Option, None, Some, length, map, take, refl, ap, sym, subst, arith, Contains, codes}
+use Rattle.std.proofs.Common.{◌≡◌, ◌≤◌, ◌<◌, ◌⊎◌, inl, inr, ℕ, zero, suc, ◌+◌, Bool, true, false, IsTrue, is_some, if◌then◌else◌, nat_lt, unwrap_or, List, [], ◌∷◌, ◌++◌, Option, None, Some, length, map, refl, ap, sym, subst, arith, Contains, codes}
 use Rattle.std.specs.Str.{bytes_eq}
 use Rattle.std.proofs.lemmas.Bool.Decides.{nat_tests}
-use Rattle.std.proofs.lemmas.List.{take_all}
 use Rattle.std.proofs.lemmas.List.Elements.{Contains-append_left, Contains-append_right}
 use Rattle.kb_text.specs.declared.fault.KbFault.{KbFault}
 use Rattle.reading_stages.specs.Below.{HasNoCycle, Parents, type_above, type_parents}
@@ -175,12 +174,9 @@ module _ (f : File) (accepted : (q : KbFault) → NamesRefuse f q → ⊥) where
   none_begins t lt =
       let ds : List Declaration = declarations_of f.vocabularies in
       let there = climbs_there (parents_in (names_of ds) ds) (type_names ds) 0 t t (omega arith) lt in
-      let all : take 257 (type_names ds) ≡ type_names ds = take_all 257 (type_names ds) (omega (arith, few)) in
-      let here : Contains (cycle_uses ds) (climbs (parents_in (names_of ds) ds) t there.0) =
-      subst (λ (ts : List Name). Contains (climbing_uses (parents_in (names_of ds) ds) 0 ts) (climbs (parents_in (names_of ds) ds) t there.0)) (sym all) there.1 in
       not_so (begins_cycle (parents_in (names_of ds) ds) t)
       (λ begins. accepted _ (redeclared (climbs (parents_in (names_of ds) ds) t there.0) (among (climbs (parents_in (names_of ds) ds) t there.0)
-      (Contains-append_right (declared_uses number_types (declared_names 0 0 ds) ++ uses_in_declarations 0 0 ds) (cycle_uses ds) (climbs (parents_in (names_of ds) ds) t there.0) here)) begins))
+      (Contains-append_right (declared_uses number_types (declared_names 0 0 ds) ++ uses_in_declarations 0 0 ds) (cycle_uses ds) (climbs (parents_in (names_of ds) ds) t there.0) there.1)) begins))
 
   same_parents : type_parents (types_in (names_of (declarations_of f.vocabularies)) (declarations_of f.vocabularies)) ≡ parents_in (names_of (declarations_of f.vocabularies)) (declarations_of f.vocabularies)
   same_parents =

@@ -1,5 +1,5 @@
 -- Each use of a word, with what is known at its place.
-use Rattle.std.specs.Prelude.{ℕ, ◌+◌, List, [], ◌∷◌, ◌++◌, length, map, take, Option, None, Some}
+use Rattle.std.specs.Prelude.{ℕ, ◌+◌, List, [], ◌∷◌, ◌++◌, length, map, Option, None, Some}
 use Rattle.std.specs.List.{flat_map}
 use Rattle.fo_syntax.specs.Trees.{Name, Var, untyped, typed, Vars, var, beside, comma, Number, any, exactly, compared, Formula, alone, linked, Links, last, link, Or, one, or, And, single, and, Unary, not, every, some, prim, Prim, group, truth, atom, compare, Term, product, sum, Product, factor, times, Factor, integer, value, brackets, negative, count, aggregate, App, constant, empty, apply, Terms, final, then}
 use Rattle.reading_stages.specs.Scopes.{Text}
@@ -90,9 +90,9 @@ abbrev pub climbing_uses : List (Option ℕ) → ℕ → List Name → List Use
 climbing_uses parents number [] = []
 climbing_uses parents number (n ∷ ns) = climbs parents number n ∷ climbing_uses parents (number + 1) ns
 
--- past these types no cycle is the earliest refusal, since the type number 256 is one too many
+-- each type, as the possible first one of a cycle
 abbrev pub cycle_uses : List Declaration → List Use
-cycle_uses ds = climbing_uses (parents_in (names_of ds) ds) 0 (take 257 (type_names ds))
+cycle_uses ds = climbing_uses (parents_in (names_of ds) ds) 0 (type_names ds)
 
 abbrev pub uses_of_declarations : List Declaration → List Use
 uses_of_declarations ds =

@@ -1,6 +1,6 @@
 //! The earliest refusal of a stage.
 ghost use Rattle.std.specs.Prelude.{◌≡◌, None};
-ghost use Rattle.reading_stages.specs.Earliest.{earlier, refusal, comes_before, noted_if};
+ghost use Rattle.reading_stages.specs.Earliest.{earlier, refusal, comes_before, comes_first, noted_if};
 
 use kb_text::{K, KbFault};
 
@@ -34,6 +34,16 @@ impl Earliest {
                     self.first = Some(new);
                 }
             }
+        }
+    }
+
+    /// Whether a refusal comes before all that were noted so far.
+    pub fn would_be_first(&self, cause: K, place: usize) -> bool
+        ensures { result ≡ comes_first self.now.first (refusal cause place) }
+    {
+        match self.first {
+            None => true,
+            Some(first) => is_before(KbFault { cause, place }, first),
         }
     }
 

@@ -58,7 +58,7 @@ fn is_chain(or: &RawOr, kind: &str, ands: usize, ors: usize) -> bool {
 fn has_form(alloc: Global, text: &[u8], kind: &str, ands: usize, ors: usize, links: usize) -> bool {
     match read_formula(alloc, text) {
         Ok(RawFormula::Alone(or)) => links == 0 && is_chain(&or, kind, ands, ors),
-        Ok(RawFormula::Linked(_, or, more)) => more.len() == links
+        Ok(RawFormula::Linked(_, or, _, more)) => more.len() + 1 == links
             && is_chain(&or, kind, ands, ors),
         Err(_) => false,
     }

@@ -1,4 +1,5 @@
 pub mod CutFacts
+pub mod ForcedFacts
 pub mod WordFacts
 pub mod LineFacts
 pub mod ReadingFacts

@@ -1,5 +1,5 @@
 //! Decides problems, and prints the verdicts.
-ghost use Rattle.std.specs.Prelude.{◌≡◌, ◌++◌, [], IfOk, OnOk};
+ghost use Rattle.std.specs.Prelude.{◌≡◌, ◌++◌, [], None, codes, IfOk, OnOk};
 ghost use Rattle.search_bench.specs.Verdicts.{value_text, model_text, IsVerdictOn};
 
 use ground_core::{Budget, Memory, Solve, Verdict};
@@ -7,8 +7,25 @@ use kb_logic::{ExtInt, decimal};
 use lit_core::{Lit, Values, Var};
 use std::alloc::Global;
 
+/// A budget without a limit.
+pub fn unlimited() -> Budget
+    ensures { result ≡ record { limit = None; spent = 0 } }
+{
+    Budget {
+        limit: None,
+        spent: 0,
+    }
+}
+
+/// The text for a problem without a model.
+pub fn unsatisfiable(alloc: Global) -> Result<Vec<u8>, Memory>
+    ensures { IfOk result (λ text. text.items ≡ codes "s UNSATISFIABLE\n") }
+{
+    Ok(Vec::from_slice(alloc, b"s UNSATISFIABLE\n")?)
+}
+
 /// Writes a space and the variable, with a minus where it is false.
-fn write_value(out: &mut Vec<u8>, var: usize, value: bool) -> Result<(), Memory>
+pub fn write_value(out: &mut Vec<u8>, var: usize, value: bool) -> Result<(), Memory>
     ensures { OnOk result (out.new.items ≡ out.old.items ++ value_text var value) }
 {
     let Ok(number) = i64::try_from(var) else {
@@ -40,13 +57,10 @@ pub fn verdict<S: Solve>(alloc: Global, solver: &mut S) -> Result<Vec<u8>, Memor
     requires { (S.state solver.old).problem.retired ≡ [] }
     ensures { IfOk result (λ text. IsVerdictOn (S.state solver.old).problem text.items) }
 {
-    let mut budget = Budget {
-        limit: None,
-        spent: 0,
-    };
+    let mut budget = unlimited();
     match solver.solve(&[], &mut budget) {
         Ok(Verdict::Sat(values)) => text_of(alloc, &values),
-        Ok(Verdict::Unsat(_)) => Ok(Vec::from_slice(alloc, b"s UNSATISFIABLE\n")?),
+        Ok(Verdict::Unsat(_)) => unsatisfiable(alloc),
         Err(_) => Err(Memory),
     }
 }

@@ -10,13 +10,15 @@ use Rattle.lit_core.specs.Truth.{IsSatisfied, IsSettled}
 use Rattle.clause_store.specs.StoreState.{IsMadeBefore, IsQuiet}
 use Rattle.conflict_analysis.specs.declared.refutations.Refuted.{Refuted}
 use Rattle.conflict_analysis.specs.Analyses.{IsRefuted, IsDecided}
-use Rattle.ground_core.specs.Problems.{IsLitOf, AreLitsOf}
+use Rattle.ground_core.specs.Problems.{ProblemState, IsProblem, IsLitOf, AreLitsOf}
 use Rattle.ground_core.specs.Meaning.{Satisfies, MakesTrue, RefutesAll, AreAllFalse}
 use Rattle.ground_core.specs.GateClauses.{clauses_of}
 use Rattle.ground_core.proofs.Whole.{satisfies-by-clauses}
 use Rattle.search_engine.specs.declared.engine.Engine.{Engine}
 use Rattle.search_engine.specs.Knowledge.{IsHeldAs}
-use Rattle.search_engine.specs.Searching.{AreAssumed, AreClosed, AreTrue, GivesValues, IsSearch}
+use Rattle.term_bounds.specs.Breaking.{HasLits}
+use Rattle.term_bounds.specs.Shares.{IsDecidedAs}
+use Rattle.search_engine.specs.Searching.{AreAssumed, AreClosed, AreTrue, GivesValues, HoldsWhereDecided, IsSearch}
 use Rattle.search_engine.proofs.LearnFacts.{closed-true}
 use Rattle.search_engine.proofs.Known.{once-satisfied-back}
 use Rattle.search_engine.proofs.Roots.{not-both, follows-satisfied}
@@ -81,7 +83,7 @@ module _ (a : List (Option Bool)) (values : List Bool) (n : ℕ) (given : GivesV
   settled-satisfied c is settled = ⊎_elim (λ s. s) (λ f. absurd (settled.not_false f)) (some-or-false c is)
 
 -- where nothing is left to propagate and all variables have values, these satisfy the problem and what is true
-module _ (e : Engine) (h : IsSearch e) (quiet : IsQuiet e.store) (values : List Bool) (given : GivesValues e.store.trail.values (e.problem.vars + 1) values) where
+module _ (e : Engine) (h : IsSearch e) (quiet : IsQuiet e.store) (values : List Bool) (given : GivesValues e.store.trail.values (e.problem.vars + 1) values) (bounds : HoldsWhereDecided e) where
   -- so do retired selectors
   off-given : (l : Lit) → Contains e.problem.retired l → literal_value (valuation values) l ≡ false
   off-given l gone =
@@ -94,12 +96,32 @@ module _ (e : Engine) (h : IsSearch e) (quiet : IsQuiet e.store) (values : List 
   retired-false : AreAllFalse (valuation values) e.problem.retired
   retired-false = All-weaker (Contains e.problem.retired) (λ l. literal_value (valuation values) l ≡ false) off-given e.problem.retired (All-contains_itself e.problem.retired)
 
-  pub values-satisfy : Satisfies e.problem (valuation values)
-  values-satisfy = satisfies-by-clauses e.problem (valuation values) h.engine.sums h.engine.bounds
+  -- the problem without its bounds
+  abbrev bare : ProblemState
+  bare = record { atoms = e.problem.atoms; vars = e.problem.vars; gates = e.problem.gates; clauses = e.problem.clauses; sums = e.problem.sums; terms = e.problem.terms; bounds = []; retired = e.problem.retired }
+
+  bare-satisfied : Satisfies bare (valuation values)
+  bare-satisfied = satisfies-by-clauses bare (valuation values) h.engine.sums refl
       (All-weaker (λ c. (id : ℕ) × IsHeldAs e.store.clauses id c × (Contains e.ids.items id → ⊥)) (IsSatisfied (valuation values))
       (λ c w. once-satisfied-back (valuation values) c w.1.0 w.1.2 (settled-satisfied e.store.trail.values values e.problem.vars given w.1.0 (h.engine.knows.within w.0 w.1.0 w.1.1) (quiet w.0 w.1.0 w.1.1)))
       (clauses_of e.problem) h.engine.knows.problem)
       retired-false
+
+  all-decided : HasLits (IsDecidedAs e.store.trail.values (valuation values)) e.problem.terms e.problem.bounds
+  all-decided =
+      let fine : IsProblem e.problem = h.engine.problem in (
+        (λ k d lt j m less. value-given e.store.trail.values values e.problem.vars given (get_or (get_or e.problem.terms k d).parts j m).lit (fine.terms k d lt j m less)),
+        (λ k d lt. value-given e.store.trail.values values e.problem.vars given (get_or e.problem.bounds k d).out (fine.bounds k d lt).0),
+      )
+
+  pub values-satisfy : Satisfies e.problem (valuation values)
+  values-satisfy = record {
+    gates = bare-satisfied.gates;
+    clauses = bare-satisfied.clauses;
+    sums = bare-satisfied.sums;
+    bounds = bounds (valuation values) all-decided;
+    retired = retired-false;
+  }
 
   pub values-make : (assume : List Lit) → AreLitsOf e.problem.vars assume → AreTrue e.store.trail.values assume → MakesTrue (valuation values) assume
   values-make assume lits trues k d lt = true-given e.store.trail.values values e.problem.vars given (get_or assume k d) (lits k d lt) (trues k d lt)

@@ -15,7 +15,7 @@ use Rattle.ground_core.specs.Problems.{AreLitsOf}
 use Rattle.ground_core.specs.Meaning.{RefutesAll}
 use Rattle.search_engine.specs.declared.engine.Engine.{Engine}
 use Rattle.search_engine.specs.Potential.{potential, implied_of, Ahead}
-use Rattle.search_engine.specs.Selectors.{AreSelectors}
+use Rattle.kept_problem.specs.Selectors.{AreSelectors}
 use Rattle.search_engine.specs.Searching.{AheadAt, AreClosed, Extends, IsOrderly, IsSearch, AreAssumed, paid_of}
 use Rattle.search_engine.specs.Resting.{IsResting}
 use Rattle.search_engine.proofs.Standing.{stands-fewer}
@@ -25,7 +25,7 @@ use Rattle.search_engine.proofs.Roots.{root-refuted}
 use Rattle.search_engine.proofs.SearchFacts.{satisfies-held}
 use Rattle.search_engine.proofs.DecideFacts.{bits-length, with_store}
 use Rattle.search_engine.proofs.LearnFacts.{closed-true}
-use Rattle.search_engine.proofs.SelectorFacts.{few-made}
+use Rattle.search_engine.proofs.SelectorSteps.{few-made}
 use Rattle.search_engine.proofs.GrowFacts.{pow-le, resting-moves, same-itself}
 
 -- so much is a trail worth on which all follows

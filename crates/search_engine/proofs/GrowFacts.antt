@@ -17,14 +17,15 @@ use Rattle.ground_core.specs.Problems.{ProblemState, IsProblem, IsLitOf, AreLits
 use Rattle.ground_core.specs.Growing.{with_retired}
 use Rattle.ground_core.specs.Solving.{IsLearnt}
 use Rattle.search_engine.specs.declared.engine.Engine.{Engine}
-use Rattle.search_engine.specs.Joining.{CanJoin, joined_problem, with_selected}
+use Rattle.kept_problem.specs.Joining.{CanJoin, joined_problem, with_selected}
 use Rattle.ground_core.specs.GateClauses.{clauses_of}
 use Rattle.search_engine.specs.Knowledge.{IsHeldAs, Knows, Pushes, RemovesAll, RemovesFrom}
 use Rattle.search_engine.specs.Resting.{IsResting, SameLists, SameSearches, held_of}
-use Rattle.search_engine.proofs.Joined.{joined-laws, joined-sums, joined-bounds, lit-wider, selected-laws}
+use Rattle.kept_problem.proofs.JoinLaws.{retired-laws, joined-laws, joined-sums, lit-wider, selected-laws}
 use Rattle.search_engine.specs.Searching.{AreClosed, IsOrderly}
 use Rattle.search_engine.proofs.LearntLists.{learnt-joined, learnt-none, learnt-selected, learnt-retired}
-use Rattle.search_engine.proofs.Pushed.{front-push, take-next}
+use Rattle.kept_problem.proofs.Prefixes.{take-next}
+use Rattle.search_engine.proofs.Pushed.{front-push}
 use Rattle.search_engine.proofs.Closing.{closed-later, closed-same}
 use Rattle.search_engine.proofs.Known.{ids-within, known-added, known-forgets, known-selected, known-retired, known-closed}
 
@@ -111,15 +112,14 @@ resting-joined e f q h cleared can sums bounds laws pushed trail store sized lea
     let few : e.conflicts < 2 ^ e.problem.vars = h.fewer in
     let fewer : e.conflicts < 2 ^ q.vars = omega (arith, up, few) in
     let longer : q.vars < length f.store.trail.values = subst (λ (t : TrailState). q.vars < length t.values) (sym trail) sized in
-    let knows : Knows (joined_problem e.problem q) e.learnt e.ids.items f.store.clauses = known-added e.problem q e.learnt e.ids.items e.store.clauses f.store.clauses h.engine.knows pushed h.engine.sums h.engine.bounds sums bounds can laws in
+    let knows : Knows (joined_problem e.problem q) e.learnt e.ids.items f.store.clauses = known-added e.problem q e.learnt e.ids.items e.store.clauses f.store.clauses h.engine.knows pushed h.engine.sums h.engine.problem sums bounds can laws in
     record {
       engine = record {
-        problem = subst IsProblem (sym problem) (joined-laws e.problem q h.engine.sums h.engine.bounds sums bounds h.engine.problem laws can);
-        sums = ap (λ (p : ProblemState). p.sums) problem ∙ joined-sums e.problem q h.engine.sums h.engine.bounds sums bounds;
-        bounds = ap (λ (p : ProblemState). p.bounds) problem ∙ joined-bounds e.problem q h.engine.sums h.engine.bounds sums bounds;
+        problem = subst IsProblem (sym problem) (joined-laws e.problem q h.engine.sums sums bounds h.engine.problem laws can);
+        sums = ap (λ (p : ProblemState). p.sums) problem ∙ joined-sums e.problem q h.engine.sums sums bounds;
         within = rw closed (subst (λ (p : ProblemState). e.closed ≤ length p.retired) (sym problem) h.engine.within);
         closed = rw (closed, ids) (subst (λ (p : ProblemState). AreClosed f.store.clauses e.ids.items (take e.closed p.retired)) (sym problem) (closed-later e.store.clauses f.store.clauses e.ids.items (take e.closed e.problem.retired) pushed.front h.engine.closed));
-        learnt = rw (problem, learnt, moments) (learnt-joined e.problem q e.learnt e.moments.items e.ids.items e.store.clauses h.engine.sums h.engine.bounds sums bounds can h.engine.knows h.engine.learnt);
+        learnt = rw (problem, learnt, moments) (learnt-joined e.problem q e.learnt e.moments.items e.ids.items e.store.clauses can h.engine.knows h.engine.learnt);
         knows = rw (problem, learnt, ids) knows;
         store = store;
         sized = subst (λ (p : ProblemState). p.vars < length f.store.trail.values) (sym problem) longer;
@@ -138,7 +138,6 @@ resting-back e f mid h front removed steps level store sized problem learnt ids 
       engine = record {
         problem = rw problem h.engine.problem;
         sums = rw problem h.engine.sums;
-        bounds = rw problem h.engine.bounds;
         within = rw (problem, closed) h.engine.within;
         closed = rw (problem, closed, ids) (closed-same e.store.clauses f.store.clauses e.ids.items e.ids.items (take e.closed e.problem.retired) (λ id k at not. removed-there e.store.clauses mid f.store.clauses front removed id k at) (λ id has. has) h.engine.closed);
         learnt = rw (problem, learnt, moments) h.engine.learnt;
@@ -160,7 +159,6 @@ resting-forgets e f h removed steps level size store problem learnt ids closed m
       engine = record {
         problem = rw problem h.engine.problem;
         sums = rw problem h.engine.sums;
-        bounds = rw problem h.engine.bounds;
         within = rw (problem, closed) h.engine.within;
         closed = rw (problem, closed, ids) (closed-same e.store.clauses f.store.clauses e.ids.items [] (take e.closed e.problem.retired) removed.there (λ id has. absurd (nothing_in_none id has)) h.engine.closed);
         learnt = rw (learnt, moments) (learnt-none f.problem);
@@ -180,7 +178,6 @@ resting-moves e f h same problem clauses orderly level store sized = record {
   engine = record {
     problem = rw problem h.engine.problem;
     sums = rw problem h.engine.sums;
-    bounds = rw problem h.engine.bounds;
     within = rw (problem, same.closed) h.engine.within;
     closed = rw (problem, same.closed, same.ids, clauses) h.engine.closed;
     learnt = rw (problem, same.same.learnt, same.same.moments) h.engine.learnt;
@@ -209,7 +206,7 @@ pub resting-same : (e f : Engine) → IsResting e → SameLists e f → f.proble
 resting-same e f h same problem clauses trail laws =
     resting-moves e f h same problem clauses (rw trail h.orderly) (ap (λ (t : TrailState). t.level) trail ∙ h.level) laws (rw trail h.engine.sized)
 
-orderly-wider : (m n : ℕ) (steps : List Step) → m ≤ n → IsOrderly m steps → IsOrderly n steps
+pub orderly-wider : (m n : ℕ) (steps : List Step) → m ≤ n → IsOrderly m steps → IsOrderly n steps
 orderly-wider m n steps le h = record { named = λ k t at. lit-wider m n le t.lit (h.named k t at); decided = h.decided }
 
 -- a clause was added, with a variable more
@@ -224,7 +221,6 @@ resting-selected e f c k h same lits once clauses trail store sized problem =
       engine = record {
         problem = subst IsProblem (sym problem) (selected-laws e.problem c h.engine.problem lits);
         sums = ap (λ (p : ProblemState). p.sums) problem ∙ h.engine.sums;
-        bounds = ap (λ (p : ProblemState). p.bounds) problem ∙ h.engine.bounds;
         within = rw same.closed (subst (λ (p : ProblemState). e.closed ≤ length p.retired) (sym problem) h.engine.within);
         closed = rw (same.closed, same.ids, clauses) (subst (λ (p : ProblemState). AreClosed (e.store.clauses ++ Some k ∷ []) e.ids.items (take e.closed p.retired)) (sym problem) (closed-later e.store.clauses (e.store.clauses ++ Some k ∷ []) e.ids.items (take e.closed e.problem.retired) (front-push e.store.clauses (Some k)) h.engine.closed));
         learnt = rw (same.same.learnt, same.same.moments) (subst (λ (p : ProblemState). IsLearnt p e.learnt e.moments.items) (sym problem) (learnt-selected e.problem c e.learnt e.moments.items h.engine.learnt));
@@ -238,9 +234,6 @@ resting-selected e f c k h same lits once clauses trail store sized problem =
       once = rw same.same.root_conflicts h.once;
     }
 
-pub retired-laws : (p : ProblemState) (l : Lit) → IsProblem p → IsLitOf p.vars l → IsProblem (with_retired p l)
-retired-laws p l h lit = record { atoms = h.atoms; gates = h.gates; clauses = h.clauses; sums = h.sums; terms = h.terms; bounds = h.bounds; retired = All-push (IsLitOf p.vars) p.retired l h.retired lit }
-
 -- a selector was retired
 pub resting-retired : (e f : Engine) (l : Lit) → IsResting e → SameLists e f → IsLitOf e.problem.vars l → f.store ≡ e.store → f.problem ≡ with_retired e.problem l → IsResting f
 resting-retired e f l h same lit store problem =
@@ -253,7 +246,6 @@ resting-retired e f l h same lit store problem =
       engine = record {
         problem = subst IsProblem (sym problem) (retired-laws e.problem l h.engine.problem lit);
         sums = ap (λ (p : ProblemState). p.sums) problem ∙ h.engine.sums;
-        bounds = ap (λ (p : ProblemState). p.bounds) problem ∙ h.engine.bounds;
         within = rw same.closed (subst (λ (p : ProblemState). e.closed ≤ length p.retired) (sym problem) within);
         closed = rw (same.closed, same.ids, store) (subst (λ (p : ProblemState). AreClosed e.store.clauses e.ids.items (take e.closed p.retired)) (sym problem) closed);
         learnt = rw (same.same.learnt, same.same.moments) (subst (λ (p : ProblemState). IsLearnt p e.learnt e.moments.items) (sym problem) (learnt-retired e.problem l e.learnt e.moments.items h.engine.learnt));
@@ -281,7 +273,6 @@ resting-closed e f l k h at once clauses trail store problem ids same closed =
       engine = record {
         problem = rw problem h.engine.problem;
         sums = rw problem h.engine.sums;
-        bounds = rw problem h.engine.bounds;
         within = rw (problem, closed) (omega (arith, lt));
         closed = rw (problem, closed, ids, clauses) (subst (All P) (sym next) all);
         learnt = rw (problem, same.learnt, same.moments) h.engine.learnt;

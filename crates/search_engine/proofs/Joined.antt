@@ -1,95 +1,40 @@
 -- Two problems together.
-use Rattle.std.proofs.Common.{◌≡◌, ℕ, ◌+◌, ◌<◌, ◌≤◌, Bool, false, List, [], ◌∷◌, ◌++◌, length, length-append, flat_map, refl, sym, ap, ◌∙◌, subst, inl, inr, ◌⊎◌, ⊎_elim, arith, All, Any, Contains, append_assoc}
-use Rattle.std.proofs.lemmas.List.Elements.{All-append, All-push, All-weaker, All-nil, All-contains, All-contains_itself, Contains-append_left}
+use Rattle.std.proofs.Common.{◌≡◌, ℕ, zero, suc, ◌<◌, Bool, true, false, List, [], ◌∷◌, ◌++◌, length, flat_map, get_or, slice_get, refl, sym, ap, ◌∙◌, subst, inl, inr, ◌⊎◌, ⊎_elim, arith, All, Any, Contains, append_assoc}
+use Rattle.std.proofs.lemmas.List.Elements.{All-append, All-nil, All-contains, All-contains_itself, Contains-append_left}
 use Rattle.lit_core.specs.declared.literals.Lit.{Lit}
 use Rattle.lit_core.specs.Literals.{literal_value, negated}
 use Rattle.lit_core.specs.Truth.{IsSatisfied}
 use Rattle.ground_core.specs.declared.parts.Gate.{Gate}
 use Rattle.ground_core.specs.declared.parts.Part.{Part}
-use Rattle.ground_core.specs.declared.parts.AggCon.{AggCon}
 use Rattle.ground_core.specs.declared.parts.GroundTerm.{GroundTerm}
-use Rattle.ground_core.specs.Problems.{ProblemState, IsProblem, IsLitOf, AreLitsOf, IsGateOf, ArePartsOf, IsTermOf, IsSumOf, IsBoundOf}
-use Rattle.ground_core.specs.Meaning.{Satisfies, GateHolds, SumHolds, BoundHolds, AreAllFalse}
+use Rattle.ground_core.specs.Problems.{ProblemState, IsProblem, IsBoundOf}
+use Rattle.std.specs.Prelude.{IfSome}
+use Rattle.kb_logic.specs.declared.syntax.Cmp.TheVariants as cmp
+use Rattle.kb_logic.specs.Denotations.{compared}
+use Rattle.ground_core.specs.Meaning.{Satisfies, GateHolds, SumHolds, BoundHolds, AreAllFalse, term_value, value_of_bound}
 use Rattle.ground_core.specs.GateClauses.{clauses_of, gate_clauses}
 use Rattle.ground_core.proofs.Fronts.{All-front, All-back}
 use Rattle.search_engine.specs.Knowledge.{IsOfConstraint, IsOfSum, IsConstrained, Occurs}
 use Rattle.ground_core.specs.declared.parts.TermBound.{TermBound}
-use Rattle.search_engine.specs.Joining.{joined_problem, with_selected, CanJoin}
+use Rattle.kept_problem.specs.Joining.{joined_problem, CanJoin}
 
-pub lit-wider : (m n : ℕ) → m ≤ n → (l : Lit) → IsLitOf m l → IsLitOf n l
-lit-wider m n le l h = let a : 1 ≤ l.var.0 = h.0 in let b : l.var.0 ≤ m = h.1 in (a, omega (arith, b, le))
+slice_get-front : {X : Type 0} (xs ys : List X) (i : ℕ) → i < length xs → slice_get (xs ++ ys) i ≡ slice_get xs i
+slice_get-front [] ys i lt = absurd (omega (arith, lt))
+slice_get-front (x ∷ xs) ys zero lt = refl
+slice_get-front (x ∷ xs) ys (suc i) lt = slice_get-front xs ys i (omega (arith, lt))
 
-pub lits-wider : (m n : ℕ) → m ≤ n → (ls : List Lit) → AreLitsOf m ls → AreLitsOf n ls
-lits-wider m n le ls h = All-weaker (IsLitOf m) (IsLitOf n) (lit-wider m n le) ls h
+-- a bound on one of the first terms holds where it does among more terms
+pub bound-shorter : (v : ℕ → Bool) (terms more : List GroundTerm) (b : TermBound) → b.term < length terms → BoundHolds v (terms ++ more) b → BoundHolds v terms b
+bound-shorter v terms more b lt h on = subst (λ o. IfSome o (λ t. compared cmp.Lt (term_value v t) (value_of_bound b.below) ≡ true)) (slice_get-front terms more b.term lt) (h on)
 
-gate-wider : (m n : ℕ) → m ≤ n → (g : Gate) → IsGateOf m g → IsGateOf n g
-gate-wider m n le g h = (lit-wider m n le g.out h.0, lits-wider m n le g.parts h.1)
-
-parts-wider : (m n : ℕ) → m ≤ n → (ps : List Part) → ArePartsOf m ps → ArePartsOf n ps
-parts-wider m n le ps h = All-weaker (λ (p : Part). IsLitOf m p.lit) (λ (p : Part). IsLitOf n p.lit) (λ p. lit-wider m n le p.lit) ps h
-
-term-wider : (m n : ℕ) → m ≤ n → (t : GroundTerm) → IsTermOf m t → IsTermOf n t
-term-wider m n le t h = parts-wider m n le t.parts h
-
-sum-wider : (m n : ℕ) → m ≤ n → (s : AggCon) → IsSumOf m s → IsSumOf n s
-sum-wider m n le s h = (lit-wider m n le s.out h.0, parts-wider m n le s.parts h.1)
-
-bound-wider : (m n : ℕ) (terms : List GroundTerm) → m ≤ n → (b : TermBound) → IsBoundOf m terms b → IsBoundOf n terms b
-bound-wider m n terms le b h = (lit-wider m n le b.out h.0, h.1)
-
--- one more variable and one more clause
-pub selected-laws : (p : ProblemState) (c : List Lit) → IsProblem p → AreLitsOf (p.vars + 1) c → IsProblem (with_selected p c)
-selected-laws p c h lits =
-    let m : ℕ = p.vars in
-    let n : ℕ = p.vars + 1 in
-    let le : m ≤ n = omega arith in
-    record {
-      atoms = let x : length p.atoms ≤ p.vars = h.atoms in omega (arith, x);
-      gates = All-weaker (IsGateOf m) (IsGateOf n) (gate-wider m n le) p.gates h.gates;
-      clauses = All-push (AreLitsOf n) p.clauses c (All-weaker (AreLitsOf m) (AreLitsOf n) (lits-wider m n le) p.clauses h.clauses) lits;
-      sums = All-weaker (IsSumOf m) (IsSumOf n) (sum-wider m n le) p.sums h.sums;
-      terms = All-weaker (IsTermOf m) (IsTermOf n) (term-wider m n le) p.terms h.terms;
-      bounds = All-weaker (IsBoundOf m p.terms) (IsBoundOf n p.terms) (bound-wider m n p.terms le) p.bounds h.bounds;
-      retired = lits-wider m n le p.retired h.retired;
-    }
-
-none-append : {X : Type 0} (xs ys : List X) → xs ≡ [] → ys ≡ [] → xs ++ ys ≡ []
-none-append xs ys e f = ap (λ zs. zs ++ ys) e ∙ f
-
-module _ (p q : ProblemState) (sums : p.sums ≡ []) (bounds : p.bounds ≡ []) (more-sums : q.sums ≡ []) (more-bounds : q.bounds ≡ []) where
-  pub joined-sums : p.sums ++ q.sums ≡ []
-  joined-sums = none-append p.sums q.sums sums more-sums
-
-  pub joined-bounds : p.bounds ++ q.bounds ≡ []
-  joined-bounds = none-append p.bounds q.bounds bounds more-bounds
-
-  atoms-fit : length p.atoms ≤ p.vars → length q.atoms ≤ q.vars → CanJoin p q → length (p.atoms ++ q.atoms) ≤ q.vars
-  atoms-fit a b can =
-      let len : length (p.atoms ++ q.atoms) ≡ length p.atoms + length q.atoms = length-append p.atoms q.atoms in
-      let le : p.vars ≤ q.vars = can.vars in
-      ⊎_elim
-      (λ n. let none : length q.atoms ≡ 0 = ap length n.0 in omega (arith, len, none, a, le))
-      (λ (n : p.vars ≡ 0). omega (arith, len, n, a, b))
-      can.names
-
-  pub joined-laws : IsProblem p → IsProblem q → CanJoin p q → IsProblem (joined_problem p q)
-  joined-laws a b can = record {
-    atoms = atoms-fit a.atoms b.atoms can;
-    gates = All-append (IsGateOf q.vars) p.gates q.gates (All-weaker (IsGateOf p.vars) (IsGateOf q.vars) (gate-wider p.vars q.vars can.vars) p.gates a.gates) b.gates;
-    clauses = All-append (AreLitsOf q.vars) p.clauses q.clauses (All-weaker (AreLitsOf p.vars) (AreLitsOf q.vars) (lits-wider p.vars q.vars can.vars) p.clauses a.clauses) b.clauses;
-    sums = subst (All (IsSumOf q.vars)) (sym joined-sums) (All-nil (IsSumOf q.vars));
-    terms = All-append (IsTermOf q.vars) p.terms q.terms (All-weaker (IsTermOf p.vars) (IsTermOf q.vars) (term-wider p.vars q.vars can.vars) p.terms a.terms) b.terms;
-    bounds = subst (All (IsBoundOf q.vars (p.terms ++ q.terms))) (sym joined-bounds) (All-nil (IsBoundOf q.vars (p.terms ++ q.terms)));
-    retired = lits-wider p.vars q.vars can.vars p.retired a.retired;
-  }
-
+module _ (p q : ProblemState) (fine : IsProblem p) (more-bounds : q.bounds ≡ []) where
   -- what satisfies both satisfies each
   pub joined-first : (v : ℕ → Bool) → Satisfies (joined_problem p q) v → Satisfies p v
   joined-first v s = record {
     gates = All-front (GateHolds v) p.gates q.gates s.gates;
     clauses = All-front (IsSatisfied v) p.clauses q.clauses s.clauses;
     sums = All-front (SumHolds v) p.sums q.sums s.sums;
-    bounds = subst (All (BoundHolds v p.terms)) (sym bounds) (All-nil (BoundHolds v p.terms));
+    bounds = λ k d lt. bound-shorter v p.terms q.terms (get_or p.bounds k d) (fine.bounds k d lt).1 (All-front (BoundHolds v (p.terms ++ q.terms)) p.bounds q.bounds s.bounds k d lt);
     retired = s.retired;
   }
 
@@ -110,11 +55,13 @@ any-none : {X : Type 0} (P : X → Type 0) (xs : List X) → xs ≡ [] → Any P
 any-none P xs none w = let lt : w.0 < length xs = w.2 in let len : length xs ≡ 0 = ap length none in omega (arith, lt, len)
 
 -- a constraint of the first is one of both
-pub joined-constraint : (p q : ProblemState) → p.sums ≡ [] → p.bounds ≡ [] → (k : List Lit) → IsOfConstraint p k → IsOfConstraint (joined_problem p q) k
-joined-constraint p q sums bounds k way = ⊎_elim
+pub joined-constraint : (p q : ProblemState) → p.sums ≡ [] → IsProblem p → (k : List Lit) → IsOfConstraint p k → IsOfConstraint (joined_problem p q) k
+joined-constraint p q sums fine k way = ⊎_elim
     (λ (w : Any (λ s. (v : ℕ → Bool) → SumHolds v s → IsSatisfied v k) p.sums). absurd (any-none (λ s. (v : ℕ → Bool) → SumHolds v s → IsSatisfied v k) p.sums sums w))
     (λ (r : Any (λ b. (v : ℕ → Bool) → BoundHolds v p.terms b → IsSatisfied v k) p.bounds ⊎ Any (λ l. (v : ℕ → Bool) → literal_value v l ≡ false → IsSatisfied v k) p.retired). inr (⊎_elim
-    (λ (w : Any (λ b. (v : ℕ → Bool) → BoundHolds v p.terms b → IsSatisfied v k) p.bounds). absurd (any-none (λ b. (v : ℕ → Bool) → BoundHolds v p.terms b → IsSatisfied v k) p.bounds bounds w))
+    (λ (w : Any (λ b. (v : ℕ → Bool) → BoundHolds v p.terms b → IsSatisfied v k) p.bounds).
+    let of : IsBoundOf p.vars p.terms w.1 = subst (IsBoundOf p.vars p.terms) w.3 (fine.bounds w.0 w.1 w.2) in
+    inl (any-front (λ b. (v : ℕ → Bool) → BoundHolds v (p.terms ++ q.terms) b → IsSatisfied v k) p.bounds q.bounds (w.0, w.1, w.2, w.3, λ v holds. w.4 v (bound-shorter v p.terms q.terms w.1 of.1 holds))))
     (λ (w : Any (λ l. (v : ℕ → Bool) → literal_value v l ≡ false → IsSatisfied v k) p.retired). inr w)
     r))
     way

@@ -21,9 +21,10 @@ use Rattle.ground_core.specs.Solving.{Entails}
 use Rattle.ground_core.specs.GateClauses.{clauses_of, gate_clauses}
 use Rattle.ground_core.proofs.Fronts.{All-front}
 use Rattle.ground_core.proofs.Whole.{clauses-satisfied, clauses-within}
-use Rattle.search_engine.specs.Joining.{joined_problem, with_selected, CanJoin}
+use Rattle.kept_problem.specs.Joining.{joined_problem, with_selected, CanJoin}
 use Rattle.search_engine.specs.Knowledge.{IsHeldAs, IsOneOf, IsOfConstraint, IsOfSum, IsConstrained, Occurs, Knows, Pushes}
-use Rattle.search_engine.proofs.Joined.{lits-wider, joined-first, joined-second, joined-all, joined-has-first, joined-has-second, joined-constraint, joined-occurs}
+use Rattle.kept_problem.proofs.JoinLaws.{lits-wider}
+use Rattle.search_engine.proofs.Joined.{joined-first, joined-second, joined-all, joined-has-first, joined-has-second, joined-constraint, joined-occurs}
 use Rattle.search_engine.proofs.Pushed.{front-back, front-push, held-later, held-from-each}
 
 -- the same literals have the same truth
@@ -67,14 +68,14 @@ zip-push cl (i ∷ ids) [] id c z h = absurd z
 zip-push cl (i ∷ ids) (d ∷ cs) id c z h = (z.0, zip-push cl ids cs id c z.1 h)
 
 -- the clauses of another problem were pushed
-module _ (p q : ProblemState) (learnt : List (List Lit)) (ids : List ℕ) (cl new : List (Option (List Lit))) (h : Knows p learnt ids cl) (pushed : Pushes cl new (clauses_of q)) (sums : p.sums ≡ []) (bounds : p.bounds ≡ []) (more-sums : q.sums ≡ []) (more-bounds : q.bounds ≡ []) (can : CanJoin p q) (laws : IsProblem q) where
+module _ (p q : ProblemState) (learnt : List (List Lit)) (ids : List ℕ) (cl new : List (Option (List Lit))) (h : Knows p learnt ids cl) (pushed : Pushes cl new (clauses_of q)) (sums : p.sums ≡ []) (fine : IsProblem p) (more-sums : q.sums ≡ []) (more-bounds : q.bounds ≡ []) (can : CanJoin p q) (laws : IsProblem q) where
   abbrev both : ProblemState
   both = joined_problem p q
 
   added-implied : (v : ℕ → Bool) → Satisfies both v → (id : ℕ) (k : List Lit) → slice_get new id ≡ Some (Some k) → IsSatisfied v k
   added-implied v s id k e = ⊎_elim
-      (λ lt. h.implied v (joined-first p q sums bounds more-sums more-bounds v s) id k (front-back cl new pushed.front id (Some k) lt e))
-      (λ ge. let w = pushed.from id k ge e in once-satisfied v w.0 k w.2 (All-contains (IsSatisfied v) (clauses_of q) w.0 (clauses-satisfied q v (joined-second p q sums bounds more-sums more-bounds can v s)) w.1))
+      (λ lt. h.implied v (joined-first p q fine more-bounds v s) id k (front-back cl new pushed.front id (Some k) lt e))
+      (λ ge. let w = pushed.from id k ge e in once-satisfied v w.0 k w.2 (All-contains (IsSatisfied v) (clauses_of q) w.0 (clauses-satisfied q v (joined-second p q fine more-bounds can v s)) w.1))
       (cases_lt id (length cl))
 
   added-within : (id : ℕ) (k : List Lit) → slice_get new id ≡ Some (Some k) → AreLitsOf q.vars k
@@ -85,7 +86,7 @@ module _ (p q : ProblemState) (learnt : List (List Lit)) (ids : List ℕ) (cl ne
 
   added-from : (id : ℕ) (k : List Lit) → slice_get new id ≡ Some (Some k) → Contains ids id ⊎ (IsOneOf (clauses_of both) k ⊎ IsOfConstraint both k)
   added-from id k e = ⊎_elim
-      (λ lt. ⊎_elim (λ has. inl has) (λ way. inr (⊎_elim (λ w. inl (w.0, joined-has-first p q w.0 w.1, w.2)) (λ w. inr (joined-constraint p q sums bounds k w)) way)) (h.from id k (front-back cl new pushed.front id (Some k) lt e)))
+      (λ lt. ⊎_elim (λ has. inl has) (λ way. inr (⊎_elim (λ w. inl (w.0, joined-has-first p q w.0 w.1, w.2)) (λ w. inr (joined-constraint p q sums fine k w)) way)) (h.from id k (front-back cl new pushed.front id (Some k) lt e)))
       (λ ge. let w = pushed.from id k ge e in inr (inl (w.0, joined-has-second p q w.0 w.1, w.2)))
       (cases_lt id (length cl))
 
@@ -206,7 +207,7 @@ module _ (p : ProblemState) (learnt : List (List Lit)) (ids : List ℕ) (cl : Li
   }
 
 -- one more selector is retired
-any-push : {X : Type 0} (P : X → Type 0) (xs : List X) (y : X) → Any P xs → Any P (xs ++ y ∷ [])
+pub any-push : {X : Type 0} (P : X → Type 0) (xs : List X) (y : X) → Any P xs → Any P (xs ++ y ∷ [])
 any-push P xs y w = let has = Contains-append_left xs (y ∷ []) w.1 (w.0, w.2, w.3) in (has.0, w.1, has.1, has.2, w.4)
 
 pub retired-first : (p : ProblemState) (l : Lit) (v : ℕ → Bool) → Satisfies (with_retired p l) v → Satisfies p v

@@ -62,7 +62,6 @@ module _ (e f : Engine) (h : IsSearch e) (quiet : IsQuiet e.store) (lits held : 
   learnt-engine = record {
     problem = rw problem h.engine.problem;
     sums = rw problem h.engine.sums;
-    bounds = rw problem h.engine.bounds;
     within = rw (problem, closed) h.engine.within;
     closed = rw (problem, closed, ids, clauses) (closed-learnt e.store.clauses held e.ids.items (take e.closed e.problem.retired) h.engine.closed);
     learnt = rw (problem, learnt, moments) (learnt-push e.problem e.learnt e.moments.items lits h.engine.learnt (lesson-learnt e.problem e.learnt lits live lesson.entailed (lesson-fresh e.problem e.learnt e.ids.items e.store h.engine.knows quiet lits lesson.others open-first)));

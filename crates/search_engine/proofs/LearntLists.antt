@@ -5,14 +5,17 @@ use Rattle.std.proofs.lemmas.List.Elements.{All-nil, All-push, All-weaker, All-c
 use Rattle.std.proofs.lemmas.Option.{slice_get_within, get_or_from_slice_get}
 use Rattle.lit_core.specs.declared.literals.Lit.{Lit}
 use Rattle.clause_store.proofs.ListFacts.{slice_get-push_cases}
+use Rattle.kb_logic.specs.declared.elements.ExtInt.{ExtInt}
 use Rattle.kb_logic.specs.declared.structures.Literal.{Literal}
 use Rattle.ground_core.specs.declared.moments.Moment.{Moment}
 use Rattle.ground_core.specs.declared.parts.GroundTerm.{GroundTerm}
+use Rattle.ground_core.specs.declared.parts.TermBound.{TermBound}
+use Rattle.ground_core.specs.Growth.{next_lit, with_bound}
 use Rattle.ground_core.specs.Problems.{ProblemState, IsLitOf}
 use Rattle.ground_core.specs.Moments.{moment_of, problem_at, IsMomentOf}
 use Rattle.ground_core.specs.Growing.{with_retired}
 use Rattle.ground_core.specs.Solving.{IsLearnt, IsLearntFrom}
-use Rattle.search_engine.specs.Joining.{joined_problem, with_selected, CanJoin}
+use Rattle.kept_problem.specs.Joining.{joined_problem, with_selected, CanJoin}
 use Rattle.search_engine.specs.Knowledge.{IsHeldAs, Knows}
 
 -- nothing was learnt yet
@@ -58,8 +61,8 @@ learnt-push p learnt moments c h new = record {
 }
 
 -- moments are those of the problem that another was joined to
-at-joined : (p q : ProblemState) (m : Moment) → IsMomentOf p m → p.sums ≡ [] → p.bounds ≡ [] → q.sums ≡ [] → q.bounds ≡ [] → q.atoms ≡ [] → q.terms ≡ [] → problem_at (joined_problem p q) m ≡ problem_at p m
-at-joined p q m is sums bounds more-sums more-bounds atoms terms =
+at-joined : (p q : ProblemState) (m : Moment) → IsMomentOf p m → q.atoms ≡ [] → q.terms ≡ [] → problem_at (joined_problem p q) m ≡ problem_at p m
+at-joined p q m is atoms terms =
     let a : p.atoms ++ q.atoms ≡ p.atoms = ap (λ (xs : List Literal). p.atoms ++ xs) atoms ∙ append-nil p.atoms in
     let t : p.terms ++ q.terms ≡ p.terms = ap (λ (xs : List GroundTerm). p.terms ++ xs) terms ∙ append-nil p.terms in
     let g : take m.gates (p.gates ++ q.gates) ≡ take m.gates p.gates = take-append-le m.gates p.gates q.gates is.gates in
@@ -91,7 +94,7 @@ nothing-learnt p (c ∷ cs) (m ∷ ms) (i ∷ ids) cl none h knows =
     absurd (let low : 1 ≤ fresh.0.var.0 = is.0 in let high : fresh.0.var.0 ≤ p.vars = is.1 in omega (arith, low, high, none))
 
 -- what was learnt is learnt still where another problem is joined
-module _ (p q : ProblemState) (learnt : List (List Lit)) (moments : List Moment) (ids : List ℕ) (cl : List (Option (List Lit))) (sums : p.sums ≡ []) (bounds : p.bounds ≡ []) (more-sums : q.sums ≡ []) (more-bounds : q.bounds ≡ []) (can : CanJoin p q) (knows : Knows p learnt ids cl) (h : IsLearnt p learnt moments) where
+module _ (p q : ProblemState) (learnt : List (List Lit)) (moments : List Moment) (ids : List ℕ) (cl : List (Option (List Lit))) (can : CanJoin p q) (knows : Knows p learnt ids cl) (h : IsLearnt p learnt moments) where
   empty-moments : (ms : List Moment) → length ms ≡ 0 → ms ≡ []
   empty-moments [] e = refl
   empty-moments (m ∷ ms) e = absurd (omega (arith, e))
@@ -102,7 +105,7 @@ module _ (p q : ProblemState) (learnt : List (List Lit)) (moments : List Moment)
     were = All-weaker (IsMomentOf p) (IsMomentOf (joined_problem p q)) (more-moments p q can) moments h.were;
     each = λ k c m at when.
         let was : IsMomentOf p m = All-contains (IsMomentOf p) moments m h.were (k, slice_get_within moments k m when, get-or-of moments k m when) in
-        subst (λ (r : ProblemState). IsLearntFrom r (take k learnt) c) (sym (at-joined p q m was sums bounds more-sums more-bounds names.0 names.1)) (h.each k c m at when);
+        subst (λ (r : ProblemState). IsLearntFrom r (take k learnt) c) (sym (at-joined p q m was names.0 names.1)) (h.each k c m at when);
   }
     where
       get-or-of : (ms : List Moment) (k : ℕ) (m : Moment) → slice_get ms k ≡ Some m → slice_index_or ms k m ≡ m
@@ -151,6 +154,22 @@ learnt-retired p l learnt moments h = learnt-later p (with_retired p l) learnt m
       retired = let x : m.retired ≤ length p.retired = is.retired in let n : length (p.retired ++ l ∷ []) ≡ length p.retired + 1 = length_push p.retired l in omega (arith, x, n);
     })
     (λ m is. let e : take m.retired (p.retired ++ l ∷ []) ≡ take m.retired p.retired = take-append-le m.retired p.retired (l ∷ []) is.retired in rw e refl)
+
+-- the bound that is added last
+abbrev new_bound : ProblemState → ℕ → ExtInt → TermBound
+new_bound q n z = record { out = next_lit q; term = n; below = z }
+
+pub learnt-bounded : (p : ProblemState) (term : ℕ) (below : ExtInt) (learnt : List (List Lit)) (moments : List Moment) → IsLearnt p learnt moments → IsLearnt (with_bound p term below) learnt moments
+learnt-bounded p term below learnt moments h = learnt-later p (with_bound p term below) learnt moments h
+    (λ m is. record {
+      vars = let x : m.vars ≤ p.vars = is.vars in omega (arith, x);
+      gates = is.gates;
+      clauses = is.clauses;
+      sums = is.sums;
+      bounds = let x : m.bounds ≤ length p.bounds = is.bounds in let n : length (p.bounds ++ new_bound p term below ∷ []) ≡ length p.bounds + 1 = length_push p.bounds (new_bound p term below) in omega (arith, x, n);
+      retired = is.retired;
+    })
+    (λ m is. let e : take m.bounds (p.bounds ++ new_bound p term below ∷ []) ≡ take m.bounds p.bounds = take-append-le m.bounds p.bounds (new_bound p term below ∷ []) is.bounds in rw e refl)
 
 -- what was learnt in two parts
 pub replicate-append : {X : Type 0} (a b : ℕ) (x : X) → replicate a x ++ replicate b x ≡ replicate (a + b) x

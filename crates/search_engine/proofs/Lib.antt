@@ -3,7 +3,7 @@ pub mod Standing
 pub mod Joined
 pub mod Pushed
 pub mod Closing
-pub mod SelectorFacts
+pub mod SelectorSteps
 pub mod Beginning
 pub mod LearntLists
 pub mod Known
@@ -20,5 +20,4 @@ pub mod AnswerFacts
 pub mod TurnFacts
 pub mod GrowFacts
 pub mod Removed
-pub mod PhaseFacts
-pub mod ScoreFacts
+pub mod BoundFacts

@@ -77,7 +77,6 @@ pub engine-moves : (e f : Engine) → Moves e f → IsStore f.store → IsEngine
 engine-moves e f m laws h = record {
   problem = subst IsProblem (sym m.problem) h.problem;
   sums = ap (λ (p : ProblemState). p.sums) m.problem ∙ h.sums;
-  bounds = ap (λ (p : ProblemState). p.bounds) m.problem ∙ h.bounds;
   within = rw (m.problem, m.closed) h.within;
   closed = rw (m.problem, m.closed, m.ids, m.clauses) h.closed;
   learnt = rw (m.problem, m.learnt, m.moments) h.learnt;
@@ -111,7 +110,6 @@ search-spare e f problem learnt ids moments known closed base conflicts root cla
   engine = record {
     problem = rw problem h.engine.problem;
     sums = rw problem h.engine.sums;
-    bounds = rw problem h.engine.bounds;
     within = rw (problem, closed) h.engine.within;
     closed = rw (problem, closed, ids, clauses) h.engine.closed;
     learnt = rw (problem, learnt, moments) h.engine.learnt;

@@ -1,11 +1,8 @@
 pub mod Potential
-pub mod Selectors
 pub mod Knowledge
-pub mod Joining
-pub mod KeptFields
 pub mod Searching
 pub mod LitSets
 pub mod Cores
 pub mod Resting
-pub mod Phases
-pub mod Scores
+pub use Rattle.kept_problem.specs.Joining
+pub use Rattle.kept_problem.specs.Selectors

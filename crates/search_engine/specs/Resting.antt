@@ -1,12 +1,13 @@
 -- What holds while no search is running.
-use Rattle.std.specs.Prelude.{◌≡◌, ◌^◌, ◌<◌, ◌≤◌, Bool, true, false, Option, Some, None, List, [], ◌∷◌, length, take}
+use Rattle.std.specs.Prelude.{ℕ, ◌≡◌, ◌^◌, ◌<◌, ◌≤◌, Bool, true, false, Option, Some, None, List, [], ◌∷◌, length, take}
 use Rattle.lit_core.specs.declared.literals.Lit.{Lit}
 use Rattle.clause_store.specs.StoreState.{IsStore, IsQuiet}
 use Rattle.search_engine.specs.declared.engine.Engine.{Engine}
 use Rattle.ground_core.specs.Problems.{ProblemState}
 use Rattle.ground_core.specs.Meaning.{RefutesAll}
-use Rattle.ground_core.specs.Growth.{empty_problem, with_exclusion}
-use Rattle.search_engine.specs.Joining.{joined_problem}
+use Rattle.kb_logic.specs.declared.elements.ExtInt.{ExtInt}
+use Rattle.ground_core.specs.Growth.{empty_problem, with_bound, with_exclusion}
+use Rattle.kept_problem.specs.Joining.{joined_problem}
 use Rattle.search_engine.specs.Searching.{IsEngine, IsOrderly}
 
 -- the clauses that are held, in order
@@ -62,6 +63,11 @@ pub record Stays (old new : Engine) : Type 0 where
 -- a selector was added under which the atoms differ from these values
 pub record Excludes (old : Engine) (values : List Bool) (new : Engine) : Type 0 where
   pub problem : new.problem ≡ with_exclusion old.problem values
+  pub same : SameSearches old new
+
+-- a selector was added under which the term is below the number
+pub record Bounds (old : Engine) (term : ℕ) (below : ExtInt) (new : Engine) : Type 0 where
+  pub problem : new.problem ≡ with_bound old.problem term below
   pub same : SameSearches old new
 
 -- only the held clauses and the trail differ

@@ -6,12 +6,14 @@ use Rattle.clause_store.specs.declared.trails.Step.{Step}
 use Rattle.clause_store.specs.StoreState.{StoreState, IsStore, IsHeld, IsMadeBefore, IsConflict, IsQuiet}
 use Rattle.conflict_analysis.specs.Analyses.{IsFalseSince, IsFalseUpTo}
 use Rattle.ground_core.specs.Problems.{IsProblem, IsLitOf, AreLitsOf}
-use Rattle.ground_core.specs.Meaning.{RefutesAll}
+use Rattle.ground_core.specs.Meaning.{BoundHolds, RefutesAll}
 use Rattle.ground_core.specs.declared.solving.Verdict.{Verdict}
 use Rattle.ground_core.specs.declared.solving.Halt.{Halt}
 use Rattle.ground_core.specs.declared.solving.Halt.TheVariants as halt
 use Rattle.ground_core.specs.Moments.{moment_of}
 use Rattle.ground_core.specs.Solving.{Entails, Answers, IsLearnt, counted}
+use Rattle.term_bounds.specs.Breaking.{HasLits}
+use Rattle.term_bounds.specs.Shares.{IsDecidedAs}
 use Rattle.search_engine.specs.declared.engine.Engine.{Engine}
 use Rattle.search_engine.specs.declared.engine.Turn.{Turn}
 use Rattle.search_engine.specs.declared.searching.Outcome.{Outcome}
@@ -50,7 +52,6 @@ AreClosed clauses ids ls = All (λ l. (id : ℕ) × IsHeldAs clauses id (negated
 pub record IsEngine (e : Engine) : Type 0 where
   pub problem : IsProblem e.problem
   pub sums : e.problem.sums ≡ []
-  pub bounds : e.problem.bounds ≡ []
   pub within : e.closed ≤ length e.problem.retired
   -- the first retired selectors
   pub closed : AreClosed e.store.clauses e.ids.items (take e.closed e.problem.retired)
@@ -146,14 +147,14 @@ abbrev pub SettleGives : Engine → Engine → Bool → Type 0
 SettleGives old new true = (new.root_conflicts ≡ 0) × ((goal : ℕ) → StandsAt old goal → AheadAt new (goal + 1))
 SettleGives old new false = (new.root_conflicts ≡ 1) × RefutesAll old.problem []
 
--- the variables from one number on and below another have values
-abbrev pub HaveValues : List (Option Bool) → ℕ → ℕ → Type 0
-HaveValues values from end = (k : ℕ) → from ≤ k → k < end → IsSome (slice_index_or values k None)
-
 -- the values of the variables from 1 on
 pub record GivesValues (assigned : List (Option Bool)) (end : ℕ) (values : List Bool) : Type 0 where
   pub size : length values ≡ end
   pub same : (k : ℕ) → 1 ≤ k → k < end → slice_index_or assigned k None ≡ Some (valuation values k)
+
+-- where every variable of terms and bounds has a value, the bounds hold
+abbrev pub HoldsWhereDecided : Engine → Type 0
+HoldsWhereDecided e = (v : ℕ → Bool) → HasLits (IsDecidedAs e.store.trail.values v) e.problem.terms e.problem.bounds → All (BoundHolds v e.problem.terms) e.problem.bounds
 
 -- what the search needs between its turns
 pub record IsTurn (assume : List Lit) (e : Engine) : Type 0 where

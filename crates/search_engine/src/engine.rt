@@ -3,13 +3,13 @@ ghost use Rattle.std.specs.Prelude.{◌≡◌, ℕ, ◌+◌, ◌≤◌, Some, No
 ghost use Rattle.clause_store.specs.StoreState.{IsConflict, IsQuiet};
 ghost use Rattle.search_engine.specs.Searching.{Continues, Extends, IsFirstAssigned, IsFirstOpen, IsLesson, IsSearch, KeepsAssumed, LessonGives, SameCounts, SettleGives, StandsAt, TurnGives};
 
-use crate::decider::Decider;
-use crate::kept::KeptProblem;
 use crate::levels::conflict_level;
 use clause_store::Store;
 use conflict_analysis::analyse;
 use ground_core::{Memory, Moment};
+use kept_problem::KeptProblem;
 use lit_core::{Clause, ClauseList, Lit};
+use search_decisions::Decider;
 use std::alloc::Global;
 
 /// What became of a conflict.
@@ -73,12 +73,12 @@ impl Engine {
             self.root_conflicts += 1;
             return Ok(None);
         }
-        self.decider.takes_back();
         self.decider.raise(self.store.lend(conflict));
+        self.decider.takes_back(&self.store, level);
         self.store.back_to(level);
         let analysis = analyse(self.alloc, &self.store, conflict)?;
         self.conflicts = self.conflicts.saturating_add(1);
-        self.decider.takes_back();
+        self.decider.takes_back(&self.store, analysis.level);
         self.store.back_to(analysis.level);
         Ok(Some(analysis.clause))
     }

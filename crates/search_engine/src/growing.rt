@@ -3,17 +3,18 @@ ghost use Rattle.std.specs.Prelude.{◌≡◌, ◌<◌, ◌≤◌, ◌+◌, [], 
 ghost use Rattle.ground_core.specs.Problems.{AreLitsOf, IsProblem};
 ghost use Rattle.ground_core.specs.Growth.{next_lit};
 ghost use Rattle.ground_core.specs.Growing.{IsSelector, with_retired};
-ghost use Rattle.search_engine.specs.Joining.{CanJoin, with_selected};
-ghost use Rattle.search_engine.specs.Resting.{Excludes, Grows, IsHalfDone, IsNew, IsResting, Reserves, SameSearches, Stays};
+ghost use Rattle.kept_problem.specs.Joining.{CanJoin, with_selected};
+ghost use Rattle.search_engine.specs.Resting.{Bounds, Excludes, Grows, IsHalfDone, IsNew, IsResting, Reserves, SameSearches, Stays};
 
-use crate::decider::Decider;
 use crate::engine::Engine;
 use crate::exclusions::exclusion;
-use crate::kept::KeptProblem;
 use crate::pushing::{push_problem, remove_all, remove_from};
 use clause_store::Store;
 use ground_core::{Memory, Problem};
+use kb_logic::ExtInt;
+use kept_problem::KeptProblem;
 use lit_core::{Clause, ClauseList, Lit, Values, Var};
+use search_decisions::Decider;
 use std::alloc::Global;
 
 impl Engine {
@@ -141,6 +142,25 @@ impl Engine {
         let clause = exclusion(self.alloc, out, values, atoms)?;
         self.hold_last(clause)?;
         Ok(out)
+    }
+
+    /// Adds a selector under which the term is below the number. No clause is held for it: a search looks
+    /// whether bounds hold.
+    pub fn bound(&mut self, term: u32, below: ExtInt) -> Result<Lit, Memory>
+        requires resting { IsResting self.old }
+        requires term { term < length self.old.problem.terms }
+        ensures resting { IsResting self.new }
+        ensures ok { IfOk result (λ out. (out ≡ next_lit self.old.problem) × Bounds self.old term below self.new) }
+        ensures err { OnErr result (Stays self.old self.new) }
+    {
+        let Some(var) = self.problem.vars().checked_add(1) else {
+            return Err(Memory);
+        };
+        let Some(count) = var.checked_add(1) else {
+            return Err(Memory);
+        };
+        self.make_room(count)?;
+        self.problem.add_bound(term, below)
     }
 
     /// Makes a selector false for good. The clause that says so is held when the next search begins.

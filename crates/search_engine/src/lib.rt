@@ -3,16 +3,12 @@
 #![tactic(auto)]
 
 mod cores;
-mod decider;
 mod engine;
 mod exclusions;
 mod growing;
-mod kept;
 mod levels;
 mod lit_sets;
-mod phases;
 mod pushing;
-mod scores;
 mod searching;
 
 pub use cores::chosen;

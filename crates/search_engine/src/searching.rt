@@ -5,8 +5,10 @@ ghost use Rattle.lit_core.specs.Literals.{value_in};
 ghost use Rattle.clause_store.specs.StoreState.{IsConflict, IsQuiet, IsStore};
 ghost use Rattle.ground_core.specs.Problems.{AreLitsOf};
 ghost use Rattle.ground_core.specs.Solving.{Answers, counted};
+ghost use Rattle.term_bounds.specs.Breaking.{IsBrokenBy};
 ghost use Rattle.search_engine.specs.Resting.{IsBegun, IsResting, KeepsProblem};
-ghost use Rattle.search_engine.specs.Searching.{AdvanceGives, AheadAt, AreTrue, Continues, GivesValues, HaltsAt, HasRoom, HaveValues, IsSearch, IsTurn, LearnsNow, OutcomeGives, StandsAt, TurnEnds};
+ghost use Rattle.search_engine.specs.Searching.{AdvanceGives, AheadAt, AreTrue, Continues, GivesValues, HaltsAt, HasRoom, HoldsWhereDecided, IsSearch, IsTurn, LearnsNow, OutcomeGives, StandsAt, TurnEnds};
+ghost use Rattle.search_decisions.specs.Scores.{HaveValues};
 
 use crate::cores::core_of;
 use crate::engine::Engine;
@@ -17,6 +19,7 @@ use ground_core::{Halt, Memory, Verdict};
 use kb_logic::ListOf;
 use lit_core::{Assignment, Lit, Values, Var};
 use std::alloc::Global;
+use term_bounds::broken;
 
 /// The place of the first assumption from `from` on that is not true, or their number.
 fn first_untrue(store: &Store, assume: &[Lit], from: usize) -> usize
@@ -113,6 +116,7 @@ impl Engine {
         requires turn { IsTurn assume.now self.old }
         requires literals { AreLitsOf self.old.problem.vars assume.now }
         requires trues { AreTrue self.old.store.trail.values assume.now }
+        requires bounds { HoldsWhereDecided self.old }
         ensures search { IsSearch self.new }
         ensures same { Continues self.old self.new }
         ensures turn { IsTurn assume.now self.new }
@@ -182,6 +186,68 @@ impl Engine {
         }
     }
 
+    /// Holds a clause that a bound implies and that is false, and learns from it, where one more clause may be
+    /// learnt.
+    fn settle_broken(&mut self, clause: &[Lit], most: Option<u64>) -> Result<Option<Verdict>, Halt>
+        requires search { IsSearch self.old }
+        requires broken { IsBrokenBy self.old.problem.terms self.old.problem.bounds self.old.store.trail.values clause.now }
+        requires unrefuted { self.old.root_conflicts ≡ 0 }
+        requires ahead { AheadAt self.old 0 }
+        requires room { HasRoom most self.old }
+        ensures search { IsSearch self.new }
+        ensures same { Continues self.old self.new }
+        ensures turn { (assume : List Lit) → IsTurn assume self.old → IsTurn assume self.new }
+        ensures room { HasRoom most self.new }
+        ensures answer { IfOk result (λ verdict. (assume : List Lit) → AdvanceGives assume self.old self.new verdict) }
+        ensures halt { IfErr result (HaltsAt most self.new) }
+    {
+        if is_full(self.learnt.len(), most) {
+            return Err(Halt::Spent);
+        }
+        let Ok(id) = self.store.push_clause(clause) else {
+            return Err(Halt::Memory);
+        };
+        match self.settle(id) {
+            Ok(true) => Ok(None),
+            Ok(false) => Ok(Some(Verdict::Unsat(ListOf::new(self.alloc)))),
+            Err(_) => Err(Halt::Memory),
+        }
+    }
+
+    /// Learns from a bound that cannot hold any more, or decides a variable where there is none.
+    fn proceed<C: Choose>(
+        &mut self,
+        rule: &C,
+        assume: &[Lit],
+        most: Option<u64>,
+    ) -> Result<Option<Verdict>, Halt>
+        requires search { IsSearch self.old }
+        requires quiet { IsQuiet self.old.store }
+        requires unrefuted { self.old.root_conflicts ≡ 0 }
+        requires ahead { AheadAt self.old 0 }
+        requires turn { IsTurn assume.now self.old }
+        requires literals { AreLitsOf self.old.problem.vars assume.now }
+        requires trues { AreTrue self.old.store.trail.values assume.now }
+        requires room { HasRoom most self.old }
+        ensures search { IsSearch self.new }
+        ensures same { Continues self.old self.new }
+        ensures turn { IsTurn assume.now self.new }
+        ensures room { HasRoom most self.new }
+        ensures answer { IfOk result (AdvanceGives assume.now self.old self.new) }
+        ensures halt { IfErr result (HaltsAt most self.new) }
+    {
+        let terms = self.problem.terms();
+        let bounds = self.problem.bounds();
+        match broken(self.alloc, terms, bounds, self.store.assignment()) {
+            Ok(None) => match self.decide_next(rule, assume) {
+                Ok(verdict) => Ok(verdict),
+                Err(_) => Err(Halt::Memory),
+            },
+            Ok(Some(clause)) => self.settle_broken(&clause, most),
+            Err(_) => Err(Halt::Memory),
+        }
+    }
+
     /// Propagates, and learns from a conflict or assumes further.
     fn turn(&mut self, assume: &[Lit], most: Option<u64>) -> Result<Outcome, Memory>
         requires search { IsSearch self.old }
@@ -202,7 +268,7 @@ impl Engine {
         }
     }
 
-    /// Goes a turn further, and decides a variable where nothing else is to be done.
+    /// Goes a turn further; where nothing else is to be done, looks at bounds and decides a variable.
     fn step<C: Choose>(
         &mut self,
         rule: &C,
@@ -225,10 +291,7 @@ impl Engine {
         match self.turn(assume, most) {
             Ok(Outcome::Answered(verdict)) => Ok(Some(verdict)),
             Ok(Outcome::Further) => Ok(None),
-            Ok(Outcome::Open) => match self.decide_next(rule, assume) {
-                Ok(verdict) => Ok(verdict),
-                Err(_) => Err(Halt::Memory),
-            },
+            Ok(Outcome::Open) => self.proceed(rule, assume, most),
             Ok(Outcome::Spent) => Err(Halt::Spent),
             Err(_) => Err(Halt::Memory),
         }

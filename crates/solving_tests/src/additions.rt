@@ -31,7 +31,7 @@ fn excluded<S: Grow>(solver: &mut S) -> Option<(bool, bool)>
 }
 
 /// Whether a search finds values.
-fn finds<S: Grow>(solver: &mut S, assume: &[Lit]) -> bool
+pub fn finds<S: Grow>(solver: &mut S, assume: &[Lit]) -> bool
     requires literals { AreLitsOf (S.state solver.old).problem.vars assume.now }
     requires unretired { AreUnretired (S.state solver.old).problem assume.now }
     ensures problem { (S.state solver.new).problem ≡ (S.state solver.old).problem }

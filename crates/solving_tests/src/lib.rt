@@ -4,6 +4,8 @@
 #[cfg(test)]
 mod additions;
 #[cfg(test)]
+mod bounds_tests;
+#[cfg(test)]
 mod conflicts;
 #[cfg(test)]
 mod fixtures;

@@ -64,10 +64,12 @@ count_more domains types i count next size h s e =
 
 -- all types are counted
 pub count_all : (domains : List (List Elem)) (types : List ℕ) (i count : ℕ) → length types ≤ i
-    → drop i types ≡ [] → capped (count * length (tuples_of domains (drop i types))) ≡ capped (length (tuples_of domains types))
+    → drop i types ≡ [] → capped (count * length (tuples_of domains (drop i types)))
+    ≡ capped (length (tuples_of domains types))
     → count ≤ 18446744073709551615 → count ≡ capped (length (tuples_of domains types))
 count_all domains types i count h none e fits =
-    let one : count * length (tuples_of domains (drop i types)) ≡ count * 1 = ap (λ ts. count * length (tuples_of domains ts)) none in
+    let one : count * length (tuples_of domains (drop i types)) ≡ count * 1 =
+    ap (λ ts. count * length (tuples_of domains ts)) none in
     let same : count * 1 ≡ count = mul-one count in
     sym (within count fits) ∙ (ap capped (sym same ∙ sym one) ∙ e)
 
@@ -99,13 +101,15 @@ pub first_var_at : (domains : List (List Elem)) (symbols : List Symbol) (n s : �
     → slice_get (first_vars domains symbols n) s ≡ Some (1 + sum_by (atoms_in domains) (take s symbols))
 first_var_at domains symbols zero s h = absurd (omega (arith, h))
 first_var_at domains symbols (suc n) s h =
-    elim (slice_push (first_vars domains symbols n) (1 + sum_by (atoms_in domains) (take n symbols)) n s (first_vars_length domains symbols n) h) [
+    elim (slice_push (first_vars domains symbols n) (1 + sum_by (atoms_in domains) (take n symbols)) n s
+    (first_vars_length domains symbols n) h) [
       | inl a ↦ a.1 ∙ first_var_at domains symbols n s a.0
       | inr a ↦ a.1 ∙ ap (λ k. Some (1 + sum_by (atoms_in domains) (take k symbols))) (sym a.0)
     ]
 
 -- one symbol more
-pub next_var : (domains : List (List Elem)) (symbols : List Symbol) (i next sum count : ℕ) (d : Symbol) → i < length symbols
+pub next_var : (domains : List (List Elem)) (symbols : List Symbol) (i next sum count : ℕ) (d : Symbol)
+    → i < length symbols
     → d ≡ get_or symbols i d → next ≡ 1 + sum_by (atoms_in domains) (take i symbols)
     → count ≡ capped (atoms_in domains d) → sum ≡ next + count → sum ≤ 18446744073709551615
     → sum ≡ 1 + sum_by (atoms_in domains) (take (i + 1) symbols)

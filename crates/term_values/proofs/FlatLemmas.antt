@@ -153,7 +153,8 @@ row_pushed gs ms vs ws es e h p q =
     ∙ ap (λ c. rows_between gs vs origin es ++ (ms, map row_value c) ∷ []) b))
 
 pub index_within : (gs : List Lit) (vs : List RowValue) (s : RowEnd) (es : List RowEnd)
-    (rows : List (List Lit × List Denotation)) (k : ℕ) → rows_between gs vs s es ≡ rows → k < length rows → k < length es
+    (rows : List (List Lit × List Denotation)) (k : ℕ) → rows_between gs vs s es ≡ rows → k < length rows
+    → k < length es
 index_within gs vs s es rows k v h =
     let e = length_rows gs vs s es in
     let l = ap length v in
@@ -269,9 +270,12 @@ pub rows_stay : (gs hs : List Lit) (vs xs : List RowValue) (es : List RowEnd) (z
     → rows_between hs xs origin es ≡ rows
 rows_stay gs hs vs xs es z rows v h at p q =
     let y = row_start origin es (length es) in
-    let p' : take y.guards gs ≡ take y.guards hs = subst (λ (k : RowEnd). take k.guards gs ≡ take k.guards hs) at (sym p) in
-    let q' : take y.values vs ≡ take y.values xs = subst (λ (k : RowEnd). take k.values vs ≡ take k.values xs) at (sym q) in
-    sym (rows_kept gs hs vs xs origin es (length gs) (length vs) y.guards y.values h (omega arith) (omega arith) p' q') ∙ v
+    let p' : take y.guards gs ≡ take y.guards hs = subst (λ (k : RowEnd). take k.guards gs ≡ take k.guards hs)
+    at (sym p) in
+    let q' : take y.values vs ≡ take y.values xs = subst (λ (k : RowEnd). take k.values vs ≡ take k.values xs)
+    at (sym q) in
+    sym (rows_kept gs hs vs xs origin es (length gs) (length vs) y.guards y.values h (omega arith) (omega arith) p' q')
+    ∙ v
 
 pub front_put : {X : Type 0} (xs ys zs : List X) (k : ℕ) → k ≤ length xs → zs ≡ take k xs ++ ys → take k zs ≡ take k xs
 front_put xs ys zs k h e = ap (take k) e ∙ front_kept xs ys k h

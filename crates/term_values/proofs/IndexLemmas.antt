@@ -39,7 +39,8 @@ elem_index_append (x ∷ xs) ys v =
 
 by_test : (xs : List Elem) (x : Elem) (v : Denotation) (n : ℕ) (b : Bool) → same_value (denotation_of x) v ≡ b
     → elem_index xs (denotation_of x) ≡ None → n ≡ length xs
-    → first_of (elem_index xs v) (option_map (λ i. length xs + i) (cond b (Some 0) None)) ≡ cond b (Some n) (elem_index xs v)
+    → first_of (elem_index xs v) (option_map (λ i. length xs + i) (cond b (Some 0) None))
+    ≡ cond b (Some n) (elem_index xs v)
 by_test xs x v n true t none at =
     let same = same_is (denotation_of x) v t in
     let absent : elem_index xs v ≡ None = ap (elem_index xs) (sym same) ∙ none in
@@ -78,7 +79,8 @@ elem_index_again xs x v there =
 module _ (d e : DomainIndex) (place : ℕ) (xs : List Elem) (is : IsIndexOf d xs) (at : place ≡ length xs) where
   absent : (x : Elem) (b : Bool) → b ≡ is_some (index_in d (denotation_of x)) → b ≡ false
       → elem_index xs (denotation_of x) ≡ None
-  absent x b here no_ = gone (elem_index xs (denotation_of x)) (sym (ap is_some (is (denotation_of x))) ∙ sym here ∙ no_)
+  absent x b here no_ = gone (elem_index xs (denotation_of x)) (sym (ap is_some (is (denotation_of x)))
+      ∙ sym here ∙ no_)
     where
       gone : (o : Option ℕ) → is_some o ≡ false → o ≡ None
       gone None h = refl
@@ -87,7 +89,8 @@ module _ (d e : DomainIndex) (place : ℕ) (xs : List Elem) (is : IsIndexOf d xs
   pub name_added : (w : List ℕ) (b : Bool) → b ≡ is_some (index_in d (named w)) → b ≡ false → e.numbers ≡ d.numbers
       → ((q : List ℕ) → index_in e (named q) ≡ cond (bytes_eq w q) (Some place) (index_in d (named q)))
       → IsIndexOf e (xs ++ Named w ∷ [])
-  name_added w b here no_ numbers names v = by v ∙ sym (elem_index_push xs (Named w) v place (absent (Named w) b here no_) at)
+  name_added w b here no_ numbers names v = by v
+      ∙ sym (elem_index_push xs (Named w) v place (absent (Named w) b here no_) at)
     where
       by : (v : Denotation) → index_in e v ≡ cond (same_value (named w) v) (Some place) (elem_index xs v)
       by (named q) = names q ∙ ap (λ o. cond (bytes_eq w q) (Some place) o) (is (named q))
@@ -99,7 +102,8 @@ module _ (d e : DomainIndex) (place : ℕ) (xs : List Elem) (is : IsIndexOf d xs
   pub number_added : (n : ℤ) (b : Bool) → b ≡ is_some (index_in d (number n)) → b ≡ false → e.names ≡ d.names
       → ((z : ℤ) → index_in e (number z) ≡ cond (int_eq n z) (Some place) (index_in d (number z)))
       → IsIndexOf e (xs ++ Num n ∷ [])
-  number_added n b here no_ names numbers v = by v ∙ sym (elem_index_push xs (Num n) v place (absent (Num n) b here no_) at)
+  number_added n b here no_ names numbers v = by v
+      ∙ sym (elem_index_push xs (Num n) v place (absent (Num n) b here no_) at)
     where
       by : (v : Denotation) → index_in e v ≡ cond (same_value (number n) v) (Some place) (elem_index xs v)
       by (named q) = ap (λ m. get_by (λ k. bytes_eq q k.now) m) names ∙ is (named q)
@@ -113,7 +117,8 @@ module _ (d e : DomainIndex) (place : ℕ) (xs : List Elem) (is : IsIndexOf d xs
   added_again x b here yes_ v =
       is v ∙ sym (elem_index_again xs x v (sym (ap is_some (is (denotation_of x))) ∙ sym here ∙ yes_))
 
-pub each_more : {A B : Type 0} (R : A → B → Type 0) (xs : List A) (ys : List B) (x : A) (y : B) → EachWith R xs ys → R x y
+pub each_more : {A B : Type 0} (R : A → B → Type 0) (xs : List A) (ys : List B) (x : A) (y : B)
+    → EachWith R xs ys → R x y
     → EachWith R (xs ++ x ∷ []) (ys ++ y ∷ [])
 each_more R [] [] x y h r = (r, tt)
 each_more R [] (z ∷ ys) x y h r = absurd h

@@ -69,9 +69,12 @@ product_index T [] v vs = refl
 product_index T (x ∷ d) v vs =
     let n = length T in
     row_index_append (map (λ a. x ∷ a) T) (flat_map (λ y. map (λ a. y ∷ a) T) d) (v ∷ vs)
-    ∙ (ap (λ o. first_of o (option_map (λ i. length (map (λ a. x ∷ a) T) + i) (row_index (flat_map (λ y. map (λ a. y ∷ a) T) d) (v ∷ vs)))) (row_index_map x T v vs)
-    ∙ (ap (λ o. first_of (cond (same_value (denotation_of x) v) (row_index T vs) None) (option_map (λ i. length (map (λ a. x ∷ a) T) + i) o)) (product_index T d v vs)
-    ∙ digit_step n (length (map (λ a. x ∷ a) T)) (same_value (denotation_of x) v) (row_index T vs) (elem_index d v) (length-map T (λ a. x ∷ a))))
+    ∙ (ap (λ o. first_of o (option_map (λ i. length (map (λ a. x ∷ a) T) + i)
+    (row_index (flat_map (λ y. map (λ a. y ∷ a) T) d) (v ∷ vs)))) (row_index_map x T v vs)
+    ∙ (ap (λ o. first_of (cond (same_value (denotation_of x) v) (row_index T vs) None)
+    (option_map (λ i. length (map (λ a. x ∷ a) T) + i) o)) (product_index T d v vs)
+    ∙ digit_step n (length (map (λ a. x ∷ a) T)) (same_value (denotation_of x) v) (row_index T vs) (elem_index d v)
+    (length-map T (λ a. x ∷ a))))
 
 -- the index by its first digit
 pub index_split : (domains : List (List Elem)) (types : List ℕ) (vs : List Denotation) (i : ℕ) → i < length types
@@ -83,7 +86,8 @@ pub index_split : (domains : List (List Elem)) (types : List ℕ) (vs : List Den
 index_split domains types vs i h k =
     ap (λ ts. row_index (tuples_of domains ts) (drop i vs)) (drop_more types i 0 h)
     ∙ (ap (row_index (tuples_of domains (get_or types i 0 ∷ drop (i + 1) types))) (drop_more vs i undefined k)
-    ∙ product_index (tuples_of domains (drop (i + 1) types)) (domain_at domains (get_or types i 0)) (get_or vs i undefined) (drop (i + 1) vs))
+    ∙ product_index (tuples_of domains (drop (i + 1) types)) (domain_at domains (get_or types i 0))
+    (get_or vs i undefined) (drop (i + 1) vs))
 
 no_empty : (T : List (List Elem)) (x : Elem) (rest : List (List Elem)) → row_index rest [] ≡ None
     → row_index (map (λ a. x ∷ a) T ++ rest) [] ≡ None
@@ -163,7 +167,8 @@ digit_more domains types vs i place p next h k digit e =
     let size = length (domain_at domains (get_or types i 0)) in
     let o = row_index T (drop (i + 1) vs) in
     number_step place size p next (length T) o (λ j at. place-below T (drop (i + 1) vs) j at) e
-    ∙ (ap (λ n. option_map (λ j. capped (place * n + j)) (option_map (λ j. p * length T + j) o)) (sym (tuples_split domains types i h))
+    ∙ (ap (λ n. option_map (λ j. capped (place * n + j)) (option_map (λ j. p * length T + j) o))
+    (sym (tuples_split domains types i h))
     ∙ ap (λ q. option_map (λ j. capped (place * length (tuples_of domains (drop i types)) + j)) q)
     (sym (index_split domains types vs i h k ∙ ap (λ q. with_digit (length T) q o) digit)))
 
@@ -190,6 +195,8 @@ digits_none domains types vs = by (length (tuples_of domains types)) (row_index 
 pub digits_all : (domains : List (List Elem)) (types : List ℕ) (vs : List Denotation) (i place : ℕ) → length types ≤ i
     → length types ≡ length vs → place ≤ 18446744073709551615 → index_from domains types vs i place ≡ Some place
 digits_all domains types vs i place h e fits =
-    ap (λ ts. option_map (λ k. capped (place * length (tuples_of domains ts) + k)) (row_index (tuples_of domains ts) (drop i vs))) (drop_all i types h)
-    ∙ (ap (λ ws. option_map (λ k. capped (place * 1 + k)) (row_index ([] ∷ []) ws)) (drop_all i vs (omega (arith, h, e)))
+    ap (λ ts. option_map (λ k. capped (place * length (tuples_of domains ts) + k))
+    (row_index (tuples_of domains ts) (drop i vs))) (drop_all i types h)
+    ∙ (ap (λ ws. option_map (λ k. capped (place * 1 + k)) (row_index ([] ∷ []) ws))
+    (drop_all i vs (omega (arith, h, e)))
     ∙ ap Some (let z : capped (place * 1 + 0) ≡ place = omega (arith, fits) in z))

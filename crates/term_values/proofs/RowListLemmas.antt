@@ -14,7 +14,8 @@ use Rattle.kb_logic.specs.declared.values.Value.TheVariants as value
 use Rattle.term_values.specs.RowSums.{sum_values}
 use Rattle.term_values.proofs.VariableLemmas.{slice_inside}
 
-pub row_read : {X Y : Type 0} (R : List (X × Y)) (j : ℕ) (g : X) (v : Y) → option_map (λ (r : X × Y). r.0) (slice_get R j) ≡ Some g
+pub row_read : {X Y : Type 0} (R : List (X × Y)) (j : ℕ) (g : X) (v : Y)
+    → option_map (λ (r : X × Y). r.0) (slice_get R j) ≡ Some g
     → option_map (λ (r : X × Y). r.1) (slice_get R j) ≡ Some v → slice_get R j ≡ Some (g, v)
 row_read {X = X} {Y = Y} R j g v = by (slice_get R j)
   where
@@ -32,7 +33,8 @@ pub map_pushed : {X Y Z : Type 0} (f : X × Y → Z) (R : List (X × Y)) (j : �
 map_pushed f R j g v before now next at e n =
     let read = get_or_from_slice_get R j (g, v) (g, v) at in
     let more = map_more f R j (g, v) (slice_inside R j (g, v) at) ∙ ap (λ r. map f (take j R) ++ f r ∷ []) read in
-    n ∙ (ap (λ l. l ++ f (g, v) ∷ []) e ∙ (append_assoc before (map f (take j R)) (f (g, v) ∷ []) ∙ ap (λ l. before ++ l) (sym more)))
+    n ∙ (ap (λ l. l ++ f (g, v) ∷ []) e
+    ∙ (append_assoc before (map f (take j R)) (f (g, v) ∷ []) ∙ ap (λ l. before ++ l) (sym more)))
 
 pub flat_pushed : {X Z : Type 0} (f : X → List Z) (R : List X) (j : ℕ) (r : X) (before now next : List Z)
     → slice_get R j ≡ Some r → now ≡ before ++ flat_map f (take j R) → next ≡ now ++ f r
@@ -48,7 +50,8 @@ flat_pushed f R j r before now next at e n =
     last [] = refl
     last (x ∷ l) = ap (λ m. x ∷ m) (last l)
 
-pub all_at : {X : Type 0} (P : X → Type 0) (xs : List X) (i : ℕ) (x : X) → AllByRecursion P xs → slice_get xs i ≡ Some x → P x
+pub all_at : {X : Type 0} (P : X → Type 0) (xs : List X) (i : ℕ) (x : X) → AllByRecursion P xs
+    → slice_get xs i ≡ Some x → P x
 all_at P [] i x h at = cc
 all_at P (y ∷ xs) zero x h at = let same : y ≡ x = cc in subst P same h.0
 all_at P (y ∷ xs) (suc i) x h at = all_at P xs i x h.1 at
@@ -69,7 +72,8 @@ sums_differ (m ∷ ms) [] h = refl
 sums_differ (m ∷ ms) (v ∷ vs) h =
     sym (ap (summand_plus m v) (sym (sums_differ ms vs (λ e. h (ap suc e)))) ∙ plus_none m v)
 
-not_number : (v : Value) (m : Bool) (o : Option ℤ) → ((n : ℤ) → v ≡ value.Num n → ⊥) → summand_plus m (value_view v) o ≡ None
+not_number : (v : Value) (m : Bool) (o : Option ℤ) → ((n : ℤ) → v ≡ value.Num n → ⊥)
+    → summand_plus m (value_view v) o ≡ None
 not_number (value.Named q) m o h = refl
 not_number (value.Num z) m o h = absurd (h z refl)
 not_number value.NegInf m o h = refl
@@ -89,7 +93,8 @@ pub sums_end : (ms : List Bool) (vs : List Denotation) (i : ℕ) (t : ℤ) (v : 
 sums_end ms vs i t v whole h k at none e =
     let rest = sum_values (drop (i + 1) ms) (drop (i + 1) vs) in
     let gone : sum_values (drop i ms) (drop i vs) ≡ None =
-    sums_split ms vs i h k ∙ (ap (λ d. summand_plus (get_or ms i false) d rest) at ∙ not_number v (get_or ms i false) rest none) in
+    sums_split ms vs i h k ∙ (ap (λ d. summand_plus (get_or ms i false) d rest) at
+    ∙ not_number v (get_or ms i false) rest none) in
     ap (option_map (λ z. t +ℤ z)) (sym gone) ∙ e
 
 added : (m : Bool) (n t u : ℤ) (rest : Option ℤ) → u ≡ t +ℤ signed_of m n
@@ -106,5 +111,6 @@ sums_next ms vs i m n t r u h k sign at fits p e =
     let rest = sum_values (drop (i + 1) ms) (drop (i + 1) vs) in
     let q : u ≡ t +ℤ signed_of m n = e ∙ ap (λ z. t +ℤ z) (simp to_z-of_z at p) in
     let split : sum_values (drop i ms) (drop i vs) ≡ summand_plus m (number n) rest =
-    sums_split ms vs i h k ∙ (ap (λ s. summand_plus s (get_or vs i undefined) rest) sign ∙ ap (λ d. summand_plus m d rest) at) in
+    sums_split ms vs i h k ∙ (ap (λ s. summand_plus s (get_or vs i undefined) rest) sign
+    ∙ ap (λ d. summand_plus m d rest) at) in
     added m n t u rest q ∙ ap (option_map (λ z. t +ℤ z)) (sym split)

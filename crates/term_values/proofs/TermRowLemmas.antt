@@ -87,7 +87,8 @@ operands_next b e parts k left s out next h step is n =
     n
     ∙ (ap (λ l. pair_rows (λ x xs. x ∷ xs) (rows_of_term b (term_view p.term) e) l)
     (is ∙ ap (λ j. rows_of_terms b (operands_of (map signed_view (drop j parts))) e) step)
-    ∙ (ap (λ (v : Bool × TermTree). pair_rows (λ x xs. x ∷ xs) (rows_of_term b v.1 e) (rows_of_terms b (operands_of (map signed_view (drop (k + 1) parts))) e)) (sym (signed_view_is p))
+    ∙ (ap (λ (v : Bool × TermTree). pair_rows (λ x xs. x ∷ xs) (rows_of_term b v.1 e)
+    (rows_of_terms b (operands_of (map signed_view (drop (k + 1) parts))) e)) (sym (signed_view_is p))
     ∙ sym (at_drop_more (λ ps. rows_of_terms b (operands_of (map signed_view ps)) e) parts k s h)))
 
 -- ---- sums
@@ -99,24 +100,29 @@ module _ {Z : Type 0} (op : Denotation → Z → Z) (k h : List Denotation → Z
       ≡ map (λ (y : List Lit × Z). (x.0 ++ y.0, op x.1 y.1)) (map_rows k ys)
   paired_one x [] = refl
   paired_one x (y ∷ ys) =
-      ap {A = Z} {B = List (List Lit × Z)} (λ z. (x.0 ++ y.0, z) ∷ map_rows h (map (λ (w : List Lit × List Denotation). (x.0 ++ w.0, x.1 ∷ w.1)) ys)) (same x.1 y.1)
+      ap {A = Z} {B = List (List Lit × Z)}
+      (λ z. (x.0 ++ y.0, z) ∷ map_rows h (map (λ (w : List Lit × List Denotation). (x.0 ++ w.0, x.1 ∷ w.1)) ys))
+      (same x.1 y.1)
       ∙ ap {A = List (List Lit × Z)} {B = List (List Lit × Z)} (λ l. (x.0 ++ y.0, op x.1 (k y.1)) ∷ l) (paired_one x ys)
 
   paired_map : (xs : ValueRows) (ys : List (List Lit × List Denotation))
       → map_rows h (pair_rows (λ x vs. x ∷ vs) xs ys) ≡ pair_rows op xs (map_rows k ys)
   paired_map [] ys = refl
   paired_map (x ∷ xs) ys =
-      map-append (λ (r : List Lit × List Denotation). (r.0, h r.1)) (map (λ (y : List Lit × List Denotation). (x.0 ++ y.0, x.1 ∷ y.1)) ys) (pair_rows (λ x vs. x ∷ vs) xs ys)
+      map-append (λ (r : List Lit × List Denotation). (r.0, h r.1))
+      (map (λ (y : List Lit × List Denotation). (x.0 ++ y.0, x.1 ∷ y.1)) ys) (pair_rows (λ x vs. x ∷ vs) xs ys)
       ∙ (ap (λ l. l ++ map_rows h (pair_rows (λ x vs. x ∷ vs) xs ys)) (paired_one x ys)
       ∙ ap (λ l. map (λ (y : List Lit × Z). (x.0 ++ y.0, op x.1 y.1)) (map_rows k ys) ++ l) (paired_map xs ys))
 
 sum_rows_by : (b : GroundBase) (e : List Elem) (ss : List (Bool × TermTree))
-    → rows_of_sum b (summands_of ss) e ≡ map_rows (sum_values (map (λ (s : Bool × TermTree). s.0) ss)) (rows_of_terms b (operands_of ss) e)
+    → rows_of_sum b (summands_of ss) e ≡ map_rows (sum_values (map (λ (s : Bool × TermTree). s.0) ss))
+    (rows_of_terms b (operands_of ss) e)
 sum_rows_by b e [] = refl
 sum_rows_by b e (s ∷ ss) =
     let ms = map (λ (r : Bool × TermTree). r.0) ss in
     ap (pair_rows (summand_plus s.0) (rows_of_term b s.1 e)) (sum_rows_by b e ss)
-    ∙ sym (paired_map (summand_plus s.0) (sum_values ms) (sum_values (s.0 ∷ ms)) (λ x vs. refl) (rows_of_term b s.1 e) (rows_of_terms b (operands_of ss) e))
+    ∙ sym (paired_map (summand_plus s.0) (sum_values ms) (sum_values (s.0 ∷ ms)) (λ x vs. refl) (rows_of_term b s.1 e)
+    (rows_of_terms b (operands_of ss) e))
 
 signs_are : (parts : List Signed) → map (λ (s : Bool × TermTree). s.0) (map signed_view parts) ≡ signs_of parts
 signs_are [] = refl
@@ -132,22 +138,27 @@ sum_rows b e parts =
     sum_rows_by b e (map signed_view parts)
     ∙ ap (λ ms. map_rows (sum_values ms) (rows_of_terms b (operands_of (map signed_view parts)) e)) (signs_are parts)
 
-pub sum_values_rows : (b : GroundBase) (e : List Elem) (parts : List Signed) (tuples : List (List Lit × List Denotation))
+pub sum_values_rows : (b : GroundBase) (e : List Elem) (parts : List Signed)
+    (tuples : List (List Lit × List Denotation))
     → tuples ≡ rows_of_terms b (operands_of (map signed_view parts)) e
     → map_rows (λ vs. number_value (sum_values (signs_of parts) vs)) tuples
     ≡ map_rows number_value (rows_of_sum b (summands_of (map signed_view parts)) e)
 sum_values_rows b e parts tuples is =
-    sym (map-map (λ (r : List Lit × Option ℤ). (r.0, number_value r.1)) (λ (r : List Lit × List Denotation). (r.0, sum_values (signs_of parts) r.1)) tuples)
+    sym (map-map (λ (r : List Lit × Option ℤ). (r.0, number_value r.1))
+    (λ (r : List Lit × List Denotation). (r.0, sum_values (signs_of parts) r.1)) tuples)
     ∙ ap (map_rows number_value) (ap (map_rows (sum_values (signs_of parts))) is ∙ sym (sum_rows b e parts))
 
-all_map : {X Y : Type 0} (P : Y → Type 0) (f : X → Y) (xs : List X) → AllByRecursion P (map f xs) → AllByRecursion (λ x. P (f x)) xs
+all_map : {X Y : Type 0} (P : Y → Type 0) (f : X → Y) (xs : List X) → AllByRecursion P (map f xs)
+    → AllByRecursion (λ x. P (f x)) xs
 all_map P f [] h = tt
 all_map P f (x ∷ xs) h = (h.0, all_map P f xs h.1)
 
 pub sums_fit : (b : GroundBase) (e : List Elem) (parts : List Signed) (tuples : List (List Lit × List Denotation))
     → tuples ≡ rows_of_terms b (operands_of (map signed_view parts)) e
     → AllByRecursion RowSumFits (rows_of_sum b (summands_of (map signed_view parts)) e)
-    → AllByRecursion (λ (r : List Lit × List Denotation). IfSome (sum_values (signs_of parts) r.1) (λ z. FitsSigned w64 z)) tuples
+    → AllByRecursion (λ (r : List Lit × List Denotation). IfSome (sum_values (signs_of parts) r.1)
+    (λ z. FitsSigned w64 z)) tuples
 sums_fit b e parts tuples is fits =
     all_map RowSumFits (λ (r : List Lit × List Denotation). (r.0, sum_values (signs_of parts) r.1)) tuples
-    (subst (λ l. AllByRecursion RowSumFits l) (sum_rows b e parts ∙ ap (map_rows (sum_values (signs_of parts))) (sym is)) fits)
+    (subst (λ l. AllByRecursion RowSumFits l) (sum_rows b e parts
+    ∙ ap (map_rows (sum_values (signs_of parts))) (sym is)) fits)

@@ -41,7 +41,8 @@ declared_at b s i h = by (slice_get b.vocabulary.symbols s) refl
     by (Some d) e = (d, e)
     by None e =
         let none : tuples_at b s ≡ [] =
-        ap {A = Option Symbol} {B = List (List Elem)} (λ o. elim o [ None ↦ [] | Some c ↦ tuples_of b.domains c.args ]) e in
+        ap {A = Option Symbol} {B = List (List Elem)}
+        (λ o. elim o [ None ↦ [] | Some c ↦ tuples_of b.domains c.args ]) e in
         let size = ap length none in
         absurd (omega (arith, h, size))
 
@@ -88,7 +89,8 @@ module _ (b : GroundBase) (known : length b.known ≡ sum_by (atoms_in b.domains
       ap (λ o. length (tuples_of b.domains d.0.args) * value_count b.domains o) type
       ∙ ap (λ m. length (tuples_of b.domains d.0.args) * m) values in
       let below : suc i ≤ length (tuples_of b.domains d.0.args) = omega (arith, h, size) in
-      let rows : suc i * n ≤ length (tuples_of b.domains d.0.args) * n = mul-le (suc i) n (length (tuples_of b.domains d.0.args)) n below (omega arith) in
+      let rows : suc i * n ≤ length (tuples_of b.domains d.0.args) * n =
+      mul-le (suc i) n (length (tuples_of b.domains d.0.args)) n below (omega arith) in
       let ring : suc i * n ≡ i * n + n = omega arith in
       (slice_inside b.vocabulary.symbols s d.0 d.1, omega (arith, vars, count, rows, ring))
 
@@ -134,7 +136,8 @@ pub value_variable_here : (b : GroundBase) (s place count : ℕ) (vs : List Deno
     → Some place ≡ option_map capped (row_index (tuples_at b s) vs)
     → (s < length b.vocabulary.symbols)
     × (first_var b s + place * count + count ≤ 9223372036854775808)
-    × (Some (first_var b s + place * count) ≡ option_map (λ i. first_var b s + i * length (values_at b s)) (row_index (tuples_at b s) vs))
+    × (Some (first_var b s + place * count) ≡ option_map (λ i. first_var b s + i * length (values_at b s))
+    (row_index (tuples_at b s) vs))
 value_variable_here b s place count vs known few some size h =
     let n = length (values_at b s) in
     let r = option_capped (row_index (tuples_at b s) vs) place h in

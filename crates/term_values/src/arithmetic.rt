@@ -9,8 +9,8 @@ ghost use Rattle.term_values.specs.RowValues.{row_value};
 
 use crate::rows::RowValue;
 use kb_logic::Signed;
-use plain_evaluation::totals::signed;
 use kb_logic::values::Value;
+use plain_evaluation::totals::signed;
 
 /// The sum of the values, one for each operand. There is none where a value is no integer.
 fn wide_sum(parts: &[Signed], values: &[RowValue<'_>]) -> Option<i128>

@@ -34,7 +34,8 @@ impl<'a> DomainIndex<'a> {
 
     /// Notes the element that stands at the place behind those that were noted, by its value.
     fn add(&mut self, value: Value<'a>, place: usize) -> Result<(), Memory>
-        ensures { OnOk result ((x : Element) (xs : List Element) → denotation_of x ≡ value_view value.entry → IsIndexOf self.old xs → place ≡ length xs → IsIndexOf self.new (xs ++ x ∷ [])) }
+        ensures { OnOk result ((x : Element) (xs : List Element) → denotation_of x ≡ value_view value.entry
+            → IsIndexOf self.old xs → place ≡ length xs → IsIndexOf self.new (xs ++ x ∷ [])) }
     {
         match value {
             Value::Named(name) => self.add_name(name, place),
@@ -44,7 +45,8 @@ impl<'a> DomainIndex<'a> {
     }
 
     fn add_name(&mut self, name: &'a [u8], place: usize) -> Result<(), Memory>
-        ensures { OnOk result ((x : Element) (xs : List Element) → denotation_of x ≡ named name.now → IsIndexOf self.old xs → place ≡ length xs → IsIndexOf self.new (xs ++ x ∷ [])) }
+        ensures { OnOk result ((x : Element) (xs : List Element) → denotation_of x ≡ named name.now
+            → IsIndexOf self.old xs → place ≡ length xs → IsIndexOf self.new (xs ++ x ∷ [])) }
     {
         if !self.names.contains_key(name) {
             self.names.insert(name, place)?;
@@ -53,7 +55,8 @@ impl<'a> DomainIndex<'a> {
     }
 
     fn add_number(&mut self, n: i64, place: usize) -> Result<(), Memory>
-        ensures { OnOk result ((x : Element) (xs : List Element) → denotation_of x ≡ number n → IsIndexOf self.old xs → place ≡ length xs → IsIndexOf self.new (xs ++ x ∷ [])) }
+        ensures { OnOk result ((x : Element) (xs : List Element) → denotation_of x ≡ number n → IsIndexOf self.old xs
+            → place ≡ length xs → IsIndexOf self.new (xs ++ x ∷ [])) }
     {
         if !self.numbers.contains_key(&n) {
             self.numbers.insert(n, place)?;

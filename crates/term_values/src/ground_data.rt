@@ -17,10 +17,10 @@ use crate::known_atoms::all_known;
 use crate::rows::{RowValue, Rows, TupleRows};
 use crate::term_rows::{push_term, put_terms};
 use crate::tuple_places::tuple_place;
-use plain_evaluation::environments::Env;
 use kb_logic::values::domain_in;
 use kb_logic::{Elem, ElemList, Memory, Term, Vocabulary};
 use partial_structures::Partial;
+use plain_evaluation::environments::Env;
 use std::alloc::Global;
 use std::marker::Model;
 
@@ -160,7 +160,8 @@ impl<'a> GroundData<'a> {
     /// The variable of a predicate's atom with these arguments; None where they are outside their types.
     pub fn variable_at(&self, symbol: u32, values: &[RowValue<'_>]) -> Option<u64>
         requires { IsNone (value_type_of self.now.vocabulary symbol) }
-        ensures { result ≡ option_map (λ i. first_variable self.now symbol + i) (row_index (tuples_at self.now symbol) (map row_value values.now)) }
+        ensures { result ≡ option_map (λ i. first_variable self.now symbol + i)
+            (row_index (tuples_at self.now symbol) (map row_value values.now)) }
     {
         // Brings the invariant of the type into scope.
         let _known = &self.known;
@@ -173,7 +174,8 @@ impl<'a> GroundData<'a> {
     /// The variable of a function's first value at these arguments; None where they are outside their types.
     pub(crate) fn value_variable_at(&self, symbol: u32, args: &[RowValue<'_>]) -> Option<u64>
         requires { 0 < length (values_at self.now symbol) }
-        ensures var { result ≡ option_map (λ i. first_variable self.now symbol + i * length (values_at self.now symbol)) (row_index (tuples_at self.now symbol) (map row_value args.now)) }
+        ensures var { result ≡ option_map (λ i. first_variable self.now symbol + i * length (values_at self.now symbol))
+            (row_index (tuples_at self.now symbol) (map row_value args.now)) }
         ensures few { IfSome result (λ n. n + length (values_at self.now symbol) ≤ 2 ^ 63) }
     {
         // Brings the invariant of the type into scope.
@@ -203,7 +205,8 @@ impl<'a> GroundData<'a> {
         env: &Env<'a>,
     ) -> Result<TupleRows<'a>, Memory>
         requires { TupleRowsFit self.now (terms_of (map term_view terms.now)) (env_view env.now) }
-        ensures { IfOk result (λ r. r ≡ rows_of_terms self.now (terms_of (map term_view terms.now)) (env_view env.now)) }
+        ensures { IfOk result (λ r. r ≡ rows_of_terms self.now (terms_of (map term_view terms.now))
+            (env_view env.now)) }
     {
         let mut rows = TupleRows::new(alloc);
         put_terms(alloc, self, terms, env, &mut rows)?;

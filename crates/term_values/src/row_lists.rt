@@ -21,7 +21,8 @@ fn push_with<'a>(
     others: &TupleRows<'a>,
     out: &mut TupleRows<'a>,
 ) -> Result<(), Memory>
-    ensures { OnOk result (out.new ≡ out.old ++ map (λ y. (guards.now ++ y.0, value_view value.entry ∷ y.1)) others.now) }
+    ensures { OnOk result (out.new ≡ out.old ++ map (λ y. (guards.now ++ y.0, value_view value.entry ∷ y.1))
+        others.now) }
 {
     for row in 0..others.len() {
         out.push(
@@ -55,7 +56,8 @@ pub(crate) fn push_sums<'a>(
     out: &mut Rows<'a>,
 ) -> Result<(), Memory>
     requires { AllByRecursion (λ r. IfSome (sum_values (signs_of parts.now) r.1) (λ z. FitsSigned w64 z)) tuples.now }
-    ensures { OnOk result (out.new ≡ out.old ++ map_rows (λ vs. number_value (sum_values (signs_of parts.now) vs)) tuples.now) }
+    ensures { OnOk result (out.new ≡ out.old ++ map_rows (λ vs. number_value (sum_values (signs_of parts.now) vs))
+        tuples.now) }
 {
     for row in 0..tuples.len() {
         out.push(

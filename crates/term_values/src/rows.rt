@@ -179,7 +179,9 @@ impl<'a> TupleRows<'a> {
         values: &[RowValue<'a>],
         more_values: &[RowValue<'a>],
     ) -> Result<(), Memory>
-        ensures ok { OnOk result (self.new ≡ self.old ++ (guards.now ++ more_guards.now, map row_value (values.now ++ more_values.now)) ∷ []) }
+        ensures ok { OnOk result
+            (self.new ≡ self.old ++ (guards.now ++ more_guards.now, map row_value (values.now ++ more_values.now))
+            ∷ []) }
         ensures err { OnErr result (self.new ≡ self.old) }
     {
         let start = end_of(self.ends.as_slice());

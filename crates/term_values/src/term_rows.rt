@@ -18,10 +18,10 @@ ghost use Rattle.term_values.specs.RowValues.{row_value};
 use crate::ground_data::GroundData;
 use crate::row_lists::{push_pairs, push_products, push_sums};
 use crate::rows::{RowValue, Rows, TupleRows};
-use plain_evaluation::environments::{Env, variable_value};
 use kb_logic::values::{Value, elem_value, made_value};
 use kb_logic::{Elem, Memory, Signed, Term};
 use lit_core::{Lit, Var};
+use plain_evaluation::environments::{Env, variable_value};
 use std::alloc::Global;
 
 /// Pushes the row of a value that a function may have, unless it is known to have another.
@@ -32,7 +32,8 @@ fn push_value<'a>(
     value: Value<'a>,
     out: &mut Rows<'a>,
 ) -> Result<(), Memory>
-    ensures { OnOk result (out.new ≡ out.old ++ with_row (known_of base.now var) var guards.now (value_view value.entry) []) }
+    ensures { OnOk result (out.new ≡ out.old ++ with_row (known_of base.now var) var guards.now
+        (value_view value.entry) []) }
 {
     match base.known(var) {
         None => {
@@ -73,7 +74,8 @@ fn push_at<'a>(
     args: &[RowValue<'a>],
     out: &mut Rows<'a>,
 ) -> Result<(), Memory>
-    ensures { OnOk result (out.new ≡ out.old ++ rows_at base.now symbol guards.now (row_index (tuples_at base.now symbol) (map row_value args.now))) }
+    ensures { OnOk result (out.new ≡ out.old ++ rows_at base.now symbol guards.now
+        (row_index (tuples_at base.now symbol) (map row_value args.now))) }
 {
     let values = base.values(symbol);
     if values.is_empty() {
@@ -95,7 +97,9 @@ fn push_applied<'a>(
     tuples: &TupleRows<'a>,
     out: &mut Rows<'a>,
 ) -> Result<(), Memory>
-    ensures { OnOk result (out.new ≡ out.old ++ flat_map (λ t. rows_at base.now symbol t.0 (row_index (tuples_at base.now symbol) t.1)) tuples.now) }
+    ensures { OnOk result (out.new
+        ≡ out.old ++ flat_map (λ t. rows_at base.now symbol t.0 (row_index (tuples_at base.now symbol) t.1))
+        tuples.now) }
 {
     for row in 0..tuples.len() {
         push_at(base, symbol, tuples.guards(row), tuples.values(row), out)?;
@@ -143,9 +147,11 @@ fn push_sum<'a>(
     env: &Env<'a>,
     out: &mut Rows<'a>,
 ) -> Result<(), Memory>
-    requires sums { AllByRecursion RowSumFits (rows_of_sum base.now (summands_of (map signed_view parts.now)) (env_view env.now)) }
+    requires sums { AllByRecursion RowSumFits
+        (rows_of_sum base.now (summands_of (map signed_view parts.now)) (env_view env.now)) }
     requires operands { OperandRowsFit base.now (summands_of (map signed_view parts.now)) (env_view env.now) }
-    ensures { OnOk result (out.new ≡ out.old ++ map_rows number_value (rows_of_sum base.now (summands_of (map signed_view parts.now)) (env_view env.now))) }
+    ensures { OnOk result (out.new ≡ out.old ++ map_rows number_value
+        (rows_of_sum base.now (summands_of (map signed_view parts.now)) (env_view env.now))) }
 {
     let mut tuples = TupleRows::new(alloc);
     put_operands(alloc, base, parts, env, &mut tuples)?;
@@ -162,7 +168,8 @@ fn put_before<'a>(
     out: &mut TupleRows<'a>,
 ) -> Result<(), Memory>
     requires { RowsFit base.now (term_view term.now) (env_view env.now) }
-    ensures { OnOk result (out.new ≡ pair_rows (λ x xs. x ∷ xs) (rows_of_term base.now (term_view term.now) (env_view env.now)) out.old) }
+    ensures { OnOk result (out.new ≡ pair_rows (λ x xs. x ∷ xs)
+        (rows_of_term base.now (term_view term.now) (env_view env.now)) out.old) }
 {
     let mut rows = Rows::new(alloc);
     push_term(alloc, base, term, env, &mut rows)?;
@@ -206,7 +213,8 @@ fn put_operands<'a>(
     out: &mut TupleRows<'a>,
 ) -> Result<(), Memory>
     requires { OperandRowsFit base.now (summands_of (map signed_view parts.now)) (env_view env.now) }
-    ensures { OnOk result (out.new ≡ rows_of_terms base.now (operands_of (map signed_view parts.now)) (env_view env.now)) }
+    ensures { OnOk result (out.new ≡ rows_of_terms base.now (operands_of (map signed_view parts.now))
+        (env_view env.now)) }
 {
     *out = TupleRows::unit(alloc)?;
     let mut left = parts.len();

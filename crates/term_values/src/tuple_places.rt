@@ -14,7 +14,8 @@ use kb_logic::values::domain_in;
 
 /// The place of a value in the domain of a type.
 fn elem_place(indexes: &[DomainIndex<'_>], ty: u32, value: &RowValue<'_>) -> Option<u64>
-    ensures { (domains : List (List Element)) → AreIndexesOf indexes.now domains → result ≡ elem_index (domain_at domains ty) (row_value value.now) }
+    ensures { (domains : List (List Element)) → AreIndexesOf indexes.now domains
+        → result ≡ elem_index (domain_at domains ty) (row_value value.now) }
 {
     match indexes.get(ty as usize) {
         None => None,

@@ -1,6 +1,6 @@
 //! The raw trees, built from their parts. What one reader hands to another is boxed, so that a level of nesting takes
 //! little of the stack.
-ghost use Rattle.std.specs.Prelude.{◌≡◌, IfOk, map};
+ghost use Rattle.std.specs.Prelude.{◌≡◌, ◌∷◌, IfOk, map};
 ghost use Rattle.fo_syntax.specs.Trees as tree;
 ghost use Rattle.fo_syntax.specs.View.{name_view, vars_view, number_view, formula_view, link_view, or_view, or_tail_view, and_view, and_tail_view, unary_view, prim_view, term_view, sum_tail_view, product_view, product_tail_view, factor_view, app_view, terms_view, terms_tail_view, formula_of, or_of, and_of, term_of, product_of, terms_of};
 
@@ -31,11 +31,12 @@ pub fn linked(
     alloc: Global,
     arrow: Arrow,
     first: RawOr,
+    next: RawLink,
     more: Items<RawLink>,
 ) -> Result<Boxed<RawFormula>, AllocError>
-    ensures { IfOk result (λ e. formula_view e ≡ formula_of arrow (or_view first) (map link_view more)) }
+    ensures { IfOk result (λ e. formula_view e ≡ formula_of arrow (or_view first) (link_view next ∷ map link_view more)) }
 {
-    Boxed::new(alloc, RawFormula::Linked(arrow, first, more))
+    Boxed::new(alloc, RawFormula::Linked(arrow, first, next, more))
 }
 
 pub fn link(place: usize, operand: Boxed<RawOr>) -> RawLink

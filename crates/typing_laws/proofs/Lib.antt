@@ -9,5 +9,5 @@ mod Typed
 pub mod Derived
 mod Integers
 mod Accepted
-mod Names
+pub mod Names
 pub mod WellFormed

@@ -9,6 +9,7 @@ use Rattle.std.proofs.lemmas.Bool.{true≢false}
 use Rattle.std.proofs.lemmas.Bool.Decides.{nat_tests}
 use Rattle.std.proofs.lemmas.List.{length-map}
 use Rattle.std.proofs.lemmas.Option.{slice_get_within}
+use Rattle.std.proofs.lemmas.Slice.Eq.{bytes_eq-Decides}
 use Rattle.kb_logic.specs.declared.vocabularies.TypeDecl.{TypeDecl}
 use Rattle.kb_logic.specs.declared.vocabularies.Symbol.{Symbol}
 use Rattle.fo_syntax.specs.Trees.{Name}
@@ -52,20 +53,21 @@ IsMeaning types symbols k (variable level) = level < k
 
 -- ---- a list from a place of another on
 
-abbrev IsRest : {X : Type 0} → List X → ℕ → List X → Type 0
+abbrev pub IsRest : {X : Type 0} → List X → ℕ → List X → Type 0
 IsRest {X} whole n xs = (i : ℕ) (x : X) → slice_get xs i ≡ Some x → slice_get whole (n + i) ≡ Some x
 
-rest_head : {X : Type 0} (whole : List X) (n : ℕ) (x : X) (xs : List X) → IsRest whole n (x ∷ xs) → slice_get whole n
+pub rest_head : {X : Type 0} (whole : List X) (n : ℕ) (x : X) (xs : List X) → IsRest whole n (x ∷ xs)
+    → slice_get whole n
     ≡ Some x
 rest_head whole n x xs h = let same : n + 0 ≡ n = omega arith in
     subst (λ (k : ℕ). slice_get whole k ≡ Some x) same (h 0 x refl)
 
-rest_tail : {X : Type 0} (whole : List X) (n : ℕ) (x : X) (xs : List X) → IsRest whole n (x ∷ xs)
+pub rest_tail : {X : Type 0} (whole : List X) (n : ℕ) (x : X) (xs : List X) → IsRest whole n (x ∷ xs)
     → IsRest whole (n + 1) xs
 rest_tail whole n x xs h i y e = let same : n + suc i ≡ n + 1 + i = omega arith in
     subst (λ (k : ℕ). slice_get whole k ≡ Some y) same (h (suc i) y e)
 
-rest_whole : {X : Type 0} (whole : List X) → IsRest whole 0 whole
+pub rest_whole : {X : Type 0} (whole : List X) → IsRest whole 0 whole
 rest_whole whole i x e = let same : i ≡ 0 + i = omega arith in subst (λ (k : ℕ). slice_get whole k ≡ Some x) same e
 
 -- ---- the words that are declared
@@ -130,30 +132,31 @@ module _ (types : List TypeDecl) (symbols : List Symbol) (k : ℕ) where
 
 -- ---- what a word means
 
-module _ (P : Meaning → Type 0) where
-  abbrev AreSuch : Names → Type 0
-  AreSuch names = AllByRecursion (λ e. P e.1) names
+module _ (P : Text → Meaning → Type 0) where
+  abbrev pub AreSuch : Names → Type 0
+  AreSuch names = AllByRecursion (λ e. P e.0 e.1) names
 
-  pushed : (b : Bool) (names : Names) (w : Text) (m : Meaning) → AreSuch names → P m
+  pushed : (b : Bool) (names : Names) (w : Text) (m : Meaning) → AreSuch names → P w m
       → AreSuch (if b then names else names ++ (w, m) ∷ [])
   pushed true names w m h p = h
-  pushed false names w m h p = all_append (λ (e : Text × Meaning). P e.1) names ((w, m) ∷ []) h (p, tt)
+  pushed false names w m h p = all_append (λ (e : Text × Meaning). P e.0 e.1) names ((w, m) ∷ []) h (p, tt)
 
-  with_such : (names : Names) (es : List (Name × Meaning)) → AreSuch names → AllByRecursion (λ e. P e.1) es
-      → AreSuch (with_names names es)
+  pub with_such : (names : Names) (es : List (Name × Meaning)) → AreSuch names
+      → AllByRecursion (λ e. P (text_of e.0) e.1) es → AreSuch (with_names names es)
   with_such names [] h k = h
   with_such names (e ∷ es) h k =
       with_such (declared names (text_of e.0) e.1) es (pushed (is_some (meaning_in names (text_of e.0))) names
       (text_of e.0) e.1 h k.0) k.1
 
-  chosen : (b : Bool) (m : Meaning) (o : Option Meaning) → P m → P (unwrap_or o undeclared)
-      → P (unwrap_or (if b then Some m else o) undeclared)
-  chosen true m o p q = p
-  chosen false m o p q = q
+  chosen : (w a : Text) (m : Meaning) (o : Option Meaning) → P a m → P w (unwrap_or o undeclared)
+      → (b : Bool) → bytes_eq w a ≡ b → P w (unwrap_or (if b then Some m else o) undeclared)
+  chosen w a m o p q true e = subst (λ (x : Text). P x m) (sym ((bytes_eq-Decides w a).0 e)) p
+  chosen w a m o p q false e = q
 
-  such_word : P undeclared → (names : Names) → AreSuch names → (w : Text) → P (meaning_of names w)
-  such_word p [] h w = p
-  such_word p (e ∷ es) h w = chosen (bytes_eq w e.0) e.1 (meaning_in es w) h.0 (such_word p es h.1 w)
+  pub such_word : ((w : Text) → P w undeclared) → (names : Names) → AreSuch names → (w : Text)
+      → P w (meaning_of names w)
+  such_word p [] h w = p w
+  such_word p (e ∷ es) h w = chosen w e.0 e.1 (meaning_in es w) h.0 (such_word p es h.1 w) (bytes_eq w e.0) refl
 
 pub words_mean : (names : Names) (ds : List Declaration) (k : ℕ) → names ≡ names_of ds
     → AreFine names (uses_in_declarations 0 0 ds)
@@ -161,12 +164,11 @@ pub words_mean : (names : Names) (ds : List Declaration) (k : ℕ) → names ≡
 words_mean names ds k same fine w =
     let types = types_in names ds in
     let symbols = symbols_in names ds in
-    let such = IsMeaning types symbols k in
-    let all : AllByRecursion (λ (e : Text × Meaning). such e.1) (names_of ds) =
+    let such = λ (a : Text) (m : Meaning). IsMeaning types symbols k m in
+    let all : AreSuch such (names_of ds) =
     with_such such number_types (declared_names 0 0 ds) (tt, (tt, tt))
     (each_means types symbols k names 0 0 ds fine (rest_whole types) (rest_whole symbols)) in
-    such_word such tt names (subst (λ (ns : Names). AllByRecursion (λ (e : Text × Meaning). such e.1) ns)
-    (sym same) all) w
+    such_word such (λ a. tt) names (subst (λ (ns : Names). AreSuch such ns) (sym same) all) w
 
 -- ---- a word in a scope
 

@@ -76,7 +76,7 @@ texts es = map (λ e. text_of e.0) es
 abbrev pub AreNew : List Use → Type 0
 AreNew us = AllByRecursion (λ u. is_redeclared u ≡ false) us
 
-unknown_is : (o : Option Meaning) → is_some o ≡ false → o ≡ None
+pub unknown_is : (o : Option Meaning) → is_some o ≡ false → o ≡ None
 unknown_is None h = refl
 unknown_is (Some m) h = absurd (true≢false h)
 

@@ -127,20 +127,37 @@ all_new : (f : File) → ((q : KbFault) → NamesRefuse f q → ⊥) → AreNew 
 all_new f accepted = in_all (λ (u : Use). is_redeclared u ≡ false) (uses_of_file f)
     (λ u c. false_from_ne_true (is_redeclared u) (λ h. accepted _ (redeclared u c h)))
 
+-- what no row of the stage of names says of the declarations of a file
+pub declarations_fine : (f : File) → ((q : KbFault) → NamesRefuse f q → ⊥)
+    → AreFine (names_of (declarations_of f.vocabularies)) (uses_in_declarations 0 0 (declarations_of f.vocabularies))
+declarations_fine f accepted =
+    let ds = declarations_of f.vocabularies in
+    let names = names_of ds in
+    let rest = flat_map uses_in_theory f.theories ++ flat_map uses_in_block f.terms in
+    let words = declared_uses number_types (declared_names 0 0 ds) in
+    let second = uses_in_declarations 0 0 ds in
+    all_right (IsFine names) words second (all_left (IsFine names) (words ++ second) (cycle_uses ds)
+    (all_left (IsFine names) (uses_of_declarations ds) rest (names_fine f accepted)))
+
+pub declarations_new : (f : File) → ((q : KbFault) → NamesRefuse f q → ⊥)
+    → AreNew (declared_uses number_types (declared_names 0 0 (declarations_of f.vocabularies)))
+declarations_new f accepted =
+    let ds = declarations_of f.vocabularies in
+    let rest = flat_map uses_in_theory f.theories ++ flat_map uses_in_block f.terms in
+    let words = declared_uses number_types (declared_names 0 0 ds) in
+    let second = uses_in_declarations 0 0 ds in
+    let such = λ (u : Use). is_redeclared u ≡ false in
+    all_left such words second (all_left such (words ++ second) (cycle_uses ds)
+    (all_left such (uses_of_declarations ds) rest (all_new f accepted)))
+
 vocabulary_is : (f : File) → ((q : KbFault) → NamesRefuse f q → ⊥)
     → IsWellFormed (vocabulary_of (vocabulary_name f.vocabularies) (declarations_of f.vocabularies))
 vocabulary_is f accepted =
     let ds = declarations_of f.vocabularies in
     let names = names_of ds in
     let v = vocabulary_of (vocabulary_name f.vocabularies) ds in
-    let rest = flat_map uses_in_theory f.theories ++ flat_map uses_in_block f.terms in
-    let words = declared_uses number_types (declared_names 0 0 ds) in
-    let second = uses_in_declarations 0 0 ds in
-    let fine = all_right (IsFine names) words second (all_left (IsFine names) (words ++ second) (cycle_uses ds)
-    (all_left (IsFine names) (uses_of_declarations ds) rest (names_fine f accepted))) in
-    let such = λ (u : Use). is_redeclared u ≡ false in
-    let new = all_left such words second (all_left such (words ++ second) (cycle_uses ds)
-    (all_left such (uses_of_declarations ds) rest (all_new f accepted))) in
+    let fine = declarations_fine f accepted in
+    let new = declarations_new f accepted in
     let means : (k : ℕ) (w : Text) → IsMeaning v.types v.symbols k (meaning_of names w) =
     λ k w. words_mean names ds k refl fine w in
     let few : 0 + length v.types ≤ 256 = few_types names 0 0 ds fine (omega arith) in

@@ -24,7 +24,7 @@ use Rattle.word_laws.proofs.DomainWords.{domains_spelled}
 
 -- ---- vocabularies
 
-word_is : (n : Name) → IsWord n → IsFreeWord (text_of n)
+pub word_is : (n : Name) → IsWord n → IsFreeWord (text_of n)
 word_is (name text p) h = h
 
 made_are : (ms : List (Separator × ℕ × Name)) → AllByRecursion (λ x. IsWord x.2) ms
@@ -63,7 +63,7 @@ first_vocabulary (tree.vocabulary p n b ds e ∷ vs) h =
 -- ---- files
 
 module _ (bytes : List ℕ) (blocks : List tree.Block) (typed : TypedFile) (a : IsAccepted bytes blocks typed) where
-  read : AllByRecursion IsBlockRead blocks
+  pub read : AllByRecursion IsBlockRead blocks
   read = blocks_read blocks (subst AreRead a.parsed.0 (are_read bytes a.tokens a.scanned))
 
   of_file : IsVocabularySpelled (map vocabulary_of (filter_map as_vocabulary blocks))

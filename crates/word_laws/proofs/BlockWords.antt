@@ -21,17 +21,21 @@ use Rattle.fo_syntax.specs.BlockSpelling.{put_head, put_body, put_rule, put_theo
 use Rattle.fo_syntax.specs.BlockSpelling.{put_element, put_item, put_items, put_to, put_row, put_rows, put_value}
 use Rattle.fo_syntax.specs.BlockSpelling.{put_equal, put_entry, put_structure, put_block, put_file}
 use Rattle.fo_syntax.specs.declared.terminal.Outer.{Outer}
-use Rattle.fo_syntax.specs.BlockView.{as_vocabulary, as_structure}
+use Rattle.fo_syntax.specs.BlockView.{as_vocabulary, as_theory, as_structure, as_term_block}
 use Rattle.word_laws.specs.Words.{IsFreeWord}
 use Rattle.word_laws.proofs.TokenWords.{AreRead}
 
 -- ---- parts, and what is after them
 
 -- what is read of a part's text, and what is after it
-abbrev Reads : {A : Type 0} → (A → List Tok → List Tok) → (A → Type 0) → Type 0
+abbrev pub Reads : {A : Type 0} → (A → List Tok → List Tok) → (A → Type 0) → Type 0
 Reads {A} put Good = (x : A) (ts : List Tok) → AreRead (put x ts) → Good x × AreRead ts
 
-abbrev Skips : {A : Type 0} → (A → List Tok → List Tok) → Type 0
+-- among tokens that are read: each word that the part is written with is a free one
+abbrev pub IsRead : {A : Type 0} → (A → List Tok → List Tok) → A → Type 0
+IsRead {A} put x = (ts : List Tok) × AreRead (put x ts)
+
+abbrev pub Skips : {A : Type 0} → (A → List Tok → List Tok) → Type 0
 Skips {A} put = (x : A) (ts : List Tok) → AreRead (put x ts) → AreRead ts
 
 module _ {A : Type 0} (put : A → List Tok → List Tok) (Good : A → Type 0) (reads : Reads put Good) where
@@ -69,7 +73,7 @@ sign_skip s p ts h = h.1
 abbrev pub IsWord : Name → Type 0
 IsWord (name text p) = IsFreeWord text
 
-name_read : Reads put_name IsWord
+pub name_read : Reads put_name IsWord
 name_read (name text p) ts h = (h.0, h.1)
 
 name_skip : Skips put_name
@@ -77,58 +81,58 @@ name_skip n ts h = (name_read n ts h).1
 
 -- ---- formulas and terms
 
-var_skip : Skips put_var
+pub var_skip : Skips put_var
 var_skip (untyped n) ts h = name_skip n ts h
 var_skip (typed n p ty q) ts h = (name_skip ty _ (name_skip n _ h).1).1
 
-vars_skip : Skips put_vars
+pub vars_skip : Skips put_vars
 vars_skip (var v) ts h = var_skip v ts h
 vars_skip (beside v vs) ts h = vars_skip vs ts (var_skip v _ h)
 vars_skip (comma v p vs) ts h = vars_skip vs ts (var_skip v _ h).1
 
-number_skip : Skips put_number
+pub number_skip : Skips put_number
 number_skip any ts h = h
 number_skip (exactly n p) ts h = h.1
 number_skip (compared c p n q) ts h = h.1.1
 
 mutual
-  formula_skip : (f : Formula) (ts : List Tok) → AreRead (put_formula f ts) → AreRead ts
+  pub formula_skip : (f : Formula) (ts : List Tok) → AreRead (put_formula f ts) → AreRead ts
   formula_skip (alone o) ts h = or_skip o ts h
   formula_skip (linked a o p os) ts h = links_skip a os ts (or_skip o _ h).1
 
-  links_skip : (a : Arrow) (os : Links) (ts : List Tok) → AreRead (put_links a os ts) → AreRead ts
+  pub links_skip : (a : Arrow) (os : Links) (ts : List Tok) → AreRead (put_links a os ts) → AreRead ts
   links_skip a (last o) ts h = or_skip o ts h
   links_skip a (link o p os) ts h = links_skip a os ts (or_skip o _ h).1
 
-  or_skip : (o : Or) (ts : List Tok) → AreRead (put_or o ts) → AreRead ts
+  pub or_skip : (o : Or) (ts : List Tok) → AreRead (put_or o ts) → AreRead ts
   or_skip (one a) ts h = and_skip a ts h
   or_skip (or a p o) ts h = or_skip o ts (and_skip a _ h).1
 
-  and_skip : (a : And) (ts : List Tok) → AreRead (put_and a ts) → AreRead ts
+  pub and_skip : (a : And) (ts : List Tok) → AreRead (put_and a ts) → AreRead ts
   and_skip (single u) ts h = unary_skip u ts h
   and_skip (and u p a) ts h = and_skip a ts (unary_skip u _ h).1
 
-  unary_skip : (u : Unary) (ts : List Tok) → AreRead (put_unary u ts) → AreRead ts
+  pub unary_skip : (u : Unary) (ts : List Tok) → AreRead (put_unary u ts) → AreRead ts
   unary_skip (not p u) ts h = unary_skip u ts h.1
   unary_skip (every p vs q f) ts h = formula_skip f ts (vars_skip vs _ h.1).1
   unary_skip (some p n vs q f) ts h = formula_skip f ts (vars_skip vs _ (number_skip n _ h.1)).1
   unary_skip (prim x) ts h = prim_skip x ts h
 
-  prim_skip : (x : Prim) (ts : List Tok) → AreRead (put_prim x ts) → AreRead ts
+  pub prim_skip : (x : Prim) (ts : List Tok) → AreRead (put_prim x ts) → AreRead ts
   prim_skip (group p f q) ts h = (formula_skip f _ h.1).1
   prim_skip (truth b p) ts h = h.1
   prim_skip (atom a) ts h = app_skip a ts h
   prim_skip (compare x c p y) ts h = term_skip y ts (term_skip x _ h).1
 
-  term_skip : (x : Term) (ts : List Tok) → AreRead (put_term x ts) → AreRead ts
+  pub term_skip : (x : Term) (ts : List Tok) → AreRead (put_term x ts) → AreRead ts
   term_skip (product x) ts h = product_skip x ts h
   term_skip (sum x s p y) ts h = term_skip y ts (product_skip x _ h).1
 
-  product_skip : (x : Product) (ts : List Tok) → AreRead (put_product x ts) → AreRead ts
+  pub product_skip : (x : Product) (ts : List Tok) → AreRead (put_product x ts) → AreRead ts
   product_skip (factor x) ts h = factor_skip x ts h
   product_skip (times x p y) ts h = product_skip y ts (factor_skip x _ h).1
 
-  factor_skip : (x : Factor) (ts : List Tok) → AreRead (put_factor x ts) → AreRead ts
+  pub factor_skip : (x : Factor) (ts : List Tok) → AreRead (put_factor x ts) → AreRead ts
   factor_skip (integer n p) ts h = h.1
   factor_skip (value a) ts h = app_skip a ts h
   factor_skip (brackets p x q) ts h = (term_skip x _ h.1).1
@@ -136,12 +140,12 @@ mutual
   factor_skip (count p b vs c f e) ts h = (formula_skip f _ (vars_skip vs _ h.1.1).1).1
   factor_skip (aggregate a p b vs c f d x e) ts h = (term_skip x _ (formula_skip f _ (vars_skip vs _ h.1.1).1).1).1
 
-  app_skip : (a : App) (ts : List Tok) → AreRead (put_app a ts) → AreRead ts
+  pub app_skip : (a : App) (ts : List Tok) → AreRead (put_app a ts) → AreRead ts
   app_skip (constant n) ts h = name_skip n ts h
   app_skip (empty n p q) ts h = (name_skip n _ h).1.1
   app_skip (apply n p xs q) ts h = (terms_skip xs _ (name_skip n _ h).1).1
 
-  terms_skip : (xs : Terms) (ts : List Tok) → AreRead (put_terms xs ts) → AreRead ts
+  pub terms_skip : (xs : Terms) (ts : List Tok) → AreRead (put_terms xs ts) → AreRead ts
   terms_skip (final x) ts h = term_skip x ts h
   terms_skip (then x p xs) ts h = terms_skip xs ts (term_skip x _ h).1
 
@@ -215,17 +219,32 @@ rule_skip : Skips put_rule
 rule_skip (tree.rule bs x b d) ts h =
     (option_skip put_body body_skip b _ (head_skip x _ (each_skip put_binding binding_skip bs _ h))).1
 
-item_of_theory_skip : Skips put_theory_item
-item_of_theory_skip (tree.sentence f d) ts h = (formula_skip f _ h).1
-item_of_theory_skip (tree.definition b rs e) ts h = (each_skip put_rule rule_skip rs _ h.1).1
+-- a sentence is read; of a definition nothing is said, since no later stage accepts one
+abbrev pub IsTheoryItemRead : tree.TheoryItem → Type 0
+IsTheoryItemRead (tree.sentence f d) = IsRead put_formula f
+IsTheoryItemRead (tree.definition b rs e) = ⊤
 
-theory_skip : Skips put_theory
-theory_skip (tree.theory x is e) ts h = (each_skip put_theory_item item_of_theory_skip is _
-    (header_read o.Theory x _ h).1).1
+item_of_theory_read : Reads put_theory_item IsTheoryItemRead
+item_of_theory_read (tree.sentence f d) ts h = ((_, h), (formula_skip f _ h).1)
+item_of_theory_read (tree.definition b rs e) ts h = (tt, (each_skip put_rule rule_skip rs _ h.1).1)
 
-term_block_skip : Skips put_term_block
-term_block_skip (tree.term_block x y d e) ts h = (option_skip (put_sign (t.Outer o.Dot)) (sign_skip (t.Outer o.Dot)) d _
-    (term_skip y _ (header_read o.Term x _ h).1)).1
+abbrev pub IsTheoryRead : tree.Theory → Type 0
+IsTheoryRead (tree.theory x is e) = AllByRecursion IsTheoryItemRead is
+
+theory_read : Reads put_theory IsTheoryRead
+theory_read (tree.theory x is e) ts h =
+    let items = each_read put_theory_item IsTheoryItemRead item_of_theory_read is _ (header_read o.Theory x _ h).1 in
+    (items.0, items.1.1)
+
+abbrev pub IsTermBlockRead : tree.TermBlock → Type 0
+IsTermBlockRead (tree.term_block x y d e) = IsRead put_term y
+
+term_block_read : Reads put_term_block IsTermBlockRead
+term_block_read (tree.term_block x y d e) ts h =
+    let body = (header_read o.Term x _ h).1 in (
+      (_, body),
+      (option_skip (put_sign (t.Outer o.Dot)) (sign_skip (t.Outer o.Dot)) d _ (term_skip y _ body)).1,
+    )
 
 -- ---- structures
 
@@ -328,16 +347,16 @@ structure_read (tree.structure x es e) ts h =
 
 abbrev pub IsBlockRead : tree.Block → Type 0
 IsBlockRead (tree.vocabulary_block v) = IsVocabularyRead v
-IsBlockRead (tree.theory_block x) = ⊤
+IsBlockRead (tree.theory_block x) = IsTheoryRead x
 IsBlockRead (tree.structure_block s) = IsStructureRead s
-IsBlockRead (tree.value_block x) = ⊤
+IsBlockRead (tree.value_block x) = IsTermBlockRead x
 IsBlockRead (tree.procedure p) = ⊤
 
 block_read : Reads put_block IsBlockRead
 block_read (tree.vocabulary_block v) ts h = vocabulary_read v ts h
-block_read (tree.theory_block x) ts h = (tt, theory_skip x ts h)
+block_read (tree.theory_block x) ts h = theory_read x ts h
 block_read (tree.structure_block s) ts h = structure_read s ts h
-block_read (tree.value_block x) ts h = (tt, term_block_skip x ts h)
+block_read (tree.value_block x) ts h = term_block_read x ts h
 block_read (tree.procedure p) ts h = (tt, h.1)
 
 pub blocks_read : (blocks : List tree.Block) → AreRead (put_file blocks []) → AllByRecursion IsBlockRead blocks
@@ -360,3 +379,21 @@ structures_read (tree.theory_block x ∷ bs) h = structures_read bs h.1
 structures_read (tree.structure_block s ∷ bs) h = (h.0, structures_read bs h.1)
 structures_read (tree.value_block x ∷ bs) h = structures_read bs h.1
 structures_read (tree.procedure p ∷ bs) h = structures_read bs h.1
+
+pub theories_read : (blocks : List tree.Block) → AllByRecursion IsBlockRead blocks
+    → AllByRecursion IsTheoryRead (filter_map as_theory blocks)
+theories_read [] h = tt
+theories_read (tree.vocabulary_block v ∷ bs) h = theories_read bs h.1
+theories_read (tree.theory_block x ∷ bs) h = (h.0, theories_read bs h.1)
+theories_read (tree.structure_block s ∷ bs) h = theories_read bs h.1
+theories_read (tree.value_block x ∷ bs) h = theories_read bs h.1
+theories_read (tree.procedure p ∷ bs) h = theories_read bs h.1
+
+pub term_blocks_read : (blocks : List tree.Block) → AllByRecursion IsBlockRead blocks
+    → AllByRecursion IsTermBlockRead (filter_map as_term_block blocks)
+term_blocks_read [] h = tt
+term_blocks_read (tree.vocabulary_block v ∷ bs) h = term_blocks_read bs h.1
+term_blocks_read (tree.theory_block x ∷ bs) h = term_blocks_read bs h.1
+term_blocks_read (tree.structure_block s ∷ bs) h = term_blocks_read bs h.1
+term_blocks_read (tree.value_block x ∷ bs) h = (h.0, term_blocks_read bs h.1)
+term_blocks_read (tree.procedure p ∷ bs) h = term_blocks_read bs h.1

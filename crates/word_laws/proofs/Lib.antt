@@ -1,4 +1,4 @@
-mod TokenWords
-mod BlockWords
+pub mod TokenWords
+pub mod BlockWords
 mod DomainWords
 pub mod Accepted

@@ -1,60 +1,81 @@
 //! Copies of commands and replies.
 
-use super::command_lines::show_command;
-use super::reply_texts::{choices, model, text_of};
-use super::samples::base;
-use consult_base::KnowledgeBase;
-use consult_text::{F, Reply, read_command};
-use kb_logic::{LiteralList, Memory};
+use super::sessions::session;
+use consult_text::{Reply, commands_are_over_the_base, read_command, write_reply};
+use consultant_session::Session;
+use kb_logic::Memory;
 use std::alloc::Global;
 use std::test::Fail;
 
-const LINES: [&[u8]; 8] = [
-    b"assert P(a,-1).",
-    b"retract f(a) ~= b.",
-    b"reset.",
-    b"choices.",
-    b"model.",
-    b"budget 5.",
-    b"budget unlimited.",
-    b"forget.",
+/// A command line, and the text of the reply to it after those before.
+const LINES: [(&[u8], &[u8]); 12] = [
+    (b"assert f(a) ~= b.", b"ok\n"),
+    (b"assert Q(b).", b"ok\n"),
+    (b"assert Q(b).", b"refused F5 AlreadyChosen\n"),
+    (b"choices.", b"choice f(a) ~= b\nchoice Q(b)\ndone\n"),
+    (
+        b"model.",
+        b"model\nP = {a}\nQ = {b}\nf = {a->a; b->b}\ndone\n",
+    ),
+    (b"budget 5.", b"ok\n"),
+    (b"budget unlimited.", b"ok\n"),
+    (b"assert Q(a).", b"ok\n"),
+    (b"model.", b"inconsistent\n"),
+    (b"retract Q(a).", b"ok\n"),
+    (b"forget.", b"ok\n"),
+    (b"reset.", b"ok\n"),
 ];
 
-/// Whether a copy of the line's command is shown as the command.
-fn is_copied(alloc: Global, kb: &KnowledgeBase, line: &[u8]) -> Result<bool, Memory> {
-    let Ok(Some(command)) = read_command(alloc, line, kb) else {
-        return Ok(false);
+/// The reply to a copy of the line's command.
+fn reply_to(alloc: Global, session: &mut Session, line: &[u8]) -> Option<Reply> {
+    commands_are_over_the_base();
+    let Ok(Some(command)) = read_command(alloc, line, session.kb()) else {
+        return None;
     };
-    let mut shown = Vec::new(alloc);
-    show_command(&mut shown, &command)?;
-    let mut copy = Vec::new(alloc);
-    show_command(&mut copy, &command.copy(alloc)?)?;
-    Ok(shown == copy)
-}
-
-#[test]
-fn commands_are_copied(rt: HostRuntime) -> Result<(), Fail> {
-    let kb = base(rt.alloc())?;
-    for line in LINES {
-        assert!(rt; is_copied(rt.alloc(), &kb, line)?);
+    match command.copy(alloc) {
+        Ok(copy) => session.step(&copy).ok(),
+        Err(_) => None,
     }
-    Ok(())
 }
 
-/// Whether a copy of the reply is written as the reply.
-fn is_written_alike(alloc: Global, reply: &Reply) -> Result<bool, Memory> {
-    Ok(text_of(alloc, reply)? == text_of(alloc, &reply.copy(alloc)?)?)
+/// Whether a copy of the reply is written so.
+fn is_written(
+    alloc: Global,
+    session: &Session,
+    reply: &Reply,
+    wanted: &[u8],
+) -> Result<bool, Memory> {
+    let mut out = Vec::new(alloc);
+    write_reply(
+        alloc,
+        &mut out,
+        session.kb().vocabulary(),
+        &reply.copy(alloc)?,
+    )?;
+    Ok(out.as_slice() == wanted)
+}
+
+/// Whether copies of the line's command and of its reply are what they were made from.
+fn is_answered(
+    alloc: Global,
+    session: &mut Session,
+    line: &[u8],
+    wanted: &[u8],
+) -> Result<bool, Memory> {
+    match reply_to(alloc, session, line) {
+        Some(reply) => is_written(alloc, session, &reply, wanted),
+        None => Ok(false),
+    }
 }
 
 #[test]
-fn replies_are_copied(rt: HostRuntime) -> Result<(), Fail> {
-    let alloc = rt.alloc();
-    assert!(rt; is_written_alike(alloc, &Reply::Fine)?);
-    assert!(rt; is_written_alike(alloc, &Reply::Inconsistent)?);
-    assert!(rt; is_written_alike(alloc, &Reply::Undecided(3))?);
-    assert!(rt; is_written_alike(alloc, &Reply::Refused(F::NotChosen))?);
-    let made = Reply::Choices(LiteralList::from_vec(choices(alloc)?));
-    assert!(rt; is_written_alike(alloc, &made)?);
-    assert!(rt; is_written_alike(alloc, &Reply::Model(model(alloc)?))?);
+fn copies_are_what_they_were_made_from(rt: HostRuntime) -> Result<(), Fail> {
+    let Some(mut session) = session(rt.alloc()) else {
+        assert!(rt; false, "no session");
+        return Ok(());
+    };
+    for (line, wanted) in &LINES {
+        assert!(rt; is_answered(rt.alloc(), &mut session, line, wanted)?);
+    }
     Ok(())
 }

@@ -6,13 +6,14 @@ use consultant_session::Session;
 use std::alloc::Global;
 use std::test::Fail;
 
-const COVER: &[u8] = b"vocabulary V { type N  P(N)  Q(N) }
-theory T : V { !x[N]: P(x) | Q(x).  !x[N]: ~(P(x) & Q(x)). }
+/// Each element is of one of two predicates, of which one is given, and a function is the identity.
+const COVER: &[u8] = b"vocabulary V { type N  P(N)  Q(N)  f(N):N }
+theory T : V { !x[N]: P(x) | Q(x).  !x[N]: ~(P(x) & Q(x)).  !x: f(x) = x. }
 structure S : V { N = {a; b}  P = {a} }
 ";
 
 /// A session over the file.
-fn session(alloc: Global) -> Option<Session> {
+pub(super) fn session(alloc: Global) -> Option<Session> {
     match read_base(alloc, COVER, None, None) {
         Ok(kb) => Some(Session::open(alloc, kb, Some(100_000))),
         Err(_) => None,

@@ -1,7 +1,8 @@
 use Rattle.std.proofs.Common.{◌≡◌, map, drop}
 use Rattle.std.specs.List.{list_all}
 use Rattle.def_ground.specs.Cases.{Case, is_always}
-use Rattle.def_ground.specs.CaseViews.{case_view, side_of}
+use Rattle.def_ground.specs.CaseViews.{case_view}
+use Rattle.def_ground.specs.Cases.{side_of}
 use Rattle.def_ground.proofs.cases.all_have_always.Given as goal
 
 -- it is so at all exactly where it is so at the rest

@@ -1,7 +1,8 @@
 use Rattle.std.proofs.Common.{◌≡◌, map, drop, not}
 use Rattle.std.specs.List.{list_all}
 use Rattle.def_ground.specs.Cases.{Case, is_always}
-use Rattle.def_ground.specs.CaseViews.{case_view, side_of}
+use Rattle.def_ground.specs.CaseViews.{case_view}
+use Rattle.def_ground.specs.Cases.{side_of}
 use Rattle.def_ground.proofs.cases.none_has_always.Given as goal
 
 -- it is so at none exactly where it is so at none of the rest

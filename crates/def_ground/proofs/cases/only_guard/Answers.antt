@@ -1,6 +1,6 @@
 use Rattle.std.proofs.Common.{true, false, sym, ◌∙◌}
 use Rattle.def_ground.specs.Cases.{Case, is_always}
-use Rattle.def_ground.specs.CaseViews.{side_of}
+use Rattle.def_ground.specs.Cases.{side_of}
 use Rattle.def_ground.proofs.CaseSteps.{guard-found}
 use Rattle.def_ground.proofs.cases.only_guard.Goals as goal
 

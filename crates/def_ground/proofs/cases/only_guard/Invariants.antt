@@ -1,6 +1,7 @@
 use Rattle.std.proofs.Common.{◌≡◌, map, drop, filter}
 use Rattle.def_ground.specs.Cases.{Case, is_always, only_guard}
-use Rattle.def_ground.specs.CaseViews.{case_view, side_of}
+use Rattle.def_ground.specs.CaseViews.{case_view}
+use Rattle.def_ground.specs.Cases.{side_of}
 use Rattle.def_ground.proofs.cases.only_guard.Given as goal
 
 -- those before have no such side

@@ -4,7 +4,7 @@ use Rattle.ground_core.specs.Problems.{IsLitOf}
 use Rattle.def_ground.specs.Cases.{clauses_of_cases}
 use Rattle.def_ground.specs.CaseViews.{case_view}
 use Rattle.def_ground.specs.Meanings.{IsCaseOf}
-use Rattle.def_ground.specs.Problems.{with_clauses}
+use Rattle.def_ground.specs.Cases.{with_clauses}
 use Rattle.def_ground.proofs.cases.push_sides.Given as goal
 
 -- with the clauses of the rest come all

@@ -2,7 +2,8 @@ use Rattle.std.proofs.Common.{suc, List, [], ◌∷◌, map, sym, ap, subst, ◌
 use Rattle.lit_core.specs.declared.literals.Lit.{Lit}
 use Rattle.lit_core.specs.Literals.{negated}
 use Rattle.ground_core.specs.Problems.{ProblemState, AreLitsOf}
-use Rattle.def_ground.specs.Problems.{pair_clauses, with_clauses}
+use Rattle.def_ground.specs.Problems.{pair_clauses}
+use Rattle.def_ground.specs.Cases.{with_clauses}
 use Rattle.def_ground.proofs.WithClauses.{with_more}
 use Rattle.def_ground.proofs.exactly_one.push_pairs.Goals as goal
 

@@ -1,7 +1,7 @@
 use Rattle.std.proofs.Common.{◌≡◌, ◌∷◌, [], map, take}
 use Rattle.lit_core.specs.declared.literals.Lit.{Lit}
 use Rattle.lit_core.specs.Literals.{negated}
-use Rattle.def_ground.specs.Problems.{with_clauses}
+use Rattle.def_ground.specs.Cases.{with_clauses}
 use Rattle.def_ground.proofs.exactly_one.push_pairs_with.Given as goal
 
 -- the clauses with the others so far

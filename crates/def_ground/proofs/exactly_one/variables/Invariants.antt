@@ -1,7 +1,7 @@
 use Rattle.std.proofs.Common.{◌≡◌, take}
-use Rattle.def_ground.specs.Problems.{variables_from}
+use Rattle.def_ground.specs.Problems.{open_variables}
 use Rattle.def_ground.proofs.exactly_one.variables.Given as goal
 
 -- the variables so far
 abbrev pub invariant-loop-place : goal.invariant-loop-place
-invariant-loop-place l = l.lits ≡ variables_from l.first (take l.place l.values)
+invariant-loop-place l = l.lits ≡ open_variables l.base l.first (take l.place l.values)

@@ -9,5 +9,6 @@ use Rattle.def_ground.proofs.sides.all_pass.Given as goal
 -- all pass exactly where the rest do
 abbrev pub invariant-loop-row : goal.invariant-loop-row
 invariant-loop-row l =
-    list_all (λ (r : Answer × Denotation). compared_with l.sign l.cmp (value_view l.x) r.1) (map guarded_view (drop l.row-index l.rows))
+    list_all (λ (r : Answer × Denotation). compared_with l.sign l.cmp (value_view l.x) r.1)
+    (map guarded_view (drop l.row-index l.rows))
     ≡ list_all (λ (r : Answer × Denotation). compared_with l.sign l.cmp (value_view l.x) r.1) (map guarded_view l.rows)

@@ -1,21 +1,22 @@
-use Rattle.std.proofs.Common.{◌≡◌, ◌<◌, ◌≤◌, ◌∷◌, [], ℕ, length, map, arith, rules, false, ap, refl}
+use Rattle.std.proofs.Common.{◌≡◌, ◌<◌, ◌≤◌, ◌∷◌, ◌++◌, [], ℕ, length, map, arith, rules, false, ap, refl}
 use Rattle.std.proofs.lemmas.Grind.{common_steps}
 use Rattle.fo_syntax.specs.Trees as raw
 use Rattle.fo_syntax.specs.View as view
 use Rattle.fo_syntax.specs.declared.terminal.Adding.{Adding}
 use Rattle.fo_syntax.specs.declared.raw.RawApp.{the_lemmas}
+use Rattle.fo_syntax.specs.declared.raw.RawLink.{out-RawLink}
 use Rattle.fo_syntax.specs.declared.raw.RawOr.{out-RawOr}
 use Rattle.fo_syntax.specs.declared.raw.RawAnd.{out-RawAnd}
 use Rattle.fo_syntax.specs.declared.raw.RawTermTree.{out-RawTermTree}
 use Rattle.fo_syntax.specs.declared.raw.RawProduct.{out-RawProduct}
 use Rattle.fo_syntax.specs.declared.raw.RawTerms.{out-RawTerms}
 use Rattle.reading_stages.specs.NamesStage.{name_noted}
-use Rattle.reading_stages.specs.Numbering.{grouped, named_formula, named_or, named_and, named_unary, named_product, named_factor, named_term, is_minus}
-use Rattle.reading_stages.specs.Uses.{an_aggregate, in_scope, uses_in, uses_in_or, uses_in_and, uses_in_unary, uses_in_product, uses_in_factor, uses_in_term, uses_of_vars, vars_in, within}
+use Rattle.reading_stages.specs.Numbering.{grouped, named_links, named_formula, named_or, named_and, named_unary, named_product, named_factor, named_term, is_minus}
+use Rattle.reading_stages.specs.Uses.{an_aggregate, in_scope, uses_in, uses_in_links, uses_in_or, uses_in_and, uses_in_unary, uses_in_product, uses_in_factor, uses_in_term, uses_of_vars, vars_in, within}
 use Rattle.formula_names.specs.Meanings.{names_in}
 use Rattle.reading_stages.specs.NamedViews.{formula_view, term_view, signed_view}
-use Rattle.formula_names.proofs.Chains.{uses_in_or-is, uses_in_and-is, uses_in_term-is, uses_in_product-is, uses_in_terms-is, named_terms-is}
-use Rattle.formula_names.proofs.ChainEnds.{pushed, pushed_all, noted_all, or_tree, and_tree, sum_tree, product_tree, linked_tree, linked_uses, opened_noted, always_on_ok, same_grouped}
+use Rattle.formula_names.proofs.Chains.{uses_in_or-is, uses_in_and-is, uses_in_term-is, uses_in_product-is, uses_in_terms-is, named_terms-is, named_links-is, uses_in_links-is}
+use Rattle.formula_names.proofs.ChainEnds.{pushed, pushed_more, noted_twice, noted_all, or_tree, and_tree, sum_tree, product_tree, opened_noted, always_on_ok, same_grouped}
 use Rattle.formula_names.proofs.formulas.+resolve.Goals as goal
 use Rattle.reading_stages.specs.NamedTrees as tree
 
@@ -119,19 +120,37 @@ arguments-returns-clause-noted t c =
     rw (seen, terms, uses_in_terms-is)
     (noted_all (name_noted (names_in c.args.table.now)) (λ (x : ℕ × raw.Term). uses_in_term (in_scope c.args.scope.now) x.1) view.terms_tail_view c.args.earliest.now.first _ _ (uses_in_term (in_scope c.args.scope.now) (view.term_view (out-RawTerms c.get-terms.result.now).first)) _ _ _ c.in_ok-term.ensures.noted c.loop-tail.invariant.noted c.loop-tail-test.false c.as_slice-more.ensures)
 
-pub formula-returns-after-loop-link-clause-tree : goal.formula-returns-after-loop-link-clause-tree
-formula-returns-after-loop-link-clause-tree t c =
-    let seen : view.formula_view c.args.raw.now ≡ view.formula_of c.in-Linked.arrow (view.or_view c.in-Linked.first) (map view.link_view c.in-Linked.links) = rw c.in-Linked.is (search (rules, the_lemmas)) in
-    let none : map formula_view c.new-more.result.items ≡ [] = grind (arith, common_steps) in
-    let all : map formula_view c.loop-link.more.items ≡ map (λ (x : ℕ × raw.Or). named_or (names_in c.args.table.now) c.args.scope.now x.1) (map view.link_view c.in-Linked.links) =
-    pushed_all (λ (x : ℕ × raw.Or). named_or (names_in c.args.table.now) c.args.scope.now x.1) view.link_view _ _ _ _ _ c.loop-link.invariant.trees none c.loop-link-test.false c.as_slice-links.ensures in
-    let whole : grouped c.in-Linked.arrow (formula_view c.in_ok-first-in-Linked.first) (map formula_view c.loop-link.more.items) ≡ named_formula (names_in c.args.table.now) c.args.scope.now (view.formula_view c.args.raw.now) =
-    rw (seen, linked_tree, all, c.in_ok-first-in-Linked.ensures.tree) refl in
-    same_grouped c.grouped.result c.in-Linked.arrow _ _ _ _ c.grouped.ensures c.loop-link.invariant.first whole
+pub add_links-returns-clause-trees : goal.add_links-returns-clause-trees
+add_links-returns-clause-trees t c =
+    let seen : view.formula_view c.args.raw.now ≡ view.formula_of c.in-Linked.field-0 (view.or_view c.in-Linked.field-1) (view.link_view c.in-Linked.next ∷ map view.link_view c.in-Linked.links) = rw c.in-Linked.is (search (rules, the_lemmas)) in
+    let next : (view.link_view c.in-Linked.next).1 ≡ view.or_view (out-RawLink c.in-Linked.next).operand = search (rules, the_lemmas) in
+    let one : map formula_view c.push.new.self.items ≡ map formula_view c.args.more.now.items ++ named_or (names_in c.args.table.now) c.args.scope.now (view.link_view c.in-Linked.next).1 ∷ [] = rw next (grind (arith, common_steps)) in
+    rw (seen, named_links-is)
+    (pushed_more (λ (x : ℕ × raw.Or). named_or (names_in c.args.table.now) c.args.scope.now x.1) view.link_view _ _ _ _ _ _ _ c.loop-link.invariant.trees one c.loop-link-test.false c.as_slice-links.ensures)
 
-pub formula-returns-after-loop-link-clause-noted : goal.formula-returns-after-loop-link-clause-noted
-formula-returns-after-loop-link-clause-noted t c =
-    let seen : view.formula_view c.args.raw.now ≡ view.formula_of c.in-Linked.arrow (view.or_view c.in-Linked.first) (map view.link_view c.in-Linked.links) = rw c.in-Linked.is (search (rules, the_lemmas)) in
+pub add_links-returns-clause-noted : goal.add_links-returns-clause-noted
+add_links-returns-clause-noted t c =
+    let seen : view.formula_view c.args.raw.now ≡ view.formula_of c.in-Linked.field-0 (view.or_view c.in-Linked.field-1) (view.link_view c.in-Linked.next ∷ map view.link_view c.in-Linked.links) = rw c.in-Linked.is (search (rules, the_lemmas)) in
+    let next : (view.link_view c.in-Linked.next).1 ≡ view.or_view (out-RawLink c.in-Linked.next).operand = search (rules, the_lemmas) in
+    rw (seen, uses_in_links-is, next)
+    (noted_all (name_noted (names_in c.args.table.now)) (λ (x : ℕ × raw.Or). uses_in_or (in_scope c.args.scope.now) x.1) view.link_view c.args.earliest.now.first _ _ (uses_in_or (in_scope c.args.scope.now) (view.or_view (out-RawLink c.in-Linked.next).operand)) _ _ _ c.in_ok-disjunction.ensures.noted c.loop-link.invariant.noted c.loop-link-test.false c.as_slice-links.ensures)
+
+pub formula-returns-in_ok-add_links-in-Linked-clause-tree : goal.formula-returns-in_ok-add_links-in-Linked-clause-tree
+formula-returns-in_ok-add_links-in-Linked-clause-tree t c =
+    let seen : view.formula_view c.args.raw.now ≡ view.formula_of c.in-Linked.arrow (view.or_view c.in-Linked.first) (view.link_view c.in-Linked.field-2 ∷ map view.link_view c.in-Linked.field-3) = rw c.in-Linked.is (search (rules, the_lemmas)) in
+    let none : map formula_view c.new-more.result.items ≡ [] = grind (arith, common_steps) in
+    let trees = c.in_ok-add_links-in-Linked.ensures.trees in
+    let all : map formula_view c.add_links.new.more.items ≡ named_links (names_in c.args.table.now) c.args.scope.now (view.links_of (view.link_view c.in-Linked.field-2).1 (map view.link_view c.in-Linked.field-3)) = rw (seen, none, c.in_ok-first-in-Linked.ensures.scope) at trees in
+    let whole : grouped c.in-Linked.arrow (formula_view c.in_ok-first-in-Linked.first) (map formula_view c.add_links.new.more.items) ≡ named_formula (names_in c.args.table.now) c.args.scope.now (view.formula_view c.args.raw.now) =
+    rw (seen, all, c.in_ok-first-in-Linked.ensures.tree) refl in
+    same_grouped c.grouped.result c.in-Linked.arrow _ _ _ _ c.grouped.ensures refl whole
+
+pub formula-returns-in_ok-add_links-in-Linked-clause-noted : goal.formula-returns-in_ok-add_links-in-Linked-clause-noted
+formula-returns-in_ok-add_links-in-Linked-clause-noted t c =
+    let seen : view.formula_view c.args.raw.now ≡ view.formula_of c.in-Linked.arrow (view.or_view c.in-Linked.first) (view.link_view c.in-Linked.field-2 ∷ map view.link_view c.in-Linked.field-3) = rw c.in-Linked.is (search (rules, the_lemmas)) in
+    let noted = c.in_ok-add_links-in-Linked.ensures.noted in
     always_on_ok c.grouped.result _
-    (rw (seen, linked_uses)
-    (noted_all (name_noted (names_in c.args.table.now)) (λ (x : ℕ × raw.Or). uses_in_or (in_scope c.args.scope.now) x.1) view.link_view c.args.earliest.now.first _ _ (uses_in_or (in_scope c.args.scope.now) (view.or_view c.in-Linked.first)) _ _ _ c.in_ok-first-in-Linked.ensures.noted c.loop-link.invariant.noted c.loop-link-test.false c.as_slice-links.ensures))
+    (rw seen (noted_twice (name_noted (names_in c.args.table.now)) c.args.earliest.now.first c.disjunction-in-Linked.new.earliest.first c.add_links.new.earliest.first
+    (uses_in_or (in_scope c.args.scope.now) (view.or_view c.in-Linked.first))
+    (uses_in_links (in_scope c.args.scope.now) (view.links_of (view.link_view c.in-Linked.field-2).1 (map view.link_view c.in-Linked.field-3)))
+    c.in_ok-first-in-Linked.ensures.noted (rw (seen, c.in_ok-first-in-Linked.ensures.scope) at noted)))

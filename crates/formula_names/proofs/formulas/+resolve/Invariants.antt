@@ -10,9 +10,8 @@ use Rattle.formula_names.specs.Meanings.{names_in}
 use Rattle.reading_stages.specs.NamedViews.{formula_view, term_view, signed_view}
 use Rattle.formula_names.proofs.formulas.+resolve.Given as goal
 
-abbrev pub invariant-formula-loop-link : goal.invariant-formula-loop-link
-invariant-formula-loop-link l = record {
-  first : formula_view l.first ≡ formula_view l.initial.first;
+abbrev pub invariant-add_links-loop-link : goal.invariant-add_links-loop-link
+invariant-add_links-loop-link l = record {
   trees : map formula_view l.more.items ≡ map formula_view l.initial.more.items ++ map (λ (x : ℕ × raw.Or). named_or (names_in l.table) l.fn.scope x.1) (map link_view (take l.link-index l.links));
   scope : l.scope ≡ l.fn.scope;
   noted : l.earliest.first ≡ fold (name_noted (names_in l.table)) l.initial.earliest.first (flat_map (λ (x : ℕ × raw.Or). uses_in_or (in_scope l.fn.scope) x.1) (map link_view (take l.link-index l.links)));

@@ -42,14 +42,16 @@ instances-instances-requires t c =
     let inner = env_view c.extend-inner.result in
     let count : c.split_in.result.0.count ≡ length cs = rw c.domains.ensures at c.split_in.ensures.count in
     let within : i < length cs = rw (← count) c.loop-number-test.true in
-    let is : inner ≡ e ++ get_or cs i [] = rw (c.split_in.ensures.domains, c.domains.ensures) at c.extend-inner.ensures in (
+    let is : inner ≡ e ++ get_or cs i [] = rw (c.split_in.ensures.domains, c.domains.ensures)
+    at c.extend-inner.ensures in (
       omega (arith, c.split_in.ensures.fewer),
       (
         c.requires.given,
         (
           omega (arith, c.requires.room, c.loop-number.invariant.vars),
           (
-            each_after b.domains c.args.bounds.now these others c.split_in.ensures.parts (IsGroundable b f) e inner i within is c.requires.fits,
+            each_after b.domains c.args.bounds.now these others c.split_in.ensures.parts
+                (IsGroundable b f) e inner i within is c.requires.fits,
             c.loop-number.invariant.lits,
           ),
         ),
@@ -71,17 +73,21 @@ instances-returns-then-branch-clause-made t c =
     let inner = env_view c.extend-inner.result in
     let count : c.split_in.result.0.count ≡ length cs = rw c.domains.ensures at c.split_in.ensures.count in
     let within : i < length cs = rw (← count) c.loop-number-test.true in
-    let is : inner ≡ e ++ get_or cs i [] = rw (c.split_in.ensures.domains, c.domains.ensures) at c.extend-inner.ensures in
+    let is : inner ≡ e ++ get_or cs i [] = rw (c.split_in.ensures.domains, c.domains.ensures)
+    at c.extend-inner.ensures in
     let G = λ (r : Parts) (a : List Elem). part_step b all sign f r a in
     let F = λ (r : Parts) (a : List Elem). G r (e ++ a) in
     let s = open_parts c.loop-number.lits.items c.loop-number.problem in
     let d = fold (λ (r : Parts) (x : List Elem). G r (inner ++ x)) s rest in
-    let made : MakesParts d c.in_ok-instances.field-0 c.instances.new.lits.items c.instances.new.problem = c.in_ok-instances.ensures.made in
+    let made : MakesParts d c.in_ok-instances.field-0 c.instances.new.lits.items c.instances.new.problem =
+    c.in_ok-instances.ensures.made in
     let settled : d.settled ≡ true = sym made.0 ∙ c.if-branch.true in
     let first = open_parts c.args.lits.now.items c.args.problem.now in
     let whole : fold F first (choices b.domains c.args.bounds.now) ≡ d =
-    fold_by_front b.domains c.args.bounds.now these others c.split_in.ensures.parts F first ∙ sym c.loop-number.invariant.same
-    ∙ settled-at F rest cs i s d within (inner_fold G rest e inner (get_or cs i []) s is) (λ x. settled-stays b all sign f d (e ++ x) settled) in (
+    fold_by_front b.domains c.args.bounds.now these others c.split_in.ensures.parts F first
+    ∙ sym c.loop-number.invariant.same
+    ∙ settled-at F rest cs i s d within (inner_fold G rest e inner (get_or cs i []) s is)
+    (λ x. settled-stays b all sign f d (e ++ x) settled) in (
       sym (ap (λ (r : Parts). r.settled) whole ∙ settled),
       made.1 ∙ sym (ap (λ (r : Parts). r.lits) whole),
       made.2 ∙ sym (ap (λ (r : Parts). r.problem) whole),
@@ -102,7 +108,8 @@ instances-loop-number-preserved t c =
     let inner = env_view c.extend-inner.result in
     let count : c.split_in.result.0.count ≡ length cs = rw c.domains.ensures at c.split_in.ensures.count in
     let within : i < length cs = rw (← count) c.loop-number-test.true in
-    let is : inner ≡ e ++ get_or cs i [] = rw (c.split_in.ensures.domains, c.domains.ensures) at c.extend-inner.ensures in
+    let is : inner ≡ e ++ get_or cs i [] = rw (c.split_in.ensures.domains, c.domains.ensures)
+    at c.extend-inner.ensures in
     let G = λ (r : Parts) (a : List Elem). part_step b all sign f r a in
     let F = λ (r : Parts) (a : List Elem). G r (e ++ a) in
     let s = open_parts c.loop-number.lits.items c.loop-number.problem in
@@ -112,7 +119,8 @@ instances-loop-number-preserved t c =
     let made : MakesParts d c.in_ok-instances.field-0 lits q = c.in_ok-instances.ensures.made in
     let opened : open_parts lits q ≡ d = parts-made d false lits q (sym c.if-branch.false ∙ made.0, made.1, made.2) in
     record {
-      same = fold_next (after_front F rest) cs i s (open_parts lits q) within (opened ∙ inner_fold G rest e inner (get_or cs i []) s is)
+      same = fold_next (after_front F rest) cs i s (open_parts lits q) within (opened
+          ∙ inner_fold G rest e inner (get_or cs i []) s is)
           ∙ c.loop-number.invariant.same;
       vars = omega (arith, c.loop-number.invariant.vars, c.in_ok-instances.ensures.grows.vars);
       lits = c.in_ok-instances.ensures.grows.within;
@@ -134,7 +142,8 @@ instances-returns-clause-made t c =
     let s = open_parts c.loop-number.lits.items c.loop-number.problem in
     let first = open_parts c.args.lits.now.items c.args.problem.now in
     made-open (fold F first (choices b.domains c.args.bounds.now)) c.loop-number.lits.items c.loop-number.problem
-    (fold_by_front b.domains c.args.bounds.now these others c.split_in.ensures.parts F first ∙ sym c.loop-number.invariant.same
+    (fold_by_front b.domains c.args.bounds.now these others c.split_in.ensures.parts F first
+    ∙ sym c.loop-number.invariant.same
     ∙ fold_done (after_front F rest) cs i s past)
 
 pub quantified-returns-clause-made : goal.quantified-returns-clause-made
@@ -142,7 +151,8 @@ quantified-returns-clause-made t c =
     let b = c.args.base.now in
     let e = env_view c.args.env.now in
     let f = formula_view c.args.formula.now in
-    let d = fold (λ (r : Parts) (x : List Elem). part_step b c.args.all true f r (e ++ x)) (open_parts [] c.args.problem.now)
+    let d = fold (λ (r : Parts) (x : List Elem). part_step b c.args.all true f r (e ++ x))
+    (open_parts [] c.args.problem.now)
     (choices b.domains c.args.bounds.now) in
     let made : MakesParts d c.in_ok-settled.settled c.instances.new.lits.items c.instances.new.problem =
     rw c.new-lits.ensures.items at c.in_ok-settled.ensures.made in

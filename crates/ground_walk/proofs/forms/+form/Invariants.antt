@@ -16,7 +16,8 @@ invariant-parts-loop-formula l =
     let left = formulas_of (map formula_view (drop l.formula-index l.formulas)) in
     record {
       same : parts_of l.base l.all left (env_view l.env) l.lits.items l.problem
-          ≡ parts_of l.base l.all (formulas_of (map formula_view l.formulas)) (env_view l.env) l.fn.lits.items l.fn.problem;
+          ≡ parts_of l.base l.all (formulas_of (map formula_view l.formulas))
+          (env_view l.env) l.fn.lits.items l.fn.problem;
       fits : AreGroundable l.base left (env_view l.env);
       vars : l.fn.problem.vars ≤ l.problem.vars;
       lits : AreLitsOf l.problem.vars l.lits.items;

@@ -15,5 +15,6 @@ loop-row-preserved c =
     ap (map case_view) c.in_ok-push.ensures.items
     ∙ map-append case_view c.loop-row.cases.items (c.in_ok-case_of.field-0 ∷ [])
     ∙ ap (λ cs. cs ++ case_view c.in_ok-case_of.field-0 ∷ []) c.loop-row.invariant
-    ∙ ap (λ v. map C (take k rows) ++ v ∷ []) (c.in_ok-case_of.ensures ∙ ap (case_of c.guards.result.now) c.atom_answer-answer.ensures)
+    ∙ ap (λ v. map C (take k rows) ++ v ∷ []) (c.in_ok-case_of.ensures
+    ∙ ap (case_of c.guards.result.now) c.atom_answer-answer.ensures)
     ∙ sym (next-row C rows k c.guards.result.now (map row_value c.values.result.now) c.guards.ensures c.values.ensures)

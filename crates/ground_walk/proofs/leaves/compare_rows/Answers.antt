@@ -1,7 +1,10 @@
-use Rattle.std.proofs.Common.{◌≤◌, sym, subst, arith}
+use Rattle.std.proofs.Common.{◌≤◌, IfOk, map, length, sym, subst, arith}
 use Rattle.std.proofs.lemmas.Result.{IfOk-weaker}
 use Rattle.ground_core.specs.Problems.{ProblemState}
-use Rattle.ground_walk.proofs.LeafSteps.{comparison-cases-in, guards-grow}
+use Rattle.def_ground.specs.Answers.{GroundResult, Makes}
+use Rattle.def_ground.specs.Cases.{cases_of}
+use Rattle.def_ground.specs.Comparisons.{guard_answers as answers_of_guards, comparison_case}
+use Rattle.ground_walk.proofs.LeafSteps.{comparison-by-rows, comparison-cases-in, guards-grow}
 use Rattle.ground_walk.proofs.leaves.compare_rows.Goals as goal
 
 pub answer_of_cases-requires : goal.answer_of_cases-requires
@@ -12,7 +15,29 @@ answer_of_cases-requires c =
       c.as_slice.ensures.value,
       c.in_ok-values.ensures.rows,
       c.in_ok-values.ensures.problem,
-    ) (comparison-cases-in c.args.cmp c.args.problem.now c.args.left.now c.args.right.now c.requires.left c.requires.right)
+    ) (comparison-cases-in c.args.cmp c.args.problem.now c.args.left.now c.args.right.now c.requires.left
+    c.requires.right)
+
+pub returns-clause-made : goal.returns-clause-made
+returns-clause-made c =
+    let cmp = c.args.cmp in
+    let p = c.args.problem.now in
+    let xs = c.args.left.now in
+    let ys = c.args.right.now in
+    let q = c.answer_of_cases.new.problem in
+    let some : 1 ≤ length xs = omega (arith, c.if-len-eq0.false, c.len.ensures) in
+    let made : IfOk c.answer_of_cases.result
+    (λ a. Makes (cases_of (map (comparison_case cmp (answers_of_guards ys p).rows) xs)
+    (answers_of_guards ys p).problem) a q) =
+    rw (
+      c.as_slice-2.ensures.value,
+      c.in_ok-cases.ensures,
+      c.as_slice.ensures.value,
+      c.in_ok-values.ensures.rows,
+      c.in_ok-values.ensures.problem,
+    ) at c.answer_of_cases.ensures.made in
+    subst (λ (g : GroundResult). IfOk c.answer_of_cases.result (λ a. Makes g a q))
+    (sym (comparison-by-rows cmp p xs ys some)) made
 
 pub returns-clause-grows : goal.returns-clause-grows
 returns-clause-grows c =

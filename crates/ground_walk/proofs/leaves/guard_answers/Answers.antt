@@ -26,7 +26,8 @@ loop-row-preserved c =
     let later = (guard_answers (drop (k + 1) rows) q).rows in
     record {
       rows = ap (λ vs. map guarded_view vs ++ later) c.in_ok-push.ensures.items
-          ∙ ap (λ vs. vs ++ later) (map-append guarded_view c.loop-row.answers.items (record { answer = a; value = c.value.result } ∷ []))
+          ∙ ap (λ vs. vs ++ later)
+          (map-append guarded_view c.loop-row.answers.items (record { answer = a; value = c.value.result } ∷ []))
           ∙ append_assoc before ((a, x) ∷ []) later
           ∙ ap (λ rs. before ++ rs) (sym (next-answers rows k g x p q a left made.0 made.1))
           ∙ c.loop-row.invariant.rows;

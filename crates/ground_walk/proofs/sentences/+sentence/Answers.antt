@@ -1,19 +1,18 @@
-use Rattle.std.proofs.Common.{◌≡◌, ◌+◌, ◌<◌, ◌≤◌, ◌++◌, ◌∷◌, List, [], map, drop, true, false, length, get_or, fold, OnOk, sym, ap, subst, ◌∙◌, arith}
+use Rattle.std.proofs.Common.{◌≡◌, ◌+◌, ◌<◌, ◌≤◌, ◌++◌, ◌∷◌, List, [], map, drop, take, false, length, get_or, fold, OnOk, sym, ap, subst, ◌∙◌, arith}
 use Rattle.kb_logic.specs.declared.elements.Elem.{Elem}
 use Rattle.plain_evaluation.specs.Environments.{env_view}
 use Rattle.kb_logic.specs.Structures.{choices}
 use Rattle.kb_logic.specs.Views.{formula_view}
 use Rattle.lit_core.specs.declared.literals.Lit.{Lit}
 use Rattle.ground_core.specs.Problems.{ProblemState, AreLitsOf}
-use Rattle.def_ground.specs.Forms.{form_of, signed_result, settles, with_answer}
-use Rattle.def_ground.specs.Answers.{Makes}
+use Rattle.def_ground.specs.Disjuncts.{disjuncts_of}
 use Rattle.def_ground.specs.Sentences.{assert_any}
 use Rattle.kb_logic.specs.Trees.{formulas_of}
 use Rattle.def_ground.proofs.Growing.{lits-more}
 use Rattle.plain_evaluation.proofs.Folds.{after_front, each_after, fold_by_front, fold_done, fold_next, inner_fold}
 use Rattle.ground_walk.specs.Groundable.{IsGroundable}
-use Rattle.ground_walk.specs.Steps.{assert_step}
-use Rattle.ground_walk.proofs.SentenceSteps.{Begins, all-asserted, some-asserted, answer-begins, front-begins, front-of, any-next, unless-stops, unless-goes-on, answer-lits, groundable-next}
+use Rattle.ground_walk.specs.Steps.{MakesParts, assert_step}
+use Rattle.ground_walk.proofs.SentenceSteps.{Begins, all-asserted, some-asserted, begins-itself, disjuncts-begin, front-begins, front-of, any-next, unless-stops, unless-goes-on, groundable-next}
 use Rattle.ground_walk.proofs.sentences.+sentence.Goals as goal
 
 pub push_any-returns-then-branch-clause-made : goal.push_any-returns-then-branch-clause-made
@@ -25,17 +24,34 @@ push_any-returns-then-branch-clause-made t c =
     let others = c.in-Some.others.now in
     let i = c.loop-formula.formula-index in
     let x = c.formula-item.result in
+    let before = c.loop-formula.lits.items in
+    let p = c.loop-formula.problem in
+    let q = c.disjuncts.new.problem in
+    let xs = c.disjuncts.new.lits.items in
+    let r = disjuncts_of b sign (formula_view x) e before p in
+    let made : MakesParts r c.in_ok-disjuncts.field-0 xs q = c.in_ok-disjuncts.ensures.made in
+    let rest = λ (ys : List Lit) (r : ProblemState). assert_any b sign
+    (formulas_of (map formula_view (drop (i + 1) others ++ z ∷ []))) e ys r in
+    let next = any-next b sign others z e before p i x c.loop-formula-test.true c.formula-item.is in
+    sym (next ∙ unless-stops r rest c.in_ok-disjuncts.field-0 xs q made c.if-branch.true)
+    ∙ c.loop-formula.invariant.same
+
+pub push_any-returns-then-branch-clause-lits : goal.push_any-returns-then-branch-clause-lits
+push_any-returns-then-branch-clause-lits t c =
+    let b = c.args.base.now in
+    let sign = c.args.sign in
+    let e = env_view c.args.env.now in
+    let x = c.formula-item.result in
     let ls = c.args.lits.now.items in
     let before = c.loop-formula.lits.items in
     let p = c.loop-formula.problem in
-    let q = c.signed_form.new.problem in
-    let a = c.in_ok-answer.answer in
-    let g = signed_result sign (form_of b (formula_view x) e p) in
-    let made : Makes g a q = c.in_ok-answer.ensures.made in
-    let rest = λ (xs : List Lit) (r : ProblemState). assert_any b sign (formulas_of (map formula_view (drop (i + 1) others ++ z ∷ []))) e xs r in
-    let next = any-next b sign others z e before p i x c.loop-formula-test.true c.formula-item.is in
-    let stop : settles false a ≡ true = sym c.in_ok-add_part.ensures.0 ∙ c.if-branch.true in
-    sym (next ∙ unless-stops g before rest a q made stop) ∙ c.loop-formula.invariant.same
+    let xs = c.disjuncts.new.lits.items in
+    let r = disjuncts_of b sign (formula_view x) e before p in
+    let made : MakesParts r c.in_ok-disjuncts.field-0 xs c.disjuncts.new.problem = c.in_ok-disjuncts.ensures.made in
+    let n : c.len-before.result ≡ length ls = omega (arith, c.len-before.ensures, c.args.lits.now.ok.0) in
+    c.truncate.ensures.items ∙ ap (λ k. take k xs) n
+    ∙ front-of ls xs (subst (Begins ls) (sym made.1)
+    (disjuncts-begin b ls sign (formula_view x) e before p (front-begins ls before c.loop-formula.invariant.front)))
 
 pub push_any-loop-formula-preserved : goal.push_any-loop-formula-preserved
 push_any-loop-formula-preserved t c =
@@ -49,26 +65,24 @@ push_any-loop-formula-preserved t c =
     let ls = c.args.lits.now.items in
     let before = c.loop-formula.lits.items in
     let p = c.loop-formula.problem in
-    let q = c.signed_form.new.problem in
-    let a = c.in_ok-answer.answer in
-    let g = signed_result sign (form_of b (formula_view x) e p) in
-    let made : Makes g a q = c.in_ok-answer.ensures.made in
-    let rest = λ (xs : List Lit) (r : ProblemState). assert_any b sign (formulas_of (map formula_view (drop (i + 1) others ++ z ∷ []))) e xs r in
+    let q = c.disjuncts.new.problem in
+    let xs = c.disjuncts.new.lits.items in
+    let r = disjuncts_of b sign (formula_view x) e before p in
+    let made : MakesParts r c.in_ok-disjuncts.field-0 xs q = c.in_ok-disjuncts.ensures.made in
+    let rest = λ (ys : List Lit) (r : ProblemState). assert_any b sign
+    (formulas_of (map formula_view (drop (i + 1) others ++ z ∷ []))) e ys r in
     let next = any-next b sign others z e before p i x c.loop-formula-test.true c.formula-item.is in
-    let xs = c.add_part.new.lits.items in
-    let is : xs ≡ with_answer a before = c.in_ok-add_part.ensures.1 in
-    let go : settles false a ≡ false = sym c.in_ok-add_part.ensures.0 ∙ c.if-branch.false in
-    let grows = c.in_ok-answer.ensures.grows in
+    let grows = c.in_ok-disjuncts.ensures.grows in
     record {
-      same = sym (next ∙ unless-goes-on g before xs rest a q made go is) ∙ c.loop-formula.invariant.same;
+      same = sym (next ∙ unless-goes-on r rest c.in_ok-disjuncts.field-0 xs q made c.if-branch.false)
+          ∙ c.loop-formula.invariant.same;
       fits = groundable-next b others z e i x c.loop-formula-test.true c.loop-formula.invariant.fits;
       vars = omega (arith, c.loop-formula.invariant.vars, grows.vars);
       front =
-          front-of ls xs (subst (Begins ls) (sym is)
-          (answer-begins ls before a (front-begins ls before c.loop-formula.invariant.front)));
-      within =
-          subst (AreLitsOf q.vars) (sym is)
-          (answer-lits p.vars q.vars before a grows.vars c.loop-formula.invariant.within grows.within);
+          front-of ls xs (subst (Begins ls) (sym made.1)
+          (disjuncts-begin b ls sign (formula_view x) e before p
+          (front-begins ls before c.loop-formula.invariant.front)));
+      within = grows.within;
     }
 
 pub push_each-push_each-requires : goal.push_each-push_each-requires
@@ -86,14 +100,16 @@ push_each-push_each-requires t c =
     let count : c.split_in.result.0.count ≡ length cs = rw c.domains.ensures at c.split_in.ensures.count in
     let inner = env_view c.extend-inner.result in
     let within : i < length cs = rw (← count) c.loop-number-test.true in
-    let is : inner ≡ e ++ get_or cs i [] = rw (c.split_in.ensures.domains, c.domains.ensures) at c.extend-inner.ensures in (
+    let is : inner ≡ e ++ get_or cs i [] = rw (c.split_in.ensures.domains, c.domains.ensures)
+    at c.extend-inner.ensures in (
       omega (arith, c.split_in.ensures.fewer),
       (
         c.requires.given,
         (
           omega (arith, c.requires.room, c.loop-number.invariant.vars),
           (
-            each_after b.domains c.args.bounds.now these others c.split_in.ensures.parts (IsGroundable b f) e inner i within is c.requires.fits,
+            each_after b.domains c.args.bounds.now these others c.split_in.ensures.parts
+                (IsGroundable b f) e inner i within is c.requires.fits,
             c.loop-number.invariant.within,
           ),
         ),
@@ -115,14 +131,16 @@ push_each-loop-number-preserved t c =
     let count : c.split_in.result.0.count ≡ length cs = rw c.domains.ensures at c.split_in.ensures.count in
     let inner = env_view c.extend-inner.result in
     let within : i < length cs = rw (← count) c.loop-number-test.true in
-    let is : inner ≡ e ++ get_or cs i [] = rw (c.split_in.ensures.domains, c.domains.ensures) at c.extend-inner.ensures in
+    let is : inner ≡ e ++ get_or cs i [] = rw (c.split_in.ensures.domains, c.domains.ensures)
+    at c.extend-inner.ensures in
     let G = λ (q : ProblemState) (a : List Elem). assert_step b sign f ls q a in
     let F = λ (q : ProblemState) (a : List Elem). G q (e ++ a) in
     let p = c.loop-number.problem in
     let q = c.push_each.new.problem in
     let made : q ≡ fold (λ (r : ProblemState) (x : List Elem). G r (inner ++ x)) p rest =
     c.in_ok-push_each.ensures.made
-    ∙ ap (λ (ms : List Lit). fold (λ (r : ProblemState) (x : List Elem). assert_step b sign f ms r (inner ++ x)) p rest) c.loop-number.invariant.lits in
+    ∙ ap (λ (ms : List Lit). fold (λ (r : ProblemState) (x : List Elem). assert_step b sign f ms r (inner ++ x)) p rest)
+    c.loop-number.invariant.lits in
     let more : p.vars ≤ q.vars = c.in_ok-push_each.ensures.grows in
     record {
       same = fold_next (after_front F rest) cs i p q within (made ∙ inner_fold G rest e inner (get_or cs i []) p is)
@@ -164,3 +182,20 @@ push_quantified-returns-else-sign-all-clause-made t c =
     subst (λ (q : ProblemState). OnOk c.push_some.result (c.push_some.new.problem ≡ q))
     (some-asserted c.args.base.now c.args.bounds.now (formula_view c.args.formula.now) (env_view c.args.env.now)
     c.args.lits.now.items c.args.problem.now c.args.all c.args.sign c.if-sign-all.false) c.push_some.ensures.made
+
+pub push-returns-in_ok-settled-in-Implies-clause-lits : goal.push-returns-in_ok-settled-in-Implies-clause-lits
+push-returns-in_ok-settled-in-Implies-clause-lits t c =
+    let b = c.args.base.now in
+    let e = env_view c.args.env.now in
+    let f = formula_view c.deref-then-sign.result.now in
+    let ls = c.args.lits.now.items in
+    let p = c.args.problem.now in
+    let xs = c.disjuncts.new.lits.items in
+    let new = c.push_under.new.lits.items in
+    let made : MakesParts (disjuncts_of b false f e ls p) c.in_ok-settled-in-Implies.settled xs
+    c.disjuncts.new.problem = c.in_ok-settled-in-Implies.ensures.made in
+    let n : c.len-before.result ≡ length ls = omega (arith, c.len-before.ensures, c.args.lits.now.ok.0) in
+    let front : take c.len-before.result xs ≡ ls =
+    ap (λ k. take k xs) n
+    ∙ front-of ls xs (subst (Begins ls) (sym made.1) (disjuncts-begin b ls false f e ls p (begins-itself ls))) in
+    subst (λ ys. OnOk c.push_under.result (new ≡ ys)) front c.push_under.ensures.lits

@@ -16,7 +16,8 @@ invariant-push_all-loop-formula l =
     let left = formulas_of (map formula_view (drop l.formula-index l.formulas)) in
     record {
       same : assert_all l.base l.sign left (env_view l.env) l.fn.lits.items l.problem
-          ≡ assert_all l.base l.sign (formulas_of (map formula_view l.formulas)) (env_view l.env) l.fn.lits.items l.fn.problem;
+          ≡ assert_all l.base l.sign (formulas_of (map formula_view l.formulas))
+          (env_view l.env) l.fn.lits.items l.fn.problem;
       fits : AreGroundable l.base left (env_view l.env);
       vars : l.fn.problem.vars ≤ l.problem.vars;
       lits : l.lits.items ≡ l.fn.lits.items;
@@ -29,7 +30,8 @@ invariant-push_any-loop-formula l =
     let left = formulas_of (map formula_view (drop l.formula-index l.others ++ l.last ∷ [])) in
     record {
       same : assert_any l.base l.sign left (env_view l.env) l.lits.items l.problem
-          ≡ assert_any l.base l.sign (formulas_of (map formula_view l.formulas)) (env_view l.env) l.fn.lits.items l.fn.problem;
+          ≡ assert_any l.base l.sign (formulas_of (map formula_view l.formulas))
+          (env_view l.env) l.fn.lits.items l.fn.problem;
       fits : AreGroundable l.base left (env_view l.env);
       vars : l.fn.problem.vars ≤ l.problem.vars;
       front : take (length l.fn.lits.items) l.lits.items ≡ l.fn.lits.items;
@@ -39,7 +41,8 @@ invariant-push_any-loop-formula l =
 -- with the assignments that are left come all
 abbrev pub invariant-push_each-loop-number : goal.invariant-push_each-loop-number
 invariant-push_each-loop-number l =
-    let F = after_front (λ q x. assert_step l.base l.sign (formula_view l.formula) l.fn.lits.items q (env_view l.env ++ x))
+    let F = after_front (λ q x. assert_step l.base l.sign (formula_view l.formula) l.fn.lits.items q
+    (env_view l.env ++ x))
     (choices l.base.domains l.others) in
     let cs = choices l.base.domains l.block.bounds.now in
     record {
@@ -53,7 +56,10 @@ abbrev pub decreases-push : goal.decreases-push
 decreases-push l = 2 ^ 65 * goal.size-push l
 
 abbrev pub decreases-push_under : goal.decreases-push_under
-decreases-push_under l = 2 ^ 65 * goal.size-push_under l + 1
+decreases-push_under l = 2 ^ 65 * goal.size-push_under l + 2
+
+abbrev pub decreases-push_last : goal.decreases-push_last
+decreases-push_last l = 2 ^ 65 * goal.size-push_last l + 1
 
 abbrev pub decreases-push_joined : goal.decreases-push_joined
 decreases-push_joined l = 2 ^ 65 * goal.size-push_joined l + 3

@@ -15,9 +15,12 @@ returns-clause-lits c =
     let f = formula_view c.args.formula.now in
     let ls = c.args.lits.now.items in
     let xs = choices b.domains c.args.bounds.now in
-    let d = fold (λ (r : Parts) (x : List Elem). part_step b false c.args.sign f r (e ++ x)) (open_parts ls c.args.problem.now) xs in
-    let made : MakesParts d c.in_ok-settled.settled c.instances.new.lits.items c.instances.new.problem = c.in_ok-settled.ensures.made in
+    let d = fold (λ (r : Parts) (x : List Elem). part_step b false c.args.sign f r (e ++ x))
+    (open_parts ls c.args.problem.now) xs in
+    let made : MakesParts d c.in_ok-settled.settled c.instances.new.lits.items c.instances.new.problem =
+    c.in_ok-settled.ensures.made in
     let n : c.len-before.result ≡ length ls = omega (arith, c.len-before.ensures, c.args.lits.now.ok.0) in
     c.truncate.ensures.items ∙ ap (λ k. take k c.instances.new.lits.items) n
     ∙ front-of ls c.instances.new.lits.items
-    (subst (Begins ls) (sym made.1) (parts-begin b false c.args.sign f e ls xs (open_parts ls c.args.problem.now) (begins-itself ls)))
+    (subst (Begins ls) (sym made.1) (parts-begin b false c.args.sign f e ls xs (open_parts ls c.args.problem.now)
+    (begins-itself ls)))

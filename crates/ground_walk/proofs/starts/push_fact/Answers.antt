@@ -1,5 +1,6 @@
 use Rattle.std.proofs.Common.{Bool, Option, sym, ap, ◌∙◌}
-use Rattle.def_ground.specs.Problems.{fact_clause, with_clauses}
+use Rattle.def_ground.specs.Cases.{with_clauses}
+use Rattle.def_ground.specs.Problems.{fact_clause}
 use Rattle.def_ground.proofs.WithClauses.{with_none}
 use Rattle.ground_walk.proofs.starts.push_fact.Goals as goal
 

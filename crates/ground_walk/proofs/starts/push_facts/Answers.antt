@@ -1,7 +1,8 @@
 use Rattle.std.proofs.Common.{◌≡◌, ◌<◌, ◌+◌, suc, ℕ, Bool, Option, None, length, take, slice_get, unwrap_or, ◌++◌, sym, ap, ◌∙◌, arith}
 use Rattle.ground_core.specs.Problems.{ProblemState}
 use Rattle.term_values.specs.GroundBases.{known_of}
-use Rattle.def_ground.specs.Problems.{fact_clause, fact_clauses, with_clauses}
+use Rattle.def_ground.specs.Cases.{with_clauses}
+use Rattle.def_ground.specs.Problems.{fact_clause, fact_clauses}
 use Rattle.def_ground.proofs.WithClauses.{with_more}
 use Rattle.ground_walk.proofs.StartSteps.{next-fact}
 use Rattle.ground_walk.proofs.starts.push_facts.Goals as goal
@@ -18,6 +19,7 @@ loop-place-preserved c =
     let cs = fact_clause (k + 1) c.known.result in
     c.in_ok-push_fact.ensures ∙ ap (λ (q : ProblemState). with_clauses q cs) c.loop-place.invariant
     ∙ with_more p before cs
-    ∙ ap (λ (o : Option Bool). with_clauses p (before ++ fact_clause (k + 1) o)) (c.known.ensures ∙ ap (known_of b) next)
+    ∙ ap (λ (o : Option Bool). with_clauses p (before ++ fact_clause (k + 1) o)) (c.known.ensures
+    ∙ ap (known_of b) next)
     ∙ ap (λ (n : ℕ). with_clauses p (before ++ fact_clause n (unwrap_or (slice_get b.known k) None))) number
     ∙ ap (with_clauses p) (sym (next-fact 1 k b.known h))

@@ -1,5 +1,6 @@
 use Rattle.std.proofs.Common.{◌≡◌, take}
-use Rattle.def_ground.specs.Problems.{fact_clauses, with_clauses}
+use Rattle.def_ground.specs.Cases.{with_clauses}
+use Rattle.def_ground.specs.Problems.{fact_clauses}
 use Rattle.ground_walk.proofs.starts.push_facts.Given as goal
 
 -- the facts so far

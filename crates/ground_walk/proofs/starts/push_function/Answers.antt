@@ -3,7 +3,8 @@ use Rattle.kb_logic.specs.declared.elements.Elem.{Elem}
 use Rattle.lit_core.specs.declared.literals.Lit.{Lit}
 use Rattle.ground_core.specs.Problems.{ProblemState}
 use Rattle.term_values.specs.GroundBases.{first_var, tuples_at, values_at}
-use Rattle.def_ground.specs.Problems.{one_of_clauses, said_tuples, tuple_clauses, variables_from, with_clauses}
+use Rattle.def_ground.specs.Cases.{with_clauses}
+use Rattle.def_ground.specs.Problems.{one_of_clauses, said_tuples, tuple_clauses, open_variables}
 use Rattle.def_ground.proofs.WithClauses.{with_more}
 use Rattle.ground_walk.specs.Groundable.{HasVars}
 use Rattle.ground_walk.proofs.StartSteps.{all-said, more-times, next-said, said-so-far, tuple-below, tuple-lits}
@@ -14,7 +15,8 @@ push_one_of-requires-clause-few c =
     let b = c.args.base.now in
     let s = c.args.symbol in
     let i = c.loop-tuple._tuple in
-    let said : i < length (said_tuples (values_at b s) (tuples_at b s)) = omega (arith, c.loop-tuple-test.true, c.in_ok-count.ensures) in
+    let said : i < length (said_tuples (values_at b s) (tuples_at b s)) =
+    omega (arith, c.loop-tuple-test.true, c.in_ok-count.ensures) in
     let low = tuple-below b c.requires.given s i said in
     let size = ap (λ (xs : List Elem). length xs) c.values-values.ensures in
     omega (arith, low, size, c.loop-tuple.invariant.next, c.atoms-atoms.ensures.few, c.requires.known)
@@ -24,16 +26,20 @@ push_one_of-requires-clause-within c =
     let b = c.args.base.now in
     let s = c.args.symbol in
     let i = c.loop-tuple._tuple in
-    let said : i < length (said_tuples (values_at b s) (tuples_at b s)) = omega (arith, c.loop-tuple-test.true, c.in_ok-count.ensures) in
-    let vars : HasVars b c.loop-tuple.problem = subst (λ (q : ProblemState). HasVars b q) (sym c.loop-tuple.invariant.said) c.requires.room in
-    rw (c.loop-tuple.invariant.next, c.values-values.ensures) (tuple-lits b c.loop-tuple.problem c.requires.given vars s i said)
+    let said : i < length (said_tuples (values_at b s) (tuples_at b s)) =
+    omega (arith, c.loop-tuple-test.true, c.in_ok-count.ensures) in
+    let vars : HasVars b c.loop-tuple.problem =
+    subst (λ (q : ProblemState). HasVars b q) (sym c.loop-tuple.invariant.said) c.requires.room in
+    rw (c.loop-tuple.invariant.next, c.values-values.ensures)
+    (tuple-lits b c.loop-tuple.problem c.requires.given vars s i said)
 
 pub overflow_add-next : goal.overflow_add-next
 overflow_add-next c =
     let b = c.args.base.now in
     let s = c.args.symbol in
     let i = c.loop-tuple._tuple in
-    let said : i < length (said_tuples (values_at b s) (tuples_at b s)) = omega (arith, c.loop-tuple-test.true, c.in_ok-count.ensures) in
+    let said : i < length (said_tuples (values_at b s) (tuples_at b s)) =
+    omega (arith, c.loop-tuple-test.true, c.in_ok-count.ensures) in
     let low = tuple-below b c.requires.given s i said in
     let size = ap (λ (xs : List Elem). length xs) c.values-values.ensures in
     omega (arith, low, size, c.loop-tuple.invariant.next, c.atoms-atoms.ensures.few, c.requires.known)
@@ -46,11 +52,13 @@ loop-tuple-preserved c =
     let p = c.args.problem.now in
     let next = c.loop-tuple.next in
     let xs = c.values-values.result.now in
-    let said : i < length (said_tuples (values_at b s) (tuples_at b s)) = omega (arith, c.loop-tuple-test.true, c.in_ok-count.ensures) in
-    let cs = one_of_clauses (variables_from next xs) in
+    let said : i < length (said_tuples (values_at b s) (tuples_at b s)) =
+    omega (arith, c.loop-tuple-test.true, c.in_ok-count.ensures) in
+    let cs = one_of_clauses (open_variables b next xs) in
     let is : cs ≡ tuple_clauses b s i =
-    ap (λ (n : ℕ). one_of_clauses (variables_from n xs)) c.loop-tuple.invariant.next
-    ∙ ap (λ (ys : List Elem). one_of_clauses (variables_from (first_var b s + i * length (values_at b s)) ys)) c.values-values.ensures in
+    ap (λ (n : ℕ). one_of_clauses (open_variables b n xs)) c.loop-tuple.invariant.next
+    ∙ ap (λ (ys : List Elem). one_of_clauses (open_variables b (first_var b s + i * length (values_at b s)) ys))
+    c.values-values.ensures in
     let size = ap (λ (ys : List Elem). length ys) c.values-values.ensures in
     let times = more-times i (length (values_at b s)) in
     record {

@@ -1,6 +1,6 @@
 use Rattle.std.proofs.Common.{◌≡◌, ◌+◌, ◌*◌, length}
 use Rattle.term_values.specs.GroundBases.{first_var, values_at}
-use Rattle.def_ground.specs.Problems.{with_clauses}
+use Rattle.def_ground.specs.Cases.{with_clauses}
 use Rattle.ground_walk.proofs.StartSteps.{said-so-far}
 use Rattle.ground_walk.proofs.starts.push_function.Given as goal
 

@@ -1,5 +1,5 @@
 use Rattle.std.proofs.Common.{◌≡◌, take}
-use Rattle.def_ground.specs.Problems.{with_clauses}
+use Rattle.def_ground.specs.Cases.{with_clauses}
 use Rattle.ground_walk.proofs.StartSteps.{of-functions}
 use Rattle.ground_walk.proofs.starts.push_functions.Given as goal
 

@@ -1,5 +1,6 @@
 use Rattle.std.proofs.Common.{Bool, [], if◌then◌else◌, sym, ap, ◌∙◌}
-use Rattle.def_ground.specs.Problems.{function_clauses, with_clauses}
+use Rattle.def_ground.specs.Cases.{with_clauses}
+use Rattle.def_ground.specs.Problems.{function_clauses}
 use Rattle.def_ground.proofs.WithClauses.{with_none}
 use Rattle.ground_walk.proofs.starts.push_symbol.Goals as goal
 

@@ -21,7 +21,8 @@ returns c =
     let theory = theory_at (typed_view kb) c.args.theory in
     c.weight.ensures
     ∙ ap capped
-    (ap (λ (ds : List (List Elem)). weight_of kb.vocab ds (theory_view c.theory_of.result.now) these) c.domains.ensures.domains
+    (ap (λ (ds : List (List Elem)). weight_of kb.vocab ds (theory_view c.theory_of.result.now) these)
+    c.domains.ensures.domains
     ∙ ap (λ (t : TheoryTree). weight_of kb.vocab domains t these) c.theory_of.ensures
     ∙ ap (λ (ts : List TermTree). weight_of kb.vocab domains theory ts)
     (ap terms c.as_slice.ensures ∙ terms-are (map named_term_view kb.terms)))

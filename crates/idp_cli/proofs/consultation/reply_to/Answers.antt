@@ -9,7 +9,8 @@ use Rattle.idp_cli.proofs.consultation.reply_to.Goals as goal
 pub returns-in_ok-step-in-Ok-Some-clause-right : goal.returns-in_ok-step-in-Ok-Some-clause-right
 returns-in_ok-step-in-Ok-Some-clause-right c =
     let P : Option Command → Type 0 = λ o. Reads (base_of c.kb.result.now) c.args.line.now (Ok o) in
-    let has : HasCommand (base_of c.kb.result.now) c.args.line.now c.in-Ok-Some.command = subst P c.in-Ok-Some.field-0-is c.in-Ok-Some.ensures.read in
+    let has : HasCommand (base_of c.kb.result.now) c.args.line.now c.in-Ok-Some.command =
+    subst P c.in-Ok-Some.field-0-is c.in-Ok-Some.ensures.read in
     record {
       said = replied c.in-Ok-Some.command c.in_ok-step-in-Ok-Some.field-0;
       right = (
@@ -24,10 +25,15 @@ returns-in_ok-step-in-Ok-Some-clause-right c =
 pub returns-in-Err-Refused-clause-right : goal.returns-in-Err-Refused-clause-right
 returns-in-Err-Refused-clause-right c =
     let P : CommandError → Type 0 = λ e. Reads (base_of c.kb.result.now) c.args.line.now (Err e) in
-    let has : HasRefusal (base_of c.kb.result.now) c.args.line.now c.in-Err-Refused.f = subst P c.in-Err-Refused.field-0-is c.in-Err-Refused.ensures.read in
+    let has : HasRefusal (base_of c.kb.result.now) c.args.line.now c.in-Err-Refused.f =
+    subst P c.in-Err-Refused.field-0-is c.in-Err-Refused.ensures.read in
     record {
       said = refused c.in-Err-Refused.f;
-      right = (c.requires, subst (λ (k : Opened). HasRefusal (base_of k) c.args.line.now c.in-Err-Refused.f) c.kb.ensures has);
+      right = (
+        c.requires,
+        subst (λ (k : Opened). HasRefusal (base_of k) c.args.line.now c.in-Err-Refused.f)
+            c.kb.ensures has,
+      );
       reply = refl;
       leaves = refl;
     }

@@ -8,5 +8,6 @@ returns-in_default c = no_job (texts_of c.args.words.now) c.in_default.ensures
 
 pub returns-in-Some-budget : goal.returns-in-Some-budget
 returns-in-Some-budget c =
-    no_check (texts_of c.args.words.now) c.in-Some.command.now c.in-Some.file.now (given_view c.in-Some.given) c.in-Some-budget.field-0
+    no_check (texts_of c.args.words.now) c.in-Some.command.now c.in-Some.file.now
+    (given_view c.in-Some.given) c.in-Some-budget.field-0
     c.in-Some.ensures c.in-check.is c.in-Some-budget.is

@@ -11,9 +11,11 @@ use Rattle.idp_cli.proofs.load.load.Goals as goal
 pub returns-in-Err-TooLong-clause-loaded : goal.returns-in-Err-TooLong-clause-loaded
 returns-in-Err-TooLong-clause-loaded g c =
     let file = g.H.Shelf.file c.args.shelf.now c.args.name.now in
-    let read = subst (λ (e : ReadError). ReadsFile (Err e) most_bytes file (g.H.Shelf.faults c.args.shelf.now) (g.H.Shelf.faults c.read_file.new.shelf))
+    let read = subst (λ (e : ReadError). ReadsFile (Err e) most_bytes file (g.H.Shelf.faults c.args.shelf.now)
+    (g.H.Shelf.faults c.read_file.new.shelf))
     c.in-Err-TooLong.field-0-is c.in-Err-TooLong.ensures.read in (
       read.0,
-      subst (λ (n : ℕ). IfObservable file (IsRefusedAt (choice_view c.args.options) TooLong (n + 1))) (sym c.in-Err-TooLong.newlines-is)
+      subst (λ (n : ℕ). IfObservable file (IsRefusedAt (choice_view c.args.options) TooLong (n + 1)))
+          (sym c.in-Err-TooLong.newlines-is)
           (long_file (choice_view c.args.options) c.in-Err-TooLong.newlines file read.2),
     )

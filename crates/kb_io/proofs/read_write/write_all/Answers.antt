@@ -8,6 +8,10 @@ loop-rest-preserved g c =
     let n = c.in_ok-count.count in
     let w = c.loop-rest.invariant.written in
     record {
-      written = (w.0 ++ take n c.loop-rest.rest.now, written_more _ w.0 _ n _ w.1 (omega arith), appends_more _ _ _ _ _ w.2 c.in_ok-count.ensures.bytes);
+      written = (
+        w.0 ++ take n c.loop-rest.rest.now,
+        written_more _ w.0 _ n _ w.1 (omega arith),
+        appends_more _ _ _ _ _ w.2 c.in_ok-count.ensures.bytes,
+      );
       faults = c.in_ok-count.ensures.cause.ok ∙ c.loop-rest.invariant.faults;
     }

@@ -4,7 +4,8 @@ use Rattle.kb_io.proofs.read_write.write_all.Given as goal
 
 abbrev pub invariant-loop-rest : goal.invariant-loop-rest
 invariant-loop-rest g l = record {
-  written : (front : List ℕ) × (l.bytes ≡ front ++ l.rest) × Appends (g.W.Sink.holds l.initial.out) (g.W.Sink.holds l.out) front;
+  written : (front : List ℕ) × (l.bytes ≡ front ++ l.rest)
+      × Appends (g.W.Sink.holds l.initial.out) (g.W.Sink.holds l.out) front;
   faults : g.W.Sink.faults l.out ≡ g.W.Sink.faults l.initial.out;
 }
 

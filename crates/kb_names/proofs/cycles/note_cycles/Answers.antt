@@ -1,8 +1,8 @@
-use Rattle.std.proofs.Common.{ap, sym, take, ◌∙◌}
-use Rattle.reading_stages.specs.Names.{place_of_name}
-use Rattle.reading_stages.proofs.Climbs.{map-take}
+use Rattle.std.proofs.Common.{refl}
+use Rattle.reading_stages.proofs.Climbs.{climb_on}
 use Rattle.kb_names.proofs.cycles.note_cycles.Goals as goal
 
-pub returns : goal.returns
-returns c = λ names types are.
-    c.note_each.ensures names (take 257 types) (map-take place_of_name 257 types ∙ ap (take 257) are ∙ sym c.first_places.ensures)
+pub loop-ty-preserved : goal.loop-ty-preserved
+loop-ty-preserved c = λ names types are.
+    climb_on names c.args.parents.now c.loop-ty.ty _ c.loop-ty.earliest.first c.note_cycle.new.earliest.first _ types c.args.places.now
+    are c.loop-ty-test.true refl c.note_cycle.ensures (c.loop-ty.invariant names types are)

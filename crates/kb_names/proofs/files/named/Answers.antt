@@ -1,4 +1,4 @@
-use Rattle.std.proofs.Common.{◌≡◌, ◌∙◌, List, ap, map, take}
+use Rattle.std.proofs.Common.{◌≡◌, ◌∙◌, List, ap, map}
 use Rattle.std.specs.List.{flat_map}
 use Rattle.fo_syntax.specs.declared.raw_blocks.RawVocabulary.{RawVocabulary}
 use Rattle.reading_stages.specs.FileView.{declaration_in, term_in, theory_in, vocabulary_in}
@@ -18,7 +18,7 @@ returns-clause-noted c =
     c.declared_table.new.earliest.first c.types_and_symbols.new.earliest.first c.climbed_types.new.earliest.first c.theories.new.earliest.first c.terms.new.earliest.first
     (declared_uses number_types (declared_names 0 0 (declarations_of (map vocabulary_in c.args.raw.now.vocabularies))))
     (uses_in_declarations 0 0 (declarations_of (map vocabulary_in c.args.raw.now.vocabularies)))
-    (climbing_uses (parents_in (names_of (declarations_of (map vocabulary_in c.args.raw.now.vocabularies))) (declarations_of (map vocabulary_in c.args.raw.now.vocabularies))) 0 (take 257 (type_names (declarations_of (map vocabulary_in c.args.raw.now.vocabularies)))))
+    (climbing_uses (parents_in (names_of (declarations_of (map vocabulary_in c.args.raw.now.vocabularies))) (declarations_of (map vocabulary_in c.args.raw.now.vocabularies))) 0 (type_names (declarations_of (map vocabulary_in c.args.raw.now.vocabularies))))
     (flat_map uses_in_theory (map theory_in c.args.raw.now.theories)) (flat_map uses_in_block (map term_in c.args.raw.now.terms))
     (rw given at (c.in_ok-table.ensures.noted (names_of (declarations_of (map vocabulary_in c.args.raw.now.vocabularies)))))
     (rw (names, given) at c.in_ok-declared.ensures.noted)

@@ -1,4 +1,4 @@
-use Rattle.std.proofs.Common.{◌≡◌, ℕ, [], subst, inl, inr}
+use Rattle.std.proofs.Common.{◌≡◌, ℕ, codes, [], subst, inl, inr}
 use Rattle.std.proofs.lemmas.Result.{IfOk-weaker}
 use Rattle.std.specs.Global.{Vec}
 use Rattle.ground_core.specs.Problems.{ProblemState}
@@ -11,7 +11,9 @@ pub returns-in-Ok-Unsat : goal.returns-in-Ok-Unsat
 returns-in-Ok-Unsat g c =
     let p : ProblemState = (g.S.Solve.state c.args.solver.now).problem in
     let answers = subst (Answers p []) c.in-Ok-Unsat.field-0-is c.in-Ok-Unsat.ensures.verdict in
-    inr (none_satisfies p c.in-Ok-Unsat.field-0-0 answers.0 answers.1, c.in_ok-from_slice-in-Ok-Unsat.ensures.items)
+    IfOk-weaker c.unsatisfiable.result (λ (text : Vec ℕ). text.items ≡ codes "s UNSATISFIABLE\n") (λ (text : Vec ℕ). IsVerdictOn p text.items)
+    (λ text e. inr (none_satisfies p c.in-Ok-Unsat.field-0-0 answers.0 answers.1, e))
+    c.unsatisfiable.ensures
 
 pub returns-in-Ok-Sat : goal.returns-in-Ok-Sat
 returns-in-Ok-Sat g c =

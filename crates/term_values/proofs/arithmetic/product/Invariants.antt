@@ -6,6 +6,7 @@ use Rattle.term_values.proofs.arithmetic.product.Given as goal
 
 abbrev pub invariant-loop-factor : goal.invariant-loop-factor
 invariant-loop-factor l = record {
-  same : product_from l.total (map row_value (drop l.factor-index l.values)) ≡ product_from (pos 1) (map row_value l.values);
+  same : product_from l.total (map row_value (drop l.factor-index l.values))
+      ≡ product_from (pos 1) (map row_value l.values);
   fits : ProductFits l.total (map row_value (drop l.factor-index l.values));
 }

@@ -32,7 +32,8 @@ returns-in_default c =
     let same = c.if-parts-values.false in
     let inside : i < length values = omega arith in
     let item = get_or-map row_value values i blank undefined inside in
-    sums_end (signs_of parts) (map row_value values) i _ (get_or values i blank).value (sum_values (signs_of parts) (map row_value values))
+    sums_end (signs_of parts) (map row_value values) i _ (get_or values i blank).value
+    (sum_values (signs_of parts) (map row_value values))
     (omega arith) (omega arith) item c.in_default.not-Num c.loop-i.invariant.same
 
 pub loop-i-preserved : goal.loop-i-preserved
@@ -49,7 +50,8 @@ loop-i-preserved c =
     let value = item ∙ ap value_view c.in-Num.is in
     record {
       same =
-          sums_next (signs_of parts) (map row_value values) i (get_or parts i c.index-parts-i.result).minus c.in-Num.n _ c.signed-total.result _
+          sums_next (signs_of parts) (map row_value values) i (get_or parts i c.index-parts-i.result).minus c.in-Num.n _
+          c.signed-total.result _
           (omega arith) (omega arith) sign value (search rules) c.signed-total.ensures.value (omega (arith, ints))
           ∙ c.loop-i.invariant.same;
       low = omega (arith, ints);

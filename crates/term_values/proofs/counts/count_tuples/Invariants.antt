@@ -5,6 +5,7 @@ use Rattle.term_values.proofs.counts.count_tuples.Given as goal
 
 abbrev pub invariant-loop-ty : goal.invariant-loop-ty
 invariant-loop-ty l = record {
-  same : capped (l.count * length (tuples_of l.domains (drop l.ty-index l.types))) ≡ capped (length (tuples_of l.domains l.types));
+  same : capped (l.count * length (tuples_of l.domains (drop l.ty-index l.types)))
+      ≡ capped (length (tuples_of l.domains l.types));
   fits : l.count ≤ 18446744073709551615;
 }

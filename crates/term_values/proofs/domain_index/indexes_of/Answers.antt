@@ -12,6 +12,8 @@ loop-domain-preserved c =
     let more = take_more domains c.loop-domain.domain-index item c.loop-domain-test.true in
     let last = ap (λ d. front ++ d ∷ []) (sym c.domain-item.is) in
     let view = ap (λ d. front ++ d ∷ []) c.as_slice.ensures in
-    let now = each_more IsIndexOf c.loop-domain.indexes.items front c.in_ok-of.field-0 c.as_slice.result.now c.loop-domain.invariant c.in_ok-of.ensures in
+    let now = each_more IsIndexOf c.loop-domain.indexes.items front c.in_ok-of.field-0 c.as_slice.result.now
+    c.loop-domain.invariant c.in_ok-of.ensures in
     subst (λ l. AreIndexesOf l (take (c.loop-domain.domain-index + 1) domains)) (sym c.in_ok-push.ensures.items)
-    (subst (λ l. AreIndexesOf (c.loop-domain.indexes.items ++ c.in_ok-of.field-0 ∷ []) l) (view ∙ sym (more ∙ last)) now)
+    (subst (λ l. AreIndexesOf (c.loop-domain.indexes.items ++ c.in_ok-of.field-0 ∷ []) l) (view
+    ∙ sym (more ∙ last)) now)

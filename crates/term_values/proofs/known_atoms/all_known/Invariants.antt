@@ -6,4 +6,5 @@ use Rattle.term_values.proofs.known_atoms.all_known.Given as goal
 
 abbrev pub invariant-loop-number : goal.invariant-loop-number
 invariant-loop-number l =
-    l.known.items ≡ map (λ a. known_truth (value_at l.partial a)) (atoms_over (take l.number l.symbols) l.partial.domains)
+    l.known.items ≡ map (λ a. known_truth (value_at l.partial a))
+    (atoms_over (take l.number l.partial.symbols) l.partial.domains)

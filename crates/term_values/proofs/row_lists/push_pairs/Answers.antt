@@ -11,5 +11,6 @@ loop-row-preserved c =
     let others = c.args.others.now in
     let g = c.guards.result.now in
     let v = value_view c.value.result in
-    flat_pushed (λ (x : List Lit × Denotation). map (λ (y : List Lit × List Denotation). (x.0 ++ y.0, x.1 ∷ y.1)) others) firsts c.loop-row.row (g, v) c.args.out.now c.loop-row.out c.push_with.new.out
+    flat_pushed (λ (x : List Lit × Denotation). map (λ (y : List Lit × List Denotation). (x.0 ++ y.0, x.1 ∷ y.1))
+    others) firsts c.loop-row.row (g, v) c.args.out.now c.loop-row.out c.push_with.new.out
     (row_read firsts c.loop-row.row g v c.guards.ensures c.value.ensures) c.loop-row.invariant c.in_ok-push_with.ensures

@@ -14,6 +14,8 @@ loop-row-preserved c =
     let g = c.guards.result.now in
     let v = map row_value c.values.result.now in
     let pushed = c.in_ok-push.ensures.ok
-    ∙ (ap (λ l. c.loop-row.out ++ (l, value_view c.product_value.result) ∷ []) (append-nil g) ∙ ap (λ x. c.loop-row.out ++ (g, x) ∷ []) c.product_value.ensures) in
-    map_pushed (λ (r : List Lit × List Denotation). (r.0, number_value (product_from (pos 1) r.1))) tuples c.loop-row.row g v c.args.out.now c.loop-row.out c.push.new.self
+    ∙ (ap (λ l. c.loop-row.out ++ (l, value_view c.product_value.result) ∷ []) (append-nil g)
+    ∙ ap (λ x. c.loop-row.out ++ (g, x) ∷ []) c.product_value.ensures) in
+    map_pushed (λ (r : List Lit × List Denotation). (r.0, number_value (product_from (pos 1) r.1))) tuples
+    c.loop-row.row g v c.args.out.now c.loop-row.out c.push.new.self
     (row_read tuples c.loop-row.row g v c.guards.ensures c.values.ensures) c.loop-row.invariant pushed

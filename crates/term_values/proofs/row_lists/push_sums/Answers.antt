@@ -14,7 +14,8 @@ sum_value-requires c =
     let tuples = c.args.tuples.now in
     let g = c.guards.result.now in
     let v = map row_value c.values.result.now in
-    all_at (λ (r : List Lit × List Denotation). IfSome (sum_values (signs_of c.args.parts.now) r.1) (λ z. FitsSigned w64 z)) tuples c.loop-row.row (g, v) c.requires
+    all_at (λ (r : List Lit × List Denotation). IfSome (sum_values (signs_of c.args.parts.now) r.1)
+    (λ z. FitsSigned w64 z)) tuples c.loop-row.row (g, v) c.requires
     (row_read tuples c.loop-row.row g v c.guards.ensures c.values.ensures)
 
 pub loop-row-preserved : goal.loop-row-preserved
@@ -23,6 +24,8 @@ loop-row-preserved c =
     let g = c.guards.result.now in
     let v = map row_value c.values.result.now in
     let pushed = c.in_ok-push.ensures.ok
-    ∙ (ap (λ l. c.loop-row.out ++ (l, value_view c.sum_value.result) ∷ []) (append-nil g) ∙ ap (λ x. c.loop-row.out ++ (g, x) ∷ []) c.sum_value.ensures) in
-    map_pushed (λ (r : List Lit × List Denotation). (r.0, number_value (sum_values (signs_of c.args.parts.now) r.1))) tuples c.loop-row.row g v c.args.out.now c.loop-row.out c.push.new.self
+    ∙ (ap (λ l. c.loop-row.out ++ (l, value_view c.sum_value.result) ∷ []) (append-nil g)
+    ∙ ap (λ x. c.loop-row.out ++ (g, x) ∷ []) c.sum_value.ensures) in
+    map_pushed (λ (r : List Lit × List Denotation). (r.0, number_value (sum_values (signs_of c.args.parts.now) r.1)))
+    tuples c.loop-row.row g v c.args.out.now c.loop-row.out c.push.new.self
     (row_read tuples c.loop-row.row g v c.guards.ensures c.values.ensures) c.loop-row.invariant pushed

@@ -5,4 +5,5 @@ use Rattle.term_values.specs.RowSums.{sum_values, signs_of}
 use Rattle.term_values.proofs.row_lists.push_sums.Given as goal
 
 abbrev pub invariant-loop-row : goal.invariant-loop-row
-invariant-loop-row l = l.out ≡ l.fn.out ++ map_rows (λ vs. number_value (sum_values (signs_of l.parts) vs)) (take l.row l.tuples)
+invariant-loop-row l = l.out ≡ l.fn.out ++ map_rows (λ vs. number_value (sum_values (signs_of l.parts) vs))
+    (take l.row l.tuples)

@@ -6,4 +6,6 @@ use Rattle.std.proofs.Common.{List}
 use Rattle.term_values.proofs.row_lists.push_with.Given as goal
 
 abbrev pub invariant-loop-row : goal.invariant-loop-row
-invariant-loop-row l = l.out ≡ l.fn.out ++ map (λ (y : List Lit × List Denotation). (l.guards ++ y.0, value_view l.value ∷ y.1)) (take l.row l.others)
+invariant-loop-row l = l.out
+    ≡ l.fn.out ++ map (λ (y : List Lit × List Denotation). (l.guards ++ y.0, value_view l.value ∷ y.1))
+    (take l.row l.others)

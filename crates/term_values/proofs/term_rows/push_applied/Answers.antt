@@ -14,5 +14,6 @@ loop-row-preserved c =
     let tuples = c.args.tuples.now in
     let g = c.guards.result.now in
     let v = map row_value c.values.result.now in
-    flat_pushed (λ (t : List Lit × List Denotation). rows_at b s t.0 (row_index (tuples_at b s) t.1)) tuples c.loop-row.row (g, v) c.args.out.now c.loop-row.out c.push_at.new.out
+    flat_pushed (λ (t : List Lit × List Denotation). rows_at b s t.0 (row_index (tuples_at b s) t.1)) tuples
+    c.loop-row.row (g, v) c.args.out.now c.loop-row.out c.push_at.new.out
     (row_read tuples c.loop-row.row g v c.guards.ensures c.values.ensures) c.loop-row.invariant c.in_ok-push_at.ensures

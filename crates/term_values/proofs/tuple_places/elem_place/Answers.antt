@@ -4,7 +4,8 @@ use Rattle.term_values.proofs.IndexLemmas.{no_index, index_at, slice_none}
 use Rattle.term_values.proofs.tuple_places.elem_place.Goals as goal
 
 pub returns-in-None : goal.returns-in-None
-returns-in-None c = λ domains each. no_index c.args.indexes.now domains c.args.ty _ each (slice_none c.args.indexes.now c.args.ty c.in-None.ensures.lookup.3)
+returns-in-None c = λ domains each. no_index c.args.indexes.now domains c.args.ty _ each
+    (slice_none c.args.indexes.now c.args.ty c.in-None.ensures.lookup.3)
 
 pub returns-in-None-find : goal.returns-in-None-find
 returns-in-None-find c = λ domains each.

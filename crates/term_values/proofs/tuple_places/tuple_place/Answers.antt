@@ -17,7 +17,8 @@ pub returns-then-types-values : goal.returns-then-types-values
 returns-then-types-values c =
     let vs = c.args.values.now in
     let size = length-map vs row_value in
-    ap (option_map capped) (sym (other_length c.args.domains.now c.args.types.now (map row_value vs) (λ e. c.if-types-values.true (e ∙ size))))
+    ap (option_map capped) (sym
+    (other_length c.args.domains.now c.args.types.now (map row_value vs) (λ e. c.if-types-values.true (e ∙ size))))
 
 pub returns-in-None : goal.returns-in-None
 returns-in-None c =
@@ -30,7 +31,8 @@ returns-in-None c =
     let inside : i < length vs = omega arith in
     let item = get_or-map row_value vs i blank undefined inside in
     let digit = ap (elem_index (domain_at d (get_or types i 0))) item ∙ sym (c.in-None.ensures d c.requires) in
-    sym (digit_missing d types (map row_value vs) i c.loop-i.place c.loop-i-test.true (omega arith) digit) ∙ c.loop-i.invariant.same
+    sym (digit_missing d types (map row_value vs) i c.loop-i.place c.loop-i-test.true (omega arith) digit)
+    ∙ c.loop-i.invariant.same
 
 pub loop-i-preserved : goal.loop-i-preserved
 loop-i-preserved c =
@@ -50,7 +52,8 @@ loop-i-preserved c =
     let most = c.saturating_add-place.type_inv in
     record {
       same =
-          digit_more d types (map row_value vs) i c.loop-i.place c.in-Some.digit c.saturating_add-place.result c.loop-i-test.true (omega arith) digit next
+          digit_more d types (map row_value vs) i c.loop-i.place c.in-Some.digit c.saturating_add-place.result
+          c.loop-i-test.true (omega arith) digit next
           ∙ c.loop-i.invariant.same;
       fits = omega arith;
     }

@@ -8,6 +8,7 @@ use Rattle.term_values.proofs.tuple_places.tuple_place.Given as goal
 
 abbrev pub invariant-loop-i : goal.invariant-loop-i
 invariant-loop-i l = record {
-  same : index_from l.domains l.types (map row_value l.values) l.i l.place ≡ option_map capped (row_index (tuples_of l.domains l.types) (map row_value l.values));
+  same : index_from l.domains l.types (map row_value l.values) l.i l.place
+      ≡ option_map capped (row_index (tuples_of l.domains l.types) (map row_value l.values));
   fits : l.place ≤ 18446744073709551615;
 }

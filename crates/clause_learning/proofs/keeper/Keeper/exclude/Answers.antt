@@ -1,10 +1,10 @@
-use Rattle.std.proofs.Common.{◌≤◌, ◌+◌, length, ap, ◌∙◌, sym, subst, All, arith}
+use Rattle.std.proofs.Common.{◌≤◌, ◌+◌, length, refl, sym, subst, All, arith}
 use Rattle.ground_core.specs.Problems.{ProblemState}
-use Rattle.ground_core.specs.Meaning.{RefutesAll}
+use Rattle.ground_core.specs.Meaning.{HasTermsInRange, RefutesAll}
 use Rattle.ground_core.specs.Growth.{with_exclusion}
 use Rattle.ground_core.proofs.GrowthFacts.{exclusion-restricts}
 use Rattle.clause_learning.specs.declared.keeper.Keeper.{Keeper}
-use Rattle.clause_learning.proofs.KeeperFacts.{refuted-more}
+use Rattle.clause_learning.proofs.KeeperFacts.{range-more, refuted-more}
 use Rattle.clause_learning.proofs.keeper.Keeper.exclude.Goals as goal
 
 pub returns-clause-keeper : goal.returns-clause-keeper
@@ -16,7 +16,7 @@ returns-clause-keeper c =
     let few : length p.retired ≤ p.vars = h.few in
     record {
       resting = c.exclude.ensures.resting;
-      terms = ap (λ (r : ProblemState). r.terms) made.problem ∙ h.terms;
+      terms = subst HasTermsInRange (sym made.problem) (range-more p (with_exclusion p c.args.values.now) refl (exclusion-restricts p c.args.values.now) h.terms);
       few = subst (λ (r : ProblemState). length r.retired ≤ r.vars) (sym made.problem) (let more : length p.retired ≤ p.vars + 1 = omega (arith, few) in more);
       indexed = h.indexed;
       refuted = subst (λ (r : ProblemState). All (RefutesAll r) a.index.cores.items) (sym made.problem) (refuted-more p (with_exclusion p c.args.values.now) (exclusion-restricts p c.args.values.now) a.index.cores.items h.refuted);

@@ -1,11 +1,11 @@
-use Rattle.std.proofs.Common.{ap, ◌∙◌, sym, subst, ⊎_elim, All}
+use Rattle.std.proofs.Common.{refl, sym, subst, ⊎_elim, All}
 use Rattle.lit_core.proofs.LiteralFacts.{decide_member}
 use Rattle.ground_core.specs.Problems.{ProblemState}
-use Rattle.ground_core.specs.Meaning.{RefutesAll}
+use Rattle.ground_core.specs.Meaning.{HasTermsInRange, RefutesAll}
 use Rattle.ground_core.specs.Growing.{with_retired}
 use Rattle.search_engine.proofs.Known.{retired-first}
 use Rattle.clause_learning.specs.declared.keeper.Keeper.{Keeper}
-use Rattle.clause_learning.proofs.KeeperFacts.{refuted-more}
+use Rattle.clause_learning.proofs.KeeperFacts.{range-more, refuted-more}
 use Rattle.clause_learning.proofs.keeper.Keeper.retire.Goals as goal
 
 pub returns-clause-keeper : goal.returns-clause-keeper
@@ -17,8 +17,8 @@ returns-clause-keeper c =
     record {
       resting = c.retire.ensures.resting;
       terms = ⊎_elim
-          (λ has. ap (λ (r : ProblemState). r.terms) (c.retire.ensures.already has) ∙ h.terms)
-          (λ not. ap (λ (r : ProblemState). r.terms) (c.retire.ensures.retired not) ∙ h.terms)
+          (λ has. subst HasTermsInRange (sym (c.retire.ensures.already has)) h.terms)
+          (λ not. subst HasTermsInRange (sym (c.retire.ensures.retired not)) (range-more p (with_retired p c.args.selector) refl (retired-first p c.args.selector) h.terms))
           (decide_member p.retired c.args.selector);
       few = c.retire.ensures.few;
       indexed = h.indexed;

@@ -1,4 +1,4 @@
-use Rattle.std.proofs.Common.{sym, subst, ⊎_elim}
+use Rattle.std.proofs.Common.{◌≡◌, Contains, sym, subst, ⊎_elim}
 use Rattle.lit_core.proofs.LiteralFacts.{decide_member}
 use Rattle.ground_core.specs.Solving.{SolveState}
 use Rattle.clause_learning.specs.declared.keeper.Keeper.{Keeper}
@@ -7,6 +7,11 @@ use Rattle.clause_learning.specs.SolverState.{SolverState}
 use Rattle.clause_learning.specs.GoingOn.{GoesOn, goes-itself, prefix-itself}
 use Rattle.clause_learning.proofs.SolverFacts.{solver-laws}
 use Rattle.clause_learning.proofs.solver.SolverGrow.retire.Goals as goal
+
+pub returns-clause-already : goal.returns-clause-already
+returns-clause-already g c = λ has.
+    subst (λ (x : SolverState). kept_of c.retire.new.self ≡ x.kept) c.self.view_is
+    (c.retire.ensures.already (subst (λ (x : SolverState). Contains x.kept.problem.retired c.args.selector) (sym c.self.view_is) has))
 
 pub returns-clause-later : goal.returns-clause-later
 returns-clause-later g c =

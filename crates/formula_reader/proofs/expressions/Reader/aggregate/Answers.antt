@@ -1,8 +1,9 @@
 use Rattle.std.proofs.lemmas.Result.{err_from_is_err_and}
 use Rattle.fo_syntax.specs.Terminals.{toks}
+use Rattle.fo_syntax.specs.View.{formula_view, term_view, vars_view}
 use Rattle.formula_reader.specs.Results.{opening_view}
 use Rattle.token_reader.proofs.Inside.{fails_in}
-use Rattle.formula_reader.proofs.InFactors.{in_fold_opening, in_fold_formula, fold_no_colon, in_fold_term, unclosed_fold}
+use Rattle.formula_reader.proofs.InFactors.{in_fold_opening, in_fold_formula, fold_is}
 use Rattle.formula_reader.proofs.expressions.Reader.aggregate.Goals as goal
 
 pub returns-in_err-head-clause-reads : goal.returns-in_err-head-clause-reads
@@ -18,16 +19,11 @@ returns-in_err-inner-clause-reads g c =
 pub returns-in_err-second-clause-reads : goal.returns-in_err-second-clause-reads
 returns-in_err-second-clause-reads g c =
     let p = err_from_is_err_and c.from_residual-in_err-second.result c.from_residual-in_err-second.ensures.1 in
-    rw (p.1, p.2) (fold_no_colon c.args.how c.args.place (opening_view c.in_ok-head.head) _ (toks c.args.items.now) _ _ c.args.self.now.end c.in_err-second.field-0.0 c.in_ok-head.ensures.reads.0 c.in_ok-inner.ensures.reads c.in_err-second.ensures.err)
+    rw (p.1, p.2) (c.in_err-second.ensures.reads c.args.how c.args.place (opening_view c.in_ok-head.head) (formula_view c.in_ok-inner.inner) (toks c.args.items.now) _ c.in_ok-head.ensures.reads.0 c.in_ok-inner.ensures.reads)
 
-pub returns-in_err-of-clause-reads : goal.returns-in_err-of-clause-reads
-returns-in_err-of-clause-reads g c =
-    let p = err_from_is_err_and c.from_residual-in_err-of.result c.from_residual-in_err-of.ensures.1 in
-    rw (p.1, p.2) (fails_in c.args.self.now.end c.in_err-of.field-0.0
-    (in_fold_term c.args.how c.args.place (opening_view c.in_ok-head.head) _ c.in_ok-second.second (toks c.args.items.now) _ _ _ c.in_ok-head.ensures.reads.0 c.in_ok-inner.ensures.reads c.in_ok-second.ensures.ok) c.in_err-of.ensures.reads)
-
-pub returns-in_err-brace-clause-reads : goal.returns-in_err-brace-clause-reads
-returns-in_err-brace-clause-reads g c =
-    let p = err_from_is_err_and c.from_residual-in_err-brace.result c.from_residual-in_err-brace.ensures.1 in
-    rw (p.1, p.2) (unclosed_fold c.args.how c.args.place (opening_view c.in_ok-head.head) _ c.in_ok-second.second _ (toks c.args.items.now) _ _ _ _ c.args.self.now.end c.in_err-brace.field-0.0
-    c.in_ok-head.ensures.reads.0 c.in_ok-inner.ensures.reads c.in_ok-second.ensures.ok c.in_ok-of.ensures.reads c.in_err-brace.ensures.err)
+pub returns-clause-reads : goal.returns-clause-reads
+returns-clause-reads g c =
+    let head = c.in_ok-head.ensures.reads in
+    let read = c.in_ok-second.ensures.reads c.args.how c.args.place (opening_view c.in_ok-head.head) (formula_view c.in_ok-inner.inner) (toks c.args.items.now) _ head.0 c.in_ok-inner.ensures.reads in
+    rw (c.in_ok-found.ensures, head.1) (fold_is c.args.how c.args.place c.in_ok-head.head.brace (vars_view c.in_ok-head.head.vars) c.in_ok-head.head.colon (formula_view c.in_ok-inner.inner)
+    c.in_ok-second.second (term_view c.in_ok-second.of) c.in_ok-second.brace (toks c.args.items.now) _ _ _ head.0 c.in_ok-inner.ensures.reads read.0 read.1)

@@ -1,36 +1,17 @@
-use Rattle.std.proofs.Common.{arith, map}
+use Rattle.std.proofs.Common.{map}
 use Rattle.std.proofs.lemmas.Result.{err_from_is_err_and}
-use Rattle.std.proofs.lemmas.List.{map_push}
-use Rattle.fo_syntax.specs.Terminals.{toks}
-use Rattle.fo_syntax.specs.Spelling.{put_unary}
-use Rattle.fo_syntax.specs.View.{unary_view, and_tail_view, and_of}
-use Rattle.token_reader.proofs.Inside.{fails_in}
-use Rattle.formula_reader.proofs.InChains.{ands_first, ands_more, ands_are, in_ands, and_kind}
+use Rattle.fo_syntax.specs.View.{unary_view, and_tail_view}
+use Rattle.formula_reader.proofs.InChains.{ands_first, and_kind}
 use Rattle.formula_reader.proofs.expressions.Reader.ands.Goals as goal
 
-pub loop-place-init : goal.loop-place-init
-loop-place-init g c = record {
-  shorter = rw c.start-count.ensures.same (omega arith);
-  so_far = rw (c.start-count.ensures.same, c.new-more.ensures) (λ first. ands_first _ _ _ _ first);
-  same = c.into_inner-first.ensures;
-}
-
-pub returns-in_err-operand-clause-reads : goal.returns-in_err-operand-clause-reads
-returns-in_err-operand-clause-reads g c =
+pub returns-in_err-closed-clause-reads : goal.returns-in_err-closed-clause-reads
+returns-in_err-closed-clause-reads g c =
     let p = err_from_is_err_and c.from_residual.result c.from_residual.ensures.1 in
-    rw (p.1, p.2) (λ first. fails_in c.args.self.now.end c.in_err-operand.field-0.0 (in_ands (put_unary (unary_view c.args.first) (toks c.args.items.now)) (and_of (unary_view c.args.first) (map and_tail_view c.loop-place.more)) c.loop-place.closed (toks c.loop-place.rest.now) c.in-Some.place (toks c.in-Some.after.now) (c.loop-place.invariant.so_far first) c.in-Some.ensures.closed c.in-Some.ensures.some) c.in_err-operand.ensures.reads)
-
-pub loop-place-preserved : goal.loop-place-preserved
-loop-place-preserved g c =
-    let l = c.loop-place.invariant in
-    record {
-      shorter = omega (arith, c.in_ok-operand.ensures.shorter, c.in-Some.ensures.shorter, l.shorter);
-      so_far = rw (c.in_ok-push.ensures.ok, map_push, c.and_tail.ensures) (λ first. ands_more _ _ _ _ _ _ _ _ _ _ (l.so_far first) c.in-Some.ensures.closed c.in-Some.ensures.some c.in_ok-operand.ensures.reads);
-      same = l.same;
-    }
+    rw (p.1, p.2) (λ first. c.in_err-closed.ensures.reads _ (unary_view c.args.first) (rw c.new-more.ensures (ands_first _ _ _ _ first)))
 
 pub returns-clause-reads : goal.returns-clause-reads
-returns-clause-reads g c = rw (c.in_ok-chain.ensures, c.loop-place.invariant.same) (λ first. ands_are _ _ _ _ (c.loop-place.invariant.so_far first) c.in_default.ensures.none)
+returns-clause-reads g c = rw (c.in_ok-chain.ensures, c.into_inner.ensures)
+    (λ first. c.in_ok-closed.ensures.reads _ (unary_view c.args.first) (rw c.new-more.ensures (ands_first _ _ _ _ first)))
 
 pub returns-clause-kind : goal.returns-clause-kind
-returns-clause-kind g c = rw (c.in_ok-chain.ensures, c.loop-place.invariant.same) (λ h. and_kind (unary_view c.args.first) (map and_tail_view c.loop-place.more) h)
+returns-clause-kind g c = rw (c.in_ok-chain.ensures, c.into_inner.ensures) (λ h. and_kind (unary_view c.args.first) (map and_tail_view c.more_ands.new.more) h)

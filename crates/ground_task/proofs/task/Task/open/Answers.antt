@@ -14,5 +14,7 @@ of-requires-clause-fine g c =
 
 pub returns-clause-task : goal.returns-clause-task
 returns-clause-task g c =
-    opened c.args.vocabulary.now c.args.«data».now (g.S.Solve.state c.args.solver).problem c.in_ok-numbers.numbers c.requires.«data»
-    (c.in_ok-numbers.ensures ∙ ap (λ (ds : List (List Elem)). bare_base c.args.vocabulary.now ds) c.domains.ensures.domains) c.requires.fresh
+    opened c.args.vocabulary.now c.args.«data».now (g.S.Solve.state c.args.solver).problem c.in_ok-numbers.numbers
+    c.requires.«data»
+    (c.in_ok-numbers.ensures
+    ∙ ap (λ (ds : List (List Elem)). bare_base c.args.vocabulary.now ds) c.domains.ensures.domains) c.requires.fresh

@@ -10,8 +10,10 @@ abbrev pub invariant-loop : goal.invariant-loop
 invariant-loop g l = record {
   kb : l.self.kb ≡ l.initial.self.kb;
   so_far : IsSoFar (base_of l.initial.self.kb) (first_state l.initial.self.state.budget) l.self.state l.self.lines
-      (streams (g.C.Source.left l.initial.commands) (g.C.Source.faults l.initial.commands) (g.W.Sink.holds l.initial.out) (g.W.Sink.faults l.initial.out))
-      (streams (g.C.Source.left l.commands) (g.C.Source.faults l.commands) (g.W.Sink.holds l.out) (g.W.Sink.faults l.out));
+      (streams (g.C.Source.left l.initial.commands) (g.C.Source.faults l.initial.commands)
+      (g.W.Sink.holds l.initial.out) (g.W.Sink.faults l.initial.out))
+      (streams (g.C.Source.left l.commands) (g.C.Source.faults l.commands) (g.W.Sink.holds l.out)
+      (g.W.Sink.faults l.out));
 }
 
 -- what may still be taken, and what is ahead

@@ -14,5 +14,7 @@ returns-in_ok-write-in-Ok-LongLine-clause-turn g c =
     let next = rw c.in-Ok-LongLine.field-0-is at c.in-Ok-LongLine.ensures.next in
     let long = next.1 in
     let written = c.in_ok-write-in-Ok-LongLine.ensures.written in
-    rw (← c.self.view_is, c.in_ok-write-in-Ok-LongLine.ensures.kept)
-    (record { script = next.0; out = written.0 }, (long.0, long.1, record { said = too_long; right = long.2; leaves = refl; grows = written.1 }))
+    rw (← c.self.view_is, c.in_ok-write-in-Ok-LongLine.ensures.kept) (
+      record { script = next.0; out = written.0 },
+      (long.0, long.1, record { said = too_long; right = long.2; leaves = refl; grows = written.1 }),
+    )

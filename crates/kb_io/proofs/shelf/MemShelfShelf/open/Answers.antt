@@ -13,13 +13,15 @@ pub returns-in-Some-clause-fresh : goal.returns-in-Some-clause-fresh
 returns-in-Some-clause-fresh c = source_is_fresh _ _ _ c.in-Some.ensures.found c.self.invariant.1
 
 pub returns-in-Some-clause-others : goal.returns-in-Some-clause-others
-returns-in-Some-clause-others c = λ other ne. file_others_stay _ _ _ other (c.take_named.ensures.rest) ne ∙ ap (λ (s : ShelfState). file_named s.files other) c.self.view_is
+returns-in-Some-clause-others c = λ other ne. file_others_stay _ _ _ other (c.take_named.ensures.rest) ne
+    ∙ ap (λ (s : ShelfState). file_named s.files other) c.self.view_is
 
 pub returns-in-Some-clause-once : goal.returns-in-Some-clause-once
 returns-in-Some-clause-once c = source_gone _ _ _ c.take_named.ensures.rest c.self.invariant.0
 
 pub returns-in-None-clause-others : goal.returns-in-None-clause-others
-returns-in-None-clause-others c = λ other ne. file_others_stay _ _ _ other (c.take_named.ensures.rest) ne ∙ ap (λ (s : ShelfState). file_named s.files other) c.self.view_is
+returns-in-None-clause-others c = λ other ne. file_others_stay _ _ _ other (c.take_named.ensures.rest) ne
+    ∙ ap (λ (s : ShelfState). file_named s.files other) c.self.view_is
 
 pub returns-in-None-clause-once : goal.returns-in-None-clause-once
 returns-in-None-clause-once c = source_gone _ _ _ c.take_named.ensures.rest c.self.invariant.0

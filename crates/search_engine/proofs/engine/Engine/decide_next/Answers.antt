@@ -3,7 +3,7 @@ use Rattle.lit_core.specs.declared.literals.Lit.{Lit}
 use Rattle.lit_core.specs.Literals.{value_in}
 use Rattle.clause_store.specs.StoreState.{StoreState}
 use Rattle.ground_core.specs.Problems.{IsLitOf}
-use Rattle.search_engine.specs.declared.decider.Decider.{Decider}
+use Rattle.search_decisions.specs.declared.decider.Decider.{Decider}
 use Rattle.search_engine.specs.declared.engine.Engine.{Engine}
 use Rattle.search_engine.specs.Searching.{GivesValues}
 use Rattle.search_engine.proofs.AnswerFacts.{values-satisfy, values-make}
@@ -67,4 +67,4 @@ returns-in_ok-values-in-None-clause-answer g c =
     let values : List Bool = c.in_ok-values-in-None.values in
     let vars : c.vars-end.result ≡ e.problem.vars = c.vars-end.ensures.value in
     let given : GivesValues e.store.trail.values (e.problem.vars + 1) values = subst (λ xs. GivesValues xs (e.problem.vars + 1) values) c.assignment-in-None.ensures.value (subst (λ (n : ℕ). GivesValues c.assignment-in-None.result.now (n + 1) values) vars c.in_ok-values-in-None.ensures) in
-    (given.size, values-satisfy e c.requires.search c.requires.quiet values given, values-make e c.requires.search c.requires.quiet values given c.args.assume.now c.requires.literals c.requires.trues)
+    (given.size, values-satisfy e c.requires.search c.requires.quiet values given c.requires.bounds, values-make e c.requires.search c.requires.quiet values given c.requires.bounds c.args.assume.now c.requires.literals c.requires.trues)

@@ -1,7 +1,7 @@
 use Rattle.std.proofs.Common.{◌≡◌, refl}
 use Rattle.std.proofs.lemmas.Result.{on_ok_weaker}
 use Rattle.search_engine.specs.declared.engine.Engine.{Engine}
-use Rattle.search_engine.specs.Joining.{joined_problem}
+use Rattle.kept_problem.specs.Joining.{joined_problem}
 use Rattle.search_engine.proofs.GrowFacts.{resting-joined}
 use Rattle.search_engine.proofs.engine.Engine.hold.Goals as goal
 

@@ -15,14 +15,17 @@ returns-in_ok-insert c = λ x xs e is at.
     let index : DomainIndex = record { names = c.args.self.now.names; numbers = new } in
     subst (λ y. IsIndexOf index (xs ++ y ∷ [])) (sym (elem_number x c.args.n e))
     (number_added c.args.self.now index c.args.place xs is at
-    c.args.n c.contains_key.result (subst (λ n. c.contains_key.result ≡ is_some (get_by (int_eq n) old)) same c.contains_key.ensures)
+    c.args.n c.contains_key.result
+    (subst (λ n. c.contains_key.result ≡ is_some (get_by (int_eq n) old)) same c.contains_key.ensures)
     c.if-not-contains_key.true refl
-    (λ z. subst (λ n. get_by (int_eq z) new ≡ cond (int_eq n z) (Some c.args.place) (get_by (int_eq z) old)) same (c.in_ok-insert.ensures.updates.0 z)))
+    (λ z. subst (λ n. get_by (int_eq z) new ≡ cond (int_eq n z) (Some c.args.place) (get_by (int_eq z) old)) same
+    (c.in_ok-insert.ensures.updates.0 z)))
 
 pub returns-else-not-contains_key : goal.returns-else-not-contains_key
 returns-else-not-contains_key c = λ x xs e is at.
     let same = to_z-of_z w64 c.args.n c.ranges.n in
     subst (λ y. IsIndexOf c.args.self.now (xs ++ y ∷ [])) (sym (elem_number x c.args.n e))
     (added_again c.args.self.now c.args.self.now c.args.place xs is at (Num c.args.n) c.contains_key.result
-    (subst (λ n. c.contains_key.result ≡ is_some (get_by (int_eq n) c.args.self.now.numbers)) same c.contains_key.ensures)
+    (subst (λ n. c.contains_key.result ≡ is_some (get_by (int_eq n) c.args.self.now.numbers)) same
+    c.contains_key.ensures)
     c.if-not-contains_key.false)

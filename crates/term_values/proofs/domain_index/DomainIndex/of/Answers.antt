@@ -13,4 +13,5 @@ loop-place-preserved c =
     let all = take_more domain c.loop-place.place item (omega arith) in
     let last = ap (λ x. front ++ x ∷ []) (sym c.index-domain-place.is) in
     let value = c.elem_value.ensures in
-    subst (λ l. IsIndexOf c.add.new.self l) (sym (all ∙ last)) (c.in_ok-add.ensures item front (sym value) c.loop-place.invariant (sym size))
+    subst (λ l. IsIndexOf c.add.new.self l) (sym (all ∙ last))
+    (c.in_ok-add.ensures item front (sym value) c.loop-place.invariant (sym size))

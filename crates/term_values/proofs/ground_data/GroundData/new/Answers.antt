@@ -25,5 +25,6 @@ invariant_of-result c =
       firsts = c.in_ok-firsts.ensures.firsts ∙ ap (λ ss. first_vars d ss (length ss)) symbols;
       indexes = c.in_ok-indexes.ensures;
       known = all;
-      few = subst (λ n. n < 9223372036854775808) (ap (sum_by (atoms_in d)) symbols ∙ sym all) c.in_ok-firsts.ensures.few;
+      few = subst (λ n. n < 9223372036854775808) (ap (sum_by (atoms_in d)) symbols
+          ∙ sym all) c.in_ok-firsts.ensures.few;
     }

@@ -12,10 +12,12 @@ module _ (c : goal.After-first_var) where
   here : (c.args.symbol < length base.vocabulary.symbols)
       × (first_var base c.args.symbol + c.in-Some.place < 18446744073709551616)
       × (Some (first_var base c.args.symbol + c.in-Some.place)
-      ≡ option_map (λ i. first_var base c.args.symbol + i) (row_index (tuples_at base c.args.symbol) (map row_value c.args.values.now)))
+      ≡ option_map (λ i. first_var base c.args.symbol + i)
+      (row_index (tuples_at base c.args.symbol) (map row_value c.args.values.now)))
   here =
       variable_here base c.args.symbol c.in-Some.place c.first_var.result (map row_value c.args.values.now)
-      (subst (λ (b : GroundBase). length b.known ≡ sum_by (atoms_in b.domains) b.vocabulary.symbols) c.self.view_is c.self.invariant.known)
+      (subst (λ (b : GroundBase). length b.known ≡ sum_by (atoms_in b.domains) b.vocabulary.symbols) c.self.view_is
+      c.self.invariant.known)
       (subst (λ (b : GroundBase). length b.known < 9223372036854775808) c.self.view_is c.self.invariant.few)
       c.requires c.in-Some.ensures
 

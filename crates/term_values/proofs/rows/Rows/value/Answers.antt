@@ -10,5 +10,6 @@ returns c =
     let vs = c.values.result.now in
     let one = one_value_at c.self.inside.tuples c.args.row (map row_value vs) c.self.invariant c.values.ensures in
     let size = sym (length-map vs row_value) ∙ one.0 in
-    let at = one.1 ∙ ap Some (first_of_one vs (record { value = Named (record { ref_ptr = (0, 0); now = [] }) }) size) in
+    let at = one.1 ∙ ap Some
+    (first_of_one vs (record { value = Named (record { ref_ptr = (0, 0); now = [] }) }) size) in
     ap (λ l. option_map (λ r. r.1) (slice_get l c.args.row)) (sym c.self.view_is) ∙ at

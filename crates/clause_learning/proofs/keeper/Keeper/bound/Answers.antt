@@ -1,0 +1,26 @@
+use Rattle.std.proofs.Common.{◌≤◌, ◌+◌, length, refl, sym, subst, All, arith}
+use Rattle.ground_core.specs.Problems.{ProblemState}
+use Rattle.ground_core.specs.Meaning.{HasTermsInRange, RefutesAll}
+use Rattle.ground_core.specs.Growth.{with_bound}
+use Rattle.ground_core.proofs.GrowthFacts.{bound-restricts}
+use Rattle.clause_learning.specs.declared.keeper.Keeper.{Keeper}
+use Rattle.clause_learning.proofs.KeeperFacts.{range-more, refuted-more}
+use Rattle.clause_learning.proofs.keeper.Keeper.bound.Goals as goal
+
+pub returns-clause-keeper : goal.returns-clause-keeper
+returns-clause-keeper c =
+    let a : Keeper = c.args.self.now in
+    let p : ProblemState = a.engine.problem in
+    let q : ProblemState = with_bound p c.args.term c.args.below in
+    let h = c.requires.keeper in
+    let made = c.in_ok-out.ensures.ok.1 in
+    let few : length p.retired ≤ p.vars = h.few in
+    let less = bound-restricts p c.args.term c.args.below in
+    record {
+      resting = c.bound.ensures.resting;
+      terms = subst HasTermsInRange (sym made.problem) (range-more p q refl less h.terms);
+      few = subst (λ (r : ProblemState). length r.retired ≤ r.vars) (sym made.problem) (let more : length p.retired ≤ p.vars + 1 = omega (arith, few) in more);
+      indexed = h.indexed;
+      refuted = subst (λ (r : ProblemState). All (RefutesAll r) a.index.cores.items) (sym made.problem) (refuted-more p q less a.index.cores.items h.refuted);
+      counted = rw made.same.searches h.counted;
+    }

@@ -1,6 +1,0 @@
-use Rattle.std.proofs.Common.{◌≡◌, ◌++◌, take, codes, flat_map}
-use Rattle.consult_text.specs.Texts.{elem_text}
-use Rattle.consult_text.proofs.texts.push_row.Given as goal
-
-abbrev pub invariant-loop-elem : goal.invariant-loop-elem
-invariant-loop-elem l = l.out.items ≡ l.initial.out.items ++ flat_map (λ x. codes "," ++ elem_text x) (take l.elem-index l.others)

@@ -1,0 +1,5 @@
+//! Tests of the devices in memory, and of lines.
+#![tactic(auto)]
+
+#[cfg(test)]
+mod tests;

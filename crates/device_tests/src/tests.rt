@@ -1,0 +1,5 @@
+//! What no clause says of devices.
+
+mod devices;
+mod lines;
+mod sources;

@@ -1,0 +1,80 @@
+//! Nodes made of what was read inside them, after which the variables that they bind are out of scope again. They stand
+//! outside the cycle of `formulas`, so that its functions give up fewer trees where memory runs out.
+ghost use Rattle.std.specs.Prelude.{◌≡◌, [], ◌∷◌, map, take, true, IfOk, OnOk};
+ghost use Rattle.fo_syntax.specs.View as raw;
+ghost use Rattle.reading_stages.specs.NamedTrees as tree;
+ghost use Rattle.reading_stages.specs.Numbering as numbers;
+ghost use Rattle.reading_stages.specs.NamedViews.{formula_view, term_view, var_view};
+
+use crate::nodes::{signed, summed};
+use crate::scopes::Scope;
+use crate::words::{aggregated, quantified};
+use fo_syntax::RawNumber;
+use kb_logic::{AggKind, Memory};
+use reading_stages::{NamedFormula, NamedTerm, NamedVar};
+use sqlite_items::Items;
+use std::alloc::Global;
+
+pub fn negation(alloc: Global, inner: NamedFormula) -> Result<NamedFormula, Memory>
+    ensures { IfOk result (λ f. formula_view f ≡ tree.negation (formula_view inner)) }
+{
+    Ok(NamedFormula::Not(Box::new(alloc, inner)?))
+}
+
+/// `!`, after which the scope has its `outer` outermost variables.
+pub fn universal(
+    alloc: Global,
+    scope: &mut Scope<'_>,
+    outer: usize,
+    vars: Items<NamedVar>,
+    inner: NamedFormula,
+) -> Result<NamedFormula, Memory>
+    ensures tree { IfOk result (λ f. formula_view f ≡ tree.universal (map var_view vars) (formula_view inner)) }
+    ensures scope { OnOk result (scope.new ≡ take outer scope.old) }
+{
+    scope.leave(outer)?;
+    Ok(NamedFormula::All(vars, Box::new(alloc, inner)?))
+}
+
+/// `?` with this number of instances.
+pub fn existential(
+    alloc: Global,
+    scope: &mut Scope<'_>,
+    outer: usize,
+    number: &RawNumber,
+    vars: Items<NamedVar>,
+    inner: NamedFormula,
+) -> Result<NamedFormula, Memory>
+    ensures tree { IfOk result (λ f. formula_view f ≡ numbers.counted_by (raw.number_view number.now) (map var_view vars) (formula_view inner)) }
+    ensures scope { OnOk result (scope.new ≡ take outer scope.old) }
+{
+    scope.leave(outer)?;
+    quantified(alloc, number, vars, inner)
+}
+
+/// `- t` is a sum of one.
+pub fn opposite(alloc: Global, place: usize, term: NamedTerm) -> Result<NamedTerm, Memory>
+    ensures { IfOk result (λ t. term_view t ≡ tree.at place (tree.summation (tree.more_summands true (term_view term) tree.no_summands))) }
+{
+    let mut operands = Vec::new(alloc);
+    operands.push(signed(true, term))?;
+    Ok(summed(place, operands))
+}
+
+/// An aggregate, after which the scope has its `outer` outermost variables.
+pub fn gathered(
+    alloc: Global,
+    scope: &mut Scope<'_>,
+    outer: usize,
+    place: usize,
+    kind: AggKind,
+    vars: Items<NamedVar>,
+    condition: NamedFormula,
+    weight: NamedTerm,
+) -> Result<NamedTerm, Memory>
+    ensures tree { IfOk result (λ t. term_view t ≡ tree.at place (tree.aggregate kind (map var_view vars) (formula_view condition) (term_view weight))) }
+    ensures scope { OnOk result (scope.new ≡ take outer scope.old) }
+{
+    scope.leave(outer)?;
+    aggregated(alloc, place, kind, vars, condition, weight)
+}

@@ -1,0 +1,16 @@
+use Rattle.std.proofs.Common.{◌≤◌, List, length, map}
+use Rattle.fo_syntax.specs.Terminals.{Tok, toks}
+use Rattle.fo_syntax.specs.Trees.{Unary}
+use Rattle.fo_syntax.specs.View.{and_tail_view, and_of}
+use Rattle.formula_reader.specs.Chains.{AndsAre}
+use Rattle.formula_reader.proofs.expressions.Reader.more_ands.Given as goal
+
+abbrev pub invariant-loop-place : goal.invariant-loop-place
+invariant-loop-place g l = record {
+  shorter : length l.rest ≤ length l.items;
+  so_far : (ts : List Tok) (u : Unary) → AndsAre ts (and_of u (map and_tail_view l.initial.more)) l.ends (toks l.items)
+      → AndsAre ts (and_of u (map and_tail_view l.more)) l.closed (toks l.rest);
+}
+
+abbrev pub decreases-loop-place : goal.decreases-loop-place
+decreases-loop-place g l = length l.rest

@@ -1,0 +1,3 @@
+pub mod Joining
+pub mod KeptFields
+pub mod Selectors

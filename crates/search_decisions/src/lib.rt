@@ -1,0 +1,12 @@
+//! What a search decides next: which variable, by a rule over scores, and with which sign.
+#![tactic(auto)]
+
+mod decider;
+mod order;
+mod phases;
+mod scores;
+
+pub use decider::Decider;
+pub use order::Order;
+pub use phases::{First, Phases};
+pub use scores::Scores;

@@ -1,6 +1,0 @@
-use Rattle.std.proofs.Common.{◌≡◌, take}
-use Rattle.search_engine.proofs.kept.copied_gates.Given as goal
-
--- the ones so far are copied
-abbrev pub invariant-loop-gate : goal.invariant-loop-gate
-invariant-loop-gate l = l.copies.items ≡ take l.gate-index l.gates

@@ -1,0 +1,6 @@
+mod WordMeanings
+mod Spoken
+mod Named
+mod Trees
+mod OneText
+pub mod Accepted

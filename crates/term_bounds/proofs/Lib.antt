@@ -1,0 +1,5 @@
+pub mod TotalFacts
+pub mod ShareFacts
+pub mod ListFacts
+pub mod ReasonFacts
+pub mod BreakFacts

@@ -1,0 +1,15 @@
+//! Bounds on the terms of a ground problem: the value of a term, and clauses that a bound implies where it does not
+//! hold.
+#![tactic(auto)]
+
+mod amounts;
+mod breaking;
+mod laws;
+mod linear;
+mod reasons;
+mod shares;
+mod term_values;
+
+pub use breaking::broken;
+pub use laws::{bounds_by_totals, least_is_least};
+pub use term_values::value_of;
