@@ -1,20 +1,46 @@
 -- Domains, type by type.
-use Rattle.std.proofs.Common.{◌≡◌, ◌<◌, ◌+◌, ℕ, Bool, true, IsTrue, List, [], ◌∷◌, ◌++◌, drop, get_or, length, map, refl, sym, ap, ◌∙◌, append_assoc, subst}
+use Rattle.std.proofs.Common.{◌≡◌, ◌<◌, ◌≤◌, ◌+◌, ℕ, zero, suc, List, [], ◌∷◌, ◌++◌, Some, drop, get_or, length, map, slice_get, refl, sym, ap, ◌∙◌, subst, arith}
 use Rattle.std.specs.List.{AllByRecursion, enumerate_from}
-use Rattle.std.proofs.lemmas.List.{drop_more}
+use Rattle.std.proofs.lemmas.List.{drop_all, drop_more}
 use Rattle.kb_logic.specs.declared.elements.Elem.{Elem}
 use Rattle.kb_logic.specs.declared.vocabularies.TypeDecl.{TypeDecl}
-use Rattle.data_entries.proofs.Dropped.{front}
+use Rattle.reading_stages.specs.Elements as set
+use Rattle.reading_stages.specs.DataEntries.{Said}
+use Rattle.reading_stages.specs.DataDomains.{cells_by, domains_of}
+use Rattle.data_entries.specs.EntryViews.{cell_view}
+use Rattle.data_domains.specs.TypeSets.{AreTypesOf}
+use Rattle.data_domains.specs.declared.types.TypeData.{TypeData}
 
 -- one item more of which each one after it makes all
 pub next_all : {X : Type 0} (P : X → Type 0) (xs : List X) (i : ℕ) (d : X) → i < length xs → P (get_or xs i d)
     → (AllByRecursion P (drop i xs) → AllByRecursion P xs) → AllByRecursion P (drop (i + 1) xs) → AllByRecursion P xs
 next_all P xs i d lt here inv rest = inv (subst (AllByRecursion P) (sym (drop_more xs i d lt)) (here, rest))
 
-pub next_domain : (F : ℕ × TypeDecl → List Elem) (decls : List TypeDecl) (t : ℕ) (d : TypeDecl) (old new whole : List (List Elem)) (xs : List Elem) → t < length decls → d ≡ get_or decls t d
-    → xs ≡ F (t, d) → new ≡ old ++ xs ∷ []
-    → old ++ map F (enumerate_from t (drop t decls)) ≡ whole → new ++ map F (enumerate_from (t + 1) (drop (t + 1) decls)) ≡ whole
-next_domain F decls t d old new whole xs lt is from more inv =
-    let rest = map F (enumerate_from (t + 1) (drop (t + 1) decls)) in
-    ap (λ ys. ys ++ rest) (more ∙ ap (λ y. old ++ y ∷ []) from) ∙ append_assoc old (F (t, d) ∷ []) rest
-    ∙ sym (ap (λ ds. old ++ map F (enumerate_from t ds)) (front decls t d lt is)) ∙ inv
+-- what stands for each type, where it is what stands for its number and its declaration
+pub each_domain : (F : TypeData → List Elem) (G : ℕ × TypeDecl → List Elem) (n : ℕ) (xs : List TypeData) (ds : List TypeDecl) → length xs ≡ length ds
+    → ((t : ℕ) (d : TypeDecl) (x : TypeData) → slice_get ds t ≡ Some d → slice_get xs t ≡ Some x → F x ≡ G (n + t, d)) → map F xs ≡ map G (enumerate_from n ds)
+each_domain F G n [] [] e h = refl
+each_domain F G n [] (d ∷ ds) e h = absurd (omega (arith, e))
+each_domain F G n (x ∷ xs) [] e h = absurd (omega (arith, e))
+each_domain F G n (x ∷ xs) (d ∷ ds) e h =
+    let at : n + 0 ≡ n = omega arith in
+    ap (λ y. y ∷ map F xs) (h 0 d x refl refl ∙ ap (λ k. G (k, d)) at)
+    ∙ ap (λ ys. G (n, d) ∷ ys) (each_domain F G (n + 1) xs ds (omega (arith, e)) (λ t c y p q. further t c y (h (suc t) c y p q)))
+  where
+    further : (t : ℕ) (c : TypeDecl) (y : TypeData) → F y ≡ G (n + suc t, c) → F y ≡ G (n + 1 + t, c)
+    further t c y k = let on : n + suc t ≡ n + 1 + t = omega arith in k ∙ ap (λ m. G (m, c)) on
+
+pub all_domains : (decls : List TypeDecl) (es : List Said) (xs : List TypeData) → AreTypesOf decls es xs → map (λ (x : TypeData). set.listed (map cell_view x.cells.items)) xs ≡ domains_of decls es
+all_domains decls es xs all = each_domain (λ (x : TypeData). set.listed (map cell_view x.cells.items)) (λ (t : ℕ × TypeDecl). set.listed (cells_by decls es t.0 t.1)) 0 xs decls all.count
+    (λ t d x p q. ap set.listed (all.cells t d x p q) ∙ from_zero t d)
+  where
+    from_zero : (t : ℕ) (d : TypeDecl) → set.listed (cells_by decls es t d) ≡ set.listed (cells_by decls es (0 + t) d)
+    from_zero t d = let at : t ≡ 0 + t = omega arith in ap (λ k. set.listed (cells_by decls es k d)) at
+
+nothing_more : (xs : List (List Elem)) → xs ++ [] ≡ xs
+nothing_more [] = refl
+nothing_more (x ∷ xs) = ap (λ ys. x ∷ ys) (nothing_more xs)
+
+-- nothing is left
+pub at_end : (F : TypeData → List Elem) (old : List (List Elem)) (xs : List TypeData) (i : ℕ) → length xs ≤ i → old ++ map F (drop i xs) ≡ map F xs → old ≡ map F xs
+at_end F old xs i past inv = sym (nothing_more old) ∙ sym (ap (λ ys. old ++ map F ys) (drop_all i xs past)) ∙ inv

@@ -40,7 +40,7 @@ pub fn read_structure(
     if let Some(fault) = earliest.first {
         return Err(KbError::Refused(fault));
     }
-    let Ok(domains) = domains_of(alloc, kb.vocab.types.as_slice(), &types, &entries) else {
+    let Ok(domains) = domains_of(alloc, &types) else {
         return Err(KbError::Memory);
     };
     let Ok(partial) = fill(alloc, &kb.vocab, domains, &entries) else {

@@ -34,7 +34,7 @@ fill-requires-clause-accepted c =
     record {
       structure = s;
       places = kb.places.types;
-      said = ap (map said_view) c.deref-6.ensures.value ∙ c.in-Ok.ensures;
+      said = ap (map said_view) c.deref-5.ensures.value ∙ c.in-Ok.ensures;
       accepted = λ q r. nothing_noted (is_data_refused kb.vocab.types es) place_of_data_use data_causes us (sym noted ∙ c.in_default-first.is) q ((refusals_are_parted f c.args.theory s q).1 (inl r));
     }
 
@@ -49,5 +49,5 @@ returns-clause-ok c =
     rw c.new-earliest.ensures at c.in-Ok-note_all.ensures ∙ ap (λ xs. fold (data_noted kb.vocab.types xs) None (data_uses f c.args.theory xs)) said in
     record {
       accepted = nothing_noted (is_data_refused kb.vocab.types es) place_of_data_use data_causes us (sym noted ∙ c.in_default-first.is);
-      given = c.in-Ok-fill.ensures ∙ ap (given_by kb.vocab) (ap (map said_view) c.deref-6.ensures.value ∙ c.in-Ok.ensures);
+      given = c.in-Ok-fill.ensures ∙ ap (given_by kb.vocab) (ap (map said_view) c.deref-5.ensures.value ∙ c.in-Ok.ensures);
     }
