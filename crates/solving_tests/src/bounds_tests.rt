@@ -7,7 +7,7 @@ use crate::fixtures::{Kept, no, said, yes};
 use chooser::FirstGreatest;
 use clause_learning::Solver;
 use ground_core::{
-    Budget, Grow, GroundTerm, Halt, Memory, Part, Problem, Solve, Verdict, has_small_terms,
+    Budget, GroundTerm, Grow, Halt, Memory, Part, Problem, Solve, Verdict, has_small_terms,
 };
 use kb_logic::{AggKind, ExtInt, ListOf, Name};
 use lit_core::{Lit, Values, Var};

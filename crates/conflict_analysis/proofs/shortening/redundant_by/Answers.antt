@@ -37,9 +37,9 @@ loop-lit-preserved c = λ t at m has.
     let is : t.reason ≡ Some c.in_ok-reason.reason = sym (ap (λ (u : Step). u.reason) one) ∙ c.in_ok-reason.was in
     let u = c.place_of-other.ensures.step in
     let way : (c.place_of-other.result ≡ c.args.place) ⊎ Contains c.args.lower.now.keys c.place_of-other.result = elim c.else-other-place.branch [
-          | else-other-place-via-then-other-place+else-not-is_left w ↦ inr (search rules)
-          | else-other-place-via-else-other-place w ↦ inl (search rules)
-        ] in
+      | else-other-place-via-then-other-place+else-not-is_left w ↦ inr (search rules)
+      | else-other-place-via-else-other-place w ↦ inl (search rules)
+    ] in
     ⊎_elim
     (λ old. c.loop-lit.invariant t at m old)
     (λ (new : x ≡ m). reason-others s c.requires.laws c.args.place c.in_ok-reason.reason c.place_of-other.result t u.0 xs c.args.lower.now.keys at is c.lend-lits.ensures.held m (subst (Contains xs) new here) u.1 (ap (λ v. v.0) u.2 ∙ ap (λ (l : Lit). l.var.0) new) way)
