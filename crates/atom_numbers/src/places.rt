@@ -92,7 +92,8 @@ pub(crate) fn variable_of(
 ) -> u64
     requires numbered { AreNumbered domains.now symbols.now firsts.now }
     requires over { IsAtomOver symbols.now domains.now (atom_of literal.now) }
-    ensures { (n : ℕ) × (slice_get (atoms_over symbols.now domains.now) n ≡ Some (atom_of literal.now)) × (result ≡ suc n) }
+    ensures { (n : ℕ) × (slice_get (atoms_over symbols.now domains.now) n ≡ Some (atom_of literal.now))
+        × (result ≡ suc n) }
 {
     let number = literal.symbol as usize;
     let place = atom_place(domains, &symbols[number], literal);

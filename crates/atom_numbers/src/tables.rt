@@ -62,7 +62,8 @@ fn push_valued(
     rows: &mut Vec<ElemList>,
 ) -> Result<(), Memory>
     requires { first + length domain.now < 2 ^ 64 }
-    ensures { OnOk result (rows.new.items ≡ rows.old.items ++ map (λ x. front.now ++ x ∷ []) (true_values (valuation values.now) first domain.now)) }
+    ensures { OnOk result (rows.new.items ≡ rows.old.items ++ map (λ x. front.now ++ x ∷ [])
+        (true_values (valuation values.now) first domain.now)) }
 {
     for k in 0..domain.len() {
         if !is_true(values, first + k as u64) {
@@ -104,7 +105,8 @@ fn relation(
     values: &Values,
 ) -> Result<RowList, Memory>
     requires { first + length (tuples_of domains.now symbol.now.args) < 2 ^ 64 }
-    ensures { IfOk result (λ rows. rows ≡ true_rows (valuation values.now) first (tuples_of domains.now symbol.now.args)) }
+    ensures { IfOk result (λ rows. rows ≡ true_rows (valuation values.now) first
+        (tuples_of domains.now symbol.now.args)) }
 {
     let tuples = all_tuples(alloc, domains, symbol.args.as_slice())?;
     predicate_rows(alloc, tuples, values, first)
@@ -120,7 +122,8 @@ fn function(
     values: &Values,
 ) -> Result<RowList, Memory>
     requires { first + length (tuples_of domains.now symbol.now.args) * length (domain_at domains.now ty) < 2 ^ 64 }
-    ensures { IfOk result (λ rows. rows ≡ valued_rows (valuation values.now) first (domain_at domains.now ty) (tuples_of domains.now symbol.now.args)) }
+    ensures { IfOk result (λ rows. rows ≡ valued_rows (valuation values.now) first (domain_at domains.now ty)
+        (tuples_of domains.now symbol.now.args)) }
 {
     let tuples = all_tuples(alloc, domains, symbol.args.as_slice())?;
     function_rows(
@@ -147,7 +150,8 @@ pub(crate) fn relations(
     values: &Values,
 ) -> Result<TableList, Memory>
     requires { AreNumbered domains.now symbols.now firsts.now }
-    ensures { IfOk result (λ ts. ts ≡ relation_tables domains.now symbols.now (valuation values.now) (length symbols.now)) }
+    ensures { IfOk result (λ ts. ts ≡ relation_tables domains.now symbols.now (valuation values.now)
+        (length symbols.now)) }
 {
     let mut tables = Vec::new(alloc);
     for number in 0..symbols.len() {
@@ -170,7 +174,8 @@ pub(crate) fn functions(
     values: &Values,
 ) -> Result<TableList, Memory>
     requires { AreNumbered domains.now symbols.now firsts.now }
-    ensures { IfOk result (λ ts. ts ≡ function_tables domains.now symbols.now (valuation values.now) (length symbols.now)) }
+    ensures { IfOk result (λ ts. ts ≡ function_tables domains.now symbols.now (valuation values.now)
+        (length symbols.now)) }
 {
     let mut tables = Vec::new(alloc);
     for number in 0..symbols.len() {

@@ -1,5 +1,6 @@
 -- A file means one knowledge base, or is refused in one way, and never both.
-use Rattle.std.proofs.Common.{◌≡◌, ℕ, zero, suc, ◌<◌, ◌==◌, ◌||◌, ◌&&◌, nat_lt, List, [], ◌∷◌, length, map, refl, sym, ap, ◌∙◌, subst, arith, Bool, true, false, IsTrue, Option, Some, None, Ok, Err, Result}
+use Rattle.std.proofs.Common.{◌≡◌, ℕ, zero, suc, ◌<◌, ◌==◌, ◌||◌, ◌&&◌, nat_lt, List, [], ◌∷◌, length, map, refl, sym}
+use Rattle.std.proofs.Common.{ap, ◌∙◌, subst, arith, Bool, true, false, IsTrue, Option, Some, None, Ok, Err, Result}
 use Rattle.std.specs.List.{filter_map, slice_get}
 use Rattle.std.proofs.lemmas.Bool.Decides.{nat_tests}
 use Rattle.kb_text.specs.Refusals.{number_of}
@@ -24,7 +25,8 @@ use Rattle.reading_stages.specs.DataStage.{StructureRefuses}
 use Rattle.reading_stages.specs.DataEntries.{said_in}
 use Rattle.reading_stages.specs.DataAnswer.{IsDataOf, given_by}
 use Rattle.reading_stages.specs.SizesStage.{SizesRefuse, size_uses}
-use Rattle.base_reader.specs.FileMeanings.{Choice, Picked, Meaning, HasBlocks, HasNames, HasTypes, FileMeans, IsRefused, structure_name}
+use Rattle.base_reader.specs.FileMeanings.{Choice, Picked, Meaning, HasBlocks, HasNames, HasTypes, FileMeans, IsRefused}
+use Rattle.base_reader.specs.FileMeanings.{structure_name}
 use Rattle.base_reader.specs.FileMeanings as refused
 use Rattle.base_reader.specs.Laws.{HasOneMeaning, HasOneRefusal, MeansOrIsRefused}
 

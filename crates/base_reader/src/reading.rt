@@ -4,7 +4,8 @@ ghost use Rattle.fo_syntax.specs.BlockView.{structure_view};
 ghost use Rattle.reading_stages.specs.FileView.{file_in};
 ghost use Rattle.type_derivation.specs.TypedViews.{typed_view};
 ghost use Rattle.base_reader.specs.FileMeanings.{FileMeans};
-ghost use Rattle.base_reader.specs.Readings.{choice, meaning_of, AreBlocksOf, DataOrSizes, FailsWith, HasTypedFile, IsSizedData, NamesOrTypes};
+ghost use Rattle.base_reader.specs.Readings.{choice, meaning_of, AreBlocksOf, DataOrSizes, FailsWith, HasTypedFile};
+ghost use Rattle.base_reader.specs.Readings.{IsSizedData, NamesOrTypes};
 
 use block_choice::{Picked, pick};
 use consult_base::KnowledgeBase;

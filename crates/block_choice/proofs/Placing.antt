@@ -1,5 +1,7 @@
 -- The least places of names, as more blocks are seen.
-use Rattle.std.proofs.Common.{◌≡◌, ◌||◌, ◌&&◌, ℕ, Bool, true, false, nat_lt, cond, if◌then◌else◌, map, take, length, get_or, ◌+◌, ◌<◌, List, [], ◌∷◌, ◌++◌, Option, None, Some, refl, ap, ◌∙◌, sym, Bor, unwrap_or}
+use Rattle.std.proofs.Common.{◌≡◌, ◌||◌, ◌&&◌, ℕ, Bool, true, false, nat_lt, cond, if◌then◌else◌, map, take, length}
+use Rattle.std.proofs.Common.{get_or, ◌+◌, ◌<◌, List, [], ◌∷◌, ◌++◌, Option, None, Some, refl, ap, ◌∙◌, sym, Bor}
+use Rattle.std.proofs.Common.{unwrap_or}
 use Rattle.std.specs.Map.{lookup}
 use Rattle.std.specs.Str.{bytes_eq}
 use Rattle.std.specs.List.{list_any}
@@ -33,7 +35,8 @@ once : (c : Bool) (v u : ℕ) (o : Option ℕ) → cond c (Some v) o ≡ cond c 
 once true v u o = refl
 once false v u o = refl
 
-apart : (b c : Bool) (v u : ℕ) (o : Option ℕ) → (b ≡ true → c ≡ true → ⊥) → cond b (Some u) (cond c (Some v) o) ≡ cond c (Some v) (cond b (Some u) o)
+apart : (b c : Bool) (v u : ℕ) (o : Option ℕ) → (b ≡ true → c ≡ true → ⊥) → cond b (Some u) (cond c (Some v) o)
+    ≡ cond c (Some v) (cond b (Some u) o)
 apart true true v u o never = absurd (never refl refl)
 apart true false v u o never = refl
 apart false true v u o never = refl
@@ -53,7 +56,8 @@ lookup_inserted (e ∷ es) k v w = by (bytes_eq k.now e.0.now) refl (lookup_inse
   where
     by : (b : Bool) → bytes_eq k.now e.0.now ≡ b
         → place_of_word (inserted es k v) w ≡ cond (bytes_eq w k.now) (Some v) (place_of_word es w)
-        → place_of_word (if b then (e.0, v) ∷ es else e ∷ inserted es k v) w ≡ cond (bytes_eq w k.now) (Some v) (place_of_word (e ∷ es) w)
+        → place_of_word (if b then (e.0, v) ∷ es else e ∷ inserted es k v) w ≡ cond (bytes_eq w k.now) (Some v)
+        (place_of_word (e ∷ es) w)
     by true is more =
         let same : k.now ≡ e.0.now = (bytes_eq-Decides k.now e.0.now).0 is in
         rw same (once (bytes_eq w e.0.now) v e.1 (place_of_word es w))
@@ -62,10 +66,12 @@ lookup_inserted (e ∷ es) k v w = by (bytes_eq k.now e.0.now) refl (lookup_inse
         rw more (apart (bytes_eq w e.0.now) (bytes_eq w k.now) v e.1 (place_of_word es w) differ)
 
 again_added : (names : List Name) (n w : Name)
-    → is_again (names ++ n ∷ []) w ≡ (is_again names w || (is_called (text_of w) n && nat_lt (place_of_name n) (place_of_name w)))
+    → is_again (names ++ n ∷ []) w ≡ (is_again names w || (is_called (text_of w) n && nat_lt (place_of_name n)
+    (place_of_name w)))
 again_added names n w =
     list_any-append (λ (m : Name). is_called (text_of w) m && nat_lt (place_of_name m) (place_of_name w)) names (n ∷ [])
-    ∙ ap (λ (b : Bool). is_again names w || b) (or-false (is_called (text_of w) n && nat_lt (place_of_name n) (place_of_name w)))
+    ∙ ap (λ (b : Bool). is_again names w || b) (or-false (is_called (text_of w) n && nat_lt (place_of_name n)
+    (place_of_name w)))
 
 -- with one name more, kept at the lesser of its places
 pub place_noted : (old new : Entries) (k : Bor (List ℕ)) (v : ℕ) (names : List Name) (n : Name)
@@ -100,7 +106,8 @@ next_names h bs i b within is =
     ∙ map-append (λ (x : Header). x.name) (map h (take i bs)) (h b ∷ [])
 
 -- the places are those of one block more
-pub more_places : {B : Type 0} (h : B → Header) (bs : List B) (i : ℕ) (b : B) (names : List Name) (n : Name) (first : FirstPlaces)
+pub more_places : {B : Type 0} (h : B → Header) (bs : List B) (i : ℕ) (b : B) (names : List Name) (n : Name)
+    (first : FirstPlaces)
     → i < length bs → b ≡ get_or bs i b → (h b).name ≡ n
     → AreFirstPlaces ((names ++ header_names (map h (take i bs))) ++ n ∷ []) first
     → AreFirstPlaces (names ++ header_names (map h (take (i + 1) bs))) first
@@ -113,12 +120,14 @@ more_places h bs i b names n first within is same are w =
 
 -- what theories and term blocks are called
 names_of_theories : (ts : List RawTheory)
-    → header_names (map (λ (t : TheoryBlock). t.header) (map theory_in ts)) ≡ header_names (map (λ (t : RawTheory). header_in t.header) ts)
+    → header_names (map (λ (t : TheoryBlock). t.header) (map theory_in ts)) ≡ header_names
+    (map (λ (t : RawTheory). header_in t.header) ts)
 names_of_theories [] = refl
 names_of_theories (t ∷ ts) = ap (λ (ns : List Name). (header_in t.header).name ∷ ns) (names_of_theories ts)
 
 names_of_terms : (ts : List RawTerm)
-    → header_names (map (λ (t : TermBlock). t.header) (map term_in ts)) ≡ header_names (map (λ (t : RawTerm). header_in t.header) ts)
+    → header_names (map (λ (t : TermBlock). t.header) (map term_in ts)) ≡ header_names
+    (map (λ (t : RawTerm). header_in t.header) ts)
 names_of_terms [] = refl
 names_of_terms (t ∷ ts) = ap (λ (ns : List Name). (header_in t.header).name ∷ ns) (names_of_terms ts)
 
@@ -146,5 +155,6 @@ all_places raw first are w =
     ∙ ap (λ (ns : List Name). is_again ns w)
     (append_assoc ts ss ms
     ∙ ap (λ (ns : List Name). ns ++ (ss ++ ms)) (sym (names_of_theories raw.theories))
-    ∙ ap (λ (ns : List Name). header_names (map (λ (t : TheoryBlock). t.header) (map theory_in raw.theories)) ++ (ss ++ ns)) (sym (names_of_terms raw.terms))
+    ∙ ap (λ (ns : List Name). header_names (map (λ (t : TheoryBlock). t.header) (map theory_in raw.theories)) ++
+    (ss ++ ns)) (sym (names_of_terms raw.terms))
     ∙ sym (names_by_kind (file_in raw)))

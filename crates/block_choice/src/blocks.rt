@@ -68,8 +68,10 @@ pub fn choose<B: Headed>(
     end: usize,
     earliest: &mut Earliest,
 ) -> usize
-    ensures number { result ≡ unwrap_or (stage.chosen (header_names (map B.header_of blocks.now)) (word_given choice.entry)) 0 }
-    ensures noted { earliest.new.first ≡ block_noted earliest.old.first (stage.wanted (header_names (map B.header_of blocks.now)) (word_given choice.entry) end) }
+    ensures number { result ≡ unwrap_or (stage.chosen (header_names (map B.header_of blocks.now))
+        (word_given choice.entry)) 0 }
+    ensures noted { earliest.new.first ≡ block_noted earliest.old.first
+        (stage.wanted (header_names (map B.header_of blocks.now)) (word_given choice.entry) end) }
 {
     let number = chosen(blocks, choice);
     earliest.note_if(number.is_none(), K::BlockChoice, end);
@@ -78,7 +80,8 @@ pub fn choose<B: Headed>(
 
 /// Every block but the first is one too many.
 pub fn note_further<B: Headed>(blocks: &[B], earliest: &mut Earliest)
-    ensures { earliest.new.first ≡ fold block_noted earliest.old.first (one_of_each 0 (map (λ h. h.place) (map B.header_of blocks.now))) }
+    ensures { earliest.new.first ≡ fold block_noted earliest.old.first
+        (one_of_each 0 (map (λ h. h.place) (map B.header_of blocks.now))) }
 {
     for (i, block) in blocks.iter().enumerate() {
         earliest.note_if(i > 0, K::BlockChoice, block.header().place);
@@ -87,7 +90,8 @@ pub fn note_further<B: Headed>(blocks: &[B], earliest: &mut Earliest)
 
 /// Every block but the first is one too many, unless a name says which is chosen.
 pub fn note_unless_named<B: Headed>(blocks: &[B], choice: Option<&[u8]>, earliest: &mut Earliest)
-    ensures { earliest.new.first ≡ fold block_noted earliest.old.first (stage.one_unless_named (word_given choice.entry) (map (λ h. h.place) (map B.header_of blocks.now))) }
+    ensures { earliest.new.first ≡ fold block_noted earliest.old.first (stage.one_unless_named (word_given choice.entry)
+        (map (λ h. h.place) (map B.header_of blocks.now))) }
 {
     match choice {
         Some(_) => {}

@@ -2,7 +2,8 @@
 ghost use Rattle.std.specs.Prelude.{◌≡◌, Some, fold, map, unwrap_or, IfErr, IfOk};
 ghost use Rattle.std.specs.List.{flat_map};
 ghost use Rattle.reading_stages.specs.BlocksStage as stage;
-ghost use Rattle.reading_stages.specs.BlocksStage.{block_noted, block_uses, header_names, headers_of, one_of_each, uses_of_header, IsPicked};
+ghost use Rattle.reading_stages.specs.BlocksStage.{block_noted, block_uses, header_names, headers_of, one_of_each};
+ghost use Rattle.reading_stages.specs.BlocksStage.{uses_of_header, IsPicked};
 ghost use Rattle.reading_stages.specs.FileView.{file_in, header_in, vocabulary_in};
 ghost use Rattle.reading_stages.specs.Names.{text_of};
 ghost use Rattle.block_choice.specs.Choices.{word_given, AreFirstPlaces, FailsWith};
@@ -49,7 +50,8 @@ fn note_header<'a>(
     earliest: &mut Earliest,
 )
     requires { AreFirstPlaces (header_names (headers_of (file_in raw.now))) first.now }
-    ensures { earliest.new.first ≡ fold block_noted earliest.old.first (uses_of_header (file_in raw.now) (header_in header.now)) }
+    ensures { earliest.new.first ≡ fold block_noted earliest.old.first
+        (uses_of_header (file_in raw.now) (header_in header.now)) }
 {
     let is_other = is_other(raw.vocabularies.as_slice(), &header.of);
     earliest.note_if(is_other, K::UnknownName, header.of.place);
@@ -64,7 +66,8 @@ fn note_headers<'a, B: Headed>(
     earliest: &mut Earliest,
 )
     requires { AreFirstPlaces (header_names (headers_of (file_in raw.now))) first.now }
-    ensures { earliest.new.first ≡ fold block_noted earliest.old.first (flat_map (uses_of_header (file_in raw.now)) (map B.header_of blocks.now)) }
+    ensures { earliest.new.first ≡ fold block_noted earliest.old.first (flat_map (uses_of_header (file_in raw.now))
+        (map B.header_of blocks.now)) }
 {
     for block in blocks {
         note_header(raw, first, block.header(), earliest);
@@ -73,7 +76,8 @@ fn note_headers<'a, B: Headed>(
 
 fn note_all_headers<'a>(raw: &'a RawKb, first: &FirstPlaces<'a>, earliest: &mut Earliest)
     requires { AreFirstPlaces (header_names (headers_of (file_in raw.now))) first.now }
-    ensures { earliest.new.first ≡ fold block_noted earliest.old.first (flat_map (uses_of_header (file_in raw.now)) (headers_of (file_in raw.now))) }
+    ensures { earliest.new.first ≡ fold block_noted earliest.old.first (flat_map (uses_of_header (file_in raw.now))
+        (headers_of (file_in raw.now))) }
 {
     note_headers(raw, first, raw.theories.as_slice(), earliest);
     note_headers(raw, first, raw.structures.as_slice(), earliest);
@@ -81,7 +85,8 @@ fn note_all_headers<'a>(raw: &'a RawKb, first: &FirstPlaces<'a>, earliest: &mut 
 }
 
 fn note_further_vocabularies(vocabularies: &[RawVocabulary], earliest: &mut Earliest)
-    ensures { earliest.new.first ≡ fold block_noted earliest.old.first (one_of_each 0 (map (λ v. v.place) (map vocabulary_in vocabularies.now))) }
+    ensures { earliest.new.first ≡ fold block_noted earliest.old.first
+        (one_of_each 0 (map (λ v. v.place) (map vocabulary_in vocabularies.now))) }
 {
     for (i, vocabulary) in vocabularies.iter().enumerate() {
         earliest.note_if(i > 0, K::BlockChoice, vocabulary.place);
@@ -89,7 +94,8 @@ fn note_further_vocabularies(vocabularies: &[RawVocabulary], earliest: &mut Earl
 }
 
 fn note_no_vocabulary(raw: &RawKb, earliest: &mut Earliest)
-    ensures { earliest.new.first ≡ block_noted earliest.old.first (stage.wanted (map (λ v. v.name) (map vocabulary_in raw.now.vocabularies)) None raw.now.end) }
+    ensures { earliest.new.first ≡ block_noted earliest.old.first
+        (stage.wanted (map (λ v. v.name) (map vocabulary_in raw.now.vocabularies)) None raw.now.end) }
 {
     let is_none = raw.vocabularies.as_slice().is_empty();
     earliest.note_if(is_none, K::BlockChoice, raw.end);
@@ -104,9 +110,12 @@ fn choose_blocks<'a>(
     earliest: &mut Earliest,
 ) -> Picked
     requires { AreFirstPlaces (header_names (headers_of (file_in raw.now))) first.now }
-    ensures theory { result.theory ≡ unwrap_or (stage.chosen (map (λ t. t.header.name) (file_in raw.now).theories) (word_given theory.entry)) 0 }
-    ensures structure { result.structure ≡ unwrap_or (stage.chosen (header_names (file_in raw.now).structures) (word_given structure.entry)) 0 }
-    ensures noted { earliest.new.first ≡ fold block_noted earliest.old.first (block_uses (file_in raw.now) (word_given theory.entry) (word_given structure.entry)) }
+    ensures theory { result.theory ≡ unwrap_or (stage.chosen (map (λ t. t.header.name) (file_in raw.now).theories)
+        (word_given theory.entry)) 0 }
+    ensures structure { result.structure ≡ unwrap_or (stage.chosen (header_names (file_in raw.now).structures)
+        (word_given structure.entry)) 0 }
+    ensures noted { earliest.new.first ≡ fold block_noted earliest.old.first
+        (block_uses (file_in raw.now) (word_given theory.entry) (word_given structure.entry)) }
 {
     note_all_headers(raw, first, earliest);
     note_further_vocabularies(raw.vocabularies.as_slice(), earliest);
@@ -138,7 +147,8 @@ pub fn pick(
     theory: Option<&str>,
     structure: Option<&str>,
 ) -> Result<Picked, KbError>
-    ensures ok { IfOk result (λ p. IsPicked (file_in raw.now) (word_given theory.entry) (word_given structure.entry) p.theory p.structure) }
+    ensures ok { IfOk result (λ p. IsPicked (file_in raw.now) (word_given theory.entry) (word_given structure.entry)
+        p.theory p.structure) }
     ensures err { IfErr result (FailsWith (file_in raw.now) (word_given theory.entry) (word_given structure.entry)) }
 {
     let Ok(first) = first_places(alloc, raw) else {

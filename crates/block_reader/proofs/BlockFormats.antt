@@ -7,11 +7,15 @@ use Rattle.fo_syntax.specs.declared.raw_blocks.Separator.{Separator}
 use Rattle.fo_syntax.specs.declared.raw_blocks.Separator.TheVariants as sep
 use Rattle.fo_syntax.specs.Terminals.{Symbol, Tok, tok_at, word}
 use Rattle.fo_syntax.specs.Trees.{Name, name}
-use Rattle.fo_syntax.specs.BlockTrees.{Names, names, Positions, positions, Declaration, type_of, constructed, symbol, Vocabulary, vocabulary}
-use Rattle.fo_syntax.specs.BlockSpelling.{put_names, put_positions, from, put_separated, put_declaration, put_vocabulary}
+use Rattle.fo_syntax.specs.BlockTrees.{Names, names, Positions, positions, Declaration, type_of, constructed, symbol}
+use Rattle.fo_syntax.specs.BlockTrees.{Vocabulary, vocabulary}
+use Rattle.fo_syntax.specs.BlockSpelling.{put_names, put_positions, from, put_separated, put_declaration}
+use Rattle.fo_syntax.specs.BlockSpelling.{put_vocabulary}
 use Rattle.block_reader.specs.BlockParts.{next, Anything, No, Is, AWord, EndsDeclaration, EndsArguments}
 use Rattle.block_reader.proofs.Formats.{Format, Into, Apart, sign_format, name_format}
-use Rattle.block_reader.proofs.Plain.{Law, sign_law, name_law, then, then_law, option, Optional, option_law, each, Several, each_law, either, Alternatives, either_law, Same, same_law, behind, behind_law, optional_behind, several_behind}
+use Rattle.block_reader.proofs.Plain.{Law, sign_law, name_law, then, then_law, option, Optional, option_law, each}
+use Rattle.block_reader.proofs.Plain.{Several, each_law, either, Alternatives, either_law, Same, same_law, behind}
+use Rattle.block_reader.proofs.Plain.{behind_law, optional_behind, several_behind}
 
 pub word_no : (s : Option Symbol) → AWord s → (t : Terminal) → No t s
 word_no s w t e = subst AWord e w
@@ -75,7 +79,8 @@ positions_to (positions p ns q) = (p, (ns, q))
 positions_there : (a : Positions) → positions (positions_to a).0 (positions_to a).1.0 (positions_to a).1.1 ≡ a
 positions_there (positions p ns q) = refl
 
-positions_written : (a : Positions) (ts : List Tok) → put_positions a ts ≡ (behind t.Open inner_positions).put (positions_to a) ts
+positions_written : (a : Positions) (ts : List Tok) → put_positions a ts ≡ (behind t.Open inner_positions).put
+    (positions_to a) ts
 positions_written (positions p ns q) ts = refl
 
 pub positions_same : Same positions_format (behind t.Open inner_positions)
@@ -129,7 +134,12 @@ symbol_parts_law = then_law name_law symbol_tail_law (λ s h. tt)
 
 -- the word "from"
 abbrev pub from_format : Format ℕ
-from_format = record { put = λ p ts. tok_at (word from) p ∷ ts; Fine = λ p. Unit {0}; First = λ s. s ≡ Some (word from); Next = Anything }
+from_format = record {
+  put = λ p ts. tok_at (word from) p ∷ ts;
+  Fine = λ p. Unit {0};
+  First = λ s. s ≡ Some (word from);
+  Next = Anything;
+}
 
 pub from_law : Law from_format
 from_law = record {
@@ -157,7 +167,8 @@ separated_first : (a : Separator × ℕ × Name) (ts : List Tok) → Separates (
 separated_first (sep.Comma, p, n) ts = inl refl
 separated_first (sep.Semicolon, p, n) ts = inr refl
 
-separated_only : (a b : Separator × ℕ × Name) (m n : List Tok) → put_separated a m ≡ put_separated b n → (a ≡ b) × (m ≡ n)
+separated_only : (a b : Separator × ℕ × Name) (m n : List Tok) → put_separated a m ≡ put_separated b n
+    → (a ≡ b) × (m ≡ n)
 separated_only (sep.Comma, p, name w q) (sep.Comma, i, name v j) m n e = (cc, cc)
 separated_only (sep.Comma, p, name w q) (sep.Semicolon, i, name v j) m n e = absurd (cc)
 separated_only (sep.Semicolon, p, name w q) (sep.Comma, i, name v j) m n e = absurd (cc)
@@ -243,7 +254,14 @@ type_apart s e (inr (inr (inl f))) = cc
 type_apart s e (inr (inr (inr w))) = word_no s w (t.Outer o.Constructed) e
 
 pub type_alternatives : Alternatives construction isa_format EndsDeclaration
-type_alternatives = record { left = construction_law; right = option_law isa_optional; apart = type_apart; ends_left = λ s h. tt; ends_right = λ s h. h }
+type_alternatives = record {
+  left = construction_law;
+  right = option_law isa_optional;
+  apart = type_apart;
+  ends_left =
+      λ s h. tt;
+  ends_right = λ s h. h;
+}
 
 pub type_tail_law : Law type_tail
 type_tail_law = either_law type_alternatives
@@ -270,13 +288,26 @@ abbrev pub declaration_parts : Format (TypeParts ⊎ SymbolParts)
 declaration_parts = either type_parts symbol_parts EndsDeclaration
 
 pub declaration_alternatives : Alternatives type_parts symbol_parts EndsDeclaration
-declaration_alternatives = record { left = type_parts_law; right = symbol_parts_law; apart = λ s e w. word_no s w (t.Outer o.Type) e; ends_left = λ s h. h; ends_right = λ s h. h }
+declaration_alternatives = record {
+  left = type_parts_law;
+  right = symbol_parts_law;
+  apart =
+      λ s e w. word_no s w (t.Outer o.Type) e;
+  ends_left = λ s h. h;
+  ends_right = λ s h. h;
+}
 
 abbrev pub BeginsDeclaration : Option Symbol → Type 0
 BeginsDeclaration s = Is (t.Outer o.Type) s ⊎ AWord s
 
 abbrev pub declaration_format : Format Declaration
-declaration_format = record { put = put_declaration; Fine = λ x. Unit {0}; First = BeginsDeclaration; Next = EndsDeclaration }
+declaration_format = record {
+  put = put_declaration;
+  Fine = λ x. Unit {0};
+  First = BeginsDeclaration;
+  Next =
+      EndsDeclaration;
+}
 
 abbrev declaration_to : Declaration → TypeParts ⊎ SymbolParts
 declaration_to (type_of p n i) = inl (p, (n, inr i))
@@ -293,12 +324,14 @@ declaration_there (type_of p n i) = refl
 declaration_there (constructed p n c f b m ms e) = refl
 declaration_there (symbol n ps r) = refl
 
-declaration_written : (a : Declaration) (ts : List Tok) → put_declaration a ts ≡ declaration_parts.put (declaration_to a) ts
+declaration_written : (a : Declaration) (ts : List Tok) → put_declaration a ts ≡ declaration_parts.put
+    (declaration_to a) ts
 declaration_written (type_of p n i) ts = refl
 declaration_written (constructed p n c f b m ms e) ts = refl
 declaration_written (symbol n ps r) ts = refl
 
-declaration_back : (b : TypeParts ⊎ SymbolParts) (ts : List Tok) → put_declaration (declaration_from b) ts ≡ declaration_parts.put b ts
+declaration_back : (b : TypeParts ⊎ SymbolParts) (ts : List Tok) → put_declaration (declaration_from b) ts
+    ≡ declaration_parts.put b ts
 declaration_back (inl (p, (n, inr i))) ts = refl
 declaration_back (inl (p, (n, inl (c, (f, (b, (m, (ms, e)))))))) ts = refl
 declaration_back (inr (n, (ps, r))) ts = refl
@@ -325,7 +358,13 @@ declaration_apart s e (inl f) = cc
 declaration_apart s e (inr w) = word_no s w t.CloseBrace e
 
 pub declarations_several : Several declaration_format (Is t.CloseBrace)
-declarations_several = record { law = declaration_law; ends = λ s e. inl e; apart = declaration_apart; follows = λ s h. inr h }
+declarations_several = record {
+  law = declaration_law;
+  ends = λ s e. inl e;
+  apart = declaration_apart;
+  follows =
+      λ s h. inr h;
+}
 
 abbrev pub declarations_format : Format (List Declaration)
 declarations_format = each declaration_format (Is t.CloseBrace)
@@ -352,12 +391,18 @@ abbrev pub vocabulary_parts : Format (ℕ × (Name × (ℕ × (List Declaration 
 vocabulary_parts = behind (t.Outer o.Vocabulary) named_vocabulary
 
 abbrev pub vocabulary_format : Format Vocabulary
-vocabulary_format = record { put = put_vocabulary; Fine = λ x. Unit {0}; First = Is (t.Outer o.Vocabulary); Next = Anything }
+vocabulary_format = record {
+  put = put_vocabulary;
+  Fine = λ x. Unit {0};
+  First = Is (t.Outer o.Vocabulary);
+  Next = Anything;
+}
 
 abbrev vocabulary_to : Vocabulary → ℕ × (Name × (ℕ × (List Declaration × ℕ)))
 vocabulary_to (vocabulary p n b ds e) = (p, (n, (b, (ds, e))))
 
-vocabulary_there : (a : Vocabulary) → vocabulary (vocabulary_to a).0 (vocabulary_to a).1.0 (vocabulary_to a).1.1.0 (vocabulary_to a).1.1.1.0 (vocabulary_to a).1.1.1.1 ≡ a
+vocabulary_there : (a : Vocabulary) → vocabulary (vocabulary_to a).0 (vocabulary_to a).1.0 (vocabulary_to a).1.1.0
+    (vocabulary_to a).1.1.1.0 (vocabulary_to a).1.1.1.1 ≡ a
 vocabulary_there (vocabulary p n b ds e) = refl
 
 vocabulary_written : (a : Vocabulary) (ts : List Tok) → put_vocabulary a ts ≡ vocabulary_parts.put (vocabulary_to a) ts

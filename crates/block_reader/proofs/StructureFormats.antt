@@ -1,5 +1,6 @@
 -- The parts of structures as formats, and their laws.
-use Rattle.std.proofs.Common.{◌≡◌, ℕ, List, [], ◌∷◌, ◌++◌, Bool, true, Option, Some, None, ◌⊎◌, inl, inr, refl, sym, ap, ap₂, subst, ◌∙◌}
+use Rattle.std.proofs.Common.{◌≡◌, ℕ, List, [], ◌∷◌, ◌++◌, Bool, true, Option, Some, None, ◌⊎◌, inl, inr, refl, sym, ap}
+use Rattle.std.proofs.Common.{ap₂, subst, ◌∙◌}
 use Rattle.fo_syntax.specs.declared.terminal.Terminal.TheVariants as t
 use Rattle.fo_syntax.specs.declared.terminal.Outer.{Outer}
 use Rattle.fo_syntax.specs.declared.terminal.Outer.TheVariants as o
@@ -7,12 +8,18 @@ use Rattle.fo_syntax.specs.declared.terminal.Adding.TheVariants.{Minus}
 use Rattle.fo_syntax.specs.declared.terminal.Comparison.TheVariants as cmp
 use Rattle.fo_syntax.specs.Terminals.{Symbol, Tok, mark, word, sign}
 use Rattle.fo_syntax.specs.Trees.{Name, name}
-use Rattle.fo_syntax.specs.BlockTrees.{Header, header, Element, named, number, below_zero, RowItem, item, RowItems, items, Row, plain, bracketed, only, Rows, rows, Value, truth_value, element_value, table, Mark, closed_mark, open_mark, Entry, entry, Structure, structure}
-use Rattle.fo_syntax.specs.BlockSpelling.{put_option, put_each, put_sign, put_header, put_element, put_item, put_items, put_row, put_rows, put_value, put_equal, put_entry, put_structure}
+use Rattle.fo_syntax.specs.BlockTrees.{Header, header, Element, named, number, below_zero, RowItem, item, RowItems}
+use Rattle.fo_syntax.specs.BlockTrees.{items, Row, plain, bracketed, only, Rows, rows, Value, truth_value}
+use Rattle.fo_syntax.specs.BlockTrees.{element_value, table, Mark, closed_mark, open_mark, Entry, entry, Structure}
+use Rattle.fo_syntax.specs.BlockTrees.{structure}
+use Rattle.fo_syntax.specs.BlockSpelling.{put_option, put_each, put_sign, put_header, put_element, put_item, put_items}
+use Rattle.fo_syntax.specs.BlockSpelling.{put_row, put_rows, put_value, put_equal, put_entry, put_structure}
 use Rattle.block_reader.specs.BlockReads.{put_row_tails}
 use Rattle.block_reader.specs.BlockParts.{next, Anything, No, Is, AWord, EndsRow, EndsItems, EndsItem}
 use Rattle.block_reader.proofs.Formats.{Format, Into, Apart, sign_format, name_format, narrowed}
-use Rattle.block_reader.proofs.Plain.{Law, sign_law, name_law, then, then_law, option, Optional, option_law, each, Several, each_law, either, Alternatives, either_law, Same, same_law, narrowed_law, behind, behind_law, optional_behind, several_behind}
+use Rattle.block_reader.proofs.Plain.{Law, sign_law, name_law, then, then_law, option, Optional, option_law, each}
+use Rattle.block_reader.proofs.Plain.{Several, each_law, either, Alternatives, either_law, Same, same_law, narrowed_law}
+use Rattle.block_reader.proofs.Plain.{behind, behind_law, optional_behind, several_behind}
 use Rattle.block_reader.proofs.BlockFormats.{word_no}
 
 -- ---- elements
@@ -213,7 +220,13 @@ abbrev pub other_rows : Format (Bracketed ⊎ (ℕ × Element))
 other_rows = either bracketed_parts only_format EndsRow
 
 pub other_alternatives : Alternatives bracketed_parts only_format EndsRow
-other_alternatives = record { left = bracketed_law; right = only_law; apart = bracket_apart; ends_left = λ s h. h; ends_right = λ s h. h }
+other_alternatives = record {
+  left = bracketed_law;
+  right = only_law;
+  apart = bracket_apart;
+  ends_left = λ s h. h;
+  ends_right = λ s h. h;
+}
 
 pub element_no : (s : Option Symbol) → BeginsElement s → (Is t.Open s ⊎ Is (t.Outer o.To) s) → ⊥
 element_no s h (inl e) = subst BeginsElement e h
@@ -226,7 +239,14 @@ abbrev pub row_parts : Format RowParts
 row_parts = either plain_parts other_rows EndsRow
 
 pub row_alternatives : Alternatives plain_parts other_rows EndsRow
-row_alternatives = record { left = plain_law; right = either_law other_alternatives; apart = element_no; ends_left = λ s h. h; ends_right = λ s h. h }
+row_alternatives = record {
+  left = plain_law;
+  right = either_law other_alternatives;
+  apart = element_no;
+  ends_left =
+      λ s h. h;
+  ends_right = λ s h. h;
+}
 
 abbrev pub BeginsRow : Option Symbol → Type 0
 BeginsRow s = BeginsElement s ⊎ (Is t.Open s ⊎ Is (t.Outer o.To) s)
@@ -296,7 +316,8 @@ close_no_semicolon : Into (Is t.CloseBrace) (No (t.Outer o.Semicolon))
 close_no_semicolon s e f = cc
 
 pub row_tails_several : Several row_tail (Is t.CloseBrace)
-row_tails_several = several_behind (t.Outer o.Semicolon) (option_law row_optional) (λ s e. inr e) close_no_semicolon (inl refl)
+row_tails_several = several_behind (t.Outer o.Semicolon) (option_law row_optional)
+    (λ s e. inr e) close_no_semicolon (inl refl)
 
 abbrev pub RowTails : Type 0
 RowTails = List (ℕ × Row) × Option ℕ
@@ -312,13 +333,16 @@ abbrev pub tails_to : List (ℕ × Row) → Option ℕ → List (ℕ × Option R
 tails_to [] l = lone l
 tails_to (x ∷ xs) l = with_row x ∷ tails_to xs l
 
-lone_written : (l : Option ℕ) (ts : List Tok) → put_option (put_sign (t.Outer o.Semicolon)) l ts ≡ put_each row_tail.put (lone l) ts
+lone_written : (l : Option ℕ) (ts : List Tok) → put_option (put_sign (t.Outer o.Semicolon)) l ts
+    ≡ put_each row_tail.put (lone l) ts
 lone_written None ts = refl
 lone_written (Some p) ts = refl
 
-pub tails_written : (xs : List (ℕ × Row)) (l : Option ℕ) (ts : List Tok) → put_row_tails (xs, l) ts ≡ put_each row_tail.put (tails_to xs l) ts
+pub tails_written : (xs : List (ℕ × Row)) (l : Option ℕ) (ts : List Tok) → put_row_tails (xs, l) ts
+    ≡ put_each row_tail.put (tails_to xs l) ts
 tails_written [] l ts = lone_written l ts
-tails_written (x ∷ xs) l ts = ap (λ (us : List Tok). sign (t.Outer o.Semicolon) x.0 ∷ put_row x.1 us) (tails_written xs l ts)
+tails_written (x ∷ xs) l ts = ap (λ (us : List Tok). sign (t.Outer o.Semicolon) x.0 ∷ put_row x.1 us)
+    (tails_written xs l ts)
 
 abbrev pub head_place : List (ℕ × Option Row) → ℕ
 head_place [] = 0
@@ -352,16 +376,19 @@ abbrev pub row_tails : Format RowTails
 row_tails = record { put = put_row_tails; Fine = λ x. Unit {0}; First = EndsRow; Next = Is t.CloseBrace }
 
 tails_appends : (a : RowTails) (x y : List Tok) → put_row_tails a (x ++ y) ≡ put_row_tails a x ++ y
-tails_appends (rs, l) x y = tails_written rs l (x ++ y) ∙ (each_law row_tails_several).law.appends (tails_to rs l) x y ∙ ap (λ (ts : List Tok). ts ++ y) (sym (tails_written rs l x))
+tails_appends (rs, l) x y = tails_written rs l (x ++ y) ∙ (each_law row_tails_several).law.appends (tails_to rs l) x y
+    ∙ ap (λ (ts : List Tok). ts ++ y) (sym (tails_written rs l x))
 
 tails_first : (a : RowTails) (ts : List Tok) → Is t.CloseBrace (next ts) → EndsRow (next (put_row_tails a ts))
 tails_first ([], None) ts n = inr n
 tails_first ([], Some p) ts n = inl refl
 tails_first (x ∷ xs, l) ts n = inl refl
 
-tails_law_only : (a b : RowTails) (m n : List Tok) → Is t.CloseBrace (next m) → Is t.CloseBrace (next n) → put_row_tails a m ≡ put_row_tails b n → (a ≡ b) × (m ≡ n)
+tails_law_only : (a b : RowTails) (m n : List Tok) → Is t.CloseBrace (next m) → Is t.CloseBrace (next n)
+    → put_row_tails a m ≡ put_row_tails b n → (a ≡ b) × (m ≡ n)
 tails_law_only (xs, l) (ys, k) m n z w e =
-    let r = (each_law row_tails_several).law.only (tails_to xs l) (tails_to ys k) m n tt tt z w (sym (tails_written xs l m) ∙ e ∙ tails_written ys k n) in
+    let r = (each_law row_tails_several).law.only (tails_to xs l) (tails_to ys k) m n tt tt z w
+    (sym (tails_written xs l m) ∙ e ∙ tails_written ys k n) in
     let f = tails_only xs ys l k r.0 in
     (ap₂ (λ (a : List (ℕ × Row)) (b : Option ℕ). (a, b)) f.0 f.1, r.1)
 
@@ -432,9 +459,15 @@ ATruth (Some (mark (t.Truth b))) = Unit {0}
 ATruth _ = ⊥
 
 abbrev pub truth_format : Format (Bool × ℕ)
-truth_format = record { put = λ x ts. sign (t.Truth x.0) x.1 ∷ ts; Fine = λ x. Unit {0}; First = ATruth; Next = Anything }
+truth_format = record {
+  put = λ x ts. sign (t.Truth x.0) x.1 ∷ ts;
+  Fine = λ x. Unit {0};
+  First = ATruth;
+  Next = Anything;
+}
 
-truth_only : (a b : Bool × ℕ) (m n : List Tok) → sign (t.Truth a.0) a.1 ∷ m ≡ sign (t.Truth b.0) b.1 ∷ n → (a ≡ b) × (m ≡ n)
+truth_only : (a b : Bool × ℕ) (m n : List Tok) → sign (t.Truth a.0) a.1 ∷ m ≡ sign (t.Truth b.0) b.1 ∷ n
+    → (a ≡ b) × (m ≡ n)
 truth_only (a, p) (b, q) m n e =
     let f : a ≡ b = cc in
     let g : p ≡ q = cc in
@@ -459,7 +492,14 @@ abbrev pub other_values : Format (Element ⊎ (ℕ × (Option Rows × ℕ)))
 other_values = either element_format table_parts Anything
 
 pub other_value_alternatives : Alternatives element_format table_parts Anything
-other_value_alternatives = record { left = element_law; right = behind_law t.OpenBrace inner_table_law; apart = element_no_brace; ends_left = λ s h. h; ends_right = λ s h. h }
+other_value_alternatives = record {
+  left = element_law;
+  right = behind_law t.OpenBrace inner_table_law;
+  apart =
+      element_no_brace;
+  ends_left = λ s h. h;
+  ends_right = λ s h. h;
+}
 
 truth_apart : Apart ATruth (λ s. BeginsElement s ⊎ Is t.OpenBrace s)
 truth_apart None h k = h
@@ -475,7 +515,13 @@ abbrev pub value_parts : Format ValueParts
 value_parts = either truth_format other_values Anything
 
 pub value_alternatives : Alternatives truth_format other_values Anything
-value_alternatives = record { left = truth_law; right = either_law other_value_alternatives; apart = truth_apart; ends_left = λ s h. h; ends_right = λ s h. h }
+value_alternatives = record {
+  left = truth_law;
+  right = either_law other_value_alternatives;
+  apart = truth_apart;
+  ends_left = λ s h. h;
+  ends_right = λ s h. h;
+}
 
 abbrev pub BeginsValue : Option Symbol → Type 0
 BeginsValue s = ATruth s ⊎ (BeginsElement s ⊎ Is t.OpenBrace s)
@@ -543,7 +589,13 @@ greater_apart : Apart (Is (t.Compare cmp.Greater)) (Is (t.Compare cmp.AtLeast))
 greater_apart s e f = cc
 
 pub closing_alternatives : Alternatives apart_equal (sign_format (t.Compare cmp.AtLeast)) Anything
-closing_alternatives = record { left = apart_equal_law; right = sign_law (t.Compare cmp.AtLeast); apart = greater_apart; ends_left = λ s h. h; ends_right = λ s h. h }
+closing_alternatives = record {
+  left = apart_equal_law;
+  right = sign_law (t.Compare cmp.AtLeast);
+  apart = greater_apart;
+  ends_left = λ s h. h;
+  ends_right = λ s h. h;
+}
 
 abbrev pub named_mark : Format (Name × Closing)
 named_mark = then name_format closing_format
@@ -564,7 +616,14 @@ equal_apart : Apart (Is (t.Compare cmp.Equal)) (Is (t.Compare cmp.Less))
 equal_apart s e f = cc
 
 pub equal_alternatives : Alternatives (sign_format (t.Compare cmp.Equal)) mark_parts Anything
-equal_alternatives = record { left = sign_law (t.Compare cmp.Equal); right = behind_law (t.Compare cmp.Less) named_mark_law; apart = equal_apart; ends_left = λ s h. h; ends_right = λ s h. h }
+equal_alternatives = record {
+  left = sign_law (t.Compare cmp.Equal);
+  right =
+      behind_law (t.Compare cmp.Less) named_mark_law;
+  apart = equal_apart;
+  ends_left = λ s h. h;
+  ends_right = λ s h. h;
+}
 
 abbrev pub Equal : Type 0
 Equal = Option Mark × ℕ
@@ -661,7 +720,12 @@ pub entry_law : Law entry_format
 entry_law = same_law entry_same entry_parts_law
 
 pub entries_several : Several entry_format (Is t.CloseBrace)
-entries_several = record { law = entry_law; ends = λ s h. tt; apart = λ s e w. word_no s w t.CloseBrace e; follows = λ s h. tt }
+entries_several = record {
+  law = entry_law;
+  ends = λ s h. tt;
+  apart = λ s e w. word_no s w t.CloseBrace e;
+  follows = λ s h. tt;
+}
 
 abbrev pub entries_format : Format (List Entry)
 entries_format = each entry_format (Is t.CloseBrace)
@@ -701,7 +765,8 @@ header_format w = record { put = put_header w; Fine = λ x. Unit {0}; First = Is
 abbrev header_to : Header → ℕ × (Name × (ℕ × (Name × ℕ)))
 header_to (header p n c v b) = (p, (n, (c, (v, b))))
 
-header_there : (a : Header) → header (header_to a).0 (header_to a).1.0 (header_to a).1.1.0 (header_to a).1.1.1.0 (header_to a).1.1.1.1 ≡ a
+header_there : (a : Header) → header (header_to a).0 (header_to a).1.0 (header_to a).1.1.0 (header_to a).1.1.1.0
+    (header_to a).1.1.1.1 ≡ a
 header_there (header p n c v b) = refl
 
 header_written : (w : Outer) (a : Header) (ts : List Tok) → put_header w a ts ≡ (header_parts w).put (header_to a) ts
@@ -730,7 +795,12 @@ abbrev pub structure_parts : Format (Header × (List Entry × ℕ))
 structure_parts = then (header_format o.Structure) closed_entries
 
 abbrev pub structure_format : Format Structure
-structure_format = record { put = put_structure; Fine = λ x. Unit {0}; First = Is (t.Outer o.Structure); Next = Anything }
+structure_format = record {
+  put = put_structure;
+  Fine = λ x. Unit {0};
+  First = Is (t.Outer o.Structure);
+  Next = Anything;
+}
 
 abbrev structure_to : Structure → Header × (List Entry × ℕ)
 structure_to (structure h es e) = (h, (es, e))

@@ -80,22 +80,29 @@ EndsHead s = Is (t.Outer o.If) s ⊎ Is (t.Outer o.Dot) s
 
 -- No A is a prefix of another one, if what follows it is as Next says: the longest at a place is the only one there.
 abbrev pub OneAtAPlace : {A : Type 0} → (A → List Tok → List Tok) → (A → Type 0) → (Option Symbol → Type 0) → Type 0
-OneAtAPlace {A} put Fine Next = (a b : A) (m n : List Tok) → Fine a → Fine b → Next (next m) → Next (next n) → put a m ≡ put b n → (a ≡ b) × (m ≡ n)
+OneAtAPlace {A} put Fine Next = (a b : A) (m n : List Tok) → Fine a → Fine b → Next (next m) → Next (next n)
+    → put a m ≡ put b n → (a ≡ b) × (m ≡ n)
 
 -- The first of rest is the first token with which no text of an A goes on, if what follows it is as Next says.
-pub record StuckIn {A : Type 0} (put : A → List Tok → List Tok) (Fine : A → Type 0) (Next : Option Symbol → Type 0) (ts rest : List Tok) : Type 0 where
+pub record StuckIn {A : Type 0} (put : A → List Tok → List Tok) (Fine : A → Type 0) (Next : Option Symbol → Type 0)
+    (ts rest : List Tok) : Type 0 where
   pub front : List Tok
   pub split : ts ≡ front ++ rest
-  pub dead : (a : A) (more after : List Tok) → SameHead rest more → Fine a → Next (next after) → front ++ more ≡ put a after → ⊥
+  pub dead : (a : A) (more after : List Tok) → SameHead rest more → Fine a → Next (next after)
+      → front ++ more ≡ put a after → ⊥
   pub viable : (after : List Tok) → (a : A) × (more : List Tok) × Fine a × (front ++ more ≡ put a after)
 
-abbrev pub StuckAt : {A : Type 0} → (A → List Tok → List Tok) → (A → Type 0) → (Option Symbol → Type 0) → List Tok → ℕ → ReadError → Type 0
+abbrev pub StuckAt : {A : Type 0} → (A → List Tok → List Tok) → (A → Type 0) → (Option Symbol → Type 0) → List Tok → ℕ
+    → ReadError → Type 0
 StuckAt put Fine Next ts len Memory = Unit {0}
-StuckAt put Fine Next ts len (Stuck place) = (rest : List Tok) × StuckIn put Fine Next ts rest × (place ≡ place_of rest len)
+StuckAt put Fine Next ts len (Stuck place) = (rest : List Tok) × StuckIn put Fine Next ts rest
+    × (place ≡ place_of rest len)
 
 -- an A and the tokens after it, which are as Next says; or where its text is stuck
-abbrev pub PartRead : {R A : Type 0} → (R → A) → (A → List Tok → List Tok) → (A → Type 0) → (Option Symbol → Type 0) → List Tok → ℕ → Result (R × Bor (List Item)) ReadError → Type 0
-PartRead view put Fine Next ts len (Ok p) = (ts ≡ put (view p.0) (toks p.1.now)) × Fine (view p.0) × Next (next (toks p.1.now))
+abbrev pub PartRead : {R A : Type 0} → (R → A) → (A → List Tok → List Tok) → (A → Type 0) → (Option Symbol → Type 0)
+    → List Tok → ℕ → Result (R × Bor (List Item)) ReadError → Type 0
+PartRead view put Fine Next ts len (Ok p) = (ts ≡ put (view p.0) (toks p.1.now)) × Fine (view p.0)
+    × Next (next (toks p.1.now))
 PartRead view put Fine Next ts len (Err e) = StuckAt put Fine Next ts len e
 
 -- refused, since what comes is not as P says
@@ -109,6 +116,7 @@ EndsAs P ts len (Ok u) = P (next ts)
 EndsAs P ts len (Err e) = Absent P ts len e
 
 -- a token that P allows, and those after it; or it is refused
-abbrev pub TokenRead : {R A : Type 0} → (R → A) → (A → List Tok → List Tok) → (Option Symbol → Type 0) → List Tok → ℕ → Result (R × Bor (List Item)) ReadError → Type 0
+abbrev pub TokenRead : {R A : Type 0} → (R → A) → (A → List Tok → List Tok) → (Option Symbol → Type 0) → List Tok → ℕ
+    → Result (R × Bor (List Item)) ReadError → Type 0
 TokenRead view put P ts len (Ok p) = ts ≡ put (view p.0) (toks p.1.now)
 TokenRead view put P ts len (Err e) = Absent P ts len e

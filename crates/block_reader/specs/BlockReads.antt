@@ -35,9 +35,16 @@ use Rattle.token_reader.specs.Binders.{Whole}
 use Rattle.fo_syntax.specs.Spelling.{put_name}
 use Rattle.fo_syntax.specs.View.{name_view}
 use Rattle.fo_syntax.specs.BlockTrees.{Row, Value, Mark}
-use Rattle.fo_syntax.specs.BlockSpelling.{put_option, put_each, put_behind, put_sign, put_positions, from, put_separated, put_declaration, put_vocabulary, put_header, put_element, put_item, put_items, put_to, put_row, put_rows, put_value, put_equal, put_entry, put_structure}
-use Rattle.fo_syntax.specs.BlockView.{name_tail_view, positions_view, element_tail_view, declaration_view, vocabulary_view, header_view, element_view, item_view, item_tail_view, items_view, to_view, row_view, row_tail_view, rows_view, mark_view, value_view, entry_view, structure_view}
-use Rattle.block_reader.specs.BlockParts.{PartRead, TokenRead, Anything, No, Is, AWord, EndsDeclaration, EndsArguments, EndsItem, EndsItems, EndsRow}
+use Rattle.fo_syntax.specs.BlockSpelling.{put_option, put_each, put_behind, put_sign, put_positions, from}
+use Rattle.fo_syntax.specs.BlockSpelling.{put_separated, put_declaration, put_vocabulary, put_header, put_element}
+use Rattle.fo_syntax.specs.BlockSpelling.{put_item, put_items, put_to, put_row, put_rows, put_value, put_equal}
+use Rattle.fo_syntax.specs.BlockSpelling.{put_entry, put_structure}
+use Rattle.fo_syntax.specs.BlockView.{name_tail_view, positions_view, element_tail_view, declaration_view}
+use Rattle.fo_syntax.specs.BlockView.{vocabulary_view, header_view, element_view, item_view, item_tail_view, items_view}
+use Rattle.fo_syntax.specs.BlockView.{to_view, row_view, row_tail_view, rows_view, mark_view, value_view, entry_view}
+use Rattle.fo_syntax.specs.BlockView.{structure_view}
+use Rattle.block_reader.specs.BlockParts.{PartRead, TokenRead, Anything, No, Is, AWord, EndsDeclaration, EndsArguments}
+use Rattle.block_reader.specs.BlockParts.{EndsItem, EndsItems, EndsRow}
 
 -- a place, or what it stands for
 abbrev pub itself : {A : Type 0} → A → A
@@ -116,7 +123,8 @@ abbrev pub row_tails_view : List RawRowTail × Option ℕ → List (ℕ × Row) 
 row_tails_view x = (map row_tail_view x.0, x.1)
 
 abbrev pub put_row_tails : List (ℕ × Row) × Option ℕ → List Tok → List Tok
-put_row_tails x ts = put_each (put_behind (t.Outer o.Semicolon) put_row) x.0 (put_option (put_sign (t.Outer o.Semicolon)) x.1 ts)
+put_row_tails x ts = put_each (put_behind (t.Outer o.Semicolon) put_row) x.0
+    (put_option (put_sign (t.Outer o.Semicolon)) x.1 ts)
 
 abbrev pub RowTailsRead : List Tok → ℕ → Result ((List RawRowTail × Option ℕ) × Bor (List Item)) ReadError → Type 0
 RowTailsRead = PartRead row_tails_view put_row_tails Whole (Is t.CloseBrace)

@@ -2,7 +2,8 @@
 ghost use Rattle.std.specs.Prelude.{◌≡◌, ◌∷◌, ◌≤◌, ◌<◌, length, IfOk, IfSome, IfNone, true, false};
 ghost use Rattle.fo_syntax.specs.Terminals.{toks};
 ghost use Rattle.fo_syntax.specs.Terminals as terminals;
-ghost use Rattle.block_reader.specs.BlockParts.{next, No, Is, IsSign, EndsAs, EndsDeclaration, EndsArguments, EndsItem, EndsRow};
+ghost use Rattle.block_reader.specs.BlockParts.{next, No, Is, IsSign, EndsAs, EndsDeclaration, EndsArguments, EndsItem};
+ghost use Rattle.block_reader.specs.BlockParts.{EndsRow};
 ghost use Rattle.block_reader.specs.BlockReads.{SignRead, WordRead};
 ghost use Rattle.block_reader.specs.BlockParts.{EndsHead};
 ghost use Rattle.fo_syntax.specs.declared.terminal.Terminal.TheVariants as t;

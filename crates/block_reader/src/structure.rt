@@ -7,7 +7,9 @@ ghost use Rattle.fo_syntax.specs.BlockView.{mark_of, mark_view, rows_view};
 ghost use Rattle.fo_syntax.specs.Terminals.{toks};
 ghost use Rattle.fo_syntax.specs.Terminals as terminals;
 ghost use Rattle.block_reader.specs.BlockParts.{next, Is, EndsItem, EndsRow, NoTruth};
-ghost use Rattle.block_reader.specs.BlockReads.{HeaderRead, ElementRead, ItemRead, ItemTailsRead, ItemsRead, ArrowRead, RowRead, RowTailsRead, RowsRead, ValueRead, EqualRead, EntryRead, EntriesRead, StructureRead, table_of};
+ghost use Rattle.block_reader.specs.BlockReads.{HeaderRead, ElementRead, ItemRead, ItemTailsRead, ItemsRead, ArrowRead};
+ghost use Rattle.block_reader.specs.BlockReads.{RowRead, RowTailsRead, RowsRead, ValueRead, EqualRead, EntryRead};
+ghost use Rattle.block_reader.specs.BlockReads.{EntriesRead, StructureRead, table_of};
 ghost use Rattle.fo_syntax.specs.declared.terminal.Terminal.TheVariants as t;
 ghost use Rattle.fo_syntax.specs.declared.terminal.Outer.TheVariants as o;
 ghost use Rattle.token_reader.specs.Parts.{NoInteger};
@@ -178,7 +180,8 @@ fn lone<'a>(alloc: Global, place: usize, items: &'a [Item<'a>], end: usize) -> F
 
 // A row that begins with an item.
 fn plain<'a>(alloc: Global, items: &'a [Item<'a>], end: usize) -> Found<'a, RawRow>
-    ensures reads { (Is t.Open (next (toks items.now)) → ⊥) → (Is (t.Outer o.To) (next (toks items.now)) → ⊥) → RowRead (toks items.now) end result }
+    ensures reads { (Is t.Open (next (toks items.now)) → ⊥) → (Is (t.Outer o.To) (next (toks items.now)) → ⊥)
+        → RowRead (toks items.now) end result }
     ensures shorter { IfOk result (λ p. length p.1.now < length items.now) }
 {
     let (found, rest) = row_items(alloc, items, end)?;

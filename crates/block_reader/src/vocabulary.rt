@@ -9,7 +9,9 @@ ghost use Rattle.fo_syntax.specs.BlockTrees as tree;
 ghost use Rattle.fo_syntax.specs.BlockView.{positions_view, declaration_view};
 ghost use Rattle.fo_syntax.specs.BlockSpelling.{separator};
 ghost use Rattle.block_reader.specs.BlockParts.{next, Is, IsSign, EndsDeclaration, NoSeparator};
-ghost use Rattle.block_reader.specs.BlockReads.{NameTailsRead, PositionsRead, ArgumentsOf, NamedRead, ElementTailsRead, DeclarationRead, DeclarationsRead, VocabularyRead, FromRead, placed_name};
+ghost use Rattle.block_reader.specs.BlockReads.{NameTailsRead, PositionsRead, ArgumentsOf, NamedRead, ElementTailsRead};
+ghost use Rattle.block_reader.specs.BlockReads.{DeclarationRead, DeclarationsRead, VocabularyRead, FromRead};
+ghost use Rattle.block_reader.specs.BlockReads.{placed_name};
 ghost use Rattle.fo_syntax.specs.declared.terminal.Terminal.TheVariants as t;
 ghost use Rattle.fo_syntax.specs.declared.terminal.Outer.TheVariants as o;
 
@@ -175,7 +177,8 @@ fn construction<'a>(
     items: &'a [Item<'a>],
     end: usize,
 ) -> Found<'a, RawDeclaration>
-    ensures reads { DeclarationRead (terminals.sign (t.Outer o.Type) place ∷ put_name (name_view named) (terminals.sign (t.Outer o.Constructed) constructed ∷ toks items.now)) end result }
+    ensures reads { DeclarationRead (terminals.sign (t.Outer o.Type) place ∷ put_name (name_view named)
+        (terminals.sign (t.Outer o.Constructed) constructed ∷ toks items.now)) end result }
     ensures shorter { IfOk result (λ p. length p.1.now ≤ length items.now) }
 {
     let (from, rest) = from_word(items, end)?;
@@ -230,7 +233,8 @@ fn symbol_of(
     arguments: Option<RawPositions>,
     given: Option<(usize, RawName)>,
 ) -> RawDeclaration
-    ensures { declaration_view result ≡ tree.symbol (name_view name) (option_map positions_view arguments) (option_map placed_name given) }
+    ensures { declaration_view result ≡ tree.symbol (name_view name) (option_map positions_view arguments)
+        (option_map placed_name given) }
 {
     let result = match given {
         Some((place, name)) => Some(RawResult { place, name }),

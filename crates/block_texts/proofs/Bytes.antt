@@ -5,16 +5,22 @@ use Rattle.kb_logic.specs.declared.elements.Elem.TheVariants.{Named, Num}
 use Rattle.printed_tokens.specs.Written.{Part, gap, text_with, text_of}
 use Rattle.literal_printer.specs.Texts.{elem_text, row_text}
 use Rattle.block_texts.specs.Entries.{truth, element, table}
-use Rattle.block_texts.specs.Texts.{to_text, row_text_of, next_row_text, rows_text, value_text, mark_text, entry_text, text_of_block}
-use Rattle.block_texts.specs.Parts.{sign, space, PlainBlock, write_each, write_elem, write_next, write_items, write_to, write_row, write_next_row, write_rows, write_value, write_mark, write_entry, write_block}
+use Rattle.block_texts.specs.Texts.{to_text, row_text_of, next_row_text, rows_text, value_text, mark_text, entry_text}
+use Rattle.block_texts.specs.Texts.{text_of_block}
+use Rattle.block_texts.specs.Parts.{sign, space, PlainBlock, write_each, write_elem, write_next, write_items, write_to}
+use Rattle.block_texts.specs.Parts.{write_row, write_next_row, write_rows, write_value, write_mark, write_entry}
+use Rattle.block_texts.specs.Parts.{write_block}
 
 abbrev IsText : {X : Type 0} → (X → List Part → List Part) → (X → List ℕ) → Type 0
-IsText {X = X} write text = (x : X) (rest : List Part) (z : List ℕ) → text_with (write x rest) z ≡ text x ++ text_with rest z
+IsText {X = X} write text = (x : X) (rest : List Part) (z : List ℕ) → text_with (write x rest) z
+    ≡ text x ++ text_with rest z
 
-each_text : {X : Type 0} (write : X → List Part → List Part) (text : X → List ℕ) → IsText write text → IsText (write_each write) (flat_map text)
+each_text : {X : Type 0} (write : X → List Part → List Part) (text : X → List ℕ) → IsText write text
+    → IsText (write_each write) (flat_map text)
 each_text write text is [] rest z = refl
 each_text write text is (x ∷ xs) rest z =
-    is x (write_each write xs rest) z ∙ ap (λ (t : List ℕ). text x ++ t) (each_text write text is xs rest z) ∙ sym (append_assoc (text x) (flat_map text xs) (text_with rest z))
+    is x (write_each write xs rest) z ∙ ap (λ (t : List ℕ). text x ++ t) (each_text write text is xs rest z)
+    ∙ sym (append_assoc (text x) (flat_map text xs) (text_with rest z))
 
 elem_bytes : IsText write_elem elem_text
 elem_bytes (Named n) rest z = refl
@@ -54,7 +60,8 @@ value_bytes : IsText write_value value_text
 value_bytes (truth b) rest z = refl
 value_bytes (element x) rest z = elem_bytes x rest z
 value_bytes (table rs) rest z =
-    ap (λ (t : List ℕ). codes "{" ++ t) (rows_bytes rs (sign (codes "}") ∷ rest) z ∙ sym (append_assoc (rows_text rs) (codes "}") (text_with rest z)))
+    ap (λ (t : List ℕ). codes "{" ++ t) (rows_bytes rs (sign (codes "}") ∷ rest) z
+    ∙ sym (append_assoc (rows_text rs) (codes "}") (text_with rest z)))
 
 mark_bytes : IsText write_mark mark_text
 mark_bytes None rest z = refl

@@ -1,5 +1,6 @@
 -- The entries with which a partial structure is written: what a structure block says, without places.
-use Rattle.std.specs.Prelude.{ℕ, List, [], ◌∷◌, ◌++◌, Bool, true, false, ◌||◌, Option, Some, None, map, filter, flat_map, codes, if◌then◌else◌}
+use Rattle.std.specs.Prelude.{ℕ, List, [], ◌∷◌, ◌++◌, Bool, true, false, ◌||◌, Option, Some, None, map, filter}
+use Rattle.std.specs.Prelude.{flat_map, codes, if◌then◌else◌}
 use Rattle.std.specs.List.{enumerate_from, list_all}
 use Rattle.kb_logic.specs.declared.elements.Elem.{Elem}
 use Rattle.kb_logic.specs.declared.vocabularies.TypeDecl.{TypeDecl}
@@ -134,4 +135,5 @@ symbol_entries k s =
 -- in order of declaration
 abbrev pub entries_of : Vocabulary → KnownAtoms → List PlainEntry
 entries_of v k =
-    flat_map (type_entries k.domains) (enumerate_from 0 v.types) ++ flat_map (symbol_entries k) (enumerate_from 0 k.symbols)
+    flat_map (type_entries k.domains) (enumerate_from 0 v.types) ++ flat_map (symbol_entries k)
+    (enumerate_from 0 k.symbols)

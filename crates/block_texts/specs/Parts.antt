@@ -65,9 +65,11 @@ write_mark (Some m) rest = sign (codes "<") ∷ piece Word m ∷ sign (codes ">"
 -- `  P<ct> = {a,b; c,d}`
 abbrev pub write_entry : PlainEntry → List Part → List Part
 write_entry e rest =
-    space ∷ space ∷ piece Word e.word ∷ write_mark e.mark (space ∷ sign (codes "=") ∷ space ∷ write_value e.value (gap 10 ∷ rest))
+    space ∷ space ∷ piece Word e.word ∷ write_mark e.mark (space ∷ sign (codes "=") ∷ space ∷ write_value e.value
+    (gap 10 ∷ rest))
 
 abbrev pub write_block : PlainBlock → List Part → List Part
 write_block b rest =
-    piece Word (codes "structure") ∷ space ∷ piece Word b.name ∷ space ∷ sign (codes ":") ∷ space ∷ piece Word b.of ∷ space
+    piece Word (codes "structure") ∷ space ∷ piece Word b.name ∷ space ∷ sign (codes ":") ∷ space
+    ∷ piece Word b.of ∷ space
     ∷ sign (codes "{") ∷ gap 10 ∷ write_each write_entry b.entries (sign (codes "}") ∷ gap 10 ∷ rest)

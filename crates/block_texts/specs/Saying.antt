@@ -5,7 +5,8 @@ use Rattle.kb_logic.specs.Structures.{EachWith}
 use Rattle.fo_syntax.specs.Trees.{Name}
 use Rattle.fo_syntax.specs.BlockTrees as raw
 use Rattle.reading_stages.specs.Names.{text_of}
-use Rattle.reading_stages.specs.DataEntries.{WrittenRow, element_of, mark_name, written_rows, is_truth, is_table, entries_in}
+use Rattle.reading_stages.specs.DataEntries.{WrittenRow, element_of, mark_name, written_rows, is_truth, is_table}
+use Rattle.reading_stages.specs.DataEntries.{entries_in}
 use Rattle.reading_stages.specs.DataFacts.{single_element}
 use Rattle.block_texts.specs.Entries.{PlainRow, PlainValue, truth, element, table, PlainEntry}
 use Rattle.block_texts.specs.Parts.{PlainBlock}
@@ -40,7 +41,8 @@ says_table (table rows) = true
 pub record SaysValue (p : PlainValue) (x : raw.Value) : Type 0 where
   pub lone : is_truth x ≡ says_truth p
   pub braces : is_table x ≡ says_table p
-  pub rows : (by_commas : Bool) → AllByRecursion (IsAlone by_commas) (rows_said p) → EachWith SaysRow (rows_said p) (written_rows by_commas x)
+  pub rows : (by_commas : Bool) → AllByRecursion (IsAlone by_commas) (rows_said p) → EachWith SaysRow (rows_said p)
+      (written_rows by_commas x)
 
 abbrev pub word_in : raw.Entry → Name
 word_in (raw.entry word mark p value) = word

@@ -60,7 +60,8 @@ impl BruteForce {
 fn try_from(problem: &Kept, assume: &[Lit], values: &mut [bool], from: usize) -> bool
     requires literals { AreLitsOf problem.now.vars assume.now }
     requires size { length values.old ≡ problem.now.vars + 1 }
-    ensures found { IsTrue result → Satisfies problem.now (valuation values.new) × MakesTrue (valuation values.new) assume.now }
+    ensures found { IsTrue result → Satisfies problem.now (valuation values.new) × MakesTrue
+        (valuation values.new) assume.now }
     ensures kept { KeepsBelow from values.old values.new }
     ensures none { result ≡ false → NoneFrom problem.now assume.now from values.old }
 {

@@ -91,7 +91,10 @@ module _ {X : Type 0} (P : X → Truth) where
 pub every_is_conjunction : EveryIsConjunction
 every_is_conjunction k bs f e =
     let cs = choices k.domains bs in (
-      (λ h a m. all_yes (λ a. certain_truth k f (e ++ a)) cs h a (has_from cs a m), λ h. yes_all (λ a. certain_truth k f (e ++ a)) cs (λ a m. h a (contains_from cs a m))),
+      (
+        λ h a m. all_yes (λ a. certain_truth k f (e ++ a)) cs h a (has_from cs a m),
+        λ h. yes_all (λ a. certain_truth k f (e ++ a)) cs (λ a m. h a (contains_from cs a m)),
+      ),
       (
         λ h. let r = all_no (λ a. certain_truth k f (e ++ a)) cs h in (r.0, contains_from cs r.0 r.1, r.2),
         λ r. no_all (λ a. certain_truth k f (e ++ a)) cs r.0 (has_from cs r.0 r.1) r.2,
@@ -105,5 +108,8 @@ some_is_disjunction k bs f e =
         λ h. let r = any_yes (λ a. certain_truth k f (e ++ a)) cs h in (r.0, contains_from cs r.0 r.1, r.2),
         λ r. yes_any (λ a. certain_truth k f (e ++ a)) cs r.0 (has_from cs r.0 r.1) r.2,
       ),
-      (λ h a m. any_no (λ a. certain_truth k f (e ++ a)) cs h a (has_from cs a m), λ h. no_any (λ a. certain_truth k f (e ++ a)) cs (λ a m. h a (contains_from cs a m))),
+      (
+        λ h a m. any_no (λ a. certain_truth k f (e ++ a)) cs h a (has_from cs a m),
+        λ h. no_any (λ a. certain_truth k f (e ++ a)) cs (λ a m. h a (contains_from cs a m)),
+      ),
     )

@@ -1,10 +1,15 @@
 -- What is certain of a term or a formula where only some atoms are known: Kleene's strong three-valued logic, under the
 -- elements e that are assigned to the variables in scope, the outermost first.
-use Rattle.std.specs.Prelude.{ℕ, suc, ℤ, pos, List, [], ◌∷◌, ◌++◌, Bool, if◌then◌else◌, Option, None, Some, option_map, slice_get}
+use Rattle.std.specs.Prelude.{ℕ, suc, ℤ, pos, List, [], ◌∷◌, ◌++◌, Bool, if◌then◌else◌, Option, None, Some, option_map}
+use Rattle.std.specs.Prelude.{slice_get}
 use Rattle.kb_logic.specs.declared.elements.Elem.{Elem}
 use Rattle.kb_logic.specs.declared.syntax.Cmp.{Cmp}
 use Rattle.kb_logic.specs.declared.syntax.Cmp.TheVariants as cmp
-use Rattle.kb_logic.specs.Trees.{TermTree, variable, integer, constructed, application, summation, product, aggregate, TermTrees, no_terms, more_terms, SummandTrees, no_summands, more_summands, FormulaTree, verum, falsum, atom, comparison, negation, conjunction, disjunction, implication, equivalence, universal, existential, numbered, FormulaTrees, no_formulas, more_formulas}
+use Rattle.kb_logic.specs.Trees.{TermTree, variable, integer, constructed, application, summation, product, aggregate}
+use Rattle.kb_logic.specs.Trees.{TermTrees, no_terms, more_terms, SummandTrees, no_summands, more_summands, FormulaTree}
+use Rattle.kb_logic.specs.Trees.{verum, falsum, atom, comparison, negation, conjunction, disjunction, implication}
+use Rattle.kb_logic.specs.Trees.{equivalence, universal, existential, numbered, FormulaTrees, no_formulas}
+use Rattle.kb_logic.specs.Trees.{more_formulas}
 use Rattle.kb_logic.specs.Structures.{domain_at, choices}
 use Rattle.kb_logic.specs.Denotations.{Denotation, number, compared, as_number, aggregate_value}
 use Rattle.kb_logic.specs.Meaning.{element_value, summand_plus, number_value, product_from}
@@ -111,7 +116,8 @@ abbrev mutual
   known_value k (summation ss) e = option_map number_value (known_sum k ss e)
   known_value k (product ts) e = option_map (λ vs. number_value (product_from (pos 1) vs)) (known_values k ts e)
   known_value k (aggregate kind bs f t) e =
-      option_map (aggregate_value kind) (known_weights (λ a. certain_truth k f (e ++ a)) (λ a. option_map as_number (known_value k t (e ++ a))) (choices k.domains bs))
+      option_map (aggregate_value kind) (known_weights (λ a. certain_truth k f (e ++ a))
+      (λ a. option_map as_number (known_value k t (e ++ a))) (choices k.domains bs))
 
   -- the values of terms, where all are known
   pub known_values : KnownAtoms → TermTrees → List Elem → Option (List Denotation)
@@ -121,7 +127,8 @@ abbrev mutual
   -- the sum of the operands, where all are known
   pub known_sum : KnownAtoms → SummandTrees → List Elem → Option (Option ℤ)
   known_sum k no_summands e = Some (Some (pos 0))
-  known_sum k (more_summands minus t ss) e = elim (known_value k t e) [ None ↦ None | Some v ↦ option_map (summand_plus minus v) (known_sum k ss e) ]
+  known_sum k (more_summands minus t ss) e = elim (known_value k t e)
+      [ None ↦ None | Some v ↦ option_map (summand_plus minus v) (known_sum k ss e) ]
 
   -- what is certain of `t = v` for a term t and a value v, where t is a function's application with known arguments
   pub equation_certain : KnownAtoms → TermTree → Option Denotation → List Elem → Truth
@@ -139,7 +146,8 @@ abbrev mutual
   certain_truth k falsum e = truth.No
   certain_truth k (atom s ts) e = atom_certain k s (known_values k ts e)
   certain_truth k (comparison c a b) e =
-      comparison_certain c (equation_certain k a (known_value k b e) e) (equation_certain k b (known_value k a e) e) (known_value k a e) (known_value k b e)
+      comparison_certain c (equation_certain k a (known_value k b e) e) (equation_certain k b (known_value k a e) e)
+      (known_value k a e) (known_value k b e)
   certain_truth k (negation f) e = not_certain (certain_truth k f e)
   certain_truth k (conjunction fs) e = all_parts k fs e
   certain_truth k (disjunction fs) e = any_part k fs e
@@ -147,7 +155,8 @@ abbrev mutual
   certain_truth k (equivalence f g) e = alike_certain (certain_truth k f e) (certain_truth k g e)
   certain_truth k (universal bs f) e = all_certain (λ a. certain_truth k f (e ++ a)) (choices k.domains bs)
   certain_truth k (existential bs f) e = any_certain (λ a. certain_truth k f (e ++ a)) (choices k.domains bs)
-  certain_truth k (numbered c n bs f) e = known_truth c n (known_count (λ a. certain_truth k f (e ++ a)) (choices k.domains bs))
+  certain_truth k (numbered c n bs f) e = known_truth c n (known_count (λ a. certain_truth k f (e ++ a))
+      (choices k.domains bs))
 
   pub all_parts : KnownAtoms → FormulaTrees → List Elem → Truth
   all_parts k no_formulas e = truth.Yes

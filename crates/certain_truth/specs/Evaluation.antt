@@ -1,5 +1,6 @@
 -- What the evaluator keeps from one part to the next.
-use Rattle.std.specs.Prelude.{ℕ, ◌+◌, ◌-◌, ◌^◌, min, ℤ, ◌+ℤ◌, ◌*ℤ◌, List, Bool, true, false, not, Option, None, Some, option_map}
+use Rattle.std.specs.Prelude.{ℕ, ◌+◌, ◌-◌, ◌^◌, min, ℤ, ◌+ℤ◌, ◌*ℤ◌, List, Bool, true, false, not, Option, None, Some}
+use Rattle.std.specs.Prelude.{option_map}
 use Rattle.kb_logic.specs.declared.elements.Elem.{Elem}
 use Rattle.kb_logic.specs.Trees.{FormulaTrees}
 use Rattle.partial_structures.specs.KnownAtoms.{KnownAtoms}

@@ -7,7 +7,10 @@ use Rattle.kb_logic.specs.declared.vocabularies.Symbol.{Symbol}
 use Rattle.kb_logic.specs.declared.structures.Structure.{Structure}
 use Rattle.kb_logic.specs.declared.syntax.Cmp.TheVariants as cmp
 use Rattle.kb_logic.specs.declared.syntax.AggKind.TheVariants as kind
-use Rattle.kb_logic.specs.Trees.{TermTree, variable, integer, constructed, application, summation, product, aggregate, no_terms, more_terms, no_summands, more_summands, FormulaTree, verum, falsum, atom, comparison, negation, conjunction, disjunction, implication, equivalence, universal, existential, numbered, no_formulas, more_formulas}
+use Rattle.kb_logic.specs.Trees.{TermTree, variable, integer, constructed, application, summation, product, aggregate}
+use Rattle.kb_logic.specs.Trees.{no_terms, more_terms, no_summands, more_summands, FormulaTree, verum, falsum, atom}
+use Rattle.kb_logic.specs.Trees.{comparison, negation, conjunction, disjunction, implication, equivalence, universal}
+use Rattle.kb_logic.specs.Trees.{existential, numbered, no_formulas, more_formulas}
 use Rattle.kb_logic.specs.Denotations.{Denotation, named, number, plus_infinity}
 use Rattle.kb_logic.specs.Models.{GroundAtom}
 use Rattle.partial_structures.specs.KnownAtoms.{KnownAtoms, value_at}
@@ -34,15 +37,20 @@ symbol args value = record { name = []; args = args; value = value }
 abbrev holds : ℕ → List Elem → Option Elem → GroundAtom
 holds s args value = record { symbol = s; args = args; value = value }
 
--- the types are area = {b; f}, color = {red; green}, nothing = {} and number = {1; 2}. Of the predicate border it is known
--- that (b,f) is in it and (f,b) is not, of the function color that it is red at b and not red at f, of the function size
+-- the types are area = {b; f}, color = {red; green}, nothing = {} and number = {1; 2}. Of the predicate border it is
+-- known
+-- that (b,f) is in it and (f,b) is not, of the function color that it is red at b and not red at f, of the function
+-- size
 -- that it is 2 at b; the proposition p is true, and of the constant home nothing is known
 abbrev sample : KnownAtoms
 sample = record {
-  symbols = symbol (0 ∷ 0 ∷ []) None ∷ symbol (0 ∷ []) (Some 1) ∷ symbol [] None ∷ symbol (0 ∷ []) (Some 3) ∷ symbol [] (Some 0) ∷ [];
+  symbols = symbol (0 ∷ 0 ∷ []) None ∷ symbol (0 ∷ []) (Some 1) ∷ symbol [] None ∷ symbol (0 ∷ []) (Some 3) ∷ symbol []
+      (Some 0) ∷ [];
   domains = (b ∷ f ∷ []) ∷ (red ∷ green ∷ []) ∷ [] ∷ (Num (pos 1) ∷ Num (pos 2) ∷ []) ∷ [];
-  true_atoms = holds 0 (b ∷ f ∷ []) None ∷ holds 1 (b ∷ []) (Some red) ∷ holds 2 [] None ∷ holds 3 (b ∷ []) (Some (Num (pos 2))) ∷ [];
-  false_atoms = holds 0 (f ∷ b ∷ []) None ∷ holds 1 (b ∷ []) (Some green) ∷ holds 1 (f ∷ []) (Some red) ∷ holds 3 (b ∷ []) (Some (Num (pos 1))) ∷ [];
+  true_atoms = holds 0 (b ∷ f ∷ []) None ∷ holds 1 (b ∷ []) (Some red) ∷ holds 2 [] None ∷ holds 3 (b ∷ [])
+      (Some (Num (pos 2))) ∷ [];
+  false_atoms = holds 0 (f ∷ b ∷ []) None ∷ holds 1 (b ∷ []) (Some green) ∷ holds 1 (f ∷ []) (Some red) ∷ holds 3
+      (b ∷ []) (Some (Num (pos 1))) ∷ [];
 }
 
 abbrev certain : FormulaTree → Truth
@@ -156,14 +164,17 @@ abbrev pub Terms : Type 0
 Terms =
     (value (color at_b) ≡ Some (named (114 ∷ [])))
     × (value (color at_f) ≡ None)
-    × (value (summation (more_summands false (size at_b) (more_summands true (integer (pos 1)) no_summands))) ≡ Some (number (pos 1)))
+    × (value (summation (more_summands false (size at_b) (more_summands true (integer (pos 1)) no_summands)))
+    ≡ Some (number (pos 1)))
     × (value (product (more_terms (size at_b) (more_terms (size at_f) no_terms))) ≡ None)
-    × (value (aggregate kind.Count (over 0) (comparison cmp.Eq (color x) is_red) (integer (pos 1))) ≡ Some (number (pos 1)))
+    × (value (aggregate kind.Count (over 0) (comparison cmp.Eq (color x) is_red) (integer (pos 1)))
+    ≡ Some (number (pos 1)))
     × (value (aggregate kind.Count (over 0) (border x x) (integer (pos 1))) ≡ None)
     × (value (aggregate kind.Sum (over 0) (comparison cmp.Eq (color x) is_red) (size x)) ≡ Some (number (pos 2)))
     × (value (aggregate kind.Sum (over 0) verum (size x)) ≡ None)
     × (value (aggregate kind.Min (over 2) verum x) ≡ Some plus_infinity)
-    × (certain (universal (over 0) (comparison cmp.Eq (aggregate kind.Count (over 0) (comparison cmp.Eq (color y) is_red) (integer (pos 1))) (integer (pos 1)))) ≡ Yes)
+    × (certain (universal (over 0) (comparison cmp.Eq (aggregate kind.Count (over 0)
+    (comparison cmp.Eq (color y) is_red) (integer (pos 1))) (integer (pos 1)))) ≡ Yes)
 
 -- what is known of atoms: a function's other values are false with its value
 abbrev pub Values : Type 0
@@ -198,8 +209,10 @@ Extensions =
 -- arithmetic at its bounds, at the end of 64 bits, and beside an infinite value
 abbrev pub Ends : Type 0
 Ends =
-    (value (product (more_terms (integer (pos 500000000000000)) (more_terms (size at_b) no_terms))) ≡ Some (number (pos 1000000000000000)))
-    × (value (summation (more_summands true (integer (pos 1000000000000000)) (more_summands false (size at_b) no_summands))) ≡ Some (number (negsuc 999999999999997)))
+    (value (product (more_terms (integer (pos 500000000000000)) (more_terms (size at_b) no_terms)))
+    ≡ Some (number (pos 1000000000000000)))
+    × (value (summation (more_summands true (integer (pos 1000000000000000))
+    (more_summands false (size at_b) no_summands))) ≡ Some (number (negsuc 999999999999997)))
     × (certain (comparison cmp.Lt (integer (pos 9223372036854775807)) (aggregate kind.Min (over 2) verum x)) ≡ Yes)
     × (certain (comparison cmp.Lt (integer (negsuc 999999999999999)) (size at_f)) ≡ Unknown)
 

@@ -5,7 +5,11 @@ use Rattle.std.specs.List.{AllByRecursion}
 use Rattle.std.specs.Option.{option_map}
 use Rattle.kb_logic.specs.declared.elements.Elem.{Elem}
 use Rattle.kb_logic.specs.declared.syntax.AggKind.{AggKind}
-use Rattle.kb_logic.specs.Trees.{TermTree, variable, integer, constructed, application, summation, product, aggregate, TermTrees, no_terms, more_terms, SummandTrees, no_summands, more_summands, FormulaTree, verum, falsum, atom, comparison, negation, conjunction, disjunction, implication, equivalence, universal, existential, numbered, FormulaTrees, no_formulas, more_formulas}
+use Rattle.kb_logic.specs.Trees.{TermTree, variable, integer, constructed, application, summation, product, aggregate}
+use Rattle.kb_logic.specs.Trees.{TermTrees, no_terms, more_terms, SummandTrees, no_summands, more_summands, FormulaTree}
+use Rattle.kb_logic.specs.Trees.{verum, falsum, atom, comparison, negation, conjunction, disjunction, implication}
+use Rattle.kb_logic.specs.Trees.{equivalence, universal, existential, numbered, FormulaTrees, no_formulas}
+use Rattle.kb_logic.specs.Trees.{more_formulas}
 use Rattle.kb_logic.specs.Structures.{choices}
 use Rattle.kb_logic.specs.Denotations.{Denotation, as_number}
 use Rattle.kb_logic.specs.Arithmetic.{start, combined, NumberFits, ProductFits, HasNoArithmetic}
@@ -23,9 +27,11 @@ gathered kind (Some d) truth.Yes None = None
 gathered kind (Some d) truth.Yes (Some w) = Some (combined kind d w)
 
 -- the aggregate fits after each assignment up to which it is known
-abbrev pub GatheredFits : {X : Type 0} → AggKind → (X → Truth) → (X → Option Denotation) → Option Denotation → List X → Type 0
+abbrev pub GatheredFits : {X : Type 0} → AggKind → (X → Truth) → (X → Option Denotation) → Option Denotation
+    → List X → Type 0
 GatheredFits kind P V acc [] = ⊤
-GatheredFits kind P V acc (x ∷ xs) = IfSome (gathered kind acc (P x) (V x)) NumberFits × GatheredFits kind P V (gathered kind acc (P x) (V x)) xs
+GatheredFits kind P V acc (x ∷ xs) = IfSome (gathered kind acc (P x) (V x)) NumberFits × GatheredFits kind P V
+    (gathered kind acc (P x) (V x)) xs
 
 -- the values of terms up to the first that is not known
 abbrev pub known_front : KnownAtoms → TermTrees → List Elem → List Denotation
@@ -43,7 +49,8 @@ abbrev mutual
   ValueFits k (summation ss) e = IfSome (known_sum k ss e) (λ o. IfSome o (λ z. FitsSigned w64 z)) × OperandsFit k ss e
   ValueFits k (aggregate kind bs f t) e =
       AllByRecursion (λ a. CertaintyFits k f (e ++ a) × ValueFits k t (e ++ a)) (choices k.domains bs)
-      × GatheredFits kind (λ a. certain_truth k f (e ++ a)) (λ a. option_map as_number (known_value k t (e ++ a))) (Some (start kind)) (choices k.domains bs)
+      × GatheredFits kind (λ a. certain_truth k f (e ++ a)) (λ a. option_map as_number (known_value k t (e ++ a)))
+      (Some (start kind)) (choices k.domains bs)
 
   pub ValuesFit : KnownAtoms → TermTrees → List Elem → Type 0
   ValuesFit k no_terms e = ⊤

@@ -25,47 +25,57 @@ use Rattle.partial_structures.specs.declared.truths.Truth.TheVariants as truth
 abbrev pub EveryIsConjunction : Type 0
 EveryIsConjunction =
     (k : KnownAtoms) (bs : List Bound) (f : FormulaTree) (e : List Elem)
-    → (certain_truth k (universal bs f) e ≡ truth.Yes ↔ ((a : List Elem) → Contains (choices k.domains bs) a → certain_truth k f (e ++ a) ≡ truth.Yes))
-    × (certain_truth k (universal bs f) e ≡ truth.No ↔ ((a : List Elem) × Contains (choices k.domains bs) a × (certain_truth k f (e ++ a) ≡ truth.No)))
+    → (certain_truth k (universal bs f) e ≡ truth.Yes ↔ ((a : List Elem) → Contains (choices k.domains bs) a
+    → certain_truth k f (e ++ a) ≡ truth.Yes))
+    × (certain_truth k (universal bs f) e ≡ truth.No ↔ ((a : List Elem) × Contains (choices k.domains bs) a
+    × (certain_truth k f (e ++ a) ≡ truth.No)))
 
 -- an existential formula is certainly true where some instance is, and certainly false where each instance is
 abbrev pub SomeIsDisjunction : Type 0
 SomeIsDisjunction =
     (k : KnownAtoms) (bs : List Bound) (f : FormulaTree) (e : List Elem)
-    → (certain_truth k (existential bs f) e ≡ truth.Yes ↔ ((a : List Elem) × Contains (choices k.domains bs) a × (certain_truth k f (e ++ a) ≡ truth.Yes)))
-    × (certain_truth k (existential bs f) e ≡ truth.No ↔ ((a : List Elem) → Contains (choices k.domains bs) a → certain_truth k f (e ++ a) ≡ truth.No))
+    → (certain_truth k (existential bs f) e ≡ truth.Yes ↔ ((a : List Elem) × Contains (choices k.domains bs) a
+    × (certain_truth k f (e ++ a) ≡ truth.Yes)))
+    × (certain_truth k (existential bs f) e ≡ truth.No ↔ ((a : List Elem) → Contains (choices k.domains bs) a
+    → certain_truth k f (e ++ a) ≡ truth.No))
 
 -- what is certain of a formula is so in every structure that extends the data, and a known value is the value there
 abbrev pub CertaintyIsSound : Type 0
 CertaintyIsSound =
     (m : Structure) (k : KnownAtoms) → IsStructureOver k.symbols m → ExtendsData m k
-    → ((f : FormulaTree) (e : List Elem) → (certain_truth k f e ≡ truth.Yes → IsTrue (truth_of m f e)) × (certain_truth k f e ≡ truth.No → IsFalse (truth_of m f e)))
+    → ((f : FormulaTree) (e : List Elem) → (certain_truth k f e ≡ truth.Yes → IsTrue (truth_of m f e))
+    × (certain_truth k f e ≡ truth.No → IsFalse (truth_of m f e)))
     × ((t : TermTree) (e : List Elem) (v : Denotation) → known_value k t e ≡ Some v → value_of m t e ≡ v)
 
 -- what is certain of a formula stays so where more is known, and so does a known value
 abbrev pub CertaintyIsMonotone : Type 0
 CertaintyIsMonotone =
     (k j : KnownAtoms) → IsConsistent j → KnowsMore k j
-    → ((f : FormulaTree) (e : List Elem) → (certain_truth k f e ≡ truth.Yes → certain_truth j f e ≡ truth.Yes) × (certain_truth k f e ≡ truth.No → certain_truth j f e ≡ truth.No))
+    → ((f : FormulaTree) (e : List Elem) → (certain_truth k f e ≡ truth.Yes → certain_truth j f e ≡ truth.Yes)
+    × (certain_truth k f e ≡ truth.No → certain_truth j f e ≡ truth.No))
     × ((t : TermTree) (e : List Elem) (v : Denotation) → known_value k t e ≡ Some v → known_value j t e ≡ Some v)
 
 -- where no atom is unknown, what is certain is the truth in a structure that extends the data, and each value is known
 abbrev pub CertaintyIsTruth : Type 0
 CertaintyIsTruth =
     (m : Structure) (k : KnownAtoms) → IsStructureOver k.symbols m → ExtendsData m k → KnowsAll k
-    → ((f : FormulaTree) (e : List Elem) → IsWellApplied k.symbols m f e → certain_truth k f e ≡ truth_if (truth_of m f e))
+    → ((f : FormulaTree) (e : List Elem) → IsWellApplied k.symbols m f e → certain_truth k f e
+    ≡ truth_if (truth_of m f e))
     × ((t : TermTree) (e : List Elem) → AppliesWell k.symbols m t e → known_value k t e ≡ Some (value_of m t e))
 
--- a formula whose terms have small static bounds meets the condition of `kleene`, under elements of the variables in scope
+-- a formula whose terms have small static bounds meets the condition of `kleene`, under elements of the variables in
+-- scope
 abbrev pub SmallBoundsFit : Type 0
 SmallBoundsFit =
-    (v : Vocabulary) (k : KnownAtoms) → v.symbols ≡ k.symbols → IsConsistent k → (f : FormulaTree) (scope : List ℕ) (e : List Elem) → HasTypes k.domains scope e
+    (v : Vocabulary) (k : KnownAtoms) → v.symbols ≡ k.symbols → IsConsistent k → (f : FormulaTree) (scope : List ℕ)
+    (e : List Elem) → HasTypes k.domains scope e
     → IsBounded v k.domains f scope → CertaintyFits k f e
 
 -- and so does a term
 abbrev pub SmallTermsFit : Type 0
 SmallTermsFit =
-    (v : Vocabulary) (k : KnownAtoms) → v.symbols ≡ k.symbols → IsConsistent k → (t : TermTree) (scope : List ℕ) (e : List Elem) → HasTypes k.domains scope e
+    (v : Vocabulary) (k : KnownAtoms) → v.symbols ≡ k.symbols → IsConsistent k → (t : TermTree) (scope : List ℕ)
+    (e : List Elem) → HasTypes k.domains scope e
     → TermIsBounded v k.domains t scope → ValueFits k t e
 
 -- a structure, as what makes every atom known, is consistent, leaves no atom unknown and extends itself
@@ -81,7 +91,8 @@ ExtendsIsKnowsMore =
     → AllByRecursion (IsAtomOver k.symbols k.domains) k.false_atoms
     → ExtendsData m k ↔ KnowsMore k (known_of v.symbols m)
 
--- over domains as the vocabulary asks for them, what is well typed applies each function within its types, and a term of
+-- over domains as the vocabulary asks for them, what is well typed applies each function within its types, and a term
+-- of
 -- a type has an element of the type as its value
 abbrev pub TypedIsWellApplied : Type 0
 TypedIsWellApplied =

@@ -17,7 +17,8 @@ use Rattle.certain_truth.specs.declared.sides.Side.{Side}
 abbrev pub IsApplied : Known → TermTree → List Elem → Option (ℕ × Place) → Type 0
 IsApplied s t e None = (v : Option Denotation) → equation_certain (known_in s) t v e ≡ truth.Unknown
 IsApplied s t e (Some a) =
-    (vs : List Denotation) × (place_view a.1 ≡ spot_of s a.0 vs) × ((v : Option Denotation) → equation_certain (known_in s) t v e ≡ value_certain (known_in s) a.0 (Some vs) v)
+    (vs : List Denotation) × (place_view a.1 ≡ spot_of s a.0 vs) × ((v : Option Denotation)
+    → equation_certain (known_in s) t v e ≡ value_certain (known_in s) a.0 (Some vs) v)
 
 -- what is known of the term
 pub record IsSide (s : Known) (t : TermTree) (e : List Elem) (side : Side) : Type 0 where

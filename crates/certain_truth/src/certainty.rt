@@ -10,7 +10,8 @@ ghost use Rattle.kb_logic.specs.Arithmetic.{ProductFits};
 ghost use Rattle.kb_logic.specs.Meaning.{product_from};
 ghost use Rattle.plain_evaluation.specs.Environments.{env_view};
 ghost use Rattle.certain_truth.specs.Certainty.{known_value, known_values, known_sum, certain_truth};
-ghost use Rattle.certain_truth.specs.KnownArithmetic.{gathered, GatheredFits, ValueFits, ValuesFit, OperandsFit, CertaintyFits, PartsFit, known_front};
+ghost use Rattle.certain_truth.specs.KnownArithmetic.{gathered, GatheredFits, ValueFits, ValuesFit, OperandsFit};
+ghost use Rattle.certain_truth.specs.KnownArithmetic.{CertaintyFits, PartsFit, known_front};
 ghost use Rattle.partial_structures.specs.Values.{value_view};
 ghost use Rattle.partial_structures.specs.Known.{known_in, place_view, spot_of};
 ghost use Rattle.certain_truth.specs.Evaluation.{joined, tallied, total_of, parts_of};
@@ -79,8 +80,10 @@ fn sum<'a>(s: Known<'a>, parts: &'a [Signed], env: &'a Env<'a>) -> Option<Option
 #[cycle(certain)]
 fn product<'a>(s: Known<'a>, factors: &'a [Term], env: &'a Env<'a>) -> Option<Option<i64>>
     requires terms { ValuesFit (known_in s) (terms_of (map term_view factors.now)) (env_view env.now) }
-    requires products { ProductFits (pos 1) (known_front (known_in s) (terms_of (map term_view factors.now)) (env_view env.now)) }
-    ensures { result ≡ option_map (product_from (pos 1)) (known_values (known_in s.entry) (terms_of (map term_view factors.now)) (env_view env.now)) }
+    requires products { ProductFits (pos 1) (known_front (known_in s) (terms_of (map term_view factors.now))
+        (env_view env.now)) }
+    ensures { result ≡ option_map (product_from (pos 1)) (known_values (known_in s.entry)
+        (terms_of (map term_view factors.now)) (env_view env.now)) }
 {
     let mut total = Some(1i64);
     for factor in factors {
@@ -96,7 +99,8 @@ fn product<'a>(s: Known<'a>, factors: &'a [Term], env: &'a Env<'a>) -> Option<Op
 #[cycle(certain)]
 fn place<'a>(s: Known<'a>, symbol: u32, args: &'a [Term], env: &'a Env<'a>) -> Option<Place<'a>>
     requires { ValuesFit (known_in s) (terms_of (map term_view args.now)) (env_view env.now) }
-    ensures { option_map place_view result ≡ option_map (spot_of s.entry symbol) (known_values (known_in s.entry) (terms_of (map term_view args.now)) (env_view env.now)) }
+    ensures { option_map place_view result ≡ option_map (spot_of s.entry symbol)
+        (known_values (known_in s.entry) (terms_of (map term_view args.now)) (env_view env.now)) }
 {
     let mut place = start(s, symbol);
     for arg in args {
@@ -166,7 +170,8 @@ fn certain<'a>(s: Known<'a>, formula: &'a Formula, env: &'a Env<'a>) -> Truth
 #[cycle(certain)]
 fn parts<'a>(s: Known<'a>, all: bool, formulas: &'a [Formula], env: &'a Env<'a>) -> Truth
     requires { PartsFit (known_in s) (formulas_of (map formula_view formulas.now)) (env_view env.now) }
-    ensures { result ≡ parts_of all (known_in s.entry) (formulas_of (map formula_view formulas.now)) (env_view env.now) }
+    ensures { result ≡ parts_of all (known_in s.entry) (formulas_of (map formula_view formulas.now))
+        (env_view env.now) }
 {
     let mut so_far = truth_of(all);
     for formula in formulas {
@@ -189,8 +194,10 @@ fn quantified<'a>(
     env: &'a Env<'a>,
     before: Truth,
 ) -> Truth
-    requires { AllByRecursion (λ a. CertaintyFits (known_in s) (formula_view formula.now) (env_view env.now ++ a)) (choices s.domains.now bounds.now) }
-    ensures { result ≡ fold (λ t a. joined all t (certain_truth (known_in s.entry) (formula_view formula.now) (env_view env.now ++ a))) before (choices s.entry.domains.now bounds.now) }
+    requires { AllByRecursion (λ a. CertaintyFits (known_in s) (formula_view formula.now) (env_view env.now ++ a))
+        (choices s.domains.now bounds.now) }
+    ensures { result ≡ fold (λ t a. joined all t (certain_truth (known_in s.entry) (formula_view formula.now)
+        (env_view env.now ++ a))) before (choices s.entry.domains.now bounds.now) }
 {
     if bounds.is_empty() {
         return join(all, before, certain(s, formula, env));
@@ -216,8 +223,10 @@ fn count<'a>(
     env: &'a Env<'a>,
     before: Option<u64>,
 ) -> Option<u64>
-    requires { AllByRecursion (λ a. CertaintyFits (known_in s) (formula_view formula.now) (env_view env.now ++ a)) (choices s.domains.now bounds.now) }
-    ensures { result ≡ fold (λ n a. tallied n (certain_truth (known_in s.entry) (formula_view formula.now) (env_view env.now ++ a))) before (choices s.entry.domains.now bounds.now) }
+    requires { AllByRecursion (λ a. CertaintyFits (known_in s) (formula_view formula.now) (env_view env.now ++ a))
+        (choices s.domains.now bounds.now) }
+    ensures { result ≡ fold (λ n a. tallied n (certain_truth (known_in s.entry) (formula_view formula.now)
+        (env_view env.now ++ a))) before (choices s.entry.domains.now bounds.now) }
 {
     if bounds.is_empty() {
         return tally(before, certain(s, formula, env));
@@ -244,9 +253,15 @@ fn aggregate<'a>(
     env: &'a Env<'a>,
     before: Option<Total>,
 ) -> Option<Total>
-    requires each { AllByRecursion (λ a. CertaintyFits (known_in s) (formula_view formula.now) (env_view env.now ++ a) × ValueFits (known_in s) (term_view weight.now) (env_view env.now ++ a)) (choices s.domains.now bounds.now) }
-    requires sums { GatheredFits kind (λ a. certain_truth (known_in s) (formula_view formula.now) (env_view env.now ++ a)) (λ a. option_map as_number (known_value (known_in s) (term_view weight.now) (env_view env.now ++ a))) (total_of before) (choices s.domains.now bounds.now) }
-    ensures { total_of result ≡ fold (λ d a. gathered kind d (certain_truth (known_in s.entry) (formula_view formula.now) (env_view env.now ++ a)) (option_map as_number (known_value (known_in s.entry) (term_view weight.now) (env_view env.now ++ a)))) (total_of before) (choices s.entry.domains.now bounds.now) }
+    requires each { AllByRecursion (λ a. CertaintyFits (known_in s) (formula_view formula.now) (env_view env.now ++ a)
+        × ValueFits (known_in s) (term_view weight.now) (env_view env.now ++ a)) (choices s.domains.now bounds.now) }
+    requires sums { GatheredFits kind (λ a. certain_truth (known_in s) (formula_view formula.now)
+        (env_view env.now ++ a)) (λ a. option_map as_number (known_value (known_in s) (term_view weight.now)
+        (env_view env.now ++ a))) (total_of before) (choices s.domains.now bounds.now) }
+    ensures { total_of result ≡ fold (λ d a. gathered kind d (certain_truth (known_in s.entry)
+        (formula_view formula.now) (env_view env.now ++ a)) (option_map as_number
+        (known_value (known_in s.entry) (term_view weight.now) (env_view env.now ++ a)))) (total_of before)
+        (choices s.entry.domains.now bounds.now) }
 {
     if bounds.is_empty() {
         return match certain(s, formula, env) {

@@ -1,7 +1,9 @@
 //! What the definitions say, in the subject's own words. The functions are empty: their contracts are laws.
 ghost use Rattle.certain_truth.specs.Examples.{WorkedExamples};
 ghost use Rattle.certain_truth.specs.KnownArithmetic.{NoArithmeticFits};
-ghost use Rattle.certain_truth.specs.Laws.{EveryIsConjunction, SomeIsDisjunction, CertaintyIsSound, CertaintyIsMonotone, CertaintyIsTruth, ExtendsIsKnowsMore, SmallBoundsFit, SmallTermsFit, StructuresKnowAll, TypedIsWellApplied};
+ghost use Rattle.certain_truth.specs.Laws.{EveryIsConjunction, SomeIsDisjunction, CertaintyIsSound};
+ghost use Rattle.certain_truth.specs.Laws.{CertaintyIsMonotone, CertaintyIsTruth, ExtendsIsKnowsMore, SmallBoundsFit};
+ghost use Rattle.certain_truth.specs.Laws.{SmallTermsFit, StructuresKnowAll, TypedIsWellApplied};
 
 /// A universal formula is certainly true where each instance is, and certainly false where some instance is.
 pub fn every_is_conjunction()

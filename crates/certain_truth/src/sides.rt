@@ -45,7 +45,8 @@ fn compare_values(cmp: Cmp, a: Option<Value<'_>>, b: Option<Value<'_>>) -> Truth
 
 /// What is known of the side's being equal to the value.
 fn equation(s: Known<'_>, side: Side<'_>, value: Option<Value<'_>>) -> Truth
-    ensures { (t : TermTree) (e : List Elem) → IsApplied s.entry t e side.entry.applied → result ≡ equation_certain (known_in s.entry) t (option_map value_view value.entry) e }
+    ensures { (t : TermTree) (e : List Elem) → IsApplied s.entry t e side.entry.applied
+        → result ≡ equation_certain (known_in s.entry) t (option_map value_view value.entry) e }
 {
     match (side.applied, value) {
         (Some((symbol, place)), Some(value)) => value_truth(s, symbol, place, value),
@@ -55,7 +56,8 @@ fn equation(s: Known<'_>, side: Side<'_>, value: Option<Value<'_>>) -> Truth
 
 /// What is certain of the comparison of the two sides.
 pub(crate) fn compare_sides(s: Known<'_>, cmp: Cmp, left: Side<'_>, right: Side<'_>) -> Truth
-    ensures { (t u : TermTree) (e : List Elem) → IsSide s.entry t e left.entry → IsSide s.entry u e right.entry → result ≡ certain_truth (known_in s.entry) (comparison cmp t u) e }
+    ensures { (t u : TermTree) (e : List Elem) → IsSide s.entry t e left.entry → IsSide s.entry u e right.entry
+        → result ≡ certain_truth (known_in s.entry) (comparison cmp t u) e }
 {
     let values = compare_values(cmp, left.value, right.value);
     match cmp {

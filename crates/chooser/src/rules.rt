@@ -17,7 +17,8 @@ pub trait Choose {
     ///
     /// Who has the scores in falling order then need not list them.
     fn takes_first_of_falling(&self) -> bool
-        ensures { result ≡ true → (scores : List ℕ) (place : ℕ) → DoNotRise scores → chooses self.now scores place → place ≡ 0 }
+        ensures { result ≡ true → (scores : List ℕ) (place : ℕ) → DoNotRise scores → chooses self.now scores place
+            → place ≡ 0 }
     {
         false
     }

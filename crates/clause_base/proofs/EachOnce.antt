@@ -1,5 +1,6 @@
 -- A sorted list of literals with its repetitions taken out.
-use Rattle.std.proofs.Common.{◌≡◌, ℕ, ◌<◌, zero, suc, Bool, true, false, List, [], ◌∷◌, length, get_or, refl, sym, ap, subst, ◌∙◌, Some, slice_get, Ordering, nat_cmp, IsPermutation}
+use Rattle.std.proofs.Common.{◌≡◌, ℕ, ◌<◌, zero, suc, Bool, true, false, List, [], ◌∷◌, length, get_or, refl, sym, ap}
+use Rattle.std.proofs.Common.{subst, ◌∙◌, Some, slice_get, Ordering, nat_cmp, IsPermutation}
 use Rattle.std.specs.Cmp.{IsTotalOrder, IsEquivalence, bool_cmp_total}
 use Rattle.std.specs.List.{dedup, AllByRecursion}
 use Rattle.std.specs.List.Sorted.{IsSorted, IsStrictlySortedBy}
@@ -21,7 +22,8 @@ abbrev pub literal_cmp : Lit → Lit → Ordering
 literal_cmp = then_cmp (on (λ l. l.var.0) nat_cmp) (on (λ l. l.positive) bool_cmp)
 
 literal_total : IsTotalOrder literal_cmp
-literal_total = then_total (on_total (λ (l : Lit). l.var.0) nat_cmp_total) (on_total (λ (l : Lit). l.positive) bool_cmp_total)
+literal_total = then_total (on_total (λ (l : Lit). l.var.0) nat_cmp_total)
+    (on_total (λ (l : Lit). l.positive) bool_cmp_total)
 
 both-equal : (r s : Ordering) → ordering_then r s ≡ Equal → (r ≡ Equal) × (s ≡ Equal)
 both-equal Less s e = cc
@@ -47,7 +49,8 @@ module _ (E : Lit → Lit → Bool) (same : (x y : Lit) → E x y ≡ true → x
   ties x y = by_order (literal_cmp x y) refl
     where
       differ : (r : Ordering) → literal_cmp x y ≡ r → (r ≡ Equal → ⊥) → E x y ≡ false
-      differ r e ne = false_from_ne_true (E x y) (λ t. ne (sym e ∙ ap (literal_cmp x) (sym (same x y t)) ∙ tied_itself literal_total x))
+      differ r e ne = false_from_ne_true (E x y) (λ t. ne (sym e ∙ ap (literal_cmp x) (sym (same x y t))
+          ∙ tied_itself literal_total x))
 
       by_order : (r : Ordering) → literal_cmp x y ≡ r → E x y ≡ is_eq (literal_cmp x y)
       by_order Less e = differ Less e (λ z. cc) ∙ sym (ap is_eq e)
@@ -59,16 +62,19 @@ module _ (E : Lit → Lit → Bool) (same : (x y : Lit) → E x y ≡ true → x
     where
       by_value : (b : Bool) → E x y ≡ b → E x y ≡ E y x
       by_value true e = let s = same x y e in e ∙ sym (itself y) ∙ ap (E y) (sym s)
-      by_value false e = e ∙ sym (false_from_ne_true (E y x) (λ t. (let s = same y x t in let z : true ≡ false = sym (itself x) ∙ ap (E x) (sym s) ∙ e in cc)))
+      by_value false e = e ∙ sym (false_from_ne_true (E y x) (λ t. (let s = same y x t in let z : true ≡ false =
+          sym (itself x) ∙ ap (E x) (sym s) ∙ e in cc)))
 
   laws : IsEquivalence E
   laws = record { refl = itself; symm = swapped; congr = λ x y z e. ap (λ w. E w z) (same x y e) }
 
-  below-all : (x : Lit) (xs : List Lit) (k : ℕ) → AllByRecursion (λ y. literal_cmp x y ≡ Less) xs → slice_get xs k ≡ Some x → ⊥
+  below-all : (x : Lit) (xs : List Lit) (k : ℕ) → AllByRecursion (λ y. literal_cmp x y ≡ Less) xs
+      → slice_get xs k ≡ Some x → ⊥
   below-all x xs k a h =
       let lt : k < length xs = slice_get_within xs k x h in
       let at : literal_cmp x (get_or xs k x) ≡ Less = All-from_recursion (λ y. literal_cmp x y ≡ Less) xs a k x lt in
-      let less : literal_cmp x x ≡ Less = subst (λ (y : Lit). literal_cmp x y ≡ Less) (get_or_from_slice_get xs k x x h) at in
+      let less : literal_cmp x x ≡ Less = subst (λ (y : Lit). literal_cmp x y ≡ Less)
+      (get_or_from_slice_get xs k x x h) at in
       let equal : literal_cmp x x ≡ Equal = tied_itself literal_total x in
       let z : Less ≡ Equal = sym less ∙ equal in cc
 
@@ -80,9 +86,11 @@ module _ (E : Lit → Lit → Bool) (same : (x y : Lit) → E x y ≡ true → x
   each-once (x ∷ xs) s (suc i) zero l hi hk = absurd (below-all x xs i s.0 (hi ∙ sym hk))
   each-once (x ∷ xs) s (suc i) (suc k) l hi hk = ap suc (each-once xs s.1 i k l hi hk)
 
-  pub each-once-of : (lits sorted : List Lit) → IsPermutation lits sorted → IsSorted literal_cmp sorted → IsEachOnceOf lits (dedup E sorted)
+  pub each-once-of : (lits sorted : List Lit) → IsPermutation lits sorted → IsSorted literal_cmp sorted
+      → IsEachOnceOf lits (dedup E sorted)
   each-once-of lits sorted moved order = record {
     once = each-once (dedup E sorted) (IsStrictlySortedBy-dedup literal_total ties sorted order);
-    from = λ l h. Contains-permutation sorted lits l (IsPermutation-sym lits sorted moved) (Contains-from_dedup E sorted l h);
+    from = λ l h. Contains-permutation sorted lits l (IsPermutation-sym lits sorted moved)
+        (Contains-from_dedup E sorted l h);
     all = λ l h. Contains-dedup laws same sorted l (Contains-permutation lits sorted l moved h);
   }

@@ -1,5 +1,6 @@
 -- What the fields of a clause database keep.
-use Rattle.std.specs.Prelude.{◌≡◌, ℕ, zero, suc, ◌<◌, ◌≤◌, ◌+◌, ◌^◌, Option, Some, None, List, [], length, map, take, drop, slice_get, vec_len, vec_capacity}
+use Rattle.std.specs.Prelude.{◌≡◌, ℕ, zero, suc, ◌<◌, ◌≤◌, ◌+◌, ◌^◌, Option, Some, None, List, [], length, map, take}
+use Rattle.std.specs.Prelude.{drop, slice_get, vec_len, vec_capacity}
 use Rattle.lit_core.specs.declared.literals.Lit.{Lit}
 use Rattle.clause_base.specs.ClauseDbState.{ClauseDbState}
 use Rattle.clause_base.specs.declared.clause_db.Entry.{Entry}
@@ -39,7 +40,8 @@ AreRemoved entries live = (id : ℕ) (e : Entry) → live ≤ id → slice_get e
 
 -- each clause ends before any later one begins
 abbrev pub IsOrdered : List Entry → Type 0
-IsOrdered entries = (i j : ℕ) (e f : Entry) → i < j → slice_get entries i ≡ Some e → slice_get entries j ≡ Some f → EndsBy e f.start
+IsOrdered entries = (i j : ℕ) (e f : Entry) → i < j → slice_get entries i ≡ Some e → slice_get entries j ≡ Some f
+    → EndsBy e f.start
 
 -- the last of so many entries ends at this place of the arena
 pub record EndsAt (entries : List Entry) (live end : ℕ) : Type 0 where

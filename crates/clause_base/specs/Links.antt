@@ -1,5 +1,6 @@
 -- Lists of nodes that are linked by numbers: 0 for the end, and one more than the next node's number.
-use Rattle.std.specs.Prelude.{◌≡◌, ℕ, zero, suc, ◌<◌, ◌+◌, Option, Some, None, List, [], ◌∷◌, length, slice_index, Contains}
+use Rattle.std.specs.Prelude.{◌≡◌, ℕ, zero, suc, ◌<◌, ◌+◌, Option, Some, None, List, [], ◌∷◌, length, slice_index}
+use Rattle.std.specs.Prelude.{Contains}
 
 -- the node that a link leads to
 abbrev pub node_of : ℕ → Option ℕ

@@ -1,5 +1,6 @@
 -- A store of clauses with a trail, what holds of every one, and how it changes.
-use Rattle.std.specs.Prelude.{◌≡◌, ℕ, ◌<◌, ◌≤◌, false, Option, Some, None, List, [], ◌∷◌, ◌++◌, length, take, slice_get, slice_set, All, Contains, ◌⊎◌, IsSome}
+use Rattle.std.specs.Prelude.{◌≡◌, ℕ, ◌<◌, ◌≤◌, false, Option, Some, None, List, [], ◌∷◌, ◌++◌, length, take, slice_get}
+use Rattle.std.specs.Prelude.{slice_set, All, Contains, ◌⊎◌, IsSome}
 use Rattle.lit_core.specs.declared.literals.Lit.{Lit}
 use Rattle.lit_core.specs.Literals.{value_in, negated, HasEachOnce}
 use Rattle.lit_core.specs.Truth.{IsFalsified, IsSettled}
@@ -32,7 +33,8 @@ pub record IsStore (s : StoreState) : Type 0 where
   pub trail : IsTrail s.trail
   pub in_range : (id : ℕ) (c : List Lit) → IsHeld s id c → All (λ l. l.var.0 < length s.trail.values) c
   pub once : (id : ℕ) (c : List Lit) → IsHeld s id c → HasEachOnce c
-  pub reasons : (k : ℕ) (t : Step) (id : ℕ) → slice_get s.trail.steps k ≡ Some t → t.reason ≡ Some id → (c : List Lit) × IsHeld s id c × IsReasonAt c s.trail.steps k t.lit
+  pub reasons : (k : ℕ) (t : Step) (id : ℕ) → slice_get s.trail.steps k ≡ Some t → t.reason ≡ Some id
+      → (c : List Lit) × IsHeld s id c × IsReasonAt c s.trail.steps k t.lit
   -- no held clause has the negation of a fixed literal
   pub unopposed : (l : Lit) → IsFixed s.trail l → (id : ℕ) (c : List Lit) → IsHeld s id c → Contains c (negated l) → ⊥
 
@@ -64,7 +66,8 @@ pub record Propagates (old new : StoreState) : Type 0 where
   pub level : new.trail.level ≡ old.trail.level
   pub size : length new.trail.values ≡ length old.trail.values
   pub kept : old.trail.steps ≡ take (length old.trail.steps) new.trail.steps
-  pub reasoned : (k : ℕ) (t : Step) → length old.trail.steps ≤ k → slice_get new.trail.steps k ≡ Some t → IsSome t.reason × (t.level ≡ old.trail.level)
+  pub reasoned : (k : ℕ) (t : Step) → length old.trail.steps ≤ k → slice_get new.trail.steps k ≡ Some t
+      → IsSome t.reason × (t.level ≡ old.trail.level)
 
 -- the store of no variables and no clauses
 abbrev pub empty_store : StoreState

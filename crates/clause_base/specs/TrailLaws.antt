@@ -1,5 +1,6 @@
 -- What holds of every trail, and how it changes.
-use Rattle.std.specs.Prelude.{◌≡◌, ℕ, ◌<◌, ◌≤◌, ◌+◌, ◌-◌, Bool, true, is_some, nat_le, Option, Some, None, List, [], ◌∷◌, ◌++◌, length, map, take, replicate, slice_get, slice_set, count_by, ◌⊎◌}
+use Rattle.std.specs.Prelude.{◌≡◌, ℕ, ◌<◌, ◌≤◌, ◌+◌, ◌-◌, Bool, true, is_some, nat_le, Option, Some, None, List, []}
+use Rattle.std.specs.Prelude.{◌∷◌, ◌++◌, length, map, take, replicate, slice_get, slice_set, count_by, ◌⊎◌}
 use Rattle.lit_core.specs.declared.literals.Lit.{Lit}
 use Rattle.lit_core.specs.declared.literals.Var.{Var}
 use Rattle.lit_core.specs.Literals.{value_in}
@@ -27,15 +28,19 @@ pub record IsCoherent (values : List (Option Bool)) (steps : List Step) : Type 0
   pub are_true : (k : ℕ) (t : Step) → slice_get steps k ≡ Some t → value_in values t.lit ≡ Some true
   pub in_range : (k : ℕ) (t : Step) → slice_get steps k ≡ Some t → t.lit.var.0 < length values
   pub was_made : (l : Lit) → value_in values l ≡ Some true → IsMade steps l
-  pub apart : (i k : ℕ) (t u : Step) → slice_get steps i ≡ Some t → slice_get steps k ≡ Some u → t.lit.var.0 ≡ u.lit.var.0 → i ≡ k
+  pub apart : (i k : ℕ) (t u : Step) → slice_get steps i ≡ Some t → slice_get steps k ≡ Some u
+      → t.lit.var.0 ≡ u.lit.var.0 → i ≡ k
   pub once : count_by is_some values ≡ length steps
-  pub rising : (i k : ℕ) (t u : Step) → i ≤ k → slice_get steps i ≡ Some t → slice_get steps k ≡ Some u → t.level ≤ u.level
+  pub rising : (i k : ℕ) (t u : Step) → i ≤ k → slice_get steps i ≡ Some t → slice_get steps k ≡ Some u
+      → t.level ≤ u.level
   -- a decision is above all before it; at level 0 a step without a reason is a fixed literal
-  pub opens : (i k : ℕ) (t u : Step) → i < k → slice_get steps i ≡ Some t → slice_get steps k ≡ Some u → u.reason ≡ None → (u.level ≡ 0) ⊎ (t.level < u.level)
+  pub opens : (i k : ℕ) (t u : Step) → i < k → slice_get steps i ≡ Some t → slice_get steps k ≡ Some u → u.reason ≡ None
+      → (u.level ≡ 0) ⊎ (t.level < u.level)
 
 -- each level up to this one was opened by a decision
 abbrev pub HasDecisions : List Step → ℕ → Type 0
-HasDecisions steps level = (n : ℕ) → 0 < n → n ≤ level → (k : ℕ) × (t : Step) × (slice_get steps k ≡ Some t) × (t.level ≡ n) × (t.reason ≡ None)
+HasDecisions steps level = (n : ℕ) → 0 < n → n ≤ level → (k : ℕ) × (t : Step) × (slice_get steps k ≡ Some t)
+    × (t.level ≡ n) × (t.reason ≡ None)
 
 -- up to this level each level has a step of its own
 abbrev pub IsDense : List Step → ℕ → Type 0
@@ -58,7 +63,11 @@ grown n s = record { values = s.values ++ replicate (n - length s.values) None; 
 
 -- the trail after a literal was made true
 abbrev pub with_step : TrailState → Step → TrailState
-with_step s t = record { values = slice_set s.values t.lit.var.0 (Some t.lit.positive); steps = s.steps ++ t ∷ []; level = t.level }
+with_step s t = record {
+  values = slice_set s.values t.lit.var.0 (Some t.lit.positive);
+  steps = s.steps ++ t ∷ [];
+  level = t.level;
+}
 
 -- the trail with every variable unassigned
 abbrev pub cleared : TrailState → TrailState

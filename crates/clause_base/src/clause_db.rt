@@ -2,7 +2,9 @@
 //!
 //! A clause is told by an entry of sixteen bytes, so that four of them fill a cache line, and its literals stand
 //! side by side. A push sorts its literals in a buffer, which keeps its memory from push to push.
-ghost use Rattle.std.specs.Prelude.{◌≡◌, ℕ, ◌<◌, ◌≤◌, ◌+◌, ◌*◌, ◌^◌, ◌++◌, ◌∷◌, [], length, max, Some, None, Option, List, IfSome, IsOk, IsTrue, OnOk, OnErr, MatchOption, ◌↔◌, slice_get, slice_set, vec_capacity};
+ghost use Rattle.std.specs.Prelude.{◌≡◌, ℕ, ◌<◌, ◌≤◌, ◌+◌, ◌*◌, ◌^◌, ◌++◌, ◌∷◌, [], length, max, Some, None, Option};
+ghost use Rattle.std.specs.Prelude.{List, IfSome, IsOk, IsTrue, OnOk, OnErr, MatchOption, ◌↔◌, slice_get, slice_set};
+ghost use Rattle.std.specs.Prelude.{vec_capacity};
 ghost use Rattle.lit_core.specs.declared.literals.Lit.{Lit};
 ghost use Rattle.clause_base.specs.ClauseDbFields.{AreRemoved, EndsAt};
 ghost use Rattle.clause_base.specs.StoreState.{IsEachOnceOf};
@@ -168,7 +170,11 @@ impl ClauseDb {
 
     /// Makes room for a clause of this length.
     pub fn reserve(&mut self, len: usize) -> Result<(), Memory>
-        ensures ok { OnOk result (self.new ≡ record { clauses = self.old.clauses; spare = max self.old.spare (len + 1) }) }
+        ensures ok { OnOk result (self.new ≡ record {
+          clauses = self.old.clauses;
+          spare =
+              max self.old.spare (len + 1);
+        }) }
         ensures err { OnErr result (self.new ≡ self.old) }
         ensures clauses { self.new.clauses ≡ self.old.clauses }
         ensures room { len < self.old.spare → IsOk result }
@@ -189,7 +195,11 @@ impl ClauseDb {
     /// Adds the clause of these literals, for which there is room.
     pub fn push(&mut self, lits: &[Lit])
         requires { length lits.now < self.old.spare }
-        ensures { (c : List Lit) × IsEachOnceOf lits.now c × (self.new ≡ record { clauses = self.old.clauses ++ Some c ∷ []; spare = 0 }) }
+        ensures { (c : List Lit) × IsEachOnceOf lits.now c × (self.new ≡ record {
+          clauses =
+              self.old.clauses ++ Some c ∷ [];
+          spare = 0;
+        }) }
     {
         fill(&mut self.buffer, lits);
         sort_once(&mut self.buffer);
@@ -210,7 +220,8 @@ impl ClauseDb {
     /// The literals of a held clause, or None where it was removed.
     pub fn get(&self, id: usize) -> Option<&[Lit]>
         requires { id < length self.now.clauses }
-        ensures clause { MatchOption result (slice_get self.now.clauses id ≡ Some None) (λ c. slice_get self.now.clauses id ≡ Some (Some c.now)) }
+        ensures clause { MatchOption result (slice_get self.now.clauses id ≡ Some None)
+            (λ c. slice_get self.now.clauses id ≡ Some (Some c.now)) }
         ensures small { IfSome result (λ c. length c.now < 2 ^ 32) }
     {
         let entry = self.entries[id];

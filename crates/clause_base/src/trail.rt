@@ -1,8 +1,11 @@
 //! What is true, in order of assignment, with levels and reasons.
-ghost use Rattle.std.specs.Prelude.{◌≡◌, ◌≢◌, ℕ, ◌+◌, ◌-◌, ◌<◌, ◌≤◌, ◌^◌, ◌↔◌, ◌++◌, ◌∷◌, [], length, max, true, false, Some, None, Option, Bool, List, IsTrue, OnOk, OnErr, ◌⊎◌, slice_get, slice_set, slice_index_or, vec_capacity};
+ghost use Rattle.std.specs.Prelude.{◌≡◌, ◌≢◌, ℕ, ◌+◌, ◌-◌, ◌<◌, ◌≤◌, ◌^◌, ◌↔◌, ◌++◌, ◌∷◌, [], length, max, true, false};
+ghost use Rattle.std.specs.Prelude.{Some, None, Option, Bool, List, IsTrue, OnOk, OnErr, ◌⊎◌, slice_get, slice_set};
+ghost use Rattle.std.specs.Prelude.{slice_index_or, vec_capacity};
 ghost use Rattle.lit_core.specs.Literals.{value_in};
 ghost use Rattle.clause_base.specs.declared.trail.Step.{Step};
-ghost use Rattle.clause_base.specs.TrailLaws.{IsTrail, CutsAt, cleared, empty_trail, grown, level_after, lits_of, with_step};
+ghost use Rattle.clause_base.specs.TrailLaws.{IsTrail, CutsAt, cleared, empty_trail, grown, level_after, lits_of};
+ghost use Rattle.clause_base.specs.TrailLaws.{with_step};
 
 use lit_core::{Assignment, Lit, Memory, Var};
 use std::alloc::Global;
@@ -58,10 +61,14 @@ fn pop_above(
     level: u64,
 ) -> bool
     requires lits { lits.old.items ≡ lits_of steps.old.items }
-    requires in_range { (k : ℕ) (t : Step) → slice_get steps.old.items k ≡ Some t → t.lit.var.0 < length assignment.old }
-    ensures popped { IsTrue result → (t : Step) × (steps.old.items ≡ steps.new.items ++ t ∷ []) × (level < t.level) × (assignment.new ≡ slice_set assignment.old t.lit.var.0 None) }
+    requires in_range { (k : ℕ) (t : Step) → slice_get steps.old.items k ≡ Some t
+        → t.lit.var.0 < length assignment.old }
+    ensures popped { IsTrue result → (t : Step) × (steps.old.items ≡ steps.new.items ++ t ∷ []) × (level < t.level)
+        × (assignment.new ≡ slice_set assignment.old t.lit.var.0 None) }
     ensures lits { lits.new.items ≡ lits_of steps.new.items }
-    ensures done { IsTrue result ⊎ ((steps.new.items ≡ steps.old.items) × (assignment.new ≡ assignment.old) × ((k : ℕ) (t : Step) → slice_get steps.old.items k ≡ Some t → k + 1 ≡ length steps.old.items → t.level ≤ level)) }
+    ensures done { IsTrue result ⊎ ((steps.new.items ≡ steps.old.items) × (assignment.new ≡ assignment.old)
+        × ((k : ℕ) (t : Step) → slice_get steps.old.items k ≡ Some t → k + 1 ≡ length steps.old.items
+        → t.level ≤ level)) }
     ensures room { (vec_capacity steps.old ≤ vec_capacity steps.new) × (vec_capacity lits.old ≤ vec_capacity lits.new) }
 {
     let Some(step) = steps.last() else {
@@ -179,7 +186,11 @@ impl Trail {
     pub fn assign(&mut self, lit: Lit, reason: Option<u64>)
         requires in_range { lit.var.0 < length self.old.values }
         requires unassigned { value_in self.old.values lit ≡ None }
-        ensures step { self.new ≡ with_step self.old (record { lit = lit; level = level_after self.old.level reason; reason = reason }) }
+        ensures step { self.new ≡ with_step self.old (record {
+          lit = lit;
+          level = level_after self.old.level reason;
+          reason = reason;
+        }) }
         ensures laws { IsTrail self.new }
     {
         let level = next_level(self.level, reason);

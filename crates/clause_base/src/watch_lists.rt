@@ -2,7 +2,8 @@
 //!
 //! A link and what is written on a node are numbers of 32 bits, side by side, so that a walk along a list reads both
 //! at once, and the two nodes of a clause stand in one cache line.
-ghost use Rattle.std.specs.Prelude.{◌≡◌, ◌≢◌, ℕ, ◌+◌, ◌^◌, ◌<◌, ◌≤◌, ◌++◌, ◌∷◌, [], length, Some, None, Option, List, Contains, OnOk, slice_get, slice_index, slice_set};
+ghost use Rattle.std.specs.Prelude.{◌≡◌, ◌≢◌, ℕ, ◌+◌, ◌^◌, ◌<◌, ◌≤◌, ◌++◌, ◌∷◌, [], length, Some, None, Option, List};
+ghost use Rattle.std.specs.Prelude.{Contains, OnOk, slice_get, slice_index, slice_set};
 ghost use Rattle.clause_base.specs.Links.{node_of, first_of, last_of};
 ghost use Rattle.clause_base.specs.ListsFields.{labels_of, links_of};
 ghost use Rattle.clause_base.specs.ListsState.{HasLaws, nodes_of};
@@ -76,7 +77,8 @@ fn write_zeros(numbers: &mut Vec<u32>)
 /// Adds nodes of no list, so that there are at least `len`.
 fn add_unlinked(nodes: &mut Vec<Node>, len: usize) -> Result<(), Memory>
     ensures links { (k : ℕ) → slice_index (links_of nodes.new.items) k ≡ slice_index (links_of nodes.old.items) k }
-    ensures labels { (k x : ℕ) → slice_get (labels_of nodes.old.items) k ≡ Some x → slice_get (labels_of nodes.new.items) k ≡ Some x }
+    ensures labels { (k x : ℕ) → slice_get (labels_of nodes.old.items) k ≡ Some x
+        → slice_get (labels_of nodes.new.items) k ≡ Some x }
     ensures longer { length nodes.old.items ≤ length nodes.new.items }
     ensures enough { OnOk result (len ≤ length nodes.new.items) }
     ensures small { length nodes.old.items < 2 ^ 32 → length nodes.new.items < 2 ^ 32 }
@@ -190,10 +192,12 @@ impl LinkedLists {
     /// Takes a node out of its list, in which this one, if any, is before it.
     pub fn unlink(&mut self, list: usize, before: Option<usize>, node: usize)
         requires list { list < length self.old.lists }
-        requires at { (front : List ℕ) × (back : List ℕ) × (nodes_of self.old list ≡ front ++ node ∷ back) × (last_of front ≡ before) }
+        requires at { (front : List ℕ) × (back : List ℕ) × (nodes_of self.old list ≡ front ++ node ∷ back)
+            × (last_of front ≡ before) }
         ensures count { length self.new.lists ≡ length self.old.lists }
         ensures labels { self.new.labels ≡ self.old.labels }
-        ensures here { (front back : List ℕ) → nodes_of self.old list ≡ front ++ node ∷ back → nodes_of self.new list ≡ front ++ back }
+        ensures here { (front back : List ℕ) → nodes_of self.old list ≡ front ++ node ∷ back → nodes_of self.new list
+            ≡ front ++ back }
         ensures others { (j : ℕ) → j ≢ list → nodes_of self.new j ≡ nodes_of self.old j }
         ensures free { (j : ℕ) → Contains (nodes_of self.new j) node → ⊥ }
         ensures laws { HasLaws self.new }

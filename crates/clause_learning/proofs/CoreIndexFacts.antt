@@ -1,7 +1,9 @@
 -- Kept cores.
-use Rattle.std.proofs.Common.{◌≡◌, ℕ, zero, suc, ◌+◌, ◌-◌, ◌<◌, ◌≤◌, true, Some, List, [], ◌∷◌, ◌++◌, length, slice_get, get_or, refl, sym, ap, ◌∙◌, subst, inl, inr, ◌⊎◌, ⊎_elim, arith, All, Contains}
+use Rattle.std.proofs.Common.{◌≡◌, ℕ, zero, suc, ◌+◌, ◌-◌, ◌<◌, ◌≤◌, true, Some, List, [], ◌∷◌, ◌++◌, length, slice_get}
+use Rattle.std.proofs.Common.{get_or, refl, sym, ap, ◌∙◌, subst, inl, inr, ◌⊎◌, ⊎_elim, arith, All, Contains}
 use Rattle.std.proofs.lemmas.List.{length_push, get_or_push, get_or_append_left}
-use Rattle.std.proofs.lemmas.List.Elements.{All-nil, All-contains, All-contains_itself, All-weaker, Contains-append_left, Contains-push, Contains-push_cases}
+use Rattle.std.proofs.lemmas.List.Elements.{All-nil, All-contains, All-contains_itself, All-weaker}
+use Rattle.std.proofs.lemmas.List.Elements.{Contains-append_left, Contains-push, Contains-push_cases}
 use Rattle.std.proofs.lemmas.Option.{slice_get_within, slice_get-get_or, get_or_from_slice_get, same_Some}
 use Rattle.lit_core.specs.declared.literals.Lit.{Lit}
 use Rattle.lit_core.proofs.LiteralFacts.{decide_literal}
@@ -20,7 +22,8 @@ nothing-last : (l : Lit) → last_of [] ≡ Some l → ⊥
 nothing-last l e = let lt : 0 - 1 < 0 = slice_get_within {A = Lit} [] (0 - 1) l e in omega (arith, lt)
 
 -- the same cores, found in the same way
-pub same-index : (k m : CoreIndex) → m.cores.items ≡ k.cores.items → m.older.items ≡ k.older.items → ((l : Lit) → newest_of m l ≡ newest_of k l) → m.refuted ≡ k.refuted → IsIndexed k → IsIndexed m
+pub same-index : (k m : CoreIndex) → m.cores.items ≡ k.cores.items → m.older.items ≡ k.older.items
+    → ((l : Lit) → newest_of m l ≡ newest_of k l) → m.refuted ≡ k.refuted → IsIndexed k → IsIndexed m
 same-index k m cores older newest refuted h = record {
   newest = λ l j e. rw (newest l) (h.newest l j (back j l e));
   ends = λ l j e. there j l (h.ends l j (sym (newest l) ∙ e));
@@ -39,12 +42,18 @@ same-index k m cores older newest refuted h = record {
     there j l e = (e.0, ap (λ (cs : List (List Lit)). slice_get cs j) cores ∙ e.1, e.2)
 
 -- one more core
-module _ (k m : CoreIndex) (core : List Lit) (was : ℕ) (h : IsIndexed k) (cores : m.cores.items ≡ k.cores.items ++ core ∷ []) (older : m.older.items ≡ k.older.items ++ was ∷ []) where
+module _ (k m : CoreIndex) (core : List Lit) (was : ℕ) (h : IsIndexed k) (cores : m.cores.items ≡ k.cores.items ++ core
+    ∷ []) (older : m.older.items ≡ k.older.items ++ was ∷ []) where
   abbrev n : ℕ
   n = length k.cores.items
 
   ends-old : (j : ℕ) (l : Lit) → EndsWith k j l → EndsWith m j l
-  ends-old j l e = (e.0, ap (λ (cs : List (List Lit)). slice_get cs j) cores ∙ slice_get-push_old k.cores.items core j e.0 e.1, e.2)
+  ends-old j l e = (
+    e.0,
+    ap (λ (cs : List (List Lit)). slice_get cs j) cores
+        ∙ slice_get-push_old k.cores.items core j e.0 e.1,
+    e.2,
+  )
 
   ends-cases : (j : ℕ) (l : Lit) → EndsWith m j l → EndsWith k j l ⊎ ((j ≡ n) × (last_of core ≡ Some l))
   ends-cases j l e = ⊎_elim
@@ -53,7 +62,8 @@ module _ (k m : CoreIndex) (core : List Lit) (was : ℕ) (h : IsIndexed k) (core
       (slice_get-push_cases k.cores.items core j e.0 (ap (λ (cs : List (List Lit)). slice_get cs j) (sym cores) ∙ e.1))
 
   older-old : (i : ℕ) → i < n → get_or m.older.items i 0 ≡ get_or k.older.items i 0
-  older-old i lt = ap (λ (xs : List ℕ). get_or xs i 0) older ∙ get_or_append_left k.older.items (was ∷ []) 0 i (let s : length k.older.items ≡ length k.cores.items = h.sized in omega (arith, lt, s))
+  older-old i lt = ap (λ (xs : List ℕ). get_or xs i 0) older ∙ get_or_append_left k.older.items (was ∷ []) 0 i
+      (let s : length k.older.items ≡ length k.cores.items = h.sized in omega (arith, lt, s))
 
   older-new : get_or m.older.items n 0 ≡ was
   older-new = ap (λ (xs : List ℕ). get_or xs n 0) older ∙ get_or_push k.older.items was 0 n h.sized
@@ -65,20 +75,29 @@ module _ (k m : CoreIndex) (core : List Lit) (was : ℕ) (h : IsIndexed k) (core
       let s : length k.older.items ≡ length k.cores.items = h.sized in
       omega (arith, a, b, s)
 
-  module _ (lit : Lit) (last : last_of core ≡ Some lit) (was-is : was ≡ newest_of k lit) (here : newest_of m lit ≡ n + 1) (others : (l : Lit) → (l ≡ lit → ⊥) → newest_of m l ≡ newest_of k l) (refuted : m.refuted ≡ k.refuted) where
+  module _ (lit : Lit) (last : last_of core ≡ Some lit) (was-is : was ≡ newest_of k lit)
+      (here : newest_of m lit ≡ n + 1) (others : (l : Lit) → (l ≡ lit → ⊥) → newest_of m l ≡ newest_of k l)
+      (refuted : m.refuted ≡ k.refuted) where
     cases : (j : ℕ) (l : Lit) → EndsWith m j l → EndsWith k j l ⊎ ((j ≡ n) × (lit ≡ l))
     cases j l e = ⊎_elim (λ o. inl o) (λ w. inr (w.0, same_Some lit l (sym last ∙ w.1))) (ends-cases j l e)
 
     last-here : EndsWith m n lit
-    last-here = (core, ap (λ (cs : List (List Lit)). slice_get cs n) cores ∙ slice_get-push_new k.cores.items core, last)
+    last-here = (
+      core,
+      ap (λ (cs : List (List Lit)). slice_get cs n) cores
+          ∙ slice_get-push_new k.cores.items core,
+      last,
+    )
 
     pub indexed-push : IsIndexed m
     indexed-push = record {
       newest = λ l j e. ⊎_elim
           (λ (same : l ≡ lit).
-          let le : j < n + 1 = ⊎_elim (λ o. let lt : j < n = ends-within k j l o in omega (arith, lt)) (λ (w : (j ≡ n) × (lit ≡ l)). let is : j ≡ n = w.0 in omega (arith, is)) (cases j l e) in
+          let le : j < n + 1 = ⊎_elim (λ o. let lt : j < n = ends-within k j l o in omega (arith, lt))
+          (λ (w : (j ≡ n) × (lit ≡ l)). let is : j ≡ n = w.0 in omega (arith, is)) (cases j l e) in
           subst (λ (x : Lit). j < newest_of m x) (sym same) (rw here le))
-          (λ ne. ⊎_elim (λ (o : EndsWith k j l). rw (others l ne) (h.newest l j o)) (λ (w : (j ≡ n) × (lit ≡ l)). absurd (ne (sym w.1))) (cases j l e))
+          (λ ne. ⊎_elim (λ (o : EndsWith k j l). rw (others l ne) (h.newest l j o)) (λ (w : (j ≡ n) × (lit ≡ l)).
+          absurd (ne (sym w.1))) (cases j l e))
           (decide_literal l lit);
       ends = λ l j e. ⊎_elim
           (λ (same : l ≡ lit).
@@ -95,30 +114,35 @@ module _ (k m : CoreIndex) (core : List Lit) (was : ℕ) (h : IsIndexed k) (core
           (cases j l f))
           (λ (w : (i ≡ n) × (lit ≡ l)). let is : i ≡ n = w.0 in
           ⊎_elim
-          (λ (p : EndsWith k j l). subst (λ (a : ℕ). j < get_or m.older.items a 0) (sym is) (rw (older-new, was-is) (h.newest lit j (subst (EndsWith k j) (sym w.1) p))))
+          (λ (p : EndsWith k j l). subst (λ (a : ℕ). j < get_or m.older.items a 0) (sym is)
+          (rw (older-new, was-is) (h.newest lit j (subst (EndsWith k j) (sym w.1) p))))
           (λ (v : (j ≡ n) × (lit ≡ l)). let at : j ≡ n = v.0 in absurd (omega (arith, is, at, lt)))
           (cases j l f))
           (cases i l e);
       links = λ l i j e f. ⊎_elim
           (λ (o : EndsWith k i l). ends-old j l (h.links l i j o (sym (older-old i (ends-within k i l o)) ∙ f)))
-          (λ (w : (i ≡ n) × (lit ≡ l)). let at : get_or m.older.items n 0 ≡ j + 1 = subst (λ (a : ℕ). get_or m.older.items a 0 ≡ j + 1) w.0 f in
+          (λ (w : (i ≡ n) × (lit ≡ l)). let at : get_or m.older.items n 0 ≡ j + 1 =
+          subst (λ (a : ℕ). get_or m.older.items a 0 ≡ j + 1) w.0 f in
           ends-old j l (subst (EndsWith k j) w.1 (h.ends lit j (sym was-is ∙ (sym older-new ∙ at)))))
           (cases i l e);
       falls = λ l i e. ⊎_elim
           (λ (o : EndsWith k i l). rw (older-old i (ends-within k i l o)) (h.falls l i o))
-          (λ (w : (i ≡ n) × (lit ≡ l)). subst (λ (a : ℕ). get_or m.older.items a 0 ≤ a) (sym w.0) (rw (older-new, was-is) (newest-low (newest_of k lit) refl)))
+          (λ (w : (i ≡ n) × (lit ≡ l)). subst (λ (a : ℕ). get_or m.older.items a 0 ≤ a) (sym w.0)
+          (rw (older-new, was-is) (newest-low (newest_of k lit) refl)))
           (cases i l e);
       sized = more-sized;
       noted = λ has. refuted ∙ ⊎_elim
           (λ o. h.noted o)
           (λ (e : core ≡ []). absurd (nothing-last lit (ap last_of (sym e) ∙ last)))
           (Contains-push_cases k.cores.items core [] (subst (λ (cs : List (List Lit)). Contains cs []) cores has));
-      refuted = λ yes. subst (λ (cs : List (List Lit)). Contains cs []) (sym cores) (Contains-append_left k.cores.items (core ∷ []) [] (h.refuted (sym refuted ∙ yes)));
+      refuted = λ yes. subst (λ (cs : List (List Lit)). Contains cs []) (sym cores)
+          (Contains-append_left k.cores.items (core ∷ []) [] (h.refuted (sym refuted ∙ yes)));
     }
       where
         newest-low : (a : ℕ) → newest_of k lit ≡ a → a ≤ n
         newest-low zero e = omega arith
-        newest-low (suc a) e = let lt : a < n = ends-within k a lit (h.ends lit a (e ∙ omega arith)) in omega (arith, lt)
+        newest-low (suc a) e = let lt : a < n = ends-within k a lit (h.ends lit a (e ∙ omega arith)) in
+            omega (arith, lt)
 
   -- without literals
   module _ (empty : core ≡ []) (newest : (l : Lit) → newest_of m l ≡ newest_of k l) (noted : m.refuted ≡ true) where
@@ -129,12 +153,15 @@ module _ (k m : CoreIndex) (core : List Lit) (was : ℕ) (h : IsIndexed k) (core
     indexed-empty = record {
       newest = λ l j e. rw (newest l) (h.newest l j (cases-empty j l e));
       ends = λ l j e. ends-old j l (h.ends l j (sym (newest l) ∙ e));
-      older = λ l i j e f lt. rw (older-old i (ends-within k i l (cases-empty i l e))) (h.older l i j (cases-empty i l e) (cases-empty j l f) lt);
-      links = λ l i j e f. ends-old j l (h.links l i j (cases-empty i l e) (sym (older-old i (ends-within k i l (cases-empty i l e))) ∙ f));
+      older = λ l i j e f lt. rw (older-old i (ends-within k i l (cases-empty i l e)))
+          (h.older l i j (cases-empty i l e) (cases-empty j l f) lt);
+      links = λ l i j e f. ends-old j l (h.links l i j (cases-empty i l e)
+          (sym (older-old i (ends-within k i l (cases-empty i l e))) ∙ f));
       falls = λ l i e. rw (older-old i (ends-within k i l (cases-empty i l e))) (h.falls l i (cases-empty i l e));
       sized = more-sized;
       noted = λ has. noted;
-      refuted = λ yes. subst (λ (cs : List (List Lit)). Contains cs []) (sym cores) (subst (Contains (k.cores.items ++ core ∷ [])) empty (Contains-push k.cores.items core));
+      refuted = λ yes. subst (λ (cs : List (List Lit)). Contains cs []) (sym cores)
+          (subst (Contains (k.cores.items ++ core ∷ [])) empty (Contains-push k.cores.items core));
     }
 
 -- a core that is not empty has a last literal
@@ -147,7 +174,9 @@ last-of-some (x ∷ xs) not =
     (get_or (x ∷ xs) i x, at, (i, lt, get_or_from_slice_get (x ∷ xs) i (get_or (x ∷ xs) i x) (get_or (x ∷ xs) i x) at))
 
 -- no kept core is contained in the literals
-pub none-contained : (k : CoreIndex) (lits : List Lit) (set : LitSet) → (k.refuted ≡ true → ⊥) → IsIndexed k → IsSetOf lits set → ((l : Lit) (j : ℕ) (c : List Lit) → Contains lits l → slice_get k.cores.items j ≡ Some c → EndsWith k j l → All (HasLit set) c → ⊥) → HasCoreWithin k.cores.items lits → ⊥
+pub none-contained : (k : CoreIndex) (lits : List Lit) (set : LitSet) → (k.refuted ≡ true → ⊥) → IsIndexed k
+    → IsSetOf lits set → ((l : Lit) (j : ℕ) (c : List Lit) → Contains lits l → slice_get k.cores.items j ≡ Some c
+    → EndsWith k j l → All (HasLit set) c → ⊥) → HasCoreWithin k.cores.items lits → ⊥
 none-contained k lits set open-yet h is none w =
     let c : List Lit = w.1 in
     let at : slice_get k.cores.items w.0 ≡ Some c = slice_get-get_or k.cores.items w.0 c w.2 ∙ ap Some w.3 in
@@ -156,13 +185,16 @@ none-contained k lits set open-yet h is none w =
     none some.0 w.0 c has at (c, at, some.1) (All-weaker (Contains lits) (HasLit set) (λ l m. (is l).1 m) c w.4)
 
 -- those of the literals that are in a kept core within them contain that core
-pub core-contained : (cores : List (List Lit)) (lits c core : List Lit) (set blamed : LitSet) (j : ℕ) → IsSetOf lits set → IsSetOf c blamed → slice_get cores j ≡ Some c → All (HasLit set) c → IsCoreOf lits blamed core → HasCoreWithin cores core
+pub core-contained : (cores : List (List Lit)) (lits c core : List Lit) (set blamed : LitSet) (j : ℕ) → IsSetOf lits set
+    → IsSetOf c blamed → slice_get cores j ≡ Some c → All (HasLit set) c → IsCoreOf lits blamed core
+    → HasCoreWithin cores core
 core-contained cores lits c core set blamed j is made at all h = (
   j,
   c,
   slice_get_within cores j c at,
   get_or_from_slice_get cores j c c at,
-  All-weaker (Contains c) (Contains core) (λ l has. h.covers l ((is l).0 (All-contains (HasLit set) c l all has)) ((made l).1 has)) c (All-contains_itself c),
+  All-weaker (Contains c) (Contains core) (λ l has. h.covers l ((is l).0 (All-contains (HasLit set) c l all has))
+      ((made l).1 has)) c (All-contains_itself c),
 )
 
 -- a core without literals is contained in any

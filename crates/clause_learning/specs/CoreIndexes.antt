@@ -1,5 +1,6 @@
 -- Kept cores, found by their last literals.
-use Rattle.std.specs.Prelude.{◌≡◌, ℕ, ◌+◌, ◌-◌, ◌<◌, ◌≤◌, Bool, true, false, Option, Some, List, [], length, slice_get, slice_index_or, Contains}
+use Rattle.std.specs.Prelude.{◌≡◌, ℕ, ◌+◌, ◌-◌, ◌<◌, ◌≤◌, Bool, true, false, Option, Some, List, [], length, slice_get}
+use Rattle.std.specs.Prelude.{slice_index_or, Contains}
 use Rattle.lit_core.specs.declared.literals.Lit.{Lit}
 use Rattle.clause_learning.specs.declared.core_index.CoreIndex.{CoreIndex}
 

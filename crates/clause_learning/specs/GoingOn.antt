@@ -21,7 +21,13 @@ pub prefix-twice : {A : Type 0} (xs ys zs : List A) → IsPrefix xs ys → IsPre
 prefix-twice xs ys zs a b = (a.0 ++ b.0, b.1 ∙ ap (λ l. l ++ b.0) a.1 ∙ append_assoc xs a.0 b.0)
 
 pub goes-itself : (s : SolveState) → GoesOn s s
-goes-itself s = record { learnt = prefix-itself s.learnt; moments = prefix-itself s.moments; cores = prefix-itself s.cores; additions = prefix-itself s.additions }
+goes-itself s = record {
+  learnt = prefix-itself s.learnt;
+  moments = prefix-itself s.moments;
+  cores =
+      prefix-itself s.cores;
+  additions = prefix-itself s.additions;
+}
 
 pub goes-twice : (r s t : SolveState) → GoesOn r s → GoesOn s t → GoesOn r t
 goes-twice r s t a b = record {

@@ -32,10 +32,12 @@ pub record IsSolver (s : SolverState) : Type 0 where
   -- whatever was assumed: each held clause is true wherever the problem holds
   pub implied : (v : ℕ → Bool) → Satisfies s.kept.problem v → All (IsSatisfied v) s.held
   -- each clause of the problem without a retired selector is held, and each learnt one
-  pub said_held : (c : List Lit) → Contains (clauses_of s.kept.problem) c → IsLive s.kept.problem.retired c → HasClause s.held c
+  pub said_held : (c : List Lit) → Contains (clauses_of s.kept.problem) c → IsLive s.kept.problem.retired c
+      → HasClause s.held c
   pub learnt_held : All (HasClause s.held) s.kept.learnt
   -- and what is held is one of these, or holds wherever one constraint of the problem does
-  pub from : All (λ k. (IsOneOf (clauses_of s.kept.problem) k ⊎ IsOneOf s.kept.learnt k) ⊎ IsOfConstraint s.kept.problem k) s.held
+  pub from : All (λ k. (IsOneOf (clauses_of s.kept.problem) k ⊎ IsOneOf s.kept.learnt k)
+      ⊎ IsOfConstraint s.kept.problem k) s.held
   -- each literal of a held clause stands in a clause of the problem, or a constraint or a term has its variable
   pub occurs : All (All (Occurs s.kept.problem)) s.held
   pub fewer : s.conflicts < 2 ^ s.kept.problem.vars
@@ -43,7 +45,15 @@ pub record IsSolver (s : SolverState) : Type 0 where
 
 -- of no variables, for which nothing is said
 abbrev pub empty_state : SolveState
-empty_state = record { problem = empty_problem []; learnt = []; moments = []; cores = []; free = 0; searches = 0; additions = [] }
+empty_state = record {
+  problem = empty_problem [];
+  learnt = [];
+  moments = [];
+  cores = [];
+  free = 0;
+  searches = 0;
+  additions = [];
+}
 
 abbrev pub empty_solver : SolverState
 empty_solver = record { kept = empty_state; held = []; conflicts = 0; root_conflicts = 0 }
@@ -68,7 +78,15 @@ pub record AddsProblem (old : SolverState) (more : ProblemState) (new : SolverSt
 
 -- what was learnt is given up, with the kept cores
 abbrev pub forgotten : SolveState → SolveState
-forgotten s = record { problem = s.problem; learnt = []; moments = []; cores = []; free = s.free; searches = s.searches; additions = s.additions }
+forgotten s = record {
+  problem = s.problem;
+  learnt = [];
+  moments = [];
+  cores = [];
+  free = s.free;
+  searches = s.searches;
+  additions = s.additions;
+}
 
 -- and nothing else
 pub record Forgets (old new : SolverState) : Type 0 where

@@ -1,5 +1,6 @@
 //! Kept cores, and how those are found that are contained in given literals.
-ghost use Rattle.std.specs.Prelude.{◌≡◌, ℕ, ◌-◌, ◌++◌, ◌∷◌, [], List, Some, length, slice_get, slice_index_or, All, Contains, IfOk, OnOk, OnErr, IfNone, IfSome, MatchOption};
+ghost use Rattle.std.specs.Prelude.{◌≡◌, ℕ, ◌-◌, ◌++◌, ◌∷◌, [], List, Some, length, slice_get, slice_index_or, All};
+ghost use Rattle.std.specs.Prelude.{Contains, IfOk, OnOk, OnErr, IfNone, IfSome, MatchOption};
 ghost use Rattle.lit_core.specs.declared.literals.Lit.{Lit};
 ghost use Rattle.ground_core.specs.Solving.{IsSublist, HasCoreWithin};
 ghost use Rattle.search_engine.specs.LitSets.{HasLit};
@@ -39,7 +40,8 @@ fn number_at(numbers: &[usize], place: usize) -> usize
 fn replace_at(numbers: &mut Vec<usize>, place: usize, number: usize) -> Result<usize, Memory>
     ensures was { IfOk result (λ was. was ≡ slice_index_or numbers.old.items place 0) }
     ensures here { OnOk result (slice_index_or numbers.new.items place 0 ≡ number) }
-    ensures others { OnOk result ((k : ℕ) → (k ≡ place → ⊥) → slice_index_or numbers.new.items k 0 ≡ slice_index_or numbers.old.items k 0) }
+    ensures others { OnOk result ((k : ℕ) → (k ≡ place → ⊥) → slice_index_or numbers.new.items k 0
+        ≡ slice_index_or numbers.old.items k 0) }
     ensures err { OnErr result (numbers.new.items ≡ numbers.old.items) }
 {
     if place >= numbers.len() {
@@ -83,8 +85,10 @@ impl CoreIndex {
     /// The place of a core that ends with the literal and whose literals are all in the set.
     fn find_ending(&self, set: &LitSet, lit: Lit) -> Option<usize>
         requires indexed { IsIndexed self.now }
-        ensures none { IfNone result ((j : ℕ) (c : List Lit) → slice_get self.now.cores.items j ≡ Some c → EndsWith self.now j lit → All (HasLit set.now) c → ⊥) }
-        ensures some { IfSome result (λ j. (c : List Lit) × (slice_get self.now.cores.items j ≡ Some c) × All (HasLit set.now) c) }
+        ensures none { IfNone result ((j : ℕ) (c : List Lit) → slice_get self.now.cores.items j ≡ Some c
+            → EndsWith self.now j lit → All (HasLit set.now) c → ⊥) }
+        ensures some { IfSome result (λ j. (c : List Lit) × (slice_get self.now.cores.items j ≡ Some c)
+            × All (HasLit set.now) c) }
     {
         let mut at = self.newest(lit);
         while at > 0 {
@@ -100,8 +104,10 @@ impl CoreIndex {
     /// The place of a core that ends with one of the literals and whose literals are all in the set.
     fn find(&self, set: &LitSet, lits: &[Lit]) -> Option<usize>
         requires indexed { IsIndexed self.now }
-        ensures none { IfNone result ((l : Lit) (j : ℕ) (c : List Lit) → Contains lits.now l → slice_get self.now.cores.items j ≡ Some c → EndsWith self.now j l → All (HasLit set.now) c → ⊥) }
-        ensures some { IfSome result (λ j. (c : List Lit) × (slice_get self.now.cores.items j ≡ Some c) × All (HasLit set.now) c) }
+        ensures none { IfNone result ((l : Lit) (j : ℕ) (c : List Lit) → Contains lits.now l
+            → slice_get self.now.cores.items j ≡ Some c → EndsWith self.now j l → All (HasLit set.now) c → ⊥) }
+        ensures some { IfSome result (λ j. (c : List Lit) × (slice_get self.now.cores.items j ≡ Some c)
+            × All (HasLit set.now) c) }
     {
         for lit in lits {
             match self.find_ending(set, *lit) {
@@ -115,7 +121,8 @@ impl CoreIndex {
     /// Those of the literals, in their order, of which a kept core is made, if they contain one.
     pub fn contained(&self, alloc: Global, lits: &[Lit]) -> Result<Option<LitList>, Memory>
         requires indexed { IsIndexed self.now }
-        ensures { IfOk result (λ found. MatchOption found (HasCoreWithin self.now.cores.items lits.now → ⊥) (λ core. IsSublist core lits.now × HasCoreWithin self.now.cores.items core)) }
+        ensures { IfOk result (λ found. MatchOption found (HasCoreWithin self.now.cores.items lits.now → ⊥)
+            (λ core. IsSublist core lits.now × HasCoreWithin self.now.cores.items core)) }
     {
         if self.refuted {
             return Ok(Some(LitList::new(alloc)));

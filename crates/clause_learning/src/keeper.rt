@@ -2,12 +2,14 @@
 ghost use Rattle.std.specs.Prelude.{◌≡◌, ◌≤◌, ◌<◌, ◌+◌, ℕ, [], length, Contains, IfOk, IfErr, OnErr};
 ghost use Rattle.ground_core.specs.declared.solving.Halt.TheVariants as halt;
 ghost use Rattle.ground_core.specs.Problems.{AreLitsOf};
-ghost use Rattle.ground_core.specs.Solving.{Answers, HaltedAt, HasCoreWithin, IsBudgetOf, IsKnown, KeepsCores, Spends, counted};
+ghost use Rattle.ground_core.specs.Solving.{Answers, HaltedAt, HasCoreWithin, IsBudgetOf, IsKnown, KeepsCores, Spends};
+ghost use Rattle.ground_core.specs.Solving.{counted};
 ghost use Rattle.ground_core.specs.Growth.{next_lit};
 ghost use Rattle.ground_core.specs.Growing.{HasValue, IsSelector, bounded, excluded, retired};
 ghost use Rattle.ground_core.specs.Meaning.{Satisfies};
 ghost use Rattle.lit_core.specs.Literals.{valuation};
-ghost use Rattle.clause_learning.specs.Keeping.{IsKeeper, IsMost, IsNewRefusal, IsNewKeeper, SameCounts, SameKeeping, kept_of};
+ghost use Rattle.clause_learning.specs.Keeping.{IsKeeper, IsMost, IsNewRefusal, IsNewKeeper, SameCounts, SameKeeping};
+ghost use Rattle.clause_learning.specs.Keeping.{kept_of};
 
 use crate::core_index::CoreIndex;
 use chooser::Choose;
@@ -119,7 +121,8 @@ impl Keeper {
         ensures searches { self.new.engine.searches ≡ counted (self.old.engine.searches + 1) }
         ensures spends { Spends (kept_of self.old) (kept_of self.new) budget.old budget.new }
         ensures cores { KeepsCores self.old.index.cores.items result self.new.index.cores.items }
-        ensures decided { HasCoreWithin self.old.index.cores.items assume.now → IsKnown self.old.engine.learnt self.new.engine.learnt budget.old budget.new result }
+        ensures decided { HasCoreWithin self.old.index.cores.items assume.now
+            → IsKnown self.old.engine.learnt self.new.engine.learnt budget.old budget.new result }
         ensures counted { length self.new.engine.learnt ≤ length self.old.engine.learnt + self.new.engine.conflicts }
     {
         match self.index.contained(self.alloc, assume) {
@@ -143,7 +146,8 @@ impl Keeper {
         requires keeper { IsKeeper self.old }
         requires atoms { length self.old.engine.problem.atoms < length values.now }
         ensures keeper { IsKeeper self.new }
-        ensures ok { IfOk result (λ out. (out ≡ next_lit self.old.engine.problem) × (kept_of self.new ≡ excluded (kept_of self.old) values.now)) }
+        ensures ok { IfOk result (λ out. (out ≡ next_lit self.old.engine.problem)
+            × (kept_of self.new ≡ excluded (kept_of self.old) values.now)) }
         ensures err { OnErr result (SameKeeping self.old self.new) }
         ensures counts { SameCounts self.old self.new }
     {
@@ -170,7 +174,8 @@ impl Keeper {
         requires keeper { IsKeeper self.old }
         requires term { term < length self.old.engine.problem.terms }
         ensures keeper { IsKeeper self.new }
-        ensures ok { IfOk result (λ out. (out ≡ next_lit self.old.engine.problem) × (kept_of self.new ≡ bounded (kept_of self.old) term below)) }
+        ensures ok { IfOk result (λ out. (out ≡ next_lit self.old.engine.problem)
+            × (kept_of self.new ≡ bounded (kept_of self.old) term below)) }
         ensures err { OnErr result (SameKeeping self.old self.new) }
         ensures counts { SameCounts self.old self.new }
     {
@@ -186,7 +191,8 @@ impl Keeper {
         requires selector { IsSelector self.old.engine.problem selector }
         ensures keeper { IsKeeper self.new }
         ensures already { Contains self.old.engine.problem.retired selector → kept_of self.new ≡ kept_of self.old }
-        ensures retired { (Contains self.old.engine.problem.retired selector → ⊥) → kept_of self.new ≡ retired (kept_of self.old) selector }
+        ensures retired { (Contains self.old.engine.problem.retired selector → ⊥)
+            → kept_of self.new ≡ retired (kept_of self.old) selector }
         ensures counts { SameCounts self.old self.new }
     {
         self.engine.retire(selector);

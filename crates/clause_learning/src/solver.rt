@@ -1,7 +1,8 @@
 //! The solver that callers keep.
 ghost use Rattle.std.specs.Prelude.{◌≡◌, ◌≤◌, ◌<◌, ◌+◌, ℕ, [], length, Contains, IfOk, IfErr, OnOk, OnErr};
 ghost use Rattle.ground_core.specs.Problems.{AreLitsOf};
-ghost use Rattle.ground_core.specs.Solving.{Answers, AreUnretired, HaltedAt, HasCoreWithin, IsBudgetOf, IsKept, IsKnown, KeepsCores, Spends, counted};
+ghost use Rattle.ground_core.specs.Solving.{Answers, AreUnretired, HaltedAt, HasCoreWithin, IsBudgetOf, IsKept};
+ghost use Rattle.ground_core.specs.Solving.{IsKnown, KeepsCores, Spends, counted};
 ghost use Rattle.ground_core.specs.Growth.{next_lit};
 ghost use Rattle.ground_core.specs.Growing.{IsSelector, bounded, excluded, retired};
 ghost use Rattle.ground_core.specs.Meaning.{HasTermsInRange};
@@ -145,7 +146,8 @@ impl<C: Choose + Drop> Solve for Solver<C> {
         ensures searches { self.new.kept.searches ≡ counted (self.old.kept.searches + 1) }
         ensures spends { Spends self.old.kept self.new.kept budget.old budget.new }
         ensures cores { KeepsCores self.old.kept.cores result self.new.kept.cores }
-        ensures decided { HasCoreWithin self.old.kept.cores assume.now → IsKnown self.old.kept.learnt self.new.kept.learnt budget.old budget.new result }
+        ensures decided { HasCoreWithin self.old.kept.cores assume.now
+            → IsKnown self.old.kept.learnt self.new.kept.learnt budget.old budget.new result }
         ensures kept { IsKept self.new.kept }
         ensures later { GoesOn self.old.kept self.new.kept }
         ensures counted { length self.new.kept.learnt ≤ length self.old.kept.learnt + self.new.conflicts }
@@ -167,7 +169,8 @@ impl<C: Choose + Drop> Grow for Solver<C> {
     fn bound(&mut self, term: u32, below: ExtInt) -> Result<Lit, Memory>
         requires term { term < length self.old.kept.problem.terms }
         requires below { below ≡ NegInf → ⊥ }
-        ensures ok { IfOk result (λ out. (out ≡ next_lit self.old.kept.problem) × (self.new.kept ≡ bounded self.old.kept term below)) }
+        ensures ok { IfOk result (λ out. (out ≡ next_lit self.old.kept.problem)
+            × (self.new.kept ≡ bounded self.old.kept term below)) }
         ensures err { OnErr result (self.new ≡ self.old) }
         ensures kept { IsKept self.new.kept }
         ensures later { GoesOn self.old.kept self.new.kept }
@@ -179,7 +182,8 @@ impl<C: Choose + Drop> Grow for Solver<C> {
 
     fn exclude(&mut self, values: &Values) -> Result<Lit, Memory>
         requires atoms { length self.old.kept.problem.atoms < length values.now }
-        ensures ok { IfOk result (λ out. (out ≡ next_lit self.old.kept.problem) × (self.new.kept ≡ excluded self.old.kept values.now)) }
+        ensures ok { IfOk result (λ out. (out ≡ next_lit self.old.kept.problem)
+            × (self.new.kept ≡ excluded self.old.kept values.now)) }
         ensures err { OnErr result (self.new ≡ self.old) }
         ensures kept { IsKept self.new.kept }
         ensures later { GoesOn self.old.kept self.new.kept }
@@ -192,7 +196,8 @@ impl<C: Choose + Drop> Grow for Solver<C> {
     fn retire(&mut self, selector: Lit)
         requires selector { IsSelector self.old.kept.problem selector }
         ensures already { Contains self.old.kept.problem.retired selector → self.new.kept ≡ self.old.kept }
-        ensures retired { (Contains self.old.kept.problem.retired selector → ⊥) → self.new.kept ≡ retired self.old.kept selector }
+        ensures retired { (Contains self.old.kept.problem.retired selector → ⊥)
+            → self.new.kept ≡ retired self.old.kept selector }
         ensures kept { IsKept self.new.kept }
         ensures later { GoesOn self.old.kept self.new.kept }
         ensures counts { SameCounts self.old self.new }

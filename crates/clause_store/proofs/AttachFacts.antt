@@ -1,5 +1,6 @@
 -- One more clause is watched.
-use Rattle.std.proofs.Common.{◌≡◌, ℕ, ◌<◌, ◌≤◌, ◌+◌, ◌*◌, true, false, Some, List, ◌∷◌, length, sym, ap, ◌∙◌, ◌⊎◌, inl, inr, ⊎_elim, arith, subst, Contains}
+use Rattle.std.proofs.Common.{◌≡◌, ℕ, ◌<◌, ◌≤◌, ◌+◌, ◌*◌, true, false, Some, List, ◌∷◌, length, sym, ap, ◌∙◌, ◌⊎◌, inl}
+use Rattle.std.proofs.Common.{inr, ⊎_elim, arith, subst, Contains}
 use Rattle.std.proofs.lemmas.Bool.{cases_eq, cases_lt}
 use Rattle.lit_core.specs.declared.literals.Lit.{Lit}
 use Rattle.lit_core.specs.Literals.{value_in}
@@ -10,13 +11,15 @@ use Rattle.clause_store.specs.declared.attachment.WatchChoice.TheVariants.{Two}
 use Rattle.clause_base.specs.ListsState.{ListsState, HasLaws, nodes_of}
 use Rattle.clause_base.specs.StoreState.{IsHeld}
 use Rattle.clause_base.specs.TrailLaws.{IsMade}
-use Rattle.clause_store.specs.Watching.{code_of, store_of, HasWatch, IsWatcher, IsWatchNode, IsListed, IsNodeOf, IsWatched}
+use Rattle.clause_store.specs.Watching.{code_of, store_of, HasWatch, IsWatcher, IsWatchNode, IsListed, IsNodeOf}
+use Rattle.clause_store.specs.Watching.{IsWatched}
 use Rattle.clause_store.specs.Visits.{CanAttach, IsPartner, WatchChoiceGives}
 use Rattle.clause_store.proofs.WatchFacts.{guards-unfalse, same-held}
 use Rattle.clause_store.proofs.NodeFacts.{same-node}
 
 -- a node of the next clause enlists nowhere
-pub next-free : (e : Watcher) → IsWatcher e → (n : ℕ) → IsNodeOf n e.checked → (j : ℕ) → Contains (nodes_of e.lists j) n → ⊥
+pub next-free : (e : Watcher) → IsWatcher e → (n : ℕ) → IsNodeOf n e.checked → (j : ℕ)
+    → Contains (nodes_of e.lists j) n → ⊥
 next-free e h n of j has =
     let w = h.owned j n has in
     let same : w.id ≡ e.checked = same-node n w.id e.checked w.of of in
@@ -29,25 +32,38 @@ pub record Enlists (old new : ListsState) (to node : ℕ) : Type 0 where
   pub kept : (j m : ℕ) → Contains (nodes_of old j) m → Contains (nodes_of new j) m
   pub was : (j m : ℕ) → Contains (nodes_of new j) m → (m ≡ node) ⊎ Contains (nodes_of old j) m
 
-pub enlists : (old new : ListsState) (to node : ℕ) → nodes_of new to ≡ node ∷ nodes_of old to → ((j : ℕ) → (j ≡ to → ⊥) → nodes_of new j ≡ nodes_of old j) → Enlists old new to node
+pub enlists : (old new : ListsState) (to node : ℕ) → nodes_of new to ≡ node ∷ nodes_of old to
+    → ((j : ℕ) → (j ≡ to → ⊥) → nodes_of new j ≡ nodes_of old j) → Enlists old new to node
 enlists old new to node here rest = record {
   there = subst (λ (xs : List ℕ). Contains xs node) (sym here) (Contains-head node (nodes_of old to));
   kept = λ j m has. ⊎_elim
-      (λ e. subst (λ (k : ℕ). Contains (nodes_of new k) m) (sym e) (subst (λ (xs : List ℕ). Contains xs m) (sym here) (Contains-tail node (nodes_of old to) m (subst (λ (k : ℕ). Contains (nodes_of old k) m) e has))))
+      (λ e. subst (λ (k : ℕ). Contains (nodes_of new k) m) (sym e) (subst (λ (xs : List ℕ). Contains xs m) (sym here)
+      (Contains-tail node (nodes_of old to) m (subst (λ (k : ℕ). Contains (nodes_of old k) m) e has))))
       (λ ne. subst (λ (xs : List ℕ). Contains xs m) (sym (rest j ne)) has)
       (cases_eq j to);
   was = λ j m has. ⊎_elim
       (λ e. ⊎_elim
       (λ is. inl (sym is))
       (λ old_one. inr (subst (λ (k : ℕ). Contains (nodes_of old k) m) (sym e) old_one))
-      (Contains-cons_cases node (nodes_of old to) m (subst (λ (xs : List ℕ). Contains xs m) (ap (nodes_of new) e ∙ here) has)))
+      (Contains-cons_cases node (nodes_of old to) m (subst (λ (xs : List ℕ). Contains xs m) (ap (nodes_of new) e
+      ∙ here) has)))
       (λ ne. inr (subst (λ (xs : List ℕ). Contains xs m) (rest j ne) has))
       (cases_eq j to);
 }
 
-module _ (e : Watcher) (h : IsWatcher e) (more : e.checked < length e.held.clauses) (w : Watch) (mid lists : ListsState) (mine : HasWatch lists.labels e.checked w) (theirs : (i : ℕ) (v : Watch) → (i ≡ e.checked → ⊥) → HasWatch e.lists.labels i v → HasWatch lists.labels i v) (first : Enlists e.lists mid (code_of w.first) (2 * e.checked)) (second : Enlists mid lists (code_of w.second) (2 * e.checked + 1)) where
+module _ (e : Watcher) (h : IsWatcher e) (more : e.checked < length e.held.clauses) (w : Watch) (mid lists : ListsState)
+    (mine : HasWatch lists.labels e.checked w) (theirs : (i : ℕ) (v : Watch) → (i ≡ e.checked → ⊥)
+    → HasWatch e.lists.labels i v → HasWatch lists.labels i v) (first : Enlists e.lists mid (code_of w.first)
+    (2 * e.checked)) (second : Enlists mid lists (code_of w.second) (2 * e.checked + 1)) where
   abbrev after-attach : Watcher
-  after-attach = record { held = e.held; lists = lists; trail = e.trail; queue = e.queue; checked = e.checked + 1; stale = e.stale }
+  after-attach = record {
+    held = e.held;
+    lists = lists;
+    trail = e.trail;
+    queue = e.queue;
+    checked = e.checked + 1;
+    stale = e.stale;
+  }
 
   listed-next : IsListed after-attach e.checked
   listed-next = record {
@@ -62,16 +78,38 @@ module _ (e : Watcher) (h : IsWatcher e) (more : e.checked < length e.held.claus
     watch = g.watch;
     is_watch = theirs i g.watch ne g.is_watch;
     first = second.kept (code_of g.watch.first) (2 * i) (first.kept (code_of g.watch.first) (2 * i) g.first);
-    second = second.kept (code_of g.watch.second) (2 * i + 1) (first.kept (code_of g.watch.second) (2 * i + 1) g.second);
+    second = second.kept (code_of g.watch.second) (2 * i + 1) (first.kept (code_of g.watch.second)
+        (2 * i + 1) g.second);
   }
 
-  pub attach-watcher : HasLaws lists → length lists.labels ≡ length e.lists.labels → length lists.lists ≡ length e.lists.lists → w.first.var.0 < length e.trail.values → w.second.var.0 < length e.trail.values → CanAttach e w → IsWatcher after-attach
+  pub attach-watcher : HasLaws lists → length lists.labels ≡ length e.lists.labels → length lists.lists
+      ≡ length e.lists.lists → w.first.var.0 < length e.trail.values → w.second.var.0 < length e.trail.values
+      → CanAttach e w → IsWatcher after-attach
   attach-watcher laws nodes count in_first in_second can =
-      let owned-next : (n : ℕ) → IsNodeOf n e.checked → IsWatchNode after-attach n = λ n of. record { id = e.checked; of = of; checked = omega arith; watch = w; is_watch = mine; first = in_first; second = in_second } in
+      let owned-next : (n : ℕ) → IsNodeOf n e.checked → IsWatchNode after-attach n =
+      λ n of. record {
+        id = e.checked;
+        of = of;
+        checked = omega arith;
+        watch = w;
+        is_watch = mine;
+        first = in_first;
+        second = in_second;
+      } in
       let owned-before : (j n : ℕ) → Contains (nodes_of e.lists j) n → IsWatchNode after-attach n = λ j n has. (
       let g = h.owned j n has in
       let lt : g.id < e.checked = g.checked in
-      record { id = g.id; of = g.of; checked = omega arith; watch = g.watch; is_watch = theirs g.id g.watch (λ x. let y : g.id ≡ e.checked = x in omega arith) g.is_watch; first = g.first; second = g.second }) in
+      record {
+        id = g.id;
+        of = g.of;
+        checked = omega arith;
+        watch = g.watch;
+        is_watch =
+            theirs g.id g.watch (λ x. let y : g.id ≡ e.checked = x in omega arith) g.is_watch;
+        first = g.first;
+        second =
+            g.second;
+      }) in
       record {
         store = h.store;
         lists = laws;
@@ -82,7 +120,11 @@ module _ (e : Watcher) (h : IsWatcher e) (more : e.checked < length e.held.claus
         small = h.small;
         room = λ spare. let k : 2 * length e.held.clauses + 2 ≤ length e.lists.labels = h.room spare in omega arith;
         guarded = λ i c lt held. ⊎_elim
-            (λ same. (w, subst (λ (n : ℕ). HasWatch lists.labels n w) (sym same) mine, can c (subst (λ (n : ℕ). IsHeld (store_of e) n c) same held)))
+            (λ same. (
+              w,
+              subst (λ (n : ℕ). HasWatch lists.labels n w) (sym same) mine,
+              can c (subst (λ (n : ℕ). IsHeld (store_of e) n c) same held),
+            ))
             (λ ne. let g = h.guarded i c (omega arith) held in (g.0, theirs i g.0 ne g.1, g.2))
             (cases_eq i e.checked);
         current = h.current;
@@ -97,7 +139,16 @@ module _ (e : Watcher) (h : IsWatcher e) (more : e.checked < length e.held.claus
       }
 
 -- a removed clause is passed over
-pub skip-watcher : (e : Watcher) → IsWatcher e → e.checked < length e.held.clauses → ((c : List Lit) → IsHeld (store_of e) e.checked c → ⊥) → IsWatcher (record { held = e.held; lists = e.lists; trail = e.trail; queue = e.queue; checked = e.checked + 1; stale = e.stale })
+pub skip-watcher : (e : Watcher) → IsWatcher e → e.checked < length e.held.clauses
+    → ((c : List Lit) → IsHeld (store_of e) e.checked c → ⊥) → IsWatcher
+    (record {
+      held = e.held;
+      lists = e.lists;
+      trail = e.trail;
+      queue = e.queue;
+      checked = e.checked + 1;
+      stale = e.stale;
+    })
 skip-watcher e h more gone = record {
   store = h.store;
   lists = h.lists;
@@ -114,13 +165,37 @@ skip-watcher e h more gone = record {
   current = h.current;
   listed = λ i c lt held. ⊎_elim
       (λ same. absurd (gone c (subst (λ (n : ℕ). IsHeld (store_of e) n c) same held)))
-      (λ ne. let g = h.listed i c (omega arith) held in record { watch = g.watch; is_watch = g.is_watch; first = g.first; second = g.second })
+      (λ ne. let g = h.listed i c (omega arith) held in record {
+        watch = g.watch;
+        is_watch = g.is_watch;
+        first =
+            g.first;
+        second = g.second;
+      })
       (cases_eq i e.checked);
-  owned = λ j n has. let g = h.owned j n has in let lt : g.id < e.checked = g.checked in record { id = g.id; of = g.of; checked = omega arith; watch = g.watch; is_watch = g.is_watch; first = g.first; second = g.second };
+  owned = λ j n has. let g = h.owned j n has in let lt : g.id < e.checked = g.checked in
+      record {
+        id = g.id;
+        of = g.of;
+        checked = omega arith;
+        watch = g.watch;
+        is_watch = g.is_watch;
+        first = g.first;
+        second = g.second;
+      };
 }
 
 -- the rest of the clauses, all removed, is passed over
-pub rest-watcher : (e : Watcher) (n : ℕ) → IsWatcher e → n ≡ length e.held.clauses → ((id : ℕ) (c : List Lit) → e.checked ≤ id → IsHeld (store_of e) id c → ⊥) → IsWatcher (record { held = e.held; lists = e.lists; trail = e.trail; queue = e.queue; checked = n; stale = e.stale })
+pub rest-watcher : (e : Watcher) (n : ℕ) → IsWatcher e → n ≡ length e.held.clauses
+    → ((id : ℕ) (c : List Lit) → e.checked ≤ id → IsHeld (store_of e) id c → ⊥)
+    → IsWatcher (record {
+      held = e.held;
+      lists = e.lists;
+      trail = e.trail;
+      queue = e.queue;
+      checked = n;
+      stale = e.stale;
+    })
 rest-watcher e n h all gone =
     let most : e.checked ≤ length e.held.clauses = h.checked in
     record {
@@ -132,49 +207,74 @@ rest-watcher e n h all gone =
       count = h.count;
       small = h.small;
       room = h.room;
-      guarded = λ i c lt held. ⊎_elim (λ before. h.guarded i c before held) (λ ge. absurd (gone i c ge held)) (cases_lt i e.checked);
+      guarded = λ i c lt held. ⊎_elim (λ before. h.guarded i c before held) (λ ge. absurd (gone i c ge held))
+          (cases_lt i e.checked);
       current = h.current;
       listed = λ i c lt held. ⊎_elim
-          (λ before. let g = h.listed i c before held in record { watch = g.watch; is_watch = g.is_watch; first = g.first; second = g.second })
+          (λ before. let g = h.listed i c before held in record {
+            watch = g.watch;
+            is_watch = g.is_watch;
+            first =
+                g.first;
+            second = g.second;
+          })
           (λ ge. absurd (gone i c ge held))
           (cases_lt i e.checked);
-      owned = λ j k has. let g = h.owned j k has in let lt : g.id < e.checked = g.checked in record { id = g.id; of = g.of; checked = omega arith; watch = g.watch; is_watch = g.is_watch; first = g.first; second = g.second };
+      owned = λ j k has. let g = h.owned j k has in let lt : g.id < e.checked = g.checked in
+          record {
+            id = g.id;
+            of = g.of;
+            checked = omega arith;
+            watch = g.watch;
+            is_watch = g.is_watch;
+            first = g.first;
+            second = g.second;
+          };
     }
 
 -- two literals that are not false may be watched
 pub two-attach : (e : Watcher) (w : Watch) → IsWatcher e → WatchChoiceGives e e.checked (Two w) → CanAttach e w
 two-attach e w h p c held =
-    subst (λ (x : List Lit). IsWatched e.trail.steps e.queue e.stale x w) (same-held (store_of e) e.checked p.0 c p.1 held) (record {
+    subst (λ (x : List Lit). IsWatched e.trail.steps e.queue e.stale x w)
+    (same-held (store_of e) e.checked p.0 c p.1 held) (record {
       has_first = p.2;
       has_second = p.3;
       ways = inr (record {
         distinct = λ y. p.4 (sym y);
         first = guards-unfalse e.trail.values e.trail.steps e.queue e.stale w.first w.second h.store.trail.coherent p.5;
-        second = guards-unfalse e.trail.values e.trail.steps e.queue e.stale w.second w.first h.store.trail.coherent p.6;
+        second = guards-unfalse e.trail.values e.trail.steps e.queue e.stale w.second w.first
+            h.store.trail.coherent p.6;
       });
     })
 
 -- a true literal may be watched with one that became false at no lower level
-pub pair-attach : (e : Watcher) (l m : Lit) (c : List Lit) → IsWatcher e → IsHeld (store_of e) e.checked c → Contains c l → value_in e.trail.values l ≡ Some true → IsPartner e e.checked l m → CanAttach e (record { first = l; second = m })
+pub pair-attach : (e : Watcher) (l m : Lit) (c : List Lit) → IsWatcher e → IsHeld (store_of e) e.checked c
+    → Contains c l → value_in e.trail.values l ≡ Some true → IsPartner e e.checked l m
+    → CanAttach e (record { first = l; second = m })
 pair-attach e l m c h held has t p d k =
     let w : Watch = record { first = l; second = m } in
-    subst (λ (x : List Lit). IsWatched e.trail.steps e.queue e.stale x w) (same-held (store_of e) e.checked c d held k) (record {
+    subst (λ (x : List Lit). IsWatched e.trail.steps e.queue e.stale x w)
+    (same-held (store_of e) e.checked c d held k) (record {
       has_first = has;
       has_second = p.member c held;
       ways = inr (record {
         distinct = p.distinct;
-        first = guards-unfalse e.trail.values e.trail.steps e.queue e.stale l m h.store.trail.coherent (λ f. let y : Some true ≡ Some false = sym t ∙ f in cc);
+        first = guards-unfalse e.trail.values e.trail.steps e.queue e.stale l m h.store.trail.coherent
+            (λ f. let y : Some true ≡ Some false = sym t ∙ f in cc);
         second = λ i u lt eu is. (p.at, p.step, p.is_step, p.made, inr (p.later i u eu is));
       });
     })
 
 -- a clause with a true literal may be watched by it, at level 0 or where levels are passed over
-pub one-attach : (e : Watcher) (l : Lit) (c : List Lit) → IsWatcher e → IsHeld (store_of e) e.checked c → Contains c l → value_in e.trail.values l ≡ Some true → ((e.stale ≡ true) ⊎ (e.trail.level ≡ 0)) → CanAttach e (record { first = l; second = l })
+pub one-attach : (e : Watcher) (l : Lit) (c : List Lit) → IsWatcher e → IsHeld (store_of e) e.checked c → Contains c l
+    → value_in e.trail.values l ≡ Some true → ((e.stale ≡ true) ⊎ (e.trail.level ≡ 0))
+    → CanAttach e (record { first = l; second = l })
 one-attach e l c h held has t low d k =
     let m : IsMade e.trail.steps l = h.store.trail.coherent.was_made l t in
     let w : Watch = record { first = l; second = l } in
     let top : m.1.level ≤ e.trail.level = h.store.trail.top m.0 m.1 m.2 in
-    subst (λ (x : List Lit). IsWatched e.trail.steps e.queue e.stale x w) (same-held (store_of e) e.checked c d held k) (record {
+    subst (λ (x : List Lit). IsWatched e.trail.steps e.queue e.stale x w)
+    (same-held (store_of e) e.checked c d held k) (record {
       has_first = has;
       has_second = has;
       ways = inl (m.0, m.1, m.2, subst (Contains c) (sym m.3) has, ⊎_elim (λ s. inl s) (λ z. inr (omega arith)) low);

@@ -1,5 +1,6 @@
 -- The watcher with more room, more variables, and other clauses.
-use Rattle.std.proofs.Common.{◌≡◌, ℕ, ◌<◌, ◌≤◌, ◌+◌, ◌*◌, ◌^◌, Some, List, [], length, sym, ap, ◌∙◌, arith, slice_get, subst, Contains}
+use Rattle.std.proofs.Common.{◌≡◌, ℕ, ◌<◌, ◌≤◌, ◌+◌, ◌*◌, ◌^◌, Some, List, [], length, sym, ap, ◌∙◌, arith, slice_get}
+use Rattle.std.proofs.Common.{subst, Contains}
 use Rattle.lit_core.specs.declared.literals.Lit.{Lit}
 use Rattle.lit_core.proofs.LiteralFacts.{nothing_in_none}
 use Rattle.clause_base.specs.TrailState.{TrailState}
@@ -13,11 +14,22 @@ use Rattle.clause_store.specs.Watching.{code_of, store_of, HasWatch, IsWatcher, 
 use Rattle.clause_base.proofs.StoreFacts.{store-longer}
 
 -- what is written on nodes stays where there are more of them
-pub watch-kept : (labels more : List ℕ) → ((k x : ℕ) → slice_get labels k ≡ Some x → slice_get more k ≡ Some x) → (id : ℕ) (w : Watch) → HasWatch labels id w → HasWatch more id w
-watch-kept labels more kept id w h = record { first = kept (2 * id + 1) (code_of w.first) h.first; second = kept (2 * id) (code_of w.second) h.second }
+pub watch-kept : (labels more : List ℕ) → ((k x : ℕ) → slice_get labels k ≡ Some x → slice_get more k ≡ Some x)
+    → (id : ℕ) (w : Watch) → HasWatch labels id w → HasWatch more id w
+watch-kept labels more kept id w h = record {
+  first = kept (2 * id + 1) (code_of w.first) h.first;
+  second =
+      kept (2 * id) (code_of w.second) h.second;
+}
 
 -- more nodes and other clauses, of which those that are watched were held before
-pub watcher-held : (e : Watcher) (b : Watcher) → IsWatcher e → IsStore (store_of b) → b.trail ≡ e.trail → b.queue ≡ e.queue → b.checked ≡ e.checked → b.stale ≡ e.stale → e.checked ≤ length b.held.clauses → 2 * length b.held.clauses ≤ length b.lists.labels → (0 < b.held.spare → 2 * length b.held.clauses + 2 ≤ length b.lists.labels) → ((id : ℕ) (c : List Lit) → id < e.checked → IsHeld (store_of b) id c → IsHeld (store_of e) id c) → ((k x : ℕ) → slice_get e.lists.labels k ≡ Some x → slice_get b.lists.labels k ≡ Some x) → HasLaws b.lists → length e.lists.lists ≤ length b.lists.lists → ((j : ℕ) → nodes_of b.lists j ≡ nodes_of e.lists j) → IsWatcher b
+pub watcher-held : (e : Watcher) (b : Watcher) → IsWatcher e → IsStore (store_of b) → b.trail ≡ e.trail
+    → b.queue ≡ e.queue → b.checked ≡ e.checked → b.stale ≡ e.stale → e.checked ≤ length b.held.clauses
+    → 2 * length b.held.clauses ≤ length b.lists.labels → (0 < b.held.spare → 2 * length b.held.clauses + 2
+    ≤ length b.lists.labels) → ((id : ℕ) (c : List Lit) → id < e.checked → IsHeld (store_of b) id c
+    → IsHeld (store_of e) id c) → ((k x : ℕ) → slice_get e.lists.labels k ≡ Some x → slice_get b.lists.labels k
+    ≡ Some x) → HasLaws b.lists → length e.lists.lists ≤ length b.lists.lists
+    → ((j : ℕ) → nodes_of b.lists j ≡ nodes_of e.lists j) → IsWatcher b
 watcher-held e b h store trail queue checked stale shorter nodes room was kept laws count lists =
     record {
       store = store;
@@ -56,19 +68,36 @@ watcher-held e b h store trail queue checked stale shorter nodes room was kept l
     }
 
 -- more variables, and more lists
-pub watcher-longer : (e : Watcher) (lists : ListsState) (t : TrailState) → IsWatcher e → t.steps ≡ e.trail.steps → t.level ≡ e.trail.level → length e.trail.values ≤ length t.values → IsTrail t → HasLaws lists → lists.labels ≡ e.lists.labels → 2 * length t.values ≤ length lists.lists → length t.values ≤ 2 ^ 31 → ((j : ℕ) → nodes_of lists j ≡ nodes_of e.lists j) → IsWatcher (record { held = e.held; lists = lists; trail = t; queue = e.queue; checked = e.checked; stale = e.stale })
+pub watcher-longer : (e : Watcher) (lists : ListsState) (t : TrailState) → IsWatcher e → t.steps ≡ e.trail.steps
+    → t.level ≡ e.trail.level → length e.trail.values ≤ length t.values → IsTrail t → HasLaws lists
+    → lists.labels ≡ e.lists.labels → 2 * length t.values ≤ length lists.lists → length t.values ≤ 2 ^ 31
+    → ((j : ℕ) → nodes_of lists j ≡ nodes_of e.lists j) → IsWatcher (record {
+      held = e.held;
+      lists = lists;
+      trail = t;
+      queue = e.queue;
+      checked = e.checked;
+      stale = e.stale;
+    })
 watcher-longer e lists t h steps level longer trail laws nodes count small same =
     record {
       store = store-longer (store_of e) t h.store steps longer trail;
       lists = laws;
       queue = rw steps h.queue;
       checked = h.checked;
-      nodes = let k : 2 * length e.held.clauses ≤ length e.lists.labels = h.nodes in let n : length lists.labels ≡ length e.lists.labels = ap length nodes in omega arith;
+      nodes = let k : 2 * length e.held.clauses ≤ length e.lists.labels = h.nodes in let n : length lists.labels
+          ≡ length e.lists.labels = ap length nodes in omega arith;
       count = count;
       small = small;
-      room = λ spare. let k : 2 * length e.held.clauses + 2 ≤ length e.lists.labels = h.room spare in let n : length lists.labels ≡ length e.lists.labels = ap length nodes in omega arith;
-      guarded = λ id c lt held. let g = h.guarded id c lt held in (g.0, subst (λ (ls : List ℕ). HasWatch ls id g.0) (sym nodes) g.1, subst (λ (xs : List Step). IsWatched xs e.queue e.stale c g.0) (sym steps) g.2);
-      current = λ n k u le eu. h.current n k u le (subst (λ (xs : List Step). slice_get xs k ≡ Some u) steps eu) ∙ sym level;
+      room = λ spare. let k : 2 * length e.held.clauses + 2 ≤ length e.lists.labels = h.room spare in
+          let n : length lists.labels ≡ length e.lists.labels = ap length nodes in omega arith;
+      guarded = λ id c lt held. let g = h.guarded id c lt held in (
+        g.0,
+        subst (λ (ls : List ℕ). HasWatch ls id g.0) (sym nodes) g.1,
+        subst (λ (xs : List Step). IsWatched xs e.queue e.stale c g.0) (sym steps) g.2,
+      );
+      current = λ n k u le eu. h.current n k u le (subst (λ (xs : List Step). slice_get xs k ≡ Some u) steps eu)
+          ∙ sym level;
       listed = λ id c lt held.
           let g = h.listed id c lt held in
           record {
@@ -81,10 +110,22 @@ watcher-longer e lists t h steps level longer trail laws nodes count small same 
           let g = h.owned j n (subst (λ (xs : List ℕ). Contains xs n) (same j) has) in
           let a : g.watch.first.var.0 < length e.trail.values = g.first in
           let b : g.watch.second.var.0 < length e.trail.values = g.second in
-          record { id = g.id; of = g.of; checked = g.checked; watch = g.watch; is_watch = subst (λ (ls : List ℕ). HasWatch ls g.id g.watch) (sym nodes) g.is_watch; first = omega arith; second = omega arith };
+          record {
+            id = g.id;
+            of = g.of;
+            checked = g.checked;
+            watch = g.watch;
+            is_watch =
+                subst (λ (ls : List ℕ). HasWatch ls g.id g.watch) (sym nodes) g.is_watch;
+            first = omega arith;
+            second =
+                omega arith;
+          };
     }
 
-pub watcher-empty : (e : Watcher) → IsStore (store_of e) → e.held.clauses ≡ [] → e.held.spare ≡ 0 → e.trail ≡ empty_trail → e.queue ≡ 0 → e.checked ≡ 0 → HasLaws e.lists → ((j : ℕ) → nodes_of e.lists j ≡ []) → IsWatcher e
+pub watcher-empty : (e : Watcher) → IsStore (store_of e) → e.held.clauses ≡ [] → e.held.spare ≡ 0
+    → e.trail ≡ empty_trail → e.queue ≡ 0 → e.checked ≡ 0 → HasLaws e.lists → ((j : ℕ) → nodes_of e.lists j ≡ [])
+    → IsWatcher e
 watcher-empty e store clauses spare trail queue checked laws empty =
     let none : length e.held.clauses ≡ 0 = ap length clauses in
     let no_values : length e.trail.values ≡ 0 = ap (λ (t : TrailState). length t.values) trail in
@@ -98,7 +139,8 @@ watcher-empty e store clauses spare trail queue checked laws empty =
       small = omega arith;
       room = λ pos. absurd (omega arith);
       guarded = λ id c lt held. absurd (omega arith);
-      current = λ n k t le et. (let x : slice_get [] k ≡ Some t = subst (λ (y : TrailState). slice_get y.steps k ≡ Some t) trail et in cc);
+      current = λ n k t le et. (let x : slice_get [] k ≡ Some t =
+          subst (λ (y : TrailState). slice_get y.steps k ≡ Some t) trail et in cc);
       listed = λ id c lt held. absurd (omega arith);
       owned = λ j n has. absurd (nothing_in_none n (subst (λ (xs : List ℕ). Contains xs n) (empty j) has));
     }

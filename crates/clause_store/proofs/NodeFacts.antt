@@ -1,5 +1,6 @@
 -- Where the nodes of clauses link.
-use Rattle.std.proofs.Common.{◌≡◌, ℕ, ◌<◌, ◌≤◌, ◌+◌, ◌*◌, ◌^◌, Bool, true, false, cond, Some, List, length, set, refl, sym, ap, ◌∙◌, ◌⊎◌, inl, inr, ⊎_elim, arith, subst, Contains}
+use Rattle.std.proofs.Common.{◌≡◌, ℕ, ◌<◌, ◌≤◌, ◌+◌, ◌*◌, ◌^◌, Bool, true, false, cond, Some, List, length, set, refl}
+use Rattle.std.proofs.Common.{sym, ap, ◌∙◌, ◌⊎◌, inl, inr, ⊎_elim, arith, subst, Contains}
 use Rattle.std.proofs.lemmas.Option.{same_Some}
 use Rattle.std.proofs.lemmas.List.{length-set}
 use Rattle.clause_base.proofs.ListFacts.{slice_get-set_same, slice_get-set_other}
@@ -21,10 +22,12 @@ pub code-same : (l m : Lit) → code_of l ≡ code_of m → l ≡ m
 code-same l m e = by_sign l.positive m.positive refl refl
   where
     by_sign : (p q : Bool) → l.positive ≡ p → m.positive ≡ q → l ≡ m
-    by_sign true true ep eq = let x : 2 * l.var.0 + 1 ≡ 2 * m.var.0 + 1 = rw (ep, eq) at e in same_literal l m (omega arith) (ep ∙ sym eq)
+    by_sign true true ep eq = let x : 2 * l.var.0 + 1 ≡ 2 * m.var.0 + 1 = rw (ep, eq) at e in
+        same_literal l m (omega arith) (ep ∙ sym eq)
     by_sign true false ep eq = absurd (let x : 2 * l.var.0 + 1 ≡ 2 * m.var.0 + 0 = rw (ep, eq) at e in omega arith)
     by_sign false true ep eq = absurd (let x : 2 * l.var.0 + 0 ≡ 2 * m.var.0 + 1 = rw (ep, eq) at e in omega arith)
-    by_sign false false ep eq = let x : 2 * l.var.0 + 0 ≡ 2 * m.var.0 + 0 = rw (ep, eq) at e in same_literal l m (omega arith) (ep ∙ sym eq)
+    by_sign false false ep eq = let x : 2 * l.var.0 + 0 ≡ 2 * m.var.0 + 0 = rw (ep, eq) at e in
+        same_literal l m (omega arith) (ep ∙ sym eq)
 
 pub code-le : (l : Lit) → code_of l ≤ 2 * l.var.0 + 1
 code-le l = by_sign l.positive
@@ -36,23 +39,28 @@ code-le l = by_sign l.positive
 -- a clause watches just two literals
 pub same-watch : (labels : List ℕ) (id : ℕ) (v w : Watch) → HasWatch labels id v → HasWatch labels id w → v ≡ w
 same-watch labels id v w hv hw =
-    let first : v.first ≡ w.first = code-same v.first w.first (same_Some (code_of v.first) (code_of w.first) (sym hv.first ∙ hw.first)) in
-    let second : v.second ≡ w.second = code-same v.second w.second (same_Some (code_of v.second) (code_of w.second) (sym hv.second ∙ hw.second)) in
+    let first : v.first ≡ w.first = code-same v.first w.first (same_Some (code_of v.first) (code_of w.first)
+    (sym hv.first ∙ hw.first)) in
+    let second : v.second ≡ w.second = code-same v.second w.second (same_Some (code_of v.second) (code_of w.second)
+    (sym hv.second ∙ hw.second)) in
     let make : Lit → Lit → Watch = λ a b. record { first = a; second = b } in
     ap (λ (a : Lit). make a v.second) first ∙ ap (λ (b : Lit). make w.first b) second
 
 -- what is written on another clause's node
-pub label-other : (labels : List ℕ) (node x i : ℕ) (v : Watch) → (IsNodeOf node i → ⊥) → HasWatch labels i v → HasWatch (set labels node x) i v
+pub label-other : (labels : List ℕ) (node x i : ℕ) (v : Watch) → (IsNodeOf node i → ⊥) → HasWatch labels i v
+    → HasWatch (set labels node x) i v
 label-other labels node x i v ne h = record {
   first = slice_get-set_other labels node (2 * i + 1) x (λ e. ne (inr (sym e))) ∙ h.first;
   second = slice_get-set_other labels node (2 * i) x (λ e. ne (inl (sym e))) ∙ h.second;
 }
 
 -- what is written on both nodes of a clause
-pub label-both : (labels : List ℕ) (id x y : ℕ) (w : Watch) → 2 * id + 1 < length labels → x ≡ code_of w.second → y ≡ code_of w.first → HasWatch (set (set labels (2 * id) x) (2 * id + 1) y) id w
+pub label-both : (labels : List ℕ) (id x y : ℕ) (w : Watch) → 2 * id + 1 < length labels → x ≡ code_of w.second
+    → y ≡ code_of w.first → HasWatch (set (set labels (2 * id) x) (2 * id + 1) y) id w
 label-both labels id x y w within second first = record {
   first = slice_get-set_same (set labels (2 * id) x) (2 * id + 1) y (rw length-set within) ∙ ap Some first;
-  second = slice_get-set_other (set labels (2 * id) x) (2 * id + 1) (2 * id) y (λ e. omega arith) ∙ slice_get-set_same labels (2 * id) x (omega arith) ∙ ap Some second;
+  second = slice_get-set_other (set labels (2 * id) x) (2 * id + 1) (2 * id) y (λ e. omega arith)
+      ∙ slice_get-set_same labels (2 * id) x (omega arith) ∙ ap Some second;
 }
 
 -- the number of a literal of the store fits in 32 bits
@@ -60,7 +68,8 @@ pub code-small : (e : Watcher) → IsWatcher e → (l : Lit) → l.var.0 < lengt
 code-small e h l lt = let small : length e.trail.values ≤ 2 ^ 31 = h.small in omega arith
 
 -- a literal of the store has a list
-pub code-within : (e : Watcher) → IsWatcher e → (l : Lit) → l.var.0 < length e.trail.values → code_of l < length e.lists.lists
+pub code-within : (e : Watcher) → IsWatcher e → (l : Lit) → l.var.0 < length e.trail.values
+    → code_of l < length e.lists.lists
 code-within e h l lt =
     let le : code_of l ≤ 2 * l.var.0 + 1 = code-le l in
     let all : 2 * length e.trail.values ≤ length e.lists.lists = h.count in
@@ -81,8 +90,10 @@ same-node node i k hi hk = ⊎_elim
     hi
 
 -- a literal of a held clause is one of the store
-pub literal-within : (e : Watcher) → IsWatcher e → (id : ℕ) (c : List Lit) → IsHeld (store_of e) id c → (l : Lit) → Contains c l → l.var.0 < length e.trail.values
-literal-within e h id c held l has = All-contains (λ (m : Lit). m.var.0 < length e.trail.values) c l (h.store.in_range id c held) has
+pub literal-within : (e : Watcher) → IsWatcher e → (id : ℕ) (c : List Lit) → IsHeld (store_of e) id c → (l : Lit)
+    → Contains c l → l.var.0 < length e.trail.values
+literal-within e h id c held l has = All-contains (λ (m : Lit). m.var.0 < length e.trail.values) c l
+    (h.store.in_range id c held) has
 
 -- the literal of the list in which a node enlists is the one that its clause watches there
 pub record Sides (e : Watcher) (node id : ℕ) (f : Lit) (c : List Lit) : Type 0 where
@@ -91,7 +102,8 @@ pub record Sides (e : Watcher) (node id : ℕ) (f : Lit) (c : List Lit) : Type 0
   pub watched : IsWatched e.trail.steps e.queue e.stale c watch
   pub side : ((node ≡ 2 * id) × (watch.first ≡ f)) ⊎ ((node ≡ 2 * id + 1) × (watch.second ≡ f))
 
-module _ (e : Watcher) (h : IsWatcher e) (f : Lit) (node : ℕ) (listed : Contains (nodes_of e.lists (code_of f)) node) where
+module _ (e : Watcher) (h : IsWatcher e) (f : Lit) (node : ℕ)
+    (listed : Contains (nodes_of e.lists (code_of f)) node) where
   pub node-checked : (id : ℕ) → IsNodeOf node id → id < e.checked
   node-checked id of =
       let w = h.owned (code_of f) node listed in
@@ -110,13 +122,26 @@ module _ (e : Watcher) (h : IsWatcher e) (f : Lit) (node : ℕ) (listed : Contai
         is_watch = g.1;
         watched = g.2;
         side = ⊎_elim
-            (λ a. inl (a, code-same g.0.first f (h.lists.apart (code_of g.0.first) (code_of f) node (subst (λ (x : ℕ). Contains (nodes_of e.lists (code_of g.0.first)) x) (sym a) (subst (λ (x : Watch). Contains (nodes_of e.lists (code_of x.first)) (2 * id)) same w.first)) listed)))
-            (λ a. inr (a, code-same g.0.second f (h.lists.apart (code_of g.0.second) (code_of f) node (subst (λ (x : ℕ). Contains (nodes_of e.lists (code_of g.0.second)) x) (sym a) (subst (λ (x : Watch). Contains (nodes_of e.lists (code_of x.second)) (2 * id + 1)) same w.second)) listed)))
+            (λ a. inl (
+              a,
+              code-same g.0.first f (h.lists.apart (code_of g.0.first) (code_of f) node
+                  (subst (λ (x : ℕ). Contains (nodes_of e.lists (code_of g.0.first)) x) (sym a)
+                  (subst (λ (x : Watch). Contains (nodes_of e.lists (code_of x.first)) (2 * id)) same w.first)) listed),
+            ))
+            (λ a. inr (
+              a,
+              code-same g.0.second f (h.lists.apart (code_of g.0.second) (code_of f) node
+                  (subst (λ (x : ℕ). Contains (nodes_of e.lists (code_of g.0.second)) x) (sym a)
+                  (subst (λ (x : Watch). Contains (nodes_of e.lists (code_of x.second)) (2 * id + 1)) same w.second))
+                  listed),
+            ))
             of;
       }
 
   -- what a look at the watches gives
-  module _ (next : IsNext e f) (watch : Watch) (other : Lit) (at : (id : ℕ) → IsNodeOf node id → HasWatch e.lists.labels id watch) (first : (id : ℕ) → node ≡ 2 * id → other ≡ watch.second) (second : (id : ℕ) → node ≡ 2 * id + 1 → other ≡ watch.first) where
+  module _ (next : IsNext e f) (watch : Watch) (other : Lit) (at : (id : ℕ) → IsNodeOf node id
+      → HasWatch e.lists.labels id watch) (first : (id : ℕ) → node ≡ 2 * id → other ≡ watch.second) (second : (id : ℕ)
+      → node ≡ 2 * id + 1 → other ≡ watch.first) where
     pub look-fine : value_in e.trail.values other ≡ Some true → LookGives e node f Satisfied
     look-fine yes_true id c of held =
         let s = sides id c of held in
@@ -130,20 +155,28 @@ module _ (e : Watcher) (h : IsWatcher e) (f : Lit) (node : ℕ) (listed : Contai
                 (λ a.
                 let is : other ≡ s.watch.second = first id a.0 ∙ ap (λ (x : Watch). x.second) same in
                 let f_is : s.watch.first ≡ f = a.1 in
-                let p2 : IsPair e.trail.steps e.queue e.stale f s.watch.second = subst (λ (x : Lit). IsPair e.trail.steps e.queue e.stale x s.watch.second) f_is p in
-                subst (λ (x : Lit). IsPair e.trail.steps (e.queue + 1) e.stale x s.watch.second) (sym f_is) (pair-true e h f next f s.watch.second (subst (λ (x : Lit). value_in e.trail.values x ≡ Some true) is yes_true) p2))
+                let p2 : IsPair e.trail.steps e.queue e.stale f s.watch.second =
+                subst (λ (x : Lit). IsPair e.trail.steps e.queue e.stale x s.watch.second) f_is p in
+                subst (λ (x : Lit). IsPair e.trail.steps (e.queue + 1) e.stale x s.watch.second) (sym f_is)
+                (pair-true e h f next f s.watch.second (subst (λ (x : Lit). value_in e.trail.values x ≡ Some true)
+                is yes_true) p2))
                 (λ a.
                 let is : other ≡ s.watch.first = second id a.0 ∙ ap (λ (x : Watch). x.first) same in
                 let f_is : s.watch.second ≡ f = a.1 in
-                let p1 : IsPair e.trail.steps e.queue e.stale s.watch.second s.watch.first = pair-swap e.trail.steps e.queue e.stale s.watch.first s.watch.second p in
-                let p2 : IsPair e.trail.steps e.queue e.stale f s.watch.first = subst (λ (x : Lit). IsPair e.trail.steps e.queue e.stale x s.watch.first) f_is p1 in
-                let r = pair-true e h f next f s.watch.first (subst (λ (x : Lit). value_in e.trail.values x ≡ Some true) is yes_true) p2 in
-                pair-swap e.trail.steps (e.queue + 1) e.stale s.watch.second s.watch.first (subst (λ (x : Lit). IsPair e.trail.steps (e.queue + 1) e.stale x s.watch.first) (sym f_is) r))
+                let p1 : IsPair e.trail.steps e.queue e.stale s.watch.second s.watch.first =
+                pair-swap e.trail.steps e.queue e.stale s.watch.first s.watch.second p in
+                let p2 : IsPair e.trail.steps e.queue e.stale f s.watch.first =
+                subst (λ (x : Lit). IsPair e.trail.steps e.queue e.stale x s.watch.first) f_is p1 in
+                let r = pair-true e h f next f s.watch.first (subst (λ (x : Lit). value_in e.trail.values x ≡ Some true)
+                is yes_true) p2 in
+                pair-swap e.trail.steps (e.queue + 1) e.stale s.watch.second s.watch.first
+                (subst (λ (x : Lit). IsPair e.trail.steps (e.queue + 1) e.stale x s.watch.first) (sym f_is) r))
                 s.side)) s.watched.ways;
           },
         )
 
-    pub look-loose : (value_in e.trail.values other ≡ Some true → ⊥) → (other.var.0 < length e.trail.values) → LookGives e node f (Unsatisfied other)
+    pub look-loose : (value_in e.trail.values other ≡ Some true → ⊥) → (other.var.0 < length e.trail.values)
+        → LookGives e node f (Unsatisfied other)
     look-loose untrue within = (
       within,
       λ id of. (
@@ -159,7 +192,8 @@ module _ (e : Watcher) (h : IsWatcher e) (f : Lit) (node : ℕ) (listed : Contai
               has_false = subst (Contains c) a.1 s.watched.has_first;
               has_other = subst (Contains c) is s.watched.has_second;
               untrue = untrue;
-              ways = ⊎_elim (λ g. inl g) (λ p. inr (subst (λ (x : Lit). IsPair e.trail.steps e.queue e.stale f x) is (subst (λ (x : Lit). IsPair e.trail.steps e.queue e.stale x s.watch.second) a.1 p))) s.watched.ways;
+              ways = ⊎_elim (λ g. inl g) (λ p. inr (subst (λ (x : Lit). IsPair e.trail.steps e.queue e.stale f x) is
+                  (subst (λ (x : Lit). IsPair e.trail.steps e.queue e.stale x s.watch.second) a.1 p))) s.watched.ways;
               watch = s.watch;
               is_watch = s.is_watch;
               sides = inl (a.0, a.1, is);
@@ -171,7 +205,9 @@ module _ (e : Watcher) (h : IsWatcher e) (f : Lit) (node : ℕ) (listed : Contai
               has_false = subst (Contains c) a.1 s.watched.has_second;
               has_other = subst (Contains c) is s.watched.has_first;
               untrue = untrue;
-              ways = ⊎_elim (λ g. inl g) (λ p. inr (pair-swap e.trail.steps e.queue e.stale other f (subst (λ (x : Lit). IsPair e.trail.steps e.queue e.stale x f) is (subst (λ (x : Lit). IsPair e.trail.steps e.queue e.stale s.watch.first x) a.1 p)))) s.watched.ways;
+              ways = ⊎_elim (λ g. inl g) (λ p. inr (pair-swap e.trail.steps e.queue e.stale other f
+                  (subst (λ (x : Lit). IsPair e.trail.steps e.queue e.stale x f) is
+                  (subst (λ (x : Lit). IsPair e.trail.steps e.queue e.stale s.watch.first x) a.1 p)))) s.watched.ways;
               watch = s.watch;
               is_watch = s.is_watch;
               sides = inr (a.0, is, a.1);

@@ -1,5 +1,6 @@
 -- When all steps are propagated, no clause is false or unit.
-use Rattle.std.proofs.Common.{◌≡◌, ◌<◌, ◌≤◌, Bool, true, false, Option, Some, None, List, length, refl, sym, ap, ◌∙◌, ◌⊎◌, ⊎_elim, arith, Contains}
+use Rattle.std.proofs.Common.{◌≡◌, ◌<◌, ◌≤◌, Bool, true, false, Option, Some, None, List, length, refl, sym, ap, ◌∙◌}
+use Rattle.std.proofs.Common.{◌⊎◌, ⊎_elim, arith, Contains}
 use Rattle.std.proofs.lemmas.Option.{slice_get_within}
 use Rattle.std.proofs.lemmas.List.Elements.{All-contains}
 use Rattle.lit_core.specs.declared.literals.Lit.{Lit}
@@ -21,9 +22,11 @@ pub record Attaches (old e : Watcher) : Type 0 where
   pub same : Propagates (store_of old) (store_of e)
 
 -- a clause with a true literal is settled
-pub settled-true : (a : List (Option Bool)) (c : List Lit) (l : Lit) → Contains c l → value_in a l ≡ Some true → IsSettled a c
+pub settled-true : (a : List (Option Bool)) (c : List Lit) (l : Lit) → Contains c l → value_in a l ≡ Some true
+    → IsSettled a c
 settled-true a c l has t = record {
-  not_false = λ f. let x : value_in a l ≡ Some false = All-contains (λ m. value_in a m ≡ Some false) c l f has in let y : Some true ≡ Some false = sym t ∙ x in cc;
+  not_false = λ f. let x : value_in a l ≡ Some false = All-contains (λ m. value_in a m ≡ Some false) c l f has in
+      let y : Some true ≡ Some false = sym t ∙ x in cc;
   not_unit = λ m u. ⊎_elim
       (λ is. let y : Some true ≡ None = sym t ∙ ap (value_in a) is ∙ u.unassigned in cc)
       (λ x. let y : Some true ≡ Some false = sym t ∙ x in cc)
@@ -31,9 +34,11 @@ settled-true a c l has t = record {
 }
 
 -- a clause with two unassigned literals is settled
-pub settled-two : (a : List (Option Bool)) (c : List Lit) (l k : Lit) → Contains c l → Contains c k → (l ≡ k → ⊥) → value_in a l ≡ None → value_in a k ≡ None → IsSettled a c
+pub settled-two : (a : List (Option Bool)) (c : List Lit) (l k : Lit) → Contains c l → Contains c k → (l ≡ k → ⊥)
+    → value_in a l ≡ None → value_in a k ≡ None → IsSettled a c
 settled-two a c l k hl hk ne nl nk = record {
-  not_false = λ f. let x : value_in a l ≡ Some false = All-contains (λ m. value_in a m ≡ Some false) c l f hl in let y : None ≡ Some false = sym nl ∙ x in cc;
+  not_false = λ f. let x : value_in a l ≡ Some false = All-contains (λ m. value_in a m ≡ Some false) c l f hl in
+      let y : None ≡ Some false = sym nl ∙ x in cc;
   not_unit = λ m u.
       let P : Lit → Type 0 = λ n. (n ≡ m) ⊎ (value_in a n ≡ Some false) in
       let pl : P l = All-contains P c l u.others hl in
@@ -48,17 +53,20 @@ module _ (e : Watcher) (h : IsWatcher e) (done : length e.trail.steps ≤ e.queu
   coherent : IsCoherent e.trail.values e.trail.steps
   coherent = h.store.trail.coherent
 
-  guarded-true : (a b : Lit) → Guards e.trail.steps e.queue e.stale a b → value_in e.trail.values a ≡ Some false → value_in e.trail.values b ≡ Some true
+  guarded-true : (a b : Lit) → Guards e.trail.steps e.queue e.stale a b → value_in e.trail.values a ≡ Some false
+      → value_in e.trail.values b ≡ Some true
   guarded-true a b g f =
       let m : IsMade e.trail.steps (negated a) = coherent.was_made (negated a) (negated-true e.trail.values a f) in
       let lt : m.0 < length e.trail.steps = slice_get_within e.trail.steps m.0 m.1 m.2 in
       let w = g m.0 m.1 (omega arith) m.2 m.3 in
       ap (value_in e.trail.values) (sym w.3) ∙ coherent.are_true w.0 w.1 w.2
 
-  pair-settled : (c : List Lit) (a b : Lit) → Contains c a → Contains c b → IsPair e.trail.steps e.queue e.stale a b → IsSettled e.trail.values c
+  pair-settled : (c : List Lit) (a b : Lit) → Contains c a → Contains c b → IsPair e.trail.steps e.queue e.stale a b
+      → IsSettled e.trail.values c
   pair-settled c a b ha hb p = by_values (value_in e.trail.values a) (value_in e.trail.values b) refl refl
     where
-      by_values : (x y : Option Bool) → value_in e.trail.values a ≡ x → value_in e.trail.values b ≡ y → IsSettled e.trail.values c
+      by_values : (x y : Option Bool) → value_in e.trail.values a ≡ x → value_in e.trail.values b ≡ y
+          → IsSettled e.trail.values c
       by_values (Some true) y ea eb = settled-true e.trail.values c a ha ea
       by_values (Some false) y ea eb = settled-true e.trail.values c b hb (guarded-true a b p.first ea)
       by_values None (Some true) ea eb = settled-true e.trail.values c b hb eb

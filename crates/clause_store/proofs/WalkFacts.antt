@@ -1,5 +1,6 @@
 -- A walk over the clauses that watch a literal which became false.
-use Rattle.std.proofs.Common.{◌≡◌, ℕ, suc, ◌<◌, ◌+◌, ◌*◌, cond, eqb, Option, Some, None, List, [], ◌∷◌, ◌++◌, length, get_or, refl, sym, ap, ◌∙◌, ◌⊎◌, inl, inr, ⊎_elim, arith, slice_get, subst, Contains}
+use Rattle.std.proofs.Common.{◌≡◌, ℕ, suc, ◌<◌, ◌+◌, ◌*◌, cond, eqb, Option, Some, None, List, [], ◌∷◌, ◌++◌, length}
+use Rattle.std.proofs.Common.{get_or, refl, sym, ap, ◌∙◌, ◌⊎◌, inl, inr, ⊎_elim, arith, slice_get, subst, Contains}
 use Rattle.std.proofs.lemmas.Option.{same_Some, slice_get-get_or}
 use Rattle.std.proofs.lemmas.List.{get_or-map}
 use Rattle.std.proofs.lemmas.List.Elements.{Contains-append_right}
@@ -27,11 +28,14 @@ left xs None = 0
 left [] (Some n) = 0
 left (x ∷ xs) (Some n) = cond (eqb x n) (suc (length xs)) (left xs (Some n))
 
-pub left-is : (front : List ℕ) (n : ℕ) (back : List ℕ) → IsOnce (front ++ n ∷ back) → left (front ++ n ∷ back) (Some n) ≡ suc (length back)
+pub left-is : (front : List ℕ) (n : ℕ) (back : List ℕ) → IsOnce (front ++ n ∷ back) → left (front ++ n ∷ back) (Some n)
+    ≡ suc (length back)
 left-is [] n back once = cond-true (eqb n n) (suc (length back)) (left back (Some n)) (eq-eqb n n refl)
 left-is (x ∷ front) n back once =
-    let ne : x ≡ n → ⊥ = λ e. once.0 (subst (λ (m : ℕ). Contains (front ++ n ∷ back) m) (sym e) (Contains-append_right front (n ∷ back) n (Contains-head n back))) in
-    cond-false (eqb x n) (suc (length (front ++ n ∷ back))) (left (front ++ n ∷ back) (Some n)) (ne_eqb x n ne) ∙ left-is front n back once.1
+    let ne : x ≡ n → ⊥ = λ e. once.0 (subst (λ (m : ℕ). Contains (front ++ n ∷ back) m) (sym e)
+    (Contains-append_right front (n ∷ back) n (Contains-head n back))) in
+    cond-false (eqb x n) (suc (length (front ++ n ∷ back))) (left (front ++ n ∷ back) (Some n)) (ne_eqb x n ne)
+    ∙ left-is front n back once.1
 
 pub left-first : (front back : List ℕ) → IsOnce (front ++ back) → left (front ++ back) (first_of back) ≡ length back
 left-first front [] once = refl
@@ -49,7 +53,8 @@ pub record Walks (old e : Watcher) (f : Lit) (at before : Option ℕ) : Type 0 w
   pub is : nodes_of e.lists (code_of f) ≡ front ++ back
   pub at_is : at ≡ first_of back
   pub before_is : last_of front ≡ before
-  pub walked : (id : ℕ) (c : List Lit) → id < e.checked → IsHeld (store_of e) id c → Guarded e (e.queue + 1) id c ⊎ ((n : ℕ) × IsNodeOf n id × Contains back n)
+  pub walked : (id : ℕ) (c : List Lit) → id < e.checked → IsHeld (store_of e) id c → Guarded e (e.queue + 1) id c
+      ⊎ ((n : ℕ) × IsNodeOf n id × Contains back n)
 
 -- where the walk is at a node, the rest begins with it
 pub back-is : (back : List ℕ) (n : ℕ) → Some n ≡ first_of back → (rest : List ℕ) × (back ≡ n ∷ rest)
@@ -61,7 +66,8 @@ back-none [] e = refl
 back-none (m ∷ rest) e = cc
 
 -- a clause that watches other literals stays watched
-pub walk-start : (e : Watcher) → IsWatcher e → (f : Lit) → IsNext e f → (at : Option ℕ) → at ≡ first_of (nodes_of e.lists (code_of f)) → Walks e e f at None
+pub walk-start : (e : Watcher) → IsWatcher e → (f : Lit) → IsNext e f → (at : Option ℕ)
+    → at ≡ first_of (nodes_of e.lists (code_of f)) → Walks e e f at None
 walk-start e h f next at first = record {
   watcher = h;
   same = propagates-refl (store_of e);
@@ -80,14 +86,20 @@ walk-start e h f next at first = record {
       ⊎_elim
       (λ af. inr (2 * id, inl refl, subst (λ (x : Lit). Contains (nodes_of e.lists (code_of x)) (2 * id)) af w.first))
       (λ na. ⊎_elim
-      (λ bf. inr (2 * id + 1, inr refl, subst (λ (x : Lit). Contains (nodes_of e.lists (code_of x)) (2 * id + 1)) bf w.second))
+      (λ bf. inr (
+        2 * id + 1,
+        inr refl,
+        subst (λ (x : Lit). Contains (nodes_of e.lists (code_of x)) (2 * id + 1))
+            bf w.second,
+      ))
       (λ nb. inl (
         g.0,
         g.1,
         record {
           has_first = g.2.has_first;
           has_second = g.2.has_second;
-          ways = ⊎_elim (λ x. inl x) (λ p. inr (pair-untouched e h f next g.0.first g.0.second (λ x. na (ap (λ y. y.first) same ∙ x)) (λ x. nb (ap (λ y. y.second) same ∙ x)) p)) g.2.ways;
+          ways = ⊎_elim (λ x. inl x) (λ p. inr (pair-untouched e h f next g.0.first g.0.second
+              (λ x. na (ap (λ y. y.first) same ∙ x)) (λ x. nb (ap (λ y. y.second) same ∙ x)) p)) g.2.ways;
         },
       ))
       (decide_literal w.watch.second f))
@@ -95,16 +107,22 @@ walk-start e h f next at first = record {
 }
 
 -- the node that comes next stands in the list
-pub walk-at : (old e : Watcher) (f : Lit) (n : ℕ) (before : Option ℕ) → Walks old e f (Some n) before → IsAt e.lists (code_of f) before n
-walk-at old e f n before h = let r = back-is h.back n h.at_is in (h.front, r.0, h.is ∙ ap (λ (xs : List ℕ). h.front ++ xs) r.1, h.before_is)
+pub walk-at : (old e : Watcher) (f : Lit) (n : ℕ) (before : Option ℕ) → Walks old e f (Some n) before
+    → IsAt e.lists (code_of f) before n
+walk-at old e f n before h = let r = back-is h.back n h.at_is in
+    (h.front, r.0, h.is ∙ ap (λ (xs : List ℕ). h.front ++ xs) r.1, h.before_is)
 
 -- the measure falls
-pub walk-left : (old e : Watcher) (f : Lit) (at before : Option ℕ) (h : Walks old e f at before) → left (nodes_of e.lists (code_of f)) at ≡ length h.back
+pub walk-left : (old e : Watcher) (f : Lit) (at before : Option ℕ) (h : Walks old e f at before)
+    → left (nodes_of e.lists (code_of f)) at ≡ length h.back
 walk-left old e f at before h =
     let once : IsOnce (h.front ++ h.back) = subst IsOnce h.is (h.watcher.lists.once (code_of f)) in
     ap (λ (xs : List ℕ). left xs at) h.is ∙ ap (left (h.front ++ h.back)) h.at_is ∙ left-first h.front h.back once
 
-module _ (old e new : Watcher) (f : Lit) (n : ℕ) (at before last : Option ℕ) (h : Walks old e f (Some n) before) (after : (front back : List ℕ) → nodes_of e.lists (code_of f) ≡ front ++ n ∷ back → at ≡ first_of back) (watcher : IsWatcher new) (same : Propagates (store_of e) (store_of new)) (keeps : Keeps e new n) (done : VisitGives e new n f before (Done last)) where
+module _ (old e new : Watcher) (f : Lit) (n : ℕ) (at before last : Option ℕ) (h : Walks old e f (Some n) before)
+    (after : (front back : List ℕ) → nodes_of e.lists (code_of f) ≡ front ++ n ∷ back → at ≡ first_of back)
+    (watcher : IsWatcher new) (same : Propagates (store_of e) (store_of new)) (keeps : Keeps e new n)
+    (done : VisitGives e new n f before (Done last)) where
   rest : List ℕ
   rest = (back-is h.back n h.at_is).0
 
@@ -118,10 +136,13 @@ module _ (old e new : Watcher) (f : Lit) (n : ℕ) (at before last : Option ℕ)
   next-kept : IsNext new f
   next-kept =
       let within : e.queue < length e.trail.steps = next-within e h.watcher f h.next in
-      let kept : slice_get new.trail.steps e.queue ≡ Some h.next.0 = sym (slice_get-take-below (length e.trail.steps) new.trail.steps e.queue within) ∙ ap (λ (xs : List Step). slice_get xs e.queue) (sym same.kept) ∙ h.next.1 in
+      let kept : slice_get new.trail.steps e.queue ≡ Some h.next.0 =
+      sym (slice_get-take-below (length e.trail.steps) new.trail.steps e.queue within)
+      ∙ ap (λ (xs : List Step). slice_get xs e.queue) (sym same.kept) ∙ h.next.1 in
       (h.next.0, ap (slice_get new.trail.steps) keeps.queue ∙ kept, h.next.2)
 
-  walked-on : (id : ℕ) (c : List Lit) → id < new.checked → IsHeld (store_of new) id c → Guarded new (new.queue + 1) id c ⊎ ((m : ℕ) × IsNodeOf m id × Contains rest m)
+  walked-on : (id : ℕ) (c : List Lit) → id < new.checked → IsHeld (store_of new) id c → Guarded new (new.queue + 1) id c
+      ⊎ ((m : ℕ) × IsNodeOf m id × Contains rest m)
   walked-on id c lt held = by_node (is_of id)
     where
       nq : e.queue + 1 ≡ new.queue + 1
@@ -131,7 +152,8 @@ module _ (old e new : Watcher) (f : Lit) (n : ℕ) (at before last : Option ℕ)
       within = next-within e h.watcher f h.next
 
       is_of : (i : ℕ) → IsNodeOf n i ⊎ (IsNodeOf n i → ⊥)
-      is_of i = ⊎_elim (λ a. inl (inl a)) (λ a. ⊎_elim (λ b. inl (inr b)) (λ b. inr (λ x. ⊎_elim a b x)) (cases_eq n (2 * i + 1))) (cases_eq n (2 * i))
+      is_of i = ⊎_elim (λ a. inl (inl a)) (λ a. ⊎_elim (λ b. inl (inr b)) (λ b. inr (λ x. ⊎_elim a b x))
+          (cases_eq n (2 * i + 1))) (cases_eq n (2 * i))
 
       heldo : IsHeld (store_of e) id c
       heldo = ap (λ (xs : List (Option (List Lit))). slice_get xs id) (sym same.clauses) ∙ held
@@ -139,10 +161,12 @@ module _ (old e new : Watcher) (f : Lit) (n : ℕ) (at before last : Option ℕ)
       lto : id < e.checked
       lto = let x : new.checked ≡ e.checked = keeps.checked in omega arith
 
-      by_node : IsNodeOf n id ⊎ (IsNodeOf n id → ⊥) → Guarded new (new.queue + 1) id c ⊎ ((m : ℕ) × IsNodeOf m id × Contains rest m)
+      by_node : IsNodeOf n id ⊎ (IsNodeOf n id → ⊥) → Guarded new (new.queue + 1) id c
+          ⊎ ((m : ℕ) × IsNodeOf m id × Contains rest m)
       by_node (inl of) = inl (done.1 id c of held)
       by_node (inr other) = ⊎_elim
-          (λ g. inl (subst (λ (q : ℕ). Guarded new q id c) nq (keeps.others (e.queue + 1) id c other (let w : e.queue < length e.trail.steps = within in omega arith) g)))
+          (λ g. inl (subst (λ (q : ℕ). Guarded new q id c) nq (keeps.others (e.queue + 1) id c other
+          (let w : e.queue < length e.trail.steps = within in omega arith) g)))
           (λ w. inr (
             w.0,
             w.1,
@@ -180,7 +204,15 @@ module _ (old e new : Watcher) (f : Lit) (n : ℕ) (at before last : Option ℕ)
 
 -- at the end of the walk
 module _ (old e : Watcher) (f : Lit) (before : Option ℕ) (h : Walks old e f None before) where
-  pub walk-watcher : IsWatcher (record { held = e.held; lists = e.lists; trail = e.trail; queue = e.queue + 1; checked = e.checked; stale = e.stale })
+  pub walk-watcher : IsWatcher (record {
+    held = e.held;
+    lists = e.lists;
+    trail = e.trail;
+    queue = e.queue + 1;
+    checked =
+        e.checked;
+    stale = e.stale;
+  })
   walk-watcher =
       let within : e.queue < length e.trail.steps = next-within e h.watcher f h.next in
       let none : h.back ≡ [] = back-none h.back h.at_is in
@@ -193,19 +225,35 @@ module _ (old e : Watcher) (f : Lit) (before : Option ℕ) (h : Walks old e f No
         count = h.watcher.count;
         small = h.watcher.small;
         room = h.watcher.room;
-        guarded = λ id c lt held. ⊎_elim (λ g. g) (λ w. absurd (nothing_in_none w.0 (subst (λ (xs : List ℕ). Contains xs w.0) none w.2))) (h.walked id c lt held);
+        guarded = λ id c lt held. ⊎_elim (λ g. g) (λ w. absurd (nothing_in_none w.0
+            (subst (λ (xs : List ℕ). Contains xs w.0) none w.2))) (h.walked id c lt held);
         current = λ n k t le et. h.watcher.current n k t (omega arith) et;
-        listed = λ i c lt held. let g = h.watcher.listed i c lt held in record { watch = g.watch; is_watch = g.is_watch; first = g.first; second = g.second };
-        owned = λ j n has. let g = h.watcher.owned j n has in record { id = g.id; of = g.of; checked = g.checked; watch = g.watch; is_watch = g.is_watch; first = g.first; second = g.second };
+        listed = λ i c lt held. let g = h.watcher.listed i c lt held in record {
+          watch = g.watch;
+          is_watch = g.is_watch;
+          first = g.first;
+          second = g.second;
+        };
+        owned = λ j n has. let g = h.watcher.owned j n has in record {
+          id = g.id;
+          of = g.of;
+          checked = g.checked;
+          watch = g.watch;
+          is_watch = g.is_watch;
+          first = g.first;
+          second = g.second;
+        };
       }
 
 -- the literal that the next step makes false
-pub next-of : (e : Watcher) (d : Lit) (lits : List Lit) (f : Lit) → e.queue < length e.trail.steps → lits ≡ lits_of e.trail.steps → f ≡ negated (get_or lits e.queue d) → IsNext e f
+pub next-of : (e : Watcher) (d : Lit) (lits : List Lit) (f : Lit) → e.queue < length e.trail.steps
+    → lits ≡ lits_of e.trail.steps → f ≡ negated (get_or lits e.queue d) → IsNext e f
 next-of e d lits f lt is neg =
     let s : Step = record { lit = d; level = 0; reason = None } in
     let t : Step = get_or e.trail.steps e.queue s in
     let at : slice_get e.trail.steps e.queue ≡ Some t = slice_get-get_or e.trail.steps e.queue s lt in
-    let same : get_or lits e.queue d ≡ t.lit = ap (λ (xs : List Lit). get_or xs e.queue d) is ∙ get_or-map (λ (x : Step). x.lit) e.trail.steps e.queue s d lt in
+    let same : get_or lits e.queue d ≡ t.lit = ap (λ (xs : List Lit). get_or xs e.queue d) is
+    ∙ get_or-map (λ (x : Step). x.lit) e.trail.steps e.queue s d lt in
     (t, at, neg ∙ ap negated same)
 
 pub next-in-range : (e : Watcher) → IsWatcher e → (f : Lit) → IsNext e f → f.var.0 < length e.trail.values

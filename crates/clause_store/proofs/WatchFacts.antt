@@ -1,5 +1,6 @@
 -- Watches over a longer part of the trail, and over a longer trail.
-use Rattle.std.proofs.Common.{◌≡◌, ℕ, ◌<◌, ◌≤◌, ◌+◌, Bool, true, false, not, Option, Some, None, List, [], ◌∷◌, ◌++◌, length, get_or, refl, sym, ap, ◌∙◌, ◌⊎◌, inl, inr, ⊎_elim, arith, slice_get, subst}
+use Rattle.std.proofs.Common.{◌≡◌, ℕ, ◌<◌, ◌≤◌, ◌+◌, Bool, true, false, not, Option, Some, None, List, [], ◌∷◌, ◌++◌}
+use Rattle.std.proofs.Common.{length, get_or, refl, sym, ap, ◌∙◌, ◌⊎◌, inl, inr, ⊎_elim, arith, slice_get, subst}
 use Rattle.std.proofs.lemmas.Option.{slice_get_within, same_Some}
 use Rattle.std.proofs.lemmas.Bool.{cases_lt, cases_Bool}
 use Rattle.lit_core.specs.declared.literals.Lit.{Lit}
@@ -26,13 +27,15 @@ negated-false a m h = flip m.positive (get_or a m.var.0 None) h
     flip false (Some false) h = refl
 
 -- a step makes the negation of its literal false
-pub made-false : (values : List (Option Bool)) (steps : List Step) (a : Lit) → IsCoherent values steps → (k : ℕ) (t : Step) → slice_get steps k ≡ Some t → t.lit ≡ negated a → value_in values a ≡ Some false
+pub made-false : (values : List (Option Bool)) (steps : List Step) (a : Lit) → IsCoherent values steps
+    → (k : ℕ) (t : Step) → slice_get steps k ≡ Some t → t.lit ≡ negated a → value_in values a ≡ Some false
 made-false values steps a h k t e is =
     let one : value_in values (negated a) ≡ Some true = ap (value_in values) (sym is) ∙ h.are_true k t e in
     ap (value_in values) (sym (negated-negated a)) ∙ negated-false values (negated a) one
 
 -- nothing guards against a literal that is not false
-pub guards-unfalse : (values : List (Option Bool)) (steps : List Step) (q : ℕ) (stale : Bool) (a b : Lit) → IsCoherent values steps → (value_in values a ≡ Some false → ⊥) → Guards steps q stale a b
+pub guards-unfalse : (values : List (Option Bool)) (steps : List Step) (q : ℕ) (stale : Bool) (a b : Lit)
+    → IsCoherent values steps → (value_in values a ≡ Some false → ⊥) → Guards steps q stale a b
 guards-unfalse values steps q stale a b h n k t lt e is = absurd (n (made-false values steps a h k t e is))
 
 module _ (steps : List Step) (q : ℕ) (stale : Bool) (t : Step) (at : slice_get steps q ≡ Some t) where
@@ -47,7 +50,8 @@ module _ (steps : List Step) (q : ℕ) (stale : Bool) (t : Step) (at : slice_get
       (cases_lt k q)
 
   -- one more step, while the other literal is true
-  pub guards-true : (a b : Lit) (j : ℕ) (v : Step) → slice_get steps j ≡ Some v → v.lit ≡ b → ((stale ≡ true) ⊎ (v.level ≤ t.level)) → Guards steps q stale a b → Guards steps (q + 1) stale a b
+  pub guards-true : (a b : Lit) (j : ℕ) (v : Step) → slice_get steps j ≡ Some v → v.lit ≡ b
+      → ((stale ≡ true) ⊎ (v.level ≤ t.level)) → Guards steps q stale a b → Guards steps (q + 1) stale a b
   guards-true a b j v ev is-b level h k u lt e is = ⊎_elim
       (λ old. h k u old e is)
       (λ ge. let same : k ≡ q = omega arith in
@@ -56,16 +60,19 @@ module _ (steps : List Step) (q : ℕ) (stale : Bool) (t : Step) (at : slice_get
       (cases_lt k q)
 
 -- the trail grows after the first q steps
-pub guards-push : (steps : List Step) (t : Step) (q : ℕ) (stale : Bool) (a b : Lit) → q ≤ length steps → Guards steps q stale a b → Guards (steps ++ t ∷ []) q stale a b
+pub guards-push : (steps : List Step) (t : Step) (q : ℕ) (stale : Bool) (a b : Lit) → q ≤ length steps
+    → Guards steps q stale a b → Guards (steps ++ t ∷ []) q stale a b
 guards-push steps t q stale a b le h k u lt e is = ⊎_elim
     (λ o. let w = h k u lt o is in (w.0, w.1, slice_get-push_old steps t w.0 w.1 w.2, w.3, w.4))
     (λ n. let same : k ≡ length steps = n.0 in absurd (omega arith))
     (slice_get-push_cases steps t k u e)
 
-pub good-push : (steps : List Step) (t : Step) (stale : Bool) (c : List Lit) → IsGood steps stale c → IsGood (steps ++ t ∷ []) stale c
+pub good-push : (steps : List Step) (t : Step) (stale : Bool) (c : List Lit) → IsGood steps stale c
+    → IsGood (steps ++ t ∷ []) stale c
 good-push steps t stale c g = (g.0, g.1, slice_get-push_old steps t g.0 g.1 g.2, g.3, g.4)
 
-pub watched-push : (steps : List Step) (t : Step) (q : ℕ) (stale : Bool) (c : List Lit) (w : Watch) → q ≤ length steps → IsWatched steps q stale c w → IsWatched (steps ++ t ∷ []) q stale c w
+pub watched-push : (steps : List Step) (t : Step) (q : ℕ) (stale : Bool) (c : List Lit) (w : Watch) → q ≤ length steps
+    → IsWatched steps q stale c w → IsWatched (steps ++ t ∷ []) q stale c w
 watched-push steps t q stale c w le h = record {
   has_first = h.has_first;
   has_second = h.has_second;
@@ -81,7 +88,8 @@ module _ (e : Watcher) (h : IsWatcher e) (f : Lit) (next : IsNext e f) where
   coherent = h.store.trail.coherent
 
   pub next-false : value_in e.trail.values f ≡ Some false
-  next-false = ap (value_in e.trail.values) next.2 ∙ negated-false e.trail.values next.0.lit (coherent.are_true e.queue next.0 next.1)
+  next-false = ap (value_in e.trail.values) next.2 ∙ negated-false e.trail.values next.0.lit
+      (coherent.are_true e.queue next.0 next.1)
 
   pub next-within : e.queue < length e.trail.steps
   next-within = slice_get_within e.trail.steps e.queue next.0 next.1
@@ -94,7 +102,8 @@ module _ (e : Watcher) (h : IsWatcher e) (f : Lit) (next : IsNext e f) where
       (cases_Bool e.stale)
 
   -- a pair without the literal that became false
-  pub pair-untouched : (a b : Lit) → (a ≡ f → ⊥) → (b ≡ f → ⊥) → IsPair e.trail.steps e.queue e.stale a b → IsPair e.trail.steps (e.queue + 1) e.stale a b
+  pub pair-untouched : (a b : Lit) → (a ≡ f → ⊥) → (b ≡ f → ⊥) → IsPair e.trail.steps e.queue e.stale a b
+      → IsPair e.trail.steps (e.queue + 1) e.stale a b
   pair-untouched a b na nb p = record {
     distinct = p.distinct;
     first = guards-more e.trail.steps e.queue e.stale next.0 next.1 a b (λ x. na (x ∙ sym next.2)) p.first;
@@ -102,23 +111,28 @@ module _ (e : Watcher) (h : IsWatcher e) (f : Lit) (next : IsNext e f) where
   }
 
   -- a pair of which the other literal is true
-  pub pair-true : (a b : Lit) → value_in e.trail.values b ≡ Some true → IsPair e.trail.steps e.queue e.stale a b → IsPair e.trail.steps (e.queue + 1) e.stale a b
+  pub pair-true : (a b : Lit) → value_in e.trail.values b ≡ Some true → IsPair e.trail.steps e.queue e.stale a b
+      → IsPair e.trail.steps (e.queue + 1) e.stale a b
   pair-true a b tb p =
       let m : IsMade e.trail.steps b = coherent.was_made b tb in
       record {
         distinct = p.distinct;
-        first = guards-true e.trail.steps e.queue e.stale next.0 next.1 a b m.0 m.1 m.2 m.3 (true-level m.0 m.1 m.2) p.first;
-        second = guards-unfalse e.trail.values e.trail.steps (e.queue + 1) e.stale b a coherent (λ x. let y : Some true ≡ Some false = sym tb ∙ x in cc);
+        first = guards-true e.trail.steps e.queue e.stale next.0 next.1 a b m.0 m.1 m.2 m.3
+            (true-level m.0 m.1 m.2) p.first;
+        second = guards-unfalse e.trail.values e.trail.steps (e.queue + 1) e.stale b a coherent
+            (λ x. let y : Some true ≡ Some false = sym tb ∙ x in cc);
       }
 
   -- a new pair in place of one whose literal became false
-  pub pair-moved : (l b : Lit) (q : ℕ) → q ≤ e.queue + 1 → (l ≡ b → ⊥) → (value_in e.trail.values l ≡ Some false → ⊥) → IsPair e.trail.steps e.queue e.stale f b → IsPair e.trail.steps q e.stale l b
+  pub pair-moved : (l b : Lit) (q : ℕ) → q ≤ e.queue + 1 → (l ≡ b → ⊥) → (value_in e.trail.values l ≡ Some false → ⊥)
+      → IsPair e.trail.steps e.queue e.stale f b → IsPair e.trail.steps q e.stale l b
   pair-moved l b q le ne nf p = record {
     distinct = ne;
     first = guards-unfalse e.trail.values e.trail.steps q e.stale l b coherent nf;
     second = λ k t lt et is. ⊎_elim
         (λ old. let g = p.second k t old et is in
-        let ft : value_in e.trail.values f ≡ Some true = ap (value_in e.trail.values) (sym g.3) ∙ coherent.are_true g.0 g.1 g.2 in
+        let ft : value_in e.trail.values f ≡ Some true = ap (value_in e.trail.values) (sym g.3)
+        ∙ coherent.are_true g.0 g.1 g.2 in
         absurd (let y : Some true ≡ Some false = sym ft ∙ next-false in cc))
         (λ ge. let same : k ≡ e.queue = omega arith in
         let tu : next.0 ≡ t = same_Some next.0 t (sym next.1 ∙ ap (slice_get e.trail.steps) (sym same) ∙ et) in
@@ -128,7 +142,9 @@ module _ (e : Watcher) (h : IsWatcher e) (f : Lit) (next : IsNext e f) where
   }
 
   -- a pair of which the other literal is made true
-  pub pair-implied : (b : Lit) (v : Step) → v.lit ≡ b → v.level ≡ e.trail.level → (value_in e.trail.values b ≡ Some false → ⊥) → IsPair e.trail.steps e.queue e.stale f b → IsPair (e.trail.steps ++ v ∷ []) (e.queue + 1) e.stale f b
+  pub pair-implied : (b : Lit) (v : Step) → v.lit ≡ b → v.level ≡ e.trail.level
+      → (value_in e.trail.values b ≡ Some false → ⊥) → IsPair e.trail.steps e.queue e.stale f b
+      → IsPair (e.trail.steps ++ v ∷ []) (e.queue + 1) e.stale f b
   pair-implied b v is level nf p = record {
     distinct = p.distinct;
     first = λ k t lt et made. ⊎_elim
@@ -141,20 +157,24 @@ module _ (e : Watcher) (h : IsWatcher e) (f : Lit) (next : IsNext e f) where
           slice_get-push_new e.trail.steps v,
           is,
           ⊎_elim (λ s. inl s)
-              (λ n. inr (let cur : next.0.level ≡ e.trail.level = h.current n e.queue next.0 (omega arith) next.1 in let eq : next.0.level ≡ t.level = ap (λ (x : Step). x.level) tu in omega arith))
+              (λ n. inr (let cur : next.0.level ≡ e.trail.level = h.current n e.queue next.0 (omega arith) next.1 in
+              let eq : next.0.level ≡ t.level = ap (λ (x : Step). x.level) tu in omega arith))
               (cases_Bool e.stale),
         ))
         (cases_lt k e.queue))
-        (λ n. let same : k ≡ length e.trail.steps = n.0 in let w : e.queue < length e.trail.steps = next-within in absurd (omega arith))
+        (λ n. let same : k ≡ length e.trail.steps = n.0 in let w : e.queue < length e.trail.steps = next-within in
+        absurd (omega arith))
         (slice_get-push_cases e.trail.steps v k t et);
     second = λ k t lt et made. ⊎_elim
         (λ o. absurd (nf (made-false e.trail.values e.trail.steps b coherent k t o made)))
-        (λ n. let same : k ≡ length e.trail.steps = n.0 in let w : e.queue < length e.trail.steps = next-within in absurd (omega arith))
+        (λ n. let same : k ≡ length e.trail.steps = n.0 in let w : e.queue < length e.trail.steps = next-within in
+        absurd (omega arith))
         (slice_get-push_cases e.trail.steps v k t et);
   }
 
 -- a pair the other way round
-pub pair-swap : (steps : List Step) (q : ℕ) (stale : Bool) (a b : Lit) → IsPair steps q stale a b → IsPair steps q stale b a
+pub pair-swap : (steps : List Step) (q : ℕ) (stale : Bool) (a b : Lit) → IsPair steps q stale a b
+    → IsPair steps q stale b a
 pair-swap steps q stale a b p = record { distinct = λ x. p.distinct (sym x); first = p.second; second = p.first }
 
 -- two clauses with one number are one

@@ -1,5 +1,6 @@
 -- What a visit of a clause leaves.
-use Rattle.std.specs.Prelude.{◌≡◌, ◌≢◌, ℕ, ◌<◌, ◌≤◌, ◌+◌, ◌*◌, ◌^◌, Bool, true, false, Option, Some, None, List, ◌∷◌, ◌++◌, length, slice_get, All, Contains, ◌⊎◌}
+use Rattle.std.specs.Prelude.{◌≡◌, ◌≢◌, ℕ, ◌<◌, ◌≤◌, ◌+◌, ◌*◌, ◌^◌, Bool, true, false, Option, Some, None, List, ◌∷◌}
+use Rattle.std.specs.Prelude.{◌++◌, length, slice_get, All, Contains, ◌⊎◌}
 use Rattle.lit_core.specs.declared.literals.Lit.{Lit}
 use Rattle.lit_core.specs.Literals.{value_in, negated}
 use Rattle.lit_core.specs.Truth.{IsFalsified}
@@ -8,9 +9,11 @@ use Rattle.clause_store.specs.declared.propagation.Visit.TheVariants.{Conflict, 
 use Rattle.clause_store.specs.declared.propagation.Look.{Look}
 use Rattle.clause_store.specs.declared.propagation.Look.TheVariants.{Satisfied, Unsatisfied}
 use Rattle.clause_store.specs.declared.propagation.Replacement.{Replacement}
-use Rattle.clause_store.specs.declared.propagation.Replacement.TheVariants.{Deleted, Literal, Unit as UnitLeft, Conflict as AllFalse}
+use Rattle.clause_store.specs.declared.propagation.Replacement.TheVariants.{Deleted, Literal, Unit as UnitLeft}
+use Rattle.clause_store.specs.declared.propagation.Replacement.TheVariants.{Conflict as AllFalse}
 use Rattle.clause_store.specs.declared.attachment.WatchChoice.{WatchChoice}
-use Rattle.clause_store.specs.declared.attachment.WatchChoice.TheVariants.{Deleted as NoClause, Two, One, Conflict as NoChoice}
+use Rattle.clause_store.specs.declared.attachment.WatchChoice.TheVariants.{Deleted as NoClause, Two, One}
+use Rattle.clause_store.specs.declared.attachment.WatchChoice.TheVariants.{Conflict as NoChoice}
 use Rattle.clause_store.specs.declared.watched.Watch.{Watch}
 use Rattle.clause_store.specs.declared.watched.Watcher.{Watcher}
 use Rattle.clause_base.specs.declared.trail.Step.{Step}
@@ -30,7 +33,8 @@ IsNext e f = (t : Step) × (slice_get e.trail.steps e.queue ≡ Some t) × (f �
 
 -- the node stands in the list right after this one
 abbrev pub IsAt : ListsState → ℕ → Option ℕ → ℕ → Type 0
-IsAt s j before node = (front : List ℕ) × (back : List ℕ) × (nodes_of s j ≡ front ++ node ∷ back) × (last_of front ≡ before)
+IsAt s j before node = (front : List ℕ) × (back : List ℕ) × (nodes_of s j ≡ front ++ node ∷ back)
+    × (last_of front ≡ before)
 
 -- the clause watches a literal that is false, and another that is not true
 pub record IsLoose (e : Watcher) (node id : ℕ) (f other : Lit) (c : List Lit) : Type 0 where
@@ -41,12 +45,15 @@ pub record IsLoose (e : Watcher) (node id : ℕ) (f other : Lit) (c : List Lit) 
   pub ways : IsGood e.trail.steps e.stale c ⊎ IsPair e.trail.steps e.queue e.stale f other
   pub watch : Watch
   pub is_watch : HasWatch e.lists.labels id watch
-  pub sides : ((node ≡ 2 * id) × (watch.first ≡ f) × (watch.second ≡ other)) ⊎ ((node ≡ 2 * id + 1) × (watch.first ≡ other) × (watch.second ≡ f))
+  pub sides : ((node ≡ 2 * id) × (watch.first ≡ f) × (watch.second ≡ other))
+      ⊎ ((node ≡ 2 * id + 1) × (watch.first ≡ other) × (watch.second ≡ f))
 
 -- the clause of the node is watched over one step more by its other watched literal, or that literal is not true
 abbrev pub LookGives : Watcher → ℕ → Lit → Look → Type 0
-LookGives e node f Satisfied = (id : ℕ) (c : List Lit) → IsNodeOf node id → IsHeld (store_of e) id c → Guarded e (e.queue + 1) id c
-LookGives e node f (Unsatisfied other) = (other.var.0 < length e.trail.values) × ((id : ℕ) → IsNodeOf node id → (id < e.checked) × ((c : List Lit) → IsHeld (store_of e) id c → IsLoose e node id f other c))
+LookGives e node f Satisfied = (id : ℕ) (c : List Lit) → IsNodeOf node id → IsHeld (store_of e) id c
+    → Guarded e (e.queue + 1) id c
+LookGives e node f (Unsatisfied other) = (other.var.0 < length e.trail.values) × ((id : ℕ) → IsNodeOf node id
+    → (id < e.checked) × ((c : List Lit) → IsHeld (store_of e) id c → IsLoose e node id f other c))
 
 -- the literal may be watched in place of the false one
 pub record CanMove (e : Watcher) (node : ℕ) (f l : Lit) : Type 0 where
@@ -70,12 +77,16 @@ pub record CanImply (e : Watcher) (node : ℕ) (f other : Lit) : Type 0 where
   pub unassigned : value_in e.trail.values other ≡ None
   pub others : All (λ m. (m ≡ other) ⊎ (value_in e.trail.values m ≡ Some false)) clause
 
--- the clause was removed; or this literal may be watched in place of the false one; or the other watched literal is the last that is not false; or none is
+-- the clause was removed; or this literal may be watched in place of the false one; or the other watched literal is the
+-- last that is not false; or none is
 abbrev pub ReplacementGives : Watcher → ℕ → Lit → Replacement → Type 0
 ReplacementGives e id other Deleted = (c : List Lit) → IsHeld (store_of e) id c → ⊥
-ReplacementGives e id other (Literal l place) = (c : List Lit) × IsHeld (store_of e) id c × Contains c l × (l ≢ other) × (value_in e.trail.values l ≢ Some false) × (place < 2 ^ 32)
-ReplacementGives e id other UnitLeft = (value_in e.trail.values other ≡ None) × ((c : List Lit) × IsHeld (store_of e) id c × All (λ m. (m ≡ other) ⊎ (value_in e.trail.values m ≡ Some false)) c)
-ReplacementGives e id other AllFalse = (c : List Lit) × IsHeld (store_of e) id c × ((value_in e.trail.values other ≡ Some true) ⊎ IsFalsified e.trail.values c)
+ReplacementGives e id other (Literal l place) = (c : List Lit) × IsHeld (store_of e) id c × Contains c l × (l ≢ other)
+    × (value_in e.trail.values l ≢ Some false) × (place < 2 ^ 32)
+ReplacementGives e id other UnitLeft = (value_in e.trail.values other ≡ None)
+    × ((c : List Lit) × IsHeld (store_of e) id c × All (λ m. (m ≡ other) ⊎ (value_in e.trail.values m ≡ Some false)) c)
+ReplacementGives e id other AllFalse = (c : List Lit) × IsHeld (store_of e) id c
+    × ((value_in e.trail.values other ≡ Some true) ⊎ IsFalsified e.trail.values c)
 
 -- clauses of other nodes stay watched
 pub record Keeps (old new : Watcher) (node : ℕ) : Type 0 where
@@ -83,16 +94,20 @@ pub record Keeps (old new : Watcher) (node : ℕ) : Type 0 where
   pub queue : new.queue ≡ old.queue
   pub checked : new.checked ≡ old.checked
   pub stale : new.stale ≡ old.stale
-  pub others : (q i : ℕ) (c : List Lit) → (IsNodeOf node i → ⊥) → q ≤ length old.trail.steps → Guarded old q i c → Guarded new q i c
+  pub others : (q i : ℕ) (c : List Lit) → (IsNodeOf node i → ⊥) → q ≤ length old.trail.steps → Guarded old q i c
+      → Guarded new q i c
 
 -- the rest of the list stays, after the last of these nodes
 abbrev pub Passes : Watcher → Watcher → ℕ → Lit → Option ℕ → Option ℕ → Type 0
-Passes old new node f before last = (front rest : List ℕ) → nodes_of old.lists (code_of f) ≡ front ++ node ∷ rest → last_of front ≡ before → (passed : List ℕ) × (nodes_of new.lists (code_of f) ≡ passed ++ rest) × (last_of passed ≡ last)
+Passes old new node f before last = (front rest : List ℕ) → nodes_of old.lists (code_of f) ≡ front ++ node ∷ rest
+    → last_of front ≡ before → (passed : List ℕ) × (nodes_of new.lists (code_of f) ≡ passed ++ rest)
+    × (last_of passed ≡ last)
 
 -- the clause of the node is false; or it is watched over one step more, and the rest of the list stays
 abbrev pub VisitGives : Watcher → Watcher → ℕ → Lit → Option ℕ → Visit → Type 0
 VisitGives old new node f before Conflict = (id : ℕ) → IsNodeOf node id → IsConflict (store_of new) id
-VisitGives old new node f before (Done last) = Passes old new node f before last × ((id : ℕ) (c : List Lit) → IsNodeOf node id → IsHeld (store_of new) id c → Guarded new (new.queue + 1) id c)
+VisitGives old new node f before (Done last) = Passes old new node f before last × ((id : ℕ) (c : List Lit)
+    → IsNodeOf node id → IsHeld (store_of new) id c → Guarded new (new.queue + 1) id c)
 
 -- one step more is propagated, or a clause is false
 abbrev pub OneGives : Watcher → Watcher → Option ℕ → Type 0
@@ -116,8 +131,11 @@ OpensAt a c (Some l) = Contains c l × (value_in a l ≢ Some false)
 -- which literals of the clause with this number are not false: it was removed, or two at least, or one alone, or none
 abbrev pub WatchChoiceGives : Watcher → ℕ → WatchChoice → Type 0
 WatchChoiceGives e id NoClause = (c : List Lit) → IsHeld (store_of e) id c → ⊥
-WatchChoiceGives e id (Two w) = (c : List Lit) × IsHeld (store_of e) id c × Contains c w.first × Contains c w.second × (w.second ≢ w.first) × (value_in e.trail.values w.first ≢ Some false) × (value_in e.trail.values w.second ≢ Some false)
-WatchChoiceGives e id (One l) = (c : List Lit) × IsHeld (store_of e) id c × Contains c l × (value_in e.trail.values l ≢ Some false) × All (λ m. (m ≡ l) ⊎ (value_in e.trail.values m ≡ Some false)) c
+WatchChoiceGives e id (Two w) = (c : List Lit) × IsHeld (store_of e) id c × Contains c w.first × Contains c w.second
+    × (w.second ≢ w.first) × (value_in e.trail.values w.first ≢ Some false)
+    × (value_in e.trail.values w.second ≢ Some false)
+WatchChoiceGives e id (One l) = (c : List Lit) × IsHeld (store_of e) id c × Contains c l
+    × (value_in e.trail.values l ≢ Some false) × All (λ m. (m ≡ l) ⊎ (value_in e.trail.values m ≡ Some false)) c
 WatchChoiceGives e id NoChoice = IsConflict (store_of e) id
 
 -- another literal of the clause, which became false at no lower level than this one became true

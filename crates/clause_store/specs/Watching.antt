@@ -1,5 +1,6 @@
 -- What the watches of the clauses keep.
-use Rattle.std.specs.Prelude.{◌≡◌, ◌≢◌, ℕ, ◌<◌, ◌≤◌, ◌+◌, ◌*◌, ◌^◌, Bool, true, false, cond, Some, List, length, slice_get, Contains, ◌⊎◌}
+use Rattle.std.specs.Prelude.{◌≡◌, ◌≢◌, ℕ, ◌<◌, ◌≤◌, ◌+◌, ◌*◌, ◌^◌, Bool, true, false, cond, Some, List, length}
+use Rattle.std.specs.Prelude.{slice_get, Contains, ◌⊎◌}
 use Rattle.lit_core.specs.declared.literals.Lit.{Lit}
 use Rattle.lit_core.specs.Literals.{negated}
 use Rattle.clause_base.specs.declared.trail.Step.{Step}
@@ -19,13 +20,16 @@ code_of l = 2 * l.var.0 + cond l.positive 1 0
 abbrev pub IsNodeOf : ℕ → ℕ → Type 0
 IsNodeOf node id = (node ≡ 2 * id) ⊎ (node ≡ 2 * id + 1)
 
--- if one of the first q steps made the literal a false, then b is true, and was so at that level, unless levels are passed over
+-- if one of the first q steps made the literal a false, then b is true, and was so at that level, unless levels are
+-- passed over
 abbrev pub Guards : List Step → ℕ → Bool → Lit → Lit → Type 0
-Guards steps q stale a b = (k : ℕ) (t : Step) → k < q → slice_get steps k ≡ Some t → t.lit ≡ negated a → (j : ℕ) × (u : Step) × (slice_get steps j ≡ Some u) × (u.lit ≡ b) × ((stale ≡ true) ⊎ (u.level ≤ t.level))
+Guards steps q stale a b = (k : ℕ) (t : Step) → k < q → slice_get steps k ≡ Some t → t.lit ≡ negated a
+    → (j : ℕ) × (u : Step) × (slice_get steps j ≡ Some u) × (u.lit ≡ b) × ((stale ≡ true) ⊎ (u.level ≤ t.level))
 
 -- a literal of the clause is true at level 0
 abbrev pub IsGood : List Step → Bool → List Lit → Type 0
-IsGood steps stale c = (j : ℕ) × (u : Step) × (slice_get steps j ≡ Some u) × Contains c u.lit × ((stale ≡ true) ⊎ (u.level ≡ 0))
+IsGood steps stale c = (j : ℕ) × (u : Step) × (slice_get steps j ≡ Some u) × Contains c u.lit
+    × ((stale ≡ true) ⊎ (u.level ≡ 0))
 
 -- the clause watches these literals: each of its two nodes is labelled with the number of the other one's literal
 pub record HasWatch (labels : List ℕ) (id : ℕ) (w : Watch) : Type 0 where
@@ -77,6 +81,7 @@ pub record IsWatcher (e : Watcher) : Type 0 where
   pub room : 0 < e.held.spare → 2 * length e.held.clauses + 2 ≤ length e.lists.labels
   pub guarded : (id : ℕ) (c : List Lit) → id < e.checked → IsHeld (store_of e) id c → Guarded e e.queue id c
   -- while levels are not passed over, what is not yet propagated is of the current level
-  pub current : e.stale ≡ false → (k : ℕ) (t : Step) → e.queue ≤ k → slice_get e.trail.steps k ≡ Some t → t.level ≡ e.trail.level
+  pub current : e.stale ≡ false → (k : ℕ) (t : Step) → e.queue ≤ k → slice_get e.trail.steps k ≡ Some t
+      → t.level ≡ e.trail.level
   pub listed : (id : ℕ) (c : List Lit) → id < e.checked → IsHeld (store_of e) id c → IsListed e id
   pub owned : (j node : ℕ) → Contains (nodes_of e.lists j) node → IsWatchNode e node

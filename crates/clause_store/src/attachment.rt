@@ -1,5 +1,6 @@
 //! How a clause that is not yet watched gets its two watched literals.
-ghost use Rattle.std.specs.Prelude.{◌≡◌, ℕ, ◌<◌, ◌≤◌, ◌+◌, length, Option, Some, None, List, All, Contains, IfNone, IfSome, ◌⊎◌, ◌≢◌, true};
+ghost use Rattle.std.specs.Prelude.{◌≡◌, ℕ, ◌<◌, ◌≤◌, ◌+◌, length, Option, Some, None, List, All, Contains, IfNone};
+ghost use Rattle.std.specs.Prelude.{IfSome, ◌⊎◌, ◌≢◌, true};
 ghost use Rattle.lit_core.specs.declared.literals.Lit.{Lit};
 ghost use Rattle.lit_core.specs.Literals.{value_in};
 ghost use Rattle.clause_base.specs.StoreState.{IsHeld, IsConflict, Propagates};
@@ -45,7 +46,8 @@ impl Watcher {
     fn attach(&mut self, watch: Watch)
         requires watcher { IsWatcher self.old }
         requires more { self.old.checked < length self.old.held.clauses }
-        requires in_range { (watch.first.var.0 < length self.old.trail.values) × (watch.second.var.0 < length self.old.trail.values) }
+        requires in_range { (watch.first.var.0 < length self.old.trail.values)
+            × (watch.second.var.0 < length self.old.trail.values) }
         requires watch { CanAttach self.old watch }
         ensures watcher { IsWatcher self.new }
         ensures store { store_of self.new ≡ store_of self.old }

@@ -1,9 +1,11 @@
 //! Unit propagation: what a visit of a clause leaves, and the walk over the clauses that watch a literal.
-ghost use Rattle.std.specs.Prelude.{◌≡◌, ℕ, ◌+◌, ◌*◌, ◌^◌, ◌<◌, length, Option, Some, None, All, Contains, IfNone, IfSome};
+ghost use Rattle.std.specs.Prelude.{◌≡◌, ℕ, ◌+◌, ◌*◌, ◌^◌, ◌<◌, length, Option, Some, None, All, Contains, IfNone};
+ghost use Rattle.std.specs.Prelude.{IfSome};
 ghost use Rattle.lit_core.specs.declared.literals.Lit.{Lit};
 ghost use Rattle.clause_base.specs.ListsState.{nodes_of};
 ghost use Rattle.clause_base.specs.StoreState.{IsQuiet, IsConflict, Propagates};
-ghost use Rattle.clause_store.specs.Visits.{CanMove, CanImply, ReplacementGives, IsAt, IsNext, Keeps, LookGives, OneGives, ReplacesAt, VisitGives};
+ghost use Rattle.clause_store.specs.Visits.{CanMove, CanImply, ReplacementGives, IsAt, IsNext, Keeps, LookGives};
+ghost use Rattle.clause_store.specs.Visits.{OneGives, ReplacesAt, VisitGives};
 ghost use Rattle.clause_store.specs.Watching.{code_of, store_of, IsWatcher, IsNodeOf};
 
 use crate::watched::{Watcher, label_of, list_of, literal_of};

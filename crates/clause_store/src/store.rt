@@ -1,10 +1,14 @@
 //! The store that callers use.
-ghost use Rattle.std.specs.Prelude.{◌≡◌, ◌≢◌, ℕ, ◌<◌, ◌≤◌, ◌+◌, [], length, max, Option, Some, None, Bool, List, All, Contains, IsOk, IsTrue, ◌↔◌, IfOk, OnOk, OnErr, IfNone, IfSome, slice_get, slice_index_or};
+ghost use Rattle.std.specs.Prelude.{◌≡◌, ◌≢◌, ℕ, ◌<◌, ◌≤◌, ◌+◌, [], length, max, Option, Some, None, Bool, List, All};
+ghost use Rattle.std.specs.Prelude.{Contains, IsOk, IsTrue, ◌↔◌, IfOk, OnOk, OnErr, IfNone, IfSome, slice_get};
+ghost use Rattle.std.specs.Prelude.{slice_index_or};
 ghost use Rattle.std.specs.Option.{ForSome};
 ghost use Rattle.lit_core.specs.declared.literals.Lit.{Lit};
 ghost use Rattle.lit_core.specs.Literals.{value_in, negated};
 ghost use Rattle.clause_base.specs.declared.trail.Step.{Step};
-ghost use Rattle.clause_base.specs.StoreState.{StoreState, IsStore, IsHeld, IsQuiet, IsConflict, IsEachOnceOf, Implies, Propagates, empty_store, with_trail, with_variables, with_spare, with_clause, without_clause};
+ghost use Rattle.clause_base.specs.StoreState.{StoreState, IsStore, IsHeld, IsQuiet, IsConflict, IsEachOnceOf, Implies};
+ghost use Rattle.clause_base.specs.StoreState.{Propagates, empty_store, with_trail, with_variables, with_spare};
+ghost use Rattle.clause_base.specs.StoreState.{with_clause, without_clause};
 ghost use Rattle.clause_base.specs.TrailLaws.{IsFixed, IsStepOf, CutsAt, cleared, level_after, lits_of, with_step};
 
 use crate::watched::Watcher;
@@ -71,7 +75,8 @@ impl Store {
     pub fn push_clause(&mut self, lits: &[Lit]) -> Result<u64, Memory>
         requires in_range { All (λ l. l.var.0 < length self.old.trail.values) lits.now }
         requires unopposed { All (λ l. IsFixed self.old.trail (negated l) → ⊥) lits.now }
-        ensures ok { IfOk result (λ id. (id ≡ length self.old.clauses) × ((c : List Lit) × IsEachOnceOf lits.now c × (self.new ≡ with_clause self.old c))) }
+        ensures ok { IfOk result (λ id. (id ≡ length self.old.clauses) × ((c : List Lit) × IsEachOnceOf lits.now c
+            × (self.new ≡ with_clause self.old c))) }
         ensures err { OnErr result (self.new ≡ self.old) }
         ensures room { length lits.now < self.old.spare → IsOk result }
         ensures laws { IsStore self.new }
@@ -187,7 +192,8 @@ impl Store {
         requires in_range { lit.var.0 < length self.old.trail.values }
         requires unassigned { value_in self.old.trail.values lit ≡ None }
         requires reason { ForSome reason (λ id. Implies self.old id lit) }
-        ensures step { self.new ≡ with_trail self.old (with_step self.old.trail (record { lit = lit; level = level_after self.old.trail.level reason; reason = reason })) }
+        ensures step { self.new ≡ with_trail self.old (with_step self.old.trail
+            (record { lit = lit; level = level_after self.old.trail.level reason; reason = reason })) }
         ensures laws { IsStore self.new }
     {
         self.watcher.assign(lit, reason);
@@ -221,7 +227,8 @@ impl Store {
         requires in_range { lit.var.0 < length self.old.trail.values }
         requires unassigned { value_in self.old.trail.values lit ≡ None }
         requires unopposed { (id : ℕ) (c : List Lit) → IsHeld self.old id c → Contains c (negated lit) → ⊥ }
-        ensures step { self.new ≡ with_trail self.old (with_step self.old.trail (record { lit = lit; level = 0; reason = None })) }
+        ensures step { self.new ≡ with_trail self.old (with_step self.old.trail
+            (record { lit = lit; level = 0; reason = None })) }
         ensures laws { IsStore self.new }
     {
         self.watcher.fix(lit);

@@ -17,12 +17,14 @@
 //! true at a higher level than the one at which its clause forced it, and what holds of the levels is lost. `stale`
 //! says so: levels are compared no more, and the next step back empties the lists, after which each clause is
 //! watched anew. A search that propagates before each decision never pays for that.
-ghost use Rattle.std.specs.Prelude.{◌≡◌, ◌≢◌, ℕ, ◌+◌, ◌*◌, ◌^◌, ◌<◌, ◌≤◌, [], length, max, List, Option, Some, None, true, All, Contains, IsOk, IfOk, OnOk, OnErr, ◌⊎◌, slice_get, slice_index_or};
+ghost use Rattle.std.specs.Prelude.{◌≡◌, ◌≢◌, ℕ, ◌+◌, ◌*◌, ◌^◌, ◌<◌, ◌≤◌, [], length, max, List, Option, Some, None};
+ghost use Rattle.std.specs.Prelude.{true, All, Contains, IsOk, IfOk, OnOk, OnErr, ◌⊎◌, slice_get, slice_index_or};
 ghost use Rattle.std.specs.Option.{ForSome};
 ghost use Rattle.lit_core.specs.declared.literals.Lit.{Lit};
 ghost use Rattle.lit_core.specs.Literals.{value_in, negated};
 ghost use Rattle.clause_base.specs.declared.trail.Step.{Step};
-ghost use Rattle.clause_base.specs.StoreState.{IsEachOnceOf, IsHeld, Implies, empty_store, with_clause, with_spare, with_trail, with_variables, without_clause};
+ghost use Rattle.clause_base.specs.StoreState.{IsEachOnceOf, IsHeld, Implies, empty_store, with_clause, with_spare};
+ghost use Rattle.clause_base.specs.StoreState.{with_trail, with_variables, without_clause};
 ghost use Rattle.clause_base.specs.TrailLaws.{CutsAt, IsFixed, IsStepOf, cleared, level_after, with_step};
 ghost use Rattle.clause_store.specs.Visits.{MayAssign};
 ghost use Rattle.clause_store.specs.Watching.{code_of, store_of, IsWatcher};
@@ -119,7 +121,8 @@ impl Watcher {
     pub fn reserve_clause(&mut self, len: usize) -> Result<(), Memory>
         requires watcher { IsWatcher self.old }
         ensures watcher { IsWatcher self.new }
-        ensures ok { OnOk result (store_of self.new ≡ with_spare (store_of self.old) (max self.old.held.spare (len + 1))) }
+        ensures ok { OnOk result (store_of self.new ≡ with_spare (store_of self.old)
+            (max self.old.held.spare (len + 1))) }
         ensures err { OnErr result (store_of self.new ≡ store_of self.old) }
         ensures room { len < self.old.held.spare → IsOk result }
     {
@@ -137,7 +140,8 @@ impl Watcher {
         requires in_range { All (λ l. l.var.0 < length self.old.trail.values) lits.now }
         requires unopposed { All (λ l. IsFixed self.old.trail (negated l) → ⊥) lits.now }
         ensures watcher { IsWatcher self.new }
-        ensures ok { IfOk result (λ id. (id ≡ length self.old.held.clauses) × ((c : List Lit) × IsEachOnceOf lits.now c × (store_of self.new ≡ with_clause (store_of self.old) c))) }
+        ensures ok { IfOk result (λ id. (id ≡ length self.old.held.clauses) × ((c : List Lit) × IsEachOnceOf lits.now c
+            × (store_of self.new ≡ with_clause (store_of self.old) c))) }
         ensures err { OnErr result (store_of self.new ≡ store_of self.old) }
         ensures room { length lits.now < self.old.held.spare → IsOk result }
     {
@@ -189,7 +193,12 @@ impl Watcher {
         requires reason { ForSome reason (λ id. Implies (store_of self.old) id lit) }
         requires current { MayAssign self.old reason }
         ensures watcher { IsWatcher self.new }
-        ensures step { store_of self.new ≡ with_trail (store_of self.old) (with_step self.old.trail (record { lit = lit; level = level_after self.old.trail.level reason; reason = reason })) }
+        ensures step { store_of self.new ≡ with_trail (store_of self.old)
+            (with_step self.old.trail (record {
+              lit = lit;
+              level = level_after self.old.trail.level reason;
+              reason = reason;
+            })) }
         ensures checked { self.new.checked ≡ self.old.checked }
     {
         self.trail.assign(lit, reason);
@@ -202,7 +211,12 @@ impl Watcher {
         requires unassigned { value_in self.old.trail.values lit ≡ None }
         requires reason { ForSome reason (λ id. Implies (store_of self.old) id lit) }
         ensures watcher { IsWatcher self.new }
-        ensures step { store_of self.new ≡ with_trail (store_of self.old) (with_step self.old.trail (record { lit = lit; level = level_after self.old.trail.level reason; reason = reason })) }
+        ensures step { store_of self.new ≡ with_trail (store_of self.old)
+            (with_step self.old.trail (record {
+              lit = lit;
+              level = level_after self.old.trail.level reason;
+              reason = reason;
+            })) }
     {
         self.note_decision(reason);
         self.assign_here(lit, reason);
@@ -236,7 +250,8 @@ impl Watcher {
         requires unassigned { value_in self.old.trail.values lit ≡ None }
         requires unopposed { (id : ℕ) (c : List Lit) → IsHeld (store_of self.old) id c → Contains c (negated lit) → ⊥ }
         ensures watcher { IsWatcher self.new }
-        ensures step { store_of self.new ≡ with_trail (store_of self.old) (with_step self.old.trail (record { lit = lit; level = 0; reason = None })) }
+        ensures step { store_of self.new ≡ with_trail (store_of self.old)
+            (with_step self.old.trail (record { lit = lit; level = 0; reason = None })) }
     {
         self.trail.fix(lit);
     }

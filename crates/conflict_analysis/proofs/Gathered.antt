@@ -1,5 +1,6 @@
 -- What is marked after one more literal.
-use Rattle.std.proofs.Common.{◌≡◌, ℕ, ◌<◌, ◌≤◌, Option, Some, None, List, [], ◌∷◌, ◌++◌, refl, sym, ap, ◌∙◌, ◌⊎◌, inl, inr, ⊎_elim, subst, Contains, slice_get, arith}
+use Rattle.std.proofs.Common.{◌≡◌, ℕ, ◌<◌, ◌≤◌, Option, Some, None, List, [], ◌∷◌, ◌++◌, refl, sym, ap, ◌∙◌, ◌⊎◌, inl}
+use Rattle.std.proofs.Common.{inr, ⊎_elim, subst, Contains, slice_get, arith}
 use Rattle.std.specs.Ordering.{nat_cmp}
 use Rattle.std.specs.BTreeSet.{insert_key}
 use Rattle.std.specs.Option.{IsSome}
@@ -29,7 +30,9 @@ gathers-none steps r = record {
 }
 
 -- what was gathered, and then one literal
-pub gathers-more : (steps : List Step) (old mid new : Resolvent) (lits : List Lit) (lit : Lit) → Gathers steps old (Contains lits) mid → Gathers steps mid (λ m. m ≡ lit) new → Gathers steps old (Contains (lits ++ lit ∷ [])) new
+pub gathers-more : (steps : List Step) (old mid new : Resolvent) (lits : List Lit) (lit : Lit)
+    → Gathers steps old (Contains lits) mid → Gathers steps mid (λ m. m ≡ lit) new
+    → Gathers steps old (Contains (lits ++ lit ∷ [])) new
 gathers-more steps old mid new lits lit h g = record {
   floor = g.floor ∙ h.floor;
   top = g.top ∙ h.top;
@@ -55,13 +58,16 @@ gathers-more steps old mid new lits lit h g = record {
     last-of : (k : ℕ) → IsOfOne steps (λ m. m ≡ lit) k → IsOfOne steps (Contains (lits ++ lit ∷ [])) k
     last-of k w = (w.0, subst (Contains (lits ++ lit ∷ [])) (sym w.1) (Contains-push lits lit), w.2)
 
-module _ (s : TrailState) (trail : IsTrail s) (old new : Resolvent) (lit : Lit) (made : IsMadeBefore s.steps old.top (negated lit) ⊎ IsMadeAt s.steps old.top lit) (place : ℕ) (t : Step) (at : slice_get s.steps place ≡ Some t) (same : t.lit.var ≡ lit.var) where
+module _ (s : TrailState) (trail : IsTrail s) (old new : Resolvent) (lit : Lit)
+    (made : IsMadeBefore s.steps old.top (negated lit) ⊎ IsMadeAt s.steps old.top lit) (place : ℕ) (t : Step)
+    (at : slice_get s.steps place ≡ Some t) (same : t.lit.var ≡ lit.var) where
   var-same : t.lit.var.0 ≡ lit.var.0
   var-same = ap (λ v. v.0) same
 
   -- what made the literal false stands at this place
   is-place : (m : Lit) → m ≡ lit → (k : ℕ) → IsMadeAt s.steps k (negated m) → place ≡ k
-  is-place m e k w = trail.coherent.apart place k t w.0 at w.1 (var-same ∙ sym (variable-of w.0.lit (negated m) w.2 ∙ variable-of m lit e))
+  is-place m e k w = trail.coherent.apart place k t w.0 at w.1 (var-same ∙ sym (variable-of w.0.lit (negated m) w.2
+      ∙ variable-of m lit e))
 
   -- a literal whose step is not below the top is passed over
   pub gathers-past : old.top ≤ place → Gathers s.steps old (λ m. m ≡ lit) old
@@ -77,30 +83,58 @@ module _ (s : TrailState) (trail : IsTrail s) (old new : Resolvent) (lit : Lit) 
 
   -- the step there made the literal false
   of-this : {k : ℕ} → place ≡ k → place < old.top → IsOfOne s.steps (λ m. m ≡ lit) k
-  of-this {k} e lt = (lit, refl, subst (λ (n : ℕ). IsMadeAt s.steps n (negated lit)) e (t, at, made-below s.values s.steps trail.coherent lit old.top place t made at var-same lt))
+  of-this {k} e lt = (
+    lit,
+    refl,
+    subst (λ (n : ℕ). IsMadeAt s.steps n (negated lit)) e
+        (t, at, made-below s.values s.steps trail.coherent lit old.top place t made at var-same lt),
+  )
 
-  pub gathers-lower : new.floor ≡ old.floor → new.top ≡ old.top → new.upper.keys ≡ old.upper.keys → new.lower.keys ≡ insert_key nat_cmp old.lower.keys place → t.level < old.floor → place < old.top → Gathers s.steps old (λ m. m ≡ lit) new
+  pub gathers-lower : new.floor ≡ old.floor → new.top ≡ old.top → new.upper.keys ≡ old.upper.keys
+      → new.lower.keys ≡ insert_key nat_cmp old.lower.keys place → t.level < old.floor → place < old.top
+      → Gathers s.steps old (λ m. m ≡ lit) new
   gathers-lower floor top upper lower lt below-top = record {
     floor = floor;
     top = top;
-    marked = λ m e k below w. inr (subst (λ (ks : List ℕ). Contains ks k) (sym lower) (subst (Contains (insert_key nat_cmp old.lower.keys place)) (is-place m e k w) (inserted-new old.lower.keys place)));
+    marked = λ m e k below w. inr (subst (λ (ks : List ℕ). Contains ks k) (sym lower)
+        (subst (Contains (insert_key nat_cmp old.lower.keys place)) (is-place m e k w)
+        (inserted-new old.lower.keys place)));
     kept_upper = λ k h. subst (λ (ks : List ℕ). Contains ks k) (sym upper) h;
     kept_lower = λ k h. subst (λ (ks : List ℕ). Contains ks k) (sym lower) (inserted-old old.lower.keys place k h);
     from_upper = λ k h. inl (subst (λ (ks : List ℕ). Contains ks k) upper h);
-    from_lower = λ k h. ⊎_elim (λ o. inl o) (λ e. inr (subst (IsLower s.steps old.floor) e (t, at, lt), of-this e below-top)) (inserted-cases old.lower.keys place k (subst (λ (ks : List ℕ). Contains ks k) lower h));
+    from_lower = λ k h. ⊎_elim (λ o. inl o) (λ e. inr (
+      subst (IsLower s.steps old.floor) e (t, at, lt),
+      of-this e below-top,
+    )) (inserted-cases old.lower.keys place k (subst (λ (ks : List ℕ). Contains ks k) lower h));
   }
 
   reasoned : (o : Option ℕ) → t.reason ≡ o → (IsFixed s (negated lit) → ⊥) → place < old.top → t.level ≡ 0 → IsSome o
   reasoned (Some id) e unfixed lt flat = refl
-  reasoned None e unfixed lt flat = absurd (unfixed (place, t, at, made-below s.values s.steps trail.coherent lit old.top place t made at var-same lt, flat, e))
+  reasoned None e unfixed lt flat = absurd (unfixed (
+    place,
+    t,
+    at,
+    made-below s.values s.steps trail.coherent lit old.top place t made at var-same lt,
+    flat,
+    e,
+  ))
 
-  pub gathers-upper : new.floor ≡ old.floor → new.top ≡ old.top → new.lower.keys ≡ old.lower.keys → new.upper.keys ≡ insert_key nat_cmp old.upper.keys place → old.floor ≤ t.level → place < old.top → (IsFixed s (negated lit) → ⊥) → Gathers s.steps old (λ m. m ≡ lit) new
+  pub gathers-upper : new.floor ≡ old.floor → new.top ≡ old.top → new.lower.keys ≡ old.lower.keys
+      → new.upper.keys ≡ insert_key nat_cmp old.upper.keys place → old.floor ≤ t.level → place < old.top
+      → (IsFixed s (negated lit) → ⊥) → Gathers s.steps old (λ m. m ≡ lit) new
   gathers-upper floor top lower upper le lt unfixed = record {
     floor = floor;
     top = top;
-    marked = λ m e k below w. inl (subst (λ (ks : List ℕ). Contains ks k) (sym upper) (subst (Contains (insert_key nat_cmp old.upper.keys place)) (is-place m e k w) (inserted-new old.upper.keys place)));
+    marked = λ m e k below w. inl (subst (λ (ks : List ℕ). Contains ks k) (sym upper)
+        (subst (Contains (insert_key nat_cmp old.upper.keys place)) (is-place m e k w)
+        (inserted-new old.upper.keys place)));
     kept_upper = λ k h. subst (λ (ks : List ℕ). Contains ks k) (sym upper) (inserted-old old.upper.keys place k h);
     kept_lower = λ k h. subst (λ (ks : List ℕ). Contains ks k) (sym lower) h;
-    from_upper = λ k h. ⊎_elim (λ o. inl o) (λ e. inr (subst (λ (n : ℕ). n < old.top) e lt, subst (IsUpper s.steps old.floor) e (t, at, le, reasoned t.reason refl unfixed lt), of-this e lt)) (inserted-cases old.upper.keys place k (subst (λ (ks : List ℕ). Contains ks k) upper h));
+    from_upper = λ k h. ⊎_elim (λ o. inl o) (λ e. inr (
+      subst (λ (n : ℕ). n < old.top) e lt,
+      subst (IsUpper s.steps old.floor) e (t, at, le, reasoned t.reason refl unfixed lt),
+      of-this e lt,
+    ))
+        (inserted-cases old.upper.keys place k (subst (λ (ks : List ℕ). Contains ks k) upper h));
     from_lower = λ k h. inl (subst (λ (ks : List ℕ). Contains ks k) lower h);
   }

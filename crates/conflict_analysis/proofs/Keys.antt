@@ -1,5 +1,6 @@
 -- Which numbers a set has after one more is inserted.
-use Rattle.std.proofs.Common.{◌≡◌, ℕ, List, [], ◌∷◌, length, refl, sym, ◌⊎◌, inl, inr, ⊎_elim, subst, Contains, Some, slice_get}
+use Rattle.std.proofs.Common.{◌≡◌, ℕ, List, [], ◌∷◌, length, refl, sym, ◌⊎◌, inl, inr, ⊎_elim, subst, Contains, Some}
+use Rattle.std.proofs.Common.{slice_get}
 use Rattle.std.specs.declared.cmp.Ordering.{Ordering}
 use Rattle.std.specs.declared.cmp.Ordering.TheVariants.{Less, Equal, Greater}
 use Rattle.std.specs.Ordering.{nat_cmp, match_ordering}
@@ -24,7 +25,8 @@ pub inserted-new : (ks : List ℕ) (p : ℕ) → Contains (insert_key nat_cmp ks
 inserted-new [] p = Contains-head p []
 inserted-new (x ∷ xs) p = by_order (nat_cmp p x) refl (inserted-new xs p)
   where
-    by_order : (o : Ordering) → nat_cmp p x ≡ o → Contains (insert_key nat_cmp xs p) p → Contains (match_ordering o (p ∷ x ∷ xs) (x ∷ xs) (x ∷ insert_key nat_cmp xs p)) p
+    by_order : (o : Ordering) → nat_cmp p x ≡ o → Contains (insert_key nat_cmp xs p) p
+        → Contains (match_ordering o (p ∷ x ∷ xs) (x ∷ xs) (x ∷ insert_key nat_cmp xs p)) p
     by_order Less e r = Contains-head p (x ∷ xs)
     by_order Equal e r = subst (Contains (x ∷ xs)) (sym (exact_unsigned p x e)) (Contains-head x xs)
     by_order Greater e r = Contains-tail x (insert_key nat_cmp xs p) p r
@@ -32,7 +34,8 @@ inserted-new (x ∷ xs) p = by_order (nat_cmp p x) refl (inserted-new xs p)
 pub inserted-cases : (ks : List ℕ) (p k : ℕ) → Contains (insert_key nat_cmp ks p) k → Contains ks k ⊎ (p ≡ k)
 inserted-cases [] p k h = ⊎_elim (λ e. inr e) (λ n. absurd (nothing_in_none k n)) (Contains-cons_cases p [] k h)
 inserted-cases (x ∷ xs) p k h =
-    (elim (nat_cmp p x) as (λ o. Contains (match_ordering o (p ∷ x ∷ xs) (x ∷ xs) (x ∷ insert_key nat_cmp xs p)) k → Contains (x ∷ xs) k ⊎ (p ≡ k)) [
+    (elim (nat_cmp p x) as (λ o. Contains (match_ordering o (p ∷ x ∷ xs) (x ∷ xs) (x ∷ insert_key nat_cmp xs p)) k
+    → Contains (x ∷ xs) k ⊎ (p ≡ k)) [
       | Less ↦ λ g. ⊎_elim (λ e. inr e) (λ r. inl r) (Contains-cons_cases p (x ∷ xs) k g)
       | Equal ↦ λ g. inl g
       | Greater ↦ λ g. ⊎_elim

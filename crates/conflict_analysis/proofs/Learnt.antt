@@ -1,5 +1,7 @@
 -- The clause that is learnt.
-use Rattle.std.proofs.Common.{◌≡◌, ℕ, ◌<◌, ◌≤◌, ◌+◌, Bool, false, Option, Some, None, List, [], ◌∷◌, ◌++◌, length, map, reverse, refl, sym, ap, ◌∙◌, ◌⊎◌, inl, inr, ⊎_elim, arith, slice_get, subst, All, Contains, get_or}
+use Rattle.std.proofs.Common.{◌≡◌, ℕ, ◌<◌, ◌≤◌, ◌+◌, Bool, false, Option, Some, None, List, [], ◌∷◌, ◌++◌, length, map}
+use Rattle.std.proofs.Common.{reverse, refl, sym, ap, ◌∙◌, ◌⊎◌, inl, inr, ⊎_elim, arith, slice_get, subst, All}
+use Rattle.std.proofs.Common.{Contains, get_or}
 use Rattle.std.specs.List.{AllZip}
 use Rattle.std.proofs.lemmas.Option.{slice_get_within, get_or_from_slice_get}
 use Rattle.std.proofs.lemmas.List.Elements.{Contains-append_left, Contains-push, Contains-push_cases, Contains-get_or}
@@ -13,7 +15,8 @@ use Rattle.clause_store.proofs.ListFacts.{slice_get-push_old}
 use Rattle.clause_store.proofs.WatchFacts.{same-held, made-false}
 use Rattle.conflict_analysis.specs.declared.analysis.Analysis.{Analysis}
 use Rattle.conflict_analysis.specs.declared.resolvent.Resolvent.{Resolvent}
-use Rattle.conflict_analysis.specs.Analyses.{IsFalseSince, IsFalseUpTo, HasCurrent, FollowsFrom, IsHeldLiteral, IsUnitBackAt, IsAnalysis}
+use Rattle.conflict_analysis.specs.Analyses.{IsFalseSince, IsFalseUpTo, HasCurrent, FollowsFrom, IsHeldLiteral}
+use Rattle.conflict_analysis.specs.Analyses.{IsUnitBackAt, IsAnalysis}
 use Rattle.conflict_analysis.specs.Learning.{IsLastLevel, IsClauseOf, IsClauseAbove}
 use Rattle.conflict_analysis.specs.Resolvents.{IsMadeAt, IsMarked, IsNew, Absorbs, TakesLast}
 use Rattle.conflict_analysis.specs.Tracing.{IsNeeded, IsSourced, IsTaken, NoLiteral, HasUpper, IsCurrent, IsLast}
@@ -23,7 +26,8 @@ use Rattle.conflict_analysis.proofs.Below.{map-cases, map-contains, resolvent-st
 use Rattle.conflict_analysis.proofs.Traced.{once-push, once-single}
 
 -- analysis begins with a literal of the current level
-pub current-start : (s : StoreState) → IsStore s → (id : ℕ) (fresh r : Resolvent) → IsConflict s id → HasCurrent s id → IsNew s.trail.level (length s.trail.steps) fresh → Absorbs s fresh id r → IsCurrent s r
+pub current-start : (s : StoreState) → IsStore s → (id : ℕ) (fresh r : Resolvent) → IsConflict s id → HasCurrent s id
+    → IsNew s.trail.level (length s.trail.steps) fresh → Absorbs s fresh id r → IsCurrent s r
 current-start s store id fresh r conflict current n a =
     let found = of-conflict s id store conflict in
     let false_by : IsFalseSince s.trail s.trail.level current.2.0 = current.2.2 in
@@ -33,7 +37,8 @@ current-start s store id fresh r conflict current n a =
     record {
       resolvent = resolvent-start s (length s.trail.steps) s.trail.level id NoLiteral fresh r n a (λ m has. ⊎_elim
           (λ b. inl b)
-          (λ w. let lt : length s.trail.steps < length s.trail.steps = slice_get_within s.trail.steps (length s.trail.steps) w.0 w.1 in absurd (omega (arith, lt)))
+          (λ w. let lt : length s.trail.steps < length s.trail.steps =
+          slice_get_within s.trail.steps (length s.trail.steps) w.0 w.1 in absurd (omega (arith, lt)))
           (found.2 m (subst (λ (c : List Lit). Contains c m) (same-held s id a.clause found.0 a.held found.1) has)));
       floor = a.gathers.floor ∙ n.floor_is;
       more = ⊎_elim
@@ -41,15 +46,19 @@ current-start s store id fresh r conflict current n a =
           (λ l. ⊎_elim
           (λ o. absurd (nothing_in_none false_by.0 (subst (λ (ks : List ℕ). Contains ks false_by.0) n.lower o)))
           (λ w.
-          let one : w.0.0.level ≡ false_by.1.level = ap (λ (x : Step). x.level) (same-step s.trail.steps false_by.0 w.0.0 false_by.1 w.0.1 false_by.2) in
+          let one : w.0.0.level ≡ false_by.1.level = ap (λ (x : Step). x.level)
+          (same-step s.trail.steps false_by.0 w.0.0 false_by.1 w.0.1 false_by.2) in
           let at : false_by.1.level ≡ s.trail.level = false_by.4 in
           let low : w.0.0.level < fresh.floor = w.0.2 in
           absurd (omega (arith, one, at, low, floor)))
           (a.gathers.from_lower false_by.0 l))
-          (a.gathers.marked current.2.0 (subst (λ (c : List Lit). Contains c current.2.0) (same-held s id current.0 a.clause current.1 a.held) current.2.1) false_by.0 (omega (arith, within, top)) (false_by.1, false_by.2, false_by.3));
+          (a.gathers.marked current.2.0 (subst (λ (c : List Lit). Contains c current.2.0)
+          (same-held s id current.0 a.clause current.1 a.held) current.2.1) false_by.0 (omega (arith, within, top))
+          (false_by.1, false_by.2, false_by.3));
     }
 
-module _ (s : StoreState) (store : IsStore s) (high : 0 < s.trail.level) (place : ℕ) (old mid : Resolvent) (h : IsCurrent s old) (takes : TakesLast old place mid) where
+module _ (s : StoreState) (store : IsStore s) (high : 0 < s.trail.level) (place : ℕ) (old mid : Resolvent)
+    (h : IsCurrent s old) (takes : TakesLast old place mid) where
   current-taken : IsTaken s (length s.trail.steps) NoLiteral place mid
   current-taken = resolvent-take s (length s.trail.steps) NoLiteral place old mid h.resolvent takes
 
@@ -71,7 +80,8 @@ module _ (s : StoreState) (store : IsStore s) (high : 0 < s.trail.level) (place 
       (λ less. omega (arith, less, most, high_v, floor))
       (store.trail.coherent.opens more.0 place v t (omega (arith, lt, top)) u.1.1 at none)
 
-  pub current-resolve : HasUpper mid → (t : Step) → slice_get s.trail.steps place ≡ Some t → (id : ℕ) (new : Resolvent) → t.reason ≡ Some id → Absorbs s mid id new → IsCurrent s new
+  pub current-resolve : HasUpper mid → (t : Step) → slice_get s.trail.steps place ≡ Some t → (id : ℕ) (new : Resolvent)
+      → t.reason ≡ Some id → Absorbs s mid id new → IsCurrent s new
   current-resolve more t at id new is a = record {
     resolvent = resolvent-resolve s store (length s.trail.steps) NoLiteral place id mid new t at is current-taken a;
     floor = a.gathers.floor ∙ (takes.floor ∙ h.floor);
@@ -80,12 +90,14 @@ module _ (s : StoreState) (store : IsStore s) (high : 0 < s.trail.level) (place 
 
   pub current-down : (new : Resolvent) → new.top ≡ mid.top → new.top < old.top
   current-down new same =
-      let lt : place < old.top = (h.resolvent.upper place (subst (λ (ks : List ℕ). Contains ks place) (sym takes.upper) (Contains-push mid.upper.keys place))).0 in
+      let lt : place < old.top = (h.resolvent.upper place (subst (λ (ks : List ℕ). Contains ks place) (sym takes.upper)
+      (Contains-push mid.upper.keys place))).0 in
       let top : mid.top ≡ place = takes.top in
       omega (arith, same, lt, top)
 
 -- where no other literal of the level is left, the last one is the unique implication point
-pub current-last : (s : StoreState) (place : ℕ) (old mid : Resolvent) → IsCurrent s old → TakesLast old place mid → mid.upper.keys ≡ [] → IsLast s place mid
+pub current-last : (s : StoreState) (place : ℕ) (old mid : Resolvent) → IsCurrent s old → TakesLast old place mid
+    → mid.upper.keys ≡ [] → IsLast s place mid
 current-last s place old mid h takes none = record {
   taken = resolvent-take s (length s.trail.steps) NoLiteral place old mid h.resolvent takes;
   floor = takes.floor ∙ h.floor;
@@ -96,7 +108,8 @@ contains-at : (xs : List Lit) (j : ℕ) (x : Lit) → slice_get xs j ≡ Some x 
 contains-at xs j x h = (j, slice_get_within xs j x h, get_or_from_slice_get xs j x x h)
 
 -- the clause begins with the literal of the last place
-pub clause-first : (steps : List Step) (place : ℕ) (t : Step) → slice_get steps place ≡ Some t → (lower : List ℕ) → ((k : ℕ) → Contains lower k → k < place) → IsClauseAbove steps place lower lower (negated t.lit ∷ [])
+pub clause-first : (steps : List Step) (place : ℕ) (t : Step) → slice_get steps place ≡ Some t → (lower : List ℕ)
+    → ((k : ℕ) → Contains lower k → k < place) → IsClauseAbove steps place lower lower (negated t.lit ∷ [])
 clause-first steps place t at lower below =
     let made : IsMadeAt steps place (negated (negated t.lit)) = (t, at, sym (negated-negated t.lit)) in
     record {
@@ -105,17 +118,24 @@ clause-first steps place t at lower below =
       made = made;
       among = λ k h. h;
       all = λ k u h uat. inl h;
-      from = λ m has. ⊎_elim (λ e. inl (sym e)) (λ n. absurd (nothing_in_none m n)) (Contains-cons_cases (negated t.lit) [] m has);
-      above = λ m has. ⊎_elim (λ e. (place, subst (λ (x : Lit). IsMadeAt steps place (negated x)) e made, below)) (λ n. absurd (nothing_in_none m n)) (Contains-cons_cases (negated t.lit) [] m has);
+      from = λ m has. ⊎_elim (λ e. inl (sym e)) (λ n. absurd (nothing_in_none m n))
+          (Contains-cons_cases (negated t.lit) [] m has);
+      above = λ m has. ⊎_elim (λ e. (place, subst (λ (x : Lit). IsMadeAt steps place (negated x)) e made, below))
+          (λ n. absurd (nothing_in_none m n)) (Contains-cons_cases (negated t.lit) [] m has);
       once = once-single (negated t.lit);
     }
 
 -- and goes on with those of lower places, from the last one
-pub clause-more : (values : List (Option Bool)) (steps : List Step) → IsCoherent values steps → (place : ℕ) (lower left rest : List ℕ) (next : ℕ) (u : Step) (c : List Lit) → IsClauseAbove steps place lower left c → left ≡ rest ++ next ∷ [] → ((k : ℕ) → Contains rest k → k < next) → slice_get steps next ≡ Some u → IsClauseAbove steps place lower rest (c ++ negated u.lit ∷ [])
+pub clause-more : (values : List (Option Bool)) (steps : List Step) → IsCoherent values steps
+    → (place : ℕ) (lower left rest : List ℕ) (next : ℕ) (u : Step) (c : List Lit)
+    → IsClauseAbove steps place lower left c → left ≡ rest ++ next ∷ [] → ((k : ℕ) → Contains rest k → k < next)
+    → slice_get steps next ≡ Some u → IsClauseAbove steps place lower rest (c ++ negated u.lit ∷ [])
 clause-more values steps coherent place lower left rest next u c h split below at =
     let made : IsMadeAt steps next (negated (negated u.lit)) = (u, at, sym (negated-negated u.lit)) in
-    let old : (k : ℕ) → Contains rest k → Contains left k = λ k has. subst (λ (ks : List ℕ). Contains ks k) (sym split) (Contains-append_left rest (next ∷ []) k has) in
-    let has_next : Contains left next = subst (λ (ks : List ℕ). Contains ks next) (sym split) (Contains-push rest next) in
+    let old : (k : ℕ) → Contains rest k → Contains left k = λ k has. subst (λ (ks : List ℕ). Contains ks k) (sym split)
+    (Contains-append_left rest (next ∷ []) k has) in
+    let has_next : Contains left next = subst (λ (ks : List ℕ). Contains ks next) (sym split)
+    (Contains-push rest next) in
     record {
       asserting = h.asserting;
       first = slice_get-push_old c (negated u.lit) 0 h.asserting h.first;
@@ -124,7 +144,8 @@ clause-more values steps coherent place lower left rest next u c h split below a
       all = λ k v has vat. ⊎_elim
           (λ l. ⊎_elim
           (λ o. inl o)
-          (λ e. inr (subst (λ (x : Step). Contains (c ++ negated u.lit ∷ []) (negated x.lit)) (same-step steps k u v (ap (slice_get steps) (sym e) ∙ at) vat) (Contains-push c (negated u.lit))))
+          (λ e. inr (subst (λ (x : Step). Contains (c ++ negated u.lit ∷ []) (negated x.lit))
+          (same-step steps k u v (ap (slice_get steps) (sym e) ∙ at) vat) (Contains-push c (negated u.lit))))
           (Contains-push_cases rest next k (subst (λ (ks : List ℕ). Contains ks k) split l)))
           (λ o. inr (Contains-append_left c (negated u.lit ∷ []) (negated v.lit) o))
           (h.all k v has vat);
@@ -139,31 +160,39 @@ clause-more values steps coherent place lower left rest next u c h split below a
       once = once-push c (negated u.lit) h.once (λ has.
           let w = h.above (negated u.lit) has in
           let lt : next < w.0 = w.2 next has_next in
-          let one : w.0 ≡ next = coherent.apart w.0 next w.1.0 u w.1.1 at (variable-of w.1.0.lit (negated (negated u.lit)) w.1.2) in
+          let one : w.0 ≡ next = coherent.apart w.0 next w.1.0 u w.1.1 at
+          (variable-of w.1.0.lit (negated (negated u.lit)) w.1.2) in
           omega (arith, lt, one));
     }
 
-pub clause-done : (steps : List Step) (place : ℕ) (lower left : List ℕ) (c : List Lit) → IsClauseAbove steps place lower left c → left ≡ [] → IsClauseOf steps place lower c
+pub clause-done : (steps : List Step) (place : ℕ) (lower left : List ℕ) (c : List Lit)
+    → IsClauseAbove steps place lower left c → left ≡ [] → IsClauseOf steps place lower c
 clause-done steps place lower left c h none = record {
   asserting = h.asserting;
   first = h.first;
   made = h.made;
-  all = λ k t has at. ⊎_elim (λ l. absurd (nothing_in_none k (subst (λ (ks : List ℕ). Contains ks k) none l))) (λ o. o) (h.all k t has at);
+  all = λ k t has at. ⊎_elim (λ l. absurd (nothing_in_none k (subst (λ (ks : List ℕ). Contains ks k) none l))) (λ o. o)
+      (h.all k t has at);
   from = h.from;
   once = h.once;
 }
 
 -- what is left where one literal of the current level is: the clause that is learnt
-module _ (s : StoreState) (store : IsStore s) (high : 0 < s.trail.level) (place : ℕ) (lower : List ℕ) (hints : List ℕ) (h : IsShort s place (Contains lower) hints) (level : ℕ) (is_level : IsLastLevel s.trail.steps lower level) (c : List Lit) (clause : IsClauseOf s.trail.steps place lower c) where
+module _ (s : StoreState) (store : IsStore s) (high : 0 < s.trail.level) (place : ℕ) (lower : List ℕ) (hints : List ℕ)
+    (h : IsShort s place (Contains lower) hints) (level : ℕ) (is_level : IsLastLevel s.trail.steps lower level)
+    (c : List Lit) (clause : IsClauseOf s.trail.steps place lower c) where
   -- in force are the negations of its literals
   negations : AreInForce s.trail.steps (IsLeftAt place (Contains lower)) (map negated c)
   negations = record {
     all = λ l k way made. ⊎_elim
         (λ e.
-        let one : made.0 ≡ clause.made.0 = same-step s.trail.steps place made.0 clause.made.0 (ap (slice_get s.trail.steps) (sym e) ∙ made.1) clause.made.1 in
+        let one : made.0 ≡ clause.made.0 = same-step s.trail.steps place made.0 clause.made.0
+        (ap (slice_get s.trail.steps) (sym e) ∙ made.1) clause.made.1 in
         let same : negated clause.asserting ≡ l = sym clause.made.2 ∙ (sym (ap (λ (x : Step). x.lit) one) ∙ made.2) in
-        subst (Contains (map negated c)) same (map-contains c clause.asserting (contains-at c 0 clause.asserting clause.first)))
-        (λ o. subst (Contains (map negated c)) (negated-negated made.0.lit ∙ made.2) (map-contains c (negated made.0.lit) (clause.all k made.0 o made.1)))
+        subst (Contains (map negated c)) same (map-contains c clause.asserting
+        (contains-at c 0 clause.asserting clause.first)))
+        (λ o. subst (Contains (map negated c)) (negated-negated made.0.lit ∙ made.2)
+        (map-contains c (negated made.0.lit) (clause.all k made.0 o made.1)))
         way;
     from = λ l has.
         let w = map-cases c l has in
@@ -205,7 +234,8 @@ module _ (s : StoreState) (store : IsStore s) (high : 0 < s.trail.level) (place 
   current-false =
       let t : Step = clause.made.0 in
       let u = h.current in
-      let one : u.0.level ≡ t.level = ap (λ (x : Step). x.level) (same-step s.trail.steps place u.0 t u.1 clause.made.1) in
+      let one : u.0.level ≡ t.level = ap (λ (x : Step). x.level)
+      (same-step s.trail.steps place u.0 t u.1 clause.made.1) in
       let up : s.trail.level ≤ u.0.level = u.2 in
       let most : t.level ≤ s.trail.level = store.trail.top place t clause.made.1 in
       (place, t, clause.made.1, clause.made.2, omega (arith, one, up, most))
@@ -218,7 +248,9 @@ module _ (s : StoreState) (store : IsStore s) (high : 0 < s.trail.level) (place 
 
   is-false : (m : Lit) → Contains c m → value_in s.trail.values m ≡ Some false
   is-false m has = ⊎_elim
-      (λ e. subst (λ (x : Lit). value_in s.trail.values x ≡ Some false) (sym e) (made-false s.trail.values s.trail.steps clause.asserting store.trail.coherent place clause.made.0 clause.made.1 clause.made.2))
+      (λ e. subst (λ (x : Lit). value_in s.trail.values x ≡ Some false) (sym e)
+      (made-false s.trail.values s.trail.steps clause.asserting store.trail.coherent place clause.made.0
+      clause.made.1 clause.made.2))
       (λ w. made-false s.trail.values s.trail.steps m store.trail.coherent w.0 w.2.0 w.2.1 w.2.2)
       (clause.from m has)
 
@@ -232,22 +264,28 @@ module _ (s : StoreState) (store : IsStore s) (high : 0 < s.trail.level) (place 
 
   is-held : (m : Lit) → Contains c m → IsHeldLiteral s m
   is-held m has = ⊎_elim
-      (λ (e : m ≡ clause.asserting). subst (IsHeldLiteral s) (sym e) (of-held clause.asserting place clause.made (h.sourced place (inl refl))))
+      (λ (e : m ≡ clause.asserting). subst (IsHeldLiteral s) (sym e) (of-held clause.asserting place clause.made
+      (h.sourced place (inl refl))))
       (λ w. of-held m w.0 w.2 (h.sourced w.0 (inr w.1)))
       (clause.from m has)
 
   pub learnt : (a : Analysis) → a.clause.items ≡ c → a.level ≡ level → a.hints.items ≡ reverse hints → IsAnalysis s a
   learnt a same_clause same_level same_hints = record {
-    follows = subst (λ (x : List Lit). FollowsFrom s x a.hints.items) (sym same_clause) (learnt-from a.hints.items same_hints);
-    unit_back = subst (λ (x : List Lit). IsUnitBackAt s.trail a.level x) (sym same_clause) (subst (λ (n : ℕ). IsUnitBackAt s.trail n c) (sym same_level) (record {
-      lower = low-level;
-      asserting = clause.asserting;
-      first = clause.first;
-      current = current-false;
-      others = λ k d lt. ⊎_elim (λ e. inl e) (λ w. inr (low-false (get_or c k d) w.0 w.1 w.2)) (clause.from (get_or c k d) (Contains-get_or c k d lt));
-      least = least-level;
-    }));
-    falsified = subst (λ (x : List Lit). All (λ (l : Lit). value_in s.trail.values l ≡ Some false) x) (sym same_clause) (λ k d lt. is-false (get_or c k d) (Contains-get_or c k d lt));
+    follows = subst (λ (x : List Lit). FollowsFrom s x a.hints.items) (sym same_clause)
+        (learnt-from a.hints.items same_hints);
+    unit_back = subst (λ (x : List Lit). IsUnitBackAt s.trail a.level x) (sym same_clause)
+        (subst (λ (n : ℕ). IsUnitBackAt s.trail n c) (sym same_level) (record {
+          lower = low-level;
+          asserting = clause.asserting;
+          first = clause.first;
+          current = current-false;
+          others = λ k d lt. ⊎_elim (λ e. inl e) (λ w. inr (low-false (get_or c k d) w.0 w.1 w.2))
+              (clause.from (get_or c k d) (Contains-get_or c k d lt));
+          least = least-level;
+        }));
+    falsified = subst (λ (x : List Lit). All (λ (l : Lit). value_in s.trail.values l ≡ Some false) x) (sym same_clause)
+        (λ k d lt. is-false (get_or c k d) (Contains-get_or c k d lt));
     once = subst HasEachOnce (sym same_clause) clause.once;
-    held = subst (All (IsHeldLiteral s)) (sym same_clause) (λ k d lt. is-held (get_or c k d) (Contains-get_or c k d lt));
+    held = subst (All (IsHeldLiteral s)) (sym same_clause) (λ k d lt. is-held (get_or c k d)
+        (Contains-get_or c k d lt));
   }

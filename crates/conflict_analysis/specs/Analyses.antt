@@ -29,7 +29,8 @@ pub record FollowsFrom (s : StoreState) (c : List Lit) (hints : List ℕ) : Type
   pub held : AllZip (IsHeld s) hints hinted
   pub follows : FollowsInOrder c hinted
 
--- the first literal of the clause became false at the current level, and the others up to this lower one, the least that serves
+-- the first literal of the clause became false at the current level, and the others up to this lower one, the least
+-- that serves
 pub record IsUnitBackAt (s : TrailState) (level : ℕ) (c : List Lit) : Type 0 where
   pub lower : level < s.level
   pub asserting : Lit
@@ -42,7 +43,8 @@ pub record IsUnitBackAt (s : TrailState) (level : ℕ) (c : List Lit) : Type 0 w
 abbrev pub IsHeldLiteral : StoreState → Lit → Type 0
 IsHeldLiteral s m = (id : ℕ) × (c : List Lit) × IsHeld s id c × Contains c m
 
--- the clause is false, follows from held clauses, of whose literals it is made, and is unit once the trail is back at the level
+-- the clause is false, follows from held clauses, of whose literals it is made, and is unit once the trail is back at
+-- the level
 pub record IsAnalysis (s : StoreState) (a : Analysis) : Type 0 where
   pub follows : FollowsFrom s a.clause.items a.hints.items
   pub unit_back : IsUnitBackAt s.trail a.level a.clause.items
@@ -58,4 +60,5 @@ IsDecided s l = (k : ℕ) × (t : Step) × (slice_get s.steps k ≡ Some t) × (
 pub record IsRefuted (s : StoreState) (l : Lit) (r : Refuted) : Type 0 where
   pub decided : All (IsDecided s.trail) r.lits.items
   pub once : HasEachOnce r.lits.items
-  pub follows : ((r.lits.items ≡ negated l ∷ []) × (r.hints.items ≡ [])) ⊎ FollowsFrom s (map negated (r.lits.items ++ l ∷ [])) r.hints.items
+  pub follows : ((r.lits.items ≡ negated l ∷ []) × (r.hints.items ≡ [])) ⊎ FollowsFrom s
+      (map negated (r.lits.items ++ l ∷ [])) r.hints.items

@@ -8,4 +8,5 @@ use Rattle.conflict_analysis.specs.Analyses.{IsUnitBackAt}
 
 -- once the trail is back at the level, the first literal is unassigned and the others are false
 abbrev pub UnitAfterStepBack : Type 0
-UnitAfterStepBack = (s t : TrailState) (level : ℕ) (c : List Lit) → IsTrail s → IsTrail t → IsUnitBackAt s level c → CutsAt level s t → (l : Lit) × (slice_get c 0 ≡ Some l) × IsUnitAt t.values c l
+UnitAfterStepBack = (s t : TrailState) (level : ℕ) (c : List Lit) → IsTrail s → IsTrail t → IsUnitBackAt s level c
+    → CutsAt level s t → (l : Lit) × (slice_get c 0 ≡ Some l) × IsUnitAt t.values c l

@@ -54,12 +54,15 @@ pub record Gathers (steps : List Step) (old : Resolvent) (has : Lit → Type 0) 
   pub marked : (m : Lit) → has m → (k : ℕ) → k < old.top → IsMadeAt steps k (negated m) → IsMarked new k
   pub kept_upper : (k : ℕ) → Contains old.upper.keys k → Contains new.upper.keys k
   pub kept_lower : (k : ℕ) → Contains old.lower.keys k → Contains new.lower.keys k
-  pub from_upper : (k : ℕ) → Contains new.upper.keys k → Contains old.upper.keys k ⊎ ((k < old.top) × IsUpper steps old.floor k × IsOfOne steps has k)
-  pub from_lower : (k : ℕ) → Contains new.lower.keys k → Contains old.lower.keys k ⊎ (IsLower steps old.floor k × IsOfOne steps has k)
+  pub from_upper : (k : ℕ) → Contains new.upper.keys k → Contains old.upper.keys k
+      ⊎ ((k < old.top) × IsUpper steps old.floor k × IsOfOne steps has k)
+  pub from_lower : (k : ℕ) → Contains new.lower.keys k → Contains old.lower.keys k
+      ⊎ (IsLower steps old.floor k × IsOfOne steps has k)
 
 -- a held clause whose literals were made false before the place, but for the one that the step there made true
 abbrev pub IsOfStep : StoreState → ℕ → ℕ → Type 0
-IsOfStep s place id = (c : List Lit) × IsHeld s id c × ((m : Lit) → Contains c m → IsMadeBefore s.trail.steps place (negated m) ⊎ IsMadeAt s.trail.steps place m)
+IsOfStep s place id = (c : List Lit) × IsHeld s id c × ((m : Lit) → Contains c m → IsMadeBefore s.trail.steps place
+    (negated m) ⊎ IsMadeAt s.trail.steps place m)
 
 -- the clause was resolved: its false literals are marked, and it is a hint
 pub record Absorbs (s : StoreState) (old : Resolvent) (id : ℕ) (new : Resolvent) : Type 0 where

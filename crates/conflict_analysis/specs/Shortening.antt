@@ -22,7 +22,8 @@ IsLeftAt place among k = (k ≡ place) ⊎ among k
 pub record IsShort (s : StoreState) (place : ℕ) (among : ℕ → Type 0) (hints : List ℕ) : Type 0 where
   pub hinted : List (List Lit)
   pub held : AllZip (IsHeld s) (reverse hints) hinted
-  pub refuted : (inforce : List Lit) → AreInForce s.trail.steps (IsLeftAt place among) inforce → RefutesInOrder inforce hinted
+  pub refuted : (inforce : List Lit) → AreInForce s.trail.steps (IsLeftAt place among) inforce
+      → RefutesInOrder inforce hinted
   pub current : IsUpper s.trail.steps s.trail.level place
   pub lower : (k : ℕ) → among k → IsLower s.trail.steps s.trail.level k
   pub sourced : (k : ℕ) → IsLeftAt place among k → IsSourced s k
@@ -34,7 +35,8 @@ pub record IsRedundant (s : StoreState) (place : ℕ) (lower : List ℕ) (id : �
   pub reason : step.reason ≡ Some id
   pub clause : List Lit
   pub held : IsHeld s id clause
-  pub others : (m : Lit) → Contains clause m → (m ≡ step.lit) ⊎ ((k : ℕ) × Contains lower k × IsMadeAt s.trail.steps k (negated m))
+  pub others : (m : Lit) → Contains clause m → (m ≡ step.lit)
+      ⊎ ((k : ℕ) × Contains lower k × IsMadeAt s.trail.steps k (negated m))
 
 -- places that are still to be looked at, or are kept
 abbrev pub IsLeftOrKept : List ℕ → List ℕ → ℕ → Type 0

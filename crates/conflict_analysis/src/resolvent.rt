@@ -52,7 +52,8 @@ impl Resolvent {
     /// Marks the place that made a literal false, if it is below the top.
     fn mark(&mut self, store: &Store, lit: Lit) -> Result<(), Memory>
         requires laws { IsStore store.now }
-        requires made { IsMadeBefore store.now.trail.steps self.old.top (negated lit) ⊎ IsMadeAt store.now.trail.steps self.old.top lit }
+        requires made { IsMadeBefore store.now.trail.steps self.old.top (negated lit) ⊎ IsMadeAt store.now.trail.steps
+            self.old.top lit }
         requires unfixed { IsFixed store.now.trail (negated lit) → ⊥ }
         ensures ok { OnOk result (Gathers store.now.trail.steps self.old (λ m. m ≡ lit) self.new) }
         ensures hints { self.new.hints.items ≡ self.old.hints.items }

@@ -1,5 +1,6 @@
 -- Literals decided one after another.
-use Rattle.std.proofs.Common.{◌≡◌, ℕ, ◌+◌, ◌<◌, ◌≤◌, Bool, true, false, not, List, [], ◌∷◌, ◌++◌, map, take, length, get_or, All, Contains, eqb, refl, sym, ap, ◌∙◌, subst, arith, inl, inr, ◌⊎◌, ⊎_elim}
+use Rattle.std.proofs.Common.{◌≡◌, ℕ, ◌+◌, ◌<◌, ◌≤◌, Bool, true, false, not, List, [], ◌∷◌, ◌++◌, map, take, length}
+use Rattle.std.proofs.Common.{get_or, All, Contains, eqb, refl, sym, ap, ◌∙◌, subst, arith, inl, inr, ◌⊎◌, ⊎_elim}
 use Rattle.std.specs.List.{Any, IsDistinct}
 use Rattle.std.proofs.lemmas.List.{take_more, length-append, map_push, take_all}
 use Rattle.std.proofs.lemmas.List.Elements.{All-nil, All-push, All-contains_itself, Contains-push_cases}
@@ -17,7 +18,8 @@ use Rattle.ground_core.proofs.CoreFacts.{any-left, still-shown}
 use Rattle.ground_core.proofs.CallFacts.{none-yet, stays-twice, keeps-none, keeps-twice, counts-twice}
 use Rattle.consequences.specs.declared.kept.Kept.{Kept}
 use Rattle.model_search.specs.Models.{IsLeft}
-use Rattle.consequences.specs.Forced.{IsForced, IsFree, KeepsOne, FindsOne, Decides, IsFalseInAny, IsFalseInSeen, IsSettled, IsOpen, IsSeen, Searches, AreForced}
+use Rattle.consequences.specs.Forced.{IsForced, IsFree, KeepsOne, FindsOne, Decides, IsFalseInAny, IsFalseInSeen}
+use Rattle.consequences.specs.Forced.{IsSettled, IsOpen, IsSeen, Searches, AreForced}
 use Rattle.consequences.proofs.Numbers.{distinct-nil, distinct-more, no-more}
 
 sublist-right : (xs ys : List Lit) (z : Lit) → IsSublist xs ys → IsSublist xs (ys ++ z ∷ [])
@@ -37,8 +39,14 @@ sublist-both (x ∷ xs) (y ∷ ys) z s = ⊎_elim
     (λ h. inr (sublist-both (x ∷ xs) ys z h))
     s
 
-still-forced : (p : ProblemState) (assumed : List Lit) (before after : List (List Lit)) (k : Kept) → IsPrefix before after → IsForced p assumed before k → IsForced p assumed after k
-still-forced p assumed before after k more h = record { among = h.among; forces = h.forces; shown = still-shown before after (k.support ++ negated k.lit ∷ []) more h.shown }
+still-forced : (p : ProblemState) (assumed : List Lit) (before after : List (List Lit)) (k : Kept)
+    → IsPrefix before after → IsForced p assumed before k → IsForced p assumed after k
+still-forced p assumed before after k more h = record {
+  among = h.among;
+  forces = h.forces;
+  shown =
+      still-shown before after (k.support ++ negated k.lit ∷ []) more h.shown;
+}
 
 -- a literal of the same variable is the literal or its negation
 two-signs : (l x : Lit) → l.var.0 ≡ x.var.0 → (l ≡ x) ⊎ (l ≡ negated x)
@@ -51,26 +59,39 @@ two-signs l x e = by l.positive x.positive refl refl
     by false false f g = inl (same_literal l x e (f ∙ sym g))
 
 -- a literal that is not false in any has a negation that is
-negation-false : (found : List (List Bool)) (x : Lit) → 0 < length found → (IsFalseInAny found x → ⊥) → IsFalseInAny found (negated x)
+negation-false : (found : List (List Bool)) (x : Lit) → 0 < length found → (IsFalseInAny found x → ⊥)
+    → IsFalseInAny found (negated x)
 negation-false found x some none =
     let values : List Bool = get_or found 0 [] in
-    let here : Contains found values = All-contains_itself found 0 [] some in
-    (here.0, values, here.1, here.2, value-negated (valuation values) x ∙ ap not (step values here (literal_value (valuation values) x) refl))
+    let here : Contains found values = All-contains_itself found 0 [] some in (
+      here.0,
+      values,
+      here.1,
+      here.2,
+      value-negated (valuation values) x
+          ∙ ap not (step values here (literal_value (valuation values) x) refl),
+    )
   where
-    step : (values : List Bool) → Contains found values → (b : Bool) → literal_value (valuation values) x ≡ b → literal_value (valuation values) x ≡ true
+    step : (values : List Bool) → Contains found values → (b : Bool) → literal_value (valuation values) x ≡ b
+        → literal_value (valuation values) x ≡ true
     step values here true e = e
     step values here false e = absurd (none (here.0, values, here.1, here.2, e))
 
 -- the same of equal lists
-module _ (ks ks2 : List Kept) (found found2 : List (List Bool)) (atoms : ℕ) (seen : List (List Bool)) (x : Lit) (e : ks2 ≡ ks) (f : found2 ≡ found) where
+module _ (ks ks2 : List Kept) (found found2 : List (List Bool)) (atoms : ℕ) (seen : List (List Bool)) (x : Lit)
+    (e : ks2 ≡ ks) (f : found2 ≡ found) where
   pub open-here : IsOpen ks2 found2 atoms seen x → IsOpen ks found atoms seen x
-  open-here h = subst (λ (l : List Kept). IsOpen l found atoms seen x) e (subst (λ (l : List (List Bool)). IsOpen ks2 l atoms seen x) f h)
+  open-here h = subst (λ (l : List Kept). IsOpen l found atoms seen x) e
+      (subst (λ (l : List (List Bool)). IsOpen ks2 l atoms seen x) f h)
 
-  pub known-here : IsSettled ks2 found2 x ⊎ IsFalseInSeen atoms seen x → IsSettled ks found x ⊎ IsFalseInSeen atoms seen x
-  known-here h = subst (λ (l : List Kept). IsSettled l found x ⊎ IsFalseInSeen atoms seen x) e (subst (λ (l : List (List Bool)). IsSettled ks2 l x ⊎ IsFalseInSeen atoms seen x) f h)
+  pub known-here : IsSettled ks2 found2 x ⊎ IsFalseInSeen atoms seen x → IsSettled ks found x
+      ⊎ IsFalseInSeen atoms seen x
+  known-here h = subst (λ (l : List Kept). IsSettled l found x ⊎ IsFalseInSeen atoms seen x) e
+      (subst (λ (l : List (List Bool)). IsSettled ks2 l x ⊎ IsFalseInSeen atoms seen x) f h)
 
 -- what holds between two literals
-pub record IsSoFar (assumed ask : List Lit) (atoms : ℕ) (seen : List (List Bool)) (i : ℕ) (ks : List Kept) (found : List (List Bool)) (r s : SolveState) (a b : Budget) : Type 0 where
+pub record IsSoFar (assumed ask : List Lit) (atoms : ℕ) (seen : List (List Bool)) (i : ℕ) (ks : List Kept)
+    (found : List (List Bool)) (r s : SolveState) (a b : Budget) : Type 0 where
   pub kept : IsKept s
   pub stays : Stays r s
   pub keeps : Keeps r s a b
@@ -91,16 +112,21 @@ pub record IsSoFar (assumed ask : List Lit) (atoms : ℕ) (seen : List (List Boo
 none-in-none : {X : Type 0} (x : X) → Contains [] x → ⊥
 none-in-none x h = omega (arith, h.1)
 
-pub so-far-begins : (assumed ask : List Lit) (atoms : ℕ) (seen : List (List Bool)) (first : List Bool) (ks : List Kept) (before found : List (List Bool)) (r : SolveState) (a : Budget) → ks ≡ [] → before ≡ [] → found ≡ before ++ first ∷ [] → IsBudgetOf r.learnt a → IsKept r → IsLeft r.problem assumed first → IsSoFar assumed ask atoms seen 0 ks found r r a a
+pub so-far-begins : (assumed ask : List Lit) (atoms : ℕ) (seen : List (List Bool)) (first : List Bool) (ks : List Kept)
+    (before found : List (List Bool)) (r : SolveState) (a : Budget) → ks ≡ [] → before ≡ []
+    → found ≡ before ++ first ∷ [] → IsBudgetOf r.learnt a → IsKept r → IsLeft r.problem assumed first
+    → IsSoFar assumed ask atoms seen 0 ks found r r a a
 so-far-begins assumed ask atoms seen first ks before found r a none empty is budget kept left =
     let one : found ≡ first ∷ [] = is ∙ ap (λ (xs : List (List Bool)). xs ++ first ∷ []) empty in record {
       kept = kept;
       stays = record { problem = refl; additions = refl; free = refl };
       keeps = keeps-none r a budget;
-      left = subst (All (IsLeft r.problem assumed)) (sym one) (All-push (IsLeft r.problem assumed) [] first (All-nil (IsLeft r.problem assumed)) left);
+      left = subst (All (IsLeft r.problem assumed)) (sym one) (All-push (IsLeft r.problem assumed) [] first
+          (All-nil (IsLeft r.problem assumed)) left);
       some = subst (λ (xs : List (List Bool)). 0 < length xs) (sym one) (omega arith);
       order = subst (λ (xs : List Kept). IsSublist (map (λ (k : Kept). k.lit) xs) []) (sym none) tt;
-      forced = subst (All (IsForced r.problem assumed r.cores)) (sym none) (All-nil (IsForced r.problem assumed r.cores));
+      forced = subst (All (IsForced r.problem assumed r.cores)) (sym none)
+          (All-nil (IsForced r.problem assumed r.cores));
       others = All-nil (λ (l : Lit). Any (λ (k : Kept). k.lit ≡ l) ks ⊎ IsFree r.problem assumed l);
       tested = [];
       once = distinct-nil;
@@ -111,7 +137,8 @@ so-far-begins assumed ask atoms seen first ks before found r a none empty is bud
       counts = none-yet r.free r a kept.counted;
     }
 
-module _ (assumed ask : List Lit) (atoms : ℕ) (seen : List (List Bool)) (i : ℕ) (d : Lit) (ks : List Kept) (found : List (List Bool)) (r s : SolveState) (a b : Budget)
+module _ (assumed ask : List Lit) (atoms : ℕ) (seen : List (List Bool)) (i : ℕ) (d : Lit) (ks : List Kept)
+    (found : List (List Bool)) (r s : SolveState) (a b : Budget)
     (h : IsSoFar assumed ask atoms seen i ks found r s a b) where
   abbrev x : Lit
   x = get_or ask i d
@@ -128,7 +155,8 @@ module _ (assumed ask : List Lit) (atoms : ℕ) (seen : List (List Bool)) (i : �
   }
 
   pub so-far-long : (l : Lit) → IsLitOf r.problem.vars l → All (λ (values : List Bool). l.var.0 < length values) found
-  so-far-long l within = λ k e lt. let y : r.problem.vars < length (get_or found k e) = (h.left k e lt).0 in omega (arith, y, within.1)
+  so-far-long l within = λ k e lt. let y : r.problem.vars < length (get_or found k e) = (h.left k e lt).0 in
+      omega (arith, y, within.1)
 
   pub so-far-most : (vs : List ℕ) → Searches vs atoms seen ask → CountsUpTo r.free (length vs) r s a b
   so-far-most vs among = (
@@ -153,12 +181,18 @@ module _ (assumed ask : List Lit) (atoms : ℕ) (seen : List (List Bool)) (i : �
       (valuation values, left.1, left.2, f.4)
 
   -- one literal more that needs no search
-  module _ (lt : i < length ask) (same_atoms : atoms ≡ length r.problem.atoms) (were : All (IsSeen r.problem assumed) seen) (lits : AreLitsOf r.problem.vars ask) where
+  module _ (lt : i < length ask) (same_atoms : atoms ≡ length r.problem.atoms)
+      (were : All (IsSeen r.problem assumed) seen) (lits : AreLitsOf r.problem.vars ask) where
     free-seen : IsFalseInSeen atoms seen x → IsFree r.problem assumed x
     free-seen f =
         let was : IsSeen r.problem assumed f.1.1 = subst (IsSeen r.problem assumed) f.1.3 (were f.1.0 f.1.1 f.1.2) in
-        let within : IsLitOf (length r.problem.atoms) x = ((lits i d lt).0, omega (arith, f.0, same_atoms)) in
-        (was.left.0, was.left.1, was.left.2, sym (literal-local (length r.problem.atoms) (valuation f.1.1) was.left.0 was.left.3 x within) ∙ f.1.4)
+        let within : IsLitOf (length r.problem.atoms) x = ((lits i d lt).0, omega (arith, f.0, same_atoms)) in (
+          was.left.0,
+          was.left.1,
+          was.left.2,
+          sym (literal-local (length r.problem.atoms) (valuation f.1.1) was.left.0
+              was.left.3 x within) ∙ f.1.4,
+        )
 
     told : IsSettled ks found x ⊎ IsFalseInSeen atoms seen x → Told ks x
     told way = ⊎_elim
@@ -166,16 +200,19 @@ module _ (assumed ask : List Lit) (atoms : ℕ) (seen : List (List Bool)) (i : �
         (λ f. inr (free-seen f))
         way
 
-    pub skipped : IsSettled ks found x ⊎ IsFalseInSeen atoms seen x → IsSoFar assumed ask atoms seen (i + 1) ks found r s a b
+    pub skipped : IsSettled ks found x ⊎ IsFalseInSeen atoms seen x → IsSoFar assumed ask atoms seen
+        (i + 1) ks found r s a b
     skipped way = record {
       kept = h.kept;
       stays = h.stays;
       keeps = h.keeps;
       left = h.left;
       some = h.some;
-      order = subst (IsSublist (map (λ (k : Kept). k.lit) ks)) (sym (take_more ask i d lt)) (sublist-right (map (λ (k : Kept). k.lit) ks) (take i ask) x h.order);
+      order = subst (IsSublist (map (λ (k : Kept). k.lit) ks)) (sym (take_more ask i d lt))
+          (sublist-right (map (λ (k : Kept). k.lit) ks) (take i ask) x h.order);
       forced = h.forced;
-      others = subst (All (Told ks)) (sym (take_more ask i d lt)) (All-push (Told ks) (take i ask) x h.others (told way));
+      others = subst (All (Told ks)) (sym (take_more ask i d lt))
+          (All-push (Told ks) (take i ask) x h.others (told way));
       tested = h.tested;
       once = h.once;
       wanted = h.wanted;
@@ -207,10 +244,12 @@ module _ (assumed ask : List Lit) (atoms : ℕ) (seen : List (List Bool)) (i : �
       count2 = h.count + counts.0
 
       counts2 : Counts r.free count2 r t a c
-      counts2 = counts-twice r.free h.count counts.0 r s t a b c h.counts (subst (λ (n : ℕ). Counts n counts.0 s t b c) h.stays.free counts.2)
+      counts2 = counts-twice r.free h.count counts.0 r s t a b c h.counts
+          (subst (λ (n : ℕ). Counts n counts.0 s t b c) h.stays.free counts.2)
 
       few2 : count2 ≤ length tested2
-      few2 = let n : length tested2 ≡ length h.tested + 1 = length-append h.tested (x.var.0 ∷ []) in omega (arith, n, h.few, counts.1)
+      few2 = let n : length tested2 ≡ length h.tested + 1 = length-append h.tested (x.var.0 ∷ []) in
+          omega (arith, n, h.few, counts.1)
 
       pub searched-most : (vs : List ℕ) → Searches vs atoms seen ask → CountsUpTo r.free (length vs) r t a c
       searched-most vs among = (
@@ -227,28 +266,35 @@ module _ (assumed ask : List Lit) (atoms : ℕ) (seen : List (List Bool)) (i : �
         keeps2 = keeps-twice r s t a b c h.keeps keeps
 
         forced2 : All (IsForced r.problem assumed t.cores) ks
-        forced2 = λ k e less. still-forced r.problem assumed s.cores t.cores (get_or ks k e) keeps.cores (h.forced k e less)
+        forced2 = λ k e less. still-forced r.problem assumed s.cores t.cores (get_or ks k e) keeps.cores
+            (h.forced k e less)
 
         -- what was known of literals still is
-        module _ (more_ks : (l : Lit) → Any (λ (k : Kept). k.lit ≡ l) ks → Any (λ (k : Kept). k.lit ≡ l) ks2) (more_found : (l : Lit) → IsFalseInAny found l → IsFalseInAny found2 l) where
+        module _ (more_ks : (l : Lit) → Any (λ (k : Kept). k.lit ≡ l) ks → Any (λ (k : Kept). k.lit ≡ l) ks2)
+            (more_found : (l : Lit) → IsFalseInAny found l → IsFalseInAny found2 l) where
           others2 : Told ks2 x → All (Told ks2) (take (i + 1) ask)
           others2 here = subst (All (Told ks2)) (sym (take_more ask i d lt))
-              (All-push (Told ks2) (take i ask) x (λ k e less. ⊎_elim (λ y. inl (more_ks (get_or (take i ask) k e) y)) (λ f. inr f) (h.others k e less)) here)
+              (All-push (Told ks2) (take i ask) x (λ k e less. ⊎_elim (λ y. inl (more_ks (get_or (take i ask) k e) y))
+              (λ f. inr f) (h.others k e less)) here)
 
           settled2 : IsSettled ks2 found2 x → (l : Lit) → Contains tested2 l.var.0 → IsSettled ks2 found2 l
           settled2 here l has = ⊎_elim
               (λ old. ⊎_elim (λ y. inl (more_ks l y)) (λ y. inr (more_found l y)) (h.settled l old))
               (λ is. ⊎_elim
               (λ e. subst (IsSettled ks2 found2) (sym e) here)
-              (λ e. inr (subst (IsFalseInAny found2) (sym e) (more_found (negated x) (negation-false found x h.some (λ f. undecided.0 (inr f))))))
+              (λ e. inr (subst (IsFalseInAny found2) (sym e) (more_found (negated x)
+              (negation-false found x h.some (λ f. undecided.0 (inr f))))))
               (two-signs l x (sym is)))
               (Contains-push_cases h.tested x.var.0 l.var.0 has)
 
-        keeps-one : KeepsOne r.problem assumed x t.cores ks ks2 → found2 ≡ found → IsSoFar assumed ask atoms seen (i + 1) ks2 found2 r t a c
+        keeps-one : KeepsOne r.problem assumed x t.cores ks ks2 → found2 ≡ found → IsSoFar assumed ask atoms seen
+            (i + 1) ks2 found2 r t a c
         keeps-one one same =
             let P : Lit → Kept → Type 0 = λ (l : Lit) (k : Kept). k.lit ≡ l in
-            let more_ks : (l : Lit) → Any (P l) ks → Any (P l) ks2 = λ l y. subst (Any (P l)) (sym one.1) (any-left (P l) ks (one.0 ∷ []) y) in
-            let more_found : (l : Lit) → IsFalseInAny found l → IsFalseInAny found2 l = λ l y. subst (λ (xs : List (List Bool)). IsFalseInAny xs l) (sym same) y in
+            let more_ks : (l : Lit) → Any (P l) ks → Any (P l) ks2 = λ l y. subst (Any (P l)) (sym one.1)
+            (any-left (P l) ks (one.0 ∷ []) y) in
+            let more_found : (l : Lit) → IsFalseInAny found l → IsFalseInAny found2 l =
+            λ l y. subst (λ (xs : List (List Bool)). IsFalseInAny xs l) (sym same) y in
             let here : Any (P x) ks2 = subst (Any (P x)) (sym one.1) (Any-push (P x) ks one.0 one.2) in record {
               kept = kept;
               stays = stays2;
@@ -257,9 +303,12 @@ module _ (assumed ask : List Lit) (atoms : ℕ) (seen : List (List Bool)) (i : �
               some = subst (λ (xs : List (List Bool)). 0 < length xs) (sym same) h.some;
               order =
                   subst (λ (ls : List Lit). IsSublist ls (take (i + 1) ask))
-                  (sym (ap (map (λ (k : Kept). k.lit)) one.1 ∙ map_push (λ (k : Kept). k.lit) ks one.0 ∙ ap (λ (l : Lit). map (λ (k : Kept). k.lit) ks ++ l ∷ []) one.2))
-                  (subst (IsSublist (map (λ (k : Kept). k.lit) ks ++ x ∷ [])) (sym (take_more ask i d lt)) (sublist-both (map (λ (k : Kept). k.lit) ks) (take i ask) x h.order));
-              forced = subst (All (IsForced r.problem assumed t.cores)) (sym one.1) (All-push (IsForced r.problem assumed t.cores) ks one.0 forced2 one.3);
+                  (sym (ap (map (λ (k : Kept). k.lit)) one.1 ∙ map_push (λ (k : Kept). k.lit) ks one.0
+                  ∙ ap (λ (l : Lit). map (λ (k : Kept). k.lit) ks ++ l ∷ []) one.2))
+                  (subst (IsSublist (map (λ (k : Kept). k.lit) ks ++ x ∷ [])) (sym (take_more ask i d lt))
+                  (sublist-both (map (λ (k : Kept). k.lit) ks) (take i ask) x h.order));
+              forced = subst (All (IsForced r.problem assumed t.cores)) (sym one.1)
+                  (All-push (IsForced r.problem assumed t.cores) ks one.0 forced2 one.3);
               others = others2 more_ks more_found (inl here);
               tested = tested2;
               once = once2;
@@ -270,22 +319,29 @@ module _ (assumed ask : List Lit) (atoms : ℕ) (seen : List (List Bool)) (i : �
               counts = counts2;
             }
 
-        finds-one : ks2 ≡ ks → FindsOne r.problem assumed x found found2 → IsSoFar assumed ask atoms seen (i + 1) ks2 found2 r t a c
+        finds-one : ks2 ≡ ks → FindsOne r.problem assumed x found found2 → IsSoFar assumed ask atoms seen
+            (i + 1) ks2 found2 r t a c
         finds-one same one =
             let P : Lit → Kept → Type 0 = λ (l : Lit) (k : Kept). k.lit ≡ l in
-            let Q : Lit → List Bool → Type 0 = λ (l : Lit) (values : List Bool). literal_value (valuation values) l ≡ false in
+            let Q : Lit → List Bool → Type 0 = λ (l : Lit) (values : List Bool). literal_value
+            (valuation values) l ≡ false in
             let more_ks : (l : Lit) → Any (P l) ks → Any (P l) ks2 = λ l y. subst (Any (P l)) (sym same) y in
-            let more_found : (l : Lit) → IsFalseInAny found l → IsFalseInAny found2 l = λ l y. subst (λ (xs : List (List Bool)). IsFalseInAny xs l) (sym one.1) (any-left (Q l) found (one.0 ∷ []) y) in
-            let here : IsFalseInAny found2 x = subst (λ (xs : List (List Bool)). IsFalseInAny xs x) (sym one.1) (Any-push (Q x) found one.0 one.2.1) in
+            let more_found : (l : Lit) → IsFalseInAny found l → IsFalseInAny found2 l =
+            λ l y. subst (λ (xs : List (List Bool)). IsFalseInAny xs l) (sym one.1)
+            (any-left (Q l) found (one.0 ∷ []) y) in
+            let here : IsFalseInAny found2 x = subst (λ (xs : List (List Bool)). IsFalseInAny xs x) (sym one.1)
+            (Any-push (Q x) found one.0 one.2.1) in
             let n : length (found ++ one.0 ∷ []) ≡ length found + 1 = length-append found (one.0 ∷ []) in record {
               kept = kept;
               stays = stays2;
               keeps = keeps2;
-              left = subst (All (IsLeft r.problem assumed)) (sym one.1) (All-push (IsLeft r.problem assumed) found one.0 h.left one.2.0);
+              left = subst (All (IsLeft r.problem assumed)) (sym one.1)
+                  (All-push (IsLeft r.problem assumed) found one.0 h.left one.2.0);
               some = subst (λ (xs : List (List Bool)). 0 < length xs) (sym one.1) (omega (arith, n));
               order =
                   subst (λ (xs : List Kept). IsSublist (map (λ (k : Kept). k.lit) xs) (take (i + 1) ask)) (sym same)
-                  (subst (IsSublist (map (λ (k : Kept). k.lit) ks)) (sym (take_more ask i d lt)) (sublist-right (map (λ (k : Kept). k.lit) ks) (take i ask) x h.order));
+                  (subst (IsSublist (map (λ (k : Kept). k.lit) ks)) (sym (take_more ask i d lt))
+                  (sublist-right (map (λ (k : Kept). k.lit) ks) (take i ask) x h.order));
               forced = subst (All (IsForced r.problem assumed t.cores)) (sym same) forced2;
               others = others2 more_ks more_found (inr (valuation one.0, one.2.0.1, one.2.0.2, one.2.1));
               tested = tested2;
@@ -297,7 +353,8 @@ module _ (assumed ask : List Lit) (atoms : ℕ) (seen : List (List Bool)) (i : �
               counts = counts2;
             }
 
-        pub searched : Decides s.problem assumed x t.cores ks ks2 found found2 → IsSoFar assumed ask atoms seen (i + 1) ks2 found2 r t a c
+        pub searched : Decides s.problem assumed x t.cores ks ks2 found found2 → IsSoFar assumed ask atoms seen
+            (i + 1) ks2 found2 r t a c
         searched decides = ⊎_elim
             (λ y. keeps-one y.0 y.1)
             (λ y. finds-one y.0 y.1)
@@ -308,7 +365,8 @@ module _ (p : ProblemState) (assumed : List Lit) (x : Lit) where
   pub test-lits : AreLitsOf p.vars assumed → IsLitOf p.vars x → AreLitsOf p.vars (assumed ++ negated x ∷ [])
   test-lits lits within = All-push (IsLitOf p.vars) assumed (negated x) lits within
 
-  pub test-unretired : (ask : List Lit) → AreUnretired p assumed → IsLive p.retired ask → Contains ask x → AreUnretired p (assumed ++ negated x ∷ [])
+  pub test-unretired : (ask : List Lit) → AreUnretired p assumed → IsLive p.retired ask → Contains ask x
+      → AreUnretired p (assumed ++ negated x ∷ [])
   test-unretired ask not live has = λ l gone in_. ⊎_elim
       (λ old. not l gone old)
       (λ is. live l gone (subst (Contains ask) (sym (negated-negated x) ∙ ap negated is) has))

@@ -1,5 +1,6 @@
 -- Distinct numbers among others.
-use Rattle.std.proofs.Common.{◌≡◌, ℕ, ◌≤◌, Bool, true, false, List, [], ◌∷◌, ◌++◌, Contains, length, eqb, eq-eqb, rules, refl}
+use Rattle.std.proofs.Common.{◌≡◌, ℕ, ◌≤◌, Bool, true, false, List, [], ◌∷◌, ◌++◌, Contains, length, eqb, eq-eqb, rules}
+use Rattle.std.proofs.Common.{refl}
 use Rattle.std.specs.Cmp.{IsEquivalence}
 use Rattle.std.specs.List.{list_any, IsDistinct}
 use Rattle.std.proofs.lemmas.Bool.{eqb-true}
@@ -27,4 +28,5 @@ distinct-more ns n once not = IsDistinct-push eqb-laws ns n once (absent (list_a
 
 -- distinct numbers are no more than those they are among
 pub no-more : (ns vs : List ℕ) → IsDistinct eqb ns → ((n : ℕ) → Contains ns n → Contains vs n) → length ns ≤ length vs
-no-more ns vs once among = length-le_from_is_member eqb-laws ns vs once (λ q e. list_any-from_Contains eqb-laws q vs (among q (Contains-from_any eqb-true q ns e)))
+no-more ns vs once among = length-le_from_is_member eqb-laws ns vs once (λ q e. list_any-from_Contains eqb-laws q vs
+    (among q (Contains-from_any eqb-true q ns e)))

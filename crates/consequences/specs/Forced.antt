@@ -1,5 +1,6 @@
 -- Literals that are true in all models.
-use Rattle.std.specs.Prelude.{◌≡◌, ℕ, ◌<◌, ◌≤◌, Bool, true, false, Option, Some, None, List, [], ◌∷◌, ◌++◌, All, Any, Contains, length, map, ◌⊎◌}
+use Rattle.std.specs.Prelude.{◌≡◌, ℕ, ◌<◌, ◌≤◌, Bool, true, false, Option, Some, None, List, [], ◌∷◌, ◌++◌, All, Any}
+use Rattle.std.specs.Prelude.{Contains, length, map, ◌⊎◌}
 use Rattle.lit_core.specs.declared.literals.Lit.{Lit}
 use Rattle.lit_core.specs.Literals.{valuation, literal_value, negated}
 use Rattle.ground_core.specs.Problems.{ProblemState}
@@ -42,8 +43,10 @@ KeepsOne p assumed l cores ks ks2 = (k : Kept) × (ks2 ≡ ks ++ k ∷ []) × (k
 abbrev pub FindsOne : ProblemState → List Lit → Lit → List (List Bool) → List (List Bool) → Type 0
 FindsOne p assumed l found found2 = (values : List Bool) × (found2 ≡ found ++ values ∷ []) × IsFreeBy p assumed l values
 
-abbrev pub Decides : ProblemState → List Lit → Lit → List (List Lit) → List Kept → List Kept → List (List Bool) → List (List Bool) → Type 0
-Decides p assumed l cores ks ks2 found found2 = (KeepsOne p assumed l cores ks ks2 × (found2 ≡ found)) ⊎ ((ks2 ≡ ks) × FindsOne p assumed l found found2)
+abbrev pub Decides : ProblemState → List Lit → Lit → List (List Lit) → List Kept → List Kept → List (List Bool)
+    → List (List Bool) → Type 0
+Decides p assumed l cores ks ks2 found found2 = (KeepsOne p assumed l cores ks ks2 × (found2 ≡ found))
+    ⊎ ((ks2 ≡ ks) × FindsOne p assumed l found found2)
 
 -- one of these valuations makes the literal false
 abbrev pub IsFalseInAny : List (List Bool) → Lit → Type 0
@@ -66,7 +69,8 @@ abbrev pub Searches : List ℕ → ℕ → List (List Bool) → List Lit → Typ
 Searches vs atoms seen ask = All (λ l. Contains vs l.var.0 ⊎ IsFalseInSeen atoms seen l) ask
 
 -- exactly the asked literals that are true in all valuations left are kept
-pub record AreForced (p : ProblemState) (assumed ask : List Lit) (cores : List (List Lit)) (kept : List Kept) : Type 0 where
+pub record AreForced (p : ProblemState) (assumed ask : List Lit) (cores : List (List Lit))
+    (kept : List Kept) : Type 0 where
   -- a valuation is left
   pub some : (v : ℕ → Bool) × Satisfies p v × MakesTrue v assumed
   -- in the order in which they were asked for
@@ -86,4 +90,5 @@ pub record IsSeen (p : ProblemState) (assumed : List Lit) (values : List Bool) :
 -- the second list is the first without this literal
 abbrev pub IsWithout : Lit → List Lit → List Lit → Type 0
 IsWithout l [] rest = rest ≡ []
-IsWithout l (x ∷ xs) rest = ((x ≡ l) × IsWithout l xs rest) ⊎ ((x ≡ l → ⊥) × ((ys : List Lit) × (rest ≡ x ∷ ys) × IsWithout l xs ys))
+IsWithout l (x ∷ xs) rest = ((x ≡ l) × IsWithout l xs rest) ⊎
+    ((x ≡ l → ⊥) × ((ys : List Lit) × (rest ≡ x ∷ ys) × IsWithout l xs ys))

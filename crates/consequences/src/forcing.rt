@@ -30,7 +30,8 @@ fn decide<S: Solve>(
     requires unretired { AreUnretired (S.state s.old).problem (assume.now ++ negated lit ∷ []) }
     requires budget { IsBudgetOf (S.state s.old).learnt budget.old }
     requires kept { IsKept (S.state s.old) }
-    ensures decides { OnOk result (Decides (S.state s.old).problem assume.now lit (S.state s.new).cores kept.old kept.new found.old found.new) }
+    ensures decides { OnOk result (Decides (S.state s.old).problem assume.now lit (S.state s.new).cores kept.old
+        kept.new found.old found.new) }
     ensures halt { IfErr result (HaltedAt budget.new) }
     ensures stays { Stays (S.state s.old) (S.state s.new) }
     ensures keeps { Keeps (S.state s.old) (S.state s.new) budget.old budget.new }
@@ -77,7 +78,8 @@ fn decide_each<S: Solve>(
     ensures halt { IfErr result (HaltedAt budget.new) }
     ensures stays { Stays (S.state s.old) (S.state s.new) }
     ensures keeps { Keeps (S.state s.old) (S.state s.new) budget.old budget.new }
-    ensures counts { (vs : List ℕ) → Searches vs atoms seen.now ask.now → CountsUpTo (S.state s.old).free (length vs) (S.state s.old) (S.state s.new) budget.old budget.new }
+    ensures counts { (vs : List ℕ) → Searches vs atoms seen.now ask.now → CountsUpTo (S.state s.old).free (length vs)
+        (S.state s.old) (S.state s.new) budget.old budget.new }
     ensures kept { IsKept (S.state s.new) }
     ensures later { S.goes_on s.old s.new }
 {
@@ -121,8 +123,10 @@ pub fn forced<S: Solve>(
     ensures halt { IfErr result (HaltedAt budget.new) }
     ensures stays { Stays (S.state s.old) (S.state s.new) }
     ensures keeps { Keeps (S.state s.old) (S.state s.new) budget.old budget.new }
-    ensures costs { (vs : List ℕ) → Searches vs atoms seen.now ask.now → Costs (length vs + 1) (S.state s.old) (S.state s.new) budget.old budget.new }
-    ensures decided { HasCoreWithin (S.state s.old).cores assume.now → IsAnsweredAtOnce (S.state s.old) (S.state s.new) result }
+    ensures costs { (vs : List ℕ) → Searches vs atoms seen.now ask.now → Costs (length vs + 1) (S.state s.old)
+        (S.state s.new) budget.old budget.new }
+    ensures decided { HasCoreWithin (S.state s.old).cores assume.now → IsAnsweredAtOnce (S.state s.old)
+        (S.state s.new) result }
     ensures kept { IsKept (S.state s.new) }
     ensures later { S.goes_on s.old s.new }
 {

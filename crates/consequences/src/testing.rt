@@ -14,7 +14,8 @@ use std::alloc::Global;
 
 /// Adds the literal, unless it is the other.
 fn push_unless(list: &mut LitList, other: Lit, lit: Lit) -> Result<(), Memory>
-    ensures { OnOk result (((other ≡ lit) × (list.new ≡ list.old)) ⊎ ((other ≡ lit → ⊥) × (list.new ≡ list.old ++ other ∷ []))) }
+    ensures { OnOk result (((other ≡ lit) × (list.new ≡ list.old))
+        ⊎ ((other ≡ lit → ⊥) × (list.new ≡ list.old ++ other ∷ []))) }
 {
     if other == lit {
         return Ok(());

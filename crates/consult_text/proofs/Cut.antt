@@ -1,11 +1,13 @@
 -- The elements that are cut so far.
-use Rattle.std.proofs.Common.{◌≡◌, ◌≢◌, ℕ, List, [], ◌∷◌, ◌++◌, refl, sym, ap, ◌∙◌, codes, Bool, append_assoc, subst, Option, None, Some}
+use Rattle.std.proofs.Common.{◌≡◌, ◌≢◌, ℕ, List, [], ◌∷◌, ◌++◌, refl, sym, ap, ◌∙◌, codes, Bool, append_assoc, subst}
+use Rattle.std.proofs.Common.{Option, None, Some}
 use Rattle.std.specs.List.{AllByRecursion}
 use Rattle.consult_text.specs.declared.written.ElemText.{ElemText}
 use Rattle.std.specs.Borrow.{Bor}
 use Rattle.kb_text.specs.declared.token.Token.{Token}
 use Rattle.consult_text.specs.Written.{Tok, sign, WrittenElem, put_elem, put_further, put_args, equals, HasName}
-use Rattle.consult_text.specs.Parse.{close, dot, toks, ParsesFurther, ParsesArgs, ParsesHead, ParsesPositive, elem_views, elem_view}
+use Rattle.consult_text.specs.Parse.{close, dot, toks, ParsesFurther, ParsesArgs, ParsesHead, ParsesPositive}
+use Rattle.consult_text.specs.Parse.{elem_views, elem_view}
 use Rattle.consult_text.proofs.Spelling.{further_front, comma_close, some_same, dot_closed, equals_closed, elem_same}
 
 -- some elements stand before the rest, and were added

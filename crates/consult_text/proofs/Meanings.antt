@@ -1,5 +1,6 @@
 -- A line means at most one thing.
-use Rattle.std.proofs.Common.{◌≡◌, ◌≢◌, ℕ, ◌<◌, List, [], ◌∷◌, map, Bool, true, false, Ok, Err, Option, Some, None, refl, sym, ap, ◌∙◌, subst, codes, arith}
+use Rattle.std.proofs.Common.{◌≡◌, ◌≢◌, ℕ, ◌<◌, List, [], ◌∷◌, map, Bool, true, false, Ok, Err, Option, Some, None}
+use Rattle.std.proofs.Common.{refl, sym, ap, ◌∙◌, subst, codes, arith}
 use Rattle.std.specs.Str.{bytes_eq}
 use Rattle.std.specs.List.{Contains}
 use Rattle.std.proofs.lemmas.Option.{slice_get_within, get_or_from_slice_get}
@@ -14,9 +15,11 @@ use Rattle.consult_text.specs.declared.commands.Command.TheVariants as command
 use Rattle.consult_text.specs.declared.refusals.F.{F}
 use Rattle.consult_text.specs.declared.refusals.F.TheVariants as refusal
 use Rattle.consult_text.specs.Written as written
-use Rattle.consult_text.specs.Written.{Tok, word, digits, sign, WrittenElem, WrittenLiteral, atom, equation, WrittenCommand, put_elem, put_args, put_literal, put_command, equals}
+use Rattle.consult_text.specs.Written.{Tok, word, digits, sign, WrittenElem, WrittenLiteral, atom, equation}
+use Rattle.consult_text.specs.Written.{WrittenCommand, put_elem, put_args, put_literal, put_command, equals}
 use Rattle.consult_text.specs.Literals.{IsLiteralOver, IsFirstNamed, HasFormOf, name_of, literal_of}
-use Rattle.consult_text.specs.Lines.{tok_of, IsWritten, IsBlank, IsNoCommand, StandsFor, IsRefusedFor, Asks, RefusesFor, HasCommand, HasRefusal, IsCommandOver}
+use Rattle.consult_text.specs.Lines.{tok_of, IsWritten, IsBlank, IsNoCommand, StandsFor, IsRefusedFor, Asks, RefusesFor}
+use Rattle.consult_text.specs.Lines.{HasCommand, HasRefusal, IsCommandOver}
 use Rattle.consult_text.specs.Parse.{dot, IsClosed}
 use Rattle.consult_text.specs.Laws.{HasOneMeaning, CommandsAreOverTheBase}
 use Rattle.consult_text.proofs.Spelling.{elem_same, args_same, sign_above, dot_closed, equals_closed}

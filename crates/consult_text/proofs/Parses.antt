@@ -1,5 +1,6 @@
 -- Lines and the commands that are written in them.
-use Rattle.std.proofs.Common.{◌≡◌, ℕ, suc, ◌<◌, ◌^◌, List, [], ◌∷◌, map, length, Bool, true, false, Ok, Err, Option, Some, None, refl, sym, ap, ◌∙◌, subst, arith}
+use Rattle.std.proofs.Common.{◌≡◌, ℕ, suc, ◌<◌, ◌^◌, List, [], ◌∷◌, map, length, Bool, true, false, Ok, Err, Option}
+use Rattle.std.proofs.Common.{Some, None, refl, sym, ap, ◌∙◌, subst, arith}
 use Rattle.std.specs.List.{All, AllByRecursion}
 use Rattle.kb_text.specs.declared.fault.KbFault.{KbFault}
 use Rattle.kb_text.specs.declared.token.Kind.{Kind}
@@ -9,7 +10,9 @@ use Rattle.kb_text.specs.Depth.{outermost}
 use Rattle.kb_text.specs.Tokens.{Lexeme, Outcome, TokensFrom, IsSpelled, lexemes, decimal}
 use Rattle.consult_text.specs.declared.written.CommandText.{CommandText}
 use Rattle.consult_text.specs.Written as written
-use Rattle.consult_text.specs.Written.{Tok, word, digits, sign, procedure, WrittenElem, named, integer, WrittenLiteral, atom, equation, WrittenCommand, put_elem, put_further, put_args, put_literal, put_command, equals, IsWellFormed}
+use Rattle.consult_text.specs.Written.{Tok, word, digits, sign, procedure, WrittenElem, named, integer, WrittenLiteral}
+use Rattle.consult_text.specs.Written.{atom, equation, WrittenCommand, put_elem, put_further, put_args, put_literal}
+use Rattle.consult_text.specs.Written.{put_command, equals, IsWellFormed}
 use Rattle.consult_text.specs.Lines.{tok, tok_of, IsWritten, IsBlank}
 use Rattle.consult_text.specs.Parse.{toks, close, dot, ParsesCommand, command_view}
 use Rattle.consult_text.specs.Ranges.{IsInRange, HasRange, HasRanges}

@@ -1,7 +1,8 @@
 -- What the spelling of a written command determines.
 use Rattle.std.proofs.Common.{◌≡◌, ℕ, List, [], ◌∷◌, Bool, true, false, refl, sym, codes, ◌<◌, arith}
 use Rattle.std.specs.List.{AllByRecursion}
-use Rattle.consult_text.specs.Written.{Tok, sign, WrittenElem, named, integer, put_elem, put_further, put_args, equals, HasName}
+use Rattle.consult_text.specs.Written.{Tok, sign, WrittenElem, named, integer, put_elem, put_further, put_args, equals}
+use Rattle.consult_text.specs.Written.{HasName}
 use Rattle.consult_text.specs.Parse.{close, IsClosed}
 
 -- signs whose first bytes differ

@@ -8,7 +8,8 @@ use Rattle.kb_text.specs.declared.token.Kind.{Kind}
 use Rattle.kb_text.specs.declared.token.Kind.TheVariants.{Word, Int, Sign, Procedure}
 use Rattle.kb_text.specs.Tokens.{Lexeme, TokensFrom, decimal}
 use Rattle.consult_text.specs.Written as written
-use Rattle.consult_text.specs.Written.{Tok, word, digits, sign, procedure, WrittenLiteral, WrittenCommand, put_command, IsWellFormed}
+use Rattle.consult_text.specs.Written.{Tok, word, digits, sign, procedure, WrittenLiteral, WrittenCommand, put_command}
+use Rattle.consult_text.specs.Written.{IsWellFormed}
 use Rattle.consult_text.specs.Literals.{IsLiteralOver, IsFirstNamed, HasFormOf, literal_of, name_of}
 use Rattle.consult_text.specs.declared.commands.Command.{Command}
 use Rattle.consult_text.specs.declared.commands.Command.TheVariants as command

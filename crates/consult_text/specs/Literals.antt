@@ -1,5 +1,6 @@
 -- Literals over a knowledge base: what a written one stands for, and why it is refused.
-use Rattle.std.specs.Prelude.{◌≡◌, ◌≢◌, ◌<◌, ℕ, ℤ, pos, neg_ℤ, List, Bool, true, false, Some, None, map, slice_get, length}
+use Rattle.std.specs.Prelude.{◌≡◌, ◌≢◌, ◌<◌, ℕ, ℤ, pos, neg_ℤ, List, Bool, true, false, Some, None, map, slice_get}
+use Rattle.std.specs.Prelude.{length}
 use Rattle.kb_logic.specs.declared.elements.Elem.{Elem}
 use Rattle.kb_logic.specs.declared.elements.Elem.TheVariants.{Named, Num}
 use Rattle.kb_logic.specs.declared.vocabularies.Symbol.{Symbol}

@@ -5,7 +5,9 @@ use Rattle.std.specs.List.{AllByRecursion}
 use Rattle.kb_text.specs.declared.token.Token.{Token}
 use Rattle.kb_text.specs.Tokens.{lexemes}
 use Rattle.consult_text.specs.Written as written
-use Rattle.consult_text.specs.Written.{Tok, word, digits, sign, WrittenElem, WrittenLiteral, WrittenCommand, named, integer, atom, equation, put_elem, put_further, put_args, put_literal, put_command, equals, IsName, HasName, HasNames, IsWellFormed}
+use Rattle.consult_text.specs.Written.{Tok, word, digits, sign, WrittenElem, WrittenLiteral, WrittenCommand, named}
+use Rattle.consult_text.specs.Written.{integer, atom, equation, put_elem, put_further, put_args, put_literal}
+use Rattle.consult_text.specs.Written.{put_command, equals, IsName, HasName, HasNames, IsWellFormed}
 use Rattle.consult_text.specs.Lines.{tok_of}
 use Rattle.consult_text.specs.Budgets.{IsBudget}
 use Rattle.consult_text.specs.declared.written.ElemText.{ElemText}

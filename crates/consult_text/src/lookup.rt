@@ -1,5 +1,6 @@
 //! Looks the names of a written literal up.
-ghost use Rattle.std.specs.Prelude.{◌≡◌, ◌≢◌, ◌<◌, ◌≤◌, ◌^◌, ℕ, length, map, Contains, Some, slice_get, is_some, IfOk, MatchBool, MatchOption};
+ghost use Rattle.std.specs.Prelude.{◌≡◌, ◌≢◌, ◌<◌, ◌≤◌, ◌^◌, ℕ, length, map, Contains, Some, slice_get, is_some, IfOk};
+ghost use Rattle.std.specs.Prelude.{MatchBool, MatchOption};
 ghost use Rattle.std.specs.List.{AllByRecursion};
 ghost use Rattle.kb_logic.specs.Structures.{IsRowOver};
 ghost use Rattle.consult_base.specs.Opened.{base_of};

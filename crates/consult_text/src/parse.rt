@@ -5,7 +5,10 @@ ghost use Rattle.std.specs.Str.{bytes_eq};
 ghost use Rattle.kb_text.specs.Tokens.{lexeme_of, is_word_of};
 ghost use Rattle.consult_text.specs.Written.{word, sign, reserved_words};
 ghost use Rattle.consult_text.specs.Lines.{tok_of};
-ghost use Rattle.consult_text.specs.Parse.{toks, Behind, ParsesName, ParsesDigits, ParsesElem, ParsesFurther, ParsesArgs, HasNoArgs, ParsesHead, HasNoHead, ParsesEquality, ParsesLiteral, ParsesNegated, ParsesPositive, ParsesBudget, ParsesShort, ParsesCommand, literal_view, head_literal, dot, elem_views};
+ghost use Rattle.consult_text.specs.Parse.{toks, Behind, ParsesName, ParsesDigits, ParsesElem, ParsesFurther};
+ghost use Rattle.consult_text.specs.Parse.{ParsesArgs, HasNoArgs, ParsesHead, HasNoHead, ParsesEquality, ParsesLiteral};
+ghost use Rattle.consult_text.specs.Parse.{ParsesNegated, ParsesPositive, ParsesBudget, ParsesShort, ParsesCommand};
+ghost use Rattle.consult_text.specs.Parse.{literal_view, head_literal, dot, elem_views};
 
 use crate::digits::budget_of;
 use crate::written::{CommandText, ElemText, Head, LiteralText};

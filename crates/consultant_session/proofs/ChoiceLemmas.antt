@@ -1,5 +1,6 @@
 -- What commands do to the choices.
-use Rattle.std.proofs.Common.{◌≡◌, List, [], ◌∷◌, ◌++◌, refl, sym, ◌∙◌, subst, Bool, true, false, cond, not, Option, None, Some, inl, inr}
+use Rattle.std.proofs.Common.{◌≡◌, List, [], ◌∷◌, ◌++◌, refl, sym, ◌∙◌, subst, Bool, true, false, cond, not, Option}
+use Rattle.std.proofs.Common.{None, Some, inl, inr}
 use Rattle.std.specs.Bool.{Decides}
 use Rattle.std.specs.List.{list_any, filter, Contains}
 use Rattle.std.proofs.lemmas.Bool.{false≢true}
@@ -12,8 +13,10 @@ use Rattle.kb_logic.proofs.Members.{member_cases, from_filter, none_in, distinct
 use Rattle.consult_text.specs.declared.commands.Command.TheVariants as command
 use Rattle.consult_text.specs.declared.refusals.F.{F}
 use Rattle.consult_text.specs.declared.refusals.F.TheVariants as refusal
-use Rattle.consult_text.specs.States.{State, same_literal, is_chosen, is_known, refused_where, command_refusal, carried_out, unless_refused, state_after}
-use Rattle.consultant_session.specs.Laws.{SameLiteralIsEquality, ChosenIsMembership, WithoutRemovesOne, ChoicesStayDistinct, BudgetStays, OppositeChoicesHaveNoModel, opposite}
+use Rattle.consult_text.specs.States.{State, same_literal, is_chosen, is_known, refused_where, command_refusal}
+use Rattle.consult_text.specs.States.{carried_out, unless_refused, state_after}
+use Rattle.consultant_session.specs.Laws.{SameLiteralIsEquality, ChosenIsMembership, WithoutRemovesOne}
+use Rattle.consultant_session.specs.Laws.{ChoicesStayDistinct, BudgetStays, OppositeChoicesHaveNoModel, opposite}
 use Rattle.kb_logic.specs.Models.{HoldsIn}
 use Rattle.consultant_session.proofs.MemberLemmas.{all_at, contains_filter, filter_contains}
 use Rattle.consultant_session.proofs.LiteralLemmas.{same_literal_decides, opposites_clash}

@@ -1,5 +1,6 @@
 -- What a filter contains.
-use Rattle.std.proofs.Common.{◌≡◌, ℕ, zero, suc, ◌<◌, List, [], ◌∷◌, length, get_or, sym, ◌∙◌, ap, subst, Bool, true, false, cond, arith}
+use Rattle.std.proofs.Common.{◌≡◌, ℕ, zero, suc, ◌<◌, List, [], ◌∷◌, length, get_or, sym, ◌∙◌, ap, subst, Bool, true}
+use Rattle.std.proofs.Common.{false, cond, arith}
 use Rattle.std.specs.List.{AllByRecursion, filter, Contains}
 use Rattle.std.proofs.lemmas.List.Elements.{All-contains, All-from_recursion, filter_passes}
 

@@ -1,5 +1,6 @@
 //! What the definitions of states say, in the subject's own words. The functions are empty: their contracts are laws.
-ghost use Rattle.consultant_session.specs.Laws.{SameLiteralIsEquality, ChosenIsMembership, WithoutRemovesOne, ChoicesStayDistinct, BudgetStays, OppositeChoicesHaveNoModel};
+ghost use Rattle.consultant_session.specs.Laws.{SameLiteralIsEquality, ChosenIsMembership, WithoutRemovesOne};
+ghost use Rattle.consultant_session.specs.Laws.{ChoicesStayDistinct, BudgetStays, OppositeChoicesHaveNoModel};
 
 /// The test of two literals tells exactly whether they are equal.
 pub fn same_literal_is_equality()

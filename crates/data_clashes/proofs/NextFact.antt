@@ -1,5 +1,6 @@
 -- One fact more.
-use Rattle.std.proofs.Common.{◌≡◌, ◌<◌, ◌+◌, ℕ, List, [], ◌∷◌, ◌++◌, Option, drop, take, fold, get_or, length, map, refl, sym, ap, ◌∙◌}
+use Rattle.std.proofs.Common.{◌≡◌, ◌<◌, ◌+◌, ℕ, List, [], ◌∷◌, ◌++◌, Option, drop, take, fold, get_or, length, map}
+use Rattle.std.proofs.Common.{refl, sym, ap, ◌∙◌}
 use Rattle.std.proofs.lemmas.List.{map-append, take_more}
 use Rattle.kb_text.specs.declared.fault.KbFault.{KbFault}
 use Rattle.reading_stages.specs.DataFacts as stated
@@ -11,10 +12,13 @@ use Rattle.data_entries.proofs.Dropped.{front}
 abbrev pub views : List Fact → List stated.Fact
 views fs = map fact_view fs
 
-pub taken_more : (fs : List Fact) (i : ℕ) (f : Fact) → i < length fs → f ≡ get_or fs i f → views (take (i + 1) fs) ≡ views (take i fs) ++ fact_view f ∷ []
-taken_more fs i f lt is = ap views (take_more fs i f lt ∙ ap (λ x. take i fs ++ x ∷ []) (sym is)) ∙ map-append fact_view (take i fs) (f ∷ [])
+pub taken_more : (fs : List Fact) (i : ℕ) (f : Fact) → i < length fs → f ≡ get_or fs i f → views (take (i + 1) fs)
+    ≡ views (take i fs) ++ fact_view f ∷ []
+taken_more fs i f lt is = ap views (take_more fs i f lt ∙ ap (λ x. take i fs ++ x ∷ []) (sym is))
+    ∙ map-append fact_view (take i fs) (f ∷ [])
 
-pub next_fact : (note : Option KbFault → DataUse → Option KbFault) (fs : List Fact) (i : ℕ) (f : Fact) (old new whole : Option KbFault) → i < length fs → f ≡ get_or fs i f
+pub next_fact : (note : Option KbFault → DataUse → Option KbFault) (fs : List Fact) (i : ℕ) (f : Fact)
+    (old new whole : Option KbFault) → i < length fs → f ≡ get_or fs i f
     → new ≡ note old (fact (views (take i fs)) (fact_view f))
     → fold note old (uses_of_facts (views (take i fs)) (views (drop i fs))) ≡ whole
     → fold note new (uses_of_facts (views (take (i + 1) fs)) (views (drop (i + 1) fs))) ≡ whole

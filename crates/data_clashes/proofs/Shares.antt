@@ -1,5 +1,6 @@
 -- Rows of cells that share, cell by cell.
-use Rattle.std.proofs.Common.{◌≡◌, ◌<◌, ◌≤◌, ◌+◌, ◌-◌, ◌==◌, ℕ, suc, Bool, false, ◌&&◌, leb, List, [], ◌∷◌, drop, get_or, length, map, refl, sym, ap, ◌∙◌, arith}
+use Rattle.std.proofs.Common.{◌≡◌, ◌<◌, ◌≤◌, ◌+◌, ◌-◌, ◌==◌, ℕ, suc, Bool, false, ◌&&◌, leb, List, [], ◌∷◌, drop}
+use Rattle.std.proofs.Common.{get_or, length, map, refl, sym, ap, ◌∙◌, arith}
 use Rattle.std.proofs.lemmas.Bool.Decides.{nat_tests}
 use Rattle.std.proofs.lemmas.List.{drop_all, drop_more, length-drop, length-map}
 use Rattle.reading_stages.specs.Elements as set
@@ -11,7 +12,8 @@ module _ (xs ys : List Cell) (i : ℕ) where
   abbrev pub shared : ℕ → Bool
   shared n = all_share (map cell_view (drop n xs)) (map cell_view (drop n ys))
 
-  pub share_next : (d e : Cell) → i < length xs → i < length ys → shared i ≡ (set.do_share (cell_view (get_or xs i d)) (cell_view (get_or ys i e)) && shared (i + 1))
+  pub share_next : (d e : Cell) → i < length xs → i < length ys
+      → shared i ≡ (set.do_share (cell_view (get_or xs i d)) (cell_view (get_or ys i e)) && shared (i + 1))
   share_next d e h k = ap (λ zs. all_share (map cell_view zs) (map cell_view (drop i ys))) (drop_more xs i d h)
       ∙ ap (λ zs. all_share (map cell_view (get_or xs i d ∷ drop (i + 1) xs)) (map cell_view zs)) (drop_more ys i e k)
 
@@ -22,7 +24,8 @@ module _ (xs ys : List Cell) (i : ℕ) where
   pub share_short : i < length xs → length ys ≤ i → false ≡ shared i
   share_short h k =
       let x = behind xs h in
-      sym (ap (λ zs. all_share (map cell_view zs) (map cell_view (drop i ys))) x.1 ∙ ap (λ zs. all_share (map cell_view (x.0 ∷ drop (i + 1) xs)) (map cell_view zs)) (drop_all i ys k))
+      sym (ap (λ zs. all_share (map cell_view zs) (map cell_view (drop i ys))) x.1
+      ∙ ap (λ zs. all_share (map cell_view (x.0 ∷ drop (i + 1) xs)) (map cell_view zs)) (drop_all i ys k))
 
   not_zero : (n : ℕ) → (suc n == 0) ≡ false
   not_zero n = grind (arith, nat_tests)
@@ -37,6 +40,8 @@ module _ (xs ys : List Cell) (i : ℕ) where
   pub share_end : length xs ≡ i → leb (length ys) (length xs) ≡ shared i
   share_end h =
       let none : drop i xs ≡ [] = drop_all i xs (omega (arith, h)) in
-      let left : length (map cell_view (drop i ys)) ≡ length ys - i = length-map (drop i ys) cell_view ∙ length-drop i ys in
-      leaves (length ys) (length xs) ∙ ap (λ n. length ys - n == 0) h ∙ ap (λ n. n == 0) (sym left) ∙ sym (nothing (map cell_view (drop i ys)))
+      let left : length (map cell_view (drop i ys)) ≡ length ys - i = length-map (drop i ys) cell_view
+      ∙ length-drop i ys in
+      leaves (length ys) (length xs) ∙ ap (λ n. length ys - n == 0) h ∙ ap (λ n. n == 0) (sym left)
+      ∙ sym (nothing (map cell_view (drop i ys)))
       ∙ ap (λ zs. all_share (map cell_view zs) (map cell_view (drop i ys))) (sym none)

@@ -1,5 +1,6 @@
 -- Facts in memory, by their symbols and arguments.
-use Rattle.std.specs.Prelude.{◌≡◌, ◌⊎◌, ◌==◌, ◌&&◌, not, ℕ, Bool, true, false, IsTrue, List, [], ◌∷◌, map, Option, None, Some, option_map, if◌then◌else◌}
+use Rattle.std.specs.Prelude.{◌≡◌, ◌⊎◌, ◌==◌, ◌&&◌, not, ℕ, Bool, true, false, IsTrue, List, [], ◌∷◌, map, Option, None}
+use Rattle.std.specs.Prelude.{Some, option_map, if◌then◌else◌}
 use Rattle.std.specs.List.{list_any}
 use Rattle.kb_logic.specs.declared.elements.Elem.{Elem}
 use Rattle.reading_stages.specs.Elements.{Cell, one}
@@ -11,7 +12,8 @@ use Rattle.data_clashes.specs.declared.tables.Table.{Table}
 
 -- the key has this symbol, these arguments and this value
 abbrev pub is_atom : ℕ → List Elem → Option Elem → Key → Bool
-is_atom s xs v k = (s == k.symbol) && (same_tuple xs (tuple_view k.args.items) && same_value_of v (option_map label_view k.value))
+is_atom s xs v k = (s == k.symbol) && (same_tuple xs (tuple_view k.args.items) && same_value_of v
+    (option_map label_view k.value))
 
 -- the value that stands beside these arguments, where one stands there
 abbrev pub value_in : List (Key × Option Label) → ℕ → List Elem → Option (Option Elem)
@@ -33,7 +35,8 @@ IsKeptBy false t f xs = IsTrue (is_denied t.denied.keys f.symbol xs f.value)
 
 -- the table knows the fact, or its symbol's facts are compared one by one
 abbrev pub IsKept : Table → Fact → Type 0
-IsKept t f = IsTrue (is_wide t.wide.keys f.symbol) ⊎ ((xs : List Elem) × (f.args ≡ map (λ x. one x) xs) × IsKeptBy f.holds t f xs)
+IsKept t f = IsTrue (is_wide t.wide.keys f.symbol) ⊎ ((xs : List Elem) × (f.args ≡ map (λ x. one x) xs)
+    × IsKeptBy f.holds t f xs)
 
 -- what stands beside the arguments is nothing, or this value
 abbrev pub agrees : Option (Option Elem) → Option Elem → Bool

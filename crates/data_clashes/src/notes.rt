@@ -1,5 +1,6 @@
 //! What is noted of rows that clash.
-ghost use Rattle.std.specs.Prelude.{◌≡◌, ◌++◌, ◌∷◌, [], Bool, Contains, IfSome, IsTrue, List, None, false, fold, map, OnOk};
+ghost use Rattle.std.specs.Prelude.{◌≡◌, ◌++◌, ◌∷◌, [], Bool, Contains, IfSome, IsTrue, List, None, false, fold, map};
+ghost use Rattle.std.specs.Prelude.{OnOk};
 ghost use Rattle.kb_text.specs.declared.fault.K.{K as AK};
 ghost use Rattle.kb_logic.specs.declared.vocabularies.TypeDecl.{TypeDecl as AType};
 ghost use Rattle.reading_stages.specs.Earliest.{noted_if};
@@ -22,7 +23,8 @@ use std::alloc::Global;
 
 /// Whether what was noted stands before this place, so that nothing noted there counts.
 fn is_later(earliest: &Earliest, place: usize) -> bool
-    ensures { IsTrue result → (holds : Bool) (cause : AK) → noted_if holds cause place earliest.now.first ≡ earliest.now.first }
+    ensures { IsTrue result → (holds : Bool) (cause : AK) → noted_if holds cause place earliest.now.first
+        ≡ earliest.now.first }
 {
     match earliest.first {
         None => false,
@@ -32,7 +34,8 @@ fn is_later(earliest: &Earliest, place: usize) -> bool
 
 /// Notes a fact that clashes with one of these; where it would not count, none is sought.
 fn note_fact(earliest: &mut Earliest, before: &[Fact<'_>], fact: &Fact<'_>)
-    ensures { (all : List AType) (es : List said.Said) → earliest.new.first ≡ stage.data_noted all es earliest.old.first (stage.fact (map fact_view before.now) (fact_view fact.now)) }
+    ensures { (all : List AType) (es : List said.Said) → earliest.new.first ≡ stage.data_noted all es earliest.old.first
+        (stage.fact (map fact_view before.now) (fact_view fact.now)) }
 {
     if !is_later(earliest, fact.place) {
         earliest.note_if(clashes_with(before, fact), K::DataClash, fact.place);
@@ -42,7 +45,8 @@ fn note_fact(earliest: &mut Earliest, before: &[Fact<'_>], fact: &Fact<'_>)
 /// Notes a fact that clashes with one of these, unless it is clear that it does not.
 fn note_unless(is_clear: bool, earliest: &mut Earliest, before: &[Fact<'_>], fact: &Fact<'_>)
     requires { IsTrue is_clear → stated.clashes_with (map fact_view before.now) (fact_view fact.now) ≡ false }
-    ensures { (all : List AType) (es : List said.Said) → earliest.new.first ≡ stage.data_noted all es earliest.old.first (stage.fact (map fact_view before.now) (fact_view fact.now)) }
+    ensures { (all : List AType) (es : List said.Said) → earliest.new.first ≡ stage.data_noted all es earliest.old.first
+        (stage.fact (map fact_view before.now) (fact_view fact.now)) }
 {
     if !is_clear {
         note_fact(earliest, before, fact);
@@ -73,8 +77,11 @@ fn note_single<'a>(
 ) -> Result<(), Memory>
     requires only { map cell_view fact.now.args.items ≡ cell_view cell ∷ [] }
     requires plain { fact.now.value ≡ None }
-    ensures noted { OnOk result ((all : List AType) (es : List said.Said) (before : List stated.Fact) → AreSinglesOf before singles.old → earliest.new.first ≡ stage.data_noted all es earliest.old.first (stage.fact before (fact_view fact.now))) }
-    ensures kept { OnOk result ((before : List stated.Fact) → AreSinglesOf before singles.old → AreSinglesOf before singles.new) }
+    ensures noted { OnOk result ((all : List AType) (es : List said.Said) (before : List stated.Fact)
+        → AreSinglesOf before singles.old → earliest.new.first ≡ stage.data_noted all es earliest.old.first
+        (stage.fact before (fact_view fact.now))) }
+    ensures kept { OnOk result ((before : List stated.Fact) → AreSinglesOf before singles.old
+        → AreSinglesOf before singles.new) }
 {
     if is_later(earliest, fact.place) {
         return Ok(());
@@ -98,7 +105,8 @@ fn note_plain<'a>(
     requires table { (f : stated.Fact) → Contains (map fact_view before.now) f → IsKept table.old f }
     requires only { map cell_view fact.now.args.items ≡ cell_view cell ∷ [] }
     requires plain { fact.now.value ≡ None }
-    ensures noted { OnOk result ((all : List AType) (es : List said.Said) → earliest.new.first ≡ stage.data_noted all es earliest.old.first (stage.fact (map fact_view before.now) (fact_view fact.now))) }
+    ensures noted { OnOk result ((all : List AType) (es : List said.Said) → earliest.new.first
+        ≡ stage.data_noted all es earliest.old.first (stage.fact (map fact_view before.now) (fact_view fact.now))) }
     ensures singles { OnOk result (AreSinglesOf (map fact_view before.now ++ fact_view fact.now ∷ []) singles.new) }
     ensures kept { OnOk result ((f : stated.Fact) → IsKept table.old f → IsKept table.new f) }
     ensures own { OnOk result (IsKept table.new (fact_view fact.now)) }
@@ -120,7 +128,8 @@ fn note_other<'a>(
 ) -> Result<(), Memory>
     requires singles { AreSinglesOf (map fact_view before.now) singles.old }
     requires table { (f : stated.Fact) → Contains (map fact_view before.now) f → IsKept table.old f }
-    ensures noted { OnOk result ((all : List AType) (es : List said.Said) → earliest.new.first ≡ stage.data_noted all es earliest.old.first (stage.fact (map fact_view before.now) (fact_view fact.now))) }
+    ensures noted { OnOk result ((all : List AType) (es : List said.Said) → earliest.new.first
+        ≡ stage.data_noted all es earliest.old.first (stage.fact (map fact_view before.now) (fact_view fact.now))) }
     ensures singles { OnOk result (AreSinglesOf (map fact_view before.now ++ fact_view fact.now ∷ []) singles.new) }
     ensures kept { OnOk result ((f : stated.Fact) → IsKept table.old f → IsKept table.new f) }
     ensures own { OnOk result (IsKept table.new (fact_view fact.now)) }
@@ -142,7 +151,8 @@ fn note_next<'a>(
 ) -> Result<(), Memory>
     requires singles { AreSinglesOf (map fact_view before.now) singles.old }
     requires table { (f : stated.Fact) → Contains (map fact_view before.now) f → IsKept table.old f }
-    ensures noted { OnOk result ((all : List AType) (es : List said.Said) → earliest.new.first ≡ stage.data_noted all es earliest.old.first (stage.fact (map fact_view before.now) (fact_view fact.now))) }
+    ensures noted { OnOk result ((all : List AType) (es : List said.Said) → earliest.new.first
+        ≡ stage.data_noted all es earliest.old.first (stage.fact (map fact_view before.now) (fact_view fact.now))) }
     ensures singles { OnOk result (AreSinglesOf (map fact_view before.now ++ fact_view fact.now ∷ []) singles.new) }
     ensures kept { OnOk result ((f : stated.Fact) → IsKept table.old f → IsKept table.new f) }
     ensures own { OnOk result (IsKept table.new (fact_view fact.now)) }
@@ -159,7 +169,8 @@ pub fn note_clashes<'a>(
     earliest: &mut Earliest,
     facts: &[Fact<'a>],
 ) -> Result<(), Memory>
-    ensures { OnOk result ((all : List AType) (es : List said.Said) → earliest.new.first ≡ fold (stage.data_noted all es) earliest.old.first (stage.uses_of_facts [] (map fact_view facts.now))) }
+    ensures { OnOk result ((all : List AType) (es : List said.Said) → earliest.new.first
+        ≡ fold (stage.data_noted all es) earliest.old.first (stage.uses_of_facts [] (map fact_view facts.now))) }
 {
     let mut table = Table::new(alloc);
     let mut singles = Singles::new(alloc);

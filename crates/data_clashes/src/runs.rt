@@ -1,7 +1,8 @@
 //! The only arguments of facts, in runs of one symbol and one sign.
 //!
 //! The rows of an entry are one run, so what stands against a row is found run by run.
-ghost use Rattle.std.specs.Prelude.{◌≡◌, ◌++◌, ◌&&◌, ◌==◌, ◌∷◌, [], ℕ, Bool, true, is_some, flat_map, map, not, IfOk, OnOk, if◌then◌else◌};
+ghost use Rattle.std.specs.Prelude.{◌≡◌, ◌++◌, ◌&&◌, ◌==◌, ◌∷◌, [], ℕ, Bool, true, is_some, flat_map, map, not, IfOk};
+ghost use Rattle.std.specs.Prelude.{OnOk, if◌then◌else◌};
 ghost use Rattle.reading_stages.specs.DataFacts as stated;
 ghost use Rattle.data_entries.specs.EntryViews.{cell_view, fact_view};
 ghost use Rattle.element_sets.specs.Sets.{IsSetOf};
@@ -43,7 +44,8 @@ fn one_cell<'a>(alloc: Global, cell: Cell<'a>) -> Result<Vec<Cell<'a>>, Memory>
 impl<'a> Run<'a> {
     /// Whether facts of the run clash with one of this symbol and sign and without a value, where they share with it.
     fn is_against(&self, symbol: usize, holds: bool) -> bool
-        ensures { result ≡ ((self.now.symbol == symbol) && stated.are_opposed self.now.holds holds (not self.now.valued)) }
+        ensures { result ≡ ((self.now.symbol == symbol) && stated.are_opposed self.now.holds holds
+            (not self.now.valued)) }
     {
         self.symbol == symbol && are_opposed(self.holds, holds, !self.valued)
     }
@@ -54,7 +56,8 @@ impl<'a> Run<'a> {
         holds: bool,
         cells: &mut Vec<Cell<'a>>,
     ) -> Result<(), Memory>
-        ensures { OnOk result (map cell_view cells.new.items ≡ map cell_view cells.old.items ++ run_against symbol holds self.now) }
+        ensures { OnOk result (map cell_view cells.new.items ≡ map cell_view cells.old.items ++ run_against symbol
+            holds self.now) }
     {
         if !self.is_against(symbol, holds) {
             return Ok(());
@@ -66,7 +69,8 @@ impl<'a> Run<'a> {
     }
 
     fn is_alike(&self, fact: &Fact<'a>) -> bool
-        ensures { result ≡ true → (self.now.symbol ≡ fact.now.symbol) × (self.now.holds ≡ fact.now.holds) × (self.now.valued ≡ is_some fact.now.value) }
+        ensures { result ≡ true → (self.now.symbol ≡ fact.now.symbol) × (self.now.holds ≡ fact.now.holds)
+            × (self.now.valued ≡ is_some fact.now.value) }
     {
         self.symbol == fact.symbol
             && self.holds == fact.holds
@@ -93,7 +97,9 @@ impl<'a> Runs<'a> {
 
     /// One more cell at the end of the last run.
     fn push_cell(&mut self, cell: Cell<'a>) -> Result<(), Memory>
-        ensures { OnOk result ((symbol : ℕ) (holds : Bool) → cells_against symbol holds self.new ≡ cells_against symbol holds self.old ++ (if (self.old.last.symbol == symbol) && stated.are_opposed self.old.last.holds holds (not self.old.last.valued) then cell_view cell.entry ∷ [] else [])) }
+        ensures { OnOk result ((symbol : ℕ) (holds : Bool) → cells_against symbol holds self.new
+            ≡ cells_against symbol holds self.old ++ (if (self.old.last.symbol == symbol) && stated.are_opposed
+            self.old.last.holds holds (not self.old.last.valued) then cell_view cell.entry ∷ [] else [])) }
     {
         self.last.cells.push(cell)?;
         Ok(())
@@ -101,7 +107,9 @@ impl<'a> Runs<'a> {
 
     /// From now on another run, which begins with this cell.
     fn begin(&mut self, alloc: Global, fact: &Fact<'a>, cell: Cell<'a>) -> Result<(), Memory>
-        ensures { OnOk result ((symbol : ℕ) (holds : Bool) → cells_against symbol holds self.new ≡ cells_against symbol holds self.old ++ (if (fact.now.symbol == symbol) && stated.are_opposed fact.now.holds holds (not (is_some fact.now.value)) then cell_view cell.entry ∷ [] else [])) }
+        ensures { OnOk result ((symbol : ℕ) (holds : Bool) → cells_against symbol holds self.new
+            ≡ cells_against symbol holds self.old ++ (if (fact.now.symbol == symbol) && stated.are_opposed
+            fact.now.holds holds (not (is_some fact.now.value)) then cell_view cell.entry ∷ [] else [])) }
     {
         let cells = one_cell(alloc, cell)?;
         let next = Run {
@@ -118,7 +126,8 @@ impl<'a> Runs<'a> {
     /// The argument of a fact that has no other one.
     fn push_only(&mut self, alloc: Global, fact: &Fact<'a>, cell: Cell<'a>) -> Result<(), Memory>
         requires { map cell_view fact.now.args.items ≡ cell_view cell ∷ [] }
-        ensures { OnOk result ((symbol : ℕ) (holds : Bool) → cells_against symbol holds self.new ≡ cells_against symbol holds self.old ++ opposing_of symbol holds (fact_view fact.now)) }
+        ensures { OnOk result ((symbol : ℕ) (holds : Bool) → cells_against symbol holds self.new
+            ≡ cells_against symbol holds self.old ++ opposing_of symbol holds (fact_view fact.now)) }
     {
         if self.last.is_alike(fact) {
             self.push_cell(cell)?;
@@ -130,7 +139,8 @@ impl<'a> Runs<'a> {
 
     /// A fact's argument, where it has one alone.
     pub fn push(&mut self, alloc: Global, fact: &Fact<'a>) -> Result<(), Memory>
-        ensures { OnOk result ((symbol : ℕ) (holds : Bool) → cells_against symbol holds self.new ≡ cells_against symbol holds self.old ++ opposing_of symbol holds (fact_view fact.now)) }
+        ensures { OnOk result ((symbol : ℕ) (holds : Bool) → cells_against symbol holds self.new
+            ≡ cells_against symbol holds self.old ++ opposing_of symbol holds (fact_view fact.now)) }
     {
         match fact.args.as_slice() {
             [cell] => self.push_only(alloc, fact, *cell),
@@ -140,7 +150,8 @@ impl<'a> Runs<'a> {
     }
 
     fn add_over(&self, symbol: usize, holds: bool, cells: &mut Vec<Cell<'a>>) -> Result<(), Memory>
-        ensures { OnOk result (map cell_view cells.new.items ≡ map cell_view cells.old.items ++ flat_map (run_against symbol holds) self.now.over.items) }
+        ensures { OnOk result (map cell_view cells.new.items ≡ map cell_view cells.old.items ++ flat_map
+            (run_against symbol holds) self.now.over.items) }
     {
         for run in &self.over {
             run.add_against(symbol, holds, cells)?;

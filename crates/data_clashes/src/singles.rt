@@ -42,14 +42,16 @@ impl<'a> Singles<'a> {
 
     /// Whether it is known what stands against such a fact.
     fn is_for(&self, fact: &Fact<'a>) -> bool
-        ensures { result ≡ true → (self.now.is_known ≡ true) × (self.now.symbol ≡ fact.now.symbol) × (self.now.holds ≡ fact.now.holds) }
+        ensures { result ≡ true → (self.now.is_known ≡ true) × (self.now.symbol ≡ fact.now.symbol)
+            × (self.now.holds ≡ fact.now.holds) }
     {
         self.is_known && self.symbol == fact.symbol && self.holds == fact.holds
     }
 
     /// Whether the fact stands against none of those.
     fn keeps(&self, fact: &Fact<'a>) -> bool
-        ensures { result ≡ true → (self.now.is_known ≡ true) × (self.now.symbol ≡ fact.now.symbol) × (self.now.holds ≡ fact.now.holds) × (fact.now.value ≡ None) }
+        ensures { result ≡ true → (self.now.is_known ≡ true) × (self.now.symbol ≡ fact.now.symbol)
+            × (self.now.holds ≡ fact.now.holds) × (fact.now.value ≡ None) }
     {
         if fact.value.is_some() {
             return false;
@@ -59,7 +61,8 @@ impl<'a> Singles<'a> {
 
     /// One more fact.
     pub fn push(&mut self, alloc: Global, fact: &Fact<'a>) -> Result<(), Memory>
-        ensures { OnOk result ((before : List stated.Fact) → AreSinglesOf before self.old → AreSinglesOf (before ++ fact_view fact.now ∷ []) self.new) }
+        ensures { OnOk result ((before : List stated.Fact) → AreSinglesOf before self.old
+            → AreSinglesOf (before ++ fact_view fact.now ∷ []) self.new) }
     {
         self.is_known = self.keeps(fact);
         self.runs.push(alloc, fact)?;
@@ -68,8 +71,10 @@ impl<'a> Singles<'a> {
 
     /// From now on it is known what stands against such a fact.
     fn face(&mut self, alloc: Global, fact: &Fact<'a>) -> Result<(), Memory>
-        ensures kept { OnOk result ((before : List stated.Fact) → AreSinglesOf before self.old → AreSinglesOf before self.new) }
-        ensures known { OnOk result ((self.new.is_known ≡ true) × (self.new.symbol ≡ fact.now.symbol) × (self.new.holds ≡ fact.now.holds)) }
+        ensures kept { OnOk result ((before : List stated.Fact) → AreSinglesOf before self.old
+            → AreSinglesOf before self.new) }
+        ensures known { OnOk result ((self.new.is_known ≡ true) × (self.new.symbol ≡ fact.now.symbol)
+            × (self.new.holds ≡ fact.now.holds)) }
     {
         if self.is_for(fact) {
             return Ok(());
@@ -90,8 +95,10 @@ impl<'a> Singles<'a> {
     ) -> Result<bool, Memory>
         requires only { map cell_view fact.now.args.items ≡ cell_view cell ∷ [] }
         requires plain { fact.now.value ≡ None }
-        ensures clash { IfOk result (λ b. (before : List stated.Fact) → AreSinglesOf before self.old → b ≡ stated.clashes_with before (fact_view fact.now)) }
-        ensures kept { OnOk result ((before : List stated.Fact) → AreSinglesOf before self.old → AreSinglesOf before self.new) }
+        ensures clash { IfOk result (λ b. (before : List stated.Fact) → AreSinglesOf before self.old
+            → b ≡ stated.clashes_with before (fact_view fact.now)) }
+        ensures kept { OnOk result ((before : List stated.Fact) → AreSinglesOf before self.old
+            → AreSinglesOf before self.new) }
     {
         self.face(alloc, fact)?;
         Ok(self.elements.meets(cell))

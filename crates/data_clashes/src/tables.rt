@@ -82,7 +82,8 @@ fn is_clear(
     value: Option<Label<'_>>,
     denied: bool,
 ) -> bool
-    ensures { result ≡ is_clear holds (option_map (λ v. option_map label_view v) known.entry) (option_map label_view value.entry) denied }
+    ensures { result ≡ is_clear holds (option_map (λ v. option_map label_view v) known.entry)
+        (option_map label_view value.entry) denied }
 {
     match known {
         None => !holds || !denied,
@@ -118,7 +119,8 @@ impl<'a> Table<'a> {
     /// The value that stands beside a row.
     fn value_of(&self, row: &Key<'a>) -> Option<Option<Label<'a>>>
         requires { row.now.value ≡ None }
-        ensures { option_map (λ v. option_map label_view v) result ≡ value_in self.now.values.entries row.now.symbol (tuple_view row.now.args.items) }
+        ensures { option_map (λ v. option_map label_view v) result ≡ value_in self.now.values.entries row.now.symbol
+            (tuple_view row.now.args.items) }
     {
         match self.values.get(row) {
             Some(value) => Some(*value),
@@ -127,7 +129,8 @@ impl<'a> Table<'a> {
     }
 
     fn is_denied(&self, atom: &Key<'a>) -> bool
-        ensures { result ≡ is_denied self.now.denied.keys atom.now.symbol (tuple_view atom.now.args.items) (option_map label_view atom.now.value) }
+        ensures { result ≡ is_denied self.now.denied.keys atom.now.symbol (tuple_view atom.now.args.items)
+            (option_map label_view atom.now.value) }
     {
         self.denied.contains(atom)
     }
@@ -137,7 +140,8 @@ impl<'a> Table<'a> {
         requires none { row.value ≡ None }
         requires absent { value_in self.old.values.entries row.symbol (tuple_view row.args.items) ≡ None }
         ensures kept { OnOk result ((f : stated.Fact) → IsKept self.old f → IsKept self.new f) }
-        ensures own { OnOk result (value_in self.new.values.entries row.entry.symbol (tuple_view row.entry.args.items) ≡ Some (option_map label_view value.entry)) }
+        ensures own { OnOk result (value_in self.new.values.entries row.entry.symbol (tuple_view row.entry.args.items)
+            ≡ Some (option_map label_view value.entry)) }
     {
         self.values.insert(row, value)?;
         Ok(())
@@ -145,7 +149,8 @@ impl<'a> Table<'a> {
 
     fn enter_denied(&mut self, atom: Key<'a>) -> Result<(), Memory>
         ensures kept { OnOk result ((f : stated.Fact) → IsKept self.old f → IsKept self.new f) }
-        ensures own { OnOk result (IsTrue (is_denied self.new.denied.keys atom.entry.symbol (tuple_view atom.entry.args.items) (option_map label_view atom.entry.value))) }
+        ensures own { OnOk result (IsTrue (is_denied self.new.denied.keys atom.entry.symbol
+            (tuple_view atom.entry.args.items) (option_map label_view atom.entry.value))) }
     {
         self.denied.insert_full(atom)?;
         Ok(())
@@ -162,7 +167,8 @@ impl<'a> Table<'a> {
         requires narrow { is_wide self.old.wide.keys fact.now.symbol ≡ false }
         ensures kept { OnOk result ((f : stated.Fact) → IsKept self.old f → IsKept self.new f) }
         ensures own { OnOk result (IsKept self.new (fact_view fact.now)) }
-        ensures clear { IfOk result (λ b. IsTrue b → (f : stated.Fact) → IsKept self.old f → stated.do_clash f (fact_view fact.now) ≡ false) }
+        ensures clear { IfOk result (λ b. IsTrue b → (f : stated.Fact) → IsKept self.old f
+            → stated.do_clash f (fact_view fact.now) ≡ false) }
     {
         let row = Key {
             symbol: fact.symbol,
@@ -194,7 +200,8 @@ impl<'a> Table<'a> {
     pub fn add(&mut self, alloc: Global, fact: &Fact<'a>) -> Result<bool, Memory>
         ensures kept { OnOk result ((f : stated.Fact) → IsKept self.old f → IsKept self.new f) }
         ensures own { OnOk result (IsKept self.new (fact_view fact.now)) }
-        ensures clear { IfOk result (λ b. IsTrue b → (f : stated.Fact) → IsKept self.old f → stated.do_clash f (fact_view fact.now) ≡ false) }
+        ensures clear { IfOk result (λ b. IsTrue b → (f : stated.Fact) → IsKept self.old f
+            → stated.do_clash f (fact_view fact.now) ≡ false) }
     {
         if self.wide.contains(&fact.symbol) {
             return Ok(false);

@@ -1,5 +1,6 @@
 -- Steps up from a type.
-use Rattle.std.proofs.Common.{◌≡◌, ◌+◌, ◌<◌, ℕ, zero, suc, List, Option, None, Some, length, unwrap_or, slice_get, refl, sym, ap, ◌∙◌, arith}
+use Rattle.std.proofs.Common.{◌≡◌, ◌+◌, ◌<◌, ℕ, zero, suc, List, Option, None, Some, length, unwrap_or, slice_get, refl}
+use Rattle.std.proofs.Common.{sym, ap, ◌∙◌, arith}
 use Rattle.reading_stages.specs.Kinship.{climbed, climbed_on}
 
 abbrev goes : List (Option ℕ) → ℕ → Option ℕ
@@ -14,7 +15,8 @@ stays (suc m) parents t h = by (slice_get parents t) h
     by (Some None) e = refl
     by (Some (Some p)) e = let n : Some p ≡ None = e in absurd (cc)
 
-pub goes_up : (m : ℕ) (parents : List (Option ℕ)) (t p : ℕ) → goes parents t ≡ Some p → climbed (suc m) parents t ≡ climbed m parents p
+pub goes_up : (m : ℕ) (parents : List (Option ℕ)) (t p : ℕ) → goes parents t ≡ Some p → climbed (suc m) parents t
+    ≡ climbed m parents p
 goes_up m parents t p h = by (slice_get parents t) h
   where
     by : (o : Option (Option ℕ)) → unwrap_or o None ≡ Some p → climbed_on o t (climbed m parents) ≡ climbed m parents p

@@ -1,5 +1,7 @@
 -- The type with a number, where there is one.
-use Rattle.std.proofs.Common.{◌≡◌, ◌<◌, ◌≤◌, ◌+◌, ℕ, zero, suc, Bool, false, List, [], ◌∷◌, ◌++◌, Option, None, Some, length, map, unwrap_or, slice_get, get_or, drop, filter, append_assoc, refl, sym, ap, ◌∙◌, arith, subst, ◌⊎◌, inl, inr}
+use Rattle.std.proofs.Common.{◌≡◌, ◌<◌, ◌≤◌, ◌+◌, ℕ, zero, suc, Bool, false, List, [], ◌∷◌, ◌++◌, Option, None, Some}
+use Rattle.std.proofs.Common.{length, map, unwrap_or, slice_get, get_or, drop, filter, append_assoc, refl, sym, ap, ◌∙◌}
+use Rattle.std.proofs.Common.{arith, subst, ◌⊎◌, inl, inr}
 use Rattle.std.specs.Option.{option_map}
 use Rattle.std.specs.List.{filter_map, flat_map}
 use Rattle.std.proofs.lemmas.Option.{slice_get-map, slice_get-get_or}
@@ -9,7 +11,8 @@ use Rattle.reading_stages.specs.Below.{type_above, type_parents}
 use Rattle.reading_stages.specs.Kinship.{is_under_a_number, top_of}
 use Rattle.reading_stages.specs.Elements.{Cell}
 use Rattle.reading_stages.specs.DataEntries.{Said, Spot, spots_of}
-use Rattle.reading_stages.specs.DataDomains.{cells_by, cells_if, cells_of, has_what_occurs, is_constructed, is_under_nat, occurring_cells, occurs_at}
+use Rattle.reading_stages.specs.DataDomains.{cells_by, cells_if, cells_of, has_what_occurs, is_constructed}
+use Rattle.reading_stages.specs.DataDomains.{is_under_nat, occurring_cells, occurs_at}
 use Rattle.reading_stages.specs.DataStage.{type_is}
 use Rattle.data_entries.specs.SaidViews.{said_view}
 use Rattle.data_entries.specs.declared.written.Entry.{Entry}
@@ -22,28 +25,33 @@ use Rattle.data_domains.specs.declared.traits.Traits.{Traits}
 use Rattle.data_domains.specs.declared.types.TypeData.{TypeData}
 use Rattle.data_domains.proofs.Climbing.{stays}
 
-some_beside : {A B : Type 0} (xs : List A) (ys : List B) (t : ℕ) (x : A) → length xs ≡ length ys → slice_get xs t ≡ Some x → (y : B) × (slice_get ys t ≡ Some y)
+some_beside : {A B : Type 0} (xs : List A) (ys : List B) (t : ℕ) (x : A) → length xs ≡ length ys
+    → slice_get xs t ≡ Some x → (y : B) × (slice_get ys t ≡ Some y)
 some_beside [] ys t x e h = let n : None ≡ Some x = h in absurd (cc)
 some_beside (z ∷ xs) [] t x e h = absurd (omega (arith, e))
 some_beside (z ∷ xs) (y ∷ ys) zero x e h = (y, refl)
 some_beside (z ∷ xs) (y ∷ ys) (suc t) x e h = some_beside xs ys t x (omega (arith, e)) h
 
-none_beside : {A B : Type 0} (xs : List A) (ys : List B) (t : ℕ) → length xs ≡ length ys → slice_get xs t ≡ None → slice_get ys t ≡ None
+none_beside : {A B : Type 0} (xs : List A) (ys : List B) (t : ℕ) → length xs ≡ length ys → slice_get xs t ≡ None
+    → slice_get ys t ≡ None
 none_beside [] [] t e h = refl
 none_beside [] (y ∷ ys) t e h = absurd (omega (arith, e))
 none_beside (z ∷ xs) [] t e h = absurd (omega (arith, e))
 none_beside (z ∷ xs) (y ∷ ys) zero e h = let n : Some z ≡ None = h in absurd (cc)
 none_beside (z ∷ xs) (y ∷ ys) (suc t) e h = none_beside xs ys t (omega (arith, e)) h
 
-pub set_at : (types : List TypeDecl) (es : List Said) (xs : List TypeData) (t : ℕ) (x : TypeData) → AreTypesOf types es xs → slice_get xs t ≡ Some x → IsSetOf (cells_of types es t) x.elements
+pub set_at : (types : List TypeDecl) (es : List Said) (xs : List TypeData) (t : ℕ) (x : TypeData)
+    → AreTypesOf types es xs → slice_get xs t ≡ Some x → IsSetOf (cells_of types es t) x.elements
 set_at types es xs t x all h =
     let d = some_beside xs types t x all.count h in
     subst (λ cs. IsSetOf cs x.elements) (sym (ap (cells_if types es t) d.1)) (all.elements t d.0 x d.1 h)
 
-pub no_cells : (types : List TypeDecl) (es : List Said) (xs : List TypeData) (t : ℕ) → AreTypesOf types es xs → slice_get xs t ≡ None → cells_of types es t ≡ []
+pub no_cells : (types : List TypeDecl) (es : List Said) (xs : List TypeData) (t : ℕ) → AreTypesOf types es xs
+    → slice_get xs t ≡ None → cells_of types es t ≡ []
 no_cells types es xs t all h = ap (cells_if types es t) (none_beside xs types t all.count h)
 
-at_from : (types : List TypeDecl) (es : List Said) (t : ℕ) (d : TypeDecl) (x : Traits) → slice_get types t ≡ Some d → AreTraitsOf types es t d x → AreTraitsAt types es t x
+at_from : (types : List TypeDecl) (es : List Said) (t : ℕ) (d : TypeDecl) (x : Traits) → slice_get types t ≡ Some d
+    → AreTraitsOf types es t d x → AreTraitsAt types es t x
 at_from types es t d x h r = record {
   constructed = r.constructed ∙ sym (ap (type_is is_constructed) h);
   occurs = r.occurs ∙ sym (ap (type_is (has_what_occurs es t)) h);
@@ -52,16 +60,22 @@ at_from types es t d x h r = record {
   above = r.above;
 }
 
-pub traits_found : (types : List TypeDecl) (es : List Said) (xs : List TypeData) (t : ℕ) (x : TypeData) → AreTypesOf types es xs → slice_get xs t ≡ Some x → AreTraitsAt types es t x.traits
+pub traits_found : (types : List TypeDecl) (es : List Said) (xs : List TypeData) (t : ℕ) (x : TypeData)
+    → AreTypesOf types es xs → slice_get xs t ≡ Some x → AreTraitsAt types es t x.traits
 traits_found types es xs t x all h =
     let d = some_beside xs types t x all.count h in
     at_from types es t d.0 x.traits d.1 (all.traits t d.0 x d.1 h)
 
-no_parent : (types : List TypeDecl) (t : ℕ) → slice_get types t ≡ None → unwrap_or (slice_get (type_parents types) t) None ≡ None
-no_parent types t h = ap (λ (o : Option (Option ℕ)). unwrap_or o None) (slice_get-map (λ (d : TypeDecl). type_above d.parent) types t ∙ ap (option_map (λ (d : TypeDecl). type_above d.parent)) h)
+no_parent : (types : List TypeDecl) (t : ℕ) → slice_get types t ≡ None
+    → unwrap_or (slice_get (type_parents types) t) None ≡ None
+no_parent types t h = ap (λ (o : Option (Option ℕ)). unwrap_or o None)
+    (slice_get-map (λ (d : TypeDecl). type_above d.parent) types t
+    ∙ ap (option_map (λ (d : TypeDecl). type_above d.parent)) h)
 
-pub traits_missing : (types : List TypeDecl) (es : List Said) (xs : List TypeData) (t : ℕ) (x : Traits) → AreTypesOf types es xs → slice_get xs t ≡ None
-    → x.constructed ≡ false → x.occurs ≡ false → x.number ≡ false → x.natural ≡ false → x.above ≡ None → AreTraitsAt types es t x
+pub traits_missing : (types : List TypeDecl) (es : List Said) (xs : List TypeData) (t : ℕ) (x : Traits)
+    → AreTypesOf types es xs → slice_get xs t ≡ None
+    → x.constructed ≡ false → x.occurs ≡ false → x.number ≡ false → x.natural ≡ false → x.above ≡ None
+    → AreTraitsAt types es t x
 traits_missing types es xs t x all h c o n u a =
     let none = none_beside xs types t all.count h in
     let top : top_of types t ≡ t = stays (length types) (type_parents types) t (no_parent types t none) in
@@ -73,7 +87,8 @@ traits_missing types es xs t x all h c o n u a =
       above = a ∙ sym (no_parent types t none);
     }
 
-last_or : {X : Type 0} (xs : List X) (x y : X) (t : ℕ) → slice_get (xs ++ x ∷ []) t ≡ Some y → (slice_get xs t ≡ Some y) ⊎ ((t ≡ length xs) × (x ≡ y))
+last_or : {X : Type 0} (xs : List X) (x y : X) (t : ℕ) → slice_get (xs ++ x ∷ []) t ≡ Some y → (slice_get xs t ≡ Some y)
+    ⊎ ((t ≡ length xs) × (x ≡ y))
 last_or [] x y zero h = let same : x ≡ y = cc in inr (refl, same)
 last_or [] x y (suc t) h = let n : None ≡ Some y = h in absurd (cc)
 last_or (z ∷ zs) x y zero h = inl h
@@ -83,28 +98,36 @@ last_or (z ∷ zs) x y (suc t) h = elim (last_or zs x y t h) [
 ]
 
 -- one type more
-pub pushed_each : (P : ℕ → TypeDecl → TypeData → Type 0) (types : List TypeDecl) (old new : List TypeData) (x : TypeData) (i : ℕ) (d : TypeDecl)
+pub pushed_each : (P : ℕ → TypeDecl → TypeData → Type 0) (types : List TypeDecl) (old new : List TypeData)
+    (x : TypeData) (i : ℕ) (d : TypeDecl)
     → length old ≡ i → i < length types → d ≡ get_or types i d → new ≡ old ++ x ∷ [] → P i d x
     → ((t : ℕ) (e : TypeDecl) (y : TypeData) → slice_get types t ≡ Some e → slice_get old t ≡ Some y → P t e y)
     → (t : ℕ) (e : TypeDecl) (y : TypeData) → slice_get types t ≡ Some e → slice_get new t ≡ Some y → P t e y
-pushed_each P types old new x i d len lt is more here before t e y h k = elim (last_or old x y t (sym (ap (λ xs. slice_get xs t) more) ∙ k)) [
-  | inl o ↦ before t e y h o
-  | inr o ↦
-      let at : t ≡ i = o.0 ∙ len in
-      let both : Some e ≡ Some d = sym h ∙ ap (slice_get types) at ∙ slice_get-get_or types i d lt ∙ ap (λ z. Some z) (sym is) in
-      let type : d ≡ e = cc in
-      subst (λ z. P t e z) o.1 (subst (λ z. P t z x) type (subst (λ n. P n d x) (sym at) here))
-]
+pushed_each P types old new x i d len lt is more here before t e y h k =
+    elim (last_or old x y t (sym (ap (λ xs. slice_get xs t) more) ∙ k)) [
+      | inl o ↦ before t e y h o
+      | inr o ↦
+          let at : t ≡ i = o.0 ∙ len in
+          let both : Some e ≡ Some d = sym h ∙ ap (slice_get types) at ∙ slice_get-get_or types i d lt
+          ∙ ap (λ z. Some z) (sym is) in
+          let type : d ≡ e = cc in
+          subst (λ z. P t e z) o.1 (subst (λ z. P t z x) type (subst (λ n. P n d x) (sym at) here))
+    ]
 
-filter-parts : (p : Spot → Bool) (xs ys : List Spot) → filter_map (λ (s : Spot). s.cell) (filter p (xs ++ ys)) ≡ filter_map (λ (s : Spot). s.cell) (filter p xs) ++ filter_map (λ (s : Spot). s.cell) (filter p ys)
-filter-parts p xs ys = ap (filter_map (λ (s : Spot). s.cell)) (filter-append p xs ys) ∙ filter_map-append (λ (s : Spot). s.cell) (filter p xs) (filter p ys)
+filter-parts : (p : Spot → Bool) (xs ys : List Spot) → filter_map (λ (s : Spot). s.cell) (filter p (xs ++ ys))
+    ≡ filter_map (λ (s : Spot). s.cell) (filter p xs) ++ filter_map (λ (s : Spot). s.cell) (filter p ys)
+filter-parts p xs ys = ap (filter_map (λ (s : Spot). s.cell)) (filter-append p xs ys)
+    ∙ filter_map-append (λ (s : Spot). s.cell) (filter p xs) (filter p ys)
 
-pub next_occurring : (types : List TypeDecl) (t : ℕ) (es : List Entry) (i : ℕ) (e : Entry) (old new whole : List Cell) → i < length es → e ≡ get_or es i e
+pub next_occurring : (types : List TypeDecl) (t : ℕ) (es : List Entry) (i : ℕ) (e : Entry) (old new whole : List Cell)
+    → i < length es → e ≡ get_or es i e
     → new ≡ old ++ filter_map (λ (s : Spot). s.cell) (filter (occurs_at types t) (spots_of (said_view e)))
-    → old ++ occurring_cells types (map said_view (drop i es)) t ≡ whole → new ++ occurring_cells types (map said_view (drop (i + 1) es)) t ≡ whole
+    → old ++ occurring_cells types (map said_view (drop i es)) t ≡ whole
+    → new ++ occurring_cells types (map said_view (drop (i + 1) es)) t ≡ whole
 next_occurring types t es i e old new whole lt is more inv =
     let rest = map said_view (drop (i + 1) es) in
     let first = filter_map (λ (s : Spot). s.cell) (filter (occurs_at types t) (spots_of (said_view e))) in
     ap (λ xs. xs ++ occurring_cells types rest t) more ∙ append_assoc old first (occurring_cells types rest t)
-    ∙ sym (ap (λ xs. old ++ xs) (ap (λ xs. occurring_cells types (map said_view xs) t) (front es i e lt is) ∙ filter-parts (occurs_at types t) (spots_of (said_view e)) (flat_map spots_of rest)))
+    ∙ sym (ap (λ xs. old ++ xs) (ap (λ xs. occurring_cells types (map said_view xs) t) (front es i e lt is)
+    ∙ filter-parts (occurs_at types t) (spots_of (said_view e)) (flat_map spots_of rest)))
     ∙ inv

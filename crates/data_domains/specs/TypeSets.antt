@@ -11,6 +11,9 @@ use Rattle.data_domains.specs.declared.types.TypeData.{TypeData}
 -- one item for each type, with its traits, and with its elements as they are written and as a set
 pub record AreTypesOf (types : List TypeDecl) (es : List Said) (xs : List TypeData) : Type 0 where
   pub count : length xs ≡ length types
-  pub traits : (t : ℕ) (d : TypeDecl) (x : TypeData) → slice_get types t ≡ Some d → slice_get xs t ≡ Some x → AreTraitsOf types es t d x.traits
-  pub cells : (t : ℕ) (d : TypeDecl) (x : TypeData) → slice_get types t ≡ Some d → slice_get xs t ≡ Some x → map cell_view x.cells.items ≡ cells_by types es t d
-  pub elements : (t : ℕ) (d : TypeDecl) (x : TypeData) → slice_get types t ≡ Some d → slice_get xs t ≡ Some x → IsSetOf (cells_by types es t d) x.elements
+  pub traits : (t : ℕ) (d : TypeDecl) (x : TypeData) → slice_get types t ≡ Some d → slice_get xs t ≡ Some x
+      → AreTraitsOf types es t d x.traits
+  pub cells : (t : ℕ) (d : TypeDecl) (x : TypeData) → slice_get types t ≡ Some d → slice_get xs t ≡ Some x
+      → map cell_view x.cells.items ≡ cells_by types es t d
+  pub elements : (t : ℕ) (d : TypeDecl) (x : TypeData) → slice_get types t ≡ Some d → slice_get xs t ≡ Some x
+      → IsSetOf (cells_by types es t d) x.elements

@@ -18,7 +18,8 @@ use std::alloc::Global;
 
 /// A constructed type's elements.
 pub fn add_made<'a>(decl: &'a TypeDecl, cells: &mut Vec<Cell<'a>>) -> Result<(), Memory>
-    ensures { OnOk result (map cell_view cells.new.items ≡ map cell_view cells.old.items ++ domain.made_cells decl.now) }
+    ensures { OnOk result (map cell_view cells.new.items ≡ map cell_view cells.old.items
+        ++ domain.made_cells decl.now) }
 {
     for name in decl.made.as_slice() {
         cells.push(Cell::One(Element::Word(name.text())))?;
@@ -28,7 +29,8 @@ pub fn add_made<'a>(decl: &'a TypeDecl, cells: &mut Vec<Cell<'a>>) -> Result<(),
 
 /// What stands in an entry.
 pub fn add_given<'a>(entry: &Entry<'a>, cells: &mut Vec<Cell<'a>>) -> Result<(), Memory>
-    ensures { OnOk result (map cell_view cells.new.items ≡ map cell_view cells.old.items ++ domain.cells_given (said_view entry.now)) }
+    ensures { OnOk result (map cell_view cells.new.items ≡ map cell_view cells.old.items ++ domain.cells_given
+        (said_view entry.now)) }
 {
     for spot in &entry.spots {
         if let Some(cell) = spot.cell {
@@ -40,7 +42,8 @@ pub fn add_given<'a>(entry: &Entry<'a>, cells: &mut Vec<Cell<'a>>) -> Result<(),
 
 /// What the type's own lists have.
 fn add_listed<'a>(ty: usize, entries: &[Entry<'a>], cells: &mut Vec<Cell<'a>>) -> Result<(), Memory>
-    ensures { OnOk result (map cell_view cells.new.items ≡ map cell_view cells.old.items ++ domain.listed_cells (map said_view entries.now) ty) }
+    ensures { OnOk result (map cell_view cells.new.items ≡ map cell_view cells.old.items ++ domain.listed_cells
+        (map said_view entries.now) ty) }
 {
     for entry in entries {
         if is_list_of(ty, entry) {
@@ -113,7 +116,8 @@ fn add_occurring<'a>(
     entry: &Entry<'a>,
     cells: &mut Vec<Cell<'a>>,
 ) -> Result<(), Memory>
-    ensures { OnOk result (map cell_view cells.new.items ≡ map cell_view cells.old.items ++ filter_map (λ s. s.cell) (filter (domain.occurs_at types.now ty) (said.spots_of (said_view entry.now)))) }
+    ensures { OnOk result (map cell_view cells.new.items ≡ map cell_view cells.old.items ++ filter_map (λ s. s.cell)
+        (filter (domain.occurs_at types.now ty) (said.spots_of (said_view entry.now)))) }
 {
     if !has_position(types, ty, entry.subject) {
         return Ok(());
@@ -135,7 +139,8 @@ fn add_all_occurring<'a>(
     entries: &[Entry<'a>],
     cells: &mut Vec<Cell<'a>>,
 ) -> Result<(), Memory>
-    ensures { OnOk result (map cell_view cells.new.items ≡ map cell_view cells.old.items ++ domain.occurring_cells types.now (map said_view entries.now) ty) }
+    ensures { OnOk result (map cell_view cells.new.items ≡ map cell_view cells.old.items ++ domain.occurring_cells
+        types.now (map said_view entries.now) ty) }
 {
     for entry in entries {
         add_occurring(types, ty, entry, cells)?;
@@ -155,7 +160,8 @@ pub fn cells_of<'a>(
     requires constructed { traits.constructed ≡ domain.is_constructed decl.now }
     requires listed { traits.listed ≡ domain.is_listed (map said_view entries.now) ty }
     requires occurs { traits.occurs ≡ domain.has_what_occurs (map said_view entries.now) ty decl.now }
-    ensures { IfOk result (λ cells. map cell_view cells.items ≡ domain.cells_by types.now (map said_view entries.now) ty decl.now) }
+    ensures { IfOk result (λ cells. map cell_view cells.items ≡ domain.cells_by types.now (map said_view entries.now)
+        ty decl.now) }
 {
     let mut cells = Vec::new(alloc);
     if traits.constructed {

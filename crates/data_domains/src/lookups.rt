@@ -43,7 +43,8 @@ pub fn traits_at(types: &[TypeData<'_>], ty: usize) -> Traits
 
 /// How many elements the type has, at most the greatest of 64 bits.
 pub fn count_of(types: &[TypeData<'_>], ty: usize) -> u64
-    ensures { (all : List AType) (es : List said.Said) → AreTypesOf all es types.now → result ≡ capped (set.count_of (domain.cells_of all es ty)) }
+    ensures { (all : List AType) (es : List said.Said) → AreTypesOf all es types.now
+        → result ≡ capped (set.count_of (domain.cells_of all es ty)) }
 {
     match data_at(types, ty) {
         Some(data) => data.elements.count(),
@@ -53,7 +54,8 @@ pub fn count_of(types: &[TypeData<'_>], ty: usize) -> u64
 
 /// Whether the type has the element.
 pub fn has_element<'a>(types: &[TypeData<'a>], ty: usize, x: Element<'a>) -> bool
-    ensures { (all : List AType) (es : List said.Said) → AreTypesOf all es types.now → result ≡ set.is_among (domain.cells_of all es ty) (elem_view x.entry) }
+    ensures { (all : List AType) (es : List said.Said) → AreTypesOf all es types.now
+        → result ≡ set.is_among (domain.cells_of all es ty) (elem_view x.entry) }
 {
     match data_at(types, ty) {
         Some(data) => data.elements.contains(x),
@@ -63,7 +65,8 @@ pub fn has_element<'a>(types: &[TypeData<'a>], ty: usize, x: Element<'a>) -> boo
 
 /// Whether the type has each element of the cell.
 pub fn covers<'a>(types: &[TypeData<'a>], ty: usize, cell: Cell<'a>) -> bool
-    ensures { (all : List AType) (es : List said.Said) → AreTypesOf all es types.now → result ≡ set.is_covered (domain.cells_of all es ty) (cell_view cell.entry) }
+    ensures { (all : List AType) (es : List said.Said) → AreTypesOf all es types.now
+        → result ≡ set.is_covered (domain.cells_of all es ty) (cell_view cell.entry) }
 {
     match data_at(types, ty) {
         Some(data) => data.elements.covers(cell),

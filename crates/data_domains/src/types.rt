@@ -47,8 +47,10 @@ fn type_data<'a>(
     entries: &[Entry<'a>],
 ) -> Result<TypeData<'a>, Memory>
     ensures traits { IfOk result (λ x. AreTraitsOf types.now (map said_view entries.now) ty decl.now x.traits) }
-    ensures cells { IfOk result (λ x. map cell_view x.cells.items ≡ domain.cells_by types.now (map said_view entries.now) ty decl.now) }
-    ensures elements { IfOk result (λ x. IsSetOf (domain.cells_by types.now (map said_view entries.now) ty decl.now) x.elements) }
+    ensures cells { IfOk result (λ x. map cell_view x.cells.items ≡ domain.cells_by types.now
+        (map said_view entries.now) ty decl.now) }
+    ensures elements { IfOk result (λ x. IsSetOf (domain.cells_by types.now (map said_view entries.now) ty decl.now)
+        x.elements) }
 {
     let traits = traits_of(types, ty, decl, entries);
     let cells = cells_of(alloc, types, ty, decl, traits, entries)?;

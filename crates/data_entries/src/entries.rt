@@ -29,7 +29,8 @@ fn mark_of<'a>(raw: &'a RawEntry) -> Option<&'a RawName>
 
 /// What an entry says.
 fn entry<'a>(alloc: Global, subjects: &Subjects<'a>, raw: &'a RawEntry) -> Result<Entry<'a>, Memory>
-    ensures { IfOk result (λ e. (v : AVocabulary) → AreSubjectsOf v subjects.now → said_view e ≡ said.said v (entry_view raw.now)) }
+    ensures { IfOk result (λ e. (v : AVocabulary) → AreSubjectsOf v subjects.now
+        → said_view e ≡ said.said v (entry_view raw.now)) }
 {
     let subject = subjects.find(raw.name.text.as_slice());
     let mark = mark_of(raw);

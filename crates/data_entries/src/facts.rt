@@ -18,7 +18,8 @@ use fo_syntax::{RawElement, RawItem};
 use kb_logic::Memory;
 use std::alloc::Global;
 
-/// The atoms of a symbol with arguments in these cells and this value are true, or false, as the row at this place says.
+/// The atoms of a symbol with arguments in these cells and this value are true, or false, as the row at this place
+/// says.
 #[derive(Drop)]
 pub struct Fact<'a> {
     pub place: usize,
@@ -29,7 +30,8 @@ pub struct Fact<'a> {
 }
 
 fn value_of<'a>(value: Option<&'a RawElement>) -> Option<Element<'a>>
-    ensures { option_map elem_view result ≡ option_map said.element_of (option_map (λ e. element_view e.now) value.entry) }
+    ensures { option_map elem_view result ≡ option_map said.element_of
+        (option_map (λ e. element_view e.now) value.entry) }
 {
     match value {
         Some(raw) => Some(element_of(raw)),
@@ -43,7 +45,8 @@ fn cells_read<'a>(
     in_plain_list: bool,
     items: &[&'a RawItem],
 ) -> Result<Option<Vec<Cell<'a>>>, Memory>
-    ensures { IfOk result (λ read. option_map (λ cells. map cell_view cells.items) read ≡ stated.cells_read in_plain_list (map (λ i. item_view i.now) items.now)) }
+    ensures { IfOk result (λ read. option_map (λ cells. map cell_view cells.items) read
+        ≡ stated.cells_read in_plain_list (map (λ i. item_view i.now) items.now)) }
 {
     let mut cells = Vec::new(alloc);
     for item in items {
@@ -62,7 +65,8 @@ fn fact_of<'a>(
     subject: Subject<'a>,
     row: &Row<'a>,
 ) -> Result<Option<Fact<'a>>, Memory>
-    ensures { IfOk result (λ f. option_map fact_view f ≡ stated.fact_of holds (subject_view subject.entry) (row_view row.now)) }
+    ensures { IfOk result (λ f. option_map fact_view f ≡ stated.fact_of holds (subject_view subject.entry)
+        (row_view row.now)) }
 {
     match subject {
         Subject::Nothing => Ok(None),
@@ -90,7 +94,9 @@ fn add_row<'a>(
     row: &Row<'a>,
     facts: &mut Vec<Fact<'a>>,
 ) -> Result<(), Memory>
-    ensures { OnOk result (map fact_view facts.new.items ≡ map fact_view facts.old.items ++ filter_map (stated.fact_of holds (subject_view subject.entry)) (filter (said.fits_in (subject_view subject.entry)) (row_view row.now ∷ []))) }
+    ensures { OnOk result (map fact_view facts.new.items ≡ map fact_view facts.old.items ++ filter_map
+        (stated.fact_of holds (subject_view subject.entry)) (filter (said.fits_in (subject_view subject.entry))
+        (row_view row.now ∷ []))) }
 {
     if !fits_in(subject, row) {
         return Ok(());
@@ -111,7 +117,8 @@ fn add_all<'a>(
     entry: &Entry<'a>,
     facts: &mut Vec<Fact<'a>>,
 ) -> Result<(), Memory>
-    ensures { OnOk result (map fact_view facts.new.items ≡ map fact_view facts.old.items ++ filter_map (stated.fact_of holds (said_view entry.now).subject) (said.fitting (said_view entry.now))) }
+    ensures { OnOk result (map fact_view facts.new.items ≡ map fact_view facts.old.items ++ filter_map
+        (stated.fact_of holds (said_view entry.now).subject) (said.fitting (said_view entry.now))) }
 {
     for row in &entry.rows {
         add_row(alloc, holds, entry.subject, row, facts)?;
@@ -125,7 +132,8 @@ pub fn add_facts<'a>(
     entry: &Entry<'a>,
     facts: &mut Vec<Fact<'a>>,
 ) -> Result<(), Memory>
-    ensures { OnOk result (map fact_view facts.new.items ≡ map fact_view facts.old.items ++ stated.facts_of (said_view entry.now)) }
+    ensures { OnOk result (map fact_view facts.new.items ≡ map fact_view facts.old.items ++ stated.facts_of
+        (said_view entry.now)) }
 {
     match sense_of(entry.mark) {
         Sense::Everything => add_all(alloc, true, entry, facts),

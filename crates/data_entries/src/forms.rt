@@ -37,7 +37,8 @@ fn are_for_constant(sense: Sense, count: usize) -> bool
 }
 
 fn form_of_symbol(sense: Sense, count: usize, symbol: &Symbol, raw: &RawValue) -> bool
-    ensures { result ≡ said.form_of_symbol (sense_view sense) count symbol.now.args symbol.now.value (value_view raw.now) }
+    ensures { result ≡ said.form_of_symbol (sense_view sense) count symbol.now.args symbol.now.value
+        (value_view raw.now) }
 {
     match symbol.args.as_slice() {
         [] => match symbol.value {

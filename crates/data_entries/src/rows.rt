@@ -52,7 +52,11 @@ fn row_at<'a>(
     items: &'a RawItems,
     to: &'a Option<RawTo>,
 ) -> Result<Row<'a>, Memory>
-    ensures { IfOk result (λ r. row_view r ≡ record { place = place; items = said.items_in (items_view items.now); value = said.value_in (option_map to_view to.now) }) }
+    ensures { IfOk result (λ r. row_view r ≡ record {
+      place = place;
+      items = said.items_in (items_view items.now);
+      value = said.value_in (option_map to_view to.now);
+    }) }
 {
     Ok(Row {
         place,
@@ -76,7 +80,8 @@ fn single_row<'a>(alloc: Global, item: &'a RawItem) -> Result<Row<'a>, Memory>
 
 /// Each item as a row.
 fn add_each<'a>(alloc: Global, raw: &'a RawItems, rows: &mut Vec<Row<'a>>) -> Result<(), Memory>
-    ensures { OnOk result (map row_view rows.new.items ≡ map row_view rows.old.items ++ map said.row_of_item (said.items_in (items_view raw.now))) }
+    ensures { OnOk result (map row_view rows.new.items ≡ map row_view rows.old.items ++ map said.row_of_item
+        (said.items_in (items_view raw.now))) }
 {
     rows.push(single_row(alloc, &raw.first)?)?;
     for tail in raw.more.as_slice() {
@@ -93,7 +98,8 @@ fn add_plain<'a>(
     to: &'a Option<RawTo>,
     rows: &mut Vec<Row<'a>>,
 ) -> Result<(), Memory>
-    ensures { OnOk result (map row_view rows.new.items ≡ map row_view rows.old.items ++ said.rows_between by_commas (raw_tree.plain (items_view items.now) (option_map to_view to.now))) }
+    ensures { OnOk result (map row_view rows.new.items ≡ map row_view rows.old.items ++ said.rows_between by_commas
+        (raw_tree.plain (items_view items.now) (option_map to_view to.now))) }
 {
     if by_commas && to.is_none() {
         return add_each(alloc, items, rows);
@@ -110,7 +116,8 @@ fn add_rows<'a>(
     raw: &'a RawRow,
     rows: &mut Vec<Row<'a>>,
 ) -> Result<(), Memory>
-    ensures { OnOk result (map row_view rows.new.items ≡ map row_view rows.old.items ++ said.rows_between by_commas (raw_view.row_view raw.now)) }
+    ensures { OnOk result (map row_view rows.new.items ≡ map row_view rows.old.items ++ said.rows_between by_commas
+        (raw_view.row_view raw.now)) }
 {
     match raw {
         RawRow::Plain(items, to) => add_plain(alloc, by_commas, items, to, rows),
@@ -137,7 +144,8 @@ fn add_more<'a>(
     more: &'a [RawRowTail],
     rows: &mut Vec<Row<'a>>,
 ) -> Result<(), Memory>
-    ensures { OnOk result (map row_view rows.new.items ≡ map row_view rows.old.items ++ flat_map (said.rows_between by_commas) (map (λ x. x.1) (map raw_view.row_tail_view more.now))) }
+    ensures { OnOk result (map row_view rows.new.items ≡ map row_view rows.old.items ++ flat_map
+        (said.rows_between by_commas) (map (λ x. x.1) (map raw_view.row_tail_view more.now))) }
 {
     for tail in more {
         add_rows(alloc, by_commas, &tail.row, rows)?;
@@ -147,7 +155,8 @@ fn add_more<'a>(
 
 /// The rows of a table.
 fn rows_of<'a>(alloc: Global, by_commas: bool, raw: &'a RawRows) -> Result<Vec<Row<'a>>, Memory>
-    ensures { IfOk result (λ rows. map row_view rows.items ≡ flat_map (said.rows_between by_commas) (said.rows_in (rows_view raw.now))) }
+    ensures { IfOk result (λ rows. map row_view rows.items ≡ flat_map (said.rows_between by_commas)
+        (said.rows_in (rows_view raw.now))) }
 {
     let mut rows = Vec::new(alloc);
     add_rows(alloc, by_commas, &raw.first, &mut rows)?;
@@ -160,7 +169,12 @@ fn one_row<'a>(
     place: usize,
     value: Option<&'a RawElement>,
 ) -> Result<Vec<Row<'a>>, Memory>
-    ensures { IfOk result (λ rows. map row_view rows.items ≡ record { place = place; items = []; value = option_map (λ e. element_view e.now) value.entry } ∷ []) }
+    ensures { IfOk result (λ rows. map row_view rows.items ≡ record {
+      place = place;
+      items = [];
+      value =
+          option_map (λ e. element_view e.now) value.entry;
+    } ∷ []) }
 {
     let mut rows = Vec::new(alloc);
     rows.push(Row {

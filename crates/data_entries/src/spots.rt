@@ -44,7 +44,8 @@ fn add_items<'a>(
     row: &Row<'a>,
     spots: &mut Vec<Spot<'a>>,
 ) -> Result<(), Memory>
-    ensures { OnOk result (map spot_view spots.new.items ≡ map spot_view spots.old.items ++ said.item_spots (subject_view subject.entry) (said.argument_types (subject_view subject.entry)) (row_view row.now).items) }
+    ensures { OnOk result (map spot_view spots.new.items ≡ map spot_view spots.old.items ++ said.item_spots
+        (subject_view subject.entry) (said.argument_types (subject_view subject.entry)) (row_view row.now).items) }
 {
     let in_list = subject.is_a_type();
     let is_plain = subject.is_plain_list();
@@ -68,7 +69,8 @@ fn add_value<'a>(
     value: Option<&'a RawElement>,
     spots: &mut Vec<Spot<'a>>,
 ) -> Result<(), Memory>
-    ensures { OnOk result (map spot_view spots.new.items ≡ map spot_view spots.old.items ++ said.value_spots ty (option_map (λ e. element_view e.now) value.entry)) }
+    ensures { OnOk result (map spot_view spots.new.items ≡ map spot_view spots.old.items ++ said.value_spots ty
+        (option_map (λ e. element_view e.now) value.entry)) }
 {
     match ty {
         None => Ok(()),
@@ -88,7 +90,9 @@ fn add_value<'a>(
 }
 
 fn add_row<'a>(subject: Subject<'a>, row: &Row<'a>, spots: &mut Vec<Spot<'a>>) -> Result<(), Memory>
-    ensures { OnOk result (map spot_view spots.new.items ≡ map spot_view spots.old.items ++ flat_map (said.row_spots (subject_view subject.entry)) (filter (said.fits_in (subject_view subject.entry)) (row_view row.now ∷ []))) }
+    ensures { OnOk result (map spot_view spots.new.items ≡ map spot_view spots.old.items ++ flat_map
+        (said.row_spots (subject_view subject.entry)) (filter (said.fits_in (subject_view subject.entry))
+        (row_view row.now ∷ []))) }
 {
     if !fits_in(subject, row) {
         return Ok(());
@@ -103,7 +107,8 @@ pub fn spots_of<'a>(
     subject: Subject<'a>,
     rows: &[Row<'a>],
 ) -> Result<Vec<Spot<'a>>, Memory>
-    ensures { IfOk result (λ spots. map spot_view spots.items ≡ flat_map (said.row_spots (subject_view subject.entry)) (filter (said.fits_in (subject_view subject.entry)) (map row_view rows.now))) }
+    ensures { IfOk result (λ spots. map spot_view spots.items ≡ flat_map (said.row_spots (subject_view subject.entry))
+        (filter (said.fits_in (subject_view subject.entry)) (map row_view rows.now))) }
 {
     let mut spots = Vec::new(alloc);
     for row in rows {

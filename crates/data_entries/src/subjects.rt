@@ -1,5 +1,6 @@
 //! What the words of entries name.
-ghost use Rattle.std.specs.Prelude.{◌≡◌, ◌++◌, ◌&&◌, ◌==◌, List, not, is_some, length, map, slice_get, IfOk, OnOk, if◌then◌else◌};
+ghost use Rattle.std.specs.Prelude.{◌≡◌, ◌++◌, ◌&&◌, ◌==◌, List, not, is_some, length, map, slice_get, IfOk, OnOk};
+ghost use Rattle.std.specs.Prelude.{if◌then◌else◌};
 ghost use Rattle.std.specs.List.{enumerate_from, flat_map};
 ghost use Rattle.std.specs.Option.{option_map};
 ghost use Rattle.std.specs.Str.{bytes_eq};
@@ -53,7 +54,8 @@ impl<'a> Subjects<'a> {
 
     /// One more name; one that is there already names what it did.
     fn add(&mut self, word: &'a [u8], subject: Subject<'a>) -> Result<(), Memory>
-        ensures { OnOk result ((w : Text) (other : said.Subject) → found_in w (subjects_in self.new) other ≡ found_in w (subjects_in self.old) (if bytes_eq w word.now then subject_view subject.entry else other)) }
+        ensures { OnOk result ((w : Text) (other : said.Subject) → found_in w (subjects_in self.new) other ≡ found_in w
+            (subjects_in self.old) (if bytes_eq w word.now then subject_view subject.entry else other)) }
     {
         if !self.table.contains_key(word) {
             self.table.insert(word, subject)?;
@@ -62,7 +64,8 @@ impl<'a> Subjects<'a> {
     }
 
     fn add_types(&mut self, types: &'a [TypeDecl]) -> Result<(), Memory>
-        ensures { OnOk result ((w : Text) (other : said.Subject) → found_in w (subjects_in self.new) other ≡ found_in w (subjects_in self.old) (said.named_in_types w (enumerate_from 0 types.now) other)) }
+        ensures { OnOk result ((w : Text) (other : said.Subject) → found_in w (subjects_in self.new) other ≡ found_in w
+            (subjects_in self.old) (said.named_in_types w (enumerate_from 0 types.now) other)) }
     {
         for t in 0..types.len() {
             self.add(types[t].name.text(), Subject::OfType(t, &types[t]))?;
@@ -71,7 +74,8 @@ impl<'a> Subjects<'a> {
     }
 
     fn add_symbols(&mut self, symbols: &'a [Symbol]) -> Result<(), Memory>
-        ensures { OnOk result ((w : Text) (other : said.Subject) → found_in w (subjects_in self.new) other ≡ found_in w (subjects_in self.old) (said.named_in_symbols w (enumerate_from 0 symbols.now) other)) }
+        ensures { OnOk result ((w : Text) (other : said.Subject) → found_in w (subjects_in self.new) other ≡ found_in w
+            (subjects_in self.old) (said.named_in_symbols w (enumerate_from 0 symbols.now) other)) }
     {
         for s in 0..symbols.len() {
             self.add(symbols[s].name.text(), Subject::OfSymbol(s, &symbols[s]))?;
@@ -81,7 +85,9 @@ impl<'a> Subjects<'a> {
 
     /// The names of one type's elements, before others.
     fn add_names(&mut self, names: &'a [Name]) -> Result<(), Memory>
-        ensures { OnOk result ((w : Text) (more : List Text) → found_in w (subjects_in self.new) (said.named_in_elements w more) ≡ found_in w (subjects_in self.old) (said.named_in_elements w (names.now ++ more))) }
+        ensures { OnOk result ((w : Text) (more : List Text) → found_in w (subjects_in self.new)
+            (said.named_in_elements w more) ≡ found_in w (subjects_in self.old)
+            (said.named_in_elements w (names.now ++ more))) }
     {
         for name in names {
             self.add(name.text(), Subject::OfElement)?;
@@ -90,7 +96,8 @@ impl<'a> Subjects<'a> {
     }
 
     fn add_elements(&mut self, types: &'a [TypeDecl]) -> Result<(), Memory>
-        ensures { OnOk result ((w : Text) → found_in w (subjects_in self.new) said.nothing_named ≡ found_in w (subjects_in self.old) (said.named_in_elements w (flat_map (λ d. d.made) types.now))) }
+        ensures { OnOk result ((w : Text) → found_in w (subjects_in self.new) said.nothing_named ≡ found_in w
+            (subjects_in self.old) (said.named_in_elements w (flat_map (λ d. d.made) types.now))) }
     {
         for decl in types {
             self.add_names(decl.made.as_slice())?;

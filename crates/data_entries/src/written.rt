@@ -19,5 +19,6 @@ pub struct Entry<'a> {
     pub fits: bool,
     pub rows: Vec<Row<'a>>,
     pub spots: Vec<Spot<'a>>,
-    ghost in_rows: { map spot_view spots.items ≡ flat_map (row_spots (subject_view subject)) (filter (fits_in (subject_view subject)) (map row_view rows.items)) },
+    ghost in_rows: { map spot_view spots.items ≡ flat_map (row_spots (subject_view subject))
+        (filter (fits_in (subject_view subject)) (map row_view rows.items)) },
 }

@@ -100,9 +100,12 @@ fn add_number(
     partial: &mut Partial,
 ) -> Result<(), Memory>
     requires small { k ≤ 2000001 }
-    requires over { IsFactOver partial.old.symbols partial.old.domains (fact_with (fact_view fact.now) (elem.Num (whole_view low +ℤ pos k) ∷ [])) }
-    requires open_to { IsOpenTo partial.old (fact_with (fact_view fact.now) (elem.Num (whole_view low +ℤ pos k) ∷ []) ∷ []) }
-    ensures { OnOk result (Adds partial.old partial.new (fact_with (fact_view fact.now) (elem.Num (whole_view low +ℤ pos k) ∷ []) ∷ [])) }
+    requires over { IsFactOver partial.old.symbols partial.old.domains
+        (fact_with (fact_view fact.now) (elem.Num (whole_view low +ℤ pos k) ∷ [])) }
+    requires open_to { IsOpenTo partial.old (fact_with (fact_view fact.now)
+        (elem.Num (whole_view low +ℤ pos k) ∷ []) ∷ []) }
+    ensures { OnOk result (Adds partial.old partial.new (fact_with (fact_view fact.now)
+        (elem.Num (whole_view low +ℤ pos k) ∷ []) ∷ [])) }
 {
     let mut args = ElemList::new(alloc);
     args.push(number(number_after(low, k))?)?;
@@ -182,7 +185,8 @@ fn add_each(alloc: Global, facts: &[Fact<'_>], partial: &mut Partial) -> Result<
 
 /// What an entry says of atoms.
 fn add_entry(alloc: Global, entry: &Entry<'_>, partial: &mut Partial) -> Result<(), Memory>
-    requires over { AllByRecursion (IsFactOver partial.old.symbols partial.old.domains) (facts_of (said_view entry.now)) }
+    requires over { AllByRecursion (IsFactOver partial.old.symbols partial.old.domains)
+        (facts_of (said_view entry.now)) }
     requires open_to { IsOpenTo partial.old (facts_of (said_view entry.now)) }
     ensures { OnOk result (Adds partial.old partial.new (facts_of (said_view entry.now))) }
 {
@@ -197,7 +201,8 @@ pub fn add_entries(
     entries: &[Entry<'_>],
     partial: &mut Partial,
 ) -> Result<(), Memory>
-    requires over { AllByRecursion (IsFactOver partial.old.symbols partial.old.domains) (facts_in (map said_view entries.now)) }
+    requires over { AllByRecursion (IsFactOver partial.old.symbols partial.old.domains)
+        (facts_in (map said_view entries.now)) }
     requires open_to { IsOpenTo partial.old (facts_in (map said_view entries.now)) }
     ensures { OnOk result (Adds partial.old partial.new (facts_in (map said_view entries.now))) }
 {

@@ -20,7 +20,8 @@ large_product a b h =
     omega arith
 
 first_factor : (a b : ℕ) → capped (capped a * b) ≡ capped (a * b)
-first_factor a zero = let left : capped a * 0 ≡ 0 = none (capped a) in let right : a * 0 ≡ 0 = none a in ap capped (left ∙ sym right)
+first_factor a zero = let left : capped a * 0 ≡ 0 = none (capped a) in let right : a * 0 ≡ 0 = none a in
+    ap capped (left ∙ sym right)
   where
     none : (n : ℕ) → n * 0 ≡ 0
     none n = omega arith
@@ -34,4 +35,5 @@ first_factor a (suc b) = elim (cases_lt 18446744073709551615 a) [
 ]
 
 pub times_both : (a b : ℕ) → capped (capped a * capped b) ≡ capped (a * b)
-times_both a b = first_factor a (capped b) ∙ ap capped (mul_comm a (capped b)) ∙ first_factor b a ∙ ap capped (mul_comm b a)
+times_both a b = first_factor a (capped b) ∙ ap capped (mul_comm a (capped b)) ∙ first_factor b a
+    ∙ ap capped (mul_comm b a)

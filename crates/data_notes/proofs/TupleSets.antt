@@ -1,5 +1,7 @@
 -- Tuples in memory and in the definition are the same.
-use Rattle.std.proofs.Common.{◌≡◌, ℕ, suc, ◌+◌, List, [], ◌∷◌, ◌++◌, map, length, Bool, true, false, ◌&&◌, ◌||◌, if◌then◌else◌, refl, sym, ap, ◌∙◌, fold, filter, nat_lt, ◌<◌, arith, length-append, Vec, subst}
+use Rattle.std.proofs.Common.{◌≡◌, ℕ, suc, ◌+◌, List, [], ◌∷◌, ◌++◌, map, length, Bool, true, false, ◌&&◌, ◌||◌}
+use Rattle.std.proofs.Common.{if◌then◌else◌, refl, sym, ap, ◌∙◌, fold, filter, nat_lt, ◌<◌, arith, length-append, Vec}
+use Rattle.std.proofs.Common.{subst}
 use Rattle.std.specs.declared.alloc.Global.{Global}
 use Rattle.std.specs.List.{list_any, filter_map}
 use Rattle.std.specs.Cmp.Lexicographic.{pointwise}
@@ -29,7 +31,8 @@ pub tuple_test : (xs ys : List Label) → pointwise label_equality.eq xs ys ≡ 
 tuple_test [] [] = refl
 tuple_test [] (y ∷ ys) = refl
 tuple_test (x ∷ xs) [] = refl
-tuple_test (x ∷ xs) (y ∷ ys) = ap (λ b. b && pointwise label_equality.eq xs ys) (label_test x y) ∙ ap (λ b. same_element (label_view x) (label_view y) && b) (tuple_test xs ys)
+tuple_test (x ∷ xs) (y ∷ ys) = ap (λ b. b && pointwise label_equality.eq xs ys) (label_test x y)
+    ∙ ap (λ b. same_element (label_view x) (label_view y) && b) (tuple_test xs ys)
 
 or_turned : (a b : Bool) → (a || (b || false)) ≡ (b || a)
 or_turned true true = refl
@@ -37,30 +40,37 @@ or_turned true false = refl
 or_turned false true = refl
 or_turned false false = refl
 
-by_one : (xs ys : List (List Elem)) (t : List Elem) (b : Bool) → AreSameTuples xs ys → AreSameTuples (if b then xs else xs ++ t ∷ []) (if b then ys else t ∷ ys)
+by_one : (xs ys : List (List Elem)) (t : List Elem) (b : Bool) → AreSameTuples xs ys
+    → AreSameTuples (if b then xs else xs ++ t ∷ []) (if b then ys else t ∷ ys)
 by_one xs ys t true s = s
 by_one xs ys t false s = record {
   count = let l = length-append xs (t ∷ []) in omega (arith, l, s.count);
-  among = λ v. list_any-append (same_tuple v) xs (t ∷ []) ∙ or_turned (list_any (same_tuple v) xs) (same_tuple v t) ∙ ap (λ b. same_tuple v t || b) (s.among v);
+  among = λ v. list_any-append (same_tuple v) xs (t ∷ []) ∙ or_turned (list_any (same_tuple v) xs) (same_tuple v t)
+      ∙ ap (λ b. same_tuple v t || b) (s.among v);
 }
 
 abbrev tuples_in : List (Vec Label Global) → List (List Elem)
 tuples_in ks = map (λ (k : Vec Label Global). tuple_view k.items) ks
 
-pub tuple_added : (ks new : List (Vec Label Global)) (k : Vec Label Global) → new ≡ insert_key (λ x y. pointwise label_equality.eq x.items y.items) ks k
-    → (ts : List (List Elem)) → AreSameTuples (tuples_in ks) ts → AreSameTuples (tuples_in new) (with_tuple ts (tuple_view k.items))
+pub tuple_added : (ks new : List (Vec Label Global)) (k : Vec Label Global)
+    → new ≡ insert_key (λ x y. pointwise label_equality.eq x.items y.items) ks k
+    → (ts : List (List Elem)) → AreSameTuples (tuples_in ks) ts → AreSameTuples (tuples_in new)
+    (with_tuple ts (tuple_view k.items))
 tuple_added ks new k keys ts s =
     let f = λ (k : Vec Label Global). tuple_view k.items in
-    let grown = added_key f (λ x y. pointwise label_equality.eq x.items y.items) same_tuple k ks new keys (λ d. tuple_test k.items d.items) in
+    let grown = added_key f (λ x y. pointwise label_equality.eq x.items y.items) same_tuple k ks new keys
+    (λ d. tuple_test k.items d.items) in
     let both = by_one (map f ks) ts (f k) (list_any (same_tuple (f k)) ts) s in
-    subst (λ xs. AreSameTuples xs (with_tuple ts (f k))) (sym (grown ∙ ap (λ b. if b then map f ks else map f ks ++ f k ∷ []) (s.among (f k)))) both
+    subst (λ xs. AreSameTuples xs (with_tuple ts (f k))) (sym (grown
+    ∙ ap (λ b. if b then map f ks else map f ks ++ f k ∷ []) (s.among (f k)))) both
 
 -- one row more
 abbrev pub taken : (List Elem → Bool) → Subject → List WrittenRow → List (List Elem)
 taken over x rs = filter over (filter_map (λ (r : WrittenRow). single_elements r.items) (filter (fits_in x) rs))
 
 pub next_row : (over : List Elem → Bool) (x : Subject) (r : WrittenRow) (rs : List WrittenRow) (ts : List (List Elem))
-    → fold with_tuple (fold with_tuple ts (taken over x (r ∷ []))) (taken over x rs) ≡ fold with_tuple ts (taken over x (r ∷ rs))
+    → fold with_tuple (fold with_tuple ts (taken over x (r ∷ []))) (taken over x rs) ≡ fold with_tuple ts
+    (taken over x (r ∷ rs))
 next_row over x r rs ts =
     let f = λ (r : WrittenRow). single_elements r.items in
     sym (fold-append with_tuple ts (taken over x (r ∷ [])) (taken over x rs))

@@ -27,14 +27,21 @@ use type_derivation::{Named, TypedKb};
 
 /// Whether an integer is no element of its position's type.
 fn is_foreign(types: &[TypeData<'_>], placed: Placed) -> bool
-    ensures { (all : List AType) (es : List said.Said) → AreTypesOf all es types.now → (p : ℕ) → result ≡ stage.is_foreign (domain.domains_of all es) (record { place = p; number = whole_view placed.number; ty = placed.ty }) }
+    ensures { (all : List AType) (es : List said.Said) → AreTypesOf all es types.now → (p : ℕ)
+        → result ≡ stage.is_foreign (domain.domains_of all es) (record {
+          place = p;
+          number = whole_view placed.number;
+          ty = placed.ty;
+        }) }
 {
     !has_element(types, placed.ty as usize, Element::Number(placed.number))
 }
 
 /// Notes a term that is an integer at a position, where it begins at this place.
 fn note_one(earliest: &mut Earliest, types: &[TypeData<'_>], place: usize, found: Option<Placed>)
-    ensures { (all : List AType) (es : List said.Said) → AreTypesOf all es types.now → earliest.new.first ≡ fold (stage.data_noted all es) earliest.old.first (map stage.argument (integers.arguments_at (place ∷ []) (option_map placed_view found ∷ []))) }
+    ensures { (all : List AType) (es : List said.Said) → AreTypesOf all es types.now → earliest.new.first
+        ≡ fold (stage.data_noted all es) earliest.old.first (map stage.argument
+        (integers.arguments_at (place ∷ []) (option_map placed_view found ∷ []))) }
 {
     match found {
         None => {}
@@ -51,7 +58,9 @@ fn note_placed(
     places: &[usize],
     found: &[Option<Placed>],
 )
-    ensures { (all : List AType) (es : List said.Said) → AreTypesOf all es types.now → earliest.new.first ≡ fold (stage.data_noted all es) earliest.old.first (map stage.argument (integers.arguments_at places.now (placed_views found.now))) }
+    ensures { (all : List AType) (es : List said.Said) → AreTypesOf all es types.now → earliest.new.first
+        ≡ fold (stage.data_noted all es) earliest.old.first (map stage.argument
+        (integers.arguments_at places.now (placed_views found.now))) }
 {
     for i in 0..places.len() {
         if i >= found.len() {
@@ -67,7 +76,8 @@ fn in_sentences(
     symbols: &[Symbol],
     sentences: &[Formula],
 ) -> Result<Vec<Option<Placed>>, Memory>
-    ensures { IfOk result (λ found. placed_views found.items ≡ flat_map (integers.formula_integers symbols.now) (map formula_view sentences.now)) }
+    ensures { IfOk result (λ found. placed_views found.items ≡ flat_map (integers.formula_integers symbols.now)
+        (map formula_view sentences.now)) }
 {
     let mut found = Vec::new(alloc);
     for sentence in sentences {
@@ -85,7 +95,9 @@ fn note_sentences(
     theory: &Named<Theory>,
     places: &[usize],
 ) -> Result<(), Memory>
-    ensures { OnOk result ((all : List AType) (es : List said.Said) → AreTypesOf all es types.now → earliest.new.first ≡ fold (stage.data_noted all es) earliest.old.first (map stage.argument (stage.arguments_of_theory symbols.now (named_theory_view theory.now, places.now)))) }
+    ensures { OnOk result ((all : List AType) (es : List said.Said) → AreTypesOf all es types.now → earliest.new.first
+        ≡ fold (stage.data_noted all es) earliest.old.first (map stage.argument
+        (stage.arguments_of_theory symbols.now (named_theory_view theory.now, places.now)))) }
 {
     let found = in_sentences(alloc, symbols, theory.value.sentences.as_slice())?;
     note_placed(earliest, types, places, &found);
@@ -100,7 +112,9 @@ fn note_theory(
     kb: &TypedKb,
     theory: usize,
 ) -> Result<(), Memory>
-    ensures { OnOk result ((all : List AType) (es : List said.Said) → AreTypesOf all es types.now → earliest.new.first ≡ fold (stage.data_noted all es) earliest.old.first (map stage.argument (flat_map (stage.arguments_of_theory kb.now.vocab.symbols) (stage.chosen_theory (typed_view kb.now) theory)))) }
+    ensures { OnOk result ((all : List AType) (es : List said.Said) → AreTypesOf all es types.now → earliest.new.first
+        ≡ fold (stage.data_noted all es) earliest.old.first (map stage.argument
+        (flat_map (stage.arguments_of_theory kb.now.vocab.symbols) (stage.chosen_theory (typed_view kb.now) theory)))) }
 {
     let Some(named) = kb.theories.get(theory) else {
         return Ok(());
@@ -122,7 +136,9 @@ fn note_block(
     block: &Named<Term>,
     places: &[usize],
 ) -> Result<(), Memory>
-    ensures { OnOk result ((all : List AType) (es : List said.Said) → AreTypesOf all es types.now → earliest.new.first ≡ fold (stage.data_noted all es) earliest.old.first (map stage.argument (stage.arguments_of_block symbols.now (named_term_view block.now, places.now)))) }
+    ensures { OnOk result ((all : List AType) (es : List said.Said) → AreTypesOf all es types.now → earliest.new.first
+        ≡ fold (stage.data_noted all es) earliest.old.first (map stage.argument
+        (stage.arguments_of_block symbols.now (named_term_view block.now, places.now)))) }
 {
     let mut found = Vec::new(alloc);
     term(symbols, None, &block.value, &mut found)?;
@@ -137,7 +153,10 @@ fn note_blocks(
     types: &[TypeData<'_>],
     kb: &TypedKb,
 ) -> Result<(), Memory>
-    ensures { OnOk result ((all : List AType) (es : List said.Said) → AreTypesOf all es types.now → earliest.new.first ≡ fold (stage.data_noted all es) earliest.old.first (map stage.argument (flat_map (stage.arguments_of_block kb.now.vocab.symbols) (zip (typed_view kb.now).terms kb.now.places.block_terms)))) }
+    ensures { OnOk result ((all : List AType) (es : List said.Said) → AreTypesOf all es types.now → earliest.new.first
+        ≡ fold (stage.data_noted all es) earliest.old.first (map stage.argument
+        (flat_map (stage.arguments_of_block kb.now.vocab.symbols)
+        (zip (typed_view kb.now).terms kb.now.places.block_terms)))) }
 {
     let blocks = kb.terms.as_slice();
     let places = kb.places.block_terms.as_slice();
@@ -166,7 +185,8 @@ pub fn note_arguments(
     kb: &TypedKb,
     theory: usize,
 ) -> Result<(), Memory>
-    ensures { OnOk result ((all : List AType) (es : List said.Said) → AreTypesOf all es types.now → earliest.new.first ≡ fold (stage.data_noted all es) earliest.old.first (stage.argument_uses (typed_view kb.now) theory)) }
+    ensures { OnOk result ((all : List AType) (es : List said.Said) → AreTypesOf all es types.now → earliest.new.first
+        ≡ fold (stage.data_noted all es) earliest.old.first (stage.argument_uses (typed_view kb.now) theory)) }
 {
     note_theory(alloc, earliest, types, kb, theory)?;
     note_blocks(alloc, earliest, types, kb)?;

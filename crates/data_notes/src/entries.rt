@@ -44,7 +44,8 @@ fn same_word(a: &RawName, b: &RawName) -> bool
 
 /// Two entries of one word may differ only in that one says what is true, and the other what is false.
 fn same_marks(a: Option<&RawName>, b: Option<&RawName>) -> bool
-    ensures { result ≡ stage.same_marks (option_map (λ m. name_view m.now) a.entry) (option_map (λ m. name_view m.now) b.entry) }
+    ensures { result ≡ stage.same_marks (option_map (λ m. name_view m.now) a.entry)
+        (option_map (λ m. name_view m.now) b.entry) }
 {
     match a {
         None => true,
@@ -80,7 +81,9 @@ fn is_unread(sense: Sense) -> bool
 
 /// Notes a mark on a type, or one that is not read.
 fn note_mark(earliest: &mut Earliest, subject: Subject<'_>, mark: Option<&RawName>)
-    ensures { (all : List AType) (es : List said.Said) → earliest.new.first ≡ fold (stage.data_noted all es) earliest.old.first (stage.mark_uses (subject_view subject.entry) (option_map (λ m. name_view m.now) mark.entry)) }
+    ensures { (all : List AType) (es : List said.Said) → earliest.new.first ≡ fold (stage.data_noted all es)
+        earliest.old.first (stage.mark_uses (subject_view subject.entry)
+        (option_map (λ m. name_view m.now) mark.entry)) }
 {
     match mark {
         None => {}
@@ -92,14 +95,16 @@ fn note_mark(earliest: &mut Earliest, subject: Subject<'_>, mark: Option<&RawNam
 }
 
 fn note_row(earliest: &mut Earliest, subject: Subject<'_>, row: &Row<'_>)
-    ensures { (all : List AType) (es : List said.Said) → earliest.new.first ≡ stage.data_noted all es earliest.old.first (stage.row (subject_view subject.entry) (row_view row.now)) }
+    ensures { (all : List AType) (es : List said.Said) → earliest.new.first ≡ stage.data_noted all es earliest.old.first
+        (stage.row (subject_view subject.entry) (row_view row.now)) }
 {
     earliest.note_if(!fits_in(subject, row), K::WrongArity, row.place);
 }
 
 /// Notes each row of another length.
 fn note_rows(earliest: &mut Earliest, subject: Subject<'_>, rows: &[Row<'_>])
-    ensures { (all : List AType) (es : List said.Said) → earliest.new.first ≡ fold (stage.data_noted all es) earliest.old.first (map (stage.row (subject_view subject.entry)) (map row_view rows.now)) }
+    ensures { (all : List AType) (es : List said.Said) → earliest.new.first ≡ fold (stage.data_noted all es)
+        earliest.old.first (map (stage.row (subject_view subject.entry)) (map row_view rows.now)) }
 {
     for row in rows {
         note_row(earliest, subject, row);
@@ -124,7 +129,8 @@ fn given_by<'a>(alloc: Global, entry: &Entry<'a>) -> Result<Vec<Cell<'a>>, Memor
 
 /// Whether each of these cells is covered by the set.
 fn are_covered<'a>(elements: &ElementSet<'a>, cells: &[Cell<'a>]) -> bool
-    ensures { (others : List set.Cell) → IsSetOf others elements.now → result ≡ list_all (set.is_covered others) (map cell_view cells.now) }
+    ensures { (others : List set.Cell) → IsSetOf others elements.now → result ≡ list_all (set.is_covered others)
+        (map cell_view cells.now) }
 {
     for cell in cells {
         if !elements.covers(*cell) {
@@ -142,7 +148,8 @@ fn not_both(a: bool, b: bool) -> bool
 
 /// Whether a constructed type is given another set than its names.
 fn is_other_set<'a>(alloc: Global, decl: &'a TypeDecl, entry: &Entry<'a>) -> Result<bool, Memory>
-    ensures { IfOk result (λ b. b ≡ stage.is_other_set (domain.made_cells decl.now) (domain.cells_given (said_view entry.now))) }
+    ensures { IfOk result (λ b. b ≡ stage.is_other_set (domain.made_cells decl.now)
+        (domain.cells_given (said_view entry.now))) }
 {
     let made = made_of(alloc, decl)?;
     let given = given_by(alloc, entry)?;
@@ -160,7 +167,8 @@ fn is_partial<'a>(
     symbol: &Symbol,
     entry: &Entry<'a>,
 ) -> Result<bool, Memory>
-    ensures { IfOk result (λ b. (all : List AType) (es : List said.Said) → AreTypesOf all es types.now → b ≡ stage.is_partial all es (said_view entry.now).mark symbol.now (said_view entry.now)) }
+    ensures { IfOk result (λ b. (all : List AType) (es : List said.Said) → AreTypesOf all es types.now
+        → b ≡ stage.is_partial all es (said_view entry.now).mark symbol.now (said_view entry.now)) }
 {
     if entry.mark.is_none() && symbol.value.is_some() {
         misses_a_tuple(alloc, types, symbol.args.as_slice(), entry)
@@ -175,7 +183,8 @@ fn is_not_whole<'a>(
     types: &[TypeData<'a>],
     entry: &Entry<'a>,
 ) -> Result<bool, Memory>
-    ensures { IfOk result (λ b. (all : List AType) (es : List said.Said) → AreTypesOf all es types.now → b ≡ stage.is_not_whole all es (said_view entry.now) (said_view entry.now).subject) }
+    ensures { IfOk result (λ b. (all : List AType) (es : List said.Said) → AreTypesOf all es types.now
+        → b ≡ stage.is_not_whole all es (said_view entry.now) (said_view entry.now).subject) }
 {
     match entry.subject {
         Subject::Nothing => Ok(false),
@@ -193,7 +202,8 @@ fn is_not_whole<'a>(
 
 /// Whether a type's list has too many elements.
 fn is_too_large(alloc: Global, entry: &Entry<'_>) -> Result<bool, Memory>
-    ensures { IfOk result (λ b. b ≡ (said.is_a_type (said_view entry.now).subject && nat_lt stage.element_limit (set.count_of (domain.cells_given (said_view entry.now))))) }
+    ensures { IfOk result (λ b. b ≡ (said.is_a_type (said_view entry.now).subject && nat_lt stage.element_limit
+        (set.count_of (domain.cells_given (said_view entry.now))))) }
 {
     if entry.subject.is_a_type() {
         let given = given_by(alloc, entry)?;
@@ -206,7 +216,8 @@ fn is_too_large(alloc: Global, entry: &Entry<'_>) -> Result<bool, Memory>
 
 /// Whether what was noted stands before this place, so that nothing noted there counts.
 fn is_later(earliest: &Earliest, place: usize) -> bool
-    ensures { IsTrue result → (holds : Bool) (cause : AK) → noted_if holds cause place earliest.now.first ≡ earliest.now.first }
+    ensures { IsTrue result → (holds : Bool) (cause : AK) → noted_if holds cause place earliest.now.first
+        ≡ earliest.now.first }
 {
     match earliest.first {
         None => false,
@@ -216,7 +227,8 @@ fn is_later(earliest: &Earliest, place: usize) -> bool
 
 /// Notes a second entry; where it would not count, none is sought.
 fn note_again(earliest: &mut Earliest, before: &[Entry<'_>], entry: &Entry<'_>)
-    ensures { earliest.new.first ≡ noted_if (stage.is_again (stage.entry (map said_view before.now) (said_view entry.now))) k.Redeclared (place_of_name (said_view entry.now).word) earliest.old.first }
+    ensures { earliest.new.first ≡ noted_if (stage.is_again (stage.entry (map said_view before.now)
+        (said_view entry.now))) k.Redeclared (place_of_name (said_view entry.now).word) earliest.old.first }
 {
     let place = entry.word.place;
     if !is_later(earliest, place) {
@@ -232,7 +244,8 @@ fn note_entry<'a>(
     before: &[Entry<'a>],
     entry: &Entry<'a>,
 ) -> Result<(), Memory>
-    ensures { OnOk result ((all : List AType) (es : List said.Said) → AreTypesOf all es types.now → earliest.new.first ≡ stage.data_noted all es earliest.old.first (stage.entry (map said_view before.now) (said_view entry.now))) }
+    ensures { OnOk result ((all : List AType) (es : List said.Said) → AreTypesOf all es types.now → earliest.new.first
+        ≡ stage.data_noted all es earliest.old.first (stage.entry (map said_view before.now) (said_view entry.now))) }
 {
     let place = entry.word.place;
     let is_nothing = entry.subject.is_nothing();
@@ -252,7 +265,9 @@ fn note_whole<'a>(
     before: &[Entry<'a>],
     entry: &Entry<'a>,
 ) -> Result<(), Memory>
-    ensures { OnOk result ((all : List AType) (es : List said.Said) → AreTypesOf all es types.now → earliest.new.first ≡ fold (stage.data_noted all es) earliest.old.first (stage.uses_of_entry (map said_view before.now) (said_view entry.now))) }
+    ensures { OnOk result ((all : List AType) (es : List said.Said) → AreTypesOf all es types.now → earliest.new.first
+        ≡ fold (stage.data_noted all es) earliest.old.first (stage.uses_of_entry (map said_view before.now)
+        (said_view entry.now))) }
 {
     note_entry(alloc, earliest, types, before, entry)?;
     note_mark(earliest, entry.subject, entry.mark);
@@ -268,7 +283,8 @@ pub fn note_entries<'a>(
     types: &[TypeData<'a>],
     entries: &[Entry<'a>],
 ) -> Result<(), Memory>
-    ensures { OnOk result ((all : List AType) (es : List said.Said) → AreTypesOf all es types.now → earliest.new.first ≡ fold (stage.data_noted all es) earliest.old.first (stage.uses_of_entries [] (map said_view entries.now))) }
+    ensures { OnOk result ((all : List AType) (es : List said.Said) → AreTypesOf all es types.now → earliest.new.first
+        ≡ fold (stage.data_noted all es) earliest.old.first (stage.uses_of_entries [] (map said_view entries.now))) }
 {
     for i in 0..entries.len() {
         note_whole(alloc, earliest, types, &entries[..i], &entries[i])?;

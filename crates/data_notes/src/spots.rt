@@ -74,13 +74,15 @@ pub fn is_in_range(cell: Cell<'_>) -> bool
 
 /// Whether the cell is of the kind of the type with these traits.
 fn is_of_kind(traits: Traits, cell: Cell<'_>) -> bool
-    ensures { (all : List AType) (es : List said.Said) (t : ℕ) → AreTraitsAt all es t traits → result ≡ domain.is_of_kind all t (cell_view cell.entry) }
+    ensures { (all : List AType) (es : List said.Said) (t : ℕ) → AreTraitsAt all es t traits
+        → result ≡ domain.is_of_kind all t (cell_view cell.entry) }
 {
     (!traits.number || is_numeric(cell)) && (!traits.natural || is_not_negative(cell))
 }
 
 fn is_in_type_above<'a>(types: &[TypeData<'a>], above: Option<usize>, cell: Cell<'a>) -> bool
-    ensures { (all : List AType) (es : List said.Said) → AreTypesOf all es types.now → result ≡ stage.is_in_type_above all es above (cell_view cell.entry) }
+    ensures { (all : List AType) (es : List said.Said) → AreTypesOf all es types.now
+        → result ≡ stage.is_in_type_above all es above (cell_view cell.entry) }
 {
     match above {
         None => true,
@@ -89,14 +91,17 @@ fn is_in_type_above<'a>(types: &[TypeData<'a>], above: Option<usize>, cell: Cell
 }
 
 fn gives(traits: Traits, spot: &Spot<'_>) -> bool
-    ensures { (all : List AType) (es : List said.Said) → AreTraitsAt all es spot.now.ty traits → result ≡ stage.gives all es (spot_view spot.now) }
+    ensures { (all : List AType) (es : List said.Said) → AreTraitsAt all es spot.now.ty traits
+        → result ≡ stage.gives all es (spot_view spot.now) }
 {
     spot.in_list || traits.occurs
 }
 
 /// Whether what gives a type elements is of another kind or not in the type above, or all else not in the type.
 fn is_outside<'a>(types: &[TypeData<'a>], traits: Traits, spot: &Spot<'a>, cell: Cell<'a>) -> bool
-    ensures { (all : List AType) (es : List said.Said) → AreTypesOf all es types.now → AreTraitsAt all es spot.now.ty traits → result ≡ stage.is_outside all es (spot_view spot.now) (cell_view cell.entry) }
+    ensures { (all : List AType) (es : List said.Said) → AreTypesOf all es types.now
+        → AreTraitsAt all es spot.now.ty traits → result ≡ stage.is_outside all es (spot_view spot.now)
+        (cell_view cell.entry) }
 {
     if gives(traits, spot) {
         !is_of_kind(traits, cell) || (spot.in_list && !is_in_type_above(types, traits.above, cell))
@@ -106,14 +111,17 @@ fn is_outside<'a>(types: &[TypeData<'a>], traits: Traits, spot: &Spot<'a>, cell:
 }
 
 fn is_idle(traits: Traits, spot: &Spot<'_>) -> bool
-    ensures { (all : List AType) (es : List said.Said) → AreTraitsAt all es spot.now.ty traits → result ≡ stage.is_idle all (spot_view spot.now) }
+    ensures { (all : List AType) (es : List said.Said) → AreTraitsAt all es spot.now.ty traits
+        → result ≡ stage.is_idle all (spot_view spot.now) }
 {
     spot.in_list && traits.constructed
 }
 
 /// Whether an element is not in its type.
 fn is_no_element<'a>(types: &[TypeData<'a>], traits: Traits, spot: &Spot<'a>) -> bool
-    ensures { (all : List AType) (es : List said.Said) → AreTypesOf all es types.now → AreTraitsAt all es spot.now.ty traits → result ≡ stage.is_no_element all es (stage.spot (spot_view spot.now)) }
+    ensures { (all : List AType) (es : List said.Said) → AreTypesOf all es types.now
+        → AreTraitsAt all es spot.now.ty traits → result ≡ stage.is_no_element all es
+        (stage.spot (spot_view spot.now)) }
 {
     if is_idle(traits, spot) {
         return false;
@@ -126,7 +134,8 @@ fn is_no_element<'a>(types: &[TypeData<'a>], traits: Traits, spot: &Spot<'a>) ->
 
 /// Whether an integer of a domain is out of range.
 fn is_out_of_range(traits: Traits, spot: &Spot<'_>) -> bool
-    ensures { (all : List AType) (es : List said.Said) → AreTraitsAt all es spot.now.ty traits → result ≡ stage.is_out_of_range all es (stage.spot (spot_view spot.now)) }
+    ensures { (all : List AType) (es : List said.Said) → AreTraitsAt all es spot.now.ty traits
+        → result ≡ stage.is_out_of_range all es (stage.spot (spot_view spot.now)) }
 {
     if is_idle(traits, spot) || !gives(traits, spot) {
         return false;
@@ -139,7 +148,8 @@ fn is_out_of_range(traits: Traits, spot: &Spot<'_>) -> bool
 
 /// Notes what is refused of an element or a range.
 fn note_spot<'a>(earliest: &mut Earliest, types: &[TypeData<'a>], spot: &Spot<'a>)
-    ensures { (all : List AType) (es : List said.Said) → AreTypesOf all es types.now → earliest.new.first ≡ stage.data_noted all es earliest.old.first (stage.spot (spot_view spot.now)) }
+    ensures { (all : List AType) (es : List said.Said) → AreTypesOf all es types.now → earliest.new.first
+        ≡ stage.data_noted all es earliest.old.first (stage.spot (spot_view spot.now)) }
 {
     let traits = traits_at(types, spot.ty);
     earliest.note_if(
@@ -153,7 +163,8 @@ fn note_spot<'a>(earliest: &mut Earliest, types: &[TypeData<'a>], spot: &Spot<'a
 
 /// Notes what is refused of elements and ranges.
 pub fn note_spots<'a>(earliest: &mut Earliest, types: &[TypeData<'a>], spots: &[Spot<'a>])
-    ensures { (all : List AType) (es : List said.Said) → AreTypesOf all es types.now → earliest.new.first ≡ fold (stage.data_noted all es) earliest.old.first (map stage.spot (map spot_view spots.now)) }
+    ensures { (all : List AType) (es : List said.Said) → AreTypesOf all es types.now → earliest.new.first
+        ≡ fold (stage.data_noted all es) earliest.old.first (map stage.spot (map spot_view spots.now)) }
 {
     for spot in spots {
         note_spot(earliest, types, spot);

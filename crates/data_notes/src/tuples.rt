@@ -40,7 +40,8 @@ fn times(a: u64, b: u64) -> u64
 
 /// How many tuples there are over these types, at most the greatest of 64 bits.
 fn tuple_count(types: &[TypeData<'_>], args: &[u32]) -> u64
-    ensures { (all : List AType) (es : List said.Said) → AreTypesOf all es types.now → result ≡ capped (stated.tuple_count all es args.now) }
+    ensures { (all : List AType) (es : List said.Said) → AreTypesOf all es types.now
+        → result ≡ capped (stated.tuple_count all es args.now) }
 {
     let mut count = 1u64;
     for ty in args {
@@ -64,7 +65,8 @@ fn single_elements<'a>(
     alloc: Global,
     items: &[&'a RawItem],
 ) -> Result<Option<Vec<Element<'a>>>, Memory>
-    ensures { IfOk result (λ read. option_map (λ xs. map elem_view xs.items) read ≡ stated.single_elements (map (λ i. item_view i.now) items.now)) }
+    ensures { IfOk result (λ read. option_map (λ xs. map elem_view xs.items) read ≡ stated.single_elements
+        (map (λ i. item_view i.now) items.now)) }
 {
     let mut elements = Vec::new(alloc);
     for item in items {
@@ -78,7 +80,8 @@ fn single_elements<'a>(
 
 /// Whether each argument is an element of its type.
 fn is_over<'a>(types: &[TypeData<'a>], args: &[u32], elements: &[Element<'a>]) -> bool
-    ensures { (all : List AType) (es : List said.Said) → AreTypesOf all es types.now → result ≡ stated.is_over all es args.now (map elem_view elements.now) }
+    ensures { (all : List AType) (es : List said.Said) → AreTypesOf all es types.now
+        → result ≡ stated.is_over all es args.now (map elem_view elements.now) }
 {
     for i in 0..args.len() {
         if i >= elements.len() {
@@ -103,7 +106,10 @@ fn labels_of<'a>(alloc: Global, elements: &[Element<'a>]) -> Result<Vec<Label<'a
 
 impl<'a> Tuples<'a> {
     fn add(&mut self, tuple: Vec<Label<'a>>) -> Result<(), Memory>
-        ensures { OnOk result ((ts : List (List AnElem)) → AreSameTuples (map (λ k. tuple_view k.items) self.old.table.keys) ts → AreSameTuples (map (λ k. tuple_view k.items) self.new.table.keys) (stated.with_tuple ts (tuple_view tuple.entry.items))) }
+        ensures { OnOk result ((ts : List (List AnElem)) → AreSameTuples
+            (map (λ k. tuple_view k.items) self.old.table.keys) ts
+            → AreSameTuples (map (λ k. tuple_view k.items) self.new.table.keys)
+            (stated.with_tuple ts (tuple_view tuple.entry.items))) }
     {
         self.table.insert_full(tuple)?;
         Ok(())
@@ -118,8 +124,12 @@ impl<'a> Tuples<'a> {
         subject: Subject<'a>,
         row: &Row<'a>,
     ) -> Result<(), Memory>
-        ensures { OnOk result ((all : List AType) (es : List said.Said) → AreTypesOf all es types.now → (ts : List (List AnElem)) → AreSameTuples (map (λ k. tuple_view k.items) self.old.table.keys) ts → AreSameTuples (map (λ k. tuple_view k.items) self.new.table.keys)
-            (fold stated.with_tuple ts (filter (stated.is_over all es args.now) (filter_map (λ r. stated.single_elements r.items) (filter (said.fits_in (subject_view subject.entry)) (row_view row.now ∷ [])))))) }
+        ensures { OnOk result ((all : List AType) (es : List said.Said) → AreTypesOf all es types.now
+            → (ts : List (List AnElem)) → AreSameTuples (map (λ k. tuple_view k.items) self.old.table.keys) ts
+            → AreSameTuples (map (λ k. tuple_view k.items) self.new.table.keys)
+            (fold stated.with_tuple ts (filter (stated.is_over all es args.now)
+            (filter_map (λ r. stated.single_elements r.items) (filter (said.fits_in (subject_view subject.entry))
+            (row_view row.now ∷ [])))))) }
     {
         if !fits_in(subject, row) {
             return Ok(());
@@ -144,7 +154,8 @@ pub fn misses_a_tuple<'a>(
     args: &[u32],
     entry: &Entry<'a>,
 ) -> Result<bool, Memory>
-    ensures { IfOk result (λ b. (all : List AType) (es : List said.Said) → AreTypesOf all es types.now → b ≡ stated.misses_a_tuple all es args.now (said_view entry.now)) }
+    ensures { IfOk result (λ b. (all : List AType) (es : List said.Said) → AreTypesOf all es types.now
+        → b ≡ stated.misses_a_tuple all es args.now (said_view entry.now)) }
 {
     let mut tuples = Tuples {
         table: IndexSet::new(alloc),

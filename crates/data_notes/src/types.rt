@@ -19,7 +19,9 @@ pub const ELEMENT_LIMIT: u64 = 65_536;
 
 /// Notes a type that has no list and wants one, or too many elements that occur.
 fn note_type(earliest: &mut Earliest, decl: &TypeDecl, data: &TypeData<'_>, place: usize)
-    ensures { (all : List AType) (es : List said.Said) (t : ℕ) → AreTraitsOf all es t decl.now data.now.traits → IsSetOf (domain.cells_by all es t decl.now) data.now.elements → earliest.new.first ≡ stage.data_noted all es earliest.old.first (stage.declared t decl.now place) }
+    ensures { (all : List AType) (es : List said.Said) (t : ℕ) → AreTraitsOf all es t decl.now data.now.traits
+        → IsSetOf (domain.cells_by all es t decl.now) data.now.elements → earliest.new.first
+        ≡ stage.data_noted all es earliest.old.first (stage.declared t decl.now place) }
 {
     let is_missing = type_above(decl.parent).is_some() && !data.traits.listed;
     earliest.note_if(is_missing, K::TypeNotGiven, place);
@@ -34,7 +36,8 @@ pub fn note_types(
     types: &[TypeData<'_>],
     places: &[usize],
 )
-    ensures { (es : List said.Said) → AreTypesOf decls.now es types.now → earliest.new.first ≡ fold (stage.data_noted decls.now es) earliest.old.first (stage.uses_of_types decls.now places.now) }
+    ensures { (es : List said.Said) → AreTypesOf decls.now es types.now → earliest.new.first
+        ≡ fold (stage.data_noted decls.now es) earliest.old.first (stage.uses_of_types decls.now places.now) }
 {
     for t in 0..decls.len() {
         if t >= places.len() {

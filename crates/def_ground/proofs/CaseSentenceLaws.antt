@@ -1,5 +1,6 @@
 -- Cases that are asserted, a clause for each.
-use Rattle.std.proofs.Common.{◌≡◌, ℕ, Bool, true, false, not, ◌&&◌, ◌||◌, List, [], ◌∷◌, ◌++◌, map, All, if◌then◌else◌, Option}
+use Rattle.std.proofs.Common.{◌≡◌, ℕ, Bool, true, false, not, ◌&&◌, ◌||◌, List, [], ◌∷◌, ◌++◌, map, All, if◌then◌else◌}
+use Rattle.std.proofs.Common.{Option}
 use Rattle.std.proofs.Common.{Some, None, refl, ap, subst, ◌∙◌, arith}
 use Rattle.std.specs.List.{list_all, list_any, AllByRecursion}
 use Rattle.std.proofs.lemmas.List.Elements.{All-append, All-cons, All-nil, All-map}

@@ -10,7 +10,8 @@ use Rattle.def_ground.specs.declared.cases.Case.{Case as CaseOfCode}
 use Rattle.def_ground.specs.declared.answers.Answer.{Answer}
 use Rattle.def_ground.specs.declared.answers.Answer.TheVariants.{Constant, Literal}
 use Rattle.def_ground.specs.Answers.{GroundResult, Grows, AnswerWithin, opposite_of}
-use Rattle.def_ground.specs.Cases.{Case, is_always, only_literal, only_guard, plain_answer, answer_or_cases, answer_without}
+use Rattle.def_ground.specs.Cases.{Case, is_always, only_literal, only_guard, plain_answer, answer_or_cases}
+use Rattle.def_ground.specs.Cases.{answer_without}
 use Rattle.def_ground.specs.Cases.{cases_of}
 use Rattle.def_ground.specs.CaseViews.{case_view}
 use Rattle.def_ground.specs.Meanings.{IsCaseOf}

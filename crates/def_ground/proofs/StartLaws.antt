@@ -30,7 +30,8 @@ use Rattle.term_values.specs.Rows.{positive_lit}
 use Rattle.term_values.proofs.Places.{plain-atom, valued-atom, predicate-variable, function-variable}
 use Rattle.term_values.proofs.StructureAtoms.{tuples-are, values-are}
 use Rattle.term_values.proofs.StructureLaws.{declared-function, function-of, is-function, only-atoms-matter}
-use Rattle.def_ground.specs.Problems.{fact_of, pair_clauses, one_of_clauses, with_open, open_variables, tuple_clauses, said_tuples}
+use Rattle.def_ground.specs.Problems.{fact_of, pair_clauses, one_of_clauses, with_open, open_variables, tuple_clauses}
+use Rattle.def_ground.specs.Problems.{said_tuples}
 use Rattle.def_ground.specs.Problems.{function_clauses}
 use Rattle.def_ground.specs.Problems.{all_function_clauses, fact_clauses, start_problem}
 use Rattle.def_ground.specs.Meanings.{HasAtoms, HasRoom}

@@ -1,5 +1,6 @@
 -- Atoms, comparisons and equivalences that are asserted: each case is a clause, and no variable is made for the whole.
-use Rattle.std.specs.Prelude.{List, [], ◌∷◌, ◌++◌, map, flat_map, Bool, true, false, not, if◌then◌else◌, Option, Some, None}
+use Rattle.std.specs.Prelude.{List, [], ◌∷◌, ◌++◌, map, flat_map, Bool, true, false, not, if◌then◌else◌, Option, Some}
+use Rattle.std.specs.Prelude.{None}
 use Rattle.kb_logic.specs.declared.syntax.Cmp.{Cmp}
 use Rattle.kb_logic.specs.Denotations.{Denotation}
 use Rattle.lit_core.specs.declared.literals.Lit.{Lit}

@@ -1,6 +1,7 @@
 -- The ground problem of a list of sentences: a function has one value at each tuple, known atoms are facts, and each
 -- sentence is asserted.
-use Rattle.std.specs.Prelude.{ℕ, ◌+◌, ◌*◌, List, [], ◌∷◌, ◌++◌, map, flat_map, length, take, Bool, true, false, Option, Some, None}
+use Rattle.std.specs.Prelude.{ℕ, ◌+◌, ◌*◌, List, [], ◌∷◌, ◌++◌, map, flat_map, length, take, Bool, true, false, Option}
+use Rattle.std.specs.Prelude.{Some, None}
 use Rattle.std.specs.List.{enumerate_from}
 use Rattle.kb_logic.specs.declared.elements.Elem.{Elem}
 use Rattle.kb_logic.specs.declared.vocabularies.Symbol.{Symbol}

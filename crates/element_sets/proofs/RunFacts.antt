@@ -1,5 +1,6 @@
 -- Intervals that rise, with a gap before each next one.
-use Rattle.std.proofs.Common.{◌≡◌, ℤ, pos, ◌+ℤ◌, ◌-ℤ◌, ◌≤ℤ◌, ◌<ℤ◌, Bool, true, false, not, ◌&&◌, ◌||◌, int_lt, List, [], ◌∷◌, ◌++◌, Option, None, Some, if◌then◌else◌, refl, sym, ap, ◌∙◌, subst, arith, inl, inr}
+use Rattle.std.proofs.Common.{◌≡◌, ℤ, pos, ◌+ℤ◌, ◌-ℤ◌, ◌≤ℤ◌, ◌<ℤ◌, Bool, true, false, not, ◌&&◌, ◌||◌, int_lt, List, []}
+use Rattle.std.proofs.Common.{◌∷◌, ◌++◌, Option, None, Some, if◌then◌else◌, refl, sym, ap, ◌∙◌, subst, arith, inl, inr}
 use Rattle.std.specs.Int.{int_min, int_max}
 use Rattle.std.specs.List.{list_any}
 use Rattle.std.proofs.lemmas.Bool.{true≢false, and_from, and_parts, or_cases, false_from_ne_true}
@@ -57,7 +58,8 @@ abbrev pub reached : ℤ → Option Interval → Bool
 reached z None = false
 reached z (Some i) = not (int_lt z i.low)
 
-pub inside_reached : (y z : ℤ) (is : List Interval) → AreApartFrom y is → is_inside is z ≡ reached z (first_reaching z is)
+pub inside_reached : (y z : ℤ) (is : List Interval) → AreApartFrom y is
+    → is_inside is z ≡ reached z (first_reaching z is)
 inside_reached y z [] a = refl
 inside_reached y z (i ∷ is) a = by (inside_reached (i.high +ℤ pos 2) z is a.2) (int_lt i.high z) refl
   where
@@ -74,38 +76,49 @@ inside_reached y z (i ∷ is) a = by (inside_reached (i.high +ℤ pos 2) z is a.
     by rest true e = later (not (int_lt z i.low)) (is_inside is z) ∙ rest
     by rest false e =
         let high : z ≤ℤ i.high = not_lower i.high z (ap not e) in
-        ap (λ b. (not (int_lt z i.low) && true) || b) (none_inside (i.high +ℤ pos 2) z is a.2 (omega (arith, ints, high)))
+        ap (λ b. (not (int_lt z i.low) && true) || b) (none_inside (i.high +ℤ pos 2) z is a.2
+        (omega (arith, ints, high)))
         ∙ here (not (int_lt z i.low))
 
 -- where the first one that does not end before n begins and ends
-pub found_from : (y n : ℤ) (is : List Interval) (i : Interval) → AreApartFrom y is → first_reaching n is ≡ Some i → (y ≤ℤ i.low) × (i.low ≤ℤ i.high) × (n ≤ℤ i.high)
+pub found_from : (y n : ℤ) (is : List Interval) (i : Interval) → AreApartFrom y is → first_reaching n is ≡ Some i
+    → (y ≤ℤ i.low) × (i.low ≤ℤ i.high) × (n ≤ℤ i.high)
 found_from y n [] i a h = let no : None ≡ Some i = h in absurd (cc)
 found_from y n (j ∷ js) i a h = by (λ f. found_from (j.high +ℤ pos 2) n js i a.2 f) (int_lt j.high n) refl h
   where
-    by : (first_reaching n js ≡ Some i → ((j.high +ℤ pos 2) ≤ℤ i.low) × (i.low ≤ℤ i.high) × (n ≤ℤ i.high)) → (t : Bool) → int_lt j.high n ≡ t → (if t then first_reaching n js else Some j) ≡ Some i → (y ≤ℤ i.low) × (i.low ≤ℤ i.high) × (n ≤ℤ i.high)
+    by : (first_reaching n js ≡ Some i → ((j.high +ℤ pos 2) ≤ℤ i.low) × (i.low ≤ℤ i.high) × (n ≤ℤ i.high)) → (t : Bool)
+        → int_lt j.high n ≡ t → (if t then first_reaching n js else Some j) ≡ Some i → (y ≤ℤ i.low) × (i.low ≤ℤ i.high)
+        × (n ≤ℤ i.high)
     by later true e f =
         let rest = later f in
         (omega (arith, ints, a.0, a.1, rest.0), rest.1, rest.2)
     by later false e f =
         let same : j ≡ i = cc in
-        let high : n ≤ℤ j.high = not_lower j.high n (ap not e) in
-        (subst (λ (k : Interval). y ≤ℤ k.low) same a.0, subst (λ (k : Interval). k.low ≤ℤ k.high) same a.1, subst (λ (k : Interval). n ≤ℤ k.high) same high)
+        let high : n ≤ℤ j.high = not_lower j.high n (ap not e) in (
+          subst (λ (k : Interval). y ≤ℤ k.low) same a.0,
+          subst (λ (k : Interval). k.low ≤ℤ k.high) same a.1,
+          subst (λ (k : Interval). n ≤ℤ k.high) same high,
+        )
 
 -- it is one of them
-pub kept_inside : (n z : ℤ) (is : List Interval) (i : Interval) → first_reaching n is ≡ Some i → lies_in z i ≡ true → is_inside is z ≡ true
+pub kept_inside : (n z : ℤ) (is : List Interval) (i : Interval) → first_reaching n is ≡ Some i → lies_in z i ≡ true
+    → is_inside is z ≡ true
 kept_inside n z [] i h l = let no : None ≡ Some i = h in absurd (cc)
 kept_inside n z (j ∷ js) i h l = by (λ f. kept_inside n z js i f l) (int_lt j.high n) h
   where
-    by : (first_reaching n js ≡ Some i → is_inside js z ≡ true) → (t : Bool) → (if t then first_reaching n js else Some j) ≡ Some i → (lies_in z j || is_inside js z) ≡ true
+    by : (first_reaching n js ≡ Some i → is_inside js z ≡ true) → (t : Bool)
+        → (if t then first_reaching n js else Some j) ≡ Some i → (lies_in z j || is_inside js z) ≡ true
     by later true f = ap (λ b. lies_in z j || b) (later f) ∙ or_true (lies_in z j)
     by later false f = let same : j ≡ i = cc in ap (λ b. b || is_inside js z) (ap (lies_in z) same ∙ l)
 
 -- the integer after it is left out
-pub gap_after : (y n : ℤ) (is : List Interval) (i : Interval) → AreApartFrom y is → first_reaching n is ≡ Some i → is_inside is (i.high +ℤ pos 1) ≡ false
+pub gap_after : (y n : ℤ) (is : List Interval) (i : Interval) → AreApartFrom y is → first_reaching n is ≡ Some i
+    → is_inside is (i.high +ℤ pos 1) ≡ false
 gap_after y n [] i a h = let no : None ≡ Some i = h in absurd (cc)
 gap_after y n (j ∷ js) i a h = by (λ f. gap_after (j.high +ℤ pos 2) n js i a.2 f) (int_lt j.high n) h
   where
-    by : (first_reaching n js ≡ Some i → is_inside js (i.high +ℤ pos 1) ≡ false) → (t : Bool) → (if t then first_reaching n js else Some j) ≡ Some i
+    by : (first_reaching n js ≡ Some i → is_inside js (i.high +ℤ pos 1) ≡ false) → (t : Bool)
+        → (if t then first_reaching n js else Some j) ≡ Some i
         → (lies_in (i.high +ℤ pos 1) j || is_inside js (i.high +ℤ pos 1)) ≡ false
     by later true f =
         let at = found_from (j.high +ℤ pos 2) n js i a.2 f in
@@ -118,11 +131,13 @@ gap_after y n (j ∷ js) i a h = by (λ f. gap_after (j.high +ℤ pos 2) n js i 
         ∙ none_inside (j.high +ℤ pos 2) (j.high +ℤ pos 1) js a.2 (omega (arith, ints)))
 
 -- an integer from n on that lies in one of them does not lie before it
-pub reached_later : (y n z : ℤ) (is : List Interval) → AreApartFrom y is → n ≤ℤ z → is_inside is z ≡ true → reached z (first_reaching n is) ≡ true
+pub reached_later : (y n z : ℤ) (is : List Interval) → AreApartFrom y is → n ≤ℤ z → is_inside is z ≡ true
+    → reached z (first_reaching n is) ≡ true
 reached_later y n z [] a l h = absurd (cc)
 reached_later y n z (j ∷ js) a l h = by (λ f. reached_later (j.high +ℤ pos 2) n z js a.2 l f) (int_lt j.high n) refl
   where
-    by : (is_inside js z ≡ true → reached z (first_reaching n js) ≡ true) → (t : Bool) → int_lt j.high n ≡ t → reached z (if t then first_reaching n js else Some j) ≡ true
+    by : (is_inside js z ≡ true → reached z (first_reaching n js) ≡ true) → (t : Bool) → int_lt j.high n ≡ t
+        → reached z (if t then first_reaching n js else Some j) ≡ true
     by later true e = elim (or_cases (lies_in z j) (is_inside js z) h) [
       | inl f ↦
           let at = ends j z f in
@@ -135,16 +150,20 @@ reached_later y n z (j ∷ js) a l h = by (λ f. reached_later (j.high +ℤ pos 
 
 -- ---- two that touch, as one
 
-pub joins_touching : (i j : Interval) (z : ℤ) → i.low ≤ℤ j.low → j.low ≤ℤ (i.high +ℤ pos 1) → lies_in z (joined i j) ≡ (lies_in z i || lies_in z j)
+pub joins_touching : (i j : Interval) (z : ℤ) → i.low ≤ℤ j.low → j.low ≤ℤ (i.high +ℤ pos 1) → lies_in z (joined i j)
+    ≡ (lies_in z i || lies_in z j)
 joins_touching i j z rises touches = same_tests (lies_in z (joined i j)) (lies_in z i || lies_in z j)
     (λ h.
     let at = ends (joined i j) z h in
     by_lt_z i.high z
-    (λ l. ap (λ b. lies_in z i || b) (within j z (omega (arith, ints, l, touches)) (omega (arith, ints, clamps, l, at.1))) ∙ or_true (lies_in z i))
+    (λ l. ap (λ b. lies_in z i || b) (within j z (omega (arith, ints, l, touches))
+    (omega (arith, ints, clamps, l, at.1))) ∙ or_true (lies_in z i))
     (λ g. ap (λ b. b || lies_in z j) (within i z (omega (arith, ints, clamps, rises, at.0)) g)))
     (λ h. elim (or_cases (lies_in z i) (lies_in z j) h) [
-      | inl f ↦ let at = ends i z f in within (joined i j) z (omega (arith, ints, clamps, at.0)) (omega (arith, ints, clamps, at.1))
-      | inr f ↦ let at = ends j z f in within (joined i j) z (omega (arith, ints, clamps, at.0)) (omega (arith, ints, clamps, at.1))
+      | inl f ↦ let at = ends i z f in within (joined i j) z (omega (arith, ints, clamps, at.0))
+          (omega (arith, ints, clamps, at.1))
+      | inr f ↦ let at = ends j z f in within (joined i j) z (omega (arith, ints, clamps, at.0))
+          (omega (arith, ints, clamps, at.1))
     ])
 
 pub joined_among : (front rest : List Interval) (i j : Interval) (z : ℤ) → i.low ≤ℤ j.low → j.low ≤ℤ (i.high +ℤ pos 1)

@@ -80,7 +80,8 @@ impl Interval {
 
     /// Whether the other one lies in this one, its ends included.
     pub fn includes(self, other: Interval) -> bool
-        ensures { result ≡ (not (int_lt (interval_view other).low (interval_view self).low) && not (int_lt (interval_view self).high (interval_view other).high)) }
+        ensures { result ≡ (not (int_lt (interval_view other).low (interval_view self).low) && not
+            (int_lt (interval_view self).high (interval_view other).high)) }
     {
         !other.low.is_below(self.low) && !self.high.is_below(other.high)
     }

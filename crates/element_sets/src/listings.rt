@@ -43,7 +43,8 @@ fn add_key<'a>(keys: &mut IndexSet<Key<'a>>, key: Key<'a>) -> Result<(), Memory>
 fn add_integers(keys: &mut IndexSet<Key<'_>>, first: i64, count: usize) -> Result<(), Memory>
     requires low { negsuc 999999 ≤ℤ first }
     requires high { (first +ℤ pos count) ≤ℤ pos 1000001 }
-    ensures { OnOk result (keys_view keys.new.keys ≡ fold set.with_element (keys_view keys.old.keys) (set.integers_from first count)) }
+    ensures { OnOk result (keys_view keys.new.keys ≡ fold set.with_element (keys_view keys.old.keys)
+        (set.integers_from first count)) }
 {
     for k in 0..count {
         add_key(keys, Key::Number(first + k as i64))?;
@@ -53,7 +54,8 @@ fn add_integers(keys: &mut IndexSet<Key<'_>>, first: i64, count: usize) -> Resul
 
 fn add_span(keys: &mut IndexSet<Key<'_>>, low: Whole, high: Whole) -> Result<(), Memory>
     requires { IsTrue (is_in_range (set.span (whole_view low) (whole_view high))) }
-    ensures { OnOk result (keys_view keys.new.keys ≡ fold set.with_element (keys_view keys.old.keys) (set.members (set.span (whole_view low) (whole_view high)))) }
+    ensures { OnOk result (keys_view keys.new.keys ≡ fold set.with_element (keys_view keys.old.keys)
+        (set.members (set.span (whole_view low) (whole_view high)))) }
 {
     let size = Interval { low, high }.size();
     if size > 0 {
@@ -65,7 +67,8 @@ fn add_span(keys: &mut IndexSet<Key<'_>>, low: Whole, high: Whole) -> Result<(),
 
 fn add_cell<'a>(keys: &mut IndexSet<Key<'a>>, cell: Cell<'a>) -> Result<(), Memory>
     requires { IsTrue (is_in_range (cell_view cell)) }
-    ensures { OnOk result (keys_view keys.new.keys ≡ fold set.with_element (keys_view keys.old.keys) (set.members (cell_view cell.entry))) }
+    ensures { OnOk result (keys_view keys.new.keys ≡ fold set.with_element (keys_view keys.old.keys)
+        (set.members (cell_view cell.entry))) }
 {
     match cell {
         Cell::One(x) => match x {

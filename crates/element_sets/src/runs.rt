@@ -16,7 +16,8 @@ use std::alloc::Global;
 fn joined_runs(alloc: Global, rising: &[Interval]) -> Result<Vec<Interval>, Memory>
     requires { (start : ℤ) × AreRisingFrom start (map interval_view rising.now) }
     ensures apart { IfOk result (λ is. AreApart (map interval_view is.items)) }
-    ensures same { IfOk result (λ is. (z : ℤ) → is_inside (map interval_view is.items) z ≡ is_inside (map interval_view rising.now) z) }
+    ensures same { IfOk result (λ is. (z : ℤ) → is_inside (map interval_view is.items) z ≡ is_inside
+        (map interval_view rising.now) z) }
 {
     let mut runs = Vec::new(alloc);
     let Some((first, rest)) = rising.split_first() else {
@@ -39,7 +40,8 @@ fn joined_runs(alloc: Global, rising: &[Interval]) -> Result<Vec<Interval>, Memo
 pub fn merged(alloc: Global, mut intervals: Vec<Interval>) -> Result<Vec<Interval>, Memory>
     requires { list_any is_hollow (map interval_view intervals.items) ≡ false }
     ensures apart { IfOk result (λ is. AreApart (map interval_view is.items)) }
-    ensures same { IfOk result (λ is. (z : ℤ) → is_inside (map interval_view is.items) z ≡ is_inside (map interval_view intervals.items) z) }
+    ensures same { IfOk result (λ is. (z : ℤ) → is_inside (map interval_view is.items) z ≡ is_inside
+        (map interval_view intervals.items) z) }
 {
     intervals.sort_by_key(|interval| interval.low.value())?;
     let runs = joined_runs(alloc, &intervals)?;
@@ -54,7 +56,8 @@ fn interval_at(runs: &[Interval], at: usize) -> Option<Interval>
 
 /// The first of the intervals that does not end before the integer.
 pub fn reaching(runs: &[Interval], n: Whole) -> Option<Interval>
-    ensures { AreApart (map interval_view runs.now) → option_map interval_view result ≡ first_reaching (whole_view n) (map interval_view runs.now) }
+    ensures { AreApart (map interval_view runs.now) → option_map interval_view result ≡ first_reaching (whole_view n)
+        (map interval_view runs.now) }
 {
     let at = runs.partition_point(|interval| interval.high.is_below(n));
     interval_at(runs, at)

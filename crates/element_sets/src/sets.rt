@@ -37,7 +37,8 @@ fn capped_size(interval: Interval) -> u64
 }
 
 fn add_word<'a>(words: &mut IndexSet<&'a [u8]>, word: &'a [u8]) -> Result<(), Memory>
-    ensures { OnOk result ((ws : List Text) → AreSameWords (map (λ w. w.now) words.old.keys) ws → AreSameWords (map (λ w. w.now) words.new.keys) (set.with_word ws word.now)) }
+    ensures { OnOk result ((ws : List Text) → AreSameWords (map (λ w. w.now) words.old.keys) ws
+        → AreSameWords (map (λ w. w.now) words.new.keys) (set.with_word ws word.now)) }
 {
     words.insert_full(word)?;
     Ok(())
@@ -45,8 +46,11 @@ fn add_word<'a>(words: &mut IndexSet<&'a [u8]>, word: &'a [u8]) -> Result<(), Me
 
 /// One more interval, unless it is empty.
 fn add_interval(intervals: &mut Vec<Interval>, interval: Interval) -> Result<(), Memory>
-    ensures hollow { OnOk result (list_any is_hollow (map interval_view intervals.old.items) ≡ false → list_any is_hollow (map interval_view intervals.new.items) ≡ false) }
-    ensures inside { OnOk result ((z : ℤ) → is_inside (map interval_view intervals.new.items) z ≡ (is_inside (map interval_view intervals.old.items) z || set.is_between (interval_view interval).low (interval_view interval).high z)) }
+    ensures hollow { OnOk result (list_any is_hollow (map interval_view intervals.old.items) ≡ false
+        → list_any is_hollow (map interval_view intervals.new.items) ≡ false) }
+    ensures inside { OnOk result ((z : ℤ) → is_inside (map interval_view intervals.new.items) z
+        ≡ (is_inside (map interval_view intervals.old.items) z || set.is_between (interval_view interval).low
+        (interval_view interval).high z)) }
 {
     if !interval.is_empty() {
         intervals.push(interval)?;
@@ -60,9 +64,13 @@ fn add_cell<'a>(
     intervals: &mut Vec<Interval>,
     cell: Cell<'a>,
 ) -> Result<(), Memory>
-    ensures words { OnOk result ((ws : List Text) → AreSameWords (map (λ w. w.now) words.old.keys) ws → AreSameWords (map (λ w. w.now) words.new.keys) (fold set.with_word ws (set.words_in (cell_view cell.entry)))) }
-    ensures hollow { OnOk result (list_any is_hollow (map interval_view intervals.old.items) ≡ false → list_any is_hollow (map interval_view intervals.new.items) ≡ false) }
-    ensures inside { OnOk result ((z : ℤ) → is_inside (map interval_view intervals.new.items) z ≡ (is_inside (map interval_view intervals.old.items) z || set.is_in (elem.Num z) (cell_view cell.entry))) }
+    ensures words { OnOk result ((ws : List Text) → AreSameWords (map (λ w. w.now) words.old.keys) ws
+        → AreSameWords (map (λ w. w.now) words.new.keys) (fold set.with_word ws
+        (set.words_in (cell_view cell.entry)))) }
+    ensures hollow { OnOk result (list_any is_hollow (map interval_view intervals.old.items) ≡ false
+        → list_any is_hollow (map interval_view intervals.new.items) ≡ false) }
+    ensures inside { OnOk result ((z : ℤ) → is_inside (map interval_view intervals.new.items) z
+        ≡ (is_inside (map interval_view intervals.old.items) z || set.is_in (elem.Num z) (cell_view cell.entry))) }
 {
     match cell {
         Cell::One(x) => match x {
@@ -90,7 +98,8 @@ impl<'a> ElementSet<'a> {
     }
 
     fn has_number(&self, n: Whole) -> bool
-        ensures { (cells : List set.Cell) → IsSetOf cells self.now → result ≡ set.is_among cells (elem.Num (whole_view n)) }
+        ensures { (cells : List set.Cell) → IsSetOf cells self.now
+            → result ≡ set.is_among cells (elem.Num (whole_view n)) }
     {
         match reaching(&self.intervals, n) {
             Some(interval) => !n.is_below(interval.low),
@@ -120,7 +129,8 @@ impl<'a> ElementSet<'a> {
 
     /// Whether each integer of the interval is in the set: all lie in one interval, since there are gaps between these.
     fn covers_interval(&self, wanted: Interval) -> bool
-        ensures { (cells : List set.Cell) → IsSetOf cells self.now → result ≡ set.is_covered cells (set.span (whole_view wanted.low) (whole_view wanted.high)) }
+        ensures { (cells : List set.Cell) → IsSetOf cells self.now → result ≡ set.is_covered cells
+            (set.span (whole_view wanted.low) (whole_view wanted.high)) }
     {
         if wanted.is_empty() {
             return true;
@@ -133,7 +143,8 @@ impl<'a> ElementSet<'a> {
 
     /// Whether each element of the cell is in the set.
     pub fn covers(&self, cell: Cell<'a>) -> bool
-        ensures { (cells : List set.Cell) → IsSetOf cells self.now → result ≡ set.is_covered cells (cell_view cell.entry) }
+        ensures { (cells : List set.Cell) → IsSetOf cells self.now → result ≡ set.is_covered cells
+            (cell_view cell.entry) }
     {
         match cell {
             Cell::One(x) => self.contains(x),
@@ -143,7 +154,8 @@ impl<'a> ElementSet<'a> {
 
     /// Whether some integer of the interval is in the set.
     fn meets_interval(&self, wanted: Interval) -> bool
-        ensures { (cells : List set.Cell) → IsSetOf cells self.now → result ≡ list_any (set.do_share (set.span (whole_view wanted.low) (whole_view wanted.high))) cells }
+        ensures { (cells : List set.Cell) → IsSetOf cells self.now
+            → result ≡ list_any (set.do_share (set.span (whole_view wanted.low) (whole_view wanted.high))) cells }
     {
         if wanted.is_empty() {
             return false;
@@ -156,7 +168,8 @@ impl<'a> ElementSet<'a> {
 
     /// Whether some element of the cell is in the set.
     pub fn meets(&self, cell: Cell<'a>) -> bool
-        ensures { (cells : List set.Cell) → IsSetOf cells self.now → result ≡ list_any (set.do_share (cell_view cell.entry)) cells }
+        ensures { (cells : List set.Cell) → IsSetOf cells self.now
+            → result ≡ list_any (set.do_share (cell_view cell.entry)) cells }
     {
         match cell {
             Cell::One(x) => self.contains(x),

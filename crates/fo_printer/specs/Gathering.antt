@@ -5,7 +5,8 @@ use Rattle.kb_logic.specs.declared.elements.Elem.{Elem}
 use Rattle.kb_logic.specs.declared.vocabularies.Symbol.{Symbol}
 use Rattle.kb_logic.specs.KnownAtoms.{KnownAtoms}
 use Rattle.kb_logic.specs.Models.{GroundAtom, IsAtomOver}
-use Rattle.block_texts.specs.Entries.{PlainRow, is_some_row, where_none, is_settled, rows_where, rows_at, is_whole, true_rows, false_rows}
+use Rattle.block_texts.specs.Entries.{PlainRow, is_some_row, where_none, is_settled, rows_where, rows_at, is_whole}
+use Rattle.block_texts.specs.Entries.{true_rows, false_rows}
 use Rattle.block_texts.specs.Texts.{next_row_text, rows_text}
 use Rattle.fo_printer.specs.declared.rows.RowText.{RowText}
 use Rattle.fo_printer.specs.declared.gathering.SymbolText.{SymbolText}
@@ -40,7 +41,8 @@ HasNotedAtoms k value atoms old new =
 -- an atom of a function with these arguments and one of these values is one over what is known
 abbrev pub AreAtomsOver : KnownAtoms → ℕ → List Elem → List Elem → Type 0
 AreAtomsOver k number args values =
-    (x : Elem) → Contains values x → IsAtomOver k.symbols k.domains (record { symbol = number; args = args; value = Some x })
+    (x : Elem) → Contains values x → IsAtomOver k.symbols k.domains
+    (record { symbol = number; args = args; value = Some x })
 
 -- the rows for these tuples of arguments are noted
 abbrev pub HasGathered : KnownAtoms → ℕ × Symbol → List (List Elem) → SymbolText → SymbolText → Type 0

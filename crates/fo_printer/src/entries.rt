@@ -3,7 +3,8 @@ ghost use Rattle.std.specs.Prelude.{◌≡◌, ◌++◌, None, Some, OnOk, codes
 ghost use Rattle.std.specs.List.{enumerate_from};
 ghost use Rattle.kb_logic.specs.Models.{IsAtomOver};
 ghost use Rattle.kb_logic.specs.Structures.{domain_at};
-ghost use Rattle.block_texts.specs.Entries.{alone, function_atoms, is_some_row, list_of, lone_value, marked, rows_where, symbol_entries, true_rows, whole_value};
+ghost use Rattle.block_texts.specs.Entries.{alone, function_atoms, is_some_row, list_of, lone_value, marked};
+ghost use Rattle.block_texts.specs.Entries.{rows_where, symbol_entries, true_rows, whole_value};
 ghost use Rattle.block_texts.specs.Texts.{entries_text, next_row_text, rows_text, truth_text, value_text};
 ghost use Rattle.fo_printer.specs.Gathering.{AreAtomsOver, IsGathered, IsRowText};
 
@@ -17,7 +18,8 @@ use std::alloc::Global;
 
 /// The entry of a type, unless its elements' names are declared with it.
 pub(crate) fn push_type(out: &mut Vec<u8>, decl: &TypeDecl, domain: &[Elem]) -> Result<(), Memory>
-    ensures { OnOk result (out.new.items ≡ out.old.items ++ entries_text (list_of decl.now.name decl.now.made domain.now)) }
+    ensures { OnOk result (out.new.items ≡ out.old.items ++ entries_text
+        (list_of decl.now.name decl.now.made domain.now)) }
 {
     if !decl.made.is_empty() {
         return Ok(());
@@ -122,7 +124,8 @@ fn push_lone(
     requires declared { slice_get s.now.symbols number ≡ Some symbol.now }
     requires lone { symbol.now.args ≡ [] }
     requires rows { some ≡ is_some_row (true_rows s.now (number, symbol.now)) }
-    ensures { OnOk result (out.new.items ≡ out.old.items ++ value_text (lone_value (true_rows s.now (number, symbol.now)))) }
+    ensures { OnOk result (out.new.items ≡ out.old.items ++ value_text
+        (lone_value (true_rows s.now (number, symbol.now)))) }
 {
     match symbol.value {
         None => push_bytes(out, truth(some)),

@@ -34,7 +34,8 @@ use kb_logic::{AggKind, Bound, Cmp, ExtInt, Formula, Memory, Name, Signed, Term,
 use literal_printer::pieces::push_bytes;
 use std::alloc::Global;
 
-/// Appends a closed formula. Each formula but `true`, `false` and an atom stands in parentheses, and so does each sum and
+/// Appends a closed formula. Each formula but `true`, `false` and an atom stands in parentheses, and so does each sum
+/// and
 /// product; a bound variable is written with its type, as `x[T]`. Where memory runs out, nothing is appended.
 ///
 /// Where each number's word means that number among the names, and no token lies too deep, the text is that of one
@@ -228,7 +229,8 @@ fn push_formula(
     vocab: &Vocabulary,
     formula: &Formula,
 ) -> Result<(), Memory>
-    ensures text { OnOk result (out.new.items ≡ out.old.items ++ formula_text vocab.now scope.old.items (formula_view formula.now)) }
+    ensures text { OnOk result (out.new.items ≡ out.old.items ++ formula_text vocab.now scope.old.items
+        (formula_view formula.now)) }
     ensures same { OnOk result (scope.new.items ≡ scope.old.items) }
 {
     match formula {
@@ -310,7 +312,8 @@ fn push_formulas(
     sep: &[u8],
     formulas: &[Formula],
 ) -> Result<(), Memory>
-    ensures text { OnOk result (out.new.items ≡ out.old.items ++ formulas_text vocab.now scope.old.items sep.now (formulas_of (map formula_view formulas.now))) }
+    ensures text { OnOk result (out.new.items ≡ out.old.items ++ formulas_text vocab.now scope.old.items sep.now
+        (formulas_of (map formula_view formulas.now))) }
     ensures same { OnOk result (scope.new.items ≡ scope.old.items) }
 {
     let Some((first, others)) = formulas.split_first() else {
@@ -331,7 +334,8 @@ fn push_term(
     vocab: &Vocabulary,
     term: &Term,
 ) -> Result<(), Memory>
-    ensures text { OnOk result (out.new.items ≡ out.old.items ++ term_text vocab.now scope.old.items (term_view term.now)) }
+    ensures text { OnOk result (out.new.items ≡ out.old.items ++ term_text vocab.now scope.old.items
+        (term_view term.now)) }
     ensures same { OnOk result (scope.new.items ≡ scope.old.items) }
 {
     match term {
@@ -373,7 +377,8 @@ fn push_weight(
     kind: AggKind,
     weight: &Term,
 ) -> Result<(), Memory>
-    ensures text { OnOk result (out.new.items ≡ out.old.items ++ with_weight kind (term_text vocab.now scope.old.items (term_view weight.now))) }
+    ensures text { OnOk result (out.new.items ≡ out.old.items ++ with_weight kind
+        (term_text vocab.now scope.old.items (term_view weight.now))) }
     ensures same { OnOk result (scope.new.items ≡ scope.old.items) }
 {
     match kind {
@@ -391,7 +396,8 @@ fn push_last(
     vocab: &Vocabulary,
     weight: &Term,
 ) -> Result<(), Memory>
-    ensures text { OnOk result (out.new.items ≡ out.old.items ++ (codes ": " ++ (term_text vocab.now scope.old.items (term_view weight.now) ++ codes "}"))) }
+    ensures text { OnOk result (out.new.items ≡ out.old.items ++
+        (codes ": " ++ (term_text vocab.now scope.old.items (term_view weight.now) ++ codes "}"))) }
     ensures same { OnOk result (scope.new.items ≡ scope.old.items) }
 {
     push_bytes(out, b": ")?;
@@ -407,7 +413,8 @@ fn push_terms(
     sep: &[u8],
     terms: &[Term],
 ) -> Result<(), Memory>
-    ensures text { OnOk result (out.new.items ≡ out.old.items ++ terms_text vocab.now scope.old.items sep.now (terms_of (map term_view terms.now))) }
+    ensures text { OnOk result (out.new.items ≡ out.old.items ++ terms_text vocab.now scope.old.items sep.now
+        (terms_of (map term_view terms.now))) }
     ensures same { OnOk result (scope.new.items ≡ scope.old.items) }
 {
     let Some((first, others)) = terms.split_first() else {
@@ -429,7 +436,8 @@ fn push_arguments(
     word: &[u8],
     terms: &[Term],
 ) -> Result<(), Memory>
-    ensures text { OnOk result (out.new.items ≡ out.old.items ++ arguments_text vocab.now scope.old.items word.now (terms_of (map term_view terms.now))) }
+    ensures text { OnOk result (out.new.items ≡ out.old.items ++ arguments_text vocab.now scope.old.items word.now
+        (terms_of (map term_view terms.now))) }
     ensures same { OnOk result (scope.new.items ≡ scope.old.items) }
 {
     if terms.is_empty() {
@@ -447,7 +455,8 @@ fn push_summands(
     vocab: &Vocabulary,
     parts: &[Signed],
 ) -> Result<(), Memory>
-    ensures text { OnOk result (out.new.items ≡ out.old.items ++ summands_text vocab.now scope.old.items (summands_of (map signed_view parts.now))) }
+    ensures text { OnOk result (out.new.items ≡ out.old.items ++ summands_text vocab.now scope.old.items
+        (summands_of (map signed_view parts.now))) }
     ensures same { OnOk result (scope.new.items ≡ scope.old.items) }
 {
     let Some((first, others)) = parts.split_first() else {
@@ -468,7 +477,8 @@ fn push_signed(
     vocab: &Vocabulary,
     part: &Signed,
 ) -> Result<(), Memory>
-    ensures text { OnOk result (out.new.items ≡ out.old.items ++ term_text vocab.now scope.old.items (signed_view part.now).1) }
+    ensures text { OnOk result (out.new.items ≡ out.old.items ++ term_text vocab.now scope.old.items
+        (signed_view part.now).1) }
     ensures same { OnOk result (scope.new.items ≡ scope.old.items) }
 {
     push_term(out, scope, vocab, &part.term)
@@ -481,7 +491,8 @@ fn push_first(
     vocab: &Vocabulary,
     part: &Signed,
 ) -> Result<(), Memory>
-    ensures text { OnOk result (out.new.items ≡ out.old.items ++ (minus_text (signed_view part.now).0 ++ term_text vocab.now scope.old.items (signed_view part.now).1)) }
+    ensures text { OnOk result (out.new.items ≡ out.old.items ++
+        (minus_text (signed_view part.now).0 ++ term_text vocab.now scope.old.items (signed_view part.now).1)) }
     ensures same { OnOk result (scope.new.items ≡ scope.old.items) }
 {
     push_bytes(out, minus_sign(part.minus))?;

@@ -12,7 +12,8 @@ use kb_logic::{Elem, ElemList, Literal, Memory, Symbol};
 use partial_structures::{Partial, Truth};
 use std::alloc::Global;
 
-/// The rows of a symbol that are certainly true, those that are certainly false and that no value of a function implies,
+/// The rows of a symbol that are certainly true, those that are certainly false and that no value of a function
+/// implies,
 /// and whether all is known of the symbol.
 #[derive(Drop)]
 pub(crate) struct SymbolText {
@@ -109,7 +110,8 @@ impl SymbolText {
     }
 }
 
-/// Adds the rows of a function's atoms with these values that are certainly true, or certainly false, and returns whether
+/// Adds the rows of a function's atoms with these values that are certainly true, or certainly false, and returns
+/// whether
 /// there are any.
 fn add_values(
     alloc: Global,

@@ -3,8 +3,12 @@ use Rattle.std.proofs.Common.{◌≡◌, ℕ, List, [], ◌∷◌, true, Option,
 use Rattle.fo_syntax.specs.declared.terminal.Terminal.TheVariants as t
 use Rattle.fo_syntax.specs.declared.terminal.Outer.TheVariants as o
 use Rattle.fo_syntax.specs.Terminals.{Symbol, Tok, tok_at, mark, sign}
-use Rattle.fo_syntax.specs.Trees.{name, untyped, typed, Vars, var, beside, comma, Formula, alone, linked, Or, one, or, And, single, and, Unary, not, every, some, prim, Prim, group, truth, atom, compare, Term, product, sum, Product, factor, times, Factor, integer, value, brackets, negative, count, aggregate, App, constant, empty, apply}
-use Rattle.fo_syntax.specs.Spelling.{put_vars, put_formula, put_links, put_or, put_and, put_unary, put_prim, put_term, put_product, put_factor, put_app}
+use Rattle.fo_syntax.specs.Trees.{name, untyped, typed, Vars, var, beside, comma, Formula, alone, linked, Or, one, or}
+use Rattle.fo_syntax.specs.Trees.{And, single, and, Unary, not, every, some, prim, Prim, group, truth, atom, compare}
+use Rattle.fo_syntax.specs.Trees.{Term, product, sum, Product, factor, times, Factor, integer, value, brackets}
+use Rattle.fo_syntax.specs.Trees.{negative, count, aggregate, App, constant, empty, apply}
+use Rattle.fo_syntax.specs.Spelling.{put_vars, put_formula, put_links, put_or, put_and, put_unary, put_prim, put_term}
+use Rattle.fo_syntax.specs.Spelling.{put_product, put_factor, put_app}
 use Rattle.fo_syntax.specs.Fine.{FineFormula, FineTerm, FineApp}
 use Rattle.token_reader.specs.Parts.{EndsFactor, EndsTerm}
 use Rattle.block_reader.specs.BlockParts.{next, Anything, Is, AWord}
@@ -15,7 +19,8 @@ use Rattle.token_reader.proofs.Only.{only_vars, only_formula, only_term, only_ap
 use Rattle.block_reader.proofs.Formats.{Format, Law}
 
 -- what is so wherever this symbol comes
-came : (P : List Tok → Type 0) (r : Symbol) → ((p : ℕ) (us : List Tok) → P (tok_at r p ∷ us)) → (ts : List Tok) → next ts ≡ Some r → P ts
+came : (P : List Tok → Type 0) (r : Symbol) → ((p : ℕ) (us : List Tok) → P (tok_at r p ∷ us)) → (ts : List Tok)
+    → next ts ≡ Some r → P ts
 came P r f [] e = absurd (cc)
 came P r f (tok_at s p ∷ ts) e = let g : r ≡ s = cc in subst (λ (x : Symbol). P (tok_at x p ∷ ts)) g (f p ts)
 
@@ -169,5 +174,6 @@ formula_law = record {
   some_fine = tt;
   appends = formula-append;
   first = λ a ts h n. begins_formula a ts;
-  only = λ a b m n h k z w e. only_formula a b m n h k (all_stop_formula a m (formula_ended m z)) (all_stop_formula b n (formula_ended n w)) e;
+  only = λ a b m n h k z w e. only_formula a b m n h k (all_stop_formula a m (formula_ended m z))
+      (all_stop_formula b n (formula_ended n w)) e;
 }

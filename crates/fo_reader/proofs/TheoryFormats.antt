@@ -5,17 +5,25 @@ use Rattle.fo_syntax.specs.declared.terminal.Outer.TheVariants as o
 use Rattle.fo_syntax.specs.declared.terminal.Comparison.TheVariants as cmp
 use Rattle.fo_syntax.specs.Terminals.{Symbol, Tok}
 use Rattle.fo_syntax.specs.Trees.{Vars, Formula, Term, App}
-use Rattle.fo_syntax.specs.BlockTrees.{Vocabulary, Header, Binding, binding, Head, atom_head, value_head, Rule, rule, TheoryItem, sentence, definition, Theory, theory, TermBlock, term_block, Structure, Block, vocabulary_block, theory_block, structure_block, value_block, procedure}
-use Rattle.fo_syntax.specs.BlockSpelling.{put_binding, put_head, put_rule, put_theory_item, put_theory, put_term_block, put_block}
-use Rattle.fo_syntax.specs.BlockFine.{FineHead, FineBody, FineRule, FineTheoryItem, FineTheory, FineTermBlock, FineBlock}
+use Rattle.fo_syntax.specs.BlockTrees.{Vocabulary, Header, Binding, binding, Head, atom_head, value_head, Rule, rule}
+use Rattle.fo_syntax.specs.BlockTrees.{TheoryItem, sentence, definition, Theory, theory, TermBlock, term_block}
+use Rattle.fo_syntax.specs.BlockTrees.{Structure, Block, vocabulary_block, theory_block, structure_block, value_block}
+use Rattle.fo_syntax.specs.BlockTrees.{procedure}
+use Rattle.fo_syntax.specs.BlockSpelling.{put_binding, put_head, put_rule, put_theory_item, put_theory, put_term_block}
+use Rattle.fo_syntax.specs.BlockSpelling.{put_block}
+use Rattle.fo_syntax.specs.BlockFine.{FineHead, FineBody, FineRule, FineTheoryItem, FineTheory, FineTermBlock}
+use Rattle.fo_syntax.specs.BlockFine.{FineBlock}
 use Rattle.block_reader.specs.BlockParts.{Anything, No, Is, AWord}
 use Rattle.fo_reader.specs.TheoryReads.{EndsApp, EndsSum}
 use Rattle.block_reader.specs.BlockParts.{EndsHead}
-use Rattle.block_reader.proofs.Formats.{Format, Law, Into, Apart, sign_format, sign_law, then, then_law, option, Optional, option_law, each, Several, each_law, either, Alternatives, either_law, Same, same_law, behind, behind_law, optional_behind}
+use Rattle.block_reader.proofs.Formats.{Format, Law, Into, Apart, sign_format, sign_law, then, then_law, option}
+use Rattle.block_reader.proofs.Formats.{Optional, option_law, each, Several, each_law, either, Alternatives, either_law}
+use Rattle.block_reader.proofs.Formats.{Same, same_law, behind, behind_law, optional_behind}
 use Rattle.block_reader.proofs.Plain as plain
 use Rattle.block_reader.proofs.BlockFormats.{word_no, vocabulary_format, vocabulary_law}
 use Rattle.block_reader.proofs.StructureFormats.{header_format, header_law, structure_format, structure_law}
-use Rattle.fo_reader.proofs.FormulaFormats.{vars_format, vars_law, app_format, app_law, term_format, term_law, BeginsFormula, formula_format, formula_law}
+use Rattle.fo_reader.proofs.FormulaFormats.{vars_format, vars_law, app_format, app_law, term_format, term_law}
+use Rattle.fo_reader.proofs.FormulaFormats.{BeginsFormula, formula_format, formula_law}
 
 -- ---- rules
 
@@ -57,7 +65,12 @@ pub every_binding_law : plain.Law binding_format
 every_binding_law = record { law = binding_law; total = λ a. tt }
 
 pub bindings_several : plain.Several binding_format AWord
-bindings_several = record { law = every_binding_law; ends = λ s h. tt; apart = λ s w e. word_no s w t.Every e; follows = λ s h. tt }
+bindings_several = record {
+  law = every_binding_law;
+  ends = λ s h. tt;
+  apart = λ s w e. word_no s w t.Every e;
+  follows = λ s h. tt;
+}
 
 head_no_equal : Into EndsHead (No (t.Compare cmp.Equal))
 head_no_equal s (inl e) f = cc
@@ -71,7 +84,12 @@ abbrev pub head_value : Format (Option (ℕ × Term))
 head_value = option (behind (t.Compare cmp.Equal) term_format) EndsHead
 
 pub head_value_optional : Optional (behind (t.Compare cmp.Equal) term_format) EndsHead
-head_value_optional = record { law = then_law (sign_law (t.Compare cmp.Equal)) term_law (λ s h. tt); ends = head_ends_sum; apart = head_no_equal }
+head_value_optional = record {
+  law = then_law (sign_law (t.Compare cmp.Equal)) term_law (λ s h. tt);
+  ends =
+      head_ends_sum;
+  apart = head_no_equal;
+}
 
 value_into : Into (λ s. Is (t.Compare cmp.Equal) s ⊎ EndsHead s) EndsApp
 value_into s (inl e) = subst EndsApp (sym e) tt
@@ -273,7 +291,14 @@ abbrev pub theory_item_parts : Format ItemParts
 theory_item_parts = either sentence_parts definition_parts Anything
 
 pub theory_item_alternatives : Alternatives sentence_parts definition_parts Anything
-theory_item_alternatives = record { left = sentence_law; right = behind_law t.OpenBrace closed_rules_law; apart = λ s h e. subst BeginsFormula e h; ends_left = λ s h. h; ends_right = λ s h. h }
+theory_item_alternatives = record {
+  left = sentence_law;
+  right = behind_law t.OpenBrace closed_rules_law;
+  apart =
+      λ s h e. subst BeginsFormula e h;
+  ends_left = λ s h. h;
+  ends_right = λ s h. h;
+}
 
 abbrev pub BeginsItem : Option Symbol → Type 0
 BeginsItem s = BeginsFormula s ⊎ Is t.OpenBrace s
@@ -293,11 +318,13 @@ theory_item_there : (a : TheoryItem) → theory_item_from (theory_item_to a) ≡
 theory_item_there (sentence f d) = refl
 theory_item_there (definition b rs e) = refl
 
-theory_item_written : (a : TheoryItem) (ts : List Tok) → put_theory_item a ts ≡ theory_item_parts.put (theory_item_to a) ts
+theory_item_written : (a : TheoryItem) (ts : List Tok) → put_theory_item a ts ≡ theory_item_parts.put
+    (theory_item_to a) ts
 theory_item_written (sentence f d) ts = refl
 theory_item_written (definition b rs e) ts = refl
 
-theory_item_back : (b : ItemParts) (ts : List Tok) → put_theory_item (theory_item_from b) ts ≡ theory_item_parts.put b ts
+theory_item_back : (b : ItemParts) (ts : List Tok) → put_theory_item (theory_item_from b) ts
+    ≡ theory_item_parts.put b ts
 theory_item_back (inl (f, d)) ts = refl
 theory_item_back (inr (b, (rs, e))) ts = refl
 
@@ -414,7 +441,8 @@ term_block_format = record { put = put_term_block; Fine = FineTermBlock; First =
 abbrev term_block_to : TermBlock → Header × (Term × (Option ℕ × ℕ))
 term_block_to (term_block h x d e) = (h, (x, (d, e)))
 
-term_block_there : (a : TermBlock) → term_block (term_block_to a).0 (term_block_to a).1.0 (term_block_to a).1.1.0 (term_block_to a).1.1.1 ≡ a
+term_block_there : (a : TermBlock) → term_block (term_block_to a).0 (term_block_to a).1.0 (term_block_to a).1.1.0
+    (term_block_to a).1.1.1 ≡ a
 term_block_there (term_block h x d e) = refl
 
 term_block_written : (a : TermBlock) (ts : List Tok) → put_term_block a ts ≡ term_block_parts.put (term_block_to a) ts
@@ -448,7 +476,13 @@ procedure_apart : Apart (Is (t.Outer o.Term)) (Is (t.Outer o.Procedure))
 procedure_apart s e f = cc
 
 pub value_alternatives : Alternatives term_block_format (sign_format (t.Outer o.Procedure)) Anything
-value_alternatives = record { left = term_block_law; right = sign_law (t.Outer o.Procedure); apart = procedure_apart; ends_left = λ s h. h; ends_right = λ s h. h }
+value_alternatives = record {
+  left = term_block_law;
+  right = sign_law (t.Outer o.Procedure);
+  apart = procedure_apart;
+  ends_left = λ s h. h;
+  ends_right = λ s h. h;
+}
 
 abbrev pub structures_or_others : Format (Structure ⊎ (TermBlock ⊎ ℕ))
 structures_or_others = either structure_format values_or_procedures Anything
@@ -458,18 +492,32 @@ structure_apart s e (inl f) = cc
 structure_apart s e (inr f) = cc
 
 pub structure_alternatives : Alternatives structure_format values_or_procedures Anything
-structure_alternatives = record { left = structure_law.law; right = either_law value_alternatives; apart = structure_apart; ends_left = λ s h. h; ends_right = λ s h. h }
+structure_alternatives = record {
+  left = structure_law.law;
+  right = either_law value_alternatives;
+  apart =
+      structure_apart;
+  ends_left = λ s h. h;
+  ends_right = λ s h. h;
+}
 
 abbrev pub theories_or_others : Format (Theory ⊎ (Structure ⊎ (TermBlock ⊎ ℕ)))
 theories_or_others = either theory_format structures_or_others Anything
 
-theory_apart : Apart (Is (t.Outer o.Theory)) (λ s. Is (t.Outer o.Structure) s ⊎ (Is (t.Outer o.Term) s ⊎ Is (t.Outer o.Procedure) s))
+theory_apart : Apart (Is (t.Outer o.Theory)) (λ s. Is (t.Outer o.Structure) s
+    ⊎ (Is (t.Outer o.Term) s ⊎ Is (t.Outer o.Procedure) s))
 theory_apart s e (inl f) = cc
 theory_apart s e (inr (inl f)) = cc
 theory_apart s e (inr (inr f)) = cc
 
 pub theory_alternatives : Alternatives theory_format structures_or_others Anything
-theory_alternatives = record { left = theory_law; right = either_law structure_alternatives; apart = theory_apart; ends_left = λ s h. h; ends_right = λ s h. h }
+theory_alternatives = record {
+  left = theory_law;
+  right = either_law structure_alternatives;
+  apart = theory_apart;
+  ends_left = λ s h. h;
+  ends_right = λ s h. h;
+}
 
 abbrev pub BlockParts : Type 0
 BlockParts = Vocabulary ⊎ (Theory ⊎ (Structure ⊎ (TermBlock ⊎ ℕ)))
@@ -477,17 +525,26 @@ BlockParts = Vocabulary ⊎ (Theory ⊎ (Structure ⊎ (TermBlock ⊎ ℕ)))
 abbrev pub block_parts : Format BlockParts
 block_parts = either vocabulary_format theories_or_others Anything
 
-vocabulary_apart : Apart (Is (t.Outer o.Vocabulary)) (λ s. Is (t.Outer o.Theory) s ⊎ (Is (t.Outer o.Structure) s ⊎ (Is (t.Outer o.Term) s ⊎ Is (t.Outer o.Procedure) s)))
+vocabulary_apart : Apart (Is (t.Outer o.Vocabulary)) (λ s. Is (t.Outer o.Theory) s
+    ⊎ (Is (t.Outer o.Structure) s ⊎ (Is (t.Outer o.Term) s ⊎ Is (t.Outer o.Procedure) s)))
 vocabulary_apart s e (inl f) = cc
 vocabulary_apart s e (inr (inl f)) = cc
 vocabulary_apart s e (inr (inr (inl f))) = cc
 vocabulary_apart s e (inr (inr (inr f))) = cc
 
 pub block_alternatives : Alternatives vocabulary_format theories_or_others Anything
-block_alternatives = record { left = vocabulary_law.law; right = either_law theory_alternatives; apart = vocabulary_apart; ends_left = λ s h. h; ends_right = λ s h. h }
+block_alternatives = record {
+  left = vocabulary_law.law;
+  right = either_law theory_alternatives;
+  apart =
+      vocabulary_apart;
+  ends_left = λ s h. h;
+  ends_right = λ s h. h;
+}
 
 abbrev pub BeginsBlock : Option Symbol → Type 0
-BeginsBlock s = Is (t.Outer o.Vocabulary) s ⊎ (Is (t.Outer o.Theory) s ⊎ (Is (t.Outer o.Structure) s ⊎ (Is (t.Outer o.Term) s ⊎ Is (t.Outer o.Procedure) s)))
+BeginsBlock s = Is (t.Outer o.Vocabulary) s ⊎ (Is (t.Outer o.Theory) s
+    ⊎ (Is (t.Outer o.Structure) s ⊎ (Is (t.Outer o.Term) s ⊎ Is (t.Outer o.Procedure) s)))
 
 abbrev pub block_format : Format Block
 block_format = record { put = put_block; Fine = FineBlock; First = BeginsBlock; Next = Anything }

@@ -23,9 +23,11 @@ use Rattle.fo_syntax.specs.Fine.{FineFormula, FineTerm, FineApp}
 use Rattle.fo_syntax.specs.Spelling.{put_formula, put_term, put_app}
 use Rattle.fo_syntax.specs.View.{formula_view, term_view, app_view}
 use Rattle.fo_syntax.specs.BlockTrees.{Head}
-use Rattle.fo_syntax.specs.BlockSpelling.{put_option, put_each, put_sign, put_binding, put_head, put_body, put_rule, put_theory_item, put_theory, put_term_block}
+use Rattle.fo_syntax.specs.BlockSpelling.{put_option, put_each, put_sign, put_binding, put_head, put_body, put_rule}
+use Rattle.fo_syntax.specs.BlockSpelling.{put_theory_item, put_theory, put_term_block}
 use Rattle.fo_syntax.specs.BlockFine.{FineEach, FineHead, FineBody, FineRule, FineTheoryItem, FineTheory, FineTermBlock}
-use Rattle.fo_syntax.specs.BlockView.{binding_view, head_view, body_view, rule_view, theory_item_view, theory_view, term_block_view}
+use Rattle.fo_syntax.specs.BlockView.{binding_view, head_view, body_view, rule_view, theory_item_view, theory_view}
+use Rattle.fo_syntax.specs.BlockView.{term_block_view}
 use Rattle.block_reader.specs.BlockParts.{PartRead, Anything, EndsHead, No, Is}
 use Rattle.block_reader.specs.BlockReads.{itself}
 

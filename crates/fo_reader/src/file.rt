@@ -86,7 +86,8 @@ fn empty(alloc: Global, end: usize) -> RawKb
 
 // One block more, among those of its kind.
 fn add(kb: &mut RawKb, next: RawBlock) -> Result<(), AllocError>
-    ensures { IfOk result (λ u. (blocks : List Block) (len : ℕ) → IsKb blocks len kb.old → IsKb (blocks ++ block_view next ∷ []) len kb.new) }
+    ensures { IfOk result (λ u. (blocks : List Block) (len : ℕ) → IsKb blocks len kb.old
+        → IsKb (blocks ++ block_view next ∷ []) len kb.new) }
 {
     match next {
         RawBlock::Vocabulary(found) => kb.vocabularies.push(found),

@@ -5,7 +5,9 @@ ghost use Rattle.fo_syntax.specs.BlockTrees as tree;
 ghost use Rattle.fo_syntax.specs.BlockView.{binding_view, body_view, head_view, rule_view};
 ghost use Rattle.fo_syntax.specs.Terminals.{toks};
 ghost use Rattle.fo_syntax.specs.Terminals as terminals;
-ghost use Rattle.fo_reader.specs.TheoryReads.{BindingsRead, BodyRead, ClauseRead, EndedRead, HeadRead, RuleRead, RulesRead, StopRead, TermBlockRead, TheoryItemRead, TheoryItemsRead, TheoryRead};
+ghost use Rattle.fo_reader.specs.TheoryReads.{BindingsRead, BodyRead, ClauseRead, EndedRead, HeadRead, RuleRead};
+ghost use Rattle.fo_reader.specs.TheoryReads.{RulesRead, StopRead, TermBlockRead, TheoryItemRead, TheoryItemsRead};
+ghost use Rattle.fo_reader.specs.TheoryReads.{TheoryRead};
 ghost use Rattle.fo_syntax.specs.declared.terminal.Terminal.TheVariants as t;
 ghost use Rattle.fo_syntax.specs.declared.terminal.Outer.TheVariants as o;
 
@@ -95,7 +97,8 @@ fn clause<'a>(alloc: Global, items: &'a [Item<'a>], end: usize) -> Found<'a, Cla
 }
 
 fn ruled(binders: Items<RawBinder>, of: Clause) -> RawRule
-    ensures { rule_view result ≡ tree.rule (map binding_view binders) (head_view of.0) (option_map body_view of.1.0) of.1.1 }
+    ensures { rule_view result ≡ tree.rule (map binding_view binders) (head_view of.0)
+        (option_map body_view of.1.0) of.1.1 }
 {
     let (head, tail) = of;
     let (body, dot) = tail;

@@ -4,7 +4,8 @@ use Rattle.fo_syntax.specs.Terminals.{Tok}
 use Rattle.fo_syntax.specs.Trees.{Formula}
 use Rattle.fo_syntax.specs.Fine.{FineFormula, FineTerm, FineApp}
 use Rattle.fo_syntax.specs.Texts.{ParsesTo}
-use Rattle.fo_syntax.specs.BlockTrees.{Head, atom_head, value_head, Rule, rule, TheoryItem, sentence, definition, Theory, theory, TermBlock, term_block, Block, theory_block, value_block}
+use Rattle.fo_syntax.specs.BlockTrees.{Head, atom_head, value_head, Rule, rule, TheoryItem, sentence, definition}
+use Rattle.fo_syntax.specs.BlockTrees.{Theory, theory, TermBlock, term_block, Block, theory_block, value_block}
 use Rattle.fo_syntax.specs.BlockSpelling.{put_file}
 
 -- each of a list

@@ -11,7 +11,14 @@ use Rattle.fo_syntax.specs.declared.raw_blocks.Separator.TheVariants as sep
 use Rattle.fo_syntax.specs.Terminals.{Tok, tok_at, word, sign}
 use Rattle.fo_syntax.specs.Trees.{Name, Formula}
 use Rattle.fo_syntax.specs.Spelling.{put_name, put_vars, put_formula, put_term, put_app}
-use Rattle.fo_syntax.specs.BlockTrees.{Names, names, Positions, positions, Declaration, type_of, constructed, symbol, Vocabulary, vocabulary, Header, header, Binding, binding, Head, atom_head, value_head, Rule, rule, TheoryItem, sentence, definition, Theory, theory, TermBlock, term_block, Element, named, number, below_zero, RowItem, item, RowItems, items, Row, plain, bracketed, only, Rows, rows, Value, truth_value, element_value, table, Mark, closed_mark, open_mark, Entry, entry, Structure, structure, Block, vocabulary_block, theory_block, structure_block, value_block, procedure}
+use Rattle.fo_syntax.specs.BlockTrees.{Names, names, Positions, positions, Declaration, type_of, constructed, symbol}
+use Rattle.fo_syntax.specs.BlockTrees.{Vocabulary, vocabulary, Header, header, Binding, binding, Head, atom_head}
+use Rattle.fo_syntax.specs.BlockTrees.{value_head, Rule, rule, TheoryItem, sentence, definition, Theory, theory}
+use Rattle.fo_syntax.specs.BlockTrees.{TermBlock, term_block, Element, named, number, below_zero, RowItem, item}
+use Rattle.fo_syntax.specs.BlockTrees.{RowItems, items, Row, plain, bracketed, only, Rows, rows, Value, truth_value}
+use Rattle.fo_syntax.specs.BlockTrees.{element_value, table, Mark, closed_mark, open_mark, Entry, entry, Structure}
+use Rattle.fo_syntax.specs.BlockTrees.{structure, Block, vocabulary_block, theory_block, structure_block, value_block}
+use Rattle.fo_syntax.specs.BlockTrees.{procedure}
 
 -- what stands in [ ]
 abbrev pub put_option : {A : Type 0} → (A → List Tok → List Tok) → Option A → List Tok → List Tok
@@ -52,18 +59,24 @@ abbrev pub put_separated : Separator × ℕ × Name → List Tok → List Tok
 put_separated x ts = sign (separator x.0) x.1 ∷ put_name x.2 ts
 
 abbrev pub put_declaration : Declaration → List Tok → List Tok
-put_declaration (type_of p n i) ts = sign (t.Outer o.Type) p ∷ put_name n (put_option (put_behind (t.Outer o.Isa) put_name) i ts)
-put_declaration (constructed p n c f b m ms e) ts = sign (t.Outer o.Type) p ∷ put_name n (sign (t.Outer o.Constructed) c ∷ tok_at (word from) f ∷ sign t.OpenBrace b ∷ put_name m (put_each put_separated ms (sign t.CloseBrace e ∷ ts)))
-put_declaration (symbol n ps r) ts = put_name n (put_option put_positions ps (put_option (put_behind t.Colon put_name) r ts))
+put_declaration (type_of p n i) ts = sign (t.Outer o.Type) p ∷ put_name n
+    (put_option (put_behind (t.Outer o.Isa) put_name) i ts)
+put_declaration (constructed p n c f b m ms e) ts = sign (t.Outer o.Type) p ∷ put_name n
+    (sign (t.Outer o.Constructed) c ∷ tok_at (word from) f ∷ sign t.OpenBrace b ∷ put_name m
+    (put_each put_separated ms (sign t.CloseBrace e ∷ ts)))
+put_declaration (symbol n ps r) ts = put_name n (put_option put_positions ps
+    (put_option (put_behind t.Colon put_name) r ts))
 
 abbrev pub put_vocabulary : Vocabulary → List Tok → List Tok
-put_vocabulary (vocabulary p n b ds e) ts = sign (t.Outer o.Vocabulary) p ∷ put_name n (sign t.OpenBrace b ∷ put_each put_declaration ds (sign t.CloseBrace e ∷ ts))
+put_vocabulary (vocabulary p n b ds e) ts = sign (t.Outer o.Vocabulary) p ∷ put_name n
+    (sign t.OpenBrace b ∷ put_each put_declaration ds (sign t.CloseBrace e ∷ ts))
 
 -- ---- theories and terms
 
 -- with this word before it
 abbrev pub put_header : Outer → Header → List Tok → List Tok
-put_header w (header p n c v b) ts = sign (t.Outer w) p ∷ put_name n (sign t.Colon c ∷ put_name v (sign t.OpenBrace b ∷ ts))
+put_header w (header p n c v b) ts = sign (t.Outer w) p ∷ put_name n
+    (sign t.Colon c ∷ put_name v (sign t.OpenBrace b ∷ ts))
 
 abbrev pub put_binding : Binding → List Tok → List Tok
 put_binding (binding p vs q) ts = sign t.Every p ∷ put_vars vs (sign t.Colon q ∷ ts)
@@ -86,7 +99,8 @@ abbrev pub put_theory : Theory → List Tok → List Tok
 put_theory (theory h is e) ts = put_header o.Theory h (put_each put_theory_item is (sign t.CloseBrace e ∷ ts))
 
 abbrev pub put_term_block : TermBlock → List Tok → List Tok
-put_term_block (term_block h x d e) ts = put_header o.Term h (put_term x (put_option (put_sign (t.Outer o.Dot)) d (sign t.CloseBrace e ∷ ts)))
+put_term_block (term_block h x d e) ts = put_header o.Term h
+    (put_term x (put_option (put_sign (t.Outer o.Dot)) d (sign t.CloseBrace e ∷ ts)))
 
 -- ---- structures
 
@@ -110,7 +124,8 @@ put_row (bracketed p is q r) ts = sign t.Open p ∷ put_items is (sign t.Close q
 put_row (only r) ts = put_to r ts
 
 abbrev pub put_rows : Rows → List Tok → List Tok
-put_rows (rows r rs s) ts = put_row r (put_each (put_behind (t.Outer o.Semicolon) put_row) rs (put_option (put_sign (t.Outer o.Semicolon)) s ts))
+put_rows (rows r rs s) ts = put_row r (put_each (put_behind (t.Outer o.Semicolon) put_row) rs
+    (put_option (put_sign (t.Outer o.Semicolon)) s ts))
 
 abbrev pub put_value : Value → List Tok → List Tok
 put_value (truth_value b p) ts = sign (t.Truth b) p ∷ ts
@@ -120,7 +135,8 @@ put_value (table b rs e) ts = sign t.OpenBrace b ∷ put_option put_rows rs (sig
 -- a mark, and the = after it
 abbrev pub put_equal : Option Mark → ℕ → List Tok → List Tok
 put_equal None p ts = sign (t.Compare cmp.Equal) p ∷ ts
-put_equal (Some (closed_mark a n b)) p ts = sign (t.Compare cmp.Less) a ∷ put_name n (sign (t.Compare cmp.Greater) b ∷ sign (t.Compare cmp.Equal) p ∷ ts)
+put_equal (Some (closed_mark a n b)) p ts = sign (t.Compare cmp.Less) a ∷ put_name n
+    (sign (t.Compare cmp.Greater) b ∷ sign (t.Compare cmp.Equal) p ∷ ts)
 put_equal (Some (open_mark a n)) p ts = sign (t.Compare cmp.Less) a ∷ put_name n (sign (t.Compare cmp.AtLeast) p ∷ ts)
 
 abbrev pub put_entry : Entry → List Tok → List Tok

@@ -1,4 +1,5 @@
--- The trees of blocks: one type a nonterminal, with the place of every token. A pair of a place and a part is a sign and what follows it.
+-- The trees of blocks: one type a nonterminal, with the place of every token. A pair of a place and a part is a sign
+-- and what follows it.
 use Rattle.std.specs.Prelude.{ℕ, List, Option, Bool}
 use Rattle.fo_syntax.specs.declared.raw_blocks.Separator.{Separator}
 use Rattle.fo_syntax.specs.Trees.{Name, Vars, Formula, Term, App}

@@ -41,7 +41,13 @@ use Rattle.fo_syntax.specs.declared.raw_blocks.RawElement.{RawElement}
 use Rattle.fo_syntax.specs.declared.raw_blocks.RawElement.TheVariants as element
 use Rattle.fo_syntax.specs.Trees.{Name, Formula}
 use Rattle.fo_syntax.specs.View.{name_view, vars_view, formula_view, app_view, term_view}
-use Rattle.fo_syntax.specs.BlockTrees.{Names, names, Positions, positions, Declaration, type_of, constructed, symbol, Vocabulary, vocabulary, Header, header, Binding, binding, Head, atom_head, value_head, Rule, rule, TheoryItem, sentence, definition, Theory, theory, TermBlock, term_block, Element, named, number, below_zero, RowItem, item, RowItems, items, Row, plain, bracketed, only, Rows, rows, Value, truth_value, element_value, table, Mark, closed_mark, open_mark, Entry, entry, Structure, structure, Block, vocabulary_block, theory_block, structure_block, value_block}
+use Rattle.fo_syntax.specs.BlockTrees.{Names, names, Positions, positions, Declaration, type_of, constructed, symbol}
+use Rattle.fo_syntax.specs.BlockTrees.{Vocabulary, vocabulary, Header, header, Binding, binding, Head, atom_head}
+use Rattle.fo_syntax.specs.BlockTrees.{value_head, Rule, rule, TheoryItem, sentence, definition, Theory, theory}
+use Rattle.fo_syntax.specs.BlockTrees.{TermBlock, term_block, Element, named, number, below_zero, RowItem, item}
+use Rattle.fo_syntax.specs.BlockTrees.{RowItems, items, Row, plain, bracketed, only, Rows, rows, Value, truth_value}
+use Rattle.fo_syntax.specs.BlockTrees.{element_value, table, Mark, closed_mark, open_mark, Entry, entry, Structure}
+use Rattle.fo_syntax.specs.BlockTrees.{structure, Block, vocabulary_block, theory_block, structure_block, value_block}
 
 -- ---- vocabularies
 
@@ -65,8 +71,10 @@ element_tail_view x = (x.sign, x.place, name_view x.name)
 
 abbrev pub declaration_view : RawDeclaration → Declaration
 declaration_view (declared.Type x) = type_of x.place (name_view x.name) (option_map isa_view x.isa)
-declaration_view (declared.Constructed x) = constructed x.place (name_view x.name) x.constructed x.from x.open (name_view x.first) (map element_tail_view x.more) x.close
-declaration_view (declared.Symbol x) = symbol (name_view x.name) (option_map positions_view x.arguments) (option_map result_view x.result)
+declaration_view (declared.Constructed x) = constructed x.place (name_view x.name) x.constructed x.from x.open
+    (name_view x.first) (map element_tail_view x.more) x.close
+declaration_view (declared.Symbol x) = symbol (name_view x.name) (option_map positions_view x.arguments)
+    (option_map result_view x.result)
 
 abbrev pub vocabulary_view : RawVocabulary → Vocabulary
 vocabulary_view x = vocabulary x.place (name_view x.name) x.open (map declaration_view x.declarations) x.close

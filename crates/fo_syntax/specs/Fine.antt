@@ -1,7 +1,10 @@
 -- A quantified formula reaches as far right as it can: only the last operand of a chain may end in one.
 use Rattle.std.specs.Prelude.{◌≡◌, Bool, true, false}
 use Rattle.fo_syntax.specs.declared.terminal.Comparison.TheVariants as cmp
-use Rattle.fo_syntax.specs.Trees.{Number, compared, Formula, alone, linked, Links, last, link, Or, one, or, And, single, and, Unary, not, every, some, prim, Prim, group, truth, atom, compare, Term, product, sum, Product, factor, times, Factor, integer, value, brackets, negative, count, aggregate, App, constant, empty, apply, Terms, final, then}
+use Rattle.fo_syntax.specs.Trees.{Number, compared, Formula, alone, linked, Links, last, link, Or, one, or, And, single}
+use Rattle.fo_syntax.specs.Trees.{and, Unary, not, every, some, prim, Prim, group, truth, atom, compare, Term, product}
+use Rattle.fo_syntax.specs.Trees.{sum, Product, factor, times, Factor, integer, value, brackets, negative, count}
+use Rattle.fo_syntax.specs.Trees.{aggregate, App, constant, empty, apply, Terms, final, then}
 
 -- no quantified formula stands at its end
 abbrev pub closed_unary : Unary → Bool

@@ -4,7 +4,11 @@ use Rattle.fo_syntax.specs.declared.terminal.Terminal.TheVariants as t
 use Rattle.fo_syntax.specs.declared.terminal.Arrow.{Arrow}
 use Rattle.fo_syntax.specs.declared.terminal.Adding.TheVariants.{Minus}
 use Rattle.fo_syntax.specs.Terminals.{Tok, tok_at, word, sign}
-use Rattle.fo_syntax.specs.Trees.{Name, name, Var, untyped, typed, Vars, var, beside, comma, Number, any, exactly, compared, Formula, alone, linked, Links, last, link, Or, one, or, And, single, and, Unary, not, every, some, prim, Prim, group, truth, atom, compare, Term, product, sum, Product, factor, times, Factor, integer, value, brackets, negative, count, aggregate, App, constant, empty, apply, Terms, final, then}
+use Rattle.fo_syntax.specs.Trees.{Name, name, Var, untyped, typed, Vars, var, beside, comma, Number, any, exactly}
+use Rattle.fo_syntax.specs.Trees.{compared, Formula, alone, linked, Links, last, link, Or, one, or, And, single, and}
+use Rattle.fo_syntax.specs.Trees.{Unary, not, every, some, prim, Prim, group, truth, atom, compare, Term, product, sum}
+use Rattle.fo_syntax.specs.Trees.{Product, factor, times, Factor, integer, value, brackets, negative, count, aggregate}
+use Rattle.fo_syntax.specs.Trees.{App, constant, empty, apply, Terms, final, then}
 
 abbrev pub put_name : Name → List Tok → List Tok
 put_name (name text p) ts = tok_at (word text) p ∷ ts
@@ -65,8 +69,10 @@ abbrev mutual
   put_factor (value a) ts = put_app a ts
   put_factor (brackets p x q) ts = sign t.Open p ∷ put_term x (sign t.Close q ∷ ts)
   put_factor (negative p x) ts = sign (t.Add Minus) p ∷ put_factor x ts
-  put_factor (count p b vs c f e) ts = sign t.Count p ∷ sign t.OpenBrace b ∷ put_vars vs (sign t.Colon c ∷ put_formula f (sign t.CloseBrace e ∷ ts))
-  put_factor (aggregate a p b vs c f d x e) ts = sign (t.Aggregate a) p ∷ sign t.OpenBrace b ∷ put_vars vs (sign t.Colon c ∷ put_formula f (sign t.Colon d ∷ put_term x (sign t.CloseBrace e ∷ ts)))
+  put_factor (count p b vs c f e) ts = sign t.Count p ∷ sign t.OpenBrace b ∷ put_vars vs
+      (sign t.Colon c ∷ put_formula f (sign t.CloseBrace e ∷ ts))
+  put_factor (aggregate a p b vs c f d x e) ts = sign (t.Aggregate a) p ∷ sign t.OpenBrace b ∷ put_vars vs
+      (sign t.Colon c ∷ put_formula f (sign t.Colon d ∷ put_term x (sign t.CloseBrace e ∷ ts)))
 
   pub put_app : App → List Tok → List Tok
   put_app (constant n) ts = put_name n ts

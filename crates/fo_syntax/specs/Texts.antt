@@ -14,7 +14,8 @@ abbrev pub ParsesTo : {A : Type 0} → (A → List Tok → List Tok) → (A → 
 ParsesTo put Fine ts a = (ts ≡ put a []) × Fine a
 
 -- The first of rest is the first token with which no text goes on: those before it begin one, and with it none does.
-pub record FirstStuck {A : Type 0} (put : A → List Tok → List Tok) (Fine : A → Type 0) (ts rest : List Tok) : Type 0 where
+pub record FirstStuck {A : Type 0} (put : A → List Tok → List Tok) (Fine : A → Type 0)
+    (ts rest : List Tok) : Type 0 where
   pub front : List Tok
   pub split : ts ≡ front ++ rest
   pub begun : (a : A) × (more : List Tok) × ParsesTo put Fine (front ++ more) a

@@ -1,5 +1,7 @@
 -- The innermost variable of a name, and the table that keeps it.
-use Rattle.std.proofs.Common.{◌≡◌, ◌≤◌, ◌<◌, ◌^◌, ℕ, ◌+◌, Bool, true, false, List, [], ◌∷◌, ◌++◌, length, Option, None, Some, if◌then◌else◌, cond, refl, ap, ◌∙◌, sym, subst, add-one, take, drop, arith, is_some, suc, zero, nat_le, ◌⊎◌, inl, inr}
+use Rattle.std.proofs.Common.{◌≡◌, ◌≤◌, ◌<◌, ◌^◌, ℕ, ◌+◌, Bool, true, false, List, [], ◌∷◌, ◌++◌, length, Option, None}
+use Rattle.std.proofs.Common.{Some, if◌then◌else◌, cond, refl, ap, ◌∙◌, sym, subst, add-one, take, drop, arith, is_some}
+use Rattle.std.proofs.Common.{suc, zero, nat_le, ◌⊎◌, inl, inr}
 use Rattle.std.specs.List.{slice_get}
 use Rattle.std.proofs.lemmas.Bool.Decides.{nat_tests}
 use Rattle.std.proofs.lemmas.List.{map-append, take-append-le, length-append}
@@ -43,7 +45,8 @@ bytes_eq-turned w q = turned_by w q (bytes_eq w q) (bytes_eq q w) refl refl
 
 -- ---- entering
 
-entered_by : (q w : Text) (old : Option (Option ℕ)) (xs : List Text) (n : ℕ) (b : Bool) → held old ≡ last_position q xs → n ≡ length xs
+entered_by : (q w : Text) (old : Option (Option ℕ)) (xs : List Text) (n : ℕ) (b : Bool) → held old ≡ last_position q xs
+    → n ≡ length xs
     → held (cond b (Some (Some n)) old) ≡ (if b then Some (length xs) else last_position q xs)
 entered_by q w old xs n true e f = ap Some f
 entered_by q w old xs n false e f = e
@@ -58,7 +61,8 @@ slice_get-front (z ∷ xs) y (suc i) x e = elim (slice_get-front xs y i x e) [
   | inr there ↦ inr (ap suc there.0, there.1)
 ]
 
-pub slice_get-more : {X : Type 0} (xs : List X) (y : X) (i : ℕ) (x : X) → slice_get xs i ≡ Some x → slice_get (xs ++ y ∷ []) i ≡ Some x
+pub slice_get-more : {X : Type 0} (xs : List X) (y : X) (i : ℕ) (x : X) → slice_get xs i ≡ Some x
+    → slice_get (xs ++ y ∷ []) i ≡ Some x
 slice_get-more [] y i x e = absurd (let n : ⊥ = cc in n)
 slice_get-more (z ∷ xs) y zero x e = e
 slice_get-more (z ∷ xs) y (suc i) x e = slice_get-more xs y i x e
@@ -74,13 +78,15 @@ length-texts : (bs : List Binding) → length (texts_in bs) ≡ length bs
 length-texts [] = refl
 length-texts (b ∷ bs) = ap suc (length-texts bs)
 
-front_texts : (bs : List Binding) (b : Binding) (i : ℕ) → i ≤ length bs → take i (texts_in (bs ++ b ∷ [])) ≡ take i (texts_in bs)
+front_texts : (bs : List Binding) (b : Binding) (i : ℕ) → i ≤ length bs → take i (texts_in (bs ++ b ∷ []))
+    ≡ take i (texts_in bs)
 front_texts bs b i le =
     rw (texts-push bs b) (take-append-le i (texts_in bs) (b.text.now ∷ []) (rw (length-texts bs) le))
 
 hidden_entered : (bs : List Binding) (b : Binding) → b.hidden ≡ last_position b.text.now (texts_in bs)
     → ((i : ℕ) → (c : Binding) → slice_get bs i ≡ Some c → c.hidden ≡ last_position c.text.now (take i (texts_in bs)))
-    → (i : ℕ) → (c : Binding) → slice_get (bs ++ b ∷ []) i ≡ Some c → c.hidden ≡ last_position c.text.now (take i (texts_in (bs ++ b ∷ [])))
+    → (i : ℕ) → (c : Binding) → slice_get (bs ++ b ∷ []) i ≡ Some c → c.hidden ≡ last_position c.text.now
+    (take i (texts_in (bs ++ b ∷ [])))
 hidden_entered bs b h before i c e = elim (slice_get-front bs b i c e) [
   | inl here ↦
       let lt : i < length bs = slice_get_within bs i c here in
@@ -92,14 +98,17 @@ hidden_entered bs b h before i c e = elim (slice_get-front bs b i c e) [
 ]
 
 -- one more binding
-pub entered : (s t : Inside) (b : Binding) (n : ℕ) → IsScope s → n ≡ length s.bindings.items → t.bindings.items ≡ s.bindings.items ++ b ∷ []
+pub entered : (s t : Inside) (b : Binding) (n : ℕ) → IsScope s → n ≡ length s.bindings.items
+    → t.bindings.items ≡ s.bindings.items ++ b ∷ []
     → b.hidden ≡ level_in s.levels b.text.now
-    → ((q : Text) → get_by (λ k. bytes_eq q k.now) t.levels.map ≡ cond (bytes_eq b.text.now q) (Some (Some n)) (get_by (λ k. bytes_eq q k.now) s.levels.map))
+    → ((q : Text) → get_by (λ k. bytes_eq q k.now) t.levels.map ≡ cond (bytes_eq b.text.now q) (Some (Some n))
+    (get_by (λ k. bytes_eq q k.now) s.levels.map))
     → n + 1 < 2 ^ 32
     → IsScope t
 entered s t b n is at_end more hides after few = record {
   levels = λ q. rw (more, texts-push s.bindings.items b, last_position-push, after q, bytes_eq-turned b.text.now q)
-      (entered_by q b.text.now (get_by (λ k. bytes_eq q k.now) s.levels.map) (texts_in s.bindings.items) n (bytes_eq q b.text.now)
+      (entered_by q b.text.now (get_by (λ k. bytes_eq q k.now) s.levels.map) (texts_in s.bindings.items) n
+      (bytes_eq q b.text.now)
       (is.levels q) (at_end ∙ sym (length-texts s.bindings.items)));
   hidden = rw more (hidden_entered s.bindings.items b (hides ∙ is.levels b.text.now) is.hidden);
   few = rw more (omega (arith, length-append s.bindings.items (b ∷ [])));
@@ -111,16 +120,19 @@ left_by : (q : Text) (b : Binding) (old : Option (Option ℕ)) (xs : List Text) 
     → b.hidden ≡ last_position b.text.now xs
     → held old ≡ (if e then Some (length xs) else last_position q xs)
     → held (cond e (Some b.hidden) old) ≡ last_position q xs
-left_by q b old xs true same h o = subst (λ (v : Text). b.hidden ≡ last_position v xs) (sym (same_text q b.text.now same)) h
+left_by q b old xs true same h o = subst (λ (v : Text). b.hidden ≡ last_position v xs)
+    (sym (same_text q b.text.now same)) h
 left_by q b old xs false same h o = o
 
 -- one binding less
 pub left : (s t : Inside) (b : Binding) → IsScope s → s.bindings.items ≡ t.bindings.items ++ b ∷ []
-    → ((q : Text) → get_by (λ k. bytes_eq q k.now) t.levels.map ≡ cond (bytes_eq b.text.now q) (Some b.hidden) (get_by (λ k. bytes_eq q k.now) s.levels.map))
+    → ((q : Text) → get_by (λ k. bytes_eq q k.now) t.levels.map ≡ cond (bytes_eq b.text.now q) (Some b.hidden)
+    (get_by (λ k. bytes_eq q k.now) s.levels.map))
     → IsScope t
 left s t b is less after =
     let ts : List Binding = t.bindings.items in
-    let old_hidden : (i : ℕ) → (c : Binding) → slice_get (ts ++ b ∷ []) i ≡ Some c → c.hidden ≡ last_position c.text.now (take i (texts_in (ts ++ b ∷ []))) =
+    let old_hidden : (i : ℕ) → (c : Binding) → slice_get (ts ++ b ∷ []) i ≡ Some c → c.hidden ≡ last_position c.text.now
+    (take i (texts_in (ts ++ b ∷ []))) =
     rw (← less) is.hidden in
     let whole : take (length ts) (texts_in (ts ++ b ∷ [])) ≡ texts_in ts =
     rw (front_texts ts b (length ts) (omega arith), ← length-texts ts) (take-length (texts_in ts)) in
@@ -128,7 +140,8 @@ left s t b is less after =
     rw whole at (old_hidden (length ts) b (slice_get-last ts b)) in
     record {
       levels = λ q. rw (after q, bytes_eq-turned b.text.now q)
-          (left_by q b (get_by (λ k. bytes_eq q k.now) s.levels.map) (texts_in ts) (bytes_eq q b.text.now) refl last_hidden
+          (left_by q b (get_by (λ k. bytes_eq q k.now) s.levels.map) (texts_in ts) (bytes_eq q b.text.now)
+          refl last_hidden
           (is.levels q ∙ rw (less, texts-push ts b) (last_position-push q (texts_in ts) b.text.now)));
       hidden = λ i c e.
           let lt : i < length ts = slice_get_within ts i c e in
@@ -172,8 +185,10 @@ from_nowhere w k s _ (nowhere e) is = sym e
 from_nowhere w k s _ (before m lt e) is = absurd (let no : ⊥ = cc in no)
 from_nowhere w k s _ (within m le e) is = absurd (let no : ⊥ = cc in no)
 
-pub bound_at : (w : Text) (k l : ℕ) (s : List Text) → Some l ≡ last_position w s → nat_le k l ≡ is_some (last_position w (drop k s))
+pub bound_at : (w : Text) (k l : ℕ) (s : List Text) → Some l ≡ last_position w s
+    → nat_le k l ≡ is_some (last_position w (drop k s))
 bound_at w k l s e = from_level w k l s (last_position w s) (stands w k s) e
 
-pub bound_nowhere : (w : Text) (k : ℕ) (s : List Text) → None ≡ last_position w s → false ≡ is_some (last_position w (drop k s))
+pub bound_nowhere : (w : Text) (k : ℕ) (s : List Text) → None ≡ last_position w s
+    → false ≡ is_some (last_position w (drop k s))
 bound_nowhere w k s e = from_nowhere w k s (last_position w s) (stands w k s) e

@@ -1,19 +1,25 @@
 -- Chains of the grammar as lists.
-use Rattle.std.proofs.Common.{◌≡◌, ℕ, ◌+◌, List, [], ◌∷◌, ◌++◌, length, Option, None, Some, fold, refl, ap, ◌∙◌, sym, map, append-nil, append_assoc, drop, add-one}
+use Rattle.std.proofs.Common.{◌≡◌, ℕ, ◌+◌, List, [], ◌∷◌, ◌++◌, length, Option, None, Some, fold, refl, ap, ◌∙◌, sym}
+use Rattle.std.proofs.Common.{map, append-nil, append_assoc, drop, add-one}
 use Rattle.std.specs.List.{flat_map}
 use Rattle.std.proofs.lemmas.Grind.{fold-append}
 use Rattle.std.proofs.Math.Seq.{drop-append_seam, drop-length}
 use Rattle.fo_syntax.specs.Trees as raw
-use Rattle.fo_syntax.specs.View.{links_of, or_of, and_of, term_of, product_of, terms_of, vars_of, vars_more, var_tail_view}
+use Rattle.fo_syntax.specs.View.{links_of, or_of, and_of, term_of, product_of, terms_of, vars_of, vars_more}
+use Rattle.fo_syntax.specs.View.{var_tail_view}
 use Rattle.fo_syntax.specs.declared.raw.RawVarTail.{RawVarTail}
 use Rattle.fo_syntax.specs.declared.terminal.Adding.{Adding}
 use Rattle.reading_stages.specs.Scopes.{Text}
 use Rattle.reading_stages.specs.Names.{Names}
 use Rattle.reading_stages.specs.NamesStage.{name_noted}
 use Rattle.kb_text.specs.declared.fault.KbFault.{KbFault}
-use Rattle.reading_stages.specs.Uses.{Context, Use, bound, position_uses, uses_of_vars, var_name, var_text, var_type, within, terms_count, vars_in, uses_in_links, uses_in_or, uses_in_and, uses_in_unary, uses_in_term, uses_in_product, uses_in_factor, uses_in_terms}
+use Rattle.reading_stages.specs.Uses.{Context, Use, bound, position_uses, uses_of_vars, var_name, var_text, var_type}
+use Rattle.reading_stages.specs.Uses.{within, terms_count, vars_in, uses_in_links, uses_in_or, uses_in_and}
+use Rattle.reading_stages.specs.Uses.{uses_in_unary, uses_in_term, uses_in_product, uses_in_factor, uses_in_terms}
 use Rattle.reading_stages.specs.NamedTrees as named
-use Rattle.reading_stages.specs.Numbering.{named_links, named_or, disjuncts, named_and, conjuncts, named_unary, named_term, summands, named_product, factors, named_factor, named_terms, is_minus}
+use Rattle.reading_stages.specs.Numbering.{named_links, named_or, disjuncts, named_and, conjuncts, named_unary}
+use Rattle.reading_stages.specs.Numbering.{named_term, summands, named_product, factors, named_factor, named_terms}
+use Rattle.reading_stages.specs.Numbering.{is_minus}
 use Rattle.formula_names.specs.Tails.{tail_var}
 
 pub terms_counted : (x : raw.Term) (xs : List (ℕ × raw.Term)) → terms_count (terms_of x xs) ≡ length xs + 1
@@ -26,82 +32,106 @@ more_in : (v : raw.Var) (o : Option ℕ) (vs : raw.Vars) → vars_in (vars_more 
 more_in v None vs = refl
 more_in v (Some p) vs = refl
 
-pub vars_in-is : (v : raw.Var) (more : List RawVarTail) → vars_in (vars_of v (map var_tail_view more)) ≡ v ∷ map tail_var more
+pub vars_in-is : (v : raw.Var) (more : List RawVarTail) → vars_in (vars_of v (map var_tail_view more))
+    ≡ v ∷ map tail_var more
 vars_in-is v [] = refl
-vars_in-is v (x ∷ xs) = more_in v x.comma (vars_of (tail_var x) (map var_tail_view xs)) ∙ ap (λ (vs : List raw.Var). v ∷ vs) (vars_in-is (tail_var x) xs)
+vars_in-is v (x ∷ xs) = more_in v x.comma (vars_of (tail_var x) (map var_tail_view xs))
+    ∙ ap (λ (vs : List raw.Var). v ∷ vs) (vars_in-is (tail_var x) xs)
 
 -- ---- uses
 
-pub uses_in_links-is : (s : Context) (o : raw.Or) (xs : List (ℕ × raw.Or)) → uses_in_links s (links_of o xs) ≡ uses_in_or s o ++ flat_map (λ (x : ℕ × raw.Or). uses_in_or s x.1) xs
+pub uses_in_links-is : (s : Context) (o : raw.Or) (xs : List (ℕ × raw.Or)) → uses_in_links s (links_of o xs)
+    ≡ uses_in_or s o ++ flat_map (λ (x : ℕ × raw.Or). uses_in_or s x.1) xs
 uses_in_links-is s o [] = sym (append-nil (uses_in_or s o))
 uses_in_links-is s o (x ∷ xs) = ap (λ (us : List Use). uses_in_or s o ++ us) (uses_in_links-is s x.1 xs)
 
-pub uses_in_or-is : (s : Context) (a : raw.And) (xs : List (ℕ × raw.And)) → uses_in_or s (or_of a xs) ≡ uses_in_and s a ++ flat_map (λ (x : ℕ × raw.And). uses_in_and s x.1) xs
+pub uses_in_or-is : (s : Context) (a : raw.And) (xs : List (ℕ × raw.And)) → uses_in_or s (or_of a xs) ≡ uses_in_and s a
+    ++ flat_map (λ (x : ℕ × raw.And). uses_in_and s x.1) xs
 uses_in_or-is s a [] = sym (append-nil (uses_in_and s a))
 uses_in_or-is s a (x ∷ xs) = ap (λ (us : List Use). uses_in_and s a ++ us) (uses_in_or-is s x.1 xs)
 
-pub uses_in_and-is : (s : Context) (u : raw.Unary) (xs : List (ℕ × raw.Unary)) → uses_in_and s (and_of u xs) ≡ uses_in_unary s u ++ flat_map (λ (x : ℕ × raw.Unary). uses_in_unary s x.1) xs
+pub uses_in_and-is : (s : Context) (u : raw.Unary) (xs : List (ℕ × raw.Unary)) → uses_in_and s (and_of u xs)
+    ≡ uses_in_unary s u ++ flat_map (λ (x : ℕ × raw.Unary). uses_in_unary s x.1) xs
 uses_in_and-is s u [] = sym (append-nil (uses_in_unary s u))
 uses_in_and-is s u (x ∷ xs) = ap (λ (us : List Use). uses_in_unary s u ++ us) (uses_in_and-is s x.1 xs)
 
-pub uses_in_term-is : (s : Context) (p : raw.Product) (xs : List (Adding × ℕ × raw.Product)) → uses_in_term s (term_of p xs) ≡ uses_in_product s p ++ flat_map (λ (x : Adding × ℕ × raw.Product). uses_in_product s x.2) xs
+pub uses_in_term-is : (s : Context) (p : raw.Product) (xs : List (Adding × ℕ × raw.Product))
+    → uses_in_term s (term_of p xs) ≡ uses_in_product s p ++ flat_map (λ (x : Adding × ℕ × raw.Product).
+    uses_in_product s x.2) xs
 uses_in_term-is s p [] = sym (append-nil (uses_in_product s p))
 uses_in_term-is s p (x ∷ xs) = ap (λ (us : List Use). uses_in_product s p ++ us) (uses_in_term-is s x.2 xs)
 
-pub uses_in_product-is : (s : Context) (f : raw.Factor) (xs : List (ℕ × raw.Factor)) → uses_in_product s (product_of f xs) ≡ uses_in_factor s f ++ flat_map (λ (x : ℕ × raw.Factor). uses_in_factor s x.1) xs
+pub uses_in_product-is : (s : Context) (f : raw.Factor) (xs : List (ℕ × raw.Factor))
+    → uses_in_product s (product_of f xs) ≡ uses_in_factor s f ++ flat_map
+    (λ (x : ℕ × raw.Factor). uses_in_factor s x.1) xs
 uses_in_product-is s f [] = sym (append-nil (uses_in_factor s f))
 uses_in_product-is s f (x ∷ xs) = ap (λ (us : List Use). uses_in_factor s f ++ us) (uses_in_product-is s x.1 xs)
 
-pub uses_in_terms-is : (s : Context) (t : raw.Term) (xs : List (ℕ × raw.Term)) → uses_in_terms s (terms_of t xs) ≡ uses_in_term s t ++ flat_map (λ (x : ℕ × raw.Term). uses_in_term s x.1) xs
+pub uses_in_terms-is : (s : Context) (t : raw.Term) (xs : List (ℕ × raw.Term)) → uses_in_terms s (terms_of t xs)
+    ≡ uses_in_term s t ++ flat_map (λ (x : ℕ × raw.Term). uses_in_term s x.1) xs
 uses_in_terms-is s t [] = sym (append-nil (uses_in_term s t))
 uses_in_terms-is s t (x ∷ xs) = ap (λ (us : List Use). uses_in_term s t ++ us) (uses_in_terms-is s x.1 xs)
 
 -- ---- trees
 
-pub named_links-is : (n : Names) (s : List Text) (o : raw.Or) (xs : List (ℕ × raw.Or)) → named_links n s (links_of o xs) ≡ named_or n s o ∷ map (λ (x : ℕ × raw.Or). named_or n s x.1) xs
+pub named_links-is : (n : Names) (s : List Text) (o : raw.Or) (xs : List (ℕ × raw.Or)) → named_links n s (links_of o xs)
+    ≡ named_or n s o ∷ map (λ (x : ℕ × raw.Or). named_or n s x.1) xs
 named_links-is n s o [] = refl
 named_links-is n s o (x ∷ xs) = ap (λ (fs : List named.NamedFormula). named_or n s o ∷ fs) (named_links-is n s x.1 xs)
 
-pub disjuncts-is : (n : Names) (s : List Text) (a : raw.And) (xs : List (ℕ × raw.And)) → disjuncts n s (or_of a xs) ≡ named.formulas_of (named_and n s a ∷ map (λ (x : ℕ × raw.And). named_and n s x.1) xs)
+pub disjuncts-is : (n : Names) (s : List Text) (a : raw.And) (xs : List (ℕ × raw.And)) → disjuncts n s (or_of a xs)
+    ≡ named.formulas_of (named_and n s a ∷ map (λ (x : ℕ × raw.And). named_and n s x.1) xs)
 disjuncts-is n s a [] = refl
 disjuncts-is n s a (x ∷ xs) = ap (named.more_formulas (named_and n s a)) (disjuncts-is n s x.1 xs)
 
-pub conjuncts-is : (n : Names) (s : List Text) (u : raw.Unary) (xs : List (ℕ × raw.Unary)) → conjuncts n s (and_of u xs) ≡ named.formulas_of (named_unary n s u ∷ map (λ (x : ℕ × raw.Unary). named_unary n s x.1) xs)
+pub conjuncts-is : (n : Names) (s : List Text) (u : raw.Unary) (xs : List (ℕ × raw.Unary)) → conjuncts n s (and_of u xs)
+    ≡ named.formulas_of (named_unary n s u ∷ map (λ (x : ℕ × raw.Unary). named_unary n s x.1) xs)
 conjuncts-is n s u [] = refl
 conjuncts-is n s u (x ∷ xs) = ap (named.more_formulas (named_unary n s u)) (conjuncts-is n s x.1 xs)
 
 pub summands-is : (n : Names) (s : List Text) (a : Adding) (p : raw.Product) (xs : List (Adding × ℕ × raw.Product))
-    → summands n s a (term_of p xs) ≡ named.summands_of ((is_minus a, named_product n s p) ∷ map (λ (x : Adding × ℕ × raw.Product). (is_minus x.0, named_product n s x.2)) xs)
+    → summands n s a (term_of p xs) ≡ named.summands_of ((is_minus a, named_product n s p) ∷ map
+    (λ (x : Adding × ℕ × raw.Product). (is_minus x.0, named_product n s x.2)) xs)
 summands-is n s a p [] = refl
 summands-is n s a p (x ∷ xs) = ap (named.more_summands (is_minus a) (named_product n s p)) (summands-is n s x.0 x.2 xs)
 
-pub factors-is : (n : Names) (s : List Text) (f : raw.Factor) (xs : List (ℕ × raw.Factor)) → factors n s (product_of f xs) ≡ named.terms_of (named_factor n s f ∷ map (λ (x : ℕ × raw.Factor). named_factor n s x.1) xs)
+pub factors-is : (n : Names) (s : List Text) (f : raw.Factor) (xs : List (ℕ × raw.Factor))
+    → factors n s (product_of f xs) ≡ named.terms_of (named_factor n s f ∷ map
+    (λ (x : ℕ × raw.Factor). named_factor n s x.1) xs)
 factors-is n s f [] = refl
 factors-is n s f (x ∷ xs) = ap (named.more_terms (named_factor n s f)) (factors-is n s x.1 xs)
 
-pub named_terms-is : (n : Names) (s : List Text) (t : raw.Term) (xs : List (ℕ × raw.Term)) → named_terms n s (terms_of t xs) ≡ named.terms_of (named_term n s t ∷ map (λ (x : ℕ × raw.Term). named_term n s x.1) xs)
+pub named_terms-is : (n : Names) (s : List Text) (t : raw.Term) (xs : List (ℕ × raw.Term))
+    → named_terms n s (terms_of t xs) ≡ named.terms_of (named_term n s t ∷ map
+    (λ (x : ℕ × raw.Term). named_term n s x.1) xs)
 named_terms-is n s t [] = refl
 named_terms-is n s t (x ∷ xs) = ap (named.more_terms (named_term n s t)) (named_terms-is n s x.1 xs)
 
 -- ---- a list of variables: the first one, and then the further ones
 
-pub binders_vars : {X : Type 0} (f : raw.Var → X) (v : raw.Var) (vs : raw.Vars) (more : List RawVarTail) (first after : List X)
-    → vs ≡ vars_of v (map var_tail_view more) → first ≡ f v ∷ [] → after ≡ first ++ map f (map tail_var more) → after ≡ map f (vars_in vs)
+pub binders_vars : {X : Type 0} (f : raw.Var → X) (v : raw.Var) (vs : raw.Vars) (more : List RawVarTail)
+    (first after : List X)
+    → vs ≡ vars_of v (map var_tail_view more) → first ≡ f v ∷ [] → after ≡ first ++ map f (map tail_var more)
+    → after ≡ map f (vars_in vs)
 binders_vars f v vs more first after is one e = rw (is, vars_in-is v more) (e ∙ rw one refl)
 
 pub binders_scope : (v : raw.Var) (vs : raw.Vars) (more : List RawVarTail) (scope one after : List Text)
-    → vs ≡ vars_of v (map var_tail_view more) → one ≡ scope ++ var_text v ∷ [] → after ≡ one ++ map var_text (map tail_var more)
+    → vs ≡ vars_of v (map var_tail_view more) → one ≡ scope ++ var_text v ∷ []
+    → after ≡ one ++ map var_text (map tail_var more)
     → after ≡ within scope vs
 binders_scope v vs more scope one after is e f =
     rw (is, vars_in-is v more) (f ∙ rw e (append_assoc scope (var_text v ∷ []) (map var_text (map tail_var more))))
 
-pub binders_noted : (n : Names) (v : raw.Var) (vs : raw.Vars) (more : List RawVarTail) (scope one : List Text) (start middle after : Option KbFault)
+pub binders_noted : (n : Names) (v : raw.Var) (vs : raw.Vars) (more : List RawVarTail) (scope one : List Text)
+    (start middle after : Option KbFault)
     → vs ≡ vars_of v (map var_tail_view more) → one ≡ scope ++ var_text v ∷ []
     → middle ≡ fold (name_noted n) start (bound (drop (length scope) scope) (var_name v) ∷ position_uses (var_type v))
     → after ≡ fold (name_noted n) middle (uses_of_vars (drop (length scope) one) (map tail_var more))
     → after ≡ fold (name_noted n) start (uses_of_vars [] (vars_in vs))
 binders_noted n v vs more scope one start middle after is e f g =
     let none : drop (length scope) scope ≡ [] = drop-length scope in
-    let front : drop (length scope) (scope ++ var_text v ∷ []) ≡ var_text v ∷ [] = drop-append_seam scope (var_text v ∷ []) in
+    let front : drop (length scope) (scope ++ var_text v ∷ []) ≡ var_text v ∷ [] =
+    drop-append_seam scope (var_text v ∷ []) in
     rw (is, vars_in-is v more)
-    (g ∙ rw (e, front, f, none) (sym (fold-append (name_noted n) start (bound [] (var_name v) ∷ position_uses (var_type v)) (uses_of_vars (var_text v ∷ []) (map tail_var more)))))
+    (g ∙ rw (e, front, f, none) (sym (fold-append (name_noted n) start
+    (bound [] (var_name v) ∷ position_uses (var_type v)) (uses_of_vars (var_text v ∷ []) (map tail_var more)))))

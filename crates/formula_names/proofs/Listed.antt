@@ -1,5 +1,6 @@
 -- A look-up in a table is one in the names that it lists.
-use Rattle.std.proofs.Common.{◌≡◌, ℕ, Bool, true, false, List, [], ◌∷◌, ◌++◌, Option, None, Some, is_some, if◌then◌else◌, cond, refl, ◌∙◌, map, Bor}
+use Rattle.std.proofs.Common.{◌≡◌, ℕ, Bool, true, false, List, [], ◌∷◌, ◌++◌, Option, None, Some, is_some}
+use Rattle.std.proofs.Common.{if◌then◌else◌, cond, refl, ◌∙◌, map, Bor}
 use Rattle.std.specs.Option.{option_map}
 use Rattle.std.proofs.lemmas.List.{map-append}
 use Rattle.std.specs.Map.{lookup}
@@ -16,7 +17,8 @@ looked_up_by o m true p e = refl
 looked_up_by o m false p e = e
 
 pub looked_up : (es : List (Bor (List ℕ) × Meaning)) (w : Text)
-    → meaning_in (map (λ (e : Bor (List ℕ) × Meaning). (e.0.now, meaning_view e.1)) es) w ≡ option_map meaning_view (lookup (λ k. bytes_eq w k.now) es)
+    → meaning_in (map (λ (e : Bor (List ℕ) × Meaning). (e.0.now, meaning_view e.1)) es) w ≡ option_map meaning_view
+    (lookup (λ k. bytes_eq w k.now) es)
 looked_up [] w = refl
 looked_up (e ∷ es) w = looked_up_by (lookup (λ k. bytes_eq w k.now) es) e.1 (bytes_eq w e.0.now) _ (looked_up es w)
 
@@ -25,10 +27,12 @@ some_of None = refl
 some_of (Some m) = refl
 
 pub is_listed : (es : List (Bor (List ℕ) × Meaning)) (w : Text)
-    → is_some (lookup (λ k. bytes_eq w k.now) es) ≡ is_some (meaning_in (map (λ (e : Bor (List ℕ) × Meaning). (e.0.now, meaning_view e.1)) es) w)
+    → is_some (lookup (λ k. bytes_eq w k.now) es) ≡ is_some (meaning_in
+    (map (λ (e : Bor (List ℕ) × Meaning). (e.0.now, meaning_view e.1)) es) w)
 is_listed es w = rw (looked_up es w, some_of) refl
 
-pub meaning_found : (es : List (Bor (List ℕ) × Meaning)) (w : Text) (m : Meaning) → Some m ≡ lookup (λ k. bytes_eq w k.now) es
+pub meaning_found : (es : List (Bor (List ℕ) × Meaning)) (w : Text) (m : Meaning)
+    → Some m ≡ lookup (λ k. bytes_eq w k.now) es
     → meaning_view m ≡ meaning_of (map (λ (e : Bor (List ℕ) × Meaning). (e.0.now, meaning_view e.1)) es) w
 meaning_found es w m e = rw (looked_up es w, ← e) refl
 
@@ -47,7 +51,8 @@ pub added : (es new : List (Bor (List ℕ) × Meaning)) (k : Bor (List ℕ)) (m 
     ≡ declared (map (λ (e : Bor (List ℕ) × Meaning). (e.0.now, meaning_view e.1)) es) k.now (meaning_view m)
 added es new k m more absent =
     rw (more, map-append)
-    (added_by (map (λ (e : Bor (List ℕ) × Meaning). (e.0.now, meaning_view e.1)) es) k.now (meaning_view m) _ refl absent)
+    (added_by (map (λ (e : Bor (List ℕ) × Meaning). (e.0.now, meaning_view e.1)) es) k.now
+    (meaning_view m) _ refl absent)
 
 none_of : (o : Option Meaning) → is_some o ≡ false → o ≡ None
 none_of None e = refl

@@ -20,5 +20,6 @@ texts_in = map (λ b. b.text.now)
 -- the table has the innermost variable of each name, and each binding the one that it hides
 pub record IsScope (s : Inside) : Type 0 where
   pub levels : (word : List ℕ) → level_in s.levels word ≡ last_position word (texts_in s.bindings.items)
-  pub hidden : (i : ℕ) → (b : Binding) → slice_get s.bindings.items i ≡ Some b → b.hidden ≡ last_position b.text.now (take i (texts_in s.bindings.items))
+  pub hidden : (i : ℕ) → (b : Binding) → slice_get s.bindings.items i ≡ Some b → b.hidden ≡ last_position b.text.now
+      (take i (texts_in s.bindings.items))
   pub few : length s.bindings.items < 2 ^ 32

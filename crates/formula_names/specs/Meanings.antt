@@ -3,7 +3,8 @@ use Rattle.std.specs.Prelude.{map}
 use Rattle.reading_stages.specs.Names as names
 use Rattle.reading_stages.specs.Names.{Names}
 use Rattle.formula_names.specs.declared.tables.Meaning.{Meaning}
-use Rattle.formula_names.specs.declared.tables.Meaning.TheVariants.{Undeclared, Integers, Naturals, TypeName, Predicate, Function, Made, Variable}
+use Rattle.formula_names.specs.declared.tables.Meaning.TheVariants.{Undeclared, Integers, Naturals, TypeName, Predicate}
+use Rattle.formula_names.specs.declared.tables.Meaning.TheVariants.{Function, Made, Variable}
 use Rattle.formula_names.specs.declared.tables.Table.{Table}
 
 abbrev pub meaning_view : Meaning → names.Meaning

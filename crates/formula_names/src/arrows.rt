@@ -43,7 +43,8 @@ fn implied_by(
     first: NamedFormula,
     more: Vec<NamedFormula>,
 ) -> Result<NamedFormula, Memory>
-    ensures { IfOk result (λ f. formula_view f ≡ numbers.implied_by (formula_view first) (map formula_view more.items)) }
+    ensures { IfOk result (λ f. formula_view f ≡ numbers.implied_by (formula_view first)
+        (map formula_view more.items)) }
 {
     let mut left = first;
     for right in more {
@@ -58,7 +59,8 @@ fn equivalent(
     first: NamedFormula,
     more: Vec<NamedFormula>,
 ) -> Result<NamedFormula, Memory>
-    ensures { IfOk result (λ f. formula_view f ≡ numbers.equivalent (formula_view first) (map formula_view more.items)) }
+    ensures { IfOk result (λ f. formula_view f ≡ numbers.equivalent (formula_view first)
+        (map formula_view more.items)) }
 {
     let mut left = first;
     for right in more {
@@ -74,7 +76,8 @@ pub fn grouped(
     first: NamedFormula,
     more: Vec<NamedFormula>,
 ) -> Result<NamedFormula, Memory>
-    ensures { IfOk result (λ f. formula_view f ≡ numbers.grouped arrow (formula_view first) (map formula_view more.items)) }
+    ensures { IfOk result (λ f. formula_view f ≡ numbers.grouped arrow (formula_view first)
+        (map formula_view more.items)) }
 {
     match arrow {
         Arrow::Implies => implies(alloc, first, more),

@@ -45,7 +45,8 @@ pub fn existential(
     vars: Items<NamedVar>,
     inner: NamedFormula,
 ) -> Result<NamedFormula, Memory>
-    ensures tree { IfOk result (λ f. formula_view f ≡ numbers.counted_by (raw.number_view number.now) (map var_view vars) (formula_view inner)) }
+    ensures tree { IfOk result (λ f. formula_view f ≡ numbers.counted_by (raw.number_view number.now)
+        (map var_view vars) (formula_view inner)) }
     ensures scope { OnOk result (scope.new ≡ take outer scope.old) }
 {
     scope.leave(outer)?;
@@ -54,7 +55,8 @@ pub fn existential(
 
 /// `- t` is a sum of one.
 pub fn opposite(alloc: Global, place: usize, term: NamedTerm) -> Result<NamedTerm, Memory>
-    ensures { IfOk result (λ t. term_view t ≡ tree.at place (tree.summation (tree.more_summands true (term_view term) tree.no_summands))) }
+    ensures { IfOk result (λ t. term_view t ≡ tree.at place (tree.summation
+        (tree.more_summands true (term_view term) tree.no_summands))) }
 {
     let mut operands = Vec::new(alloc);
     operands.push(signed(true, term))?;
@@ -72,7 +74,8 @@ pub fn gathered(
     condition: NamedFormula,
     weight: NamedTerm,
 ) -> Result<NamedTerm, Memory>
-    ensures tree { IfOk result (λ t. term_view t ≡ tree.at place (tree.aggregate kind (map var_view vars) (formula_view condition) (term_view weight))) }
+    ensures tree { IfOk result (λ t. term_view t ≡ tree.at place (tree.aggregate kind (map var_view vars)
+        (formula_view condition) (term_view weight))) }
     ensures scope { OnOk result (scope.new ≡ take outer scope.old) }
 {
     scope.leave(outer)?;

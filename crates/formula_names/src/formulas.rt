@@ -37,9 +37,11 @@ pub fn formula<'a>(
     raw: &'a RawFormula,
     earliest: &mut Earliest,
 ) -> Result<NamedFormula, Memory>
-    ensures tree { IfOk result (λ f. formula_view f ≡ numbers.named_formula (names_in table.now) scope.old (seen.formula_view raw.now)) }
+    ensures tree { IfOk result (λ f. formula_view f ≡ numbers.named_formula (names_in table.now) scope.old
+        (seen.formula_view raw.now)) }
     ensures scope { OnOk result (scope.new ≡ scope.old) }
-    ensures noted { OnOk result (earliest.new.first ≡ fold (name_noted (names_in table.now)) earliest.old.first (use_of.uses_in (use_of.in_scope scope.old) (seen.formula_view raw.now))) }
+    ensures noted { OnOk result (earliest.new.first ≡ fold (name_noted (names_in table.now)) earliest.old.first
+        (use_of.uses_in (use_of.in_scope scope.old) (seen.formula_view raw.now))) }
 {
     match raw {
         RawFormula::Alone(or) => disjunction(alloc, table, scope, or, earliest),
@@ -63,7 +65,8 @@ fn add_links<'a>(
     earliest: &mut Earliest,
 ) -> Result<(), Memory>
     ensures trees { OnOk result (map formula_view more.new.items
-        ≡ map formula_view more.old.items ++ later_operands (names_in table.now) scope.old (seen.formula_view raw.now)) }
+        ≡ map formula_view more.old.items ++ later_operands (names_in table.now) scope.old
+        (seen.formula_view raw.now)) }
     ensures scope { OnOk result (scope.new ≡ scope.old) }
     ensures noted { OnOk result (earliest.new.first ≡ fold (name_noted (names_in table.now)) earliest.old.first
         (later_uses (use_of.in_scope scope.old) (seen.formula_view raw.now))) }
@@ -87,9 +90,11 @@ fn disjunction<'a>(
     raw: &'a RawOr,
     earliest: &mut Earliest,
 ) -> Result<NamedFormula, Memory>
-    ensures tree { IfOk result (λ f. formula_view f ≡ numbers.named_or (names_in table.now) scope.old (seen.or_view raw.now)) }
+    ensures tree { IfOk result (λ f. formula_view f ≡ numbers.named_or (names_in table.now) scope.old
+        (seen.or_view raw.now)) }
     ensures scope { OnOk result (scope.new ≡ scope.old) }
-    ensures noted { OnOk result (earliest.new.first ≡ fold (name_noted (names_in table.now)) earliest.old.first (use_of.uses_in_or (use_of.in_scope scope.old) (seen.or_view raw.now))) }
+    ensures noted { OnOk result (earliest.new.first ≡ fold (name_noted (names_in table.now)) earliest.old.first
+        (use_of.uses_in_or (use_of.in_scope scope.old) (seen.or_view raw.now))) }
 {
     let first = conjunction(alloc, table, scope, &raw.first, earliest)?;
     let more = raw.more.as_slice();
@@ -112,9 +117,11 @@ fn conjunction<'a>(
     raw: &'a RawAnd,
     earliest: &mut Earliest,
 ) -> Result<NamedFormula, Memory>
-    ensures tree { IfOk result (λ f. formula_view f ≡ numbers.named_and (names_in table.now) scope.old (seen.and_view raw.now)) }
+    ensures tree { IfOk result (λ f. formula_view f ≡ numbers.named_and (names_in table.now) scope.old
+        (seen.and_view raw.now)) }
     ensures scope { OnOk result (scope.new ≡ scope.old) }
-    ensures noted { OnOk result (earliest.new.first ≡ fold (name_noted (names_in table.now)) earliest.old.first (use_of.uses_in_and (use_of.in_scope scope.old) (seen.and_view raw.now))) }
+    ensures noted { OnOk result (earliest.new.first ≡ fold (name_noted (names_in table.now)) earliest.old.first
+        (use_of.uses_in_and (use_of.in_scope scope.old) (seen.and_view raw.now))) }
 {
     let first = unary(alloc, table, scope, &raw.first, earliest)?;
     let more = raw.more.as_slice();
@@ -137,9 +144,11 @@ fn unary<'a>(
     raw: &'a RawUnary,
     earliest: &mut Earliest,
 ) -> Result<NamedFormula, Memory>
-    ensures tree { IfOk result (λ f. formula_view f ≡ numbers.named_unary (names_in table.now) scope.old (seen.unary_view raw.now)) }
+    ensures tree { IfOk result (λ f. formula_view f ≡ numbers.named_unary (names_in table.now) scope.old
+        (seen.unary_view raw.now)) }
     ensures scope { OnOk result (scope.new ≡ scope.old) }
-    ensures noted { OnOk result (earliest.new.first ≡ fold (name_noted (names_in table.now)) earliest.old.first (use_of.uses_in_unary (use_of.in_scope scope.old) (seen.unary_view raw.now))) }
+    ensures noted { OnOk result (earliest.new.first ≡ fold (name_noted (names_in table.now)) earliest.old.first
+        (use_of.uses_in_unary (use_of.in_scope scope.old) (seen.unary_view raw.now))) }
 {
     match raw {
         RawUnary::Not(_, inner) => {
@@ -171,9 +180,11 @@ fn prim<'a>(
     raw: &'a RawPrim,
     earliest: &mut Earliest,
 ) -> Result<NamedFormula, Memory>
-    ensures tree { IfOk result (λ f. formula_view f ≡ numbers.named_prim (names_in table.now) scope.old (seen.prim_view raw.now)) }
+    ensures tree { IfOk result (λ f. formula_view f ≡ numbers.named_prim (names_in table.now) scope.old
+        (seen.prim_view raw.now)) }
     ensures scope { OnOk result (scope.new ≡ scope.old) }
-    ensures noted { OnOk result (earliest.new.first ≡ fold (name_noted (names_in table.now)) earliest.old.first (use_of.uses_in_prim (use_of.in_scope scope.old) (seen.prim_view raw.now))) }
+    ensures noted { OnOk result (earliest.new.first ≡ fold (name_noted (names_in table.now)) earliest.old.first
+        (use_of.uses_in_prim (use_of.in_scope scope.old) (seen.prim_view raw.now))) }
 {
     match raw {
         RawPrim::Group(_, inner, _) => formula(alloc, table, scope, inner.get(), earliest),
@@ -200,9 +211,11 @@ pub fn term<'a>(
     raw: &'a RawTermTree,
     earliest: &mut Earliest,
 ) -> Result<NamedTerm, Memory>
-    ensures tree { IfOk result (λ t. term_view t ≡ numbers.named_term (names_in table.now) scope.old (seen.term_view raw.now)) }
+    ensures tree { IfOk result (λ t. term_view t ≡ numbers.named_term (names_in table.now) scope.old
+        (seen.term_view raw.now)) }
     ensures scope { OnOk result (scope.new ≡ scope.old) }
-    ensures noted { OnOk result (earliest.new.first ≡ fold (name_noted (names_in table.now)) earliest.old.first (use_of.uses_in_term (use_of.in_scope scope.old) (seen.term_view raw.now))) }
+    ensures noted { OnOk result (earliest.new.first ≡ fold (name_noted (names_in table.now)) earliest.old.first
+        (use_of.uses_in_term (use_of.in_scope scope.old) (seen.term_view raw.now))) }
 {
     let first = product(alloc, table, scope, &raw.first, earliest)?;
     let more = raw.more.as_slice();
@@ -228,9 +241,11 @@ fn product<'a>(
     raw: &'a RawProduct,
     earliest: &mut Earliest,
 ) -> Result<NamedTerm, Memory>
-    ensures tree { IfOk result (λ t. term_view t ≡ numbers.named_product (names_in table.now) scope.old (seen.product_view raw.now)) }
+    ensures tree { IfOk result (λ t. term_view t ≡ numbers.named_product (names_in table.now) scope.old
+        (seen.product_view raw.now)) }
     ensures scope { OnOk result (scope.new ≡ scope.old) }
-    ensures noted { OnOk result (earliest.new.first ≡ fold (name_noted (names_in table.now)) earliest.old.first (use_of.uses_in_product (use_of.in_scope scope.old) (seen.product_view raw.now))) }
+    ensures noted { OnOk result (earliest.new.first ≡ fold (name_noted (names_in table.now)) earliest.old.first
+        (use_of.uses_in_product (use_of.in_scope scope.old) (seen.product_view raw.now))) }
 {
     let first = factor(alloc, table, scope, &raw.first, earliest)?;
     let more = raw.more.as_slice();
@@ -254,9 +269,11 @@ fn factor<'a>(
     raw: &'a RawFactor,
     earliest: &mut Earliest,
 ) -> Result<NamedTerm, Memory>
-    ensures tree { IfOk result (λ t. term_view t ≡ numbers.named_factor (names_in table.now) scope.old (seen.factor_view raw.now)) }
+    ensures tree { IfOk result (λ t. term_view t ≡ numbers.named_factor (names_in table.now) scope.old
+        (seen.factor_view raw.now)) }
     ensures scope { OnOk result (scope.new ≡ scope.old) }
-    ensures noted { OnOk result (earliest.new.first ≡ fold (name_noted (names_in table.now)) earliest.old.first (use_of.uses_in_factor (use_of.in_scope scope.old) (seen.factor_view raw.now))) }
+    ensures noted { OnOk result (earliest.new.first ≡ fold (name_noted (names_in table.now)) earliest.old.first
+        (use_of.uses_in_factor (use_of.in_scope scope.old) (seen.factor_view raw.now))) }
 {
     match raw {
         RawFactor::Integer(integer) => { Ok(placed(integer.place, NamedNode::Int(integer.value))) }
@@ -317,10 +334,16 @@ fn opened<'a>(
     condition: &'a RawFormula,
     earliest: &mut Earliest,
 ) -> Result<(Items<NamedVar>, NamedFormula), Memory>
-    ensures vars { IfOk result (λ o. map var_view o.0 ≡ numbers.named_vars (names_in table.now) (seen.vars_view opening.now.vars)) }
-    ensures condition { IfOk result (λ o. formula_view o.1 ≡ numbers.named_formula (names_in table.now) (use_of.within scope.old (seen.vars_view opening.now.vars)) (seen.formula_view condition.now)) }
+    ensures vars { IfOk result (λ o. map var_view o.0 ≡ numbers.named_vars (names_in table.now)
+        (seen.vars_view opening.now.vars)) }
+    ensures condition { IfOk result (λ o. formula_view o.1 ≡ numbers.named_formula (names_in table.now)
+        (use_of.within scope.old (seen.vars_view opening.now.vars)) (seen.formula_view condition.now)) }
     ensures scope { OnOk result (scope.new ≡ use_of.within scope.old (seen.vars_view opening.now.vars)) }
-    ensures noted { OnOk result (earliest.new.first ≡ fold (name_noted (names_in table.now)) earliest.old.first (use_of.an_aggregate opening.now.place ∷ (use_of.uses_of_vars [] (use_of.vars_in (seen.vars_view opening.now.vars)) ++ use_of.uses_in (use_of.in_scope (use_of.within scope.old (seen.vars_view opening.now.vars))) (seen.formula_view condition.now)))) }
+    ensures noted { OnOk result (earliest.new.first ≡ fold (name_noted (names_in table.now)) earliest.old.first
+        (use_of.an_aggregate opening.now.place ∷ (use_of.uses_of_vars []
+        (use_of.vars_in (seen.vars_view opening.now.vars)) ++ use_of.uses_in
+        (use_of.in_scope (use_of.within scope.old (seen.vars_view opening.now.vars)))
+        (seen.formula_view condition.now)))) }
 {
     note_aggregate(opening.place, earliest);
     let vars = binders(alloc, table, scope, opening.vars.get(), earliest)?;
@@ -336,9 +359,11 @@ fn arguments<'a>(
     raw: &'a RawApp,
     earliest: &mut Earliest,
 ) -> Result<Vec<NamedTerm>, Memory>
-    ensures trees { IfOk result (λ ts. terms_of (map term_view ts.items) ≡ numbers.named_arguments (names_in table.now) scope.old (seen.app_view raw.now)) }
+    ensures trees { IfOk result (λ ts. terms_of (map term_view ts.items) ≡ numbers.named_arguments (names_in table.now)
+        scope.old (seen.app_view raw.now)) }
     ensures scope { OnOk result (scope.new ≡ scope.old) }
-    ensures noted { OnOk result (earliest.new.first ≡ fold (name_noted (names_in table.now)) earliest.old.first (use_of.uses_in_arguments (use_of.in_scope scope.old) (seen.app_view raw.now))) }
+    ensures noted { OnOk result (earliest.new.first ≡ fold (name_noted (names_in table.now)) earliest.old.first
+        (use_of.uses_in_arguments (use_of.in_scope scope.old) (seen.app_view raw.now))) }
 {
     let mut args = Vec::new(alloc);
     let RawApp::Apply(_, _, terms, _) = raw else {

@@ -21,8 +21,10 @@ fn more_positions<'a>(
     types: &mut NumberList,
     earliest: &mut Earliest,
 ) -> Result<(), Memory>
-    ensures types { OnOk result (types.new ≡ types.old ++ map (number.type_number_of (names_in table.now)) (map tail_name more.now)) }
-    ensures noted { OnOk result (earliest.new.first ≡ fold (name_noted (names_in table.now)) earliest.old.first (map use_of.position (map tail_name more.now))) }
+    ensures types { OnOk result (types.new ≡ types.old ++ map (number.type_number_of (names_in table.now))
+        (map tail_name more.now)) }
+    ensures noted { OnOk result (earliest.new.first ≡ fold (name_noted (names_in table.now)) earliest.old.first
+        (map use_of.position (map tail_name more.now))) }
 {
     for tail in more {
         types.push(position(table, &tail.name, earliest))?;
@@ -37,8 +39,10 @@ pub fn positions<'a>(
     arguments: &'a Option<RawPositions>,
     earliest: &mut Earliest,
 ) -> Result<NumberList, Memory>
-    ensures types { IfOk result (λ ts. ts ≡ map (number.type_number_of (names_in table.now)) (argument_names arguments.now)) }
-    ensures noted { OnOk result (earliest.new.first ≡ fold (name_noted (names_in table.now)) earliest.old.first (map use_of.position (argument_names arguments.now))) }
+    ensures types { IfOk result (λ ts. ts ≡ map (number.type_number_of (names_in table.now))
+        (argument_names arguments.now)) }
+    ensures noted { OnOk result (earliest.new.first ≡ fold (name_noted (names_in table.now)) earliest.old.first
+        (map use_of.position (argument_names arguments.now))) }
 {
     let mut types = NumberList::new(alloc);
     if let Some(positions) = arguments {
@@ -57,8 +61,10 @@ pub fn value_position<'a>(
     result_type: &'a Option<RawResult>,
     earliest: &mut Earliest,
 ) -> Option<u32>
-    ensures number { result ≡ option_map (number.type_number_of (names_in table.now)) (option_map result_name result_type.now) }
-    ensures noted { earliest.new.first ≡ fold (name_noted (names_in table.now)) earliest.old.first (use_of.position_uses (option_map result_name result_type.now)) }
+    ensures number { result ≡ option_map (number.type_number_of (names_in table.now))
+        (option_map result_name result_type.now) }
+    ensures noted { earliest.new.first ≡ fold (name_noted (names_in table.now)) earliest.old.first
+        (use_of.position_uses (option_map result_name result_type.now)) }
 {
     match result_type {
         Some(raw) => Some(position(table, &raw.name, earliest)),

@@ -166,7 +166,8 @@ fn note_word(
     is_wrong: bool,
     is_unsupported: bool,
 )
-    ensures { earliest.new.first ≡ noted_if is_unsupported Unsupported place (noted_if is_wrong WrongArity place (noted_if is_unknown UnknownName place earliest.old.first)) }
+    ensures { earliest.new.first ≡ noted_if is_unsupported Unsupported place
+        (noted_if is_wrong WrongArity place (noted_if is_unknown UnknownName place earliest.old.first)) }
 {
     earliest.note_if(is_unknown, K::UnknownName, place);
     earliest.note_if(is_wrong, K::WrongArity, place);
@@ -181,8 +182,10 @@ pub fn formula_word<'a>(
     count: usize,
     earliest: &mut Earliest,
 ) -> u32
-    ensures number { result ≡ numbers.predicate_number (meaning_at (names_in table.now) scope.now (name_view word.now) count) }
-    ensures noted { earliest.new.first ≡ name_noted (names_in table.now) earliest.old.first (use_of.formula_word scope.now (name_view word.now) count) }
+    ensures number { result ≡ numbers.predicate_number (meaning_at (names_in table.now) scope.now
+        (name_view word.now) count) }
+    ensures noted { earliest.new.first ≡ name_noted (names_in table.now) earliest.old.first
+        (use_of.formula_word scope.now (name_view word.now) count) }
 {
     let meaning = meaning_at(table, scope, word, count);
     note_word(
@@ -204,7 +207,8 @@ pub fn term_word<'a>(
     earliest: &mut Earliest,
 ) -> Meaning
     ensures meaning { meaning_view result ≡ meaning_at (names_in table.now) scope.now (name_view word.now) count }
-    ensures noted { earliest.new.first ≡ name_noted (names_in table.now) earliest.old.first (use_of.term_word scope.now (name_view word.now) count) }
+    ensures noted { earliest.new.first ≡ name_noted (names_in table.now) earliest.old.first
+        (use_of.term_word scope.now (name_view word.now) count) }
 {
     let meaning = meaning_at(table, scope, word, count);
     note_word(
@@ -220,7 +224,8 @@ pub fn term_word<'a>(
 /// The type of an argument, a value or a variable.
 pub fn position<'a>(table: &Table<'a>, word: &'a RawName, earliest: &mut Earliest) -> u32
     ensures number { result ≡ numbers.type_number_of (names_in table.now) (name_view word.now) }
-    ensures noted { earliest.new.first ≡ name_noted (names_in table.now) earliest.old.first (use_of.position (name_view word.now)) }
+    ensures noted { earliest.new.first ≡ name_noted (names_in table.now) earliest.old.first
+        (use_of.position (name_view word.now)) }
 {
     let meaning = declared_meaning(table, word.text.as_slice());
     note_word(
@@ -236,7 +241,8 @@ pub fn position<'a>(table: &Table<'a>, word: &'a RawName, earliest: &mut Earlies
 /// The word after `isa`: what it means.
 pub fn parent<'a>(table: &Table<'a>, word: &'a RawName, earliest: &mut Earliest) -> Meaning
     ensures meaning { meaning_view result ≡ meaning_of (names_in table.now) word.now.text }
-    ensures noted { earliest.new.first ≡ name_noted (names_in table.now) earliest.old.first (use_of.parent (name_view word.now)) }
+    ensures noted { earliest.new.first ≡ name_noted (names_in table.now) earliest.old.first
+        (use_of.parent (name_view word.now)) }
 {
     let meaning = declared_meaning(table, word.text.as_slice());
     note_word(

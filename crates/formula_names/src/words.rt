@@ -96,14 +96,16 @@ pub fn note_aggregate(place: usize, earliest: &mut Earliest)
 
 /// Number quantifiers are not read yet.
 fn note_number_quantifier(place: usize, earliest: &mut Earliest)
-    ensures { (names : Names) → earliest.new.first ≡ name_noted names earliest.old.first (use_of.a_number_quantifier place) }
+    ensures { (names : Names) → earliest.new.first ≡ name_noted names earliest.old.first
+        (use_of.a_number_quantifier place) }
 {
     earliest.note(K::Unsupported, place);
 }
 
 /// Notes what is refused of a quantifier with this number.
 pub fn note_number(number: &RawNumber, place: usize, earliest: &mut Earliest)
-    ensures { (names : Names) → earliest.new.first ≡ fold (name_noted names) earliest.old.first (use_of.number_uses place (raw.number_view number.now)) }
+    ensures { (names : Names) → earliest.new.first ≡ fold (name_noted names) earliest.old.first
+        (use_of.number_uses place (raw.number_view number.now)) }
 {
     match number {
         RawNumber::Any => {}
@@ -119,7 +121,8 @@ pub fn quantified(
     vars: Items<NamedVar>,
     inner: NamedFormula,
 ) -> Result<NamedFormula, Memory>
-    ensures { IfOk result (λ f. formula_view f ≡ numbers.counted_by (raw.number_view number.now) (map var_view vars) (formula_view inner)) }
+    ensures { IfOk result (λ f. formula_view f ≡ numbers.counted_by (raw.number_view number.now) (map var_view vars)
+        (formula_view inner)) }
 {
     let inner = Box::new(alloc, inner)?;
     match number {
@@ -143,7 +146,8 @@ pub fn aggregated(
     condition: NamedFormula,
     weight: NamedTerm,
 ) -> Result<NamedTerm, Memory>
-    ensures { IfOk result (λ t. term_view t ≡ at place (aggregate kind (map var_view vars) (formula_view condition) (term_view weight))) }
+    ensures { IfOk result (λ t. term_view t ≡ at place (aggregate kind (map var_view vars) (formula_view condition)
+        (term_view weight))) }
 {
     let condition = Box::new(alloc, condition)?;
     Ok(NamedTerm {

@@ -1,5 +1,6 @@
 -- A text is one tree, or has one first refusal.
-use Rattle.std.proofs.Common.{◌≡◌, ℕ, List, [], ◌∷◌, ◌++◌, length, map, Result, Ok, Err, refl, sym, ap, subst, ◌∙◌, append_assoc}
+use Rattle.std.proofs.Common.{◌≡◌, ℕ, List, [], ◌∷◌, ◌++◌, length, map, Result, Ok, Err, refl, sym, ap, subst, ◌∙◌}
+use Rattle.std.proofs.Common.{append_assoc}
 use Rattle.kb_text.specs.declared.fault.K.{K}
 use Rattle.kb_text.specs.declared.fault.KbFault.{KbFault}
 use Rattle.kb_text.specs.Depth.{outermost}
@@ -44,13 +45,20 @@ cuts (x ∷ f) (y ∷ g) r s e =
     wider x y f g r s heads (cuts f g r s tails)
 
 -- the longer prefix begins a text with a token that ends the shorter one
-overtaken : {A : Type 0} (put : A → List Tok → List Tok) (Fine : A → Type 0) (ts us r s : List Tok) (h : FirstStuck put Fine ts r) (k : FirstStuck put Fine us s) (x : Tok) (m n : List Tok) → r ≡ x ∷ m → k.front ≡ h.front ++ (x ∷ n) → ⊥
+overtaken : {A : Type 0} (put : A → List Tok → List Tok) (Fine : A → Type 0) (ts us r s : List Tok)
+    (h : FirstStuck put Fine ts r) (k : FirstStuck put Fine us s) (x : Tok) (m n : List Tok) → r ≡ x ∷ m
+    → k.front ≡ h.front ++ (x ∷ n) → ⊥
 overtaken put Fine ts us r s h k x m n e d =
     let b = k.begun in
     let heads : SameHead r (x ∷ (n ++ b.1)) = subst (λ (v : List Tok). SameHead v (x ∷ (n ++ b.1))) (sym e) refl in
-    h.ended b.0 (x ∷ (n ++ b.1)) heads (sym (append_assoc h.front (x ∷ n) b.1) ∙ ap (λ (v : List Tok). v ++ b.1) (sym d) ∙ b.2.0, b.2.1)
+    h.ended b.0 (x ∷ (n ++ b.1)) heads (
+      sym (append_assoc h.front (x ∷ n) b.1) ∙ ap (λ (v : List Tok). v ++ b.1) (sym d)
+          ∙ b.2.0,
+      b.2.1,
+    )
 
-same_rest : {A : Type 0} (put : A → List Tok → List Tok) (Fine : A → Type 0) (ts r s : List Tok) (h : FirstStuck put Fine ts r) (k : FirstStuck put Fine ts s) → Cuts h.front k.front r s → r ≡ s
+same_rest : {A : Type 0} (put : A → List Tok → List Tok) (Fine : A → Type 0) (ts r s : List Tok)
+    (h : FirstStuck put Fine ts r) (k : FirstStuck put Fine ts s) → Cuts h.front k.front r s → r ≡ s
 same_rest put Fine ts r s h k (equal e) = e
 same_rest put Fine ts r s h k (longer x m n e d) = absurd (overtaken put Fine ts ts r s h k x m n e d)
 same_rest put Fine ts r s h k (shorter x m n e d) = absurd (overtaken put Fine ts ts s r k h x m n e d)
@@ -62,23 +70,37 @@ same_fault : (f g : KbFault) → f.cause ≡ g.cause → f.place ≡ g.place →
 unfolding fault
 same_fault f g c p = ap (λ (x : K). fault x f.place) c ∙ ap (λ (x : ℕ). fault g.cause x) p
 
-same_stuck : {A : Type 0} (put : A → List Tok → List Tok) (Fine : A → Type 0) (ts us : List Tok) (len : ℕ) (f g : KbFault) → ts ≡ us → IsStuck put Fine ts len f → IsStuck put Fine us len g → f ≡ g
+same_stuck : {A : Type 0} (put : A → List Tok → List Tok) (Fine : A → Type 0) (ts us : List Tok) (len : ℕ)
+    (f g : KbFault) → ts ≡ us → IsStuck put Fine ts len f → IsStuck put Fine us len g → f ≡ g
 same_stuck put Fine ts us len f g same h k =
-    let there : FirstStuck put Fine ts k.rest = subst (λ (v : List Tok). FirstStuck put Fine v k.rest) (sym same) k.first in
-    let rests = same_rest put Fine ts h.rest k.rest h.first there (cuts h.first.front there.front h.rest k.rest (sym h.first.split ∙ there.split)) in
+    let there : FirstStuck put Fine ts k.rest = subst (λ (v : List Tok). FirstStuck put Fine v k.rest)
+    (sym same) k.first in
+    let rests = same_rest put Fine ts h.rest k.rest h.first there (cuts h.first.front there.front h.rest k.rest
+    (sym h.first.split ∙ there.split)) in
     same_fault f g (h.cause ∙ sym k.cause) (h.place ∙ ap (λ (v : List Tok). place_of v len) rests ∙ sym k.place)
 
-no_text : {A : Type 0} (put : A → List Tok → List Tok) (Fine : A → Type 0) (ts us : List Tok) (len : ℕ) (f : KbFault) (a : A) → ts ≡ us → IsStuck put Fine ts len f → ParsesTo put Fine us a → ⊥
-no_text put Fine ts us len f a same h k = h.first.ended a h.rest (same_head h.rest) (sym h.first.split ∙ same ∙ k.0, k.1)
+no_text : {A : Type 0} (put : A → List Tok → List Tok) (Fine : A → Type 0) (ts us : List Tok) (len : ℕ) (f : KbFault)
+    (a : A) → ts ≡ us → IsStuck put Fine ts len f → ParsesTo put Fine us a → ⊥
+no_text put Fine ts us len f a same h k = h.first.ended a h.rest (same_head h.rest) (
+  sym h.first.split
+      ∙ same ∙ k.0,
+  k.1,
+)
 
-pub one_reading : {A : Type 0} (put : A → List Tok → List Tok) (Fine : A → Type 0) → ((a b : A) → Fine a → Fine b → put a [] ≡ put b [] → a ≡ b)
+pub one_reading : {A : Type 0} (put : A → List Tok → List Tok) (Fine : A → Type 0)
+    → ((a b : A) → Fine a → Fine b → put a [] ≡ put b [] → a ≡ b)
     → (src : List ℕ) (r s : Result A KbFault) → Reads put Fine src r → Reads put Fine src s → r ≡ s
-one_reading put Fine one src r s (parsed ts a h p) (parsed us b k q) = ap Ok (one a b p.1 q.1 (sym p.0 ∙ same_tokens src ts us h k ∙ q.0))
+one_reading put Fine one src r s (parsed ts a h p) (parsed us b k q) =
+    ap Ok (one a b p.1 q.1 (sym p.0 ∙ same_tokens src ts us h k ∙ q.0))
 one_reading put Fine one src r s (parsed ts a h p) (unscanned f k) = absurd (not_both src ts f h k)
-one_reading put Fine one src r s (parsed ts a h p) (ungrammatical us f k q) = absurd (no_text put Fine us ts (length src) f a (same_tokens src us ts k h) q p)
+one_reading put Fine one src r s (parsed ts a h p) (ungrammatical us f k q) =
+    absurd (no_text put Fine us ts (length src) f a (same_tokens src us ts k h) q p)
 one_reading put Fine one src r s (unscanned f h) (parsed us b k q) = absurd (not_both src us f k h)
-one_reading put Fine one src r s (unscanned f h) (unscanned g k) = let e = only h (Err g) k in let same : f ≡ g = cc in ap Err same
+one_reading put Fine one src r s (unscanned f h) (unscanned g k) = let e = only h (Err g) k in let same : f ≡ g =
+    cc in ap Err same
 one_reading put Fine one src r s (unscanned f h) (ungrammatical us g k q) = absurd (not_both src us f k h)
-one_reading put Fine one src r s (ungrammatical ts f h p) (parsed us b k q) = absurd (no_text put Fine ts us (length src) f b (same_tokens src ts us h k) p q)
+one_reading put Fine one src r s (ungrammatical ts f h p) (parsed us b k q) =
+    absurd (no_text put Fine ts us (length src) f b (same_tokens src ts us h k) p q)
 one_reading put Fine one src r s (ungrammatical ts f h p) (unscanned g k) = absurd (not_both src ts g h k)
-one_reading put Fine one src r s (ungrammatical ts f h p) (ungrammatical us g k q) = ap Err (same_stuck put Fine ts us (length src) f g (same_tokens src ts us h k) p q)
+one_reading put Fine one src r s (ungrammatical ts f h p) (ungrammatical us g k q) =
+    ap Err (same_stuck put Fine ts us (length src) f g (same_tokens src ts us h k) p q)

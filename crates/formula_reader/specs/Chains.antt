@@ -8,9 +8,11 @@ use Rattle.fo_syntax.specs.declared.terminal.Arrow.{Arrow}
 use Rattle.fo_syntax.specs.declared.terminal.Terminal.TheVariants as t
 use Rattle.fo_syntax.specs.declared.raw.RawTerms.{RawTerms}
 use Rattle.fo_syntax.specs.Terminals.{Tok, sign, toks}
-use Rattle.fo_syntax.specs.Trees.{Name, Formula, alone, linked, Links, last, link, Or, And, Unary, Term, Product, Factor}
+use Rattle.fo_syntax.specs.Trees.{Name, Formula, alone, linked, Links, last, link, Or, And, Unary, Term, Product}
+use Rattle.fo_syntax.specs.Trees.{Factor}
 use Rattle.fo_syntax.specs.Spelling.{put_name, put_formula, put_or, put_and, put_term, put_product, put_app, put_terms}
-use Rattle.fo_syntax.specs.Fine.{closed_and, closed_or, FineFormula, FineOr, FineAnd, FineTerm, FineProduct, FineApp, FineTerms}
+use Rattle.fo_syntax.specs.Fine.{closed_and, closed_or, FineFormula, FineOr, FineAnd, FineTerm, FineProduct, FineApp}
+use Rattle.fo_syntax.specs.Fine.{FineTerms}
 use Rattle.fo_syntax.specs.View.{terms_view, formula_of, or_of, and_of, term_of, product_of, terms_of}
 use Rattle.token_reader.specs.Machine.{fresh, unsettled}
 use Rattle.token_reader.specs.Modes.{mode_formula, mode_or, mode_and, sort_formula, sort_or, sort_and}
@@ -63,12 +65,14 @@ abbrev pub MoreFactors : List Tok → Factor → List (ℕ × Factor) → ℕ �
 MoreFactors ts x xs len (Ok r) = ProductIs ts (product_of x xs) (toks r.now)
 MoreFactors ts x xs len (Err e) = Fails at_either put_product FineProduct ts len e
 
-abbrev pub MoreProducts : List Tok → Product → List (Adding × ℕ × Product) → ℕ → Result (Bor (List Item)) ReadError → Type 0
+abbrev pub MoreProducts : List Tok → Product → List (Adding × ℕ × Product) → ℕ
+    → Result (Bor (List Item)) ReadError → Type 0
 MoreProducts ts x xs len (Ok r) = TermIs ts (term_of x xs) (toks r.now)
 MoreProducts ts x xs len (Err e) = Fails at_either put_term FineTerm ts len e
 
 -- the rest of the arguments of this word, with the closing bracket
-abbrev pub MoreTerms : Name → List Tok → ℕ → Term → List (ℕ × Term) → ℕ → Result (ℕ × Bor (List Item)) ReadError → Type 0
+abbrev pub MoreTerms : Name → List Tok → ℕ → Term → List (ℕ × Term) → ℕ
+    → Result (ℕ × Bor (List Item)) ReadError → Type 0
 MoreTerms n ts start x xs len (Ok p) =
     (ts ≡ sign t.Open start ∷ put_terms (terms_of x xs) (sign t.Close p.0 ∷ toks p.1.now)) × FineTerms (terms_of x xs)
 MoreTerms n ts start x xs len (Err e) = Fails at_either put_app FineApp (put_name n ts) len e

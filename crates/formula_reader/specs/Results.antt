@@ -21,14 +21,22 @@ use Rattle.fo_syntax.specs.declared.terminal.Terminal.TheVariants as t
 use Rattle.fo_syntax.specs.declared.raw.RawOpening.{RawOpening}
 use Rattle.fo_syntax.specs.declared.terminal.Adding.TheVariants.{Minus}
 use Rattle.fo_syntax.specs.Terminals.{Tok, sign, toks}
-use Rattle.fo_syntax.specs.Trees.{Formula, alone, Or, one, And, single, Unary, not, prim, Prim, group, atom, Term, product, Product, factor, Factor, value, brackets, negative, App, constant, empty, apply, Vars}
-use Rattle.fo_syntax.specs.Spelling.{put_formula, put_or, put_and, put_unary, put_prim, put_term, put_product, put_factor, put_app, put_vars}
-use Rattle.fo_syntax.specs.Fine.{closed_unary, closed_and, closed_or, FineFormula, FineOr, FineAnd, FineUnary, FineTerm, FineProduct, FineFactor, FineApp}
+use Rattle.fo_syntax.specs.Trees.{Formula, alone, Or, one, And, single, Unary, not, prim, Prim, group, atom, Term}
+use Rattle.fo_syntax.specs.Trees.{product, Product, factor, Factor, value, brackets, negative, App, constant, empty}
+use Rattle.fo_syntax.specs.Trees.{apply, Vars}
+use Rattle.fo_syntax.specs.Spelling.{put_formula, put_or, put_and, put_unary, put_prim, put_term, put_product}
+use Rattle.fo_syntax.specs.Spelling.{put_factor, put_app, put_vars}
+use Rattle.fo_syntax.specs.Fine.{closed_unary, closed_and, closed_or, FineFormula, FineOr, FineAnd, FineUnary, FineTerm}
+use Rattle.fo_syntax.specs.Fine.{FineProduct, FineFactor, FineApp}
 use Rattle.token_reader.specs.Sorts.{app_formula, app_unary, app_term}
 use Rattle.token_reader.specs.Machine.{Chain, fresh, unsettled, in_formula, either, brace, vars_first, colon}
-use Rattle.token_reader.specs.Modes.{mode_formula, mode_or, mode_and, mode_unary, sort_formula, sort_or, sort_and, sort_unary}
-use Rattle.fo_syntax.specs.View.{formula_view, or_view, and_view, unary_view, term_view, product_view, factor_view, app_view, vars_view}
-use Rattle.token_reader.specs.Parts.{EndsFactor, EndsTerm, EndsPrim, Halts, unaries, ands, ors, Behind, Fails, at_sentence, at_bracket, at_entry, at_operand, at_unary, at_factor, at_either, At, NoTimes}
+use Rattle.token_reader.specs.Modes.{mode_formula, mode_or, mode_and, mode_unary, sort_formula, sort_or, sort_and}
+use Rattle.token_reader.specs.Modes.{sort_unary}
+use Rattle.fo_syntax.specs.View.{formula_view, or_view, and_view, unary_view, term_view, product_view, factor_view}
+use Rattle.fo_syntax.specs.View.{app_view, vars_view}
+use Rattle.token_reader.specs.Parts.{EndsFactor, EndsTerm, EndsPrim, Halts, unaries, ands, ors, Behind, Fails}
+use Rattle.token_reader.specs.Parts.{at_sentence, at_bracket, at_entry, at_operand, at_unary, at_factor, at_either, At}
+use Rattle.token_reader.specs.Parts.{NoTimes}
 use Rattle.token_reader.specs.Binders.{Whole}
 
 -- an operand in these pairs of brackets, the innermost first
@@ -92,7 +100,8 @@ FormulaRead ts len (Ok p) = FormulaIs ts fresh (formula_view p.0) (toks p.1.now)
 FormulaRead ts len (Err e) = Fails at_sentence put_formula FineFormula ts len e
 
 abbrev pub LinkedRead : List Tok → ℕ → Result (RawFormula × Bor (List Item)) ReadError → Type 0
-LinkedRead ts len (Ok p) = FormulaIs ts fresh (formula_view p.0) (toks p.1.now) × FormulaIs ts unsettled (formula_view p.0) (toks p.1.now)
+LinkedRead ts len (Ok p) = FormulaIs ts fresh (formula_view p.0) (toks p.1.now) × FormulaIs ts unsettled
+    (formula_view p.0) (toks p.1.now)
 LinkedRead ts len (Err e) = Fails at_entry put_formula FineFormula ts len e
 
 abbrev pub TermRead : List Tok → ℕ → Result (RawTermTree × Bor (List Item)) ReadError → Type 0
@@ -101,7 +110,8 @@ TermRead ts len (Err e) = Fails at_factor put_term FineTerm ts len e
 
 -- a formula's operand, or a term in its place
 abbrev pub OperandIs : List Tok → Operand → List Tok → Type 0
-OperandIs ts (operand.Formula u closed) rest = UnaryIs ts (unary_view u) closed rest × (app_unary (unary_view u) ≡ false)
+OperandIs ts (operand.Formula u closed) rest = UnaryIs ts (unary_view u) closed rest
+    × (app_unary (unary_view u) ≡ false)
 OperandIs ts (operand.Term x) rest = TermIs ts (term_view x) rest × EndsPrim rest × (app_term (term_view x) ≡ false)
 OperandIs ts (operand.Either a pairs) rest = AppIs ts (app_view a) pairs rest
 
@@ -111,7 +121,8 @@ OperandRead ts len (Err e) = Fails at_operand put_unary FineUnary ts len e
 
 -- what stands in brackets in which a term may stand as well
 abbrev pub ContentIs : List Tok → Content → List Tok → Type 0
-ContentIs ts (content.Formula f) rest = FormulaIs ts unsettled (formula_view f) rest × (app_formula (formula_view f) ≡ false)
+ContentIs ts (content.Formula f) rest = FormulaIs ts unsettled (formula_view f) rest
+    × (app_formula (formula_view f) ≡ false)
 ContentIs ts (content.Term x) rest = TermIs ts (term_view x) rest × EndsPrim rest × (app_term (term_view x) ≡ false)
 ContentIs ts (content.Either a pairs) rest = AppIs ts (app_view a) pairs rest × Halts (in_formula unsettled) either rest
 
@@ -127,16 +138,22 @@ InsideRead ts len (Err e) = (p : ℕ) → Fails at_operand put_unary FineUnary (
 
 -- a reader of what is shorter than so many tokens
 pub record Nests {R : Type 0} (left : ℕ) (Read : List Tok → ℕ → Result (R × Bor (List Item)) ReadError → Type 0)
-    (pre : Global → Bor (List Item) → ℕ → Type 0) (post : Global → Bor (List Item) → ℕ → Result (R × Bor (List Item)) ReadError → Type 0) : Type 0 where
+    (pre : Global → Bor (List Item) → ℕ → Type 0) (post : Global → Bor (List Item) → ℕ
+    → Result (R × Bor (List Item)) ReadError → Type 0) : Type 0 where
   pub callable : (alloc : Global) (items : Bor (List Item)) (len : ℕ) → length items.now < left → pre alloc items len
-  pub reads : (alloc : Global) (items : Bor (List Item)) (len : ℕ) (r : Result (R × Bor (List Item)) ReadError) → post alloc items len r → Read (toks items.now) len r
-  pub shorter : (alloc : Global) (items : Bor (List Item)) (len : ℕ) (r : Result (R × Bor (List Item)) ReadError) → post alloc items len r → IfOk r (λ p. length p.1.now ≤ length items.now)
+  pub reads : (alloc : Global) (items : Bor (List Item)) (len : ℕ) (r : Result (R × Bor (List Item)) ReadError)
+      → post alloc items len r → Read (toks items.now) len r
+  pub shorter : (alloc : Global) (items : Bor (List Item)) (len : ℕ) (r : Result (R × Bor (List Item)) ReadError)
+      → post alloc items len r → IfOk r (λ p. length p.1.now ≤ length items.now)
 
 -- the readers of what nests in a text of so many tokens
 pub record Readers (left : ℕ)
-    (formula_pre : Global → Bor (List Item) → ℕ → Type 0) (formula_post : Global → Bor (List Item) → ℕ → Result (RawFormula × Bor (List Item)) ReadError → Type 0)
-    (content_pre : Global → Bor (List Item) → ℕ → Type 0) (content_post : Global → Bor (List Item) → ℕ → Result (Content × Bor (List Item)) ReadError → Type 0)
-    (term_pre : Global → Bor (List Item) → ℕ → Type 0) (term_post : Global → Bor (List Item) → ℕ → Result (RawTermTree × Bor (List Item)) ReadError → Type 0) : Type 0 where
+    (formula_pre : Global → Bor (List Item) → ℕ → Type 0) (formula_post : Global → Bor (List Item) → ℕ
+    → Result (RawFormula × Bor (List Item)) ReadError → Type 0)
+    (content_pre : Global → Bor (List Item) → ℕ → Type 0) (content_post : Global → Bor (List Item) → ℕ
+    → Result (Content × Bor (List Item)) ReadError → Type 0)
+    (term_pre : Global → Bor (List Item) → ℕ → Type 0) (term_post : Global → Bor (List Item) → ℕ
+    → Result (RawTermTree × Bor (List Item)) ReadError → Type 0) : Type 0 where
   pub formulas : Nests left FormulaRead formula_pre formula_post
   pub contents : Nests left ContentRead content_pre content_post
   pub terms : Nests left TermRead term_pre term_post

@@ -29,7 +29,8 @@ impl<
 > Reader<F, G, H> {
     /// The formula that nests here.
     pub fn formula(&self, items: &'a [Item<'a>]) -> Found<'a, Boxed<RawFormula>>
-        requires nests { Readers self.now.left (F.pre self.now.formula) (F.post self.now.formula) (G.pre self.now.content) (G.post self.now.content) (H.pre self.now.term) (H.post self.now.term) }
+        requires nests { Readers self.now.left (F.pre self.now.formula) (F.post self.now.formula)
+            (G.pre self.now.content) (G.post self.now.content) (H.pre self.now.term) (H.post self.now.term) }
         requires fewer { length items.now < self.now.left }
         ensures reads { FormulaRead (toks items.now) self.now.end result }
         ensures shorter { IfOk result (λ p. length p.1.now ≤ length items.now) }
@@ -39,7 +40,8 @@ impl<
 
     /// What stands in brackets here, a formula or a term.
     pub fn content(&self, items: &'a [Item<'a>]) -> Found<'a, Content>
-        requires nests { Readers self.now.left (F.pre self.now.formula) (F.post self.now.formula) (G.pre self.now.content) (G.post self.now.content) (H.pre self.now.term) (H.post self.now.term) }
+        requires nests { Readers self.now.left (F.pre self.now.formula) (F.post self.now.formula)
+            (G.pre self.now.content) (G.post self.now.content) (H.pre self.now.term) (H.post self.now.term) }
         requires fewer { length items.now < self.now.left }
         ensures reads { ContentRead (toks items.now) self.now.end result }
         ensures shorter { IfOk result (λ p. length p.1.now ≤ length items.now) }
@@ -49,7 +51,8 @@ impl<
 
     /// The term that nests here.
     pub fn term(&self, items: &'a [Item<'a>]) -> Found<'a, Boxed<RawTermTree>>
-        requires nests { Readers self.now.left (F.pre self.now.formula) (F.post self.now.formula) (G.pre self.now.content) (G.post self.now.content) (H.pre self.now.term) (H.post self.now.term) }
+        requires nests { Readers self.now.left (F.pre self.now.formula) (F.post self.now.formula)
+            (G.pre self.now.content) (G.post self.now.content) (H.pre self.now.term) (H.post self.now.term) }
         requires fewer { length items.now < self.now.left }
         ensures reads { TermRead (toks items.now) self.now.end result }
         ensures shorter { IfOk result (λ p. length p.1.now ≤ length items.now) }

@@ -5,10 +5,14 @@ ghost use Rattle.fo_syntax.specs.Trees as tree;
 ghost use Rattle.fo_syntax.specs.Spelling.{put_unary, put_prim, put_term, put_factor};
 ghost use Rattle.fo_syntax.specs.Fine.{FineTerm, FineFactor, FineApp};
 ghost use Rattle.token_reader.specs.Sorts.{app_formula, app_or, app_and, app_unary, app_term, app_factor};
-ghost use Rattle.fo_syntax.specs.View.{formula_of, or_of, and_of, link_view, or_tail_view, and_tail_view, formula_view, or_view, and_view, unary_view, prim_view, term_view, factor_view, app_view};
+ghost use Rattle.fo_syntax.specs.View.{formula_of, or_of, and_of, link_view, or_tail_view, and_tail_view, formula_view};
+ghost use Rattle.fo_syntax.specs.View.{or_view, and_view, unary_view, prim_view, term_view, factor_view, app_view};
 ghost use Rattle.token_reader.specs.Parts.{EndsFactor, EndsTerm, EndsPrim, NoNot, TermsOnly};
 ghost use Rattle.formula_reader.specs.Chains.{AndsAre, OrsAre, LinksAre, MoreAnds, MoreOrs, MoreLinks};
-ghost use Rattle.formula_reader.specs.Results.{Readers, UnaryIs, UnaryRead, AndRead, OrIs, OrRead, ConjunctionRead, DisjunctionRead, FormulaRead, LinkedRead, OperandIs, OperandRead, ContentRead, InsideRead, SettledRead, wrap_prim, wrap_factor, nots, put_nots};
+ghost use Rattle.formula_reader.specs.Results.{Readers, UnaryIs, UnaryRead, AndRead, OrIs, OrRead, ConjunctionRead};
+ghost use Rattle.formula_reader.specs.Results.{DisjunctionRead, FormulaRead, LinkedRead, OperandIs, OperandRead};
+ghost use Rattle.formula_reader.specs.Results.{ContentRead, InsideRead, SettledRead, wrap_prim, wrap_factor, nots};
+ghost use Rattle.formula_reader.specs.Results.{put_nots};
 ghost use Rattle.fo_syntax.specs.declared.terminal.Terminal.TheVariants as t;
 
 use crate::expressions::Reader;
@@ -137,11 +141,13 @@ impl<
 > Reader<F, G, H> {
     // A term in the place of an operand, or the comparison that it begins.
     fn compared(&self, term: Boxed<RawTermTree>, items: &'a [Item<'a>]) -> Found<'a, Operand>
-        requires nests { Readers self.now.left (F.pre self.now.formula) (F.post self.now.formula) (G.pre self.now.content) (G.post self.now.content) (H.pre self.now.term) (H.post self.now.term) }
+        requires nests { Readers self.now.left (F.pre self.now.formula) (F.post self.now.formula)
+            (G.pre self.now.content) (G.post self.now.content) (H.pre self.now.term) (H.post self.now.term) }
         requires fewer { length items.now ≤ self.now.left }
         requires fine { FineTerm (term_view term) }
         requires ends { EndsTerm (toks items.now) }
-        ensures reads { (EndsPrim (toks items.now) → app_term (term_view term) ≡ false) → OperandRead (put_term (term_view term) (toks items.now)) self.now.end result }
+        ensures reads { (EndsPrim (toks items.now) → app_term (term_view term) ≡ false)
+            → OperandRead (put_term (term_view term) (toks items.now)) self.now.end result }
         ensures shorter { IfOk result (λ p. length p.1.now ≤ length items.now) }
     {
         let Some((sign, place, rest)) = after_compare(items) else {
@@ -154,11 +160,13 @@ impl<
 
     // The operand that has begun with this factor.
     fn begun(&self, first: Boxed<RawFactor>, items: &'a [Item<'a>]) -> Found<'a, Operand>
-        requires nests { Readers self.now.left (F.pre self.now.formula) (F.post self.now.formula) (G.pre self.now.content) (G.post self.now.content) (H.pre self.now.term) (H.post self.now.term) }
+        requires nests { Readers self.now.left (F.pre self.now.formula) (F.post self.now.formula)
+            (G.pre self.now.content) (G.post self.now.content) (H.pre self.now.term) (H.post self.now.term) }
         requires fewer { length items.now ≤ self.now.left }
         requires fine { FineFactor (factor_view first) }
         requires ends { EndsFactor (toks items.now) }
-        ensures reads { (EndsPrim (toks items.now) → app_factor (factor_view first) ≡ false) → OperandRead (put_factor (factor_view first) (toks items.now)) self.now.end result }
+        ensures reads { (EndsPrim (toks items.now) → app_factor (factor_view first) ≡ false)
+            → OperandRead (put_factor (factor_view first) (toks items.now)) self.now.end result }
         ensures shorter { IfOk result (λ p. length p.1.now ≤ length items.now) }
     {
         let (term, rest) = self.summed(first, items)?;
@@ -167,7 +175,8 @@ impl<
 
     // A factor that is no application, and what it begins.
     fn measured(&self, items: &'a [Item<'a>]) -> Found<'a, Operand>
-        requires nests { Readers self.now.left (F.pre self.now.formula) (F.post self.now.formula) (G.pre self.now.content) (G.post self.now.content) (H.pre self.now.term) (H.post self.now.term) }
+        requires nests { Readers self.now.left (F.pre self.now.formula) (F.post self.now.formula)
+            (G.pre self.now.content) (G.post self.now.content) (H.pre self.now.term) (H.post self.now.term) }
         requires fewer { length items.now ≤ self.now.left }
         ensures reads { TermsOnly (toks items.now) → OperandRead (toks items.now) self.now.end result }
         ensures shorter { IfOk result (λ p. length p.1.now ≤ length items.now) }
@@ -183,11 +192,13 @@ impl<
         pairs: Items<Pair>,
         items: &'a [Item<'a>],
     ) -> Found<'a, Operand>
-        requires nests { Readers self.now.left (F.pre self.now.formula) (F.post self.now.formula) (G.pre self.now.content) (G.post self.now.content) (H.pre self.now.term) (H.post self.now.term) }
+        requires nests { Readers self.now.left (F.pre self.now.formula) (F.post self.now.formula)
+            (G.pre self.now.content) (G.post self.now.content) (H.pre self.now.term) (H.post self.now.term) }
         requires fewer { length items.now ≤ self.now.left }
         requires fine { FineApp (app_view app) }
         requires ends { EndsFactor (toks items.now) }
-        ensures reads { OperandRead (put_prim (wrap_prim pairs (tree.atom (app_view app))) (toks items.now)) self.now.end result }
+        ensures reads { OperandRead (put_prim (wrap_prim pairs (tree.atom (app_view app))) (toks items.now))
+            self.now.end result }
         ensures shorter { IfOk result (λ p. length p.1.now ≤ length items.now) }
     {
         if goes_on(items) {
@@ -199,7 +210,8 @@ impl<
 
     // A word, and what it begins.
     fn worded(&self, text: &[u8], place: usize, items: &'a [Item<'a>]) -> Found<'a, Operand>
-        requires nests { Readers self.now.left (F.pre self.now.formula) (F.post self.now.formula) (G.pre self.now.content) (G.post self.now.content) (H.pre self.now.term) (H.post self.now.term) }
+        requires nests { Readers self.now.left (F.pre self.now.formula) (F.post self.now.formula)
+            (G.pre self.now.content) (G.post self.now.content) (H.pre self.now.term) (H.post self.now.term) }
         requires fewer { length items.now < self.now.left }
         ensures reads { OperandRead (tok_at (word text.now) place ∷ toks items.now) self.now.end result }
         ensures shorter { IfOk result (λ p. length p.1.now ≤ length items.now) }
@@ -212,7 +224,8 @@ impl<
 
     // What stands in brackets up to the closing one, and the place of that.
     fn inside(&self, items: &'a [Item<'a>]) -> Result<(Content, usize, &'a [Item<'a>]), ReadError>
-        requires nests { Readers self.now.left (F.pre self.now.formula) (F.post self.now.formula) (G.pre self.now.content) (G.post self.now.content) (H.pre self.now.term) (H.post self.now.term) }
+        requires nests { Readers self.now.left (F.pre self.now.formula) (F.post self.now.formula)
+            (G.pre self.now.content) (G.post self.now.content) (H.pre self.now.term) (H.post self.now.term) }
         requires fewer { length items.now < self.now.left }
         ensures reads { InsideRead (toks items.now) self.now.end result }
         ensures shorter { IfOk result (λ p. length p.2.now ≤ length items.now) }
@@ -225,7 +238,8 @@ impl<
 
     // What stands in brackets, and what it begins.
     fn enclosed(&self, begin: usize, items: &'a [Item<'a>]) -> Found<'a, Operand>
-        requires nests { Readers self.now.left (F.pre self.now.formula) (F.post self.now.formula) (G.pre self.now.content) (G.post self.now.content) (H.pre self.now.term) (H.post self.now.term) }
+        requires nests { Readers self.now.left (F.pre self.now.formula) (F.post self.now.formula)
+            (G.pre self.now.content) (G.post self.now.content) (H.pre self.now.term) (H.post self.now.term) }
         requires fewer { length items.now < self.now.left }
         ensures reads { OperandRead (sign t.Open begin ∷ toks items.now) self.now.end result }
         ensures shorter { IfOk result (λ p. length p.1.now ≤ length items.now) }
@@ -251,7 +265,8 @@ impl<
     }
 
     fn every(&self, place: usize, items: &'a [Item<'a>]) -> Found<'a, Operand>
-        requires nests { Readers self.now.left (F.pre self.now.formula) (F.post self.now.formula) (G.pre self.now.content) (G.post self.now.content) (H.pre self.now.term) (H.post self.now.term) }
+        requires nests { Readers self.now.left (F.pre self.now.formula) (F.post self.now.formula)
+            (G.pre self.now.content) (G.post self.now.content) (H.pre self.now.term) (H.post self.now.term) }
         requires fewer { length items.now < self.now.left }
         ensures reads { OperandRead (sign t.Every place ∷ toks items.now) self.now.end result }
         ensures shorter { IfOk result (λ p. length p.1.now ≤ length items.now) }
@@ -263,7 +278,8 @@ impl<
     }
 
     fn some(&self, place: usize, items: &'a [Item<'a>]) -> Found<'a, Operand>
-        requires nests { Readers self.now.left (F.pre self.now.formula) (F.post self.now.formula) (G.pre self.now.content) (G.post self.now.content) (H.pre self.now.term) (H.post self.now.term) }
+        requires nests { Readers self.now.left (F.pre self.now.formula) (F.post self.now.formula)
+            (G.pre self.now.content) (G.post self.now.content) (H.pre self.now.term) (H.post self.now.term) }
         requires fewer { length items.now < self.now.left }
         ensures reads { OperandRead (sign t.Some place ∷ toks items.now) self.now.end result }
         ensures shorter { IfOk result (λ p. length p.1.now ≤ length items.now) }
@@ -277,7 +293,8 @@ impl<
 
     // An operand without `~` before it.
     fn plain(&self, items: &'a [Item<'a>]) -> Found<'a, Operand>
-        requires nests { Readers self.now.left (F.pre self.now.formula) (F.post self.now.formula) (G.pre self.now.content) (G.post self.now.content) (H.pre self.now.term) (H.post self.now.term) }
+        requires nests { Readers self.now.left (F.pre self.now.formula) (F.post self.now.formula)
+            (G.pre self.now.content) (G.post self.now.content) (H.pre self.now.term) (H.post self.now.term) }
         requires fewer { length items.now ≤ self.now.left }
         ensures reads { NoNot (toks items.now) → OperandRead (toks items.now) self.now.end result }
         ensures shorter { IfOk result (λ p. length p.1.now ≤ length items.now) }
@@ -301,7 +318,8 @@ impl<
 
     // An operand of whatever sort, with the signs before it.
     fn operand(&self, items: &'a [Item<'a>]) -> Found<'a, Operand>
-        requires nests { Readers self.now.left (F.pre self.now.formula) (F.post self.now.formula) (G.pre self.now.content) (G.post self.now.content) (H.pre self.now.term) (H.post self.now.term) }
+        requires nests { Readers self.now.left (F.pre self.now.formula) (F.post self.now.formula)
+            (G.pre self.now.content) (G.post self.now.content) (H.pre self.now.term) (H.post self.now.term) }
         requires fewer { length items.now ≤ self.now.left }
         ensures reads { OperandRead (toks items.now) self.now.end result }
         ensures shorter { IfOk result (λ p. length p.1.now ≤ length items.now) }
@@ -319,7 +337,8 @@ impl<
 
     // An operand of a connective, and whether no quantified formula stands at its end.
     fn unary(&self, items: &'a [Item<'a>]) -> Chained<'a, Boxed<RawUnary>>
-        requires nests { Readers self.now.left (F.pre self.now.formula) (F.post self.now.formula) (G.pre self.now.content) (G.post self.now.content) (H.pre self.now.term) (H.post self.now.term) }
+        requires nests { Readers self.now.left (F.pre self.now.formula) (F.post self.now.formula)
+            (G.pre self.now.content) (G.post self.now.content) (H.pre self.now.term) (H.post self.now.term) }
         requires fewer { length items.now ≤ self.now.left }
         ensures reads { UnaryRead (toks items.now) self.now.end result }
         ensures shorter { IfOk result (λ p. length p.2.now ≤ length items.now) }
@@ -337,9 +356,11 @@ impl<
         ends: bool,
         items: &'a [Item<'a>],
     ) -> Found<'a, bool>
-        requires nests { Readers self.now.left (F.pre self.now.formula) (F.post self.now.formula) (G.pre self.now.content) (G.post self.now.content) (H.pre self.now.term) (H.post self.now.term) }
+        requires nests { Readers self.now.left (F.pre self.now.formula) (F.post self.now.formula)
+            (G.pre self.now.content) (G.post self.now.content) (H.pre self.now.term) (H.post self.now.term) }
         requires fewer { length items.now ≤ self.now.left }
-        ensures reads { (ts : List Tok) (u : tree.Unary) → AndsAre ts (and_of u (map and_tail_view more.old)) ends (toks items.now)
+        ensures reads { (ts : List Tok) (u : tree.Unary) → AndsAre ts (and_of u (map and_tail_view more.old)) ends
+            (toks items.now)
             → MoreAnds ts u (map and_tail_view more.new) self.now.end result }
         ensures shorter { IfOk result (λ p. length p.1.now ≤ length items.now) }
     {
@@ -361,9 +382,11 @@ impl<
         ends: bool,
         items: &'a [Item<'a>],
     ) -> Chained<'a, Boxed<RawAnd>>
-        requires nests { Readers self.now.left (F.pre self.now.formula) (F.post self.now.formula) (G.pre self.now.content) (G.post self.now.content) (H.pre self.now.term) (H.post self.now.term) }
+        requires nests { Readers self.now.left (F.pre self.now.formula) (F.post self.now.formula)
+            (G.pre self.now.content) (G.post self.now.content) (H.pre self.now.term) (H.post self.now.term) }
         requires fewer { length items.now ≤ self.now.left }
-        ensures reads { UnaryIs (put_unary (unary_view first) (toks items.now)) (unary_view first) ends (toks items.now) → AndRead (put_unary (unary_view first) (toks items.now)) self.now.end result }
+        ensures reads { UnaryIs (put_unary (unary_view first) (toks items.now)) (unary_view first) ends (toks items.now)
+            → AndRead (put_unary (unary_view first) (toks items.now)) self.now.end result }
         ensures kind { IfOk result (λ p. app_and (and_view p.0) ≡ true → app_unary (unary_view first) ≡ true) }
         ensures shorter { IfOk result (λ p. length p.2.now ≤ length items.now) }
     {
@@ -375,7 +398,8 @@ impl<
 
     // An operand of `|`.
     fn conjunction(&self, items: &'a [Item<'a>]) -> Chained<'a, Boxed<RawAnd>>
-        requires nests { Readers self.now.left (F.pre self.now.formula) (F.post self.now.formula) (G.pre self.now.content) (G.post self.now.content) (H.pre self.now.term) (H.post self.now.term) }
+        requires nests { Readers self.now.left (F.pre self.now.formula) (F.post self.now.formula)
+            (G.pre self.now.content) (G.post self.now.content) (H.pre self.now.term) (H.post self.now.term) }
         requires fewer { length items.now ≤ self.now.left }
         ensures reads { ConjunctionRead (toks items.now) self.now.end result }
         ensures shorter { IfOk result (λ p. length p.2.now ≤ length items.now) }
@@ -391,9 +415,11 @@ impl<
         ends: bool,
         items: &'a [Item<'a>],
     ) -> Found<'a, bool>
-        requires nests { Readers self.now.left (F.pre self.now.formula) (F.post self.now.formula) (G.pre self.now.content) (G.post self.now.content) (H.pre self.now.term) (H.post self.now.term) }
+        requires nests { Readers self.now.left (F.pre self.now.formula) (F.post self.now.formula)
+            (G.pre self.now.content) (G.post self.now.content) (H.pre self.now.term) (H.post self.now.term) }
         requires fewer { length items.now ≤ self.now.left }
-        ensures reads { (ts : List Tok) (a : tree.And) → OrsAre ts (or_of a (map or_tail_view more.old)) ends (toks items.now)
+        ensures reads { (ts : List Tok) (a : tree.And) → OrsAre ts (or_of a (map or_tail_view more.old)) ends
+            (toks items.now)
             → MoreOrs ts a (map or_tail_view more.new) self.now.end result }
         ensures shorter { IfOk result (λ p. length p.1.now ≤ length items.now) }
     {
@@ -415,9 +441,11 @@ impl<
         ends: bool,
         items: &'a [Item<'a>],
     ) -> Chained<'a, Boxed<RawOr>>
-        requires nests { Readers self.now.left (F.pre self.now.formula) (F.post self.now.formula) (G.pre self.now.content) (G.post self.now.content) (H.pre self.now.term) (H.post self.now.term) }
+        requires nests { Readers self.now.left (F.pre self.now.formula) (F.post self.now.formula)
+            (G.pre self.now.content) (G.post self.now.content) (H.pre self.now.term) (H.post self.now.term) }
         requires fewer { length items.now ≤ self.now.left }
-        ensures reads { UnaryIs (put_unary (unary_view first) (toks items.now)) (unary_view first) ends (toks items.now) → OrRead (put_unary (unary_view first) (toks items.now)) self.now.end result }
+        ensures reads { UnaryIs (put_unary (unary_view first) (toks items.now)) (unary_view first) ends (toks items.now)
+            → OrRead (put_unary (unary_view first) (toks items.now)) self.now.end result }
         ensures kind { IfOk result (λ p. app_or (or_view p.0) ≡ true → app_unary (unary_view first) ≡ true) }
         ensures shorter { IfOk result (λ p. length p.2.now ≤ length items.now) }
     {
@@ -430,7 +458,8 @@ impl<
 
     // An operand of an arrow.
     fn disjunction(&self, items: &'a [Item<'a>]) -> Chained<'a, Boxed<RawOr>>
-        requires nests { Readers self.now.left (F.pre self.now.formula) (F.post self.now.formula) (G.pre self.now.content) (G.post self.now.content) (H.pre self.now.term) (H.post self.now.term) }
+        requires nests { Readers self.now.left (F.pre self.now.formula) (F.post self.now.formula)
+            (G.pre self.now.content) (G.post self.now.content) (H.pre self.now.term) (H.post self.now.term) }
         requires fewer { length items.now ≤ self.now.left }
         ensures reads { DisjunctionRead (toks items.now) self.now.end result }
         ensures shorter { IfOk result (λ p. length p.2.now ≤ length items.now) }
@@ -447,9 +476,11 @@ impl<
         ends: bool,
         items: &'a [Item<'a>],
     ) -> Result<&'a [Item<'a>], ReadError>
-        requires nests { Readers self.now.left (F.pre self.now.formula) (F.post self.now.formula) (G.pre self.now.content) (G.post self.now.content) (H.pre self.now.term) (H.post self.now.term) }
+        requires nests { Readers self.now.left (F.pre self.now.formula) (F.post self.now.formula)
+            (G.pre self.now.content) (G.post self.now.content) (H.pre self.now.term) (H.post self.now.term) }
         requires fewer { length items.now ≤ self.now.left }
-        ensures reads { (ts : List Tok) (o : tree.Or) (x : ℕ × tree.Or) → LinksAre ts (formula_of arrow o (x ∷ map link_view more.old)) ends (toks items.now)
+        ensures reads { (ts : List Tok) (o : tree.Or) (x : ℕ × tree.Or)
+            → LinksAre ts (formula_of arrow o (x ∷ map link_view more.old)) ends (toks items.now)
             → MoreLinks ts arrow o (x ∷ map link_view more.new) self.now.end result }
         ensures shorter { IfOk result (λ r. length r.now ≤ length items.now) }
     {
@@ -472,9 +503,11 @@ impl<
         place: usize,
         items: &'a [Item<'a>],
     ) -> Found<'a, Boxed<RawFormula>>
-        requires nests { Readers self.now.left (F.pre self.now.formula) (F.post self.now.formula) (G.pre self.now.content) (G.post self.now.content) (H.pre self.now.term) (H.post self.now.term) }
+        requires nests { Readers self.now.left (F.pre self.now.formula) (F.post self.now.formula)
+            (G.pre self.now.content) (G.post self.now.content) (H.pre self.now.term) (H.post self.now.term) }
         requires fewer { length items.now ≤ self.now.left }
-        ensures reads { (ts : List Tok) → OrIs ts (or_view first) true (sign (t.Arrow arrow) place ∷ toks items.now) → LinkedRead ts self.now.end result }
+        ensures reads { (ts : List Tok) → OrIs ts (or_view first) true (sign (t.Arrow arrow) place ∷ toks items.now)
+            → LinkedRead ts self.now.end result }
         ensures kind { IfOk result (λ p. app_formula (formula_view p.0) ≡ false) }
         ensures shorter { IfOk result (λ p. length p.1.now ≤ length items.now) }
     {
@@ -493,9 +526,11 @@ impl<
         ends: bool,
         items: &'a [Item<'a>],
     ) -> Found<'a, Boxed<RawFormula>>
-        requires nests { Readers self.now.left (F.pre self.now.formula) (F.post self.now.formula) (G.pre self.now.content) (G.post self.now.content) (H.pre self.now.term) (H.post self.now.term) }
+        requires nests { Readers self.now.left (F.pre self.now.formula) (F.post self.now.formula)
+            (G.pre self.now.content) (G.post self.now.content) (H.pre self.now.term) (H.post self.now.term) }
         requires fewer { length items.now ≤ self.now.left }
-        ensures reads { UnaryIs (put_unary (unary_view first) (toks items.now)) (unary_view first) ends (toks items.now) → LinkedRead (put_unary (unary_view first) (toks items.now)) self.now.end result }
+        ensures reads { UnaryIs (put_unary (unary_view first) (toks items.now)) (unary_view first) ends (toks items.now)
+            → LinkedRead (put_unary (unary_view first) (toks items.now)) self.now.end result }
         ensures kind { IfOk result (λ p. app_formula (formula_view p.0) ≡ true → app_unary (unary_view first) ≡ true) }
         ensures shorter { IfOk result (λ p. length p.1.now ≤ length items.now) }
     {
@@ -509,7 +544,8 @@ impl<
 
     /// A formula.
     pub fn whole_formula(&self, items: &'a [Item<'a>]) -> Found<'a, Boxed<RawFormula>>
-        requires nests { Readers self.now.left (F.pre self.now.formula) (F.post self.now.formula) (G.pre self.now.content) (G.post self.now.content) (H.pre self.now.term) (H.post self.now.term) }
+        requires nests { Readers self.now.left (F.pre self.now.formula) (F.post self.now.formula)
+            (G.pre self.now.content) (G.post self.now.content) (H.pre self.now.term) (H.post self.now.term) }
         requires fewer { length items.now ≤ self.now.left }
         ensures reads { FormulaRead (toks items.now) self.now.end result }
         ensures shorter { IfOk result (λ p. length p.1.now ≤ length items.now) }
@@ -520,7 +556,8 @@ impl<
 
     /// What stands in brackets: a formula, a term, or what may be both.
     pub fn whole_content(&self, items: &'a [Item<'a>]) -> Found<'a, Content>
-        requires nests { Readers self.now.left (F.pre self.now.formula) (F.post self.now.formula) (G.pre self.now.content) (G.post self.now.content) (H.pre self.now.term) (H.post self.now.term) }
+        requires nests { Readers self.now.left (F.pre self.now.formula) (F.post self.now.formula)
+            (G.pre self.now.content) (G.post self.now.content) (H.pre self.now.term) (H.post self.now.term) }
         requires fewer { length items.now ≤ self.now.left }
         ensures reads { ContentRead (toks items.now) self.now.end result }
         ensures shorter { IfOk result (λ p. length p.1.now ≤ length items.now) }

@@ -18,10 +18,12 @@ pub fn one_term()
 
 /// No text is two formulas, nor has it two first refusals, nor both.
 pub fn one_formula_reading()
-    ensures { (src : List ℕ) (r s : Result Formula KbFault) → Reads put_formula FineFormula src r → Reads put_formula FineFormula src s → r ≡ s }
+    ensures { (src : List ℕ) (r s : Result Formula KbFault) → Reads put_formula FineFormula src r
+        → Reads put_formula FineFormula src s → r ≡ s }
 {}
 
 /// No text is two terms, nor has it two first refusals, nor both.
 pub fn one_term_reading()
-    ensures { (src : List ℕ) (r s : Result Term KbFault) → Reads put_term FineTerm src r → Reads put_term FineTerm src s → r ≡ s }
+    ensures { (src : List ℕ) (r s : Result Term KbFault) → Reads put_term FineTerm src r
+        → Reads put_term FineTerm src s → r ≡ s }
 {}

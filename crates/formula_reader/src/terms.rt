@@ -6,10 +6,13 @@ ghost use Rattle.fo_syntax.specs.declared.terminal.Aggregation.{Aggregation};
 ghost use Rattle.token_reader.specs.Machine.{fresh};
 ghost use Rattle.fo_syntax.specs.Spelling.{put_name, put_term, put_product, put_factor, put_terms};
 ghost use Rattle.fo_syntax.specs.Fine.{FineTerm, FineProduct, FineFactor, FineTerms};
-ghost use Rattle.fo_syntax.specs.View.{name_view, factor_view, product_tail_view, sum_tail_view, terms_tail_view, product_of, term_of, terms_of};
+ghost use Rattle.fo_syntax.specs.View.{name_view, factor_view, product_tail_view, sum_tail_view, terms_tail_view};
+ghost use Rattle.fo_syntax.specs.View.{product_of, term_of, terms_of};
 ghost use Rattle.token_reader.specs.Parts.{EndsFactor, EndsTerm, NoClose, NoMinus, NoTimes};
 ghost use Rattle.formula_reader.specs.Chains.{MoreFactors, MoreProducts, MoreTerms, ListedRead};
-ghost use Rattle.formula_reader.specs.Results.{Readers, Opening, put_opening, FormulaIs, WeighedRead, ArgumentsRead, OpeningRead, UnsignedRead, BareRead, put_minuses, FactorRead, ProductRead, SumRead, TermRead, negatives};
+ghost use Rattle.formula_reader.specs.Results.{Readers, Opening, put_opening, FormulaIs, WeighedRead, ArgumentsRead};
+ghost use Rattle.formula_reader.specs.Results.{OpeningRead, UnsignedRead, BareRead, put_minuses, FactorRead};
+ghost use Rattle.formula_reader.specs.Results.{ProductRead, SumRead, TermRead, negatives};
 ghost use Rattle.fo_syntax.specs.declared.terminal.Terminal.TheVariants as t;
 
 use crate::expressions::Reader;
@@ -88,7 +91,8 @@ impl<
 > Reader<F, G, H> {
     // The further terms of a list in brackets, and the place of the closing bracket.
     fn more_terms(&self, more: &mut Items<RawTermsTail>, items: &'a [Item<'a>]) -> Found<'a, usize>
-        requires nests { Readers self.now.left (F.pre self.now.formula) (F.post self.now.formula) (G.pre self.now.content) (G.post self.now.content) (H.pre self.now.term) (H.post self.now.term) }
+        requires nests { Readers self.now.left (F.pre self.now.formula) (F.post self.now.formula)
+            (G.pre self.now.content) (G.post self.now.content) (H.pre self.now.term) (H.post self.now.term) }
         requires fewer { length items.now ≤ self.now.left }
         requires ends { EndsTerm (toks items.now) }
         ensures reads { (n : Name) (ts : List Tok) (start : ℕ) (x : Term)
@@ -108,9 +112,11 @@ impl<
 
     // The terms of a list in brackets, which is not empty, and the place of the closing bracket.
     fn listed(&self, items: &'a [Item<'a>]) -> Result<(RawTerms, usize, &'a [Item<'a>]), ReadError>
-        requires nests { Readers self.now.left (F.pre self.now.formula) (F.post self.now.formula) (G.pre self.now.content) (G.post self.now.content) (H.pre self.now.term) (H.post self.now.term) }
+        requires nests { Readers self.now.left (F.pre self.now.formula) (F.post self.now.formula)
+            (G.pre self.now.content) (G.post self.now.content) (H.pre self.now.term) (H.post self.now.term) }
         requires fewer { length items.now < self.now.left }
-        ensures reads { (n : Name) (start : ℕ) → NoClose (toks items.now) → ListedRead n (sign t.Open start ∷ toks items.now) start self.now.end result }
+        ensures reads { (n : Name) (start : ℕ) → NoClose (toks items.now)
+            → ListedRead n (sign t.Open start ∷ toks items.now) start self.now.end result }
         ensures shorter { IfOk result (λ p. length p.2.now ≤ length items.now) }
     {
         let (first, rest) = self.term(items)?;
@@ -121,7 +127,8 @@ impl<
 
     /// The arguments after a word, if it has any.
     pub fn arguments(&self, name: RawName, items: &'a [Item<'a>]) -> Found<'a, Boxed<RawApp>>
-        requires nests { Readers self.now.left (F.pre self.now.formula) (F.post self.now.formula) (G.pre self.now.content) (G.post self.now.content) (H.pre self.now.term) (H.post self.now.term) }
+        requires nests { Readers self.now.left (F.pre self.now.formula) (F.post self.now.formula)
+            (G.pre self.now.content) (G.post self.now.content) (H.pre self.now.term) (H.post self.now.term) }
         requires fewer { length items.now < self.now.left }
         ensures reads { ArgumentsRead (put_name (name_view name) (toks items.now)) self.now.end result }
         ensures shorter { IfOk result (λ p. length p.1.now ≤ length items.now) }
@@ -137,7 +144,8 @@ impl<
     }
 
     fn brackets(&self, begin: usize, items: &'a [Item<'a>]) -> Found<'a, Boxed<RawFactor>>
-        requires nests { Readers self.now.left (F.pre self.now.formula) (F.post self.now.formula) (G.pre self.now.content) (G.post self.now.content) (H.pre self.now.term) (H.post self.now.term) }
+        requires nests { Readers self.now.left (F.pre self.now.formula) (F.post self.now.formula)
+            (G.pre self.now.content) (G.post self.now.content) (H.pre self.now.term) (H.post self.now.term) }
         requires fewer { length items.now < self.now.left }
         ensures reads { UnsignedRead (sign t.Open begin ∷ toks items.now) self.now.end result }
         ensures shorter { IfOk result (λ p. length p.1.now ≤ length items.now) }
@@ -148,7 +156,8 @@ impl<
     }
 
     fn count(&self, place: usize, items: &'a [Item<'a>]) -> Found<'a, Boxed<RawFactor>>
-        requires nests { Readers self.now.left (F.pre self.now.formula) (F.post self.now.formula) (G.pre self.now.content) (G.post self.now.content) (H.pre self.now.term) (H.post self.now.term) }
+        requires nests { Readers self.now.left (F.pre self.now.formula) (F.post self.now.formula)
+            (G.pre self.now.content) (G.post self.now.content) (H.pre self.now.term) (H.post self.now.term) }
         requires fewer { length items.now < self.now.left }
         ensures reads { UnsignedRead (sign t.Count place ∷ toks items.now) self.now.end result }
         ensures shorter { IfOk result (λ p. length p.1.now ≤ length items.now) }
@@ -164,10 +173,13 @@ impl<
         &self,
         items: &'a [Item<'a>],
     ) -> Result<(usize, Boxed<RawTermTree>, usize, &'a [Item<'a>]), ReadError>
-        requires nests { Readers self.now.left (F.pre self.now.formula) (F.post self.now.formula) (G.pre self.now.content) (G.post self.now.content) (H.pre self.now.term) (H.post self.now.term) }
+        requires nests { Readers self.now.left (F.pre self.now.formula) (F.post self.now.formula)
+            (G.pre self.now.content) (G.post self.now.content) (H.pre self.now.term) (H.post self.now.term) }
         requires fewer { length items.now < self.now.left }
-        ensures reads { (how : Aggregation) (place : ℕ) (o : Opening) (f : Formula) (ts us : List Tok) → ts ≡ put_opening o us
-            → FormulaIs us fresh f (toks items.now) → WeighedRead (sign (t.Aggregate how) place ∷ ts) (toks items.now) self.now.end result }
+        ensures reads { (how : Aggregation) (place : ℕ) (o : Opening) (f : Formula) (ts us : List Tok)
+            → ts ≡ put_opening o us
+            → FormulaIs us fresh f (toks items.now) → WeighedRead (sign (t.Aggregate how) place ∷ ts)
+            (toks items.now) self.now.end result }
         ensures shorter { IfOk result (λ p. length p.3.now ≤ length items.now) }
     {
         let (second, rest) = colon(items, self.end)?;
@@ -182,7 +194,8 @@ impl<
         place: usize,
         items: &'a [Item<'a>],
     ) -> Found<'a, Boxed<RawFactor>>
-        requires nests { Readers self.now.left (F.pre self.now.formula) (F.post self.now.formula) (G.pre self.now.content) (G.post self.now.content) (H.pre self.now.term) (H.post self.now.term) }
+        requires nests { Readers self.now.left (F.pre self.now.formula) (F.post self.now.formula)
+            (G.pre self.now.content) (G.post self.now.content) (H.pre self.now.term) (H.post self.now.term) }
         requires fewer { length items.now < self.now.left }
         ensures reads { UnsignedRead (sign (t.Aggregate how) place ∷ toks items.now) self.now.end result }
         ensures shorter { IfOk result (λ p. length p.1.now ≤ length items.now) }
@@ -200,7 +213,8 @@ impl<
         place: usize,
         items: &'a [Item<'a>],
     ) -> Found<'a, Boxed<RawFactor>>
-        requires nests { Readers self.now.left (F.pre self.now.formula) (F.post self.now.formula) (G.pre self.now.content) (G.post self.now.content) (H.pre self.now.term) (H.post self.now.term) }
+        requires nests { Readers self.now.left (F.pre self.now.formula) (F.post self.now.formula)
+            (G.pre self.now.content) (G.post self.now.content) (H.pre self.now.term) (H.post self.now.term) }
         requires fewer { length items.now < self.now.left }
         ensures reads { UnsignedRead (tok_at (word text.now) place ∷ toks items.now) self.now.end result }
         ensures shorter { IfOk result (λ p. length p.1.now ≤ length items.now) }
@@ -211,7 +225,8 @@ impl<
     }
 
     fn unsigned(&self, items: &'a [Item<'a>]) -> Found<'a, Boxed<RawFactor>>
-        requires nests { Readers self.now.left (F.pre self.now.formula) (F.post self.now.formula) (G.pre self.now.content) (G.post self.now.content) (H.pre self.now.term) (H.post self.now.term) }
+        requires nests { Readers self.now.left (F.pre self.now.formula) (F.post self.now.formula)
+            (G.pre self.now.content) (G.post self.now.content) (H.pre self.now.term) (H.post self.now.term) }
         requires fewer { length items.now ≤ self.now.left }
         requires unsigned { NoMinus (toks items.now) }
         ensures reads { UnsignedRead (toks items.now) self.now.end result }
@@ -234,10 +249,12 @@ impl<
 
     // A factor without `-` before it, after which no arguments stand but those that it has.
     fn bare(&self, items: &'a [Item<'a>]) -> Found<'a, Boxed<RawFactor>>
-        requires nests { Readers self.now.left (F.pre self.now.formula) (F.post self.now.formula) (G.pre self.now.content) (G.post self.now.content) (H.pre self.now.term) (H.post self.now.term) }
+        requires nests { Readers self.now.left (F.pre self.now.formula) (F.post self.now.formula)
+            (G.pre self.now.content) (G.post self.now.content) (H.pre self.now.term) (H.post self.now.term) }
         requires fewer { length items.now ≤ self.now.left }
         requires unsigned { NoMinus (toks items.now) }
-        ensures reads { (ps : List ℕ) (ts : List Tok) → ts ≡ put_minuses ps (toks items.now) → BareRead ps ts self.now.end result }
+        ensures reads { (ps : List ℕ) (ts : List Tok) → ts ≡ put_minuses ps (toks items.now)
+            → BareRead ps ts self.now.end result }
         ensures shorter { IfOk result (λ p. length p.1.now ≤ length items.now) }
     {
         let (found, last) = self.unsigned(items)?;
@@ -247,7 +264,8 @@ impl<
 
     /// A factor.
     pub fn factor(&self, items: &'a [Item<'a>]) -> Found<'a, Boxed<RawFactor>>
-        requires nests { Readers self.now.left (F.pre self.now.formula) (F.post self.now.formula) (G.pre self.now.content) (G.post self.now.content) (H.pre self.now.term) (H.post self.now.term) }
+        requires nests { Readers self.now.left (F.pre self.now.formula) (F.post self.now.formula)
+            (G.pre self.now.content) (G.post self.now.content) (H.pre self.now.term) (H.post self.now.term) }
         requires fewer { length items.now ≤ self.now.left }
         ensures reads { FactorRead (toks items.now) self.now.end result }
         ensures shorter { IfOk result (λ p. length p.1.now ≤ length items.now) }
@@ -264,7 +282,8 @@ impl<
         more: &mut Items<RawProductTail>,
         items: &'a [Item<'a>],
     ) -> Result<&'a [Item<'a>], ReadError>
-        requires nests { Readers self.now.left (F.pre self.now.formula) (F.post self.now.formula) (G.pre self.now.content) (G.post self.now.content) (H.pre self.now.term) (H.post self.now.term) }
+        requires nests { Readers self.now.left (F.pre self.now.formula) (F.post self.now.formula)
+            (G.pre self.now.content) (G.post self.now.content) (H.pre self.now.term) (H.post self.now.term) }
         requires fewer { length items.now ≤ self.now.left }
         requires ends { EndsFactor (toks items.now) }
         ensures reads { (ts : List Tok) (x : Factor)
@@ -287,7 +306,8 @@ impl<
         first: Boxed<RawFactor>,
         items: &'a [Item<'a>],
     ) -> Found<'a, Boxed<RawProduct>>
-        requires nests { Readers self.now.left (F.pre self.now.formula) (F.post self.now.formula) (G.pre self.now.content) (G.post self.now.content) (H.pre self.now.term) (H.post self.now.term) }
+        requires nests { Readers self.now.left (F.pre self.now.formula) (F.post self.now.formula)
+            (G.pre self.now.content) (G.post self.now.content) (H.pre self.now.term) (H.post self.now.term) }
         requires fewer { length items.now ≤ self.now.left }
         requires fine { FineFactor (factor_view first) }
         requires ends { EndsFactor (toks items.now) }
@@ -306,7 +326,8 @@ impl<
         more: &mut Items<RawSumTail>,
         items: &'a [Item<'a>],
     ) -> Result<&'a [Item<'a>], ReadError>
-        requires nests { Readers self.now.left (F.pre self.now.formula) (F.post self.now.formula) (G.pre self.now.content) (G.post self.now.content) (H.pre self.now.term) (H.post self.now.term) }
+        requires nests { Readers self.now.left (F.pre self.now.formula) (F.post self.now.formula)
+            (G.pre self.now.content) (G.post self.now.content) (H.pre self.now.term) (H.post self.now.term) }
         requires fewer { length items.now ≤ self.now.left }
         requires ends { EndsFactor (toks items.now) }
         requires no_times { NoTimes (toks items.now) }
@@ -332,7 +353,8 @@ impl<
         first: Boxed<RawFactor>,
         items: &'a [Item<'a>],
     ) -> Found<'a, Boxed<RawTermTree>>
-        requires nests { Readers self.now.left (F.pre self.now.formula) (F.post self.now.formula) (G.pre self.now.content) (G.post self.now.content) (H.pre self.now.term) (H.post self.now.term) }
+        requires nests { Readers self.now.left (F.pre self.now.formula) (F.post self.now.formula)
+            (G.pre self.now.content) (G.post self.now.content) (H.pre self.now.term) (H.post self.now.term) }
         requires fewer { length items.now ≤ self.now.left }
         requires fine { FineFactor (factor_view first) }
         requires ends { EndsFactor (toks items.now) }
@@ -348,7 +370,8 @@ impl<
 
     /// A term.
     pub fn whole_term(&self, items: &'a [Item<'a>]) -> Found<'a, Boxed<RawTermTree>>
-        requires nests { Readers self.now.left (F.pre self.now.formula) (F.post self.now.formula) (G.pre self.now.content) (G.post self.now.content) (H.pre self.now.term) (H.post self.now.term) }
+        requires nests { Readers self.now.left (F.pre self.now.formula) (F.post self.now.formula)
+            (G.pre self.now.content) (G.post self.now.content) (H.pre self.now.term) (H.post self.now.term) }
         requires fewer { length items.now ≤ self.now.left }
         ensures reads { TermRead (toks items.now) self.now.end result }
         ensures shorter { IfOk result (λ p. length p.1.now ≤ length items.now) }

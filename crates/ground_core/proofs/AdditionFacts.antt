@@ -26,13 +26,18 @@ retired-bound-added p q term n fine h = record {
   conserves = retired-conserves q term n fine p h.conserves;
   retired = λ l has. ⊎_elim
       (λ old. h.retired l old)
-      (λ is. inr (subst (λ (k : Lit). p.vars < k.var.0) is (let x : p.vars ≤ q.vars = h.conserves.grows in omega (arith, x))))
+      (λ is. inr (subst (λ (k : Lit). p.vars < k.var.0) is (let x : p.vars ≤ q.vars = h.conserves.grows in
+      omega (arith, x))))
       (Contains-push_cases q.retired (next_lit q) l has);
 }
 
 module _ (p q : ProblemState) (h : GrowsByAdditions p q) (assumed : List Lit) (lits : AreLitsOf p.vars assumed) where
   pub still-lits : AreLitsOf q.vars assumed
-  still-lits = λ k d lt. ((lits k d lt).0, let x : p.vars ≤ q.vars = h.conserves.grows in omega (arith, x, (lits k d lt).1))
+  still-lits = λ k d lt. (
+    (lits k d lt).0,
+    let x : p.vars ≤ q.vars = h.conserves.grows in
+        omega (arith, x, (lits k d lt).1),
+  )
 
   pub still-unretired : AreUnretired p assumed → AreUnretired q assumed
   still-unretired not = λ l gone has. ⊎_elim

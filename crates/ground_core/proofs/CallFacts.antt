@@ -24,7 +24,8 @@ keeps-twice r s t a b c k l = record {
   limit = l.limit ∙ k.limit;
   rises = let x : a.spent ≤ b.spent = k.rises in let y : b.spent ≤ c.spent = l.rises in omega arith;
   learnt = prefix-twice r.learnt s.learnt t.learnt k.learnt l.learnt;
-  growth = let x : a.spent ≤ b.spent = k.rises in let y : b.spent ≤ c.spent = l.rises in omega (arith, k.growth, l.growth);
+  growth = let x : a.spent ≤ b.spent = k.rises in let y : b.spent ≤ c.spent = l.rises in
+      omega (arith, k.growth, l.growth);
   moments = prefix-twice r.moments s.moments t.moments k.moments l.moments;
   cores = prefix-twice r.cores s.cores t.cores k.cores l.cores;
   within = l.within;
@@ -36,7 +37,8 @@ counted-twice n k j = omega (arith, clamps)
 distrib : (k j x : ℕ) → (k + j) * x ≡ k * x + j * x
 distrib k j x = omega arith
 
-pub counts-twice : (top k j : ℕ) (r s t : SolveState) (a b c : Budget) → Counts top k r s a b → Counts top j s t b c → Counts top (k + j) r t a c
+pub counts-twice : (top k j : ℕ) (r s t : SolveState) (a b c : Budget) → Counts top k r s a b → Counts top j s t b c
+    → Counts top (k + j) r t a c
 counts-twice top k j r s t a b c x y = record {
   searches = y.searches ∙ ap (λ (m : ℕ). counted (m + j)) x.searches ∙ counted-twice r.searches k j;
   fewer =
@@ -58,7 +60,8 @@ keeps-none s b h = record {
 }
 
 -- with more free variables
-pub counts-more : (low high k : ℕ) (s t : SolveState) (a b : Budget) → low ≤ high → Counts low k s t a b → Counts high k s t a b
+pub counts-more : (low high k : ℕ) (s t : SolveState) (a b : Budget) → low ≤ high → Counts low k s t a b
+    → Counts high k s t a b
 counts-more low high k s t a b le x = record {
   searches = x.searches;
   fewer =
@@ -66,7 +69,8 @@ counts-more low high k s t a b le x = record {
       let g : k * 2 ^ low ≤ k * 2 ^ high = mul-le-mul_left k (pow-le-pow_right (pow_pos 1) le) in omega (arith, f, g);
 }
 
-pub cost : (k m : ℕ) (s t : SolveState) (a b : Budget) → 1 ≤ k → k ≤ m → a.spent ≤ b.spent → Counts (s.free + 1) k s t a b → Costs m s t a b
+pub cost : (k m : ℕ) (s t : SolveState) (a b : Budget) → 1 ≤ k → k ≤ m → a.spent ≤ b.spent
+    → Counts (s.free + 1) k s t a b → Costs m s t a b
 cost k m s t a b one le rises x = record {
   searches = (k, le, x.searches);
   spent =
@@ -77,29 +81,42 @@ cost k m s t a b one le rises x = record {
 }
 
 -- one search, and then more
-pub cost-after : (n : ℕ) (r s t : SolveState) (a b c : Budget) → s.free ≡ r.free → Counts r.free 1 r s a b → CountsUpTo (s.free + 1) (n + 2) s t b c → a.spent ≤ c.spent → Costs (n + 3) r t a c
+pub cost-after : (n : ℕ) (r s t : SolveState) (a b c : Budget) → s.free ≡ r.free → Counts r.free 1 r s a b
+    → CountsUpTo (s.free + 1) (n + 2) s t b c → a.spent ≤ c.spent → Costs (n + 3) r t a c
 cost-after n r s t a b c free x y rises =
     let z : Counts (r.free + 1) y.0 s t b c = subst (λ (f : ℕ). Counts (f + 1) y.0 s t b c) free y.2 in
     let w : Counts (r.free + 1) 1 r s a b = counts-more r.free (r.free + 1) 1 r s a b (omega arith) x in
-    cost (1 + y.0) (n + 3) r t a c (omega arith) (omega (arith, y.1)) rises (counts-twice (r.free + 1) 1 y.0 r s t a b c w z)
+    cost (1 + y.0) (n + 3) r t a c (omega arith) (omega (arith, y.1)) rises
+    (counts-twice (r.free + 1) 1 y.0 r s t a b c w z)
 
 -- one search alone
-pub cost-once : (n : ℕ) (r s : SolveState) (a b : Budget) → Counts r.free 1 r s a b → a.spent ≤ b.spent → Costs (n + 3) r s a b
-cost-once n r s a b x rises = cost 1 (n + 3) r s a b (omega arith) (omega arith) rises (counts-more r.free (r.free + 1) 1 r s a b (omega arith) x)
+pub cost-once : (n : ℕ) (r s : SolveState) (a b : Budget) → Counts r.free 1 r s a b → a.spent ≤ b.spent
+    → Costs (n + 3) r s a b
+cost-once n r s a b x rises = cost 1 (n + 3) r s a b (omega arith) (omega arith) rises
+    (counts-more r.free (r.free + 1) 1 r s a b (omega arith) x)
 
 pub stays-twice : (r s t : SolveState) → Stays r s → Stays s t → Stays r t
-stays-twice r s t a b = record { problem = b.problem ∙ a.problem; additions = b.additions ∙ a.additions; free = b.free ∙ a.free }
+stays-twice r s t a b = record {
+  problem = b.problem ∙ a.problem;
+  additions = b.additions ∙ a.additions;
+  free =
+      b.free ∙ a.free;
+}
 
 -- one search, and then more
-pub costs-after : (m : ℕ) (r s t : SolveState) (a b c : Budget) → s.free ≡ r.free → Counts r.free 1 r s a b → CountsUpTo s.free m s t b c → a.spent ≤ c.spent → Costs (m + 1) r t a c
+pub costs-after : (m : ℕ) (r s t : SolveState) (a b c : Budget) → s.free ≡ r.free → Counts r.free 1 r s a b
+    → CountsUpTo s.free m s t b c → a.spent ≤ c.spent → Costs (m + 1) r t a c
 costs-after m r s t a b c free x y rises =
     let z : Counts r.free y.0 s t b c = subst (λ (f : ℕ). Counts f y.0 s t b c) free y.2 in
     let w : Counts r.free (1 + y.0) r t a c = counts-twice r.free 1 y.0 r s t a b c x z in
-    cost (1 + y.0) (m + 1) r t a c (omega arith) (omega (arith, y.1)) rises (counts-more r.free (r.free + 1) (1 + y.0) r t a c (omega arith) w)
+    cost (1 + y.0) (m + 1) r t a c (omega arith) (omega (arith, y.1)) rises
+    (counts-more r.free (r.free + 1) (1 + y.0) r t a c (omega arith) w)
 
 -- one search alone
-pub costs-once : (m : ℕ) (r s : SolveState) (a b : Budget) → Counts r.free 1 r s a b → a.spent ≤ b.spent → Costs (m + 1) r s a b
-costs-once m r s a b x rises = cost 1 (m + 1) r s a b (omega arith) (omega arith) rises (counts-more r.free (r.free + 1) 1 r s a b (omega arith) x)
+pub costs-once : (m : ℕ) (r s : SolveState) (a b : Budget) → Counts r.free 1 r s a b → a.spent ≤ b.spent
+    → Costs (m + 1) r s a b
+costs-once m r s a b x rises = cost 1 (m + 1) r s a b (omega arith) (omega arith) rises
+    (counts-more r.free (r.free + 1) 1 r s a b (omega arith) x)
 
 pub calls-add-up : CallsAddUp
 calls-add-up r s t a b c = (keeps-twice r s t a b c, λ top k j x y. counts-twice top k j r s t a b c x y)

@@ -1,5 +1,6 @@
 -- Steps that define more.
-use Rattle.std.proofs.Common.{◌≡◌, ℕ, ◌≤◌, ◌+◌, Bool, true, false, ◌&&◌, ◌||◌, not, List, [], ◌∷◌, ◌++◌, refl, sym, ap, ◌∙◌, arith, ⊎_elim}
+use Rattle.std.proofs.Common.{◌≡◌, ℕ, ◌≤◌, ◌+◌, Bool, true, false, ◌&&◌, ◌||◌, not, List, [], ◌∷◌, ◌++◌, refl, sym, ap}
+use Rattle.std.proofs.Common.{◌∙◌, arith, ⊎_elim}
 use Rattle.std.proofs.lemmas.List.Elements.{All-contains, All-push, All-append, Contains-push}
 use Rattle.std.proofs.lemmas.Bool.{cases_eq}
 use Rattle.lit_core.specs.declared.literals.Lit.{Lit}
@@ -56,7 +57,8 @@ module _ (p q : ProblemState) (value : (ℕ → Bool) → Bool) (fine : IsProble
     extends = λ v s. (
       extended v,
       extended-old v,
-      makes (extended v) (satisfies-local p v (extended v) fine (extended-old v) s) (extended-new v ∙ local v (extended v) (extended-old v)),
+      makes (extended v) (satisfies-local p v (extended v) fine (extended-old v) s) (extended-new v
+          ∙ local v (extended v) (extended-old v)),
     );
     unique = λ v w s t e k low high. ⊎_elim
         (λ is. ap v is ∙ (gives v s).1 ∙ local v w e ∙ sym ((gives w t).1) ∙ sym (ap w is))
@@ -80,25 +82,55 @@ module _ (p : ProblemState) (all : Bool) (parts : List Lit) (fine : IsProblem p)
   gate-added = added p (with_gate p all parts) (λ v. joined all v parts) fine refl
       (λ v w e. joined-local p.vars v w e all parts within)
       (λ v s. (
-        record { gates = All-front (GateHolds v) p.gates (gate ∷ []) s.gates; clauses = s.clauses; sums = s.sums; bounds = s.bounds; retired = s.retired },
+        record {
+          gates = All-front (GateHolds v) p.gates (gate ∷ []) s.gates;
+          clauses = s.clauses;
+          sums = s.sums;
+          bounds = s.bounds;
+          retired = s.retired;
+        },
         All-contains (GateHolds v) (p.gates ++ gate ∷ []) gate s.gates (Contains-push p.gates gate),
       ))
-      (λ v s e. record { gates = All-push (GateHolds v) p.gates gate s.gates e; clauses = s.clauses; sums = s.sums; bounds = s.bounds; retired = s.retired })
+      (λ v s e. record {
+        gates = All-push (GateHolds v) p.gates gate s.gates e;
+        clauses = s.clauses;
+        sums = s.sums;
+        bounds = s.bounds;
+        retired = s.retired;
+      })
 
-module _ (p : ProblemState) (kind : AggKind) (parts : List Part) (least : ExtInt) (fine : IsProblem p) (within : ArePartsOf p.vars parts) where
+module _ (p : ProblemState) (kind : AggKind) (parts : List Part) (least : ExtInt) (fine : IsProblem p)
+    (within : ArePartsOf p.vars parts) where
   abbrev sum : AggCon
   sum = record { out = next_lit p; kind = kind; parts = parts; least = least }
 
-  pub sum-added : Adds p (with_sum p kind parts least) (λ v. compared cmp.Ge (parts_value v kind parts) (value_of_bound least)) (next_lit p)
-  sum-added = added p (with_sum p kind parts least) (λ v. compared cmp.Ge (parts_value v kind parts) (value_of_bound least)) fine refl
+  pub sum-added : Adds p (with_sum p kind parts least) (λ v. compared cmp.Ge (parts_value v kind parts)
+      (value_of_bound least)) (next_lit p)
+  sum-added = added p (with_sum p kind parts least) (λ v. compared cmp.Ge (parts_value v kind parts)
+      (value_of_bound least)) fine refl
       (λ v w e. ap (λ d. compared cmp.Ge d (value_of_bound least)) (value-local p.vars v w e kind parts within))
       (λ v s. (
-        record { gates = s.gates; clauses = s.clauses; sums = All-front (SumHolds v) p.sums (sum ∷ []) s.sums; bounds = s.bounds; retired = s.retired },
+        record {
+          gates = s.gates;
+          clauses = s.clauses;
+          sums = All-front (SumHolds v) p.sums (sum ∷ []) s.sums;
+          bounds =
+              s.bounds;
+          retired = s.retired;
+        },
         All-contains (SumHolds v) (p.sums ++ sum ∷ []) sum s.sums (Contains-push p.sums sum),
       ))
-      (λ v s e. record { gates = s.gates; clauses = s.clauses; sums = All-push (SumHolds v) p.sums sum s.sums e; bounds = s.bounds; retired = s.retired })
+      (λ v s e. record {
+        gates = s.gates;
+        clauses = s.clauses;
+        sums = All-push (SumHolds v) p.sums sum s.sums e;
+        bounds = s.bounds;
+        retired = s.retired;
+      })
 
-say_same : (o a b : Bool) → ((not o || (not a || (b || false))) && ((not o || (a || (not b || false))) && ((o || (a || (b || false))) && ((o || (not a || (not b || false))) && true)))) ≡ by_sign o (by_sign a b)
+say_same : (o a b : Bool) → ((not o || (not a || (b || false))) &&
+    ((not o || (a || (not b || false))) && ((o || (a || (b || false))) &&
+    ((o || (not a || (not b || false))) && true)))) ≡ by_sign o (by_sign a b)
 say_same true true true = refl
 say_same true true false = refl
 say_same true false true = refl
@@ -112,7 +144,8 @@ module _ (p : ProblemState) (a b : Lit) (fine : IsProblem p) (a_in : IsLitOf p.v
   abbrev four : List (List Lit)
   four = clauses_of_same (next_lit p) a b
 
-  same-value : (v : ℕ → Bool) → list_all (clause_value v) four ≡ by_sign (v (p.vars + 1)) (by_sign (literal_value v a) (literal_value v b))
+  same-value : (v : ℕ → Bool) → list_all (clause_value v) four ≡ by_sign (v (p.vars + 1))
+      (by_sign (literal_value v a) (literal_value v b))
   same-value v =
       let o : Lit = next_lit p in
       let not_o = value-negated v o in
@@ -124,12 +157,22 @@ module _ (p : ProblemState) (a b : Lit) (fine : IsProblem p) (a_in : IsLitOf p.v
   same-added = added p (with_same p a b) (λ v. by_sign (literal_value v a) (literal_value v b)) fine refl
       (λ v w e. let x = literal-local p.vars v w e a a_in in let y = literal-local p.vars v w e b b_in in cc)
       (λ v s. (
-        record { gates = s.gates; clauses = All-front (IsSatisfied v) p.clauses four s.clauses; sums = s.sums; bounds = s.bounds; retired = s.retired },
-        same-true (v (p.vars + 1)) (by_sign (literal_value v a) (literal_value v b)) (sym (same-value v) ∙ clauses-true v four (All-back (IsSatisfied v) p.clauses four s.clauses)),
+        record {
+          gates = s.gates;
+          clauses = All-front (IsSatisfied v) p.clauses four s.clauses;
+          sums = s.sums;
+          bounds =
+              s.bounds;
+          retired = s.retired;
+        },
+        same-true (v (p.vars + 1)) (by_sign (literal_value v a) (literal_value v b)) (sym (same-value v)
+            ∙ clauses-true v four (All-back (IsSatisfied v) p.clauses four s.clauses)),
       ))
       (λ v s e. record {
         gates = s.gates;
-        clauses = All-append (IsSatisfied v) p.clauses four s.clauses (clauses-hold v four (same-value v ∙ true-same (v (p.vars + 1)) (by_sign (literal_value v a) (literal_value v b)) e));
+        clauses = All-append (IsSatisfied v) p.clauses four s.clauses
+            (clauses-hold v four (same-value v ∙ true-same (v (p.vars + 1))
+            (by_sign (literal_value v a) (literal_value v b)) e));
         sums = s.sums;
         bounds = s.bounds;
         retired = s.retired;

@@ -1,9 +1,11 @@
 -- Terms whose base and parts are small have values in range.
-use Rattle.std.proofs.Common.{◌≡◌, ℕ, ◌+◌, ◌^◌, ◌≤◌, ℤ, pos, negsuc, neg_ℤ, ◌+ℤ◌, ◌≤ℤ◌, nat_abs, Bool, true, false, cond, List, [], ◌∷◌, map, filter, fold, length, get_or, All, refl, subst, arith}
+use Rattle.std.proofs.Common.{◌≡◌, ℕ, ◌+◌, ◌^◌, ◌≤◌, ℤ, pos, negsuc, neg_ℤ, ◌+ℤ◌, ◌≤ℤ◌, nat_abs, Bool, true, false}
+use Rattle.std.proofs.Common.{cond, List, [], ◌∷◌, map, filter, fold, length, get_or, All, refl, subst, arith}
 use Rattle.std.proofs.lemmas.Int.{ints}
 use Rattle.kb_logic.specs.declared.syntax.AggKind.{AggKind}
 use Rattle.kb_logic.specs.declared.syntax.AggKind.TheVariants as kind
-use Rattle.kb_logic.specs.Denotations.{Denotation, number, minus_infinity, plus_infinity, undefined, named, added, lesser, greater, lower_value}
+use Rattle.kb_logic.specs.Denotations.{Denotation, number, minus_infinity, plus_infinity, undefined, named, added}
+use Rattle.kb_logic.specs.Denotations.{lesser, greater, lower_value}
 use Rattle.lit_core.specs.Literals.{literal_value}
 use Rattle.ground_core.specs.declared.parts.Part.{Part}
 use Rattle.ground_core.specs.Problems.{ProblemState}
@@ -73,26 +75,34 @@ one-of-in true m d w h = wider (nat_abs w) (m + nat_abs w) w (omega arith) (itse
 one-of-in false m d w h = in-wider m (m + nat_abs w) d (omega arith) h
 
 -- what each weight keeps, all true ones keep
-fold-in : (Q : ℕ → Denotation → Type 0) (op : Denotation → Denotation → Denotation) (k : AggKind) → ((p : Part) → part_size k p ≡ nat_abs p.weight)
-    → ((m n : ℕ) (d : Denotation) → m ≤ n → Q m d → Q n d) → ((m : ℕ) (d : Denotation) (w : ℤ) → Q m d → Q (m + nat_abs w) (op d (number w)))
-    → (v : ℕ → Bool) (ps : List Part) (d : Denotation) (m : ℕ) → Q m d → Q (m + parts_size k ps) (fold op d (weights_of v ps))
+fold-in : (Q : ℕ → Denotation → Type 0) (op : Denotation → Denotation → Denotation) (k : AggKind)
+    → ((p : Part) → part_size k p ≡ nat_abs p.weight)
+    → ((m n : ℕ) (d : Denotation) → m ≤ n → Q m d → Q n d) → ((m : ℕ) (d : Denotation) (w : ℤ) → Q m d
+    → Q (m + nat_abs w) (op d (number w)))
+    → (v : ℕ → Bool) (ps : List Part) (d : Denotation) (m : ℕ) → Q m d
+    → Q (m + parts_size k ps) (fold op d (weights_of v ps))
 fold-in Q op k size wide step v [] d m h = wide m (m + 0) d (omega arith) h
 fold-in Q op k size wide step v (p ∷ ps) d m h =
     by_value (literal_value v p.lit) (λ e n g. fold-in Q op k size wide step v ps e n g)
   where
     by_value : (b : Bool) → ((e : Denotation) (n : ℕ) → Q n e → Q (n + parts_size k ps) (fold op e (weights_of v ps)))
-        → Q (m + (part_size k p + parts_size k ps)) (fold op d (map (λ (q : Part). number q.weight) (cond b (p ∷ filter (λ (q : Part). literal_value v q.lit) ps) (filter (λ (q : Part). literal_value v q.lit) ps))))
+        → Q (m + (part_size k p + parts_size k ps)) (fold op d (map (λ (q : Part). number q.weight)
+        (cond b (p ∷ filter (λ (q : Part). literal_value v q.lit) ps)
+        (filter (λ (q : Part). literal_value v q.lit) ps))))
     by_value true rest =
-        wide ((m + nat_abs p.weight) + parts_size k ps) (m + (part_size k p + parts_size k ps)) (fold op (op d (number p.weight)) (weights_of v ps)) (omega (arith, size p))
+        wide ((m + nat_abs p.weight) + parts_size k ps) (m + (part_size k p + parts_size k ps))
+        (fold op (op d (number p.weight)) (weights_of v ps)) (omega (arith, size p))
         (rest (op d (number p.weight)) (m + nat_abs p.weight) (step m d p.weight h))
-    by_value false rest = wide (m + parts_size k ps) (m + (part_size k p + parts_size k ps)) (fold op d (weights_of v ps)) (omega arith) (rest d m h)
+    by_value false rest = wide (m + parts_size k ps) (m + (part_size k p + parts_size k ps))
+        (fold op d (weights_of v ps)) (omega arith) (rest d m h)
 
 count-in : (v : ℕ → Bool) (ps : List Part) → length (weights_of v ps) ≤ parts_size kind.Count ps
 count-in v [] = omega arith
 count-in v (p ∷ ps) = by_value (literal_value v p.lit) (count-in v ps)
   where
     by_value : (b : Bool) → length (weights_of v ps) ≤ parts_size kind.Count ps
-        → length (map (λ (q : Part). number q.weight) (cond b (p ∷ filter (λ (q : Part). literal_value v q.lit) ps) (filter (λ (q : Part). literal_value v q.lit) ps))) ≤ 1 + parts_size kind.Count ps
+        → length (map (λ (q : Part). number q.weight) (cond b (p ∷ filter (λ (q : Part). literal_value v q.lit) ps)
+        (filter (λ (q : Part). literal_value v q.lit) ps))) ≤ 1 + parts_size kind.Count ps
     by_value true h = omega (arith, h)
     by_value false h = omega (arith, h)
 
@@ -107,19 +117,23 @@ parts-in v kind.Count ps = count-between (length (weights_of v ps)) (parts_size 
 parts-in v kind.Sum ps =
     let n : 0 + parts_size kind.Sum ps ≡ parts_size kind.Sum ps = omega arith in
     number-in (parts_size kind.Sum ps) (parts_value v kind.Sum ps)
-    (subst (λ m. IsNumberIn m (parts_value v kind.Sum ps)) n (fold-in IsNumberIn added kind.Sum (λ p. refl) number-wider added-in v ps (number (pos 0)) 0 nothing-between))
+    (subst (λ m. IsNumberIn m (parts_value v kind.Sum ps)) n (fold-in IsNumberIn added kind.Sum (λ p. refl) number-wider
+    added-in v ps (number (pos 0)) 0 nothing-between))
 parts-in v kind.Min ps =
     let n : 0 + parts_size kind.Min ps ≡ parts_size kind.Min ps = omega arith in
     subst (λ m. IsIn m (parts_value v kind.Min ps)) n
-    (fold-in IsIn lesser kind.Min (λ p. refl) in-wider (λ m d w h. one-of-in (lower_value (number w) d) m d w h) v ps plus_infinity 0 tt)
+    (fold-in IsIn lesser kind.Min (λ p. refl) in-wider (λ m d w h. one-of-in (lower_value (number w) d) m d w h) v ps
+    plus_infinity 0 tt)
 parts-in v kind.Max ps =
     let n : 0 + parts_size kind.Max ps ≡ parts_size kind.Max ps = omega arith in
     subst (λ m. IsIn m (parts_value v kind.Max ps)) n
-    (fold-in IsIn greater kind.Max (λ p. refl) in-wider (λ m d w h. one-of-in (lower_value d (number w)) m d w h) v ps minus_infinity 0 tt)
+    (fold-in IsIn greater kind.Max (λ p. refl) in-wider (λ m d w h. one-of-in (lower_value d (number w)) m d w h) v ps
+    minus_infinity 0 tt)
 
 in-range : (m : ℕ) (base : ℤ) (d : Denotation) → nat_abs base + m ≤ 10 ^ 15 → IsIn m d → IsInRange (shifted base d)
 in-range m base (named x) le h = absurd h
-in-range m base (number z) le h = wider (nat_abs base + m) (10 ^ 15) (base +ℤ z) le (sum-between (nat_abs base) m base z (itself base) h)
+in-range m base (number z) le h = wider (nat_abs base + m) (10 ^ 15) (base +ℤ z) le
+    (sum-between (nat_abs base) m base z (itself base) h)
 in-range m base minus_infinity le h = tt
 in-range m base plus_infinity le h = tt
 in-range m base undefined le h = absurd h

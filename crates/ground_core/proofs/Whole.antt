@@ -1,6 +1,7 @@
 -- A problem of gates and clauses alone is its clauses.
 use Rattle.std.proofs.Common.{◌≡◌, ℕ, Bool, true, false, not, List, [], ◌∷◌, ◌++◌, map, flat_map, get_or, All}
-use Rattle.std.proofs.lemmas.List.Elements.{All-nil, All-cons, All-head, All-tail, All-append, All-contains, All-push, All-map, Contains-push}
+use Rattle.std.proofs.lemmas.List.Elements.{All-nil, All-cons, All-head, All-tail, All-append, All-contains, All-push}
+use Rattle.std.proofs.lemmas.List.Elements.{All-map, Contains-push}
 use Rattle.lit_core.specs.declared.literals.Lit.{Lit}
 use Rattle.lit_core.specs.Truth.{IsSatisfied}
 use Rattle.ground_core.specs.declared.parts.Gate.{Gate}
@@ -25,8 +26,10 @@ clauses-from v (g ∷ gs) h =
     ((gate-clauses v g).1 (All-head (GateHolds v) g gs h))
     (clauses-from v gs (All-tail (GateHolds v) g gs h))
 
--- where there are no sums and no bounds, what makes the retired selectors false and satisfies all clauses, those of the gates in order and then the others, satisfies the problem
-pub satisfies-by-clauses : (p : ProblemState) (v : ℕ → Bool) → p.sums ≡ [] → p.bounds ≡ [] → All (IsSatisfied v) (clauses_of p) → AreAllFalse v p.retired → Satisfies p v
+-- where there are no sums and no bounds, what makes the retired selectors false and satisfies all clauses, those of the
+-- gates in order and then the others, satisfies the problem
+pub satisfies-by-clauses : (p : ProblemState) (v : ℕ → Bool) → p.sums ≡ [] → p.bounds ≡ []
+    → All (IsSatisfied v) (clauses_of p) → AreAllFalse v p.retired → Satisfies p v
 satisfies-by-clauses p v sums bounds h off = record {
   gates = gates-hold v p.gates (All-front (IsSatisfied v) (flat_map gate_clauses p.gates) p.clauses h);
   clauses = All-back (IsSatisfied v) (flat_map gate_clauses p.gates) p.clauses h;
@@ -37,7 +40,8 @@ satisfies-by-clauses p v sums bounds h off = record {
 
 -- what satisfies a problem satisfies all clauses, those of the gates in order and then the others
 pub clauses-satisfied : (p : ProblemState) (v : ℕ → Bool) → Satisfies p v → All (IsSatisfied v) (clauses_of p)
-clauses-satisfied p v s = All-append (IsSatisfied v) (flat_map gate_clauses p.gates) p.clauses (clauses-from v p.gates s.gates) s.clauses
+clauses-satisfied p v s = All-append (IsSatisfied v) (flat_map gate_clauses p.gates) p.clauses
+    (clauses-from v p.gates s.gates) s.clauses
 
 pub whole : ClausesSayTheProblem
 whole p v sums bounds = (satisfies-by-clauses p v sums bounds, clauses-satisfied p v)
@@ -54,10 +58,12 @@ gate-clauses-within n g h =
     (All-map (AreLitsOf n) short g.parts
     (λ k d lt.
     let l = get_or g.parts k d in
-    All-cons (IsLitOf n) (with_sign (not g.all) g.out) (with_sign g.all l ∷ []) (with-sign-within n (not g.all) g.out h.0)
+    All-cons (IsLitOf n) (with_sign (not g.all) g.out) (with_sign g.all l ∷ [])
+    (with-sign-within n (not g.all) g.out h.0)
     (All-cons (IsLitOf n) (with_sign g.all l) [] (with-sign-within n g.all l (h.1 k d lt)) (All-nil (IsLitOf n)))))
     (All-cons (IsLitOf n) (with_sign g.all g.out) long (with-sign-within n g.all g.out h.0)
-    (All-map (IsLitOf n) (with_sign (not g.all)) g.parts (λ k d lt. with-sign-within n (not g.all) (get_or g.parts k d) (h.1 k d lt))))
+    (All-map (IsLitOf n) (with_sign (not g.all)) g.parts (λ k d lt. with-sign-within n (not g.all) (get_or g.parts k d)
+    (h.1 k d lt))))
 
 gates-within : (n : ℕ) (gs : List Gate) → All (IsGateOf n) gs → All (AreLitsOf n) (flat_map gate_clauses gs)
 gates-within n [] h = All-nil (AreLitsOf n)
@@ -68,13 +74,28 @@ gates-within n (g ∷ gs) h =
 
 -- the clauses of a problem are over its variables
 pub clauses-within : ClausesAreOfTheProblem
-clauses-within p h = All-append (AreLitsOf p.vars) (flat_map gate_clauses p.gates) p.clauses (gates-within p.vars p.gates h.gates) h.clauses
+clauses-within p h = All-append (AreLitsOf p.vars) (flat_map gate_clauses p.gates) p.clauses
+    (gates-within p.vars p.gates h.gates) h.clauses
 
 pub clause-added : ClauseIsAdded
 clause-added p c v = (
   λ s. (
-    record { gates = s.gates; clauses = All-front (IsSatisfied v) p.clauses (c ∷ []) s.clauses; sums = s.sums; bounds = s.bounds; retired = s.retired },
+    record {
+      gates = s.gates;
+      clauses = All-front (IsSatisfied v) p.clauses (c ∷ []) s.clauses;
+      sums = s.sums;
+      bounds =
+          s.bounds;
+      retired = s.retired;
+    },
     All-contains (IsSatisfied v) (p.clauses ++ c ∷ []) c s.clauses (Contains-push p.clauses c),
   ),
-  λ s t. record { gates = s.gates; clauses = All-push (IsSatisfied v) p.clauses c s.clauses t; sums = s.sums; bounds = s.bounds; retired = s.retired },
+  λ s t. record {
+    gates = s.gates;
+    clauses = All-push (IsSatisfied v) p.clauses c s.clauses t;
+    sums = s.sums;
+    bounds =
+        s.bounds;
+    retired = s.retired;
+  },
 )

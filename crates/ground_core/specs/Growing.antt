@@ -1,5 +1,6 @@
 -- How a solver grows.
-use Rattle.std.specs.Prelude.{◌≡◌, ℕ, ◌+◌, ◌-◌, ◌<◌, ◌≤◌, Bool, true, false, List, [], ◌∷◌, ◌++◌, length, slice_get, All, Contains, Option, Some, None}
+use Rattle.std.specs.Prelude.{◌≡◌, ℕ, ◌+◌, ◌-◌, ◌<◌, ◌≤◌, Bool, true, false, List, [], ◌∷◌, ◌++◌, length, slice_get}
+use Rattle.std.specs.Prelude.{All, Contains, Option, Some, None}
 use Rattle.kb_logic.specs.declared.elements.ExtInt.{ExtInt}
 use Rattle.kb_logic.specs.Denotations.{Denotation, undefined}
 use Rattle.lit_core.specs.declared.literals.Lit.{Lit}
@@ -31,7 +32,15 @@ HasValue p term v n = value_at p term v ≡ value_of_bound n
 
 -- the solver of another problem, which has one more variable
 abbrev pub with_addition : SolveState → ProblemState → Addition → SolveState
-with_addition s q a = record { problem = q; learnt = s.learnt; moments = s.moments; cores = s.cores; free = s.free + 1; searches = s.searches; additions = s.additions ++ a ∷ [] }
+with_addition s q a = record {
+  problem = q;
+  learnt = s.learnt;
+  moments = s.moments;
+  cores = s.cores;
+  free = s.free + 1;
+  searches = s.searches;
+  additions = s.additions ++ a ∷ [];
+}
 
 -- with one more bound
 abbrev pub bounded : SolveState → ℕ → ExtInt → SolveState
@@ -46,13 +55,22 @@ abbrev pub with_retired : ProblemState → Lit → ProblemState
 with_retired p l = retiring p (p.retired ++ l ∷ [])
 
 abbrev pub retired : SolveState → Lit → SolveState
-retired s l = record { problem = with_retired s.problem l; learnt = s.learnt; moments = s.moments; cores = s.cores; free = s.free - 1; searches = s.searches; additions = s.additions }
+retired s l = record {
+  problem = with_retired s.problem l;
+  learnt = s.learnt;
+  moments = s.moments;
+  cores = s.cores;
+  free = s.free - 1;
+  searches = s.searches;
+  additions = s.additions;
+}
 
 -- the literal is of another variable
 abbrev pub IsApart : Lit → Lit → Type 0
 IsApart l k = k.var.0 ≡ l.var.0 → ⊥
 
--- the positive literal of a variable that no ground atom, gate, sum or term has, that clauses have only negated, and bounds only as what they are under
+-- the positive literal of a variable that no ground atom, gate, sum or term has, that clauses have only negated, and
+-- bounds only as what they are under
 pub record IsSelector (p : ProblemState) (l : Lit) : Type 0 where
   pub positive : l.positive ≡ true
   pub within : IsLitOf p.vars l
@@ -73,4 +91,5 @@ pub record Conserves (p q : ProblemState) : Type 0 where
   pub atoms : q.atoms ≡ p.atoms
   pub terms : q.terms ≡ p.terms
   pub restricts : (v : ℕ → Bool) → Satisfies q v → Satisfies p v
-  pub extends : (v : ℕ → Bool) → Satisfies p v → (w : ℕ → Bool) × Agree p.vars v w × AreFalse p.vars q.vars w × Satisfies q w
+  pub extends : (v : ℕ → Bool) → Satisfies p v → (w : ℕ → Bool) × Agree p.vars v w × AreFalse p.vars q.vars w
+      × Satisfies q w

@@ -15,11 +15,30 @@ use Rattle.ground_core.specs.More.{Adds}
 
 -- a variable for each ground atom, and nothing said
 abbrev pub empty_problem : List Literal → ProblemState
-empty_problem atoms = record { atoms = atoms; vars = length atoms; gates = []; clauses = []; sums = []; terms = []; bounds = []; retired = [] }
+empty_problem atoms = record {
+  atoms = atoms;
+  vars = length atoms;
+  gates = [];
+  clauses = [];
+  sums = [];
+  terms = [];
+  bounds = [];
+  retired = [];
+}
 
 -- the problem with one more clause
 abbrev pub with_clause : ProblemState → List Lit → ProblemState
-with_clause p c = record { atoms = p.atoms; vars = p.vars; gates = p.gates; clauses = p.clauses ++ c ∷ []; sums = p.sums; terms = p.terms; bounds = p.bounds; retired = p.retired }
+with_clause p c = record {
+  atoms = p.atoms;
+  vars = p.vars;
+  gates = p.gates;
+  clauses = p.clauses ++ c ∷ [];
+  sums =
+      p.sums;
+  terms = p.terms;
+  bounds = p.bounds;
+  retired = p.retired;
+}
 
 -- the first literal that the problem does not have
 abbrev pub next_lit : ProblemState → Lit
@@ -27,7 +46,17 @@ next_lit p = record { var = record { 0 = p.vars + 1 }; positive = true }
 
 -- the problem with one more variable, of which nothing is said
 abbrev pub with_var : ProblemState → ProblemState
-with_var p = record { atoms = p.atoms; vars = p.vars + 1; gates = p.gates; clauses = p.clauses; sums = p.sums; terms = p.terms; bounds = p.bounds; retired = p.retired }
+with_var p = record {
+  atoms = p.atoms;
+  vars = p.vars + 1;
+  gates = p.gates;
+  clauses = p.clauses;
+  sums = p.sums;
+  terms =
+      p.terms;
+  bounds = p.bounds;
+  retired = p.retired;
+}
 
 -- the problem with one more variable, the output of a gate
 abbrev pub with_gate : ProblemState → Bool → List Lit → ProblemState
@@ -57,12 +86,23 @@ with_sum p kind parts least = record {
 
 -- the problem with one more term
 abbrev pub with_term : ProblemState → GroundTerm → ProblemState
-with_term p t = record { atoms = p.atoms; vars = p.vars; gates = p.gates; clauses = p.clauses; sums = p.sums; terms = p.terms ++ t ∷ []; bounds = p.bounds; retired = p.retired }
+with_term p t = record {
+  atoms = p.atoms;
+  vars = p.vars;
+  gates = p.gates;
+  clauses = p.clauses;
+  sums = p.sums;
+  terms =
+      p.terms ++ t ∷ [];
+  bounds = p.bounds;
+  retired = p.retired;
+}
 
 -- the clauses that say that one literal is true exactly where two others have one value
 abbrev pub clauses_of_same : Lit → Lit → Lit → List (List Lit)
 clauses_of_same o a b =
-    (negated o ∷ negated a ∷ b ∷ []) ∷ (negated o ∷ a ∷ negated b ∷ []) ∷ (o ∷ a ∷ b ∷ []) ∷ (o ∷ negated a ∷ negated b ∷ []) ∷ []
+    (negated o ∷ negated a ∷ b ∷ []) ∷ (negated o ∷ a ∷ negated b ∷ []) ∷ (o ∷ a ∷ b ∷ []) ∷
+    (o ∷ negated a ∷ negated b ∷ []) ∷ []
 
 -- the problem with one more variable, which is true exactly where the two literals have one value
 abbrev pub with_same : ProblemState → Lit → Lit → ProblemState
@@ -79,7 +119,17 @@ with_same p a b = record {
 
 -- the problem with these selectors retired
 abbrev pub retiring : ProblemState → List Lit → ProblemState
-retiring p ls = record { atoms = p.atoms; vars = p.vars; gates = p.gates; clauses = p.clauses; sums = p.sums; terms = p.terms; bounds = p.bounds; retired = ls }
+retiring p ls = record {
+  atoms = p.atoms;
+  vars = p.vars;
+  gates = p.gates;
+  clauses = p.clauses;
+  sums = p.sums;
+  terms =
+      p.terms;
+  bounds = p.bounds;
+  retired = ls;
+}
 
 -- the problem with one more variable, under which the term is below the number
 abbrev pub with_bound : ProblemState → ℕ → ExtInt → ProblemState
@@ -97,7 +147,11 @@ with_bound p term below = record {
 -- the literals of the first variables that these values make false
 abbrev pub falsified_by : List Bool → ℕ → List Lit
 falsified_by values zero = []
-falsified_by values (suc n) = falsified_by values n ++ record { var = record { 0 = suc n }; positive = not (valuation values (suc n)) } ∷ []
+falsified_by values (suc n) = falsified_by values n ++ record {
+  var = record { 0 = suc n };
+  positive =
+      not (valuation values (suc n));
+} ∷ []
 
 -- the problem with one more variable, under which the ground atoms differ from these values somewhere
 abbrev pub with_exclusion : ProblemState → List Bool → ProblemState

@@ -1,11 +1,13 @@
 -- Which valuations satisfy a ground problem.
-use Rattle.std.specs.Prelude.{◌≡◌, ℕ, ◌^◌, ℤ, pos, neg_ℤ, ◌+ℤ◌, ◌≤ℤ◌, Bool, true, false, List, All, IfSome, map, filter, slice_get}
+use Rattle.std.specs.Prelude.{◌≡◌, ℕ, ◌^◌, ℤ, pos, neg_ℤ, ◌+ℤ◌, ◌≤ℤ◌, Bool, true, false, List, All, IfSome, map, filter}
+use Rattle.std.specs.Prelude.{slice_get}
 use Rattle.std.specs.List.{list_all, list_any}
 use Rattle.kb_logic.specs.declared.elements.ExtInt.{ExtInt}
 use Rattle.kb_logic.specs.declared.elements.ExtInt.TheVariants.{NegInf, Num, PosInf}
 use Rattle.kb_logic.specs.declared.syntax.AggKind.{AggKind}
 use Rattle.kb_logic.specs.declared.syntax.Cmp.TheVariants as cmp
-use Rattle.kb_logic.specs.Denotations.{Denotation, number, minus_infinity, plus_infinity, undefined, named, aggregate_value, compared}
+use Rattle.kb_logic.specs.Denotations.{Denotation, number, minus_infinity, plus_infinity, undefined, named}
+use Rattle.kb_logic.specs.Denotations.{aggregate_value, compared}
 use Rattle.lit_core.specs.declared.literals.Lit.{Lit}
 use Rattle.lit_core.specs.Literals.{literal_value}
 use Rattle.lit_core.specs.Truth.{IsSatisfied}
@@ -65,7 +67,8 @@ IsInRange undefined = ⊥
 
 -- where a bound's output is true, its term is below the number
 abbrev pub BoundHolds : (ℕ → Bool) → List GroundTerm → TermBound → Type 0
-BoundHolds v terms b = literal_value v b.out ≡ true → IfSome (slice_get terms b.term) (λ t. compared cmp.Lt (term_value v t) (value_of_bound b.below) ≡ true)
+BoundHolds v terms b = literal_value v b.out ≡ true → IfSome (slice_get terms b.term)
+    (λ t. compared cmp.Lt (term_value v t) (value_of_bound b.below) ≡ true)
 
 -- every one of these literals is false
 abbrev pub AreAllFalse : (ℕ → Bool) → List Lit → Type 0

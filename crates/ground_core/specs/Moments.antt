@@ -5,7 +5,15 @@ use Rattle.ground_core.specs.Problems.{ProblemState}
 
 -- how long the lists of the problem are
 abbrev pub moment_of : ProblemState → Moment
-moment_of p = record { vars = p.vars; gates = length p.gates; clauses = length p.clauses; sums = length p.sums; bounds = length p.bounds; retired = length p.retired }
+moment_of p = record {
+  vars = p.vars;
+  gates = length p.gates;
+  clauses = length p.clauses;
+  sums = length p.sums;
+  bounds =
+      length p.bounds;
+  retired = length p.retired;
+}
 
 -- the problem of that moment: its lists only grew since
 abbrev pub problem_at : ProblemState → Moment → ProblemState

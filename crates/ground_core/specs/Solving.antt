@@ -1,5 +1,6 @@
 -- What a solver promises.
-use Rattle.std.specs.Prelude.{◌≡◌, ℕ, ◌+◌, ◌-◌, ◌^◌, ◌<◌, ◌≤◌, Bool, min, Some, Result, Ok, Err, List, [], ◌∷◌, ◌++◌, length, take, replicate, slice_get, All, Any, Contains, IfSome, ◌⊎◌}
+use Rattle.std.specs.Prelude.{◌≡◌, ℕ, ◌+◌, ◌-◌, ◌^◌, ◌<◌, ◌≤◌, Bool, min, Some, Result, Ok, Err, List, [], ◌∷◌, ◌++◌}
+use Rattle.std.specs.Prelude.{length, take, replicate, slice_get, All, Any, Contains, IfSome, ◌⊎◌}
 use Rattle.lit_core.specs.declared.literals.Lit.{Lit}
 use Rattle.lit_core.specs.Literals.{valuation, negated}
 use Rattle.lit_core.specs.Truth.{IsSatisfied}
@@ -43,7 +44,8 @@ IsPrefix {A} xs ys = (more : List A) × (ys ≡ xs ++ more)
 
 -- the values satisfy the problem and make the literals true, or some of the literals, in their order, are refuted
 abbrev pub Answers : ProblemState → List Lit → Verdict → Type 0
-Answers p assumed (Sat values) = (length values ≡ p.vars + 1) × Satisfies p (valuation values) × MakesTrue (valuation values) assumed
+Answers p assumed (Sat values) = (length values ≡ p.vars + 1) × Satisfies p (valuation values) × MakesTrue
+    (valuation values) assumed
 Answers p assumed (Unsat core) = IsSublist core assumed × RefutesAll p core
 
 -- no more was spent than the limit allows, nor than was learnt
@@ -66,10 +68,12 @@ HasCoreWithin cores ls = Any (λ core. IsWithin core ls) cores
 -- a core is kept where no kept one is contained in it, and nothing else is
 abbrev pub KeepsCores : List (List Lit) → Result Verdict Halt → List (List Lit) → Type 0
 KeepsCores before (Ok (Sat values)) after = after ≡ before
-KeepsCores before (Ok (Unsat core)) after = (HasCoreWithin before core × (after ≡ before)) ⊎ ((HasCoreWithin before core → ⊥) × (after ≡ before ++ core ∷ []))
+KeepsCores before (Ok (Unsat core)) after = (HasCoreWithin before core × (after ≡ before))
+    ⊎ ((HasCoreWithin before core → ⊥) × (after ≡ before ++ core ∷ []))
 KeepsCores before (Err halt) after = after ≡ before
 
--- the learnt list, with its moments, grew at its end by as many clauses as were spent, fewer than 2^free, up to the limit
+-- the learnt list, with its moments, grew at its end by as many clauses as were spent, fewer than 2^free, up to the
+-- limit
 pub record Spends (old new : SolveState) (b c : Budget) : Type 0 where
   pub limit : c.limit ≡ b.limit
   pub rises : b.spent ≤ c.spent
@@ -109,7 +113,8 @@ Entails p c = (v : ℕ → Bool) → Satisfies p v → IsSatisfied v c
 abbrev pub IsLive : List Lit → List Lit → Type 0
 IsLive retired c = (l : Lit) → Contains retired l → Contains c (negated l) → ⊥
 
--- the problem entails the clause, which is fresh against the problem's clauses without a retired selector and those learnt before
+-- the problem entails the clause, which is fresh against the problem's clauses without a retired selector and those
+-- learnt before
 pub record IsLearntFrom (p : ProblemState) (before : List (List Lit)) (c : List Lit) : Type 0 where
   pub entailed : Entails p c
   pub live : IsLive p.retired c
@@ -123,7 +128,8 @@ pub record IsLearntFrom (p : ProblemState) (before : List (List Lit)) (c : List 
 pub record IsLearnt (p : ProblemState) (learnt : List (List Lit)) (moments : List Moment) : Type 0 where
   pub paired : length moments ≡ length learnt
   pub were : All (IsMomentOf p) moments
-  pub each : (k : ℕ) (c : List Lit) (m : Moment) → slice_get learnt k ≡ Some c → slice_get moments k ≡ Some m → IsLearntFrom (problem_at p m) (take k learnt) c
+  pub each : (k : ℕ) (c : List Lit) (m : Moment) → slice_get learnt k ≡ Some c → slice_get moments k ≡ Some m
+      → IsLearntFrom (problem_at p m) (take k learnt) c
 
 -- what holds of every solver while no call on it runs
 pub record IsKept (s : SolveState) : Type 0 where

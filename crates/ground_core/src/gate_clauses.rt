@@ -17,7 +17,8 @@ fn signed(lit: Lit, sign: bool) -> Lit
 
 /// A clause with each part, and the output.
 fn short_clauses(alloc: Global, gate: &Gate) -> Result<ClauseList, Memory>
-    ensures { IfOk result (λ cs. cs ≡ map (λ (l : Lit). with_sign (not gate.now.all) gate.now.out ∷ with_sign gate.now.all l ∷ []) gate.now.parts) }
+    ensures { IfOk result (λ cs. cs ≡ map (λ (l : Lit). with_sign (not gate.now.all) gate.now.out ∷ with_sign
+        gate.now.all l ∷ []) gate.now.parts) }
 {
     let mut clauses = ClauseList::new(alloc);
     let out = signed(gate.out, !gate.all);
@@ -30,7 +31,8 @@ fn short_clauses(alloc: Global, gate: &Gate) -> Result<ClauseList, Memory>
 
 /// The clause with all parts, and the output.
 fn long_clause(alloc: Global, gate: &Gate) -> Result<Clause, Memory>
-    ensures { IfOk result (λ c. c ≡ with_sign gate.now.all gate.now.out ∷ map (with_sign (not gate.now.all)) gate.now.parts) }
+    ensures { IfOk result (λ c. c ≡ with_sign gate.now.all gate.now.out ∷ map (with_sign (not gate.now.all))
+        gate.now.parts) }
 {
     let mut clause = Clause::new(alloc);
     clause.push(signed(gate.out, gate.all))?;

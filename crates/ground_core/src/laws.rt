@@ -1,5 +1,9 @@
 //! Laws of the definitions in `specs/`: each is the contract of a function that does nothing.
-ghost use Rattle.ground_core.specs.Laws.{ClausesSayTheGate, OnlyVariablesMatter, MoreInTwoSteps, MoreThanItself, ClauseIsAdded, ClausesSayTheProblem, ClausesAreOfTheProblem, EachAtomStandsOnce, BoundsSelect, BoundsSayNoMore, BoundsAreKept, ExclusionsSelect, ExclusionsAreKept, RetirementsAreKept, CallsAddUp, CountsAreCosts, RefusalsAreKept, RetiredBoundsAreAdditions};
+ghost use Rattle.ground_core.specs.Laws.{ClausesSayTheGate, OnlyVariablesMatter, MoreInTwoSteps, MoreThanItself};
+ghost use Rattle.ground_core.specs.Laws.{ClauseIsAdded, ClausesSayTheProblem, ClausesAreOfTheProblem};
+ghost use Rattle.ground_core.specs.Laws.{EachAtomStandsOnce, BoundsSelect, BoundsSayNoMore, BoundsAreKept};
+ghost use Rattle.ground_core.specs.Laws.{ExclusionsSelect, ExclusionsAreKept, RetirementsAreKept, CallsAddUp};
+ghost use Rattle.ground_core.specs.Laws.{CountsAreCosts, RefusalsAreKept, RetiredBoundsAreAdditions};
 
 /// A gate's clauses hold exactly where the gate does.
 pub fn clauses_say_the_gate()

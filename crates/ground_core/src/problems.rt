@@ -1,10 +1,13 @@
 //! Ground problems, and how they grow.
-ghost use Rattle.std.specs.Prelude.{◌≡◌, ◌≤◌, ◌<◌, ◌^◌, not, [], ◌∷◌, ◌++◌, List, length, take, slice_get, IfOk, OnErr, OnOk};
+ghost use Rattle.std.specs.Prelude.{◌≡◌, ◌≤◌, ◌<◌, ◌^◌, not, [], ◌∷◌, ◌++◌, List, length, take, slice_get, IfOk, OnErr};
+ghost use Rattle.std.specs.Prelude.{OnOk};
 ghost use Rattle.std.specs.Option.{option_copied};
 ghost use Rattle.lit_core.specs.Literals.{negated, valuation};
 ghost use Rattle.ground_core.specs.Atoms.{ground_atoms};
 ghost use Rattle.ground_core.specs.Problems.{IsProblem, IsLitOf, AreLitsOf, ArePartsOf, IsTermOf};
-ghost use Rattle.ground_core.specs.Growth.{empty_problem, next_lit, with_var, with_clause, with_gate, with_sum, with_term, with_same, with_exclusion, falsified_by, clauses_of_same, AddsGate, AddsSum, AddsSame};
+ghost use Rattle.ground_core.specs.Growth.{empty_problem, next_lit, with_var, with_clause, with_gate, with_sum};
+ghost use Rattle.ground_core.specs.Growth.{with_term, with_same, with_exclusion, falsified_by, clauses_of_same};
+ghost use Rattle.ground_core.specs.Growth.{AddsGate, AddsSum, AddsSame};
 
 use crate::atoms::all_atoms;
 use crate::errors::Memory;
@@ -215,7 +218,8 @@ impl Problem {
     pub fn add_sum(&mut self, kind: AggKind, parts: PartList, least: ExtInt) -> Result<Lit, Memory>
         requires { ArePartsOf self.old.vars parts }
         ensures adds { IfOk result (λ out. AddsSum self.old self.new kind parts least out) }
-        ensures made { IfOk result (λ out. (out ≡ next_lit self.old) × (self.new ≡ with_sum self.old kind parts least)) }
+        ensures made { IfOk result (λ out. (out ≡ next_lit self.old)
+            × (self.new ≡ with_sum self.old kind parts least)) }
         ensures err { OnErr result (self.new ≡ self.old) }
     {
         let out = self.next()?;
@@ -264,7 +268,8 @@ impl Problem {
     /// Adds a variable under which the ground atoms differ from these values somewhere.
     pub fn add_exclusion(&mut self, alloc: Global, values: &Values) -> Result<Lit, Memory>
         requires { length self.old.atoms < length values.now }
-        ensures made { IfOk result (λ out. (out ≡ next_lit self.old) × (self.new ≡ with_exclusion self.old values.now)) }
+        ensures made { IfOk result (λ out. (out ≡ next_lit self.old)
+            × (self.new ≡ with_exclusion self.old values.now)) }
         ensures err { OnErr result (self.new ≡ self.old) }
     {
         let out = self.next()?;

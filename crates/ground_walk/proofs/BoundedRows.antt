@@ -11,8 +11,10 @@ use Rattle.kb_logic.specs.Structures.{domain_at}
 use Rattle.kb_logic.specs.Denotations.{Denotation, denotation_of}
 use Rattle.kb_logic.specs.Meaning.{summand_plus, number_value, product_from}
 use Rattle.kb_logic.specs.Arithmetic.{ProductFits}
-use Rattle.kb_logic.specs.Bounds.{Interval, exactly, interval_sum, interval_product, signed_interval, range_of, bounds_of}
-use Rattle.kb_logic.specs.Bounds.{factor_bounds, summand_bounds, front_bounds, IsSmall, IsWithin, ValueIsWithin, HasTypes}
+use Rattle.kb_logic.specs.Bounds.{Interval, exactly, interval_sum, interval_product, signed_interval, range_of}
+use Rattle.kb_logic.specs.Bounds.{bounds_of}
+use Rattle.kb_logic.specs.Bounds.{factor_bounds, summand_bounds, front_bounds, IsSmall, IsWithin, ValueIsWithin}
+use Rattle.kb_logic.specs.Bounds.{HasTypes}
 use Rattle.kb_logic.specs.Bounds.{TermIsBounded, TermsAreBounded, SummandsAreBounded}
 use Rattle.kb_logic.proofs.FunctionValues.{element_within, variable_within, constructed_within}
 use Rattle.kb_logic.proofs.Members.{first, later}
@@ -20,7 +22,8 @@ use Rattle.kb_logic.proofs.WithinBounds.{OptionIsWithin, number_within, plus_wit
 use Rattle.kb_logic.proofs.WithinBounds.{sum_alone, some_fits, last_small}
 use Rattle.lit_core.specs.declared.literals.Lit.{Lit}
 use Rattle.term_values.specs.GroundBases.{GroundBase, known_of, first_var, row_index, tuples_at, values_at}
-use Rattle.term_values.specs.Rows.{with_row, value_rows, rows_at, pair_rows, map_rows, rows_of_term, rows_of_terms, rows_of_sum}
+use Rattle.term_values.specs.Rows.{with_row, value_rows, rows_at, pair_rows, map_rows, rows_of_term, rows_of_terms}
+use Rattle.term_values.specs.Rows.{rows_of_sum}
 use Rattle.term_values.specs.RowArithmetic.{RowsFit, TupleRowsFit, OperandRowsFit}
 
 -- what holds of the value of each row

@@ -1,6 +1,8 @@
 -- Steps over the rows of atoms and comparisons.
-use Rattle.std.proofs.Common.{◌≡◌, ℕ, zero, suc, ◌+◌, ◌<◌, ◌≤◌, Bool, true, false, not, if◌then◌else◌, List, [], ◌∷◌, ◌++◌, map, length, take}
-use Rattle.std.proofs.Common.{OnOk, Result, Ok, Err, drop, Option, Some, None, slice_get, refl, sym, ap, subst, ◌∙◌, arith}
+use Rattle.std.proofs.Common.{◌≡◌, ℕ, zero, suc, ◌+◌, ◌<◌, ◌≤◌, Bool, true, false, not, if◌then◌else◌, List, [], ◌∷◌}
+use Rattle.std.proofs.Common.{◌++◌, map, length, take}
+use Rattle.std.proofs.Common.{OnOk, Result, Ok, Err, drop, Option, Some, None, slice_get, refl, sym, ap, subst, ◌∙◌}
+use Rattle.std.proofs.Common.{arith}
 use Rattle.std.specs.Option.{option_map}
 use Rattle.std.specs.List.{AllByRecursion}
 use Rattle.kb_logic.specs.declared.elements.Elem.{Elem}
@@ -25,7 +27,8 @@ use Rattle.def_ground.specs.GroundForms.{IsPredicateOf}
 use Rattle.def_ground.specs.Meanings.{HasRoom, IsCaseOf}
 use Rattle.def_ground.proofs.AssertLaws.{room-grown}
 use Rattle.def_ground.proofs.Growing.{lits-more}
-use Rattle.def_ground.proofs.Leaves.{first-above, known-in, case-in, cases-in, term-in, terms-in, rows-more, answer-more, side-in}
+use Rattle.def_ground.proofs.Leaves.{first-above, known-in, case-in, cases-in, term-in, terms-in, rows-more}
+use Rattle.def_ground.proofs.Leaves.{answer-more, side-in}
 use Rattle.def_ground.proofs.StartLaws.{start-room}
 use Rattle.ground_walk.specs.Groundable.{HasVars, HaveLits}
 

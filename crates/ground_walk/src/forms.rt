@@ -8,7 +8,8 @@ ghost use Rattle.plain_evaluation.specs.Environments.{env_view};
 ghost use Rattle.ground_core.specs.Problems.{AreLitsOf};
 ghost use Rattle.term_values.specs.KnownBases.{IsGroundBase};
 ghost use Rattle.def_ground.specs.Answers.{Makes, Grows, AnswerWithin};
-ghost use Rattle.def_ground.specs.Forms.{form_of, parts_of, signed_result, close_parts, next_parts, no_more_parts, same_of};
+ghost use Rattle.def_ground.specs.Forms.{form_of, parts_of, signed_result, close_parts, next_parts, no_more_parts};
+ghost use Rattle.def_ground.specs.Forms.{same_of};
 ghost use Rattle.ground_walk.specs.Groundable.{HasVars, IsGroundable, AreGroundable};
 ghost use Rattle.ground_walk.specs.Steps.{PartsGrow, MakesParts, open_parts, part_step};
 

@@ -12,7 +12,8 @@ ghost use Rattle.def_ground.specs.CaseSentences.{or_clause};
 ghost use Rattle.def_ground.specs.Sentences.{are_few, assert_of, assert_all, assert_any, parts_clause};
 ghost use Rattle.def_ground.specs.Forms.{form_of, signed_result};
 ghost use Rattle.ground_walk.specs.Groundable.{HasVars, IsGroundable, AreGroundable};
-ghost use Rattle.ground_walk.specs.Steps.{open_parts, part_step, assert_last, assert_under, assert_step, assert_joined, assert_quantified};
+ghost use Rattle.ground_walk.specs.Steps.{open_parts, part_step, assert_last, assert_under, assert_step, assert_joined};
+ghost use Rattle.ground_walk.specs.Steps.{assert_quantified};
 
 use crate::disjuncts::disjuncts;
 use crate::forms::{form, instances, signed_form};

@@ -4,7 +4,8 @@ ghost use Rattle.std.specs.Prelude.{◌≡◌, ◌<◌, ◌≤◌, ◌^◌, [], 
 ghost use Rattle.term_values.specs.GroundBases.{tuples_at, values_at};
 ghost use Rattle.term_values.specs.KnownBases.{IsGroundBase};
 ghost use Rattle.def_ground.specs.Cases.{with_clauses};
-ghost use Rattle.def_ground.specs.Problems.{said_tuples, function_clauses, all_function_clauses, fact_clause, fact_clauses};
+ghost use Rattle.def_ground.specs.Problems.{said_tuples, function_clauses, all_function_clauses, fact_clause};
+ghost use Rattle.def_ground.specs.Problems.{fact_clauses};
 ghost use Rattle.def_ground.specs.Problems.{start_problem};
 ghost use Rattle.ground_walk.specs.Groundable.{HasVars, KnowsAtoms};
 

@@ -1,5 +1,6 @@
 -- The words ask one job at most.
-use Rattle.std.proofs.Common.{◌≡◌, ℕ, ◌<◌, ◌⊎◌, List, [], ◌∷◌, ◌==◌, Bool, true, false, refl, sym, ap, ◌∙◌, subst, arith, codes, Option, Some, None, inl, inr}
+use Rattle.std.proofs.Common.{◌≡◌, ℕ, ◌<◌, ◌⊎◌, List, [], ◌∷◌, ◌==◌, Bool, true, false, refl, sym, ap, ◌∙◌, subst}
+use Rattle.std.proofs.Common.{arith, codes, Option, Some, None, inl, inr}
 use Rattle.std.specs.List.{list_all}
 use Rattle.std.specs.Str.{bytes_eq}
 use Rattle.std.proofs.lemmas.Bool.{false≢true}
@@ -7,7 +8,8 @@ use Rattle.std.proofs.lemmas.Slice.Eq.{bytes_eq-Decides}
 use Rattle.kb_text.specs.Bytes.{between}
 use Rattle.kb_text.specs.Tokens.{decimal}
 use Rattle.base_reader.specs.FileMeanings.{Choice}
-use Rattle.idp_cli.specs.Jobs.{Job, consult, check, Given, nothing_given, IsBudgetText, AddsTheory, AddsStructure, AddsBudget, Adds, Gives, IsCommandLine, Asks, IsUsage, choice_in, budget_given}
+use Rattle.idp_cli.specs.Jobs.{Job, consult, check, Given, nothing_given, IsBudgetText, AddsTheory, AddsStructure}
+use Rattle.idp_cli.specs.Jobs.{AddsBudget, Adds, Gives, IsCommandLine, Asks, IsUsage, choice_in, budget_given}
 
 -- two words are not one text
 pub apart : {A : Type 0} (w x y : List ℕ) → bytes_eq x y ≡ false → w ≡ x → w ≡ y → A

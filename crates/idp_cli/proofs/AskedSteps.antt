@@ -1,5 +1,6 @@
 -- What the words ask, from what each part of them says.
-use Rattle.std.proofs.Common.{◌≡◌, ℕ, List, [], ◌∷◌, length, Bool, true, false, refl, sym, ap, ◌∙◌, subst, arith, codes, Global, Option, Some, None, inl, inr, MatchOption}
+use Rattle.std.proofs.Common.{◌≡◌, ℕ, List, [], ◌∷◌, length, Bool, true, false, refl, sym, ap, ◌∙◌, subst, arith, codes}
+use Rattle.std.proofs.Common.{Global, Option, Some, None, inl, inr, MatchOption}
 use Rattle.std.specs.List.{list_all}
 use Rattle.std.specs.Str.{bytes_eq}
 use Rattle.std.specs.String.{string_bytes}
@@ -8,7 +9,8 @@ use Rattle.std.proofs.lemmas.Bool.{false≢true}
 use Rattle.std.proofs.lemmas.Slice.Eq.{bytes_eq-Decides}
 use Rattle.kb_text.specs.Bytes.{between}
 use Rattle.consult_text.specs.Budgets.{IsBudget}
-use Rattle.idp_cli.specs.Jobs.{consult, check, Given, nothing_given, is_option, IsBudgetText, AddsTheory, AddsStructure, AddsBudget, Adds, Gives, IsCommandLine, IsUsage}
+use Rattle.idp_cli.specs.Jobs.{consult, check, Given, nothing_given, is_option, IsBudgetText, AddsTheory, AddsStructure}
+use Rattle.idp_cli.specs.Jobs.{AddsBudget, Adds, Gives, IsCommandLine, IsUsage}
 use Rattle.idp_cli.specs.Runs.{Words, texts_of}
 use Rattle.idp_cli.proofs.Asked.{apart, first_of, rest_of, one_line, one_added}
 

@@ -7,7 +7,8 @@ use Rattle.base_reader.specs.Laws.{HasOneRefusal, MeansOrIsRefused}
 use Rattle.idp_cli.specs.Jobs.{Job, consult, check, file_of, Asks, IsUsage}
 use Rattle.idp_cli.specs.Files.{IfObservable, IsRefusedAt, line_of}
 use Rattle.idp_cli.specs.Runs.{Words, texts_of, Outside, ConsultationEnds, CheckEnds, JobEnds, RunEnds}
-use Rattle.idp_cli.specs.Laws.{IsUnlessFailed, choice_of, UsageLaw, CommandLaw, RefusalLaw, TakingLaw, LengthLaw, ShortLaw, DoneLaw, CheckedLaw}
+use Rattle.idp_cli.specs.Laws.{IsUnlessFailed, choice_of, UsageLaw, CommandLaw, RefusalLaw, TakingLaw, LengthLaw}
+use Rattle.idp_cli.specs.Laws.{ShortLaw, DoneLaw, CheckedLaw}
 use Rattle.idp_cli.specs.declared.status.Status.{Status}
 use Rattle.idp_cli.specs.declared.status.Status.TheVariants as status
 use Rattle.idp_cli.proofs.Asked.{one_job}

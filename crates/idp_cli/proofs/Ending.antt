@@ -1,5 +1,6 @@
 -- How the answers to the commands go on and end.
-use Rattle.std.proofs.Common.{◌≡◌, ℕ, ◌+◌, ◌-◌, ◌<◌, ◌≤◌, ◌++◌, List, ◌∷◌, [], length, refl, sym, ◌∙◌, ap, subst, arith, length-append, true, false, Option, Some, None, Ok, Err, inl, inr}
+use Rattle.std.proofs.Common.{◌≡◌, ℕ, ◌+◌, ◌-◌, ◌<◌, ◌≤◌, ◌++◌, List, ◌∷◌, [], length, refl, sym, ◌∙◌, ap, subst, arith}
+use Rattle.std.proofs.Common.{length-append, true, false, Option, Some, None, Ok, Err, inl, inr}
 use Rattle.kb_io.specs.Outside.{Rose}
 use Rattle.kb_io.specs.Pending.{Pending, TakesLine, most_bytes}
 use Rattle.kb_logic.specs.Bases.{Base}
@@ -11,7 +12,8 @@ use Rattle.idp_cli.specs.Turns.{Turns}
 use Rattle.idp_cli.specs.declared.status.Status.{Status}
 use Rattle.idp_cli.specs.declared.status.Status.TheVariants as status
 use Rattle.idp_cli.proofs.Answered.{answers_none, answers_more}
-use Rattle.idp_cli.proofs.Progress.{Given, EndedWithin, none_given, line_given, some_given, next_given, all_given, ended_given, ended_within}
+use Rattle.idp_cli.proofs.Progress.{Given, EndedWithin, none_given, line_given, some_given, next_given, all_given}
+use Rattle.idp_cli.proofs.Progress.{ended_given, ended_within}
 
 -- the lines that were given are answered
 pub record IsSoFar (kb : Base) (first s : State) (p : Pending) (before now : Streams) : Type 0 where

@@ -1,5 +1,6 @@
 -- The printed bytes determine what was answered.
-use Rattle.std.proofs.Common.{◌≡◌, ℕ, ◌≤◌, ◌<◌, ◌^◌, List, [], ◌∷◌, ◌++◌, refl, sym, ap, ◌∙◌, subst, Bool, true, false, cond, not, filter, length, arith, Option, Some, None, Ok, Err}
+use Rattle.std.proofs.Common.{◌≡◌, ℕ, ◌≤◌, ◌<◌, ◌^◌, List, [], ◌∷◌, ◌++◌, refl, sym, ap, ◌∙◌, subst, Bool, true, false}
+use Rattle.std.proofs.Common.{cond, not, filter, length, arith, Option, Some, None, Ok, Err}
 use Rattle.std.specs.List.{AllByRecursion}
 use Rattle.std.proofs.lemmas.List.{append_cancel_left}
 use Rattle.kb_logic.specs.Bases.{Base}
@@ -16,10 +17,12 @@ use Rattle.consult_text.specs.Literals.{IsLiteralOver}
 use Rattle.consult_text.specs.Laws.{Meaning, Means, HasOneMeaning, CommandsAreOverTheBase}
 use Rattle.consult_text.specs.Texts.{reply_text}
 use Rattle.consult_text.specs.OneText.{HasWordNames, IsReplyTo, IsReplyOver, NoTwoRepliesHaveOneText}
-use Rattle.consult_text.specs.States.{State, first_state, same_literal, command_refusal, carried_out, unless_refused, state_after}
+use Rattle.consult_text.specs.States.{State, first_state, same_literal, command_refusal, carried_out, unless_refused}
+use Rattle.consult_text.specs.States.{state_after}
 use Rattle.consult_text.specs.RightReplies.{RightAnswer, RightUnless, RightReply}
 use Rattle.idp_cli.specs.Turns.{reply_of}
-use Rattle.idp_cli.specs.Consultation.{Said, nothing, too_long, refused, replied, IsRightAnswer, state_left, said_text, said_texts, Consultation}
+use Rattle.idp_cli.specs.Consultation.{Said, nothing, too_long, refused, replied, IsRightAnswer, state_left, said_text}
+use Rattle.idp_cli.specs.Consultation.{said_texts, Consultation}
 use Rattle.idp_cli.specs.OneAnswer.{IsBudgetInRange, IsStateOver, OneAnswerLaw, OneConsultationLaw, StatesLaw}
 
 -- a budget in its range has 64 bits

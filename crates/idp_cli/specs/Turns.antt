@@ -14,7 +14,8 @@ use Rattle.consult_text.specs.States.{State, first_state}
 use Rattle.consult_text.specs.declared.refusals.F.TheVariants as refusal
 use Rattle.consult_text.specs.declared.replies.Reply.{Reply}
 use Rattle.consult_text.specs.declared.replies.Reply.TheVariants as reply
-use Rattle.idp_cli.specs.Consultation.{Said, nothing, too_long, refused, replied, IsRightAnswer, state_left, AnswersPrefix, IsAnswered}
+use Rattle.idp_cli.specs.Consultation.{Said, nothing, too_long, refused, replied, IsRightAnswer, state_left}
+use Rattle.idp_cli.specs.Consultation.{AnswersPrefix, IsAnswered}
 use Rattle.idp_cli.specs.Answering.{Streams, IsWithoutFault}
 use Rattle.idp_cli.specs.declared.status.Status.{Status}
 use Rattle.idp_cli.specs.declared.status.Status.TheVariants as status

@@ -2,7 +2,8 @@
 ghost use Rattle.std.specs.Prelude.{◌≡◌, ℕ, List, Option, MatchOption};
 ghost use Rattle.kb_text.specs.Bytes.{between};
 ghost use Rattle.std.specs.List.{list_all};
-ghost use Rattle.idp_cli.specs.Jobs.{is_option, nothing_given, budget_given, AddsTheory, AddsStructure, AddsBudget, Adds, Asks, Gives, IsBudgetText, IsCommandLine, IsUsage};
+ghost use Rattle.idp_cli.specs.Jobs.{is_option, nothing_given, budget_given, AddsTheory, AddsStructure, AddsBudget};
+ghost use Rattle.idp_cli.specs.Jobs.{Adds, Asks, Gives, IsBudgetText, IsCommandLine, IsUsage};
 ghost use Rattle.idp_cli.specs.Jobs as asked;
 ghost use Rattle.idp_cli.specs.JobViews.{given_view, job_view};
 ghost use Rattle.idp_cli.specs.Runs.{texts_of};

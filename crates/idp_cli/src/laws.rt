@@ -1,5 +1,6 @@
 //! Laws on how a run ends, and on what it prints. The functions do nothing else: their contracts are laws.
-ghost use Rattle.idp_cli.specs.Laws.{UsageLaw, CommandLaw, RefusalLaw, TakingLaw, LengthLaw, ShortLaw, DoneLaw, CheckedLaw};
+ghost use Rattle.idp_cli.specs.Laws.{UsageLaw, CommandLaw, RefusalLaw, TakingLaw, LengthLaw, ShortLaw, DoneLaw};
+ghost use Rattle.idp_cli.specs.Laws.{CheckedLaw};
 ghost use Rattle.idp_cli.specs.OneAnswer.{OneAnswerLaw, OneConsultationLaw, StatesLaw};
 ghost use Rattle.idp_cli.specs.FileLaws.{FileRepliesLaw, CheckedIsReadBackLaw};
 

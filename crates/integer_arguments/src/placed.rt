@@ -36,7 +36,8 @@ fn signed(minus: bool, n: i64) -> Whole
 
 /// The integer that the one operand of a sum is.
 fn signed_integer(part: &Signed) -> Option<Whole>
-    ensures { option_map whole_view result ≡ said.integer_in (summation (more_summands part.now.minus (term_view part.now.term) no_summands)) }
+    ensures { option_map whole_view result ≡ said.integer_in (summation
+        (more_summands part.now.minus (term_view part.now.term) no_summands)) }
 {
     match part.term {
         Term::Int(n) => Some(signed(part.minus, n)),

@@ -37,7 +37,8 @@ pub fn term(
     of: &Term,
     found: &mut Vec<Option<Placed>>,
 ) -> Result<(), Memory>
-    ensures { OnOk result (placed_views found.new.items ≡ placed_views found.old.items ++ said.term_integers symbols.now position (term_view of.now)) }
+    ensures { OnOk result (placed_views found.new.items ≡ placed_views found.old.items ++ said.term_integers symbols.now
+        position (term_view of.now)) }
 {
     found.push(placed_at(position, of))?;
     match of {
@@ -62,7 +63,8 @@ fn terms(
     all: &[Term],
     found: &mut Vec<Option<Placed>>,
 ) -> Result<(), Memory>
-    ensures { OnOk result (placed_views found.new.items ≡ placed_views found.old.items ++ said.argument_integers symbols.now types.now (terms_of (map term_view all.now))) }
+    ensures { OnOk result (placed_views found.new.items ≡ placed_views found.old.items ++ said.argument_integers
+        symbols.now types.now (terms_of (map term_view all.now))) }
 {
     for i in 0..all.len() {
         term(symbols, position(types, i), &all[i], found)?;
@@ -76,7 +78,8 @@ fn summands(
     parts: &[Signed],
     found: &mut Vec<Option<Placed>>,
 ) -> Result<(), Memory>
-    ensures { OnOk result (placed_views found.new.items ≡ placed_views found.old.items ++ said.summand_integers symbols.now (summands_of (map signed_view parts.now))) }
+    ensures { OnOk result (placed_views found.new.items ≡ placed_views found.old.items ++ said.summand_integers
+        symbols.now (summands_of (map signed_view parts.now))) }
 {
     for part in parts {
         term(symbols, None, &part.term, found)?;
@@ -91,7 +94,8 @@ pub fn formula(
     of: &Formula,
     found: &mut Vec<Option<Placed>>,
 ) -> Result<(), Memory>
-    ensures { OnOk result (placed_views found.new.items ≡ placed_views found.old.items ++ said.formula_integers symbols.now (formula_view of.now)) }
+    ensures { OnOk result (placed_views found.new.items ≡ placed_views found.old.items ++ said.formula_integers
+        symbols.now (formula_view of.now)) }
 {
     match of {
         Formula::True => Ok(()),
@@ -124,7 +128,8 @@ fn formulas(
     all: &[Formula],
     found: &mut Vec<Option<Placed>>,
 ) -> Result<(), Memory>
-    ensures { OnOk result (placed_views found.new.items ≡ placed_views found.old.items ++ said.all_integers symbols.now (formulas_of (map formula_view all.now))) }
+    ensures { OnOk result (placed_views found.new.items ≡ placed_views found.old.items ++ said.all_integers symbols.now
+        (formulas_of (map formula_view all.now))) }
 {
     for one in all {
         formula(symbols, one, found)?;

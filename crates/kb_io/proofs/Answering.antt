@@ -1,5 +1,7 @@
 -- The answers of a line that is being read.
-use Rattle.std.proofs.Common.{◌≡◌, ℕ, ◌+◌, ◌-◌, ◌<◌, ◌≤◌, max, List, [], ◌∷◌, ◌++◌, length, take, drop, refl, sym, ◌∙◌, ap, subst, append_assoc, arith, inl, inr, Option, Some, None, Ok, Err, zero-add, length-append}
+use Rattle.std.proofs.Common.{◌≡◌, ℕ, ◌+◌, ◌-◌, ◌<◌, ◌≤◌, max, List, [], ◌∷◌, ◌++◌, length, take, drop, refl, sym, ◌∙◌}
+use Rattle.std.proofs.Common.{ap, subst, append_assoc, arith, inl, inr, Option, Some, None, Ok, Err, zero-add}
+use Rattle.std.proofs.Common.{length-append}
 use Rattle.std.proofs.lemmas.List.{append-nil}
 use Rattle.std.specs.Io.KnownBytes.{Consumes, IsAtEnd}
 use Rattle.kb_io.specs.Outside.{Rose}
@@ -7,7 +9,8 @@ use Rattle.kb_io.proofs.KnownBytes.{consumes_none, consumes_more, consumes_kept}
 use Rattle.kb_io.specs.Lines.{newlines, longest_line, IsLong, StandsFor}
 use Rattle.kb_io.proofs.LineLemmas.{newlines-append, let_go_is_long, long_more}
 use Rattle.kb_io.specs.Pending.{GoesOn, NextLine, most_bytes}
-use Rattle.kb_io.specs.Buffer.{begun, begun_at, answered, answered_at, unread, pending, IsSoundLine, IsUnderWay, IsUnderWayAt}
+use Rattle.kb_io.specs.Buffer.{begun, begun_at, answered, answered_at, unread, pending, IsSoundLine, IsUnderWay}
+use Rattle.kb_io.specs.Buffer.{IsUnderWayAt}
 use Rattle.kb_io.specs.Finishes.{Cuts, Refills, FinishesLast}
 use Rattle.kb_io.specs.declared.lines.Next.{Next}
 use Rattle.kb_io.specs.declared.lines.Next.TheVariants.{Line, LongLine, End}

@@ -1,5 +1,6 @@
 -- How a line is put together of the pieces that come.
-use Rattle.std.proofs.Common.{◌≡◌, ℕ, ◌+◌, ◌-◌, ◌<◌, ◌≤◌, List, ◌∷◌, ◌++◌, length, take, drop, sym, ◌∙◌, ap, subst, arith, inl, inr, Some, take-append-drop, drop-drop, zero-add, length-append, length-take}
+use Rattle.std.proofs.Common.{◌≡◌, ℕ, ◌+◌, ◌-◌, ◌<◌, ◌≤◌, List, ◌∷◌, ◌++◌, length, take, drop, sym, ◌∙◌, ap, subst}
+use Rattle.std.proofs.Common.{arith, inl, inr, Some, take-append-drop, drop-drop, zero-add, length-append, length-take}
 use Rattle.std.proofs.lemmas.List.{drop-take}
 use Rattle.kb_io.specs.Lines.{newlines, longest_line, let_go, IsLong, StandsFor}
 use Rattle.kb_io.proofs.LineLemmas.{newlines-append, let_go_is_long, long_more}

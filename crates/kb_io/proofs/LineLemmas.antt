@@ -1,12 +1,14 @@
 -- How bytes are cut into lines.
 use Rattle.std.specs.Prelude.{◌≡◌, ℕ, ◌+◌, ◌<◌, List, [], ◌∷◌, ◌++◌, length, replicate, ◌==◌, Option, Some, None}
-use Rattle.std.proofs.Common.{refl, sym, subst, ◌∙◌, ap, append_assoc, zero-add, mul-zero, length-append, arith, lit<, true, false, cond, inl, inr}
+use Rattle.std.proofs.Common.{refl, sym, subst, ◌∙◌, ap, append_assoc, zero-add, mul-zero, length-append, arith, lit<}
+use Rattle.std.proofs.Common.{true, false, cond, inl, inr}
 use Rattle.std.proofs.lemmas.Bool.{cases_Bool, eqb-true}
 use Rattle.std.proofs.lemmas.List.{append-nil, length-replicate}
 use Rattle.std.proofs.lemmas.List.Sums.{sum_by-append}
 use Rattle.std.proofs.lemmas.List.Folds.{sum_by-replicate}
 use Rattle.std.specs.Io.KnownBytes.{Consumes, IsAtEnd}
-use Rattle.kb_io.specs.Lines.{newlines, onto_first, command_lines, ended, AreCutAtNewlines, IsNextLine, longest_line, IsLong, let_go, BeginsLines, HasNoLines}
+use Rattle.kb_io.specs.Lines.{newlines, onto_first, command_lines, ended, AreCutAtNewlines, IsNextLine, longest_line}
+use Rattle.kb_io.specs.Lines.{IsLong, let_go, BeginsLines, HasNoLines}
 
 pub newlines-append : (xs ys : List ℕ) → newlines (xs ++ ys) ≡ newlines xs + newlines ys
 newlines-append xs ys = sum_by-append (λ b. cond (b == 10) 1 0) xs ys

@@ -1,5 +1,6 @@
 -- What sources and sinks in memory do, by their script.
-use Rattle.std.specs.Prelude.{◌≡◌, ℕ, ◌+◌, ◌-◌, ◌^◌, min, max, List, length, Bool, true, ◌==◌, Option, Some, None, Result, IfOk, slice_get}
+use Rattle.std.specs.Prelude.{◌≡◌, ℕ, ◌+◌, ◌-◌, ◌^◌, min, max, List, length, Bool, true, ◌==◌, Option, Some, None}
+use Rattle.std.specs.Prelude.{Result, IfOk, slice_get}
 use Rattle.std.specs.List.{list_any}
 use Rattle.std.specs.Result.{is_err, IsErr}
 

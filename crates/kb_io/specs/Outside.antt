@@ -1,5 +1,6 @@
 -- What calls of devices do to what is observable of them and to their counts of faults.
-use Rattle.std.specs.Prelude.{◌≡◌, ℕ, ◌+◌, ◌-◌, ◌^◌, ◌<◌, ◌≤◌, min, List, [], ◌∷◌, ◌++◌, OnOk, OnErr, Option, Some, None, Result, Ok, Err}
+use Rattle.std.specs.Prelude.{◌≡◌, ℕ, ◌+◌, ◌-◌, ◌^◌, ◌<◌, ◌≤◌, min, List, [], ◌∷◌, ◌++◌, OnOk, OnErr, Option, Some}
+use Rattle.std.specs.Prelude.{None, Result, Ok, Err}
 
 -- the count rose, or stands at its greatest value
 abbrev pub Rose : ℕ → ℕ → Type 0

@@ -1,5 +1,6 @@
 //! The bytes of a source between two lines: the line under way, and the rest of the last chunk that was read.
-ghost use Rattle.std.specs.Prelude.{◌≡◌, ◌+◌, ◌-◌, ◌<◌, ◌≤◌, [], ◌∷◌, ◌++◌, List, ℕ, true, false, IfOk, MatchOption, MatchResult, length, take, drop};
+ghost use Rattle.std.specs.Prelude.{◌≡◌, ◌+◌, ◌-◌, ◌<◌, ◌≤◌, [], ◌∷◌, ◌++◌, List, ℕ, true, false, IfOk, MatchOption};
+ghost use Rattle.std.specs.Prelude.{MatchResult, length, take, drop};
 ghost use Rattle.std.specs.Io.KnownBytes.{Consumes, Keeps, IsAtEnd};
 ghost use Rattle.kb_io.specs.Outside.{HasCause};
 ghost use Rattle.kb_io.specs.Lines.{newlines, StandsFor};

@@ -1,5 +1,6 @@
 //! A shelf of files in memory.
-ghost use Rattle.std.specs.Prelude.{◌≡◌, ◌≢◌, ℕ, ◌+◌, ◌^◌, List, ◌<◌, ◌≤◌, None, IfOk, IfSome, MatchResult, Some, length};
+ghost use Rattle.std.specs.Prelude.{◌≡◌, ◌≢◌, ℕ, ◌+◌, ◌^◌, List, ◌<◌, ◌≤◌, None, IfOk, IfSome, MatchResult, Some};
+ghost use Rattle.std.specs.Prelude.{length};
 ghost use Rattle.std.specs.Option.{option_map};
 ghost use Rattle.kb_io.specs.Outside.{HasCause, GrewByName, KeptNames, Closes, OpensOne, RaisedByOne, LoweredByOne};
 ghost use Rattle.kb_io.specs.Files.{source_named, file_named, without, AreFresh, NamesDiffer, names_of};

@@ -1,5 +1,6 @@
 -- Membership, item by item.
-use Rattle.std.proofs.Common.{◌≡◌, ℕ, suc, zero, ◌+◌, ◌<◌, List, [], ◌∷◌, ◌++◌, map, length, Bool, true, false, ◌||◌, Some, cond, refl, sym, ap, ◌∙◌, arith, slice_get, ◌⊎◌, inl, inr, filter, subst, get_or}
+use Rattle.std.proofs.Common.{◌≡◌, ℕ, suc, zero, ◌+◌, ◌<◌, List, [], ◌∷◌, ◌++◌, map, length, Bool, true, false, ◌||◌}
+use Rattle.std.proofs.Common.{Some, cond, refl, sym, ap, ◌∙◌, arith, slice_get, ◌⊎◌, inl, inr, filter, subst, get_or}
 use Rattle.std.specs.List.{list_any, flat_map, enumerate_from, Contains}
 use Rattle.std.proofs.lemmas.Bool.{cases_Bool, true≢false, false_from_ne_true}
 
@@ -49,26 +50,30 @@ map_has f [] y h = absurd h
 map_has f (z ∷ xs) y (inl e) = (z, inl refl, e)
 map_has f (z ∷ xs) y (inr m) = let r = map_has f xs y m in (r.0, inr r.1, r.2)
 
-pub has_flat_map : {X Y : Type 0} (f : X → List Y) (xs : List X) (x : X) (y : Y) → Has xs x → Has (f x) y → Has (flat_map f xs) y
+pub has_flat_map : {X Y : Type 0} (f : X → List Y) (xs : List X) (x : X) (y : Y) → Has xs x → Has (f x) y
+    → Has (flat_map f xs) y
 has_flat_map f [] x y h m = absurd h
 has_flat_map f (z ∷ xs) x y (inl e) m = has_left (f z) (flat_map f xs) y (subst (λ w. Has (f w) y) (sym e) m)
 has_flat_map f (z ∷ xs) x y (inr h) m = has_right (f z) (flat_map f xs) y (has_flat_map f xs x y h m)
 
-pub flat_map_has : {X Y : Type 0} (f : X → List Y) (xs : List X) (y : Y) → Has (flat_map f xs) y → (x : X) × Has xs x × Has (f x) y
+pub flat_map_has : {X Y : Type 0} (f : X → List Y) (xs : List X) (y : Y) → Has (flat_map f xs) y → (x : X) × Has xs x
+    × Has (f x) y
 flat_map_has f [] y h = absurd h
 flat_map_has f (z ∷ xs) y h = elim (has_either (f z) (flat_map f xs) y h) [
   | inl m ↦ (z, inl refl, m)
   | inr m ↦ let r = flat_map_has f xs y m in (r.0, inr r.1, r.2)
 ]
 
-pub has_enumerated : {X : Type 0} (n k : ℕ) (xs : List X) (x : X) → slice_get xs k ≡ Some x → Has (enumerate_from n xs) (n + k, x)
+pub has_enumerated : {X : Type 0} (n k : ℕ) (xs : List X) (x : X) → slice_get xs k ≡ Some x
+    → Has (enumerate_from n xs) (n + k, x)
 has_enumerated n k [] x h = absurd (cc)
 has_enumerated n zero (y ∷ xs) x h = inl (let at : y ≡ x = cc in let is : n ≡ n + 0 = omega arith in cc)
 has_enumerated n (suc k) (y ∷ xs) x h =
     let same : (n + 1) + k ≡ n + suc k = omega arith in
     inr (subst (λ m. Has (enumerate_from (n + 1) xs) (m, x)) same (has_enumerated (n + 1) k xs x h))
 
-pub enumerated_has : {X : Type 0} (n : ℕ) (xs : List X) (m : ℕ) (x : X) → Has (enumerate_from n xs) (m, x) → (k : ℕ) × (m ≡ n + k) × (slice_get xs k ≡ Some x)
+pub enumerated_has : {X : Type 0} (n : ℕ) (xs : List X) (m : ℕ) (x : X) → Has (enumerate_from n xs) (m, x)
+    → (k : ℕ) × (m ≡ n + k) × (slice_get xs k ≡ Some x)
 enumerated_has n [] m x h = absurd h
 enumerated_has n (y ∷ xs) m x (inl e) =
     let at : y ≡ x = ap (λ p. p.1) e in
@@ -77,21 +82,27 @@ enumerated_has n (y ∷ xs) m x (inl e) =
 enumerated_has n (y ∷ xs) m x (inr h) = let r = enumerated_has (n + 1) xs m x h in (suc r.0, omega (arith, r.1), r.2)
 
 -- tests that agree on the items keep the same items
-pub filter-same : {X : Type 0} (p q : X → Bool) (xs : List X) → ((x : X) → Has xs x → p x ≡ q x) → filter p xs ≡ filter q xs
+pub filter-same : {X : Type 0} (p q : X → Bool) (xs : List X) → ((x : X) → Has xs x → p x ≡ q x)
+    → filter p xs ≡ filter q xs
 filter-same p q [] h = refl
 filter-same p q (x ∷ xs) h =
-    ap (λ b. cond b (x ∷ filter p xs) (filter p xs)) (h x (inl refl)) ∙ ap (λ l. cond (q x) (x ∷ l) l) (filter-same p q xs (λ y m. h y (inr m)))
+    ap (λ b. cond b (x ∷ filter p xs) (filter p xs)) (h x (inl refl)) ∙ ap (λ l. cond (q x) (x ∷ l) l)
+    (filter-same p q xs (λ y m. h y (inr m)))
 
 pub filter-none : {X : Type 0} (p : X → Bool) (xs : List X) → ((x : X) → p x ≡ false) → filter p xs ≡ []
 filter-none p [] h = refl
 filter-none p (x ∷ xs) h = ap (λ b. cond b (x ∷ filter p xs) (filter p xs)) (h x) ∙ filter-none p xs h
 
-module _ {X : Type 0} (same P : X → Bool) (a : X) (only : (x : X) → same x ≡ true → x ≡ a) (itself : same a ≡ true) where
-  kept_first : (x : X) (xs : List X) (b : Bool) → P x ≡ b → P a ≡ true → x ≡ a → list_any same (cond b (x ∷ filter P xs) (filter P xs)) ≡ true
-  kept_first x xs true h p e = ap (λ y. same y || list_any same (filter P xs)) e ∙ ap (λ b. b || list_any same (filter P xs)) itself
+module _ {X : Type 0} (same P : X → Bool) (a : X) (only : (x : X) → same x ≡ true → x ≡ a)
+    (itself : same a ≡ true) where
+  kept_first : (x : X) (xs : List X) (b : Bool) → P x ≡ b → P a ≡ true → x ≡ a
+      → list_any same (cond b (x ∷ filter P xs) (filter P xs)) ≡ true
+  kept_first x xs true h p e = ap (λ y. same y || list_any same (filter P xs)) e
+      ∙ ap (λ b. b || list_any same (filter P xs)) itself
   kept_first x xs false h p e = absurd (true≢false (sym p ∙ ap P (sym e) ∙ h))
 
-  kept_later : (x : X) (xs : List X) (b c : Bool) → same x ≡ c → list_any same (filter P xs) ≡ true → list_any same (cond b (x ∷ filter P xs) (filter P xs)) ≡ true
+  kept_later : (x : X) (xs : List X) (b c : Bool) → same x ≡ c → list_any same (filter P xs) ≡ true
+      → list_any same (cond b (x ∷ filter P xs) (filter P xs)) ≡ true
   kept_later x xs false c e h = h
   kept_later x xs true true e h = ap (λ b. b || list_any same (filter P xs)) e
   kept_later x xs true false e h = ap (λ b. b || list_any same (filter P xs)) e ∙ h
@@ -104,7 +115,8 @@ module _ {X : Type 0} (same P : X → Bool) (a : X) (only : (x : X) → same x �
   not_same : (x : X) → P x ≡ true → P a ≡ false → same x ≡ false
   not_same x p q = false_from_ne_true (same x) (λ s. true≢false (sym p ∙ ap P (only x s) ∙ q))
 
-  dropped_first : (x : X) (xs : List X) (b : Bool) → P x ≡ b → P a ≡ false → list_any same (filter P xs) ≡ false → list_any same (cond b (x ∷ filter P xs) (filter P xs)) ≡ false
+  dropped_first : (x : X) (xs : List X) (b : Bool) → P x ≡ b → P a ≡ false → list_any same (filter P xs) ≡ false
+      → list_any same (cond b (x ∷ filter P xs) (filter P xs)) ≡ false
   dropped_first x xs true h q rest = ap (λ b. b || list_any same (filter P xs)) (not_same x h q) ∙ rest
   dropped_first x xs false h q rest = rest
 

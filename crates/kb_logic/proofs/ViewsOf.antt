@@ -11,11 +11,14 @@ use Rattle.kb_logic.specs.declared.syntax.AggKind.{AggKind}
 use Rattle.kb_logic.specs.declared.syntax.Term.{Term, size-Term, Agg}
 use Rattle.kb_logic.specs.declared.syntax.Formula.{Formula, size-Formula, Number, the_lemmas}
 
-pub formula_view-Number : (c : Cmp) (n : ℤ) (bs : Vec Bound Global) (f : Box Formula Global) → formula_view (Number c n bs f) ≡ numbered c n bs.items (formula_view f.value)
+pub formula_view-Number : (c : Cmp) (n : ℤ) (bs : Vec Bound Global) (f : Box Formula Global)
+    → formula_view (Number c n bs f) ≡ numbered c n bs.items (formula_view f.value)
 formula_view-Number c n bs f = search (rules, the_lemmas)
 
-pub term_view-Agg : (k : AggKind) (bs : Vec Bound Global) (f : Box Formula Global) (t : Box Term Global) → term_view (Agg k bs f t) ≡ aggregate k bs.items (formula_view f.value) (term_view t.value)
+pub term_view-Agg : (k : AggKind) (bs : Vec Bound Global) (f : Box Formula Global) (t : Box Term Global)
+    → term_view (Agg k bs f t) ≡ aggregate k bs.items (formula_view f.value) (term_view t.value)
 term_view-Agg k bs f t = search (rules, the_lemmas)
 
-pub size-Agg : (k : AggKind) (bs : Vec Bound Global) (f : Box Formula Global) (t : Box Term Global) → max (size-Formula f.value) (size-Term t.value) < size-Term (Agg k bs f t)
+pub size-Agg : (k : AggKind) (bs : Vec Bound Global) (f : Box Formula Global) (t : Box Term Global)
+    → max (size-Formula f.value) (size-Term t.value) < size-Term (Agg k bs f t)
 size-Agg k bs f t = search (rules, the_lemmas)

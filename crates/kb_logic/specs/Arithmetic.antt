@@ -6,8 +6,13 @@ use Rattle.kb_logic.specs.declared.elements.Elem.{Elem}
 use Rattle.kb_logic.specs.declared.syntax.AggKind.{AggKind}
 use Rattle.kb_logic.specs.declared.syntax.AggKind.TheVariants as kind
 use Rattle.kb_logic.specs.declared.structures.Structure.{Structure}
-use Rattle.kb_logic.specs.Trees.{TermTree, variable, integer, constructed, application, summation, product, aggregate, TermTrees, no_terms, more_terms, SummandTrees, no_summands, more_summands, FormulaTree, verum, falsum, atom, comparison, negation, conjunction, disjunction, implication, equivalence, universal, existential, numbered, FormulaTrees, no_formulas, more_formulas}
-use Rattle.kb_logic.specs.Denotations.{Denotation, number, plus_infinity, minus_infinity, as_number, added, lesser, greater}
+use Rattle.kb_logic.specs.Trees.{TermTree, variable, integer, constructed, application, summation, product, aggregate}
+use Rattle.kb_logic.specs.Trees.{TermTrees, no_terms, more_terms, SummandTrees, no_summands, more_summands, FormulaTree}
+use Rattle.kb_logic.specs.Trees.{verum, falsum, atom, comparison, negation, conjunction, disjunction, implication}
+use Rattle.kb_logic.specs.Trees.{equivalence, universal, existential, numbered, FormulaTrees, no_formulas}
+use Rattle.kb_logic.specs.Trees.{more_formulas}
+use Rattle.kb_logic.specs.Denotations.{Denotation, number, plus_infinity, minus_infinity, as_number, added, lesser}
+use Rattle.kb_logic.specs.Denotations.{greater}
 use Rattle.kb_logic.specs.Meaning.{assignments, values_where, sum_of, truth_of, value_of, values_of}
 
 -- an aggregate of no value
@@ -51,7 +56,8 @@ abbrev mutual
   TermFits m (summation ss) e = IfSome (sum_of m ss e) (λ z. FitsSigned w64 z) × SummandsFit m ss e
   TermFits m (aggregate k bs f t) e =
       AllByRecursion (λ a. ArithmeticFits m f (e ++ a) × TermFits m t (e ++ a)) (assignments m bs)
-      × FoldFits k (start k) (values_where (λ a. truth_of m f (e ++ a)) (λ a. as_number (value_of m t (e ++ a))) (assignments m bs))
+      × FoldFits k (start k) (values_where (λ a. truth_of m f (e ++ a)) (λ a. as_number (value_of m t (e ++ a)))
+      (assignments m bs))
 
   pub TermsFit : Structure → TermTrees → List Elem → Type 0
   TermsFit m no_terms e = ⊤

@@ -1,5 +1,7 @@
 -- Static bounds of terms, which the domains give, and what they promise in every structure over these domains.
-use Rattle.std.specs.Prelude.{ℕ, suc, length, ℤ, pos, negsuc, neg_ℤ, ◌+ℤ◌, ◌-ℤ◌, ◌*ℤ◌, ◌≤ℤ◌, nat_abs, ◌*◌, List, [], ◌∷◌, ◌++◌, map, Bool, Option, Some, None, unwrap_or, option_and_then, slice_get, IfSome, if◌then◌else◌, Contains, fold, ⊤}
+use Rattle.std.specs.Prelude.{ℕ, suc, length, ℤ, pos, negsuc, neg_ℤ, ◌+ℤ◌, ◌-ℤ◌, ◌*ℤ◌, ◌≤ℤ◌, nat_abs, ◌*◌, List, []}
+use Rattle.std.specs.Prelude.{◌∷◌, ◌++◌, map, Bool, Option, Some, None, unwrap_or, option_and_then, slice_get, IfSome}
+use Rattle.std.specs.Prelude.{if◌then◌else◌, Contains, fold, ⊤}
 use Rattle.std.specs.Int.{int_min, int_max}
 use Rattle.std.specs.List.{AllByRecursion}
 use Rattle.kb_logic.specs.declared.elements.Elem.{Elem}
@@ -9,7 +11,11 @@ use Rattle.kb_logic.specs.declared.syntax.AggKind.TheVariants as kind
 use Rattle.kb_logic.specs.declared.vocabularies.Bound.{Bound}
 use Rattle.kb_logic.specs.declared.vocabularies.Vocabulary.{Vocabulary}
 use Rattle.kb_logic.specs.declared.structures.Structure.{Structure}
-use Rattle.kb_logic.specs.Trees.{TermTree, variable, integer, constructed, application, summation, product, aggregate, TermTrees, no_terms, more_terms, SummandTrees, no_summands, more_summands, FormulaTree, verum, falsum, atom, comparison, negation, conjunction, disjunction, implication, equivalence, universal, existential, numbered, FormulaTrees, no_formulas, more_formulas, RuleTree, TheoryTree}
+use Rattle.kb_logic.specs.Trees.{TermTree, variable, integer, constructed, application, summation, product, aggregate}
+use Rattle.kb_logic.specs.Trees.{TermTrees, no_terms, more_terms, SummandTrees, no_summands, more_summands, FormulaTree}
+use Rattle.kb_logic.specs.Trees.{verum, falsum, atom, comparison, negation, conjunction, disjunction, implication}
+use Rattle.kb_logic.specs.Trees.{equivalence, universal, existential, numbered, FormulaTrees, no_formulas}
+use Rattle.kb_logic.specs.Trees.{more_formulas, RuleTree, TheoryTree}
 use Rattle.kb_logic.specs.Structures.{domain_at, choices, EachWith, IsStructure}
 use Rattle.kb_logic.specs.Denotations.{Denotation, number}
 use Rattle.kb_logic.specs.Meaning.{value_of}
@@ -88,7 +94,8 @@ abbrev mutual
   bounds_of v domains (application s ts) scope = range_of (domain_if domains (value_type_of v s))
   bounds_of v domains (summation ss) scope = fold interval_sum (exactly (pos 0)) (summand_bounds v domains ss scope)
   bounds_of v domains (product ts) scope = fold interval_product (exactly (pos 1)) (factor_bounds v domains ts scope)
-  bounds_of v domains (aggregate k bs f t) scope = aggregate_bounds k (length (choices domains bs)) (bounds_of v domains t (scope ++ types_of bs))
+  bounds_of v domains (aggregate k bs f t) scope = aggregate_bounds k (length (choices domains bs))
+      (bounds_of v domains t (scope ++ types_of bs))
 
   pub factor_bounds : Vocabulary → List (List Elem) → TermTrees → List ℕ → List Interval
   factor_bounds v domains no_terms scope = []
@@ -96,7 +103,8 @@ abbrev mutual
 
   pub summand_bounds : Vocabulary → List (List Elem) → SummandTrees → List ℕ → List Interval
   summand_bounds v domains no_summands scope = []
-  summand_bounds v domains (more_summands minus t ss) scope = signed_interval minus (bounds_of v domains t scope) ∷ summand_bounds v domains ss scope
+  summand_bounds v domains (more_summands minus t ss) scope = signed_interval minus (bounds_of v domains t scope)
+      ∷ summand_bounds v domains ss scope
 
 -- the greater bound less the lower
 abbrev pub width_of : Interval → ℕ
@@ -120,19 +128,25 @@ abbrev mutual
   TermIsBounded v domains (variable n) scope = IsSmall (bounds_of v domains (variable n) scope)
   TermIsBounded v domains (integer z) scope = IsSmall (exactly z)
   TermIsBounded v domains (constructed ty n) scope = IsSmall (bounds_of v domains (constructed ty n) scope)
-  TermIsBounded v domains (application s ts) scope = IsSmall (bounds_of v domains (application s ts) scope) × TermsAreBounded v domains ts scope
-  TermIsBounded v domains (summation ss) scope = AllByRecursion IsSmall (front_bounds interval_sum (exactly (pos 0)) (summand_bounds v domains ss scope)) × SummandsAreBounded v domains ss scope
-  TermIsBounded v domains (product ts) scope = AllByRecursion IsSmall (front_bounds interval_product (exactly (pos 1)) (factor_bounds v domains ts scope)) × TermsAreBounded v domains ts scope
+  TermIsBounded v domains (application s ts) scope = IsSmall (bounds_of v domains (application s ts) scope)
+      × TermsAreBounded v domains ts scope
+  TermIsBounded v domains (summation ss) scope = AllByRecursion IsSmall (front_bounds interval_sum (exactly (pos 0))
+      (summand_bounds v domains ss scope)) × SummandsAreBounded v domains ss scope
+  TermIsBounded v domains (product ts) scope = AllByRecursion IsSmall (front_bounds interval_product (exactly (pos 1))
+      (factor_bounds v domains ts scope)) × TermsAreBounded v domains ts scope
   TermIsBounded v domains (aggregate k bs f t) scope =
-      IsSmall (bounds_of v domains (aggregate k bs f t) scope) × IsBounded v domains f (scope ++ types_of bs) × TermIsBounded v domains t (scope ++ types_of bs)
+      IsSmall (bounds_of v domains (aggregate k bs f t) scope) × IsBounded v domains f (scope ++ types_of bs)
+      × TermIsBounded v domains t (scope ++ types_of bs)
 
   pub TermsAreBounded : Vocabulary → List (List Elem) → TermTrees → List ℕ → Type 0
   TermsAreBounded v domains no_terms scope = ⊤
-  TermsAreBounded v domains (more_terms t ts) scope = TermIsBounded v domains t scope × TermsAreBounded v domains ts scope
+  TermsAreBounded v domains (more_terms t ts) scope = TermIsBounded v domains t scope
+      × TermsAreBounded v domains ts scope
 
   pub SummandsAreBounded : Vocabulary → List (List Elem) → SummandTrees → List ℕ → Type 0
   SummandsAreBounded v domains no_summands scope = ⊤
-  SummandsAreBounded v domains (more_summands minus t ss) scope = TermIsBounded v domains t scope × SummandsAreBounded v domains ss scope
+  SummandsAreBounded v domains (more_summands minus t ss) scope = TermIsBounded v domains t scope
+      × SummandsAreBounded v domains ss scope
 
   -- the bounds of each term in the formula are small
   pub IsBounded : Vocabulary → List (List Elem) → FormulaTree → List ℕ → Type 0
@@ -181,18 +195,22 @@ ValueIsWithin i _ = ⊤
 -- a term's finite value lies within its static bounds in every structure over these domains
 abbrev pub ValuesLieWithinBounds : Type 0
 ValuesLieWithinBounds =
-    (v : Vocabulary) (m : Structure) → IsStructure v m → (t : TermTree) (scope : List ℕ) (e : List Elem) → HasTypes m.domains scope e
+    (v : Vocabulary) (m : Structure) → IsStructure v m → (t : TermTree) (scope : List ℕ) (e : List Elem)
+    → HasTypes m.domains scope e
     → ValueIsWithin (bounds_of v m.domains t scope) (value_of m t e)
 
--- so a formula whose terms have small bounds meets the condition of `truth`, and so does each part of it under elements of the
+-- so a formula whose terms have small bounds meets the condition of `truth`, and so does each part of it under elements
+-- of the
 -- variables in scope
 abbrev pub SmallBoundsFit : Type 0
 SmallBoundsFit =
-    (v : Vocabulary) (m : Structure) → IsStructure v m → (f : FormulaTree) (scope : List ℕ) (e : List Elem) → HasTypes m.domains scope e
+    (v : Vocabulary) (m : Structure) → IsStructure v m → (f : FormulaTree) (scope : List ℕ) (e : List Elem)
+    → HasTypes m.domains scope e
     → IsBounded v m.domains f scope → ArithmeticFits m f e
 
 -- and so does a term, as that of a term block
 abbrev pub SmallTermsFit : Type 0
 SmallTermsFit =
-    (v : Vocabulary) (m : Structure) → IsStructure v m → (t : TermTree) (scope : List ℕ) (e : List Elem) → HasTypes m.domains scope e
+    (v : Vocabulary) (m : Structure) → IsStructure v m → (t : TermTree) (scope : List ℕ) (e : List Elem)
+    → HasTypes m.domains scope e
     → TermIsBounded v m.domains t scope → TermFits m t e

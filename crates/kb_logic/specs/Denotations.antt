@@ -9,7 +9,8 @@ use Rattle.kb_logic.specs.declared.syntax.Cmp.TheVariants as cmp
 use Rattle.kb_logic.specs.declared.syntax.AggKind.{AggKind}
 use Rattle.kb_logic.specs.declared.syntax.AggKind.TheVariants as kind
 
--- an element, which is a word or an integer; an infinite value of arithmetic; or nothing, for a term that is not well typed
+-- an element, which is a word or an integer; an infinite value of arithmetic; or nothing, for a term that is not well
+-- typed
 pub data Denotation : Type 0 where
   named : List ℕ → Denotation
   number : ℤ → Denotation

@@ -1,14 +1,21 @@
--- The value of a term and the truth of a formula in a structure, under the elements e that are assigned to the variables
+-- The value of a term and the truth of a formula in a structure, under the elements e that are assigned to the
+-- variables
 -- in scope, the outermost first. What is not well typed has the value `undefined` or is false.
-use Rattle.std.specs.Prelude.{ℕ, ℤ, pos, ◌+ℤ◌, ◌*ℤ◌, neg_ℤ, List, [], ◌∷◌, ◌++◌, Bool, true, false, ◌&&◌, ◌||◌, ◌==◌, not, if◌then◌else◌, Option, Some, None, slice_get, map, filter, count_by}
+use Rattle.std.specs.Prelude.{ℕ, ℤ, pos, ◌+ℤ◌, ◌*ℤ◌, neg_ℤ, List, [], ◌∷◌, ◌++◌, Bool, true, false, ◌&&◌, ◌||◌, ◌==◌}
+use Rattle.std.specs.Prelude.{not, if◌then◌else◌, Option, Some, None, slice_get, map, filter, count_by}
 use Rattle.std.specs.List.{list_all, list_any}
 use Rattle.kb_logic.specs.declared.elements.Elem.{Elem}
 use Rattle.kb_logic.specs.declared.vocabularies.Bound.{Bound}
 use Rattle.kb_logic.specs.declared.structures.Table.{Table}
 use Rattle.kb_logic.specs.declared.structures.Structure.{Structure}
-use Rattle.kb_logic.specs.Trees.{TermTree, variable, integer, constructed, application, summation, product, aggregate, TermTrees, no_terms, more_terms, SummandTrees, no_summands, more_summands, FormulaTree, verum, falsum, atom, comparison, negation, conjunction, disjunction, implication, equivalence, universal, existential, numbered, FormulaTrees, no_formulas, more_formulas}
+use Rattle.kb_logic.specs.Trees.{TermTree, variable, integer, constructed, application, summation, product, aggregate}
+use Rattle.kb_logic.specs.Trees.{TermTrees, no_terms, more_terms, SummandTrees, no_summands, more_summands, FormulaTree}
+use Rattle.kb_logic.specs.Trees.{verum, falsum, atom, comparison, negation, conjunction, disjunction, implication}
+use Rattle.kb_logic.specs.Trees.{equivalence, universal, existential, numbered, FormulaTrees, no_formulas}
+use Rattle.kb_logic.specs.Trees.{more_formulas}
 use Rattle.kb_logic.specs.Structures.{domain_at, choices}
-use Rattle.kb_logic.specs.Denotations.{Denotation, number, undefined, denotation_of, same_value, compared, as_number, aggregate_value}
+use Rattle.kb_logic.specs.Denotations.{Denotation, number, undefined, denotation_of, same_value, compared, as_number}
+use Rattle.kb_logic.specs.Denotations.{aggregate_value}
 
 -- all assignments of elements to these variables, in domain order
 abbrev pub assignments : Structure → List Bound → List (List Elem)
@@ -86,7 +93,8 @@ abbrev mutual
   value_of m (application s ts) e = applied (rows_of s m.functions) (values_of m ts e)
   value_of m (summation ss) e = number_value (sum_of m ss e)
   value_of m (product ts) e = number_value (product_from (pos 1) (values_of m ts e))
-  value_of m (aggregate k bs f t) e = aggregate_value k (values_where (λ a. truth_of m f (e ++ a)) (λ a. as_number (value_of m t (e ++ a))) (assignments m bs))
+  value_of m (aggregate k bs f t) e = aggregate_value k (values_where (λ a. truth_of m f (e ++ a))
+      (λ a. as_number (value_of m t (e ++ a))) (assignments m bs))
 
   pub values_of : Structure → TermTrees → List Elem → List Denotation
   values_of m no_terms e = []
@@ -110,7 +118,8 @@ abbrev mutual
   truth_of m (equivalence f g) e = same_truth (truth_of m f e) (truth_of m g e)
   truth_of m (universal bs f) e = list_all (λ a. truth_of m f (e ++ a)) (assignments m bs)
   truth_of m (existential bs f) e = list_any (λ a. truth_of m f (e ++ a)) (assignments m bs)
-  truth_of m (numbered c n bs f) e = compared c (number (pos (count_by (λ a. truth_of m f (e ++ a)) (assignments m bs)))) (number n)
+  truth_of m (numbered c n bs f) e = compared c (number (pos (count_by (λ a. truth_of m f (e ++ a))
+      (assignments m bs)))) (number n)
 
   pub all_true : Structure → FormulaTrees → List Elem → Bool
   all_true m no_formulas e = true

@@ -1,5 +1,6 @@
 -- Models of definitions and theories.
-use Rattle.std.specs.Prelude.{◌≡◌, ℕ, Bool, true, false, List, [], ◌∷◌, ◌++◌, map, Option, Some, None, option_map, slice_get, Contains, IsTrue}
+use Rattle.std.specs.Prelude.{◌≡◌, ℕ, Bool, true, false, List, [], ◌∷◌, ◌++◌, map, Option, Some, None, option_map}
+use Rattle.std.specs.Prelude.{slice_get, Contains, IsTrue}
 use Rattle.std.specs.List.{AllByRecursion}
 use Rattle.kb_logic.specs.declared.elements.Elem.{Elem}
 use Rattle.kb_logic.specs.declared.vocabularies.Symbol.{Symbol}
@@ -27,7 +28,8 @@ HasValueIn domains (Some ty) (Some x) = Contains (domain_at domains ty) x
 -- an atom of one of the symbols over the domains of its types
 abbrev pub IsAtomOver : List Symbol → List (List Elem) → GroundAtom → Type 0
 IsAtomOver symbols domains a =
-    (s : Symbol) × (slice_get symbols a.symbol ≡ Some s) × Contains (tuples_of domains s.args) a.args × HasValueIn domains s.value a.value
+    (s : Symbol) × (slice_get symbols a.symbol ≡ Some s) × Contains (tuples_of domains s.args) a.args
+    × HasValueIn domains s.value a.value
 
 -- an atom of one of the vocabulary's symbols
 abbrev pub IsAtomOf : Vocabulary → List (List Elem) → GroundAtom → Type 0
@@ -73,7 +75,8 @@ IsDefined d s = (r : RuleTree) × Contains d.rules r × (r.symbol ≡ s)
 -- well-founded semantics
 abbrev pub ModelOfDefinition : Vocabulary → Structure → DefinitionTree → Type 0
 ModelOfDefinition v m d =
-    (a : GroundAtom) → IsAtomOf v m.domains a → IsDefined d a.symbol → (AtomHolds m a → IsDerived m d a) × (IsDerived m d a → AtomHolds m a)
+    (a : GroundAtom) → IsAtomOf v m.domains a → IsDefined d a.symbol → (AtomHolds m a → IsDerived m d a)
+    × (IsDerived m d a → AtomHolds m a)
 
 -- every sentence is true, and m is a model of every definition, each by itself
 pub record ModelOfTheory (v : Vocabulary) (m : Structure) (t : TheoryTree) : Type 0 where

@@ -1,7 +1,8 @@
 -- Structures over a vocabulary, as IDP3 has them: a domain for each type, a set of tuples for each predicate and one
 -- value for each tuple of each function. A set of tuples is the list of its members in domain order, so that equal
 -- structures are equal values.
-use Rattle.std.specs.Prelude.{◌≡◌, ℕ, List, [], ◌∷◌, ◌++◌, map, length, filter, flat_map, Bool, slice_get, unwrap_or, is_some, is_none, IfSome, Contains, ⊤}
+use Rattle.std.specs.Prelude.{◌≡◌, ℕ, List, [], ◌∷◌, ◌++◌, map, length, filter, flat_map, Bool, slice_get, unwrap_or}
+use Rattle.std.specs.Prelude.{is_some, is_none, IfSome, Contains, ⊤}
 use Rattle.std.specs.List.{enumerate_from, AllByRecursion}
 use Rattle.kb_logic.specs.declared.elements.Elem.{Elem}
 use Rattle.kb_logic.specs.declared.vocabularies.Bound.{Bound}

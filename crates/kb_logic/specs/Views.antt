@@ -1,7 +1,10 @@
 -- The tree that a term, a formula, a rule, a definition or a theory is.
 use Rattle.std.specs.Prelude.{Bool, map}
 use Rattle.std.specs.Option.{option_map}
-use Rattle.kb_logic.specs.Trees.{TermTree, variable, integer, constructed, application, summation, product, aggregate, FormulaTree, verum, falsum, atom, comparison, negation, conjunction, disjunction, implication, equivalence, universal, existential, numbered, terms_of, formulas_of, summands_of, RuleTree, DefinitionTree, TheoryTree}
+use Rattle.kb_logic.specs.Trees.{TermTree, variable, integer, constructed, application, summation, product, aggregate}
+use Rattle.kb_logic.specs.Trees.{FormulaTree, verum, falsum, atom, comparison, negation, conjunction, disjunction}
+use Rattle.kb_logic.specs.Trees.{implication, equivalence, universal, existential, numbered, terms_of, formulas_of}
+use Rattle.kb_logic.specs.Trees.{summands_of, RuleTree, DefinitionTree, TheoryTree}
 use Rattle.kb_logic.specs.declared.syntax.Formula.{Formula, fold-Formula}
 use Rattle.kb_logic.specs.declared.syntax.Term.{Term, fold-Term}
 use Rattle.kb_logic.specs.declared.syntax.Signed.{Signed, fold-Signed}

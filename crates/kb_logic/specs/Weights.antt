@@ -1,9 +1,14 @@
--- The sizes by which the work over a knowledge base is limited: its number of ground atoms, and its weight, which counts
+-- The sizes by which the work over a knowledge base is limited: its number of ground atoms, and its weight, which
+-- counts
 -- how often each part of a theory is instantiated.
 use Rattle.std.specs.Prelude.{ℕ, ◌+◌, ◌*◌, List, length, sum_by, Option, Some, None}
 use Rattle.kb_logic.specs.declared.elements.Elem.{Elem}
 use Rattle.kb_logic.specs.declared.vocabularies.Vocabulary.{Vocabulary}
-use Rattle.kb_logic.specs.Trees.{TermTree, variable, integer, constructed, application, summation, product, aggregate, TermTrees, no_terms, more_terms, SummandTrees, no_summands, more_summands, FormulaTree, verum, falsum, atom, comparison, negation, conjunction, disjunction, implication, equivalence, universal, existential, numbered, FormulaTrees, no_formulas, more_formulas, RuleTree, DefinitionTree, TheoryTree}
+use Rattle.kb_logic.specs.Trees.{TermTree, variable, integer, constructed, application, summation, product, aggregate}
+use Rattle.kb_logic.specs.Trees.{TermTrees, no_terms, more_terms, SummandTrees, no_summands, more_summands, FormulaTree}
+use Rattle.kb_logic.specs.Trees.{verum, falsum, atom, comparison, negation, conjunction, disjunction, implication}
+use Rattle.kb_logic.specs.Trees.{equivalence, universal, existential, numbered, FormulaTrees, no_formulas}
+use Rattle.kb_logic.specs.Trees.{more_formulas, RuleTree, DefinitionTree, TheoryTree}
 use Rattle.kb_logic.specs.Structures.{domain_at, tuples_of, choices}
 use Rattle.kb_logic.specs.Bounds.{domain_if, value_type_of}
 
@@ -22,7 +27,8 @@ abbrev mutual
   application_count v domains (variable n) = 1
   application_count v domains (integer z) = 1
   application_count v domains (constructed ty n) = 1
-  application_count v domains (application s ts) = length (domain_if domains (value_type_of v s)) * applications_count v domains ts
+  application_count v domains (application s ts) = length (domain_if domains (value_type_of v s))
+      * applications_count v domains ts
   application_count v domains (summation ss) = summands_count v domains ss
   application_count v domains (product ts) = applications_count v domains ts
   application_count v domains (aggregate k bs f t) = 1
@@ -36,7 +42,8 @@ abbrev mutual
   summands_count v domains (more_summands minus t ss) = application_count v domains t * summands_count v domains ss
 
 abbrev mutual
-  -- the occurrences in a term, where the variables in scope have n assignments: each aggregate counts its own assignments
+  -- the occurrences in a term, where the variables in scope have n assignments: each aggregate counts its own
+  -- assignments
   -- too, times the applications in its weight
   pub term_occurrences : Vocabulary → List (List Elem) → TermTree → ℕ → ℕ
   term_occurrences v domains (variable k) n = 0
@@ -55,7 +62,8 @@ abbrev mutual
 
   pub summands_occurrences : Vocabulary → List (List Elem) → SummandTrees → ℕ → ℕ
   summands_occurrences v domains no_summands n = 0
-  summands_occurrences v domains (more_summands minus t ss) n = term_occurrences v domains t n + summands_occurrences v domains ss n
+  summands_occurrences v domains (more_summands minus t ss) n = term_occurrences v domains t n + summands_occurrences
+      v domains ss n
 
   -- the occurrences in a formula, where the variables in scope have n assignments: each formula in it counts the
   -- assignments of the variables in whose scope it stands, an atom or a comparison times the applications in it
@@ -63,7 +71,8 @@ abbrev mutual
   occurrences v domains verum n = n
   occurrences v domains falsum n = n
   occurrences v domains (atom s ts) n = n * applications_count v domains ts + terms_occurrences v domains ts n
-  occurrences v domains (comparison c a b) n = n * (application_count v domains a * application_count v domains b) + term_occurrences v domains a n + term_occurrences v domains b n
+  occurrences v domains (comparison c a b) n = n * (application_count v domains a * application_count v domains b)
+      + term_occurrences v domains a n + term_occurrences v domains b n
   occurrences v domains (negation f) n = n + occurrences v domains f n
   occurrences v domains (conjunction fs) n = n + all_occurrences v domains fs n
   occurrences v domains (disjunction fs) n = n + all_occurrences v domains fs n
@@ -97,4 +106,5 @@ asked_occurrences v domains t = application_count v domains t + term_occurrences
 abbrev pub weight_of : Vocabulary → List (List Elem) → TheoryTree → List TermTree → ℕ
 weight_of v domains t terms =
     atom_count v domains
-    + 4 * (sum_by (λ f. occurrences v domains f 1) t.sentences + sum_by (definition_occurrences v domains) t.definitions + sum_by (asked_occurrences v domains) terms)
+    + 4 * (sum_by (λ f. occurrences v domains f 1) t.sentences + sum_by (definition_occurrences v domains) t.definitions
+    + sum_by (asked_occurrences v domains) terms)

@@ -46,7 +46,8 @@ fn longer_by_one(
     tuples: Vec<ElemList>,
     domain: &[Elem],
 ) -> Result<Vec<ElemList>, Memory>
-    ensures { IfOk result (λ longer. longer.items ≡ flat_map (λ tuple. map (λ x. tuple ++ x ∷ []) domain.now) tuples.items) }
+    ensures { IfOk result (λ longer. longer.items ≡ flat_map (λ tuple. map (λ x. tuple ++ x ∷ []) domain.now)
+        tuples.items) }
 {
     let mut longer = Vec::new(alloc);
     for tuple in tuples {

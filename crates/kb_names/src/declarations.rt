@@ -2,7 +2,8 @@
 ghost use Rattle.std.specs.Prelude.{◌≡◌, ◌∷◌, [], ◌≤◌, ◌+◌, ◌<◌, ◌^◌, fold, map, OnOk, IfOk, length};
 ghost use Rattle.std.specs.Option.{option_map};
 ghost use Rattle.reading_stages.specs.FileView.{declaration_in, element_name, argument_names, result_name};
-ghost use Rattle.reading_stages.specs.Names.{Names, declared, declared_names, made_names, names_of, number_types, with_names, symbol_meaning};
+ghost use Rattle.reading_stages.specs.Names.{Names, declared, declared_names, made_names, names_of, number_types};
+ghost use Rattle.reading_stages.specs.Names.{with_names, symbol_meaning};
 ghost use Rattle.reading_stages.specs.NamesStage.{name_noted};
 ghost use Rattle.reading_stages.specs.Uses.{declares, declared_uses};
 ghost use Rattle.fo_syntax.specs.View.{name_view};
@@ -24,8 +25,10 @@ fn declare_name<'a>(
     meaning: Meaning,
     earliest: &mut Earliest,
 ) -> Result<(), Memory>
-    ensures names { OnOk result (names_in table.new ≡ declared (names_in table.old) word.now.text (meaning_view meaning)) }
-    ensures noted { OnOk result ((names : Names) → earliest.new.first ≡ name_noted names earliest.old.first (declares (names_in table.old) (name_view word.now))) }
+    ensures names { OnOk result (names_in table.new ≡ declared (names_in table.old) word.now.text
+        (meaning_view meaning)) }
+    ensures noted { OnOk result ((names : Names) → earliest.new.first ≡ name_noted names earliest.old.first
+        (declares (names_in table.old) (name_view word.now))) }
 {
     let text = word.text.as_slice();
     earliest.note_if(is_declared(table, text), K::Redeclared, word.place);
@@ -39,8 +42,10 @@ fn declare_more<'a>(
     more: &'a [RawElementTail],
     earliest: &mut Earliest,
 ) -> Result<(), Memory>
-    ensures names { OnOk result (names_in table.new ≡ with_names (names_in table.old) (made_names ty 1 (map element_name more.now))) }
-    ensures noted { OnOk result ((names : Names) → earliest.new.first ≡ fold (name_noted names) earliest.old.first (declared_uses (names_in table.old) (made_names ty 1 (map element_name more.now)))) }
+    ensures names { OnOk result (names_in table.new ≡ with_names (names_in table.old)
+        (made_names ty 1 (map element_name more.now))) }
+    ensures noted { OnOk result ((names : Names) → earliest.new.first ≡ fold (name_noted names) earliest.old.first
+        (declared_uses (names_in table.old) (made_names ty 1 (map element_name more.now)))) }
 {
     for (i, tail) in more.iter().enumerate() {
         declare_name(table, &tail.name, Meaning::Made(ty, i + 1), earliest)?;
@@ -62,7 +67,8 @@ pub fn argument_count(arguments: &Option<RawPositions>) -> usize
 }
 
 fn meaning_of_symbol(raw: &RawSymbol, number: usize) -> Meaning
-    ensures { meaning_view result ≡ symbol_meaning number (length (argument_names raw.now.arguments)) (option_map result_name raw.now.result) }
+    ensures { meaning_view result ≡ symbol_meaning number (length (argument_names raw.now.arguments))
+        (option_map result_name raw.now.result) }
 {
     let count = argument_count(&raw.arguments);
     match &raw.result {
@@ -79,8 +85,10 @@ fn declare_one<'a>(
     symbols: usize,
     earliest: &mut Earliest,
 ) -> Result<(), Memory>
-    ensures names { OnOk result (names_in table.new ≡ with_names (names_in table.old) (declared_names types symbols (declaration_in raw.now ∷ []))) }
-    ensures noted { OnOk result ((names : Names) → earliest.new.first ≡ fold (name_noted names) earliest.old.first (declared_uses (names_in table.old) (declared_names types symbols (declaration_in raw.now ∷ [])))) }
+    ensures names { OnOk result (names_in table.new ≡ with_names (names_in table.old)
+        (declared_names types symbols (declaration_in raw.now ∷ []))) }
+    ensures noted { OnOk result ((names : Names) → earliest.new.first ≡ fold (name_noted names) earliest.old.first
+        (declared_uses (names_in table.old) (declared_names types symbols (declaration_in raw.now ∷ [])))) }
 {
     match raw {
         RawDeclaration::Type(raw) => {
@@ -126,7 +134,8 @@ pub fn declared_table<'a>(
     earliest: &mut Earliest,
 ) -> Result<Table<'a>, Memory>
     ensures names { IfOk result (λ t. names_in t ≡ names_of (map declaration_in declarations.now)) }
-    ensures noted { OnOk result ((names : Names) → earliest.new.first ≡ fold (name_noted names) earliest.old.first (declared_uses number_types (declared_names 0 0 (map declaration_in declarations.now)))) }
+    ensures noted { OnOk result ((names : Names) → earliest.new.first ≡ fold (name_noted names) earliest.old.first
+        (declared_uses number_types (declared_names 0 0 (map declaration_in declarations.now)))) }
 {
     let mut table = Table {
         meanings: IndexMap::new(alloc),

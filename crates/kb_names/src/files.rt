@@ -81,8 +81,10 @@ fn theories<'a>(
     blocks: &'a [RawTheory],
     earliest: &mut Earliest,
 ) -> Result<Items<NamedTheory>, Memory>
-    ensures theories { IfOk result (λ ts. map theory_view ts ≡ map (number.named_theory (names_in table.now)) (map theory_in blocks.now)) }
-    ensures noted { OnOk result (earliest.new.first ≡ fold (name_noted (names_in table.now)) earliest.old.first (flat_map use_of.uses_in_theory (map theory_in blocks.now))) }
+    ensures theories { IfOk result (λ ts. map theory_view ts ≡ map (number.named_theory (names_in table.now))
+        (map theory_in blocks.now)) }
+    ensures noted { OnOk result (earliest.new.first ≡ fold (name_noted (names_in table.now)) earliest.old.first
+        (flat_map use_of.uses_in_theory (map theory_in blocks.now))) }
 {
     let mut named = Vec::new(alloc);
     for raw in blocks {
@@ -98,8 +100,10 @@ fn terms<'a>(
     blocks: &'a [RawTerm],
     earliest: &mut Earliest,
 ) -> Result<Items<NamedTermBlock>, Memory>
-    ensures terms { IfOk result (λ ts. map block_view ts ≡ map (number.named_block (names_in table.now)) (map term_in blocks.now)) }
-    ensures noted { OnOk result (earliest.new.first ≡ fold (name_noted (names_in table.now)) earliest.old.first (flat_map use_of.uses_in_block (map term_in blocks.now))) }
+    ensures terms { IfOk result (λ ts. map block_view ts ≡ map (number.named_block (names_in table.now))
+        (map term_in blocks.now)) }
+    ensures noted { OnOk result (earliest.new.first ≡ fold (name_noted (names_in table.now)) earliest.old.first
+        (flat_map use_of.uses_in_block (map term_in blocks.now))) }
 {
     let mut named = Vec::new(alloc);
     for raw in blocks {
@@ -110,8 +114,12 @@ fn terms<'a>(
 
 /// The knowledge base with numbers for words, where a word that is refused has the number 0.
 fn named(alloc: Global, raw: &RawKb, earliest: &mut Earliest) -> Result<Numbered, Memory>
-    ensures tree { IfOk result (λ kb. numbered_view kb ≡ number.named_file (number.vocabulary_name (file_in raw.now).vocabularies) (declarations_of (file_in raw.now).vocabularies) (file_in raw.now).theories (file_in raw.now).terms) }
-    ensures noted { OnOk result (earliest.new.first ≡ fold (name_noted (names_of (declarations_of (file_in raw.now).vocabularies))) earliest.old.first (uses_of_file (file_in raw.now))) }
+    ensures tree { IfOk result (λ kb. numbered_view kb ≡ number.named_file
+        (number.vocabulary_name (file_in raw.now).vocabularies) (declarations_of (file_in raw.now).vocabularies)
+        (file_in raw.now).theories (file_in raw.now).terms) }
+    ensures noted { OnOk result (earliest.new.first ≡ fold (name_noted
+        (names_of (declarations_of (file_in raw.now).vocabularies))) earliest.old.first
+        (uses_of_file (file_in raw.now))) }
 {
     let vocabularies = raw.vocabularies.as_slice();
     let declarations = declarations_in(vocabularies);

@@ -42,7 +42,8 @@ fn add_parent<'a>(
     raw: &'a RawDeclaration,
     parents: &mut Items<Option<usize>>,
 ) -> Result<(), Memory>
-    ensures { OnOk result (parents.new ≡ parents.old ++ use_of.parents_in (names_in table.now) (declaration_in raw.now ∷ [])) }
+    ensures { OnOk result (parents.new ≡ parents.old ++ use_of.parents_in (names_in table.now)
+        (declaration_in raw.now ∷ [])) }
 {
     match raw {
         RawDeclaration::Type(raw) => Ok(parents.push(parent_type(table, &raw.isa))?),

@@ -34,8 +34,10 @@ fn item<'a>(
     sentences: &mut Vec<NamedFormula>,
     earliest: &mut Earliest,
 ) -> Result<(), Memory>
-    ensures sentences { OnOk result (map formula_view sentences.new.items ≡ map formula_view sentences.old.items ++ number.sentences_in (names_in table.now) (part_in raw.now)) }
-    ensures noted { OnOk result (earliest.new.first ≡ fold (name_noted (names_in table.now)) earliest.old.first (use_of.uses_in_part (part_in raw.now))) }
+    ensures sentences { OnOk result (map formula_view sentences.new.items ≡ map formula_view sentences.old.items
+        ++ number.sentences_in (names_in table.now) (part_in raw.now)) }
+    ensures noted { OnOk result (earliest.new.first ≡ fold (name_noted (names_in table.now)) earliest.old.first
+        (use_of.uses_in_part (part_in raw.now))) }
 {
     match raw {
         RawTheoryItem::Sentence(raw) => {
@@ -59,7 +61,8 @@ pub fn theory<'a>(
     earliest: &mut Earliest,
 ) -> Result<NamedTheory, Memory>
     ensures theory { IfOk result (λ t. theory_view t ≡ number.named_theory (names_in table.now) (theory_in raw.now)) }
-    ensures noted { OnOk result (earliest.new.first ≡ fold (name_noted (names_in table.now)) earliest.old.first (use_of.uses_in_theory (theory_in raw.now))) }
+    ensures noted { OnOk result (earliest.new.first ≡ fold (name_noted (names_in table.now)) earliest.old.first
+        (use_of.uses_in_theory (theory_in raw.now))) }
 {
     let mut sentences = Vec::new(alloc);
     let items = raw.items.as_slice();
@@ -81,7 +84,8 @@ pub fn block<'a>(
     earliest: &mut Earliest,
 ) -> Result<NamedTermBlock, Memory>
     ensures block { IfOk result (λ t. block_view t ≡ number.named_block (names_in table.now) (term_in raw.now)) }
-    ensures noted { OnOk result (earliest.new.first ≡ fold (name_noted (names_in table.now)) earliest.old.first (use_of.uses_in_block (term_in raw.now))) }
+    ensures noted { OnOk result (earliest.new.first ≡ fold (name_noted (names_in table.now)) earliest.old.first
+        (use_of.uses_in_block (term_in raw.now))) }
 {
     let mut scope = Scope::new(alloc);
     let named = term(alloc, table, &mut scope, &raw.term, earliest)?;

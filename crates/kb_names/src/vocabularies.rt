@@ -31,14 +31,16 @@ pub struct Declared {
 
 /// Notes a declaration that has more parts than it may have.
 fn note_count(greatest: usize, count: usize, word: &RawName, earliest: &mut Earliest)
-    ensures { (names : Names) → earliest.new.first ≡ name_noted names earliest.old.first (use_of.counted greatest count (name_view word.now)) }
+    ensures { (names : Names) → earliest.new.first ≡ name_noted names earliest.old.first
+        (use_of.counted greatest count (name_view word.now)) }
 {
     earliest.note_if(count > greatest, K::TooLarge, word.place);
 }
 
 /// Notes a declaration that follows as many others as there may be.
 fn note_next(greatest: usize, before: usize, word: &RawName, earliest: &mut Earliest)
-    ensures { (names : Names) → earliest.new.first ≡ name_noted names earliest.old.first (use_of.counted greatest (before + 1) (name_view word.now)) }
+    ensures { (names : Names) → earliest.new.first ≡ name_noted names earliest.old.first
+        (use_of.counted greatest (before + 1) (name_view word.now)) }
 {
     earliest.note_if(before >= greatest, K::TooLarge, word.place);
 }
@@ -61,7 +63,8 @@ fn parent_of(meaning: Meaning) -> Parent
 /// What a type is declared to be under.
 fn parent_named<'a>(table: &Table<'a>, isa: &'a Option<RawIsa>, earliest: &mut Earliest) -> Parent
     ensures parent { result ≡ number.parent_named (names_in table.now) (option_map isa_name isa.now) }
-    ensures noted { earliest.new.first ≡ fold (name_noted (names_in table.now)) earliest.old.first (use_of.parent_uses (option_map isa_name isa.now)) }
+    ensures noted { earliest.new.first ≡ fold (name_noted (names_in table.now)) earliest.old.first
+        (use_of.parent_uses (option_map isa_name isa.now)) }
 {
     match isa {
         Some(raw) => parent_of(parent(table, &raw.name, earliest)),
@@ -77,8 +80,11 @@ fn plain_type<'a>(
     types: &mut TypeList,
     earliest: &mut Earliest,
 ) -> Result<(), Memory>
-    ensures types { OnOk result (types.new ≡ types.old ++ number.types_in (names_in table.now) (file.type_under (name_view raw.now.name) (option_map isa_name raw.now.isa) ∷ [])) }
-    ensures noted { OnOk result (earliest.new.first ≡ fold (name_noted (names_in table.now)) earliest.old.first (use_of.counted 256 (length types.old + 1) (name_view raw.now.name) ∷ use_of.parent_uses (option_map isa_name raw.now.isa))) }
+    ensures types { OnOk result (types.new ≡ types.old ++ number.types_in (names_in table.now)
+        (file.type_under (name_view raw.now.name) (option_map isa_name raw.now.isa) ∷ [])) }
+    ensures noted { OnOk result (earliest.new.first ≡ fold (name_noted (names_in table.now)) earliest.old.first
+        (use_of.counted 256 (length types.old + 1) (name_view raw.now.name) ∷ use_of.parent_uses
+        (option_map isa_name raw.now.isa))) }
 {
     note_next(256, types.len(), &raw.name, earliest);
     let parent = parent_named(table, &raw.isa, earliest);
@@ -113,8 +119,12 @@ fn constructed_type(
     types: &mut TypeList,
     earliest: &mut Earliest,
 ) -> Result<(), Memory>
-    ensures types { OnOk result ((names : Names) → types.new ≡ types.old ++ number.types_in names (file.constructed_type (name_view raw.now.name) (name_view raw.now.first ∷ map element_name raw.now.more) ∷ [])) }
-    ensures noted { OnOk result ((names : Names) → earliest.new.first ≡ fold (name_noted names) earliest.old.first (use_of.counted 256 (length types.old + 1) (name_view raw.now.name) ∷ use_of.counted 65536 (length (name_view raw.now.first ∷ map element_name raw.now.more)) (name_view raw.now.name) ∷ [])) }
+    ensures types { OnOk result ((names : Names) → types.new ≡ types.old ++ number.types_in names
+        (file.constructed_type (name_view raw.now.name) (name_view raw.now.first ∷ map element_name raw.now.more) ∷
+        [])) }
+    ensures noted { OnOk result ((names : Names) → earliest.new.first ≡ fold (name_noted names) earliest.old.first
+        (use_of.counted 256 (length types.old + 1) (name_view raw.now.name) ∷ use_of.counted 65536
+        (length (name_view raw.now.first ∷ map element_name raw.now.more)) (name_view raw.now.name) ∷ [])) }
 {
     note_next(256, types.len(), &raw.name, earliest);
     note_next(65536, raw.more.as_slice().len(), &raw.name, earliest);
@@ -135,8 +145,14 @@ fn symbol<'a>(
     symbols: &mut SymbolList,
     earliest: &mut Earliest,
 ) -> Result<(), Memory>
-    ensures symbols { OnOk result (symbols.new ≡ symbols.old ++ number.symbols_in (names_in table.now) (file.symbol (name_view raw.now.name) (argument_names raw.now.arguments) (option_map result_name raw.now.result) ∷ [])) }
-    ensures noted { OnOk result (earliest.new.first ≡ fold (name_noted (names_in table.now)) earliest.old.first (use_of.counted 1024 (length symbols.old + 1) (name_view raw.now.name) ∷ use_of.counted 8 (length (argument_names raw.now.arguments)) (name_view raw.now.name) ∷ (map use_of.position (argument_names raw.now.arguments) ++ use_of.position_uses (option_map result_name raw.now.result)))) }
+    ensures symbols { OnOk result (symbols.new ≡ symbols.old ++ number.symbols_in (names_in table.now)
+        (file.symbol (name_view raw.now.name) (argument_names raw.now.arguments)
+        (option_map result_name raw.now.result) ∷ [])) }
+    ensures noted { OnOk result (earliest.new.first ≡ fold (name_noted (names_in table.now)) earliest.old.first
+        (use_of.counted 1024 (length symbols.old + 1) (name_view raw.now.name) ∷ use_of.counted 8
+        (length (argument_names raw.now.arguments)) (name_view raw.now.name) ∷
+        (map use_of.position (argument_names raw.now.arguments) ++ use_of.position_uses
+        (option_map result_name raw.now.result)))) }
 {
     note_next(1024, symbols.len(), &raw.name, earliest);
     note_count(8, argument_count(&raw.arguments), &raw.name, earliest);
@@ -154,9 +170,13 @@ fn add_declaration<'a>(
     declared: &mut Declared,
     earliest: &mut Earliest,
 ) -> Result<(), Memory>
-    ensures types { OnOk result (declared.new.types ≡ declared.old.types ++ number.types_in (names_in table.now) (declaration_in raw.now ∷ [])) }
-    ensures symbols { OnOk result (declared.new.symbols ≡ declared.old.symbols ++ number.symbols_in (names_in table.now) (declaration_in raw.now ∷ [])) }
-    ensures noted { OnOk result (earliest.new.first ≡ fold (name_noted (names_in table.now)) earliest.old.first (use_of.uses_in_declarations (length declared.old.types) (length declared.old.symbols) (declaration_in raw.now ∷ []))) }
+    ensures types { OnOk result (declared.new.types ≡ declared.old.types ++ number.types_in (names_in table.now)
+        (declaration_in raw.now ∷ [])) }
+    ensures symbols { OnOk result (declared.new.symbols ≡ declared.old.symbols ++ number.symbols_in (names_in table.now)
+        (declaration_in raw.now ∷ [])) }
+    ensures noted { OnOk result (earliest.new.first ≡ fold (name_noted (names_in table.now)) earliest.old.first
+        (use_of.uses_in_declarations (length declared.old.types) (length declared.old.symbols)
+        (declaration_in raw.now ∷ []))) }
 {
     match raw {
         RawDeclaration::Type(raw) => plain_type(alloc, table, raw, &mut declared.types, earliest),
@@ -174,9 +194,12 @@ pub fn types_and_symbols<'a>(
     declarations: &'a [RawDeclaration],
     earliest: &mut Earliest,
 ) -> Result<Declared, Memory>
-    ensures types { IfOk result (λ d. d.types ≡ number.types_in (names_in table.now) (map declaration_in declarations.now)) }
-    ensures symbols { IfOk result (λ d. d.symbols ≡ number.symbols_in (names_in table.now) (map declaration_in declarations.now)) }
-    ensures noted { OnOk result (earliest.new.first ≡ fold (name_noted (names_in table.now)) earliest.old.first (use_of.uses_in_declarations 0 0 (map declaration_in declarations.now))) }
+    ensures types { IfOk result (λ d. d.types ≡ number.types_in (names_in table.now)
+        (map declaration_in declarations.now)) }
+    ensures symbols { IfOk result (λ d. d.symbols ≡ number.symbols_in (names_in table.now)
+        (map declaration_in declarations.now)) }
+    ensures noted { OnOk result (earliest.new.first ≡ fold (name_noted (names_in table.now)) earliest.old.first
+        (use_of.uses_in_declarations 0 0 (map declaration_in declarations.now))) }
 {
     let mut declared = Declared {
         types: TypeList::new(alloc),

@@ -35,7 +35,8 @@ large_product a b h =
 
 -- a factor that stops changes no product that stops
 pub first_factor : (a b : ℕ) → Same (capped a * b) (a * b)
-first_factor a zero = let left : capped a * 0 ≡ 0 = none (capped a) in let right : a * 0 ≡ 0 = none a in ap capped (left ∙ sym right)
+first_factor a zero = let left : capped a * 0 ≡ 0 = none (capped a) in let right : a * 0 ≡ 0 = none a in
+    ap capped (left ∙ sym right)
   where
     none : (n : ℕ) → n * 0 ≡ 0
     none n = omega arith
@@ -59,7 +60,8 @@ times_same a b c d h k =
 -- ---- steps of loops
 
 -- one more factor: what is left of a product
-pub factor_next : (count new x a rest all : ℕ) → new ≡ capped (count * x) → x ≡ capped a → Same (count * (a * rest)) all → Same (new * rest) all
+pub factor_next : (count new x a rest all : ℕ) → new ≡ capped (count * x) → x ≡ capped a → Same (count * (a * rest)) all
+    → Same (new * rest) all
 factor_next count new x a rest all is at h =
     ap (λ n. capped (n * rest)) (is ∙ ap (λ n. capped (count * n)) at)
     ∙ first_factor (count * capped a) rest
@@ -67,12 +69,15 @@ factor_next count new x a rest all is at h =
     ∙ times_same count count (capped a * rest) (a * rest) refl (first_factor a rest)
     ∙ h
 
-pub exact_factor : (count new x a rest all : ℕ) → new ≡ capped (count * x) → x ≡ a → Same (count * (a * rest)) all → Same (new * rest) all
+pub exact_factor : (count new x a rest all : ℕ) → new ≡ capped (count * x) → x ≡ a → Same (count * (a * rest)) all
+    → Same (new * rest) all
 exact_factor count new x a rest all is at h =
-    ap (λ n. capped (n * rest)) (is ∙ ap (λ n. capped (count * n)) at) ∙ first_factor (count * a) rest ∙ ap capped (mul_assoc count a rest) ∙ h
+    ap (λ n. capped (n * rest)) (is ∙ ap (λ n. capped (count * n)) at) ∙ first_factor (count * a) rest
+    ∙ ap capped (mul_assoc count a rest) ∙ h
 
 -- one more part: what is left of a sum
-pub part_next : (count new x a rest all : ℕ) → new ≡ capped (count + x) → x ≡ capped a → Same (count + (a + rest)) all → Same (new + rest) all
+pub part_next : (count new x a rest all : ℕ) → new ≡ capped (count + x) → x ≡ capped a → Same (count + (a + rest)) all
+    → Same (new + rest) all
 part_next count new x a rest all is at h = omega arith
 
 pub last_factor : (count all : ℕ) → count ≡ capped count → Same (count * 1) all → count ≡ capped all
@@ -90,7 +95,8 @@ first_product a = ap capped (mul_comm 1 a ∙ mul-one a)
 -- ---- parts of formulas
 
 -- counted under the assignments of a binder, where these stop too
-pub under_binder : (count : ℕ → ℕ) → ((m : ℕ) → Same (count (capped m)) (count m)) → (n l a inner r : ℕ) → a ≡ capped l → inner ≡ capped (n * a) → r ≡ capped (count inner) → r ≡ capped (count (n * l))
+pub under_binder : (count : ℕ → ℕ) → ((m : ℕ) → Same (count (capped m)) (count m)) → (n l a inner r : ℕ) → a ≡ capped l
+    → inner ≡ capped (n * a) → r ≡ capped (count inner) → r ≡ capped (count (n * l))
 under_binder count fair n l a inner r is at h =
     let same : Same (n * a) (n * l) = ap (λ x. capped (n * x)) is ∙ second_factor n l in
     h ∙ ap (λ x. capped (count x)) (at ∙ same) ∙ fair (n * l)
@@ -98,15 +104,19 @@ under_binder count fair n l a inner r is at h =
 pub one_more : (n x r o : ℕ) → x ≡ capped o → r ≡ capped (n + x) → r ≡ capped (n + o)
 one_more n x r o is h = omega arith
 
-pub three_parts : (a b c p q x y z r : ℕ) → x ≡ capped a → y ≡ capped b → z ≡ capped c → p ≡ capped (x + y) → q ≡ capped (p + z) → q ≡ capped (a + b + c)
+pub three_parts : (a b c p q x y z r : ℕ) → x ≡ capped a → y ≡ capped b → z ≡ capped c → p ≡ capped (x + y)
+    → q ≡ capped (p + z) → q ≡ capped (a + b + c)
 three_parts a b c p q x y z r hx hy hz hp hq = omega arith
 
-pub compared : (n a b x y p own : ℕ) → x ≡ capped a → y ≡ capped b → p ≡ capped (x * y) → own ≡ capped (n * p) → own ≡ capped (n * (a * b))
+pub compared : (n a b x y p own : ℕ) → x ≡ capped a → y ≡ capped b → p ≡ capped (x * y) → own ≡ capped (n * p)
+    → own ≡ capped (n * (a * b))
 compared n a b x y p own hx hy hp h =
     h ∙ ap (λ m. capped (n * m)) hp ∙ second_factor n (x * y)
-    ∙ times_same n n (x * y) (a * b) refl (ap (λ m. capped (m * y)) hx ∙ first_factor a y ∙ ap (λ m. capped (a * m)) hy ∙ second_factor a b)
+    ∙ times_same n n (x * y) (a * b) refl (ap (λ m. capped (m * y)) hx ∙ first_factor a y ∙ ap (λ m. capped (a * m)) hy
+    ∙ second_factor a b)
 
-pub weighted : (inner n l a w x own : ℕ) → a ≡ capped l → inner ≡ capped (n * a) → x ≡ capped w → own ≡ capped (inner * x) → own ≡ capped (n * l * w)
+pub weighted : (inner n l a w x own : ℕ) → a ≡ capped l → inner ≡ capped (n * a) → x ≡ capped w
+    → own ≡ capped (inner * x) → own ≡ capped (n * l * w)
 weighted inner n l a w x own ha hi hx h =
     let same : Same inner (n * l) = ap capped hi ∙ again (n * a) ∙ ap (λ m. capped (n * m)) ha ∙ second_factor n l in
     h ∙ times_same inner (n * l) x w same (ap capped hx ∙ again w)

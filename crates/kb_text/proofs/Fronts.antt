@@ -1,5 +1,6 @@
 -- The token at the start of a text.
-use Rattle.std.proofs.Common.{◌≡◌, ℕ, zero, suc, ◌<◌, ◌≤◌, Bool, true, false, List, [], ◌∷◌, length, take, Some, None, refl, sym, ◌∙◌, inl, inr, arith, eqb, codes, length-drop}
+use Rattle.std.proofs.Common.{◌≡◌, ℕ, zero, suc, ◌<◌, ◌≤◌, Bool, true, false, List, [], ◌∷◌, length, take, Some, None}
+use Rattle.std.proofs.Common.{refl, sym, ◌∙◌, inl, inr, arith, eqb, codes, length-drop}
 use Rattle.std.specs.List.{prefix_len}
 use Rattle.std.specs.Str.{bytes_eq}
 use Rattle.std.proofs.Math.Numerals.{one-add}
@@ -33,15 +34,18 @@ same_opens : (bytes : List ℕ) (x y : Piece) (n m : ℕ) → IsLongest bytes x 
 same_opens bytes x y zero m a b = absurd a.piece
 same_opens bytes x y (suc n) zero a b = absurd b.piece
 same_opens [] x y (suc n) (suc m) a b = absurd (empty x (suc n) a)
-same_opens (c ∷ cs) x y (suc n) (suc m) a b = sym (opens_with x c (take n cs) a.piece) ∙ opens_with y c (take m cs) b.piece
+same_opens (c ∷ cs) x y (suc n) (suc m) a b = sym (opens_with x c (take n cs) a.piece)
+    ∙ opens_with y c (take m cs) b.piece
 
 -- ---- the word procedure
 
-first_of_word : (b : ℕ) (bs : List ℕ) (in_braces : Bool) → begins_procedure in_braces (b ∷ bs) ≡ true → (b ≡ 112) × (is_word_byte b ≡ true)
+first_of_word : (b : ℕ) (bs : List ℕ) (in_braces : Bool) → begins_procedure in_braces (b ∷ bs) ≡ true
+    → (b ≡ 112) × (is_word_byte b ≡ true)
 first_of_word b bs true e = absurd (cc)
 first_of_word b bs false e =
     elim (cases_Bool (is_word_byte b)) [
-      | inl hit ↦ let whole : bytes_eq (b ∷ take (prefix_len is_word_byte bs) bs) (codes "procedure") ≡ true = rw (hit, one-add) at e in (eqb-true b 112 (and_parts (eqb b 112) _ whole).0, hit)
+      | inl hit ↦ let whole : bytes_eq (b ∷ take (prefix_len is_word_byte bs) bs) (codes "procedure") ≡ true =
+          rw (hit, one-add) at e in (eqb-true b 112 (and_parts (eqb b 112) _ whole).0, hit)
       | inr miss ↦ absurd (let whole : bytes_eq [] (codes "procedure") ≡ true = rw miss at e in cc)
     ]
 
@@ -50,7 +54,8 @@ unfolding class_of
 letter_p b e = rw e refl
 
 -- a procedure begins with a word
-pub procedure_word : (in_braces : Bool) (bytes : List ℕ) → begins_procedure in_braces bytes ≡ true → IsLongest bytes WordText (word_end bytes)
+pub procedure_word : (in_braces : Bool) (bytes : List ℕ) → begins_procedure in_braces bytes ≡ true
+    → IsLongest bytes WordText (word_end bytes)
 procedure_word true bytes e = absurd (cc)
 procedure_word false [] e = absurd (cc)
 procedure_word false (b ∷ bs) e = word_opened (b ∷ bs) (letter_p b (first_of_word b bs false e).0)
@@ -103,10 +108,12 @@ module _ (in_braces : Bool) (bytes : List ℕ) where
   clash SignText k n m g e = g
 
   -- no gap and a token at one place
-  pub gap_or_token : (x : Piece) (k : Kind) (n m : ℕ) → IsGap x → IsLongest bytes x n → IsTokenAt in_braces bytes k m → ⊥
+  pub gap_or_token : (x : Piece) (k : Kind) (n m : ℕ) → IsGap x → IsLongest bytes x n
+      → IsTokenAt in_braces bytes k m → ⊥
   gap_or_token x k n m g l h = let p = piece_at k m h in clash x k n m g (same_opens bytes x (piece_of k) n p.0 l p.1)
 
-  same_kind : (j k : Kind) (n m : ℕ) → IsTokenAt in_braces bytes j n → IsTokenAt in_braces bytes k m → opens (piece_of j) ≡ opens (piece_of k) → j ≡ k
+  same_kind : (j k : Kind) (n m : ℕ) → IsTokenAt in_braces bytes j n → IsTokenAt in_braces bytes k m
+      → opens (piece_of j) ≡ opens (piece_of k) → j ≡ k
   unfolding opens piece_of
   same_kind Word Word n m h i e = refl
   same_kind Word Int n m h i e = absurd (cc)
@@ -135,7 +142,8 @@ module _ (in_braces : Bool) (bytes : List ℕ) where
       omega (arith, h.1.2, i.1.2, same)
 
   -- one token at one place
-  pub same_token : (j k : Kind) (n m : ℕ) → IsTokenAt in_braces bytes j n → IsTokenAt in_braces bytes k m → (n ≡ m) × (j ≡ k)
+  pub same_token : (j k : Kind) (n m : ℕ) → IsTokenAt in_braces bytes j n → IsTokenAt in_braces bytes k m
+      → (n ≡ m) × (j ≡ k)
   same_token j k n m h i =
       let p = piece_at j n h in
       let q = piece_at k m i in
@@ -148,20 +156,25 @@ module _ (in_braces : Bool) (bytes : List ℕ) where
   pub no_gap : (x : Piece) (n : ℕ) (c : K) → IsGap x → IsLongest bytes x n → NoTokenAt in_braces bytes c → ⊥
   unfolding piece_of
   no_gap x n c g l (inl none) = none.0 x n l.within l.piece
-  no_gap x n c g l (inr never) = clash x Procedure n n g (same_opens bytes x WordText n (word_end bytes) l (procedure_word in_braces bytes never.0))
+  no_gap x n c g l (inr never) = clash x Procedure n n g (same_opens bytes x WordText n (word_end bytes) l
+      (procedure_word in_braces bytes never.0))
 
   pub no_token : (k : Kind) (n : ℕ) (c : K) → IsTokenAt in_braces bytes k n → NoTokenAt in_braces bytes c → ⊥
   unfolding opens
   no_token k n c h (inl none) = let p = piece_at k n h in none.0 (piece_of k) p.0 p.1.within p.1.piece
   no_token Word n c h (inr never) = let f = sym h.1 ∙ never.0 in cc
-  no_token Int n c h (inr never) = absurd (let f = same_opens bytes IntText WordText n (word_end bytes) h (procedure_word in_braces bytes never.0) in cc)
-  no_token Sign n c h (inr never) = absurd (let f = same_opens bytes SignText WordText n (word_end bytes) h (procedure_word in_braces bytes never.0) in cc)
+  no_token Int n c h (inr never) = absurd (let f = same_opens bytes IntText WordText n (word_end bytes) h
+      (procedure_word in_braces bytes never.0) in cc)
+  no_token Sign n c h (inr never) = absurd (let f = same_opens bytes SignText WordText n (word_end bytes) h
+      (procedure_word in_braces bytes never.0) in cc)
   no_token Procedure n c h (inr never) = absurd (let f = only_end h.1.1 None never.1 in cc)
 
   pub same_cause : (c d : K) → NoTokenAt in_braces bytes c → NoTokenAt in_braces bytes d → c ≡ d
   same_cause c d (inl a) (inl b) = a.1 ∙ sym b.1
-  same_cause c d (inl a) (inr b) = absurd (let w = procedure_word in_braces bytes b.0 in a.0 WordText (word_end bytes) w.within w.piece)
-  same_cause c d (inr a) (inl b) = absurd (let w = procedure_word in_braces bytes a.0 in b.0 WordText (word_end bytes) w.within w.piece)
+  same_cause c d (inl a) (inr b) = absurd (let w = procedure_word in_braces bytes b.0 in
+      a.0 WordText (word_end bytes) w.within w.piece)
+  same_cause c d (inr a) (inl b) = absurd (let w = procedure_word in_braces bytes a.0 in
+      b.0 WordText (word_end bytes) w.within w.piece)
   same_cause c d (inr a) (inr b) = a.2 ∙ sym b.2
 
 pub no_token_in_nothing : (in_braces : Bool) (k : Kind) (n : ℕ) → IsTokenAt in_braces [] k n → ⊥

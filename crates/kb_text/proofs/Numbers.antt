@@ -1,5 +1,6 @@
 -- The value of an integer's digits.
-use Rattle.std.proofs.Common.{◌≡◌, ℕ, zero, suc, ◌+◌, ◌-◌, ◌*◌, ◌<◌, ◌≤◌, Bool, true, false, cond, List, [], ◌∷◌, length, get_or, take, drop, refl, sym, ap, ◌∙◌, leb, arith}
+use Rattle.std.proofs.Common.{◌≡◌, ℕ, zero, suc, ◌+◌, ◌-◌, ◌*◌, ◌<◌, ◌≤◌, Bool, true, false, cond, List, [], ◌∷◌}
+use Rattle.std.proofs.Common.{length, get_or, take, drop, refl, sym, ap, ◌∙◌, leb, arith}
 use Rattle.std.specs.List.{list_all, fold}
 use Rattle.std.proofs.lemmas.Bool.{and_parts, leb-true}
 use Rattle.std.proofs.lemmas.List.{take-append-drop}
@@ -27,7 +28,8 @@ no_digit false false false e = cc
 pub digit_range : (b : ℕ) → class_of b ≡ Digit → (48 ≤ b) × (b ≤ 57)
 unfolding class_of
 digit_range b e =
-    let both = and_parts (leb 48 b) (leb b 57) (digit_test _ _ (no_digit _ _ _) (skip_to _ _ _ (λ (f : Letter ≡ Digit). cc) (skip_to _ _ _ (λ (f : Space ≡ Digit). cc) e))) in
+    let both = and_parts (leb 48 b) (leb b 57) (digit_test _ _ (no_digit _ _ _)
+    (skip_to _ _ _ (λ (f : Letter ≡ Digit). cc) (skip_to _ _ _ (λ (f : Space ≡ Digit). cc) e))) in
     (leb-true 48 b both.0, leb-true b 57 both.1)
 
 digit_of : (c : Class) → is_digit c ≡ true → c ≡ Digit
@@ -44,7 +46,8 @@ all_at [] i lt h = absurd (omega arith)
 all_at (x ∷ xs) zero lt h = digit_of (class_of x) (and_parts (is_digit_byte x) (list_all is_digit_byte xs) h).0
 all_at (x ∷ xs) (suc i) lt h = all_at xs i (omega arith) (and_parts (is_digit_byte x) (list_all is_digit_byte xs) h).1
 
-pub digit_at : (text : List ℕ) (i : ℕ) → IsPiece IntText text → i < length text → (48 ≤ get_or text i 0) × (get_or text i 0 ≤ 57)
+pub digit_at : (text : List ℕ) (i : ℕ) → IsPiece IntText text → i < length text → (48 ≤ get_or text i 0)
+    × (get_or text i 0 ≤ 57)
 digit_at [] i is lt = absurd (omega arith)
 digit_at (b ∷ bs) zero is lt = digit_range b is.0
 digit_at (b ∷ bs) (suc i) is lt = digit_range (get_or bs i 0) (all_at bs i (omega arith) is.1)
@@ -57,5 +60,6 @@ grows n (b ∷ bs) = omega (arith, grows (10 * n + (b - 48)) bs)
 pub decimal_front : (i : ℕ) (text : List ℕ) → decimal (take i text) ≤ decimal text
 decimal_front i text =
     let f : ℕ → ℕ → ℕ = λ n b. 10 * n + (b - 48) in
-    let whole : decimal text ≡ fold f (decimal (take i text)) (drop i text) = ap decimal (sym (take-append-drop i text)) ∙ fold-append f 0 (take i text) (drop i text) in
+    let whole : decimal text ≡ fold f (decimal (take i text)) (drop i text) = ap decimal (sym (take-append-drop i text))
+    ∙ fold-append f 0 (take i text) (drop i text) in
     rw whole (grows (decimal (take i text)) (drop i text))

@@ -1,5 +1,6 @@
 -- Where a procedure ends.
-use Rattle.std.proofs.Common.{◌≡◌, ℕ, zero, suc, ◌+◌, ◌<◌, ◌≤◌, Bool, false, List, [], ◌∷◌, length, drop, Option, Some, None, refl, sym, ap, ◌∙◌, inl, inr, eqb, arith, length-drop, codes}
+use Rattle.std.proofs.Common.{◌≡◌, ℕ, zero, suc, ◌+◌, ◌<◌, ◌≤◌, Bool, false, List, [], ◌∷◌, length, drop, Option, Some}
+use Rattle.std.proofs.Common.{None, refl, sym, ap, ◌∙◌, inl, inr, eqb, arith, length-drop, codes}
 use Rattle.std.specs.Prelude.{IfSome, nat_eq, ◌||◌}
 use Rattle.std.specs.List.{starts_with}
 use Rattle.std.proofs.lemmas.Bool.{cases_Bool}
@@ -19,12 +20,14 @@ later_within : (o : Option ℕ) (n : ℕ) → IfSome o (λ m. m ≤ n) → IfSom
 later_within None n h = tt
 later_within (Some m) n h = omega (arith, h)
 
-pub quoted_within : (escaped : Bool) (quote : ℕ) (xs : List ℕ) → IfSome (quoted_of escaped quote xs) (λ m. m ≤ length xs)
+pub quoted_within : (escaped : Bool) (quote : ℕ) (xs : List ℕ) → IfSome (quoted_of escaped quote xs)
+    (λ m. m ≤ length xs)
 quoted_within escaped quote [] = tt
 quoted_within escaped quote (b ∷ bs) =
     elim (cases_Bool (is_unescaped escaped quote b)) [
       | inl hit ↦ rw hit (omega arith)
-      | inr miss ↦ rw miss (later_within (quoted_of (is_unescaped escaped 92 b) quote bs) (length bs) (quoted_within (is_unescaped escaped 92 b) quote bs))
+      | inr miss ↦ rw miss (later_within (quoted_of (is_unescaped escaped 92 b) quote bs) (length bs)
+          (quoted_within (is_unescaped escaped 92 b) quote bs))
     ]
 
 -- ---- passages
@@ -40,7 +43,8 @@ Within bytes Opening = 0 < length bytes
 Within bytes Closing = 0 < length bytes
 Within bytes Unclosed = Unit {0}
 
-passed_within : (n : ℕ) (o : Option ℕ) (bytes : List ℕ) → 0 < n → ((m : ℕ) → o ≡ Some m → m + n ≤ length bytes) → Within bytes (passed n o)
+passed_within : (n : ℕ) (o : Option ℕ) (bytes : List ℕ) → 0 < n → ((m : ℕ) → o ≡ Some m → m + n ≤ length bytes)
+    → Within bytes (passed n o)
 unfolding Within
 passed_within n None bytes some fits = tt
 passed_within n (Some m) bytes some fits = (omega arith, fits m refl)
@@ -62,9 +66,11 @@ passage_within (b ∷ bs) =
         | inr no_closing ↦ rw no_closing (elim (cases_Bool (eqb b 34 || eqb b 39)) [
           | inl hit ↦ rw hit (passed_within 1 (quoted_of false b bs) (b ∷ bs) (omega arith) (quoted_fits b bs))
           | inr no_quote ↦ rw no_quote (elim (cases_Bool (starts_with nat_eq (b ∷ bs) (codes "[["))) [
-            | inl hit ↦ rw hit (passed_within 2 (close_of 93 93 (drop 2 (b ∷ bs))) (b ∷ bs) (omega arith) (close_fits 2 (b ∷ bs)))
+            | inl hit ↦ rw hit (passed_within 2 (close_of 93 93 (drop 2 (b ∷ bs))) (b ∷ bs) (omega arith)
+                (close_fits 2 (b ∷ bs)))
             | inr no_long ↦ rw no_long (elim (cases_Bool (starts_with nat_eq (b ∷ bs) (codes "--[["))) [
-              | inl hit ↦ rw hit (passed_within 4 (close_of 93 93 (drop 4 (b ∷ bs))) (b ∷ bs) (omega arith) (close_fits 4 (b ∷ bs)))
+              | inl hit ↦ rw hit (passed_within 4 (close_of 93 93 (drop 4 (b ∷ bs))) (b ∷ bs) (omega arith)
+                  (close_fits 4 (b ∷ bs)))
               | inr no_block ↦ rw no_block (elim (cases_Bool (starts_with nat_eq (b ∷ bs) (codes "--"))) [
                 | inl hit ↦ rw hit (omega arith, omega (arith, prefix_len-le-length is_line_byte bs))
                 | inr no_line ↦ rw no_line (omega arith, omega arith)
@@ -89,7 +95,8 @@ step_fits d bytes = step_within d bytes (passage_at bytes) (passage_within bytes
 
 -- ---- the end
 
-later_fits : (n : ℕ) (bytes : List ℕ) (r : Option ℕ) → n ≤ length bytes → IfSome r (λ m. m ≤ length (drop n bytes)) → IfSome (later_by n r) (λ m. m ≤ length bytes)
+later_fits : (n : ℕ) (bytes : List ℕ) (r : Option ℕ) → n ≤ length bytes → IfSome r (λ m. m ≤ length (drop n bytes))
+    → IfSome (later_by n r) (λ m. m ≤ length bytes)
 later_fits n bytes None le h = tt
 later_fits n bytes (Some m) le h = omega (arith, length-drop n bytes)
 
@@ -97,10 +104,12 @@ later_fits n bytes (Some m) le h = omega (arith, length-drop n bytes)
 pub closes_within : {d : ℕ} {bytes : List ℕ} {r : Option ℕ} → ClosesAfter d bytes r → IfSome r (λ m. m ≤ length bytes)
 closes_within (last {d = d} {bytes = bytes} e) = let h : 0 < length bytes = rw e at (step_fits d bytes) in omega arith
 closes_within (stops e) = tt
-closes_within (passes {d = d} {bytes = bytes} {r = r} next n e rest) = let h : FitsIn d bytes (Next next n) = rw e at (step_fits d bytes) in later_fits n bytes r h.2 (closes_within rest)
+closes_within (passes {d = d} {bytes = bytes} {r = r} next n e rest) = let h : FitsIn d bytes (Next next n) =
+    rw e at (step_fits d bytes) in later_fits n bytes r h.2 (closes_within rest)
 
 -- at one place, or nowhere
-pub only_end : {d : ℕ} {bytes : List ℕ} {r : Option ℕ} → ClosesAfter d bytes r → (s : Option ℕ) → ClosesAfter d bytes s → r ≡ s
+pub only_end : {d : ℕ} {bytes : List ℕ} {r : Option ℕ} → ClosesAfter d bytes r → (s : Option ℕ)
+    → ClosesAfter d bytes s → r ≡ s
 only_end (last e) s (last f) = refl
 only_end (last e) s (stops f) = absurd (let g = sym e ∙ f in cc)
 only_end (last e) s (passes next n f rest) = absurd (let g = sym e ∙ f in cc)

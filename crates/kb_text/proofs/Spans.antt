@@ -1,5 +1,6 @@
 -- Spans rise, each text is spelled as its kind asks, and no token is too deep.
-use Rattle.std.proofs.Common.{◌≡◌, ℕ, zero, suc, ◌+◌, ◌-◌, ◌<◌, ◌≤◌, ◌^◌, Bool, false, List, ◌∷◌, length, take, drop, Option, Some, None, refl, ap, inl, inr, arith, leb, length-drop}
+use Rattle.std.proofs.Common.{◌≡◌, ℕ, zero, suc, ◌+◌, ◌-◌, ◌<◌, ◌≤◌, ◌^◌, Bool, false, List, ◌∷◌, length, take, drop}
+use Rattle.std.proofs.Common.{Option, Some, None, refl, ap, inl, inr, arith, leb, length-drop}
 use Rattle.std.specs.Prelude.{All, IfOk, slice_range, nat_lt, if◌then◌else◌}
 use Rattle.std.proofs.lemmas.Bool.{cases_Bool}
 use Rattle.std.proofs.lemmas.List.{drop-drop}
@@ -8,14 +9,17 @@ use Rattle.kb_text.specs.declared.token.Kind.{Kind}
 use Rattle.kb_text.specs.declared.token.Kind.TheVariants.{Word, Int, Sign, Procedure}
 use Rattle.kb_text.specs.declared.fault.K.TheVariants.{TooDeep}
 use Rattle.kb_text.specs.Depth.{Around, outermost, depth_of}
-use Rattle.kb_text.specs.Tokens.{AreShallow, IsTokenAt, IsSpelled, IsSpellingOf, Lexeme, lexeme, Outcome, SpansRise, TokensFrom, nothing, gap, token, token_before, refused, stuck, decimal, is_too_large, own_refusal_of, first_refusal}
+use Rattle.kb_text.specs.Tokens.{AreShallow, IsTokenAt, IsSpelled, IsSpellingOf, Lexeme, lexeme, Outcome, SpansRise}
+use Rattle.kb_text.specs.Tokens.{TokensFrom, nothing, gap, token, token_before, refused, stuck, decimal, is_too_large}
+use Rattle.kb_text.specs.Tokens.{own_refusal_of, first_refusal}
 use Rattle.kb_text.proofs.Fronts.{token_length, token_within}
 
 -- ---- spans
 
 module _ (src : List ℕ) where
   step_within : (p n : ℕ) (bytes : List ℕ) → bytes ≡ drop p src → p ≤ length src → n ≤ length bytes → p + n ≤ length src
-  step_within p n bytes e le fits = let same : length bytes ≡ length (drop p src) = ap length e in omega (arith, length-drop p src)
+  step_within p n bytes e le fits = let same : length bytes ≡ length (drop p src) = ap length e in
+      omega (arith, length-drop p src)
 
   step_drops : (p n : ℕ) (bytes : List ℕ) → bytes ≡ drop p src → drop n bytes ≡ drop (p + n) src
   step_drops p n bytes e = rw e (drop-drop n p src)
@@ -23,12 +27,19 @@ module _ (src : List ℕ) where
   text_of_span : (p n : ℕ) (bytes : List ℕ) → bytes ≡ drop p src → take n bytes ≡ slice_range src p (p + n)
   text_of_span p n bytes e = let count : n ≡ (p + n) - p = omega arith in rw (e, ← count) refl
 
-  spans_rise : {s : Around} {p : ℕ} {bytes : List ℕ} {r : Outcome} → TokensFrom s p bytes r → bytes ≡ drop p src → p ≤ length src → (from : ℕ) → from ≤ p → IfOk r (SpansRise from src)
+  spans_rise : {s : Around} {p : ℕ} {bytes : List ℕ} {r : Outcome} → TokensFrom s p bytes r → bytes ≡ drop p src
+      → p ≤ length src → (from : ℕ) → from ≤ p → IfOk r (SpansRise from src)
   spans_rise nothing e le from behind = tt
-  spans_rise (gap {p = p} {n = n} {bytes = bytes} g l rest) e le from behind = spans_rise rest (step_drops p n bytes e) (step_within p n bytes e le l.within) from (omega arith)
+  spans_rise (gap {p = p} {n = n} {bytes = bytes} g l rest) e le from behind = spans_rise rest (step_drops p n bytes e)
+      (step_within p n bytes e le l.within) from (omega arith)
   spans_rise (token {s = s} {p = p} {bytes = bytes} n k l fits rest) e le from behind =
-      let within = step_within p n bytes e le (token_within s.layer.in_braces bytes k n l) in
-      (behind, omega (arith, token_length s.layer.in_braces bytes k n l), within, text_of_span p n bytes e, spans_rise rest (step_drops p n bytes e) within (p + n) (omega arith))
+      let within = step_within p n bytes e le (token_within s.layer.in_braces bytes k n l) in (
+        behind,
+        omega (arith, token_length s.layer.in_braces bytes k n l),
+        within,
+        text_of_span p n bytes e,
+        spans_rise rest (step_drops p n bytes e) within (p + n) (omega arith),
+      )
   spans_rise (token_before n k l fits rest) e le from behind = tt
   spans_rise (refused n k l why) e le from behind = tt
   spans_rise (stuck none) e le from behind = tt
@@ -38,7 +49,8 @@ module _ (src : List ℕ) where
 
 -- ---- spelling
 
-pub token_spells : (in_braces : Bool) (bytes : List ℕ) (k : Kind) (n : ℕ) → IsTokenAt in_braces bytes k n → IsSpellingOf k (take n bytes)
+pub token_spells : (in_braces : Bool) (bytes : List ℕ) (k : Kind) (n : ℕ) → IsTokenAt in_braces bytes k n
+    → IsSpellingOf k (take n bytes)
 token_spells in_braces bytes Word n h = h.0.piece
 token_spells in_braces bytes Int n h = h.piece
 token_spells in_braces bytes Sign n h = h.piece
@@ -67,7 +79,8 @@ pub spelled_from : {s : Around} {p : ℕ} {bytes : List ℕ} {r : Outcome} → T
 spelled_from nothing = λ k d lt. absurd (omega arith)
 spelled_from (gap g l rest) = spelled_from rest
 spelled_from (token {s = s} {p = p} {bytes = bytes} {ts = ts} n k l fits rest) =
-    let range : k ≡ Int → decimal (take n bytes) < 2 ^ 63 = λ e. in_range (take n bytes) (drop n bytes) (let own = own_is_none (own_refusal_of k (take n bytes) (drop n bytes)) _ fits in rw e at own) in
+    let range : k ≡ Int → decimal (take n bytes) < 2 ^ 63 = λ e. in_range (take n bytes) (drop n bytes) (let own =
+    own_is_none (own_refusal_of k (take n bytes) (drop n bytes)) _ fits in rw e at own) in
     all_more (lexeme bytes p k n) ts (token_spells s.layer.in_braces bytes k n l, range) (spelled_from rest)
 spelled_from (token_before n k l fits rest) = tt
 spelled_from (refused n k l why) = tt
@@ -86,7 +99,8 @@ not_deep None d e =
 pub shallow_from : {s : Around} {p : ℕ} {bytes : List ℕ} {r : Outcome} → TokensFrom s p bytes r → IfOk r (AreShallow s)
 shallow_from nothing = tt
 shallow_from (gap g l rest) = shallow_from rest
-shallow_from (token {s = s} {bytes = bytes} n k l fits rest) = (not_deep (own_refusal_of k (take n bytes) (drop n bytes)) (depth_of s) fits, shallow_from rest)
+shallow_from (token {s = s} {bytes = bytes} n k l fits rest) =
+    (not_deep (own_refusal_of k (take n bytes) (drop n bytes)) (depth_of s) fits, shallow_from rest)
 shallow_from (token_before n k l fits rest) = tt
 shallow_from (refused n k l why) = tt
 shallow_from (stuck none) = tt

@@ -34,7 +34,17 @@ outwards layer [] = record { layer = layer; outer = []; run = 0 }
 outwards layer (around ∷ outer) = record { layer = around; outer = outer; run = 0 }
 
 abbrev pub after_role : Around → Role → Around
-after_role s (Open b) = record { layer = record { bracket = b; base = suc (depth_of s); count = 0; in_braces = s.layer.in_braces || b == 123 }; outer = s.layer ∷ s.outer; run = 0 }
+after_role s (Open b) = record {
+  layer = record {
+    bracket = b;
+    base = suc (depth_of s);
+    count = 0;
+    in_braces =
+        s.layer.in_braces || b == 123;
+  };
+  outer = s.layer ∷ s.outer;
+  run = 0;
+}
 after_role s (Close b) = if s.layer.bracket == b then outwards s.layer s.outer else record s { run = 0 }
 after_role s Count = record { layer = record s.layer { count = suc s.layer.count }; outer = s.outer; run = 0 }
 after_role s Stop = record { layer = record s.layer { count = 0 }; outer = s.outer; run = 0 }

@@ -1,5 +1,6 @@
 -- A procedure, written in Lua: from its word to the brace that closes its first one.
-use Rattle.std.specs.Prelude.{◌≡◌, ℕ, zero, suc, ◌+◌, ◌<◌, ◌≤◌, List, [], ◌∷◌, length, take, drop, Option, Some, None, Bool, false, ◌==◌, ◌||◌, if◌then◌else◌, codes, nat_eq}
+use Rattle.std.specs.Prelude.{◌≡◌, ℕ, zero, suc, ◌+◌, ◌<◌, ◌≤◌, List, [], ◌∷◌, length, take, drop, Option, Some, None}
+use Rattle.std.specs.Prelude.{Bool, false, ◌==◌, ◌||◌, if◌then◌else◌, codes, nat_eq}
 use Rattle.std.specs.List.{prefix_len, starts_with}
 use Rattle.std.specs.Str.{bytes_eq}
 use Rattle.kb_text.specs.declared.procedure.Passage.{Passage}
@@ -39,7 +40,8 @@ step_of open_braces Unclosed = Stop
 pub data ClosesAfter : ℕ → List ℕ → Option ℕ → Type 0 where
   last : {d : ℕ} {bytes : List ℕ} → step_of d (passage_at bytes) ≡ Last → ClosesAfter d bytes (Some 1)
   stops : {d : ℕ} {bytes : List ℕ} → step_of d (passage_at bytes) ≡ Stop → ClosesAfter d bytes None
-  passes : {d : ℕ} {bytes : List ℕ} {r : Option ℕ} (e n : ℕ) → step_of d (passage_at bytes) ≡ Next e n → ClosesAfter e (drop n bytes) r → ClosesAfter d bytes (later_by n r)
+  passes : {d : ℕ} {bytes : List ℕ} {r : Option ℕ} (e n : ℕ) → step_of d (passage_at bytes) ≡ Next e n
+      → ClosesAfter e (drop n bytes) r → ClosesAfter d bytes (later_by n r)
 
 -- the length of the word at the start
 abbrev pub word_end : List ℕ → ℕ

@@ -4,7 +4,9 @@ use Rattle.std.specs.Fmt.{decimal}
 use Rattle.kb_text.specs.declared.fault.K.{K}
 use Rattle.kb_text.specs.declared.fault.LexError.{LexError}
 use Rattle.kb_text.specs.declared.fault.LexError.TheVariants as errors
-use Rattle.kb_text.specs.declared.fault.K.TheVariants.{Syntax, UnknownName, Redeclared, WrongArity, TypeClash, Untyped, TypeNotGiven, NotAnElement, DataClash, Unsupported, BadHead, OutOfRange, TooLarge, TooLong, TooDeep, BlockChoice}
+use Rattle.kb_text.specs.declared.fault.K.TheVariants.{Syntax, UnknownName, Redeclared, WrongArity, TypeClash, Untyped}
+use Rattle.kb_text.specs.declared.fault.K.TheVariants.{TypeNotGiven, NotAnElement, DataClash, Unsupported, BadHead}
+use Rattle.kb_text.specs.declared.fault.K.TheVariants.{OutOfRange, TooLarge, TooLong, TooDeep, BlockChoice}
 
 -- the number after the letter K
 abbrev pub number_of : K → ℕ

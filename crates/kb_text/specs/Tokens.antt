@@ -1,5 +1,7 @@
 -- The tokens of a text, or its first refusal.
-use Rattle.std.specs.Prelude.{◌≡◌, ℕ, ◌+◌, ◌*◌, ◌-◌, ◌≤◌, ◌<◌, ◌^◌, List, [], ◌∷◌, length, take, drop, map, Bool, true, false, nat_lt, nat_le, nat_eq, if◌then◌else◌, Option, Some, None, Result, Ok, Err, codes, slice_range, ◌⊎◌}
+use Rattle.std.specs.Prelude.{◌≡◌, ℕ, ◌+◌, ◌*◌, ◌-◌, ◌≤◌, ◌<◌, ◌^◌, List, [], ◌∷◌, length, take, drop, map, Bool, true}
+use Rattle.std.specs.Prelude.{false, nat_lt, nat_le, nat_eq, if◌then◌else◌, Option, Some, None, Result, Ok, Err, codes}
+use Rattle.std.specs.Prelude.{slice_range, ◌⊎◌}
 use Rattle.std.specs.Global.{Vec}
 use Rattle.std.specs.List.{list_any, fold, starts_with}
 use Rattle.std.specs.Str.{bytes_eq}
@@ -36,15 +38,19 @@ abbrev pub IsTokenAt : Bool → List ℕ → Kind → ℕ → Type 0
 IsTokenAt in_braces bytes Word n = IsLongest bytes WordText n × (begins_procedure in_braces bytes ≡ false)
 IsTokenAt in_braces bytes Int n = IsLongest bytes IntText n
 IsTokenAt in_braces bytes Sign n = IsLongest bytes SignText n
-IsTokenAt in_braces bytes Procedure n = (begins_procedure in_braces bytes ≡ true) × ((m : ℕ) × ProcedureEnds bytes (Some m) × (n ≡ word_end bytes + m))
+IsTokenAt in_braces bytes Procedure n = (begins_procedure in_braces bytes ≡ true)
+    × ((m : ℕ) × ProcedureEnds bytes (Some m) × (n ≡ word_end bytes + m))
 
 -- why neither a token nor a gap is at the start
 abbrev pub NoTokenAt : Bool → List ℕ → K → Type 0
-NoTokenAt in_braces bytes cause = (NothingBegins bytes × (cause ≡ cause_at bytes)) ⊎ ((begins_procedure in_braces bytes ≡ true) × ProcedureEnds bytes None × (cause ≡ Syntax))
+NoTokenAt in_braces bytes cause = (NothingBegins bytes × (cause ≡ cause_at bytes))
+    ⊎ ((begins_procedure in_braces bytes ≡ true) × ProcedureEnds bytes None × (cause ≡ Syntax))
 
 -- words of IDP3 that are not read here
 abbrev pub unsupported_words : List (List ℕ)
-unsupported_words = codes "partial" ∷ codes "prod" ∷ codes "include" ∷ codes "namespace" ∷ codes "LTCvocabulary" ∷ codes "factlist" ∷ codes "aspstructure" ∷ codes "fobdd" ∷ codes "query" ∷ codes "extern" ∷ codes "using" ∷ codes "string" ∷ codes "char" ∷ codes "float" ∷ []
+unsupported_words = codes "partial" ∷ codes "prod" ∷ codes "include" ∷ codes "namespace" ∷ codes "LTCvocabulary" ∷ codes
+    "factlist" ∷ codes "aspstructure" ∷ codes "fobdd" ∷ codes "query" ∷ codes "extern" ∷ codes "using" ∷ codes "string"
+    ∷ codes "char" ∷ codes "float" ∷ []
 
 -- those that are not read before an opening [
 abbrev pub unsupported_chain_words : List (List ℕ)
@@ -85,7 +91,8 @@ first_refusal (Some c) later = Some c
 
 -- that, or else that it lies too deep
 abbrev pub refusal_of : Around → Kind → List ℕ → List ℕ → Option K
-refusal_of s kind text behind = first_refusal (own_refusal_of kind text behind) (if nat_lt 200 (depth_of s) then Some TooDeep else None)
+refusal_of s kind text behind = first_refusal (own_refusal_of kind text behind) (if nat_lt 200 (depth_of s) then
+    Some TooDeep else None)
 
 abbrev pub lexeme : List ℕ → ℕ → Kind → ℕ → Lexeme
 lexeme bytes p k n = record { kind = k; text = take n bytes; start = p; stop = p + n }
@@ -93,11 +100,20 @@ lexeme bytes p k n = record { kind = k; text = take n bytes; start = p; stop = p
 -- the tokens of the bytes that begin at place p, or the first refusal
 pub data TokensFrom : Around → ℕ → List ℕ → Outcome → Type 0 where
   nothing : {s : Around} {p : ℕ} → TokensFrom s p [] (Ok [])
-  gap : {s : Around} {p n : ℕ} {bytes : List ℕ} {x : Piece} {r : Outcome} → IsGap x → IsLongest bytes x n → TokensFrom s (p + n) (drop n bytes) r → TokensFrom s p bytes r
-  token : {s : Around} {p : ℕ} {bytes : List ℕ} {ts : List Lexeme} (n : ℕ) (k : Kind) → IsTokenAt s.layer.in_braces bytes k n → refusal_of s k (take n bytes) (drop n bytes) ≡ None → TokensFrom (after_token s k (take n bytes)) (p + n) (drop n bytes) (Ok ts) → TokensFrom s p bytes (Ok (lexeme bytes p k n ∷ ts))
-  token_before : {s : Around} {p : ℕ} {bytes : List ℕ} {f : KbFault} (n : ℕ) (k : Kind) → IsTokenAt s.layer.in_braces bytes k n → refusal_of s k (take n bytes) (drop n bytes) ≡ None → TokensFrom (after_token s k (take n bytes)) (p + n) (drop n bytes) (Err f) → TokensFrom s p bytes (Err f)
-  refused : {s : Around} {p : ℕ} {bytes : List ℕ} {c : K} (n : ℕ) (k : Kind) → IsTokenAt s.layer.in_braces bytes k n → refusal_of s k (take n bytes) (drop n bytes) ≡ Some c → TokensFrom s p bytes (Err (record { cause = c; place = p }))
-  stuck : {s : Around} {p b : ℕ} {bs : List ℕ} {c : K} → NoTokenAt s.layer.in_braces (b ∷ bs) c → TokensFrom s p (b ∷ bs) (Err (record { cause = c; place = p }))
+  gap : {s : Around} {p n : ℕ} {bytes : List ℕ} {x : Piece} {r : Outcome} → IsGap x → IsLongest bytes x n
+      → TokensFrom s (p + n) (drop n bytes) r → TokensFrom s p bytes r
+  token : {s : Around} {p : ℕ} {bytes : List ℕ} {ts : List Lexeme} (n : ℕ) (k : Kind)
+      → IsTokenAt s.layer.in_braces bytes k n → refusal_of s k (take n bytes) (drop n bytes) ≡ None
+      → TokensFrom (after_token s k (take n bytes)) (p + n) (drop n bytes) (Ok ts)
+      → TokensFrom s p bytes (Ok (lexeme bytes p k n ∷ ts))
+  token_before : {s : Around} {p : ℕ} {bytes : List ℕ} {f : KbFault} (n : ℕ) (k : Kind)
+      → IsTokenAt s.layer.in_braces bytes k n → refusal_of s k (take n bytes) (drop n bytes) ≡ None
+      → TokensFrom (after_token s k (take n bytes)) (p + n) (drop n bytes) (Err f) → TokensFrom s p bytes (Err f)
+  refused : {s : Around} {p : ℕ} {bytes : List ℕ} {c : K} (n : ℕ) (k : Kind) → IsTokenAt s.layer.in_braces bytes k n
+      → refusal_of s k (take n bytes) (drop n bytes) ≡ Some c → TokensFrom s p bytes
+      (Err (record { cause = c; place = p }))
+  stuck : {s : Around} {p b : ℕ} {bs : List ℕ} {c : K} → NoTokenAt s.layer.in_braces (b ∷ bs) c
+      → TokensFrom s p (b ∷ bs) (Err (record { cause = c; place = p }))
 
 -- what the call returns, unless memory ran out
 abbrev pub Fails : LexError → List ℕ → Type 0
@@ -111,7 +127,8 @@ TokensOf src (Err e) = Fails e src
 -- each text is the slice of its span, and each span begins no earlier than the one before ends
 abbrev pub SpansRise : ℕ → List ℕ → List Lexeme → Type 0
 SpansRise from src [] = Unit {0}
-SpansRise from src (t ∷ ts) = (from ≤ t.start) × (t.start < t.stop) × (t.stop ≤ length src) × (t.text ≡ slice_range src t.start t.stop) × SpansRise t.stop src ts
+SpansRise from src (t ∷ ts) = (from ≤ t.start) × (t.start < t.stop) × (t.stop ≤ length src)
+    × (t.text ≡ slice_range src t.start t.stop) × SpansRise t.stop src ts
 
 -- no token is deeper than 200, where the first stands here
 abbrev pub AreShallow : Around → List Lexeme → Type 0

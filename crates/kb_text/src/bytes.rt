@@ -1,7 +1,8 @@
 //! Classes of bytes, the signs of two and three bytes, and spaces.
 ghost use Rattle.std.specs.Prelude.{◌≡◌};
 ghost use Rattle.std.specs.List.{prefix_len};
-ghost use Rattle.kb_text.specs.Bytes.{class_of, is_arrow, is_pair, is_triple, is_word_byte, is_digit_byte, is_line_byte, is_space_byte, only_spaces};
+ghost use Rattle.kb_text.specs.Bytes.{class_of, is_arrow, is_pair, is_triple, is_word_byte, is_digit_byte};
+ghost use Rattle.kb_text.specs.Bytes.{is_line_byte, is_space_byte, only_spaces};
 
 /// What a byte begins.
 #[derive(Clone, Copy, Debug, PartialEq, Eq)]

@@ -55,5 +55,6 @@ pub fn tokens<'a>(alloc: Global, src: &'a [u8]) -> Result<Vec<Token<'a>>, LexErr
 
 /// Each text has one list of tokens or one first refusal, and no other.
 pub fn one_answer()
-    ensures { (src : List ℕ) → (r : Outcome) × TokensFrom outermost 0 src r × ((t : Outcome) → TokensFrom outermost 0 src t → t ≡ r) }
+    ensures { (src : List ℕ) → (r : Outcome) × TokensFrom outermost 0 src r
+        × ((t : Outcome) → TokensFrom outermost 0 src t → t ≡ r) }
 {}

@@ -1,5 +1,6 @@
 -- The laws of two problems together.
-use Rattle.std.proofs.Common.{◌≡◌, ℕ, ◌+◌, ◌≤◌, ◌<◌, List, [], ◌++◌, length, length-append, refl, sym, ap, ◌∙◌, subst, ⊎_elim, arith, All}
+use Rattle.std.proofs.Common.{◌≡◌, ℕ, ◌+◌, ◌≤◌, ◌<◌, List, [], ◌++◌, length, length-append, refl, sym, ap, ◌∙◌, subst}
+use Rattle.std.proofs.Common.{⊎_elim, arith, All}
 use Rattle.std.proofs.lemmas.List.{append-nil}
 use Rattle.std.proofs.lemmas.List.Elements.{All-append, All-push, All-weaker, All-nil}
 use Rattle.lit_core.specs.declared.literals.Lit.{Lit}
@@ -8,7 +9,8 @@ use Rattle.ground_core.specs.declared.parts.Gate.{Gate}
 use Rattle.ground_core.specs.declared.parts.GroundTerm.{GroundTerm}
 use Rattle.ground_core.specs.declared.parts.Part.{Part}
 use Rattle.ground_core.specs.declared.parts.TermBound.{TermBound}
-use Rattle.ground_core.specs.Problems.{ProblemState, IsProblem, IsLitOf, AreLitsOf, IsGateOf, ArePartsOf, IsTermOf, IsSumOf, IsBoundOf}
+use Rattle.ground_core.specs.Problems.{ProblemState, IsProblem, IsLitOf, AreLitsOf, IsGateOf, ArePartsOf, IsTermOf}
+use Rattle.ground_core.specs.Problems.{IsSumOf, IsBoundOf}
 use Rattle.ground_core.specs.Growing.{with_retired}
 use Rattle.kept_problem.specs.Joining.{joined_problem, with_selected, CanJoin}
 
@@ -22,7 +24,8 @@ gate-wider : (m n : ℕ) → m ≤ n → (g : Gate) → IsGateOf m g → IsGateO
 gate-wider m n le g h = (lit-wider m n le g.out h.0, lits-wider m n le g.parts h.1)
 
 parts-wider : (m n : ℕ) → m ≤ n → (ps : List Part) → ArePartsOf m ps → ArePartsOf n ps
-parts-wider m n le ps h = All-weaker (λ (p : Part). IsLitOf m p.lit) (λ (p : Part). IsLitOf n p.lit) (λ p. lit-wider m n le p.lit) ps h
+parts-wider m n le ps h = All-weaker (λ (p : Part). IsLitOf m p.lit) (λ (p : Part). IsLitOf n p.lit)
+    (λ p. lit-wider m n le p.lit) ps h
 
 term-wider : (m n : ℕ) → m ≤ n → (t : GroundTerm) → IsTermOf m t → IsTermOf n t
 term-wider m n le t h = parts-wider m n le t.parts h
@@ -34,7 +37,8 @@ bound-wider : (m n : ℕ) (terms : List GroundTerm) → m ≤ n → (b : TermBou
 bound-wider m n terms le b h = (lit-wider m n le b.out h.0, h.1)
 
 -- one more variable and one more clause
-pub selected-laws : (p : ProblemState) (c : List Lit) → IsProblem p → AreLitsOf (p.vars + 1) c → IsProblem (with_selected p c)
+pub selected-laws : (p : ProblemState) (c : List Lit) → IsProblem p → AreLitsOf (p.vars + 1) c
+    → IsProblem (with_selected p c)
 selected-laws p c h lits =
     let m : ℕ = p.vars in
     let n : ℕ = p.vars + 1 in
@@ -42,7 +46,8 @@ selected-laws p c h lits =
     record {
       atoms = let x : length p.atoms ≤ p.vars = h.atoms in omega (arith, x);
       gates = All-weaker (IsGateOf m) (IsGateOf n) (gate-wider m n le) p.gates h.gates;
-      clauses = All-push (AreLitsOf n) p.clauses c (All-weaker (AreLitsOf m) (AreLitsOf n) (lits-wider m n le) p.clauses h.clauses) lits;
+      clauses = All-push (AreLitsOf n) p.clauses c (All-weaker (AreLitsOf m) (AreLitsOf n) (lits-wider m n le) p.clauses
+          h.clauses) lits;
       sums = All-weaker (IsSumOf m) (IsSumOf n) (sum-wider m n le) p.sums h.sums;
       terms = All-weaker (IsTermOf m) (IsTermOf n) (term-wider m n le) p.terms h.terms;
       bounds = All-weaker (IsBoundOf m p.terms) (IsBoundOf n p.terms) (bound-wider m n p.terms le) p.bounds h.bounds;
@@ -51,13 +56,22 @@ selected-laws p c h lits =
 
 -- one more selector is retired
 pub retired-laws : (p : ProblemState) (l : Lit) → IsProblem p → IsLitOf p.vars l → IsProblem (with_retired p l)
-retired-laws p l h lit = record { atoms = h.atoms; gates = h.gates; clauses = h.clauses; sums = h.sums; terms = h.terms; bounds = h.bounds; retired = All-push (IsLitOf p.vars) p.retired l h.retired lit }
+retired-laws p l h lit = record {
+  atoms = h.atoms;
+  gates = h.gates;
+  clauses = h.clauses;
+  sums = h.sums;
+  terms = h.terms;
+  bounds = h.bounds;
+  retired = All-push (IsLitOf p.vars) p.retired l h.retired lit;
+}
 
 none-append : {X : Type 0} (xs ys : List X) → xs ≡ [] → ys ≡ [] → xs ++ ys ≡ []
 none-append xs ys e f = ap (λ zs. zs ++ ys) e ∙ f
 
 -- a bound is one on more terms, too
-bound-more : (m n : ℕ) (terms more : List GroundTerm) → m ≤ n → (b : TermBound) → IsBoundOf m terms b → IsBoundOf n (terms ++ more) b
+bound-more : (m n : ℕ) (terms more : List GroundTerm) → m ≤ n → (b : TermBound) → IsBoundOf m terms b
+    → IsBoundOf n (terms ++ more) b
 bound-more m n terms more le b h =
     let len : length (terms ++ more) ≡ length terms + length more = length-append terms more in
     let lt : b.term < length terms = h.1 in
@@ -79,22 +93,38 @@ module _ (p q : ProblemState) (sums : p.sums ≡ []) (more-sums : q.sums ≡ [])
   pub joined-laws : IsProblem p → IsProblem q → CanJoin p q → IsProblem (joined_problem p q)
   joined-laws a b can = record {
     atoms = atoms-fit a.atoms b.atoms can;
-    gates = All-append (IsGateOf q.vars) p.gates q.gates (All-weaker (IsGateOf p.vars) (IsGateOf q.vars) (gate-wider p.vars q.vars can.vars) p.gates a.gates) b.gates;
-    clauses = All-append (AreLitsOf q.vars) p.clauses q.clauses (All-weaker (AreLitsOf p.vars) (AreLitsOf q.vars) (lits-wider p.vars q.vars can.vars) p.clauses a.clauses) b.clauses;
+    gates = All-append (IsGateOf q.vars) p.gates q.gates (All-weaker (IsGateOf p.vars) (IsGateOf q.vars)
+        (gate-wider p.vars q.vars can.vars) p.gates a.gates) b.gates;
+    clauses = All-append (AreLitsOf q.vars) p.clauses q.clauses (All-weaker (AreLitsOf p.vars) (AreLitsOf q.vars)
+        (lits-wider p.vars q.vars can.vars) p.clauses a.clauses) b.clauses;
     sums = subst (All (IsSumOf q.vars)) (sym joined-sums) (All-nil (IsSumOf q.vars));
-    terms = All-append (IsTermOf q.vars) p.terms q.terms (All-weaker (IsTermOf p.vars) (IsTermOf q.vars) (term-wider p.vars q.vars can.vars) p.terms a.terms) b.terms;
+    terms = All-append (IsTermOf q.vars) p.terms q.terms (All-weaker (IsTermOf p.vars) (IsTermOf q.vars)
+        (term-wider p.vars q.vars can.vars) p.terms a.terms) b.terms;
     bounds = All-append (IsBoundOf q.vars (p.terms ++ q.terms)) p.bounds q.bounds
-        (All-weaker (IsBoundOf p.vars p.terms) (IsBoundOf q.vars (p.terms ++ q.terms)) (bound-more p.vars q.vars p.terms q.terms can.vars) p.bounds a.bounds)
-        (subst (All (IsBoundOf q.vars (p.terms ++ q.terms))) (sym more-bounds) (All-nil (IsBoundOf q.vars (p.terms ++ q.terms))));
+        (All-weaker (IsBoundOf p.vars p.terms) (IsBoundOf q.vars (p.terms ++ q.terms))
+        (bound-more p.vars q.vars p.terms q.terms can.vars) p.bounds a.bounds)
+        (subst (All (IsBoundOf q.vars (p.terms ++ q.terms))) (sym more-bounds)
+        (All-nil (IsBoundOf q.vars (p.terms ++ q.terms))));
     retired = lits-wider p.vars q.vars can.vars p.retired a.retired;
   }
 
 -- what both say, where the second has no sums and no bounds
 abbrev pub kept_both : ProblemState → ProblemState → ProblemState
-kept_both p q = record { atoms = p.atoms ++ q.atoms; vars = q.vars; gates = p.gates ++ q.gates; clauses = p.clauses ++ q.clauses; sums = p.sums; terms = p.terms ++ q.terms; bounds = p.bounds; retired = p.retired }
+kept_both p q = record {
+  atoms = p.atoms ++ q.atoms;
+  vars = q.vars;
+  gates = p.gates ++ q.gates;
+  clauses =
+      p.clauses ++ q.clauses;
+  sums = p.sums;
+  terms = p.terms ++ q.terms;
+  bounds = p.bounds;
+  retired = p.retired;
+}
 
 pub same-both : (p q : ProblemState) → q.sums ≡ [] → q.bounds ≡ [] → joined_problem p q ≡ kept_both p q
 same-both p q sums bounds =
     let a : p.sums ++ q.sums ≡ p.sums = ap (λ (xs : List AggCon). p.sums ++ xs) sums ∙ append-nil p.sums in
-    let b : p.bounds ++ q.bounds ≡ p.bounds = ap (λ (xs : List TermBound). p.bounds ++ xs) bounds ∙ append-nil p.bounds in
+    let b : p.bounds ++ q.bounds ≡ p.bounds = ap (λ (xs : List TermBound). p.bounds ++ xs) bounds
+    ∙ append-nil p.bounds in
     rw (a, b) refl

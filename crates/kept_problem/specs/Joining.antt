@@ -16,7 +16,8 @@ joined_problem p q = record {
   retired = p.retired;
 }
 
--- the second problem has all variables of the first and no retired selectors, and names no atoms and terms unless the first has no variables
+-- the second problem has all variables of the first and no retired selectors, and names no atoms and terms unless the
+-- first has no variables
 pub record CanJoin (p q : ProblemState) : Type 0 where
   pub vars : p.vars ≤ q.vars
   pub retired : q.retired ≡ []

@@ -7,7 +7,16 @@ use Rattle.kept_problem.specs.Selectors.{AreSelectors}
 
 -- constraints on sums are not kept yet
 abbrev pub state_of : Inside → ProblemState
-state_of p = record { atoms = p.atoms.items; vars = p.vars; gates = p.gates.items; clauses = p.clauses.items; sums = []; terms = p.terms.items; bounds = p.bounds.items; retired = p.retired.items }
+state_of p = record {
+  atoms = p.atoms.items;
+  vars = p.vars;
+  gates = p.gates.items;
+  clauses = p.clauses.items;
+  sums = [];
+  terms = p.terms.items;
+  bounds = p.bounds.items;
+  retired = p.retired.items;
+}
 
 pub record IsKept (p : Inside) : Type 0 where
   pub laws : IsProblem (state_of p)

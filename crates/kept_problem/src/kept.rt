@@ -1,5 +1,6 @@
 //! The problem that a solver keeps.
-ghost use Rattle.std.specs.Prelude.{◌≡◌, ◌≤◌, ◌<◌, ◌+◌, ◌++◌, ◌↔◌, [], length, slice_get, slice_index_or, Contains, IsTrue, IfOk, OnOk, OnErr, vec_len, vec_capacity};
+ghost use Rattle.std.specs.Prelude.{◌≡◌, ◌≤◌, ◌<◌, ◌+◌, ◌++◌, ◌↔◌, [], length, slice_get, slice_index_or, Contains};
+ghost use Rattle.std.specs.Prelude.{IsTrue, IfOk, OnOk, OnErr, vec_len, vec_capacity};
 ghost use Rattle.ground_core.specs.Problems.{AreLitsOf, IsProblem};
 ghost use Rattle.ground_core.specs.Moments.{moment_of};
 ghost use Rattle.ground_core.specs.Growth.{empty_problem, next_lit, with_bound};
@@ -13,7 +14,8 @@ use lit_core::{Clause, Lit, Var};
 use std::alloc::Global;
 use std::marker::Model;
 
-/// A problem of gates, clauses and bounds on terms, to which others are joined, and the selectors that are false for good.
+/// A problem of gates, clauses and bounds on terms, to which others are joined, and the selectors that are false for
+/// good.
 #[derive(Drop)]
 pub struct KeptProblem {
     atoms: Vec<Literal>,

@@ -1,5 +1,6 @@
 -- Which literals are one, and what a list of them contains.
-use Rattle.std.proofs.Common.{◌≡◌, ℕ, ◌<◌, zero, suc, Bool, true, false, not, List, [], ◌∷◌, length, get_or, refl, ap, ◌∙◌, ◌⊎◌, inl, inr, ⊎_elim, All, Contains, arith}
+use Rattle.std.proofs.Common.{◌≡◌, ℕ, ◌<◌, zero, suc, Bool, true, false, not, List, [], ◌∷◌, length, get_or, refl, ap}
+use Rattle.std.proofs.Common.{◌∙◌, ◌⊎◌, inl, inr, ⊎_elim, All, Contains, arith}
 use Rattle.std.proofs.lemmas.Bool.{cases_eq}
 use Rattle.std.proofs.lemmas.List.Elements.{All-nil, All-cons, All-head, All-tail}
 use Rattle.lit_core.specs.declared.literals.Lit.{Lit}
@@ -35,7 +36,8 @@ decide_sign false false = inl refl
 pub decide_literal : (l m : Lit) → (l ≡ m) ⊎ (l ≡ m → ⊥)
 decide_literal l m =
     ⊎_elim
-    (λ e. ⊎_elim (λ f. inl (same_literal l m e f)) (λ n. inr (λ x. n (ap (λ (y : Lit). y.positive) x))) (decide_sign l.positive m.positive))
+    (λ e. ⊎_elim (λ f. inl (same_literal l m e f)) (λ n. inr (λ x. n (ap (λ (y : Lit). y.positive) x)))
+    (decide_sign l.positive m.positive))
     (λ n. inr (λ x. n (ap (λ (y : Lit). y.var.0) x)))
     (cases_eq l.var.0 m.var.0)
 
@@ -63,7 +65,8 @@ decide_member [] l = inr (nothing_in_none l)
 decide_member (x ∷ xs) l =
     ⊎_elim
     (λ e. inl (0, omega arith, e))
-    (λ n. ⊎_elim (λ h. inl (Contains-tail x xs l h)) (λ m. inr (λ h. ⊎_elim n m (Contains-cons_cases x xs l h))) (decide_member xs l))
+    (λ n. ⊎_elim (λ h. inl (Contains-tail x xs l h)) (λ m. inr (λ h. ⊎_elim n m (Contains-cons_cases x xs l h)))
+    (decide_member xs l))
     (decide_literal x l)
 
 -- whether all literals of a list have a property that can be decided

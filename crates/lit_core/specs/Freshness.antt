@@ -22,7 +22,8 @@ pub record IsFreshAt (clauses : List (List Lit)) (c : List Lit) (l : Lit) : Type
   pub closed : IsClosedUnder clauses inforce
   pub opened : IsOpenUnder inforce l
 
--- the clause is fresh against these clauses: some literal of it does not follow from the negations of the others by unit
+-- the clause is fresh against these clauses: some literal of it does not follow from the negations of the others by
+-- unit
 -- propagation
 abbrev pub FreshAgainst : List (List Lit) → List Lit → Type 0
 FreshAgainst clauses c = (l : Lit) × IsFreshAt clauses c l
@@ -30,18 +31,21 @@ FreshAgainst clauses c = (l : Lit) × IsFreshAt clauses c l
 -- from the literals in force, the clauses give these one after another, each the one that a clause leaves open
 abbrev pub Derives : List (List Lit) → List Lit → List Lit → Type 0
 Derives clauses inforce [] = Unit {0}
-Derives clauses inforce (l ∷ ls) = ((c : List Lit) × Contains clauses c × IsUnitUnder inforce c l) × Derives clauses (inforce ++ l ∷ []) ls
+Derives clauses inforce (l ∷ ls) = ((c : List Lit) × Contains clauses c × IsUnitUnder inforce c l) × Derives clauses
+    (inforce ++ l ∷ []) ls
 
 -- the literals in force are the negations of the clause's literals other than this one
 pub record AreOthersNegated (c : List Lit) (l : Lit) (inforce : List Lit) : Type 0 where
   pub from : (m : Lit) → Contains inforce m → (k : Lit) × Contains c k × (k ≡ l → ⊥) × (m ≡ negated k)
   pub all : (k : Lit) → Contains c k → (k ≡ l) ⊎ Contains inforce (negated k)
 
--- with the other literals of the clause made false, whatever the clauses give, none of them gets false and this literal gets no value
+-- with the other literals of the clause made false, whatever the clauses give, none of them gets false and this literal
+-- gets no value
 pub record StaysOpenAt (clauses : List (List Lit)) (c : List Lit) (l : Lit) : Type 0 where
   pub member : Contains c l
   pub others : List Lit
   pub negated_others : AreOthersNegated c l others
   pub consistent : IsConsistent others
-  pub no_conflict : (given : List Lit) → Derives clauses others given → (d : List Lit) → Contains clauses d → IsFalseUnder (others ++ given) d → ⊥
+  pub no_conflict : (given : List Lit) → Derives clauses others given → (d : List Lit) → Contains clauses d
+      → IsFalseUnder (others ++ given) d → ⊥
   pub no_value : (given : List Lit) → Derives clauses others given → IsOpenUnder (others ++ given) l

@@ -1,4 +1,5 @@
-ghost use Rattle.std.specs.Prelude.{◌≡◌, ◌≤◌, ◌↔◌, ◌++◌, ◌∷◌, [], length, take, slice_get, IsTrue, IfOk, OnOk, OnErr, MatchOption, Option, Some};
+ghost use Rattle.std.specs.Prelude.{◌≡◌, ◌≤◌, ◌↔◌, ◌++◌, ◌∷◌, [], length, take, slice_get, IsTrue, IfOk, OnOk, OnErr};
+ghost use Rattle.std.specs.Prelude.{MatchOption, Option, Some};
 
 use crate::errors::Memory;
 use crate::literals::Lit;

@@ -1,4 +1,5 @@
-ghost use Rattle.std.specs.Prelude.{◌≡◌, ◌<◌, ◌-◌, ◌↔◌, ◌++◌, [], length, replicate, slice_set, None, Some, Option, IsTrue, IfOk, OnOk, OnErr, All};
+ghost use Rattle.std.specs.Prelude.{◌≡◌, ◌<◌, ◌-◌, ◌↔◌, ◌++◌, [], length, replicate, slice_set, None, Some, Option};
+ghost use Rattle.std.specs.Prelude.{IsTrue, IfOk, OnOk, OnErr, All};
 ghost use Rattle.lit_core.specs.Literals.{literal_value, valuation, value_in};
 ghost use Rattle.lit_core.specs.Truth.{IsSatisfied};
 

@@ -47,7 +47,10 @@ module _ (domains : List (List Elem)) where
 
   zero_and_seven : IsDomainOf domains (declared_as Nat []) numbers
   zero_and_seven = record {
-    distinct = (λ at. let same : 7 ≡ 0 = ap size (sole (Num (pos 7)) (Num (pos 0)) at) in absurd (omega (arith, same)), (λ at. none_in (Num (pos 7)) at, tt));
+    distinct = (
+      λ at. let same : 7 ≡ 0 = ap size (sole (Num (pos 7)) (Num (pos 0)) at) in absurd (omega (arith, same)),
+      (λ at. none_in (Num (pos 7)) at, tt),
+    );
     names = λ some. absurd (some refl);
     parent = ((0, refl), ((7, refl), tt));
     range = ((omega (arith, ints), omega (arith, ints)), ((omega (arith, ints), omega (arith, ints)), tt));
@@ -56,7 +59,10 @@ module _ (domains : List (List Elem)) where
 
   word_and_integer : IsDomainOf domains (declared_as Root []) (r ∷ Num (negsuc 2) ∷ [])
   word_and_integer = record {
-    distinct = (λ at. let same : 0 ≡ 114 = ap letter (sole (Num (negsuc 2)) r at) in absurd (omega (arith, same)), (λ at. none_in (Num (negsuc 2)) at, tt));
+    distinct = (
+      λ at. let same : 0 ≡ 114 = ap letter (sole (Num (negsuc 2)) r at) in absurd (omega (arith, same)),
+      (λ at. none_in (Num (negsuc 2)) at, tt),
+    );
     names = λ some. absurd (some refl);
     parent = (tt, (tt, tt));
     range = (tt, ((omega (arith, ints), omega (arith, ints)), tt));
@@ -80,10 +86,17 @@ below_zero k e = absurd cc
 
 pub domain_examples : DomainExamples
 domain_examples = record {
-  mixed = let all = with_last (r ∷ Num (negsuc 2) ∷ []) in (colors all, (zero_and_seven all, (seven (r ∷ Num (negsuc 2) ∷ []), (word_and_integer all, tt))));
-  empty = let all = (r ∷ g ∷ []) ∷ [] ∷ [] ∷ [] ∷ [] in (colors all, (nothing all Nat, (nothing all (Of 1), (nothing all Root, tt))));
+  mixed = let all = with_last (r ∷ Num (negsuc 2) ∷ []) in (
+    colors all,
+    (zero_and_seven all, (seven (r ∷ Num (negsuc 2) ∷ []), (word_and_integer all, tt))),
+  );
+  empty = let all = (r ∷ g ∷ []) ∷ [] ∷ [] ∷ [] ∷ [] in (
+    colors all,
+    (nothing all Nat, (nothing all (Of 1), (nothing all Root, tt))),
+  );
   too_few_lists = λ h. h.1.1.1;
-  names_in_another_order = λ h. let letters : 103 ≡ 114 = ap first_letter (h.0.names (λ none. absurd cc)) in absurd (omega (arith, letters));
+  names_in_another_order = λ h. let letters : 103 ≡ 114 = ap first_letter (h.0.names (λ none. absurd cc)) in
+      absurd (omega (arith, letters));
   negative_under_nat = λ h. below_zero h.1.0.parent.0.0 h.1.0.parent.0.1;
   word_under_nat = λ h. a_word (114 ∷ []) h.1.0.parent.0.0 h.1.0.parent.0.1;
   outside_its_parent = λ h. elim (member_cases (Num (pos 0)) (Num (pos 1)) (Num (pos 7) ∷ []) h.1.1.0.parent.0) [

@@ -3,8 +3,12 @@ use Rattle.std.proofs.Common.{List, [], ◌∷◌, ◌++◌}
 use Rattle.std.specs.List.{AllByRecursion}
 use Rattle.kb_logic.specs.declared.elements.Elem.{Elem}
 use Rattle.kb_logic.specs.declared.structures.Structure.{Structure}
-use Rattle.kb_logic.specs.Trees.{TermTree, variable, integer, constructed, application, summation, product, aggregate, TermTrees, no_terms, more_terms, FormulaTree, verum, falsum, atom, comparison, negation, conjunction, disjunction, implication, equivalence, universal, existential, numbered, FormulaTrees, no_formulas, more_formulas}
-use Rattle.kb_logic.specs.Arithmetic.{TermFits, TermsFit, ArithmeticFits, AllFit, IsPlainTerm, ArePlainTerms, HasNoArithmetic, HaveNoArithmetic}
+use Rattle.kb_logic.specs.Trees.{TermTree, variable, integer, constructed, application, summation, product, aggregate}
+use Rattle.kb_logic.specs.Trees.{TermTrees, no_terms, more_terms, FormulaTree, verum, falsum, atom, comparison}
+use Rattle.kb_logic.specs.Trees.{negation, conjunction, disjunction, implication, equivalence, universal, existential}
+use Rattle.kb_logic.specs.Trees.{numbered, FormulaTrees, no_formulas, more_formulas}
+use Rattle.kb_logic.specs.Arithmetic.{TermFits, TermsFit, ArithmeticFits, AllFit, IsPlainTerm, ArePlainTerms}
+use Rattle.kb_logic.specs.Arithmetic.{HasNoArithmetic, HaveNoArithmetic}
 use Rattle.kb_logic.specs.Meaning.{assignments}
 
 all_hold : (P : List Elem → Type 0) (as' : List (List Elem)) → ((a : List Elem) → P a) → AllByRecursion P as'
@@ -36,9 +40,12 @@ mutual
   no_arithmetic_fits m (disjunction fs) e h = none_fit m fs e h
   no_arithmetic_fits m (implication f g) e h = (no_arithmetic_fits m f e h.0, no_arithmetic_fits m g e h.1)
   no_arithmetic_fits m (equivalence f g) e h = (no_arithmetic_fits m f e h.0, no_arithmetic_fits m g e h.1)
-  no_arithmetic_fits m (universal bs f) e h = all_hold (λ a. ArithmeticFits m f (e ++ a)) (assignments m bs) (λ a. no_arithmetic_fits m f (e ++ a) h)
-  no_arithmetic_fits m (existential bs f) e h = all_hold (λ a. ArithmeticFits m f (e ++ a)) (assignments m bs) (λ a. no_arithmetic_fits m f (e ++ a) h)
-  no_arithmetic_fits m (numbered c n bs f) e h = all_hold (λ a. ArithmeticFits m f (e ++ a)) (assignments m bs) (λ a. no_arithmetic_fits m f (e ++ a) h)
+  no_arithmetic_fits m (universal bs f) e h = all_hold (λ a. ArithmeticFits m f (e ++ a)) (assignments m bs)
+      (λ a. no_arithmetic_fits m f (e ++ a) h)
+  no_arithmetic_fits m (existential bs f) e h = all_hold (λ a. ArithmeticFits m f (e ++ a)) (assignments m bs)
+      (λ a. no_arithmetic_fits m f (e ++ a) h)
+  no_arithmetic_fits m (numbered c n bs f) e h = all_hold (λ a. ArithmeticFits m f (e ++ a)) (assignments m bs)
+      (λ a. no_arithmetic_fits m f (e ++ a) h)
 
   none_fit : (m : Structure) (fs : FormulaTrees) (e : List Elem) → HaveNoArithmetic fs → AllFit m fs e
   none_fit m no_formulas e h = h

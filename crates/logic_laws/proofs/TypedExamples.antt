@@ -1,11 +1,14 @@
 -- What is well typed, worked out.
-use Rattle.std.proofs.Common.{◌≡◌, ◌<◌, ℕ, ℤ, pos, [], ◌∷◌, length, false, Some, None, refl, sym, ap, ◌∙◌, subst, arith, inl, inr, slice_get}
+use Rattle.std.proofs.Common.{◌≡◌, ◌<◌, ℕ, ℤ, pos, [], ◌∷◌, length, false, Some, None, refl, sym, ap, ◌∙◌, subst, arith}
+use Rattle.std.proofs.Common.{inl, inr, slice_get}
 use Rattle.kb_logic.specs.declared.vocabularies.Parent.{Parent}
 use Rattle.kb_logic.specs.declared.vocabularies.Parent.TheVariants.{Root, Nat, Of}
 use Rattle.kb_logic.specs.declared.vocabularies.TypeDecl.{TypeDecl}
 use Rattle.kb_logic.specs.declared.vocabularies.Symbol.{Symbol}
-use Rattle.kb_logic.specs.Trees.{variable, application, summation, TermTrees, more_terms, more_summands, no_summands, atom}
-use Rattle.kb_logic.specs.Typing.{IsBelow, itself, under, IsNumberParent, IsNumberType, AreAkin, IsIntegerSuch, TermIsTyped, ArgumentsAreTyped, PlacesAreTyped, FormulaIsTyped}
+use Rattle.kb_logic.specs.Trees.{variable, application, summation, TermTrees, more_terms, more_summands, no_summands}
+use Rattle.kb_logic.specs.Trees.{atom}
+use Rattle.kb_logic.specs.Typing.{IsBelow, itself, under, IsNumberParent, IsNumberType, AreAkin, IsIntegerSuch}
+use Rattle.kb_logic.specs.Typing.{TermIsTyped, ArgumentsAreTyped, PlacesAreTyped, FormulaIsTyped}
 use Rattle.logic_laws.specs.TypingExamples.{words, TypingExamples, one_term, name, c_}
 use Rattle.kb_logic.proofs.Atoms.{some_same}
 
@@ -34,7 +37,8 @@ no_parent : (p : ℕ) → Root ≡ Of p → ⊥
 no_parent p h = absurd cc
 
 -- a type without a parent is below itself alone
-alone : (t u : ℕ) (d : TypeDecl) → slice_get words.types t ≡ Some d → ((p : ℕ) → d.parent ≡ Of p → ⊥) → IsBelow words t u → t ≡ u
+alone : (t u : ℕ) (d : TypeDecl) → slice_get words.types t ≡ Some d → ((p : ℕ) → d.parent ≡ Of p → ⊥)
+    → IsBelow words t u → t ≡ u
 alone t u d at root (itself w) = refl
 alone t u d at root (under a p b e declared parent below) =
     let same : d ≡ e = same_type d e (sym at ∙ declared) in
@@ -84,8 +88,10 @@ name_typed = (names, refl, omega arith)
 places : (ts : TermTrees) → FormulaIsTyped words Asked (atom 0 ts) [] → PlacesAreTyped words Asked ts (1 ∷ []) []
 places ts h = subst (λ (t : Symbol). PlacesAreTyped words Asked ts t.args []) (sym (some_same p_symbol h.0 h.1)) h.3
 
-arguments : (ts : TermTrees) → TermIsTyped words Asked (application 1 ts) [] → ArgumentsAreTyped words Asked ts (1 ∷ []) []
-arguments ts h = subst (λ (t : Symbol). ArgumentsAreTyped words Asked ts t.args []) (sym (some_same f_symbol h.0 h.1)) h.3
+arguments : (ts : TermTrees) → TermIsTyped words Asked (application 1 ts) []
+    → ArgumentsAreTyped words Asked ts (1 ∷ []) []
+arguments ts h = subst (λ (t : Symbol). ArgumentsAreTyped words Asked ts t.args [])
+    (sym (some_same f_symbol h.0 h.1)) h.3
 
 name_no_literal : IsIntegerSuch (Asked 1) name → ⊥
 name_no_literal (z, inl plain) = let e = plain.0 in absurd cc
@@ -96,7 +102,8 @@ sum_no_literal (z, inl plain) = let e = plain.0 in absurd cc
 sum_no_literal (z, inr minus) = let e = minus.0 in absurd cc
 
 no_name : (d : TypeDecl) → names ≡ d → 2 < length d.made → ⊥
-no_name d same h = let two : 2 < 2 = subst (λ (x : TypeDecl). 2 < length x.made) (sym same) h in absurd (omega (arith, two))
+no_name d same h = let two : 2 < 2 = subst (λ (x : TypeDecl). 2 < length x.made) (sym same) h in
+    absurd (omega (arith, two))
 
 some_none : (n : ℕ) → Some n ≡ None → ⊥
 some_none n h = absurd cc
@@ -107,11 +114,18 @@ function_value d same h = some_none 0 (ap (λ (t : Symbol). t.value) same ∙ h)
 pub typing_examples : TypingExamples
 typing_examples = record {
   subtype = ((f_symbol, refl, refl, (c_typed, inl below_number, tt)), name_typed, inr (0, itself 0, itself 0));
-  literal = ((f_symbol, refl, refl, ((tt, tt, tt), inr (pos 3, inr (refl, is_number)), tt)), name_typed, inr (0, itself 0, itself 0));
+  literal = (
+    (f_symbol, refl, refl, ((tt, tt, tt), inr (pos 3, inr (refl, is_number)), tt)),
+    name_typed,
+    inr (0, itself 0, itself 0),
+  );
   akin = ((omega arith, tt), (p_symbol, refl, refl, ((2, refl), inl (small_is_number, is_number), tt)));
   ordered = (c_typed, tt, (small_is_number, tt));
-  name_for_number = λ h. elim ((arguments (one_term name) h.0).1) [ inl below ↦ names_are_not_below below | inr literal ↦ name_no_literal literal ];
-  sum_for_argument = λ h. elim ((arguments (one_term (summation (more_summands false c_ (more_summands false c_ no_summands)))) h.0).1) [ inl below ↦ below | inr literal ↦ sum_no_literal literal ];
+  name_for_number = λ h. elim ((arguments (one_term name) h.0).1)
+      [ inl below ↦ names_are_not_below below | inr literal ↦ name_no_literal literal ];
+  sum_for_argument = λ h. elim ((arguments (one_term (summation
+      (more_summands false c_ (more_summands false c_ no_summands)))) h.0).1)
+      [ inl below ↦ below | inr literal ↦ sum_no_literal literal ];
   not_akin = λ h. names_are_not_akin ((places (one_term name) h).1);
   names_in_order = λ h. names_are_no_numbers h.2.0;
   no_such_name = λ h. no_name h.1.0 (same_type names h.1.0 h.1.1) h.1.2;

@@ -1,5 +1,6 @@
 -- Whether an atom is derived, as a test, and worked examples of models of definitions.
-use Rattle.std.specs.Prelude.{◌≡◌, ◌↔◌, ℕ, pos, List, [], ◌∷◌, map, Bool, true, false, ◌&&◌, ◌==◌, Option, Some, None, option_map, IsTrue}
+use Rattle.std.specs.Prelude.{◌≡◌, ◌↔◌, ℕ, pos, List, [], ◌∷◌, map, Bool, true, false, ◌&&◌, ◌==◌, Option, Some, None}
+use Rattle.std.specs.Prelude.{option_map, IsTrue}
 use Rattle.std.specs.List.{list_any}
 use Rattle.kb_logic.specs.declared.elements.Elem.{Elem}
 use Rattle.kb_logic.specs.declared.elements.Elem.TheVariants.{Num}
@@ -8,7 +9,8 @@ use Rattle.kb_logic.specs.declared.vocabularies.Symbol.{Symbol}
 use Rattle.kb_logic.specs.declared.vocabularies.Vocabulary.{Vocabulary}
 use Rattle.kb_logic.specs.declared.structures.Table.{Table}
 use Rattle.kb_logic.specs.declared.structures.Structure.{Structure}
-use Rattle.kb_logic.specs.Trees.{TermTree, variable, integer, FormulaTree, verum, atom, no_terms, terms_of, RuleTree, DefinitionTree}
+use Rattle.kb_logic.specs.Trees.{TermTree, variable, integer, FormulaTree, verum, atom, no_terms, terms_of, RuleTree}
+use Rattle.kb_logic.specs.Trees.{DefinitionTree}
 use Rattle.kb_logic.specs.Denotations.{Denotation, denotation_of, same_value}
 use Rattle.kb_logic.specs.Meaning.{assignments, value_of, values_of, truth_of}
 use Rattle.kb_logic.specs.Models.{GroundAtom, IsDerived, ModelOfDefinition}
@@ -52,14 +54,27 @@ proposition = record { name = []; args = []; value = None }
 -- p, q and o are the propositions 0, 1 and 2; f is the function 3 from type 0, which has 1 and 2, to itself; type 1 is
 -- empty
 abbrev pub words : Vocabulary
-words = record { name = []; types = []; symbols = proposition ∷ proposition ∷ proposition ∷ record { name = []; args = 0 ∷ []; value = Some 0 } ∷ [] }
+words = record {
+  name = [];
+  types = [];
+  symbols = proposition ∷ proposition ∷ proposition ∷ record {
+    name = [];
+    args =
+        0 ∷ [];
+    value = Some 0;
+  } ∷ [];
+}
 
 abbrev table : ℕ → List (List Elem) → Table
 table s rows = record { symbol = s; rows = rows }
 
 -- the structure with these rows of p, q, o and f; a proposition is true by the empty row
 abbrev pub world : List (List Elem) → List (List Elem) → List (List Elem) → List (List Elem) → Structure
-world p q o f = record { domains = (one ∷ two ∷ []) ∷ [] ∷ []; relations = table 0 p ∷ table 1 q ∷ table 2 o ∷ []; functions = table 3 f ∷ [] }
+world p q o f = record {
+  domains = (one ∷ two ∷ []) ∷ [] ∷ [];
+  relations = table 0 p ∷ table 1 q ∷ table 2 o ∷ [];
+  functions = table 3 f ∷ [];
+}
 
 abbrev pub yes : List (List Elem)
 yes = [] ∷ []
@@ -104,10 +119,12 @@ pub record DefinitionExamples : Type 0 where
   pub model : ModelOfDefinition words (world yes yes [] constant_one) p_if_q
   pub not_closed : ModelOfDefinition words (world [] yes [] constant_one) p_if_q → ⊥
   pub not_founded : ModelOfDefinition words (world yes [] [] constant_one) p_if_q → ⊥
-  pub second_rule : is_derived (world [] [] yes constant_one) (rules (p_if [] (said 1) ∷ p_if [] (said 2) ∷ [])) p_holds ≡ true
+  pub second_rule : is_derived (world [] [] yes constant_one) (rules (p_if [] (said 1) ∷ p_if [] (said 2) ∷ []))
+      p_holds ≡ true
   pub fact : is_derived (world [] [] [] constant_one) (rules (p_if [] verum ∷ [])) p_holds ≡ true
   pub some_instance : is_derived (world [] [] [] constant_one) (rules (p_if (of_type 0) verum ∷ [])) p_holds ≡ true
   pub empty_type : is_derived (world [] [] [] constant_one) (rules (p_if (of_type 1) verum ∷ [])) p_holds ≡ false
-  pub value_outside : (is_derived (world [] [] [] constant_one) (rules (f_is (integer (pos 3)) ∷ [])) (f_at_one one) ≡ false)
+  pub value_outside : (is_derived (world [] [] [] constant_one) (rules (f_is (integer (pos 3)) ∷ []))
+      (f_at_one one) ≡ false)
       × (is_derived (world [] [] [] constant_one) (rules (f_is (integer (pos 3)) ∷ [])) (f_at_one two) ≡ false)
   pub two_values : ModelOfDefinition words (world [] [] [] constant_one) both_values → ⊥

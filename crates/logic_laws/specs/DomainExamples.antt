@@ -15,7 +15,8 @@ declared_as parent made = record { name = []; parent = parent; made = made }
 abbrev pub four_types : Vocabulary
 four_types = record {
   name = [];
-  types = declared_as Root ((114 ∷ []) ∷ (103 ∷ []) ∷ []) ∷ declared_as Nat [] ∷ declared_as (Of 1) [] ∷ declared_as Root [] ∷ [];
+  types = declared_as Root ((114 ∷ []) ∷ (103 ∷ []) ∷ []) ∷ declared_as Nat [] ∷ declared_as (Of 1)
+      [] ∷ declared_as Root [] ∷ [];
   symbols = [];
 }
 

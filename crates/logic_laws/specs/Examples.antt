@@ -8,7 +8,11 @@ use Rattle.kb_logic.specs.declared.vocabularies.Vocabulary.{Vocabulary}
 use Rattle.kb_logic.specs.declared.structures.Structure.{Structure}
 use Rattle.kb_logic.specs.declared.syntax.Cmp.TheVariants as cmp
 use Rattle.kb_logic.specs.declared.syntax.AggKind.TheVariants as kind
-use Rattle.kb_logic.specs.Trees.{TermTree, variable, integer, constructed, application, summation, product, aggregate, no_terms, more_terms, no_summands, more_summands, FormulaTree, verum, falsum, atom, comparison, negation, conjunction, disjunction, implication, equivalence, universal, existential, numbered, no_formulas, more_formulas, RuleTree, DefinitionTree, TheoryTree}
+use Rattle.kb_logic.specs.Trees.{TermTree, variable, integer, constructed, application, summation, product, aggregate}
+use Rattle.kb_logic.specs.Trees.{no_terms, more_terms, no_summands, more_summands, FormulaTree, verum, falsum, atom}
+use Rattle.kb_logic.specs.Trees.{comparison, negation, conjunction, disjunction, implication, equivalence, universal}
+use Rattle.kb_logic.specs.Trees.{existential, numbered, no_formulas, more_formulas, RuleTree, DefinitionTree}
+use Rattle.kb_logic.specs.Trees.{TheoryTree}
 use Rattle.kb_logic.specs.Denotations.{Denotation, number, minus_infinity, plus_infinity, undefined}
 use Rattle.kb_logic.specs.Meaning.{value_of, truth_of}
 use Rattle.kb_logic.specs.Bounds.{Interval, bounds_of, width_of}
@@ -85,7 +89,8 @@ Atoms =
     × (is_true (comparison cmp.Le (integer (negsuc 0)) (integer (pos 0))) ≡ true)
     × (is_true (comparison cmp.Ne (weight (integer (pos 1))) (weight (integer (pos 2)))) ≡ false)
 
--- quantifiers: over three numbers, over nothing, nested over types of different sizes, and with a variable that hides another
+-- quantifiers: over three numbers, over nothing, nested over types of different sizes, and with a variable that hides
+-- another
 abbrev pub Quantifiers : Type 0
 Quantifiers =
     (is_true (universal (over 0) (small x)) ≡ false)
@@ -103,11 +108,14 @@ Quantifiers =
 -- arithmetic: 2 - 5, 2 * 5 * -1, and a sum with a letter
 abbrev pub Arithmetic : Type 0
 Arithmetic =
-    (value (summation (more_summands false (integer (pos 2)) (more_summands true (weight (integer (pos 3))) no_summands))) ≡ number (negsuc 2))
-    × (value (product (more_terms (integer (pos 2)) (more_terms (weight (integer (pos 3))) (more_terms (integer (negsuc 0)) no_terms)))) ≡ number (negsuc 9))
+    (value (summation (more_summands false (integer (pos 2)) (more_summands true (weight (integer (pos 3)))
+    no_summands))) ≡ number (negsuc 2))
+    × (value (product (more_terms (integer (pos 2)) (more_terms (weight (integer (pos 3)))
+    (more_terms (integer (negsuc 0)) no_terms)))) ≡ number (negsuc 9))
     × (value (summation (more_summands false (constructed 2 0) no_summands)) ≡ undefined)
 
--- aggregates: the two small numbers both weigh 2; over nothing a count and a sum are 0, and a minimum and a maximum infinite
+-- aggregates: the two small numbers both weigh 2; over nothing a count and a sum are 0, and a minimum and a maximum
+-- infinite
 abbrev pub Aggregates : Type 0
 Aggregates =
     (value (aggregate kind.Count (over 0) (small x) (integer (pos 1))) ≡ number (pos 2))
@@ -118,15 +126,18 @@ Aggregates =
     × (value (aggregate kind.Sum (over 1) verum x) ≡ number (pos 0))
     × (value (aggregate kind.Min (over 1) verum x) ≡ plus_infinity)
     × (value (aggregate kind.Max (over 0) falsum (weight x)) ≡ minus_infinity)
-    × (is_true (universal (over 0) (comparison cmp.Le (aggregate kind.Count (over 0) (comparison cmp.Lt y x) (integer (pos 1))) x)) ≡ true)
+    × (is_true (universal (over 0) (comparison cmp.Le (aggregate kind.Count (over 0) (comparison cmp.Lt y x)
+    (integer (pos 1))) x)) ≡ true)
 
 -- integers at the ends of 64 bits, and beside infinite values
 abbrev pub Ends : Type 0
 Ends =
     (is_true (comparison cmp.Lt (integer (pos 9223372036854775807)) (aggregate kind.Min (over 1) verum x)) ≡ true)
     × (is_true (comparison cmp.Lt (aggregate kind.Max (over 1) verum x) (integer (negsuc 9223372036854775807))) ≡ true)
-    × (value (summation (more_summands false (integer (pos 9223372036854775807)) (more_summands true (integer (pos 1)) no_summands))) ≡ number (pos 9223372036854775806))
-    × (value (summation (more_summands true (integer (pos 1000000000000000)) no_summands)) ≡ number (negsuc 999999999999999))
+    × (value (summation (more_summands false (integer (pos 9223372036854775807))
+    (more_summands true (integer (pos 1)) no_summands))) ≡ number (pos 9223372036854775806))
+    × (value (summation (more_summands true (integer (pos 1000000000000000)) no_summands))
+    ≡ number (negsuc 999999999999999))
 
 abbrev symbol : Option ℕ → Symbol
 symbol value = record { name = []; args = 0 ∷ []; value = value }
@@ -143,7 +154,14 @@ from_to low high = record { low = low; high = high }
 
 -- `small(x) <- weight(x) = 2`
 abbrev rule : RuleTree
-rule = record { vars = over 0; symbol = 0; args = x ∷ []; value = None; body = comparison cmp.Eq (weight x) (integer (pos 2)) }
+rule = record {
+  vars = over 0;
+  symbol = 0;
+  args = x ∷ [];
+  value = None;
+  body =
+      comparison cmp.Eq (weight x) (integer (pos 2));
+}
 
 -- `!x: small(x).`
 abbrev theory : TheoryTree
@@ -158,9 +176,11 @@ abbrev valued_rule : RuleTree
 valued_rule = record { vars = over 0; symbol = 1; args = x ∷ []; value = Some (integer (pos 2)); body = small x }
 
 abbrev weight_with : List FormulaTree → List DefinitionTree → List TermTree → ℕ
-weight_with sentences definitions terms = weight_of words sample.domains (record { sentences = sentences; definitions = definitions }) terms
+weight_with sentences definitions terms = weight_of words sample.domains
+    (record { sentences = sentences; definitions = definitions }) terms
 
--- the weight of an aggregate with an application in its weight, of an application in another, of a number quantifier, of a
+-- the weight of an aggregate with an application in its weight, of an application in another, of a number quantifier,
+-- of a
 -- definition of a function, of a term that may be asked for, and of a count
 abbrev pub Weights : Type 0
 Weights =
@@ -171,12 +191,15 @@ Weights =
     × (weight_with [] [] (weight (integer (pos 1)) ∷ []) ≡ 24)
     × (weight_with [] [] (aggregate kind.Count (over 0) (small x) (integer (pos 1)) ∷ []) ≡ 40)
 
--- static bounds, a width, ground atoms (3 of small and 9 of weight), the occurrences of a rule, and the weight of a theory
+-- static bounds, a width, ground atoms (3 of small and 9 of weight), the occurrences of a rule, and the weight of a
+-- theory
 abbrev pub Sizes : Type 0
 Sizes =
     (bounds (weight (integer (pos 1))) ≡ from_to (pos 1) (pos 3))
-    × (bounds (summation (more_summands false (integer (pos 2)) (more_summands true (weight (integer (pos 1))) no_summands))) ≡ from_to (negsuc 0) (pos 1))
-    × (bounds (product (more_terms (weight (integer (pos 1))) (more_terms (integer (negsuc 1)) no_terms))) ≡ from_to (negsuc 5) (negsuc 1))
+    × (bounds (summation (more_summands false (integer (pos 2))
+    (more_summands true (weight (integer (pos 1))) no_summands))) ≡ from_to (negsuc 0) (pos 1))
+    × (bounds (product (more_terms (weight (integer (pos 1))) (more_terms (integer (negsuc 1)) no_terms)))
+    ≡ from_to (negsuc 5) (negsuc 1))
     × (bounds (aggregate kind.Count (over 0) (small x) (integer (pos 1))) ≡ from_to (pos 0) (pos 3))
     × (bounds (aggregate kind.Sum (over 0) (small x) (weight x)) ≡ from_to (pos 0) (pos 9))
     × (bounds (aggregate kind.Min (over 0) (small x) (weight x)) ≡ from_to (pos 1) (pos 3))

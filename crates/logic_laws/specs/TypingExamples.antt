@@ -6,7 +6,8 @@ use Rattle.kb_logic.specs.declared.vocabularies.Parent.TheVariants.{Root, Nat, O
 use Rattle.kb_logic.specs.declared.vocabularies.TypeDecl.{TypeDecl}
 use Rattle.kb_logic.specs.declared.vocabularies.Symbol.{Symbol}
 use Rattle.kb_logic.specs.declared.vocabularies.Vocabulary.{Vocabulary}
-use Rattle.kb_logic.specs.Trees.{TermTree, variable, integer, constructed, application, summation, TermTrees, no_terms, more_terms, no_summands, more_summands, FormulaTree, atom, comparison, universal}
+use Rattle.kb_logic.specs.Trees.{TermTree, variable, integer, constructed, application, summation, TermTrees, no_terms}
+use Rattle.kb_logic.specs.Trees.{more_terms, no_summands, more_summands, FormulaTree, atom, comparison, universal}
 use Rattle.kb_logic.specs.Typing.{IsWellTyped}
 
 abbrev declared_as : Parent → List (List ℕ) → TypeDecl
@@ -55,7 +56,8 @@ pub record TypingExamples : Type 0 where
   pub akin : IsTyped (universal (record { name = []; ty = 2 } ∷ []) (p_of (variable 0)))
   pub ordered : IsTyped (comparison cmp.Lt c_ (integer (pos 3)))
   pub name_for_number : IsNotTyped (comparison cmp.Eq (f_of name) name)
-  pub sum_for_argument : IsNotTyped (comparison cmp.Eq (f_of (summation (more_summands false c_ (more_summands false c_ no_summands)))) name)
+  pub sum_for_argument : IsNotTyped (comparison cmp.Eq (f_of (summation
+      (more_summands false c_ (more_summands false c_ no_summands)))) name)
   pub not_akin : IsNotTyped (p_of name)
   pub names_in_order : IsNotTyped (comparison cmp.Lt name (integer (pos 3)))
   pub no_such_name : IsNotTyped (comparison cmp.Eq name (constructed 0 2))

@@ -5,7 +5,9 @@ ghost use Rattle.logic_laws.specs.Derivations.{DerivedIsDecided, DefinitionExamp
 ghost use Rattle.logic_laws.specs.DomainExamples.{DomainExamples};
 ghost use Rattle.logic_laws.specs.Examples.{WorkedExamples};
 ghost use Rattle.logic_laws.specs.TypingExamples.{TypingExamples};
-ghost use Rattle.kb_logic.specs.Laws.{EveryIsForAll, SomeIsThereIs, NumberComparesCount, AssignmentsAreChoices, AssignmentsAreDistinct, AggregateIsOverAssignments, CountIsLength, SumAddsEach, LeastIsAttained, GreatestIsAttained, AtomIsMembership, AtomIsInItsTypes};
+ghost use Rattle.kb_logic.specs.Laws.{EveryIsForAll, SomeIsThereIs, NumberComparesCount, AssignmentsAreChoices};
+ghost use Rattle.kb_logic.specs.Laws.{AssignmentsAreDistinct, AggregateIsOverAssignments, CountIsLength, SumAddsEach};
+ghost use Rattle.kb_logic.specs.Laws.{LeastIsAttained, GreatestIsAttained, AtomIsMembership, AtomIsInItsTypes};
 
 /// A formula without sums, products and aggregates meets the condition of `truth` in every structure.
 pub fn no_arithmetic_fits()

@@ -31,7 +31,8 @@ const SMALL: [Case; 7] = [
     (Prefix::Exactly(6), [2, 0], 1, true),
 ];
 
-/// 64 variables over two integers and one over nothing: no assignment, though a `u64` cannot count those of the first 64.
+/// 64 variables over two integers and one over nothing: no assignment, though a `u64` cannot count those of the first
+/// 64.
 const NO_ASSIGNMENT: [Case; 4] = [
     (Prefix::Every, [64, 1], 0, true),
     (Prefix::Some, [64, 1], 0, false),

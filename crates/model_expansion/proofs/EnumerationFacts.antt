@@ -1,5 +1,7 @@
 -- Models found one after another.
-use Rattle.std.proofs.Common.{◌≡◌, ℕ, zero, suc, ◌+◌, ◌-◌, ◌*◌, ◌^◌, ◌<◌, ◌≤◌, Bool, true, false, Option, Some, None, Result, Ok, Err, List, [], ◌∷◌, ◌++◌, map, length, get_or, All, Contains, refl, sym, ap, ◌∙◌, subst, arith, inl, inr, ⊎_elim}
+use Rattle.std.proofs.Common.{◌≡◌, ℕ, zero, suc, ◌+◌, ◌-◌, ◌*◌, ◌^◌, ◌<◌, ◌≤◌, Bool, true, false, Option, Some, None}
+use Rattle.std.proofs.Common.{Result, Ok, Err, List, [], ◌∷◌, ◌++◌, map, length, get_or, All, Contains, refl, sym, ap}
+use Rattle.std.proofs.Common.{◌∙◌, subst, arith, inl, inr, ⊎_elim}
 use Rattle.std.proofs.lemmas.List.{append_assoc, append-nil, length_push}
 use Rattle.std.proofs.lemmas.List.Elements.{All-nil, All-contains, All-push}
 use Rattle.std.proofs.lemmas.Bool.{both_ways}
@@ -23,12 +25,16 @@ use Rattle.ground_core.proofs.CallFacts.{none-yet, keeps-none, keeps-twice, coun
 use Rattle.ground_core.proofs.AdditionFacts.{nothing-added}
 use Rattle.ground_core.proofs.GrowthFacts.{exclusions-select}
 use Rattle.model_search.specs.Models.{IsLeft, FindsModel}
-use Rattle.model_expansion.specs.Exclusions.{with_exclusions, exclusion_selectors, with_past_exclusions, Excludes, AreModels, AreApart, AreNew, retired_all}
+use Rattle.model_expansion.specs.Exclusions.{with_exclusions, exclusion_selectors, with_past_exclusions, Excludes}
+use Rattle.model_expansion.specs.Exclusions.{AreModels, AreApart, AreNew, retired_all}
 use Rattle.model_expansion.specs.Enumerations.{EndsAt, Gathers, Ends, IsAll, IsAllAtOnce, AddsExclusions, IsEmpty}
-use Rattle.model_expansion.proofs.ExclusionFacts.{exclusions-push, selectors-push, selector-stays, selectors-number, retired-stays, fresh, with-next, unretired-next, are-new, Selects, selects-begins, selects-next, apart-push, all-found, retire-first}
+use Rattle.model_expansion.proofs.ExclusionFacts.{exclusions-push, selectors-push, selector-stays, selectors-number}
+use Rattle.model_expansion.proofs.ExclusionFacts.{retired-stays, fresh, with-next, unretired-next, are-new, Selects}
+use Rattle.model_expansion.proofs.ExclusionFacts.{selects-begins, selects-next, apart-push, all-found, retire-first}
 
 -- what holds before the search number i, from 0 on
-pub record IsSoFar (assumed : List Lit) (n i : ℕ) (r s : SolveState) (a b : Budget) (ls : List Lit) (vs : List (List Bool)) : Type 0 where
+pub record IsSoFar (assumed : List Lit) (n i : ℕ) (r s : SolveState) (a b : Budget) (ls : List Lit)
+    (vs : List (List Bool)) : Type 0 where
   pub gathers : Gathers assumed n r s ls vs
   pub number : length vs ≡ i
   pub selects : Selects r.problem s.problem assumed vs ls
@@ -40,40 +46,50 @@ pub record IsSoFar (assumed : List Lit) (n i : ℕ) (r s : SolveState) (a b : Bu
   pub same : vs ≡ [] → s ≡ r
   pub kept : IsKept s
 
-pub so-far-begins : (assumed : List Lit) (n : ℕ) (r : SolveState) (a : Budget) (vs : List (List Bool)) → vs ≡ [] → AreLitsOf r.problem.vars assumed → AreUnretired r.problem assumed → IsBudgetOf r.learnt a → IsKept r → IsSoFar assumed n 0 r r a a assumed vs
-so-far-begins assumed n r a vs none lits unretired budget kept = subst (λ (xs : List (List Bool)). IsSoFar assumed n 0 r r a a assumed xs) (sym none) (record {
-  gathers = record {
-    problem = refl;
-    additions = sym (append-nil r.additions);
-    free = omega arith;
-    lits = sym (append-nil assumed);
-    selectors = All-nil (IsSelector r.problem);
-    most = omega arith;
-    models = record { left = All-nil (IsLeft r.problem assumed); apart = tt };
-  };
-  number = refl;
-  selects = selects-begins r.problem assumed;
-  conserves = (nothing-added r.problem).conserves;
-  within = lits;
-  unretired = unretired;
-  keeps = keeps-none r a budget;
-  counts = none-yet (r.free + n) r a kept.counted;
-  same = λ e. refl;
-  kept = kept;
-})
+pub so-far-begins : (assumed : List Lit) (n : ℕ) (r : SolveState) (a : Budget) (vs : List (List Bool)) → vs ≡ []
+    → AreLitsOf r.problem.vars assumed → AreUnretired r.problem assumed → IsBudgetOf r.learnt a → IsKept r
+    → IsSoFar assumed n 0 r r a a assumed vs
+so-far-begins assumed n r a vs none lits unretired budget kept =
+    subst (λ (xs : List (List Bool)). IsSoFar assumed n 0 r r a a assumed xs) (sym none) (record {
+      gathers = record {
+        problem = refl;
+        additions = sym (append-nil r.additions);
+        free = omega arith;
+        lits = sym (append-nil assumed);
+        selectors = All-nil (IsSelector r.problem);
+        most = omega arith;
+        models = record { left = All-nil (IsLeft r.problem assumed); apart = tt };
+      };
+      number = refl;
+      selects = selects-begins r.problem assumed;
+      conserves = (nothing-added r.problem).conserves;
+      within = lits;
+      unretired = unretired;
+      keeps = keeps-none r a budget;
+      counts = none-yet (r.free + n) r a kept.counted;
+      same = λ e. refl;
+      kept = kept;
+    })
 
 map-push : (vs : List (List Bool)) (v : List Bool) → map Exclusion (vs ++ v ∷ []) ≡ map Exclusion vs ++ Exclusion v ∷ []
 map-push [] v = refl
 map-push (w ∷ vs) v = ap (λ (l : List Addition). Exclusion w ∷ l) (map-push vs v)
 
 -- what a search finds is left in the problem as it was, and is apart from all that was found
-module _ (assumed : List Lit) (n i : ℕ) (r s : SolveState) (a b : Budget) (ls : List Lit) (vs : List (List Bool)) (h : IsSoFar assumed n i r s a b ls vs) where
+module _ (assumed : List Lit) (n i : ℕ) (r s : SolveState) (a b : Budget) (ls : List Lit) (vs : List (List Bool))
+    (h : IsSoFar assumed n i r s a b ls vs) where
   module _ (values : List Bool) (left : IsLeft s.problem ls values) where
-    abbrev means : Satisfies r.problem (valuation values) × MakesTrue (valuation values) assumed × All (λ w. Differs r.problem w (valuation values)) vs
+    abbrev means : Satisfies r.problem (valuation values) × MakesTrue (valuation values) assumed
+        × All (λ w. Differs r.problem w (valuation values)) vs
     means = h.selects.means (valuation values) left.1 left.2
 
     pub left-before : IsLeft r.problem assumed values
-    left-before = (let x : r.problem.vars ≤ s.problem.vars = h.conserves.grows in let y : s.problem.vars < length values = left.0 in omega (arith, x, y), means.0, means.1)
+    left-before = (
+      let x : r.problem.vars ≤ s.problem.vars = h.conserves.grows in let y : s.problem.vars
+          < length values = left.0 in omega (arith, x, y),
+      means.0,
+      means.1,
+    )
 
     pub more-models : AreModels r.problem assumed (vs ++ values ∷ [])
     more-models = record {
@@ -88,7 +104,8 @@ module _ (assumed : List Lit) (n i : ℕ) (r s : SolveState) (a b : Budget) (ls 
     }
 
     pub long-enough : length s.problem.atoms < length values
-    long-enough = let x : length s.problem.atoms ≤ s.problem.vars = h.kept.problem.atoms in let y : s.problem.vars < length values = left.0 in omega (arith, x, y)
+    long-enough = let x : length s.problem.atoms ≤ s.problem.vars = h.kept.problem.atoms in let y : s.problem.vars
+        < length values = left.0 in omega (arith, x, y)
 
   pub so-far-budget : IsBudgetOf r.learnt a → IsBudgetOf s.learnt b
   so-far-budget budget = record {
@@ -106,10 +123,13 @@ module _ (assumed : List Lit) (n i : ℕ) (r s : SolveState) (a b : Budget) (ls 
       at [] left = refl
       at (x ∷ xs) left =
           let first : IsLeft r.problem assumed x = left 0 x (omega arith) in
-          absurd (All-contains (RefutesAll r.problem) r.cores shown.1 kept.refuted (shown.0, shown.2, shown.3) (valuation x) first.1
-          (λ k d lt. All-contains (λ l. literal_value (valuation x) l ≡ true) assumed (get_or shown.1 k d) first.2 (shown.4 k d lt)))
+          absurd (All-contains (RefutesAll r.problem) r.cores shown.1 kept.refuted (shown.0, shown.2, shown.3)
+          (valuation x) first.1
+          (λ k d lt. All-contains (λ l. literal_value (valuation x) l ≡ true) assumed (get_or shown.1 k d) first.2
+          (shown.4 k d lt)))
 
-  module _ (t : SolveState) (c : Budget) (stays : Stays s t) (keeps : Keeps s t b c) (counts : Counts s.free 1 s t b c) where
+  module _ (t : SolveState) (c : Budget) (stays : Stays s t) (keeps : Keeps s t b c)
+      (counts : Counts s.free 1 s t b c) where
     pub searched-keeps : Keeps r t a c
     searched-keeps = keeps-twice r s t a b c h.keeps keeps
 
@@ -126,7 +146,8 @@ module _ (assumed : List Lit) (n i : ℕ) (r s : SolveState) (a b : Budget) (ls 
       additions = stays.additions ∙ h.gathers.additions;
       free = stays.free ∙ h.gathers.free;
       lits = h.gathers.lits;
-      selectors = subst (λ (p : ProblemState). All (IsSelector p) (exclusion_selectors r.problem vs)) (sym stays.problem) h.gathers.selectors;
+      selectors = subst (λ (p : ProblemState). All (IsSelector p) (exclusion_selectors r.problem vs))
+          (sym stays.problem) h.gathers.selectors;
       most = h.gathers.most;
       models = h.gathers.models;
     }
@@ -134,21 +155,28 @@ module _ (assumed : List Lit) (n i : ℕ) (r s : SolveState) (a b : Budget) (ls 
     pub all-told : RefutesAll s.problem ls → HasCoreWithin t.cores ls → Ends r.problem assumed n t.cores vs true
     all-told refuted shown = record {
       ends = all-found r.problem s.problem assumed vs ls h.selects refuted;
-      shown = λ e f. subst (HasCoreWithin t.cores) (h.gathers.lits ∙ ap (λ (xs : List (List Bool)). assumed ++ exclusion_selectors r.problem xs) e ∙ append-nil assumed) shown;
+      shown = λ e f. subst (HasCoreWithin t.cores) (h.gathers.lits
+          ∙ ap (λ (xs : List (List Bool)). assumed ++ exclusion_selectors r.problem xs) e ∙ append-nil assumed) shown;
     }
 
     -- where a kept core refutes what is assumed, the search tells at once
-    pub told-at-once : (result : Result (Option (List Bool)) Halt) → (HasCoreWithin s.cores ls → IsAnsweredAtOnce s t result) → IsKept r → HasCoreWithin r.cores assumed → (vs ≡ []) × IsNone result × (t.learnt ≡ r.learnt)
+    pub told-at-once : (result : Result (Option (List Bool)) Halt)
+        → (HasCoreWithin s.cores ls → IsAnsweredAtOnce s t result) → IsKept r → HasCoreWithin r.cores assumed
+        → (vs ≡ []) × IsNone result × (t.learnt ≡ r.learnt)
     told-at-once result decided kept shown =
         let none : vs ≡ [] = none-found kept shown in
         let same : s ≡ r = h.same none in
-        let plain : ls ≡ assumed = h.gathers.lits ∙ ap (λ (xs : List (List Bool)). assumed ++ exclusion_selectors r.problem xs) none ∙ append-nil assumed in
-        let told : IsAnsweredAtOnce s t result = decided (subst (HasCoreWithin s.cores) (sym plain) (subst (λ (q : SolveState). HasCoreWithin q.cores assumed) (sym same) shown)) in
+        let plain : ls ≡ assumed = h.gathers.lits ∙ ap (λ (xs : List (List Bool)).
+        assumed ++ exclusion_selectors r.problem xs) none ∙ append-nil assumed in
+        let told : IsAnsweredAtOnce s t result = decided (subst (HasCoreWithin s.cores) (sym plain)
+        (subst (λ (q : SolveState). HasCoreWithin q.cores assumed) (sym same) shown)) in
         (none, told.answer, told.learnt ∙ ap (λ (q : SolveState). q.learnt) same)
 
-    module _ (u : SolveState) (values : List Bool) (left : IsLeft s.problem ls values) (made : u ≡ excluded t values) (kept : IsKept u) (le : i < n) where
+    module _ (u : SolveState) (values : List Bool) (left : IsLeft s.problem ls values) (made : u ≡ excluded t values)
+        (kept : IsKept u) (le : i < n) where
       problem-is : u.problem ≡ with_exclusion s.problem values
-      problem-is = ap (λ (q : SolveState). q.problem) made ∙ ap (λ (p : ProblemState). with_exclusion p values) stays.problem
+      problem-is = ap (λ (q : SolveState). q.problem) made ∙ ap (λ (p : ProblemState). with_exclusion p values)
+          stays.problem
 
       next-keeps : Keeps r u a c
       next-keeps = subst (λ (q : SolveState). Keeps r q a c) (sym made) (record {
@@ -164,7 +192,8 @@ module _ (assumed : List Lit) (n i : ℕ) (r s : SolveState) (a b : Budget) (ls 
       next-counts : Counts (r.free + n) (i + 1) r u a c
       next-counts =
           let x : Counts (r.free + n) (i + 1) r t a c = searched-counts (omega (arith, le)) in
-          subst (λ (q : SolveState). Counts (r.free + n) (i + 1) r q a c) (sym made) (record { searches = x.searches; fewer = x.fewer })
+          subst (λ (q : SolveState). Counts (r.free + n) (i + 1) r q a c) (sym made)
+          (record { searches = x.searches; fewer = x.fewer })
 
       abbrev more_lits : List Lit
       more_lits = ls ++ next_lit t.problem ∷ []
@@ -175,30 +204,41 @@ module _ (assumed : List Lit) (n i : ℕ) (r s : SolveState) (a b : Budget) (ls 
       next-lit : next_lit t.problem ≡ next_lit s.problem
       next-lit = ap next_lit stays.problem
 
-      next-selectors : All (IsSelector (with_exclusion s.problem values)) (exclusion_selectors r.problem vs ++ next_lit s.problem ∷ [])
+      next-selectors : All (IsSelector (with_exclusion s.problem values))
+          (exclusion_selectors r.problem vs ++ next_lit s.problem ∷ [])
       next-selectors =
-          All-push (IsSelector (with_exclusion s.problem values)) (exclusion_selectors r.problem vs) (next_lit s.problem)
-          (λ k d lt. selector-stays s.problem values (get_or (exclusion_selectors r.problem vs) k d) h.kept.problem (h.gathers.selectors k d lt))
+          All-push (IsSelector (with_exclusion s.problem values)) (exclusion_selectors r.problem vs)
+          (next_lit s.problem)
+          (λ k d lt. selector-stays s.problem values (get_or (exclusion_selectors r.problem vs) k d) h.kept.problem
+          (h.gathers.selectors k d lt))
           ((exclusions-select r.problem s.problem values h.kept.problem h.conserves).selector)
 
-      more-selectors : exclusion_selectors r.problem more_values ≡ exclusion_selectors r.problem vs ++ next_lit s.problem ∷ []
-      more-selectors = selectors-push r.problem vs values ∙ ap (λ (p : ProblemState). exclusion_selectors r.problem vs ++ next_lit p ∷ []) (sym h.gathers.problem)
+      more-selectors : exclusion_selectors r.problem more_values ≡ exclusion_selectors r.problem vs ++ next_lit
+          s.problem ∷ []
+      more-selectors = selectors-push r.problem vs values ∙ ap (λ (p : ProblemState). exclusion_selectors r.problem vs
+          ++ next_lit p ∷ []) (sym h.gathers.problem)
 
       pub next-gathers : Gathers assumed n r u more_lits more_values
       next-gathers = record {
-        problem = problem-is ∙ ap (λ (p : ProblemState). with_exclusion p values) h.gathers.problem ∙ sym (exclusions-push r.problem vs values);
+        problem = problem-is ∙ ap (λ (p : ProblemState). with_exclusion p values) h.gathers.problem
+            ∙ sym (exclusions-push r.problem vs values);
         additions =
-            ap (λ (q : SolveState). q.additions) made ∙ ap (λ (xs : List Addition). xs ++ Exclusion values ∷ []) (stays.additions ∙ h.gathers.additions)
-            ∙ append_assoc r.additions (map Exclusion vs) (Exclusion values ∷ []) ∙ ap (λ (xs : List Addition). r.additions ++ xs) (sym (map-push vs values));
+            ap (λ (q : SolveState). q.additions) made ∙ ap (λ (xs : List Addition). xs ++ Exclusion values ∷ [])
+            (stays.additions ∙ h.gathers.additions)
+            ∙ append_assoc r.additions (map Exclusion vs) (Exclusion values ∷ [])
+            ∙ ap (λ (xs : List Addition). r.additions ++ xs) (sym (map-push vs values));
         free =
             let x : u.free ≡ t.free + 1 = ap (λ (q : SolveState). q.free) made in
             let y : length more_values ≡ length vs + 1 = length_push vs values in
             omega (arith, x, y, stays.free, h.gathers.free);
         lits =
-            ap (λ (xs : List Lit). xs ++ next_lit t.problem ∷ []) h.gathers.lits ∙ append_assoc assumed (exclusion_selectors r.problem vs) (next_lit t.problem ∷ [])
-            ∙ ap (λ (l : Lit). assumed ++ (exclusion_selectors r.problem vs ++ l ∷ [])) next-lit ∙ ap (λ (xs : List Lit). assumed ++ xs) (sym more-selectors);
+            ap (λ (xs : List Lit). xs ++ next_lit t.problem ∷ []) h.gathers.lits
+            ∙ append_assoc assumed (exclusion_selectors r.problem vs) (next_lit t.problem ∷ [])
+            ∙ ap (λ (l : Lit). assumed ++ (exclusion_selectors r.problem vs ++ l ∷ [])) next-lit
+            ∙ ap (λ (xs : List Lit). assumed ++ xs) (sym more-selectors);
         selectors =
-            subst (λ (p : ProblemState). All (IsSelector p) (exclusion_selectors r.problem more_values)) (sym problem-is)
+            subst (λ (p : ProblemState). All (IsSelector p) (exclusion_selectors r.problem more_values))
+            (sym problem-is)
             (subst (All (IsSelector (with_exclusion s.problem values))) (sym more-selectors) next-selectors);
         most = let y : length more_values ≡ length vs + 1 = length_push vs values in omega (arith, y, h.number, le);
         models = more-models values left;
@@ -209,16 +249,21 @@ module _ (assumed : List Lit) (n i : ℕ) (r s : SolveState) (a b : Budget) (ls 
         gathers = next-gathers;
         number = length_push vs values ∙ ap (λ (k : ℕ). k + 1) h.number;
         selects = subst (λ (p : ProblemState). Selects r.problem p assumed more_values more_lits) (sym problem-is)
-            (subst (λ (l : Lit). Selects r.problem (with_exclusion s.problem values) assumed more_values (ls ++ l ∷ [])) (sym next-lit)
+            (subst (λ (l : Lit). Selects r.problem (with_exclusion s.problem values) assumed more_values (ls ++ l ∷ []))
+            (sym next-lit)
             (selects-next r.problem s.problem assumed vs ls values fine h.kept.problem h.conserves h.within h.selects));
-        conserves = subst (Conserves r.problem) (sym problem-is) ((exclusions-select r.problem s.problem values h.kept.problem h.conserves).added);
+        conserves = subst (Conserves r.problem) (sym problem-is)
+            ((exclusions-select r.problem s.problem values h.kept.problem h.conserves).added);
         within = subst (λ (p : ProblemState). AreLitsOf p.vars more_lits) (sym problem-is)
-            (subst (λ (l : Lit). AreLitsOf (s.problem.vars + 1) (ls ++ l ∷ [])) (sym next-lit) (with-next s.problem ls h.within));
+            (subst (λ (l : Lit). AreLitsOf (s.problem.vars + 1) (ls ++ l ∷ [])) (sym next-lit)
+            (with-next s.problem ls h.within));
         unretired = subst (λ (p : ProblemState). AreUnretired p more_lits) (sym problem-is)
-            (subst (λ (l : Lit). AreUnretired s.problem (ls ++ l ∷ [])) (sym next-lit) (unretired-next s.problem ls h.kept.problem h.unretired));
+            (subst (λ (l : Lit). AreUnretired s.problem (ls ++ l ∷ [])) (sym next-lit)
+            (unretired-next s.problem ls h.kept.problem h.unretired));
         keeps = next-keeps;
         counts = next-counts;
-        same = λ e. absurd (let y : length more_values ≡ length vs + 1 = length_push vs values in let z : length more_values ≡ 0 = ap length e in omega (arith, y, z));
+        same = λ e. absurd (let y : length more_values ≡ length vs + 1 = length_push vs values in
+            let z : length more_values ≡ 0 = ap length e in omega (arith, y, z));
         kept = kept;
       }
 
@@ -227,11 +272,13 @@ pub halted : (halt : Halt) → IsNone {T = List Bool} (Err halt) → IsAll (Err 
 halted Spent h = h
 halted Memory h = tt
 
-pub first-fits : (s : SolveState) (l : Lit) (ls rest : List Lit) → rest ≡ l ∷ ls → All (IsSelector s.problem) rest → IsSelector s.problem l
+pub first-fits : (s : SolveState) (l : Lit) (ls rest : List Lit) → rest ≡ l ∷ ls → All (IsSelector s.problem) rest
+    → IsSelector s.problem l
 first-fits s l ls rest is h = subst (All (IsSelector s.problem)) is h zero l (omega arith)
 
 -- a selector that is retired first
-module _ (s t : SolveState) (l : Lit) (ls rest : List Lit) (is : rest ≡ l ∷ ls) (new : AreNew s.problem.retired rest) (retires : (Contains s.problem.retired l → ⊥) → t ≡ retired s l) where
+module _ (s t : SolveState) (l : Lit) (ls rest : List Lit) (is : rest ≡ l ∷ ls) (new : AreNew s.problem.retired rest)
+    (retires : (Contains s.problem.retired l → ⊥) → t ≡ retired s l) where
   abbrev new-first : AreNew s.problem.retired (l ∷ ls)
   new-first = subst (AreNew s.problem.retired) is new
 
@@ -239,18 +286,31 @@ module _ (s t : SolveState) (l : Lit) (ls rest : List Lit) (is : rest ≡ l ∷ 
   first-retired = retires new-first.0
 
   pub same-in-the-end : (all : SolveState) → retired_all s rest ≡ all → retired_all t ls ≡ all
-  same-in-the-end all e = ap (λ (q : SolveState). retired_all q ls) first-retired ∙ retire-first s l ls ∙ ap (retired_all s) (sym is) ∙ e
+  same-in-the-end all e = ap (λ (q : SolveState). retired_all q ls) first-retired ∙ retire-first s l ls
+      ∙ ap (retired_all s) (sym is) ∙ e
 
   pub others-new : AreNew t.problem.retired ls
   others-new = subst (λ (q : SolveState). AreNew q.problem.retired ls) (sym first-retired) new-first.1
 
   pub others-fit : All (IsSelector s.problem) rest → All (IsSelector t.problem) ls
   others-fit h = λ k d lt.
-      let x : IsSelector s.problem (get_or (l ∷ ls) (suc k) d) = subst (All (IsSelector s.problem)) is h (suc k) d (omega (arith, lt)) in
-      subst (λ (q : SolveState). IsSelector q.problem (get_or ls k d)) (sym first-retired) (record { positive = x.positive; within = x.within; atoms = x.atoms; gates = x.gates; clauses = x.clauses; sums = x.sums; terms = x.terms; bounds = x.bounds })
+      let x : IsSelector s.problem (get_or (l ∷ ls) (suc k) d) = subst (All (IsSelector s.problem)) is h (suc k) d
+      (omega (arith, lt)) in
+      subst (λ (q : SolveState). IsSelector q.problem (get_or ls k d)) (sym first-retired)
+      (record {
+        positive = x.positive;
+        within = x.within;
+        atoms = x.atoms;
+        gates = x.gates;
+        clauses = x.clauses;
+        sums = x.sums;
+        terms = x.terms;
+        bounds = x.bounds;
+      })
 
 -- the selectors are retired in the end
-module _ (assumed : List Lit) (n : ℕ) (r s t : SolveState) (ls sels : List Lit) (vs : List (List Bool)) (h : Gathers assumed n r s ls vs) (is : sels ≡ exclusion_selectors r.problem vs) where
+module _ (assumed : List Lit) (n : ℕ) (r s t : SolveState) (ls sels : List Lit) (vs : List (List Bool))
+    (h : Gathers assumed n r s ls vs) (is : sels ≡ exclusion_selectors r.problem vs) where
   pub selectors-fit : All (IsSelector s.problem) sels
   selectors-fit = subst (All (IsSelector s.problem)) (sym is) h.selectors
 
@@ -265,7 +325,8 @@ module _ (assumed : List Lit) (n : ℕ) (r s t : SolveState) (ls sels : List Lit
   pub end-excludes : t ≡ retired_all s sels → Excludes vs r t
   end-excludes e = record {
     problem =
-        ap (λ (q : SolveState). q.problem) e ∙ ap (λ (gone : List Lit). retiring s.problem (gone ++ sels)) retired-before
+        ap (λ (q : SolveState). q.problem) e ∙ ap (λ (gone : List Lit). retiring s.problem (gone ++ sels))
+        retired-before
         ∙ ap (λ (ls2 : List Lit). retiring s.problem (r.problem.retired ++ ls2)) is
         ∙ ap (λ (p : ProblemState). retiring p (r.problem.retired ++ exclusion_selectors r.problem vs)) h.problem;
     additions = ap (λ (q : SolveState). q.additions) e ∙ h.additions;
@@ -279,7 +340,16 @@ module _ (assumed : List Lit) (n : ℕ) (r s t : SolveState) (ls sels : List Lit
 
   module _ (a b : Budget) (e : t ≡ retired_all s sels) where
     pub end-keeps : Keeps r s a b → Keeps r t a b
-    end-keeps k = subst (λ (q : SolveState). Keeps r q a b) (sym e) (record { limit = k.limit; rises = k.rises; learnt = k.learnt; growth = k.growth; moments = k.moments; cores = k.cores; within = k.within })
+    end-keeps k = subst (λ (q : SolveState). Keeps r q a b) (sym e) (record {
+      limit = k.limit;
+      rises = k.rises;
+      learnt =
+          k.learnt;
+      growth = k.growth;
+      moments = k.moments;
+      cores = k.cores;
+      within = k.within;
+    })
 
     pub end-costs : Keeps r s a b → CountsUpTo (r.free + n) (n + 1) r s a b → Costs (n + 1) r t a b
     end-costs k x = subst (λ (q : SolveState). Costs (n + 1) r q a b) (sym e) (record {
@@ -288,10 +358,13 @@ module _ (assumed : List Lit) (n : ℕ) (r s t : SolveState) (ls sels : List Lit
           let f : b.spent + x.0 ≤ a.spent + x.0 * 2 ^ (r.free + n) = x.2.fewer in
           let le : x.0 ≤ n + 1 = x.1 in
           let top : 2 ^ (r.free + n) ≤ 2 ^ (r.free + (n + 1)) = pow-le-pow_right (pow_pos 1) (omega arith) in
-          let g : x.0 * 2 ^ (r.free + n) ≤ (n + 1) * 2 ^ (r.free + (n + 1)) = mul-le x.0 (2 ^ (r.free + n)) (n + 1) (2 ^ (r.free + (n + 1))) le top in
+          let g : x.0 * 2 ^ (r.free + n) ≤ (n + 1) * 2 ^ (r.free + (n + 1)) = mul-le x.0 (2 ^ (r.free + n)) (n + 1)
+          (2 ^ (r.free + (n + 1))) le top in
           let one : 0 < 2 ^ (r.free + (n + 1)) = pow_pos (r.free + (n + 1)) in
-          let some : 1 * 1 ≤ (n + 1) * 2 ^ (r.free + (n + 1)) = mul-le 1 1 (n + 1) (2 ^ (r.free + (n + 1))) (omega arith) one in
-          spent-fewer a.spent b.spent x.0 (x.0 * 2 ^ (r.free + n)) ((n + 1) * 2 ^ (r.free + (n + 1))) f g some (none x.0);
+          let some : 1 * 1 ≤ (n + 1) * 2 ^ (r.free + (n + 1)) = mul-le 1 1 (n + 1) (2 ^ (r.free + (n + 1)))
+          (omega arith) one in
+          spent-fewer a.spent b.spent x.0 (x.0 * 2 ^ (r.free + n)) ((n + 1) * 2 ^ (r.free + (n + 1))) f g
+          some (none x.0);
     })
       where
         none : (k : ℕ) → k ≡ 0 → k * 2 ^ (r.free + n) ≡ 0

@@ -6,7 +6,8 @@ ghost use Rattle.ground_core.specs.Growing.{IsSelector, excluded};
 ghost use Rattle.ground_core.specs.Solving.{IsBudgetOf, AreUnretired, HaltedAt, HasCoreWithin, IsKept};
 ghost use Rattle.ground_core.specs.Calls.{Keeps, CountsUpTo, Costs};
 ghost use Rattle.model_expansion.specs.Exclusions.{AreNew, retired_all, Excludes};
-ghost use Rattle.model_expansion.specs.Enumerations.{FindsSeveral, AddsExclusions, IsEmptyAtOnce, Gathers, Ends, IsAllAtOnce};
+ghost use Rattle.model_expansion.specs.Enumerations.{FindsSeveral, AddsExclusions, IsEmptyAtOnce, Gathers, Ends};
+ghost use Rattle.model_expansion.specs.Enumerations.{IsAllAtOnce};
 
 use crate::found::Several;
 use ground_core::{Budget, Grow, Halt, Memory};
@@ -73,11 +74,14 @@ fn gather<S: Grow>(
     requires budget { IsBudgetOf (S.state s.old).learnt budget.old }
     requires kept { IsKept (S.state s.old) }
     ensures gathers { Gathers assumed.old.items n (S.state s.old) (S.state s.new) assumed.new.items found.new.items }
-    ensures ends { IfOk result (Ends (S.state s.old).problem assumed.old.items n (S.state s.new).cores found.new.items) }
+    ensures ends { IfOk result (Ends (S.state s.old).problem assumed.old.items n (S.state s.new).cores
+        found.new.items) }
     ensures halt { IfErr result (HaltedAt budget.new) }
     ensures keeps { Keeps (S.state s.old) (S.state s.new) budget.old budget.new }
-    ensures counts { CountsUpTo ((S.state s.old).free + n) (n + 1) (S.state s.old) (S.state s.new) budget.old budget.new }
-    ensures decided { HasCoreWithin (S.state s.old).cores assumed.old.items → IsAllAtOnce (S.state s.old) (S.state s.new) found.new.items result }
+    ensures counts { CountsUpTo ((S.state s.old).free + n) (n + 1) (S.state s.old)
+        (S.state s.new) budget.old budget.new }
+    ensures decided { HasCoreWithin (S.state s.old).cores assumed.old.items
+        → IsAllAtOnce (S.state s.old) (S.state s.new) found.new.items result }
     ensures kept { IsKept (S.state s.new) }
     ensures later { S.goes_on s.old s.new }
 {
@@ -117,7 +121,8 @@ pub fn several<S: Grow>(
     ensures adds { AddsExclusions assume.now n (S.state s.old) (S.state s.new) }
     ensures keeps { Keeps (S.state s.old) (S.state s.new) budget.old budget.new }
     ensures costs { Costs (n + 1) (S.state s.old) (S.state s.new) budget.old budget.new }
-    ensures decided { HasCoreWithin (S.state s.old).cores assume.now → IsEmptyAtOnce (S.state s.old) (S.state s.new) result }
+    ensures decided { HasCoreWithin (S.state s.old).cores assume.now → IsEmptyAtOnce (S.state s.old)
+        (S.state s.new) result }
     ensures kept { IsKept (S.state s.new) }
     ensures later { S.goes_on s.old s.new }
 {

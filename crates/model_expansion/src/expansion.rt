@@ -19,7 +19,8 @@ pub fn expand<S: Solve>(s: &mut S, assume: &[Lit], budget: &mut Budget) -> Resul
     ensures stays { Stays (S.state s.old) (S.state s.new) }
     ensures keeps { Keeps (S.state s.old) (S.state s.new) budget.old budget.new }
     ensures costs { Costs 1 (S.state s.old) (S.state s.new) budget.old budget.new }
-    ensures decided { HasCoreWithin (S.state s.old).cores assume.now → IsKnown (S.state s.old).learnt (S.state s.new).learnt budget.old budget.new result }
+    ensures decided { HasCoreWithin (S.state s.old).cores assume.now → IsKnown (S.state s.old).learnt
+        (S.state s.new).learnt budget.old budget.new result }
     ensures kept { IsKept (S.state s.new) }
     ensures later { S.goes_on s.old s.new }
 {

@@ -1,5 +1,6 @@
 -- A search under a bound whose selector is then retired.
-use Rattle.std.proofs.Common.{◌≡◌, ℕ, ◌+◌, ◌-◌, ◌<◌, ◌≤◌, Bool, true, false, Option, Some, None, List, [], ◌∷◌, ◌++◌, length, get_or, Contains, refl, sym, ap, ◌∙◌, subst, arith, inr, ⊎_elim}
+use Rattle.std.proofs.Common.{◌≡◌, ℕ, ◌+◌, ◌-◌, ◌<◌, ◌≤◌, Bool, true, false, Option, Some, None, List, [], ◌∷◌, ◌++◌}
+use Rattle.std.proofs.Common.{length, get_or, Contains, refl, sym, ap, ◌∙◌, subst, arith, inr, ⊎_elim}
 use Rattle.std.proofs.lemmas.List.Elements.{All-contains, All-push, Contains-push, Contains-push_cases}
 use Rattle.kb_logic.specs.declared.elements.ExtInt.{ExtInt}
 use Rattle.kb_logic.specs.declared.syntax.Cmp.TheVariants as cmp
@@ -21,9 +22,11 @@ use Rattle.model_minimiser.specs.Minima.{IsFound, NothingBelow, Finds}
 
 -- the next variable is that of no literal of the problem
 fresh : (p : ProblemState) (ls : List Lit) → AreLitsOf p.vars ls → Contains ls (next_lit p) → ⊥
-fresh p ls h has = let x : p.vars + 1 ≤ p.vars = (All-contains (IsLitOf p.vars) ls (next_lit p) h has).1 in omega (arith, x)
+fresh p ls h has = let x : p.vars + 1 ≤ p.vars = (All-contains (IsLitOf p.vars) ls (next_lit p) h has).1 in
+    omega (arith, x)
 
-module _ (p : ProblemState) (term : ℕ) (n : ExtInt) (assume : List Lit) (fine : IsProblem p) (lt : term < length p.terms) (lits : AreLitsOf p.vars assume) where
+module _ (p : ProblemState) (term : ℕ) (n : ExtInt) (assume : List Lit) (fine : IsProblem p)
+    (lt : term < length p.terms) (lits : AreLitsOf p.vars assume) where
   abbrev q : ProblemState
   q = with_bound p term n
 
@@ -39,66 +42,91 @@ module _ (p : ProblemState) (term : ℕ) (n : ExtInt) (assume : List Lit) (fine 
   pub found-below : (f : Found) → IsFound q (assume ++ sel ∷ []) term f → IsFound p assume term f × IsBelow f.value n
   found-below f h =
       let v : ℕ → Bool = valuation f.values in
-      let on : literal_value v sel ≡ true = All-contains (λ l. literal_value v l ≡ true) (assume ++ sel ∷ []) sel h.assumes (Contains-push assume sel) in (
-        record { satisfies = bound-restricts p term n v h.satisfies; assumes = All-front (λ l. literal_value v l ≡ true) assume (sel ∷ []) h.assumes; value = h.value },
-        subst (λ (d : Denotation). compared cmp.Lt d (value_of_bound n) ≡ true) h.value ((select p term n fine lt).means v h.satisfies on),
+      let on : literal_value v sel ≡ true = All-contains (λ l. literal_value v l ≡ true) (assume ++ sel ∷ []) sel
+      h.assumes (Contains-push assume sel) in (
+        record {
+          satisfies = bound-restricts p term n v h.satisfies;
+          assumes =
+              All-front (λ l. literal_value v l ≡ true) assume (sel ∷ []) h.assumes;
+          value = h.value;
+        },
+        subst (λ (d : Denotation). compared cmp.Lt d (value_of_bound n) ≡ true) h.value
+            ((select p term n fine lt).means v h.satisfies on),
       )
 
   pub nothing-below : RefutesAll q (assume ++ sel ∷ []) → NothingBelow p assume term n
   nothing-below refuted = λ v s t. step v s t (compared cmp.Lt (value_at p term v) (value_of_bound n)) refl
     where
-      step : (v : ℕ → Bool) → Satisfies p v → MakesTrue v assume → (b : Bool) → compared cmp.Lt (value_at p term v) (value_of_bound n) ≡ b → compared cmp.Lt (value_at p term v) (value_of_bound n) ≡ false
+      step : (v : ℕ → Bool) → Satisfies p v → MakesTrue v assume → (b : Bool) → compared cmp.Lt (value_at p term v)
+          (value_of_bound n) ≡ b → compared cmp.Lt (value_at p term v) (value_of_bound n) ≡ false
       step v s t false is = is
       step v s t true is =
           let e = (select p term n fine lt).extends v s is in
           absurd (refuted e.0 e.2
-          (All-push (λ l. literal_value e.0 l ≡ true) assume sel (λ k d less. sym (literal-local p.vars v e.0 e.1 (get_or assume k d) (lits k d less)) ∙ t k d less) e.3))
+          (All-push (λ l. literal_value e.0 l ≡ true) assume sel (λ k d less.
+          sym (literal-local p.vars v e.0 e.1 (get_or assume k d) (lits k d less)) ∙ t k d less) e.3))
 
-module _ (s0 s1 s2 s3 : SolveState) (term : ℕ) (n : ExtInt) (fine : IsProblem s0.problem) (made : s1 ≡ bounded s0 term n) (stays : Stays s1 s2) where
+module _ (s0 s1 s2 s3 : SolveState) (term : ℕ) (n : ExtInt) (fine : IsProblem s0.problem)
+    (made : s1 ≡ bounded s0 term n) (stays : Stays s1 s2) where
   problem-is : s2.problem ≡ with_bound s0.problem term n
   problem-is = stays.problem ∙ ap (λ (s : SolveState). s.problem) made
 
   pub selects : IsSelector s2.problem (next_lit s0.problem)
-  selects = subst (λ (q : ProblemState). IsSelector q (next_lit s0.problem)) (sym problem-is) (bound-selector s0.problem term n fine)
+  selects = subst (λ (q : ProblemState). IsSelector q (next_lit s0.problem)) (sym problem-is)
+      (bound-selector s0.problem term n fine)
 
   pub not-yet : Contains s2.problem.retired (next_lit s0.problem) → ⊥
-  not-yet has = fresh s0.problem s0.problem.retired fine.retired (subst (λ (q : ProblemState). Contains q.retired (next_lit s0.problem)) problem-is has)
+  not-yet has = fresh s0.problem s0.problem.retired fine.retired
+      (subst (λ (q : ProblemState). Contains q.retired (next_lit s0.problem)) problem-is has)
 
-  pub grown : ((Contains s2.problem.retired (next_lit s0.problem) → ⊥) → s3 ≡ retired s2 (next_lit s0.problem)) → GrowsBy term (n ∷ []) s0 s3
+  pub grown : ((Contains s2.problem.retired (next_lit s0.problem) → ⊥) → s3 ≡ retired s2 (next_lit s0.problem))
+      → GrowsBy term (n ∷ []) s0 s3
   grown retires =
       let e : s3 ≡ retired s2 (next_lit s0.problem) = retires not-yet in record {
-        problem = ap (λ (s : SolveState). s.problem) e ∙ ap (λ (q : ProblemState). with_retired q (next_lit s0.problem)) problem-is;
-        additions = ap (λ (s : SolveState). s.additions) e ∙ stays.additions ∙ ap (λ (s : SolveState). s.additions) made;
+        problem = ap (λ (s : SolveState). s.problem) e ∙ ap (λ (q : ProblemState). with_retired q
+            (next_lit s0.problem)) problem-is;
+        additions = ap (λ (s : SolveState). s.additions) e ∙ stays.additions
+            ∙ ap (λ (s : SolveState). s.additions) made;
         free =
             let a : s3.free ≡ s2.free - 1 = ap (λ (s : SolveState). s.free) e in
             let b : s2.free ≡ s0.free + 1 = stays.free ∙ ap (λ (s : SolveState). s.free) made in omega (arith, a, b);
       }
 
-  pub added : ((Contains s2.problem.retired (next_lit s0.problem) → ⊥) → s3 ≡ retired s2 (next_lit s0.problem)) → AddsAtMost term n s0 s3
+  pub added : ((Contains s2.problem.retired (next_lit s0.problem) → ⊥) → s3 ≡ retired s2 (next_lit s0.problem))
+      → AddsAtMost term n s0 s3
   added retires = (n ∷ [], inr refl, grown retires)
 
-  pub cores-same : ((Contains s2.problem.retired (next_lit s0.problem) → ⊥) → s3 ≡ retired s2 (next_lit s0.problem)) → s3.cores ≡ s2.cores
+  pub cores-same : ((Contains s2.problem.retired (next_lit s0.problem) → ⊥) → s3 ≡ retired s2 (next_lit s0.problem))
+      → s3.cores ≡ s2.cores
   cores-same retires = ap (λ (s : SolveState). s.cores) (retires not-yet)
 
-module _ (s0 s1 s2 s3 : SolveState) (term : ℕ) (n : ExtInt) (ls : List Lit) (sel : Lit) (fine : IsProblem s0.problem) (lt : term < length s0.problem.terms) (lits : AreLitsOf s0.problem.vars ls)
-    (made : (sel ≡ next_lit s0.problem) × (s1 ≡ bounded s0 term n)) (stays : Stays s1 s2) (retires : (Contains s2.problem.retired sel → ⊥) → s3 ≡ retired s2 sel) where
+module _ (s0 s1 s2 s3 : SolveState) (term : ℕ) (n : ExtInt) (ls : List Lit) (sel : Lit) (fine : IsProblem s0.problem)
+    (lt : term < length s0.problem.terms) (lits : AreLitsOf s0.problem.vars ls)
+    (made : (sel ≡ next_lit s0.problem) × (s1 ≡ bounded s0 term n)) (stays : Stays s1 s2)
+    (retires : (Contains s2.problem.retired sel → ⊥) → s3 ≡ retired s2 sel) where
   retires-next : (Contains s2.problem.retired (next_lit s0.problem) → ⊥) → s3 ≡ retired s2 (next_lit s0.problem)
   retires-next = subst (λ (l : Lit). (Contains s2.problem.retired l → ⊥) → s3 ≡ retired s2 l) made.0 retires
 
   pub turn-adds : AddsAtMost term n s0 s3
   turn-adds = added s0 s1 s2 s3 term n fine made.1 stays retires-next
 
-  plain : (o : Option Found) → Finds s1.problem (ls ++ sel ∷ []) term s2.cores o → Finds (with_bound s0.problem term n) (ls ++ next_lit s0.problem ∷ []) term s2.cores o
+  plain : (o : Option Found) → Finds s1.problem (ls ++ sel ∷ []) term s2.cores o → Finds (with_bound s0.problem term n)
+      (ls ++ next_lit s0.problem ∷ []) term s2.cores o
   plain o f =
       subst (λ (s : SolveState). Finds s.problem (ls ++ next_lit s0.problem ∷ []) term s2.cores o) made.1
       (subst (λ (l : Lit). Finds s1.problem (ls ++ l ∷ []) term s2.cores o) made.0 f)
 
-  pub turn-found : (o : Option Found) (f : Found) → o ≡ Some f → Finds s1.problem (ls ++ sel ∷ []) term s2.cores o → IsFound s0.problem ls term f × IsBelow f.value n
-  turn-found o f is h = found-below s0.problem term n ls fine lt lits f (plain (Some f) (subst (λ (x : Option Found). Finds s1.problem (ls ++ sel ∷ []) term s2.cores x) is h))
+  pub turn-found : (o : Option Found) (f : Found) → o ≡ Some f → Finds s1.problem (ls ++ sel ∷ []) term s2.cores o
+      → IsFound s0.problem ls term f × IsBelow f.value n
+  turn-found o f is h = found-below s0.problem term n ls fine lt lits f
+      (plain (Some f) (subst (λ (x : Option Found). Finds s1.problem (ls ++ sel ∷ []) term s2.cores x) is h))
 
-  pub turn-nothing : (o : Option Found) → o ≡ None → Finds s1.problem (ls ++ sel ∷ []) term s2.cores o → NothingBelow s0.problem ls term n × HasCoreWithin s3.cores (ls ++ sel ∷ [])
+  pub turn-nothing : (o : Option Found) → o ≡ None → Finds s1.problem (ls ++ sel ∷ []) term s2.cores o
+      → NothingBelow s0.problem ls term n × HasCoreWithin s3.cores (ls ++ sel ∷ [])
   turn-nothing o is h =
-      let none : Finds s1.problem (ls ++ sel ∷ []) term s2.cores None = subst (λ (x : Option Found). Finds s1.problem (ls ++ sel ∷ []) term s2.cores x) is h in (
+      let none : Finds s1.problem (ls ++ sel ∷ []) term s2.cores None =
+      subst (λ (x : Option Found). Finds s1.problem (ls ++ sel ∷ []) term s2.cores x) is h in (
         nothing-below s0.problem term n ls fine lt lits (plain None none).0,
-        subst (λ (cs : List (List Lit)). HasCoreWithin cs (ls ++ sel ∷ [])) (sym (cores-same s0 s1 s2 s3 term n fine made.1 stays retires-next)) none.1,
+        subst (λ (cs : List (List Lit)). HasCoreWithin cs (ls ++ sel ∷ []))
+            (sym (cores-same s0 s1 s2 s3 term n fine made.1 stays retires-next)) none.1,
       )

@@ -24,7 +24,8 @@ pub record IsFound (p : ProblemState) (assumed : List Lit) (term : ℕ) (f : Fou
 
 -- no valuation that satisfies the problem and makes the literals true gives the term a value below the number
 abbrev pub NothingBelow : ProblemState → List Lit → ℕ → ExtInt → Type 0
-NothingBelow p assumed term n = (v : ℕ → Bool) → Satisfies p v → MakesTrue v assumed → compared cmp.Lt (value_at p term v) (value_of_bound n) ≡ false
+NothingBelow p assumed term n = (v : ℕ → Bool) → Satisfies p v → MakesTrue v assumed
+    → compared cmp.Lt (value_at p term v) (value_of_bound n) ≡ false
 
 -- what a search found: nothing, which a kept core shows, or values
 abbrev pub Finds : ProblemState → List Lit → ℕ → List (List Lit) → Option Found → Type 0
@@ -34,15 +35,18 @@ Finds p assumed term cores (Some f) = IsFound p assumed term f
 -- what a search below a number found: values, or nothing below it, which a kept core with the bound's selector shows
 abbrev pub FindsBelow : ProblemState → List Lit → ℕ → ExtInt → List (List Lit) → Step → Type 0
 FindsBelow p assumed term n cores (Lower f) = IsFound p assumed term f × IsBelow f.value n
-FindsBelow p assumed term n cores (Nothing selector) = NothingBelow p assumed term n × HasCoreWithin cores (assumed ++ selector ∷ [])
+FindsBelow p assumed term n cores (Nothing selector) = NothingBelow p assumed term n × HasCoreWithin cores
+    (assumed ++ selector ∷ [])
 
--- a bound's selector comes with every least value but minus infinity, and a kept core shows that nothing was left under it
+-- a bound's selector comes with every least value but minus infinity, and a kept core shows that nothing was left under
+-- it
 abbrev pub IsShown : List Lit → List (List Lit) → ExtInt → Option Lit → Type 0
 IsShown assumed cores n None = n ≡ NegInf
 IsShown assumed cores n (Some l) = (n ≡ NegInf → ⊥) × HasCoreWithin cores (assumed ++ l ∷ [])
 
 -- the values satisfy the problem and the literals, the term has the value there, and nowhere a lower one
-pub record IsLeast (p : ProblemState) (assumed : List Lit) (term : ℕ) (cores : List (List Lit)) (m : Minimum) : Type 0 where
+pub record IsLeast (p : ProblemState) (assumed : List Lit) (term : ℕ) (cores : List (List Lit))
+    (m : Minimum) : Type 0 where
   pub satisfies : Satisfies p (valuation m.values)
   pub assumes : MakesTrue (valuation m.values) assumed
   pub attained : HasValue p term (valuation m.values) m.value
@@ -56,4 +60,5 @@ FindsLeast p assumed term cores (Some m) = IsLeast p assumed term cores m
 
 -- the greatest finite value of the term is at most n above the least
 abbrev pub Spans : ProblemState → ℕ → ℕ → Type 0
-Spans p term n = (v w : ℕ → Bool) (x y : ℤ) → Satisfies p v → Satisfies p w → HasValue p term v (Num x) → HasValue p term w (Num y) → x ≤ℤ (y +ℤ pos n)
+Spans p term n = (v w : ℕ → Bool) (x y : ℤ) → Satisfies p v → Satisfies p w → HasValue p term v (Num x)
+    → HasValue p term w (Num y) → x ≤ℤ (y +ℤ pos n)

@@ -32,7 +32,8 @@ fn search<S: Grow>(
     ensures stays { Stays (S.state s.old) (S.state s.new) }
     ensures keeps { Keeps (S.state s.old) (S.state s.new) budget.old budget.new }
     ensures counts { Counts (S.state s.old).free 1 (S.state s.old) (S.state s.new) budget.old budget.new }
-    ensures decided { HasCoreWithin (S.state s.old).cores assume.now → IsAnsweredAtOnce (S.state s.old) (S.state s.new) result }
+    ensures decided { HasCoreWithin (S.state s.old).cores assume.now → IsAnsweredAtOnce (S.state s.old)
+        (S.state s.new) result }
     ensures kept { IsKept (S.state s.new) }
     ensures later { S.goes_on s.old s.new }
 {
@@ -60,7 +61,8 @@ fn search_under<S: Grow>(
     requires unretired { AreUnretired (S.state s.old).problem (assume.now ++ selector ∷ []) }
     requires budget { IsBudgetOf (S.state s.old).learnt budget.old }
     requires kept { IsKept (S.state s.old) }
-    ensures finds { IfOk result (Finds (S.state s.old).problem (assume.now ++ selector ∷ []) term (S.state s.new).cores) }
+    ensures finds { IfOk result (Finds (S.state s.old).problem (assume.now ++ selector ∷ []) term
+        (S.state s.new).cores) }
     ensures halt { IfErr result (HaltedAt budget.new) }
     ensures stays { Stays (S.state s.old) (S.state s.new) }
     ensures keeps { Keeps (S.state s.old) (S.state s.new) budget.old budget.new }
@@ -140,7 +142,8 @@ fn descend<S: Grow>(
     ensures halt { IfErr result (HaltedAt budget.new) }
     ensures adds { AddsBounds assume.now term (S.state s.old) (S.state s.new) }
     ensures keeps { Keeps (S.state s.old) (S.state s.new) budget.old budget.new }
-    ensures counts { (n : ℕ) → Spans (S.state s.old).problem term n → CountsUpTo ((S.state s.old).free + 1) (n + 2) (S.state s.old) (S.state s.new) budget.old budget.new }
+    ensures counts { (n : ℕ) → Spans (S.state s.old).problem term n → CountsUpTo ((S.state s.old).free + 1) (n + 2)
+        (S.state s.old) (S.state s.new) budget.old budget.new }
     ensures kept { IsKept (S.state s.new) }
     ensures later { S.goes_on s.old s.new }
 {
@@ -183,8 +186,10 @@ pub fn least<S: Grow>(
     ensures halt { IfErr result (HaltedAt budget.new) }
     ensures adds { AddsBounds assume.now term (S.state s.old) (S.state s.new) }
     ensures keeps { Keeps (S.state s.old) (S.state s.new) budget.old budget.new }
-    ensures costs { (n : ℕ) → Spans (S.state s.old).problem term n → Costs (n + 3) (S.state s.old) (S.state s.new) budget.old budget.new }
-    ensures decided { HasCoreWithin (S.state s.old).cores assume.now → IsAnsweredAtOnce (S.state s.old) (S.state s.new) result }
+    ensures costs { (n : ℕ) → Spans (S.state s.old).problem term n → Costs (n + 3) (S.state s.old)
+        (S.state s.new) budget.old budget.new }
+    ensures decided { HasCoreWithin (S.state s.old).cores assume.now → IsAnsweredAtOnce (S.state s.old)
+        (S.state s.new) result }
     ensures kept { IsKept (S.state s.new) }
     ensures later { S.goes_on s.old s.new }
 {

@@ -22,7 +22,8 @@ pub fn model_of<S: Solve>(
     ensures stays { Stays (S.state s.old) (S.state s.new) }
     ensures keeps { Keeps (S.state s.old) (S.state s.new) budget.old budget.new }
     ensures counts { Counts (S.state s.old).free 1 (S.state s.old) (S.state s.new) budget.old budget.new }
-    ensures decided { HasCoreWithin (S.state s.old).cores lits.now → IsAnsweredAtOnce (S.state s.old) (S.state s.new) result }
+    ensures decided { HasCoreWithin (S.state s.old).cores lits.now → IsAnsweredAtOnce (S.state s.old)
+        (S.state s.new) result }
     ensures kept { IsKept (S.state s.new) }
     ensures later { S.goes_on s.old s.new }
 {

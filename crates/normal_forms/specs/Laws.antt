@@ -8,7 +8,8 @@ use Rattle.normal_forms.specs.NormalForms.{normal_form, IsNormal}
 
 -- a formula and its normal form have one truth in every structure
 abbrev pub NormalFormIsTrue : Type 0
-NormalFormIsTrue = (m : Structure) (f : FormulaTree) (e : List Elem) → truth_of m (normal_form true f) e ≡ truth_of m f e
+NormalFormIsTrue = (m : Structure) (f : FormulaTree) (e : List Elem) → truth_of m (normal_form true f) e
+    ≡ truth_of m f e
 
 -- a normal form is one
 abbrev pub NormalFormIsNormal : Type 0

@@ -1,7 +1,9 @@
 -- Negation normal form: a negation stands only before an atom, a comparison or a number quantifier.
 use Rattle.std.specs.Prelude.{Bool, true, false, not, List}
 use Rattle.kb_logic.specs.declared.vocabularies.Bound.{Bound}
-use Rattle.kb_logic.specs.Trees.{FormulaTree, verum, falsum, atom, comparison, negation, conjunction, disjunction, implication, equivalence, universal, existential, numbered, FormulaTrees, no_formulas, more_formulas}
+use Rattle.kb_logic.specs.Trees.{FormulaTree, verum, falsum, atom, comparison, negation, conjunction, disjunction}
+use Rattle.kb_logic.specs.Trees.{implication, equivalence, universal, existential, numbered, FormulaTrees, no_formulas}
+use Rattle.kb_logic.specs.Trees.{more_formulas}
 
 -- the formula, or its negation
 abbrev pub signed : Bool → FormulaTree → FormulaTree
@@ -33,7 +35,8 @@ abbrev mutual
   normal_form sign (negation f) = normal_form (not sign) f
   normal_form sign (conjunction fs) = joined_by sign (normal_forms sign fs)
   normal_form sign (disjunction fs) = joined_by (not sign) (normal_forms sign fs)
-  normal_form sign (implication f g) = joined_by (not sign) (more_formulas (normal_form (not sign) f) (more_formulas (normal_form sign g) no_formulas))
+  normal_form sign (implication f g) = joined_by (not sign) (more_formulas (normal_form (not sign) f)
+      (more_formulas (normal_form sign g) no_formulas))
   normal_form sign (equivalence f g) = equivalence (normal_form true f) (normal_form sign g)
   normal_form sign (universal bs f) = quantified_by sign bs (normal_form sign f)
   normal_form sign (existential bs f) = quantified_by (not sign) bs (normal_form sign f)

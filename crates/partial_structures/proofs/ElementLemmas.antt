@@ -1,5 +1,7 @@
 -- The table of the elements of the types.
-use Rattle.std.proofs.Common.{◌≡◌, ℕ, zero, suc, ◌+◌, ◌<◌, List, [], ◌∷◌, ◌++◌, length, take, Bool, true, false, ◌&&◌, ◌||◌, ◌==◌, if◌then◌else◌, Option, None, Some, is_some, refl, sym, ap, ◌∙◌, subst, get_or, inl, inr, arith, Contains, MatchBool}
+use Rattle.std.proofs.Common.{◌≡◌, ℕ, zero, suc, ◌+◌, ◌<◌, List, [], ◌∷◌, ◌++◌, length, take, Bool, true, false, ◌&&◌}
+use Rattle.std.proofs.Common.{◌||◌, ◌==◌, if◌then◌else◌, Option, None, Some, is_some, refl, sym, ap, ◌∙◌, subst, get_or}
+use Rattle.std.proofs.Common.{inl, inr, arith, Contains, MatchBool}
 use Rattle.std.specs.List.{list_any}
 use Rattle.std.proofs.lemmas.Bool.{cases_Bool, true≢false, false_from_ne_true, and_parts, eqb-true}
 use Rattle.std.proofs.lemmas.Bool.Decides.{nat_tests}
@@ -43,24 +45,29 @@ one_more true b c d = refl
 one_more false true c d = refl
 one_more false false c d = refl
 
-pub list_any-append : {X : Type 0} (p : X → Bool) (xs ys : List X) → list_any p (xs ++ ys) ≡ (list_any p xs || list_any p ys)
+pub list_any-append : {X : Type 0} (p : X → Bool) (xs ys : List X) → list_any p (xs ++ ys)
+    ≡ (list_any p xs || list_any p ys)
 list_any-append p [] ys = refl
-list_any-append p (x ∷ xs) ys = ap (λ b. p x || b) (list_any-append p xs ys) ∙ grouped (p x) (list_any p xs) (list_any p ys)
+list_any-append p (x ∷ xs) ys = ap (λ b. p x || b) (list_any-append p xs ys) ∙ grouped (p x) (list_any p xs)
+    (list_any p ys)
   where
     grouped : (a b c : Bool) → (a || (b || c)) ≡ ((a || b) || c)
     grouped true b c = refl
     grouped false b c = refl
 
-any_more_at : {X : Type 0} (p : X → Bool) (xs : List X) (i : ℕ) (x : X) → i < length xs → x ≡ get_or xs i x → (list_any p (take i xs) || p x) ≡ list_any p (take (suc i) xs)
+any_more_at : {X : Type 0} (p : X → Bool) (xs : List X) (i : ℕ) (x : X) → i < length xs → x ≡ get_or xs i x
+    → (list_any p (take i xs) || p x) ≡ list_any p (take (suc i) xs)
 any_more_at p [] i x h e = absurd (omega (arith, h))
 any_more_at p (y ∷ xs) zero x h e = ap p e ∙ sym (or_false (p y))
-any_more_at p (y ∷ xs) (suc i) x h e = grouped (p y) (list_any p (take i xs)) (p x) ∙ ap (λ b. p y || b) (any_more_at p xs i x (omega (arith, h)) e)
+any_more_at p (y ∷ xs) (suc i) x h e = grouped (p y) (list_any p (take i xs)) (p x)
+    ∙ ap (λ b. p y || b) (any_more_at p xs i x (omega (arith, h)) e)
   where
     grouped : (a b c : Bool) → ((a || b) || c) ≡ (a || (b || c))
     grouped true b c = refl
     grouped false b c = refl
 
-pub any_more : {X : Type 0} (p : X → Bool) (xs : List X) (i : ℕ) (x : X) → i < length xs → x ≡ get_or xs i x → (list_any p (take i xs) || p x) ≡ list_any p (take (i + 1) xs)
+pub any_more : {X : Type 0} (p : X → Bool) (xs : List X) (i : ℕ) (x : X) → i < length xs → x ≡ get_or xs i x
+    → (list_any p (take i xs) || p x) ≡ list_any p (take (i + 1) xs)
 any_more p xs i x h e =
     let next : suc i ≡ i + 1 = omega arith in
     any_more_at p xs i x h e ∙ ap (λ n. list_any p (take n xs)) next
@@ -68,26 +75,32 @@ any_more p xs i x h e =
 -- ---- one key more
 
 -- a key that is there already adds nothing
-there_already : (t : ℕ) (l : Label) (k : Typed) (ks : List Typed) → list_any (typed_equality.eq k) ks ≡ true → is_typed t l k ≡ true → list_any (is_typed t l) ks ≡ true
+there_already : (t : ℕ) (l : Label) (k : Typed) (ks : List Typed) → list_any (typed_equality.eq k) ks ≡ true
+    → is_typed t l k ≡ true → list_any (is_typed t l) ks ≡ true
 there_already t l k ks h i =
     let r = some_one (typed_equality.eq k) ks h in
     let same = and_parts (k.ty == r.0.ty) (same_label k.label r.0.label) (sym (typed_test k r.0) ∙ r.2) in
     let ty : k.ty ≡ r.0.ty = eqb-true k.ty r.0.ty same.0 in
     let label : k.label ≡ r.0.label = same_label_is k.label r.0.label same.1 in
-    one_is_some (is_typed t l) ks r.0 r.1 (subst (λ n. ((t == n) && same_label l r.0.label) ≡ true) ty (subst (λ m. ((t == k.ty) && same_label l m) ≡ true) label i))
+    one_is_some (is_typed t l) ks r.0 r.1 (subst (λ n. ((t == n) && same_label l r.0.label) ≡ true) ty
+    (subst (λ m. ((t == k.ty) && same_label l m) ≡ true) label i))
 
-by_presence : (t : ℕ) (l : Label) (k : Typed) (ks : List Typed) (b : Bool) → list_any (typed_equality.eq k) ks ≡ b → list_any (is_typed t l) (if b then ks else ks ++ k ∷ []) ≡ (list_any (is_typed t l) ks || is_typed t l k)
-by_presence t l k ks false h = list_any-append (is_typed t l) ks (k ∷ []) ∙ ap (λ b. list_any (is_typed t l) ks || b) (or_false (is_typed t l k))
+by_presence : (t : ℕ) (l : Label) (k : Typed) (ks : List Typed) (b : Bool) → list_any (typed_equality.eq k) ks ≡ b
+    → list_any (is_typed t l) (if b then ks else ks ++ k ∷ []) ≡ (list_any (is_typed t l) ks || is_typed t l k)
+by_presence t l k ks false h = list_any-append (is_typed t l) ks (k ∷ []) ∙ ap (λ b. list_any (is_typed t l) ks || b)
+    (or_false (is_typed t l k))
 by_presence t l k ks true h = by (is_typed t l k) refl
   where
     by : (b : Bool) → is_typed t l k ≡ b → list_any (is_typed t l) ks ≡ (list_any (is_typed t l) ks || b)
     by true e = there_already t l k ks h e ∙ ap (λ c. c || true) (sym (there_already t l k ks h e))
     by false e = sym (or_false (list_any (is_typed t l) ks))
 
-pub added_element : (ks new : List Typed) (ty : ℕ) (label : Label) → new ≡ insert_key typed_equality.eq ks (record { ty = ty; label = label }) → HasMore ks new ty (Some label)
+pub added_element : (ks new : List Typed) (ty : ℕ) (label : Label) → new ≡ insert_key typed_equality.eq ks
+    (record { ty = ty; label = label }) → HasMore ks new ty (Some label)
 added_element ks new ty label e = λ t l.
     ap (list_any (is_typed t l)) e
-    ∙ by_presence t l (record { ty = ty; label = label }) ks (list_any (typed_equality.eq (record { ty = ty; label = label })) ks) refl
+    ∙ by_presence t l (record { ty = ty; label = label }) ks (list_any
+    (typed_equality.eq (record { ty = ty; label = label })) ks) refl
 
 pub nothing_added : (ks : List Typed) (ty : ℕ) → HasMore ks ks ty None
 nothing_added ks ty = λ t l. none_more (list_any (is_typed t l) ks) (t == ty)
@@ -104,16 +117,21 @@ eq_suc : (t i : ℕ) → (suc t == suc i) ≡ (t == i)
 eq_suc t i = grind (arith, nat_tests)
 
 domain_more_at : (p : Elem → Bool) (domains : List (List Elem)) (i t : ℕ) → i < length domains
-    → (list_any p (domain_at (take i domains) t) || ((t == i) && list_any p (domain_at domains i))) ≡ list_any p (domain_at (take (suc i) domains) t)
+    → (list_any p (domain_at (take i domains) t) || ((t == i) && list_any p (domain_at domains i))) ≡ list_any p
+    (domain_at (take (suc i) domains) t)
 domain_more_at p [] i t h = absurd (omega (arith, h))
 domain_more_at p (d ∷ ds) zero zero h = refl
 domain_more_at p (d ∷ ds) zero (suc t) h = ap (λ b. b && list_any p d) (suc_zero t)
-domain_more_at p (d ∷ ds) (suc i) zero h = ap (λ b. list_any p d || (b && list_any p (domain_at ds i))) (zero_suc i) ∙ or_false (list_any p d)
+domain_more_at p (d ∷ ds) (suc i) zero h = ap (λ b. list_any p d || (b && list_any p (domain_at ds i))) (zero_suc i)
+    ∙ or_false (list_any p d)
 domain_more_at p (d ∷ ds) (suc i) (suc t) h =
-    ap (λ b. list_any p (domain_at (take i ds) t) || (b && list_any p (domain_at ds i))) (eq_suc t i) ∙ domain_more_at p ds i t (omega (arith, h))
+    ap (λ b. list_any p (domain_at (take i ds) t) || (b && list_any p (domain_at ds i))) (eq_suc t i)
+    ∙ domain_more_at p ds i t (omega (arith, h))
 
-pub domain_more : (p : Elem → Bool) (domains : List (List Elem)) (i t : ℕ) (d : List Elem) → i < length domains → d ≡ get_or domains i d
-    → (list_any p (domain_at (take i domains) t) || ((t == i) && list_any p d)) ≡ list_any p (domain_at (take (i + 1) domains) t)
+pub domain_more : (p : Elem → Bool) (domains : List (List Elem)) (i t : ℕ) (d : List Elem) → i < length domains
+    → d ≡ get_or domains i d
+    → (list_any p (domain_at (take i domains) t) || ((t == i) && list_any p d)) ≡ list_any p
+    (domain_at (take (i + 1) domains) t)
 domain_more p domains i t d h e =
     let next : suc i ≡ i + 1 = omega arith in
     ap (λ x. list_any p (domain_at (take i domains) t) || ((t == i) && list_any p x)) (domain_is domains i d h e)
@@ -130,7 +148,8 @@ same_optional_is : (l : Label) (o : Option Label) → same_optional_label l o �
 same_optional_is l None h = cc
 same_optional_is l (Some k) h = ap Some (sym (same_label_is l k h))
 
-label_stands : (ws : List (List ℕ)) (d : List Elem) (v : Denotation) (l : Label) → value_label ws v ≡ Some l → list_any (stands_for ws l) d ≡ stands_in d v
+label_stands : (ws : List (List ℕ)) (d : List Elem) (v : Denotation) (l : Label) → value_label ws v ≡ Some l
+    → list_any (stands_for ws l) d ≡ stands_in d v
 label_stands ws d v l e = elim (cases_Bool (stands_in d v)) [
   | inl h ↦
       let r = stands d v h in
@@ -139,29 +158,36 @@ label_stands ws d v l e = elim (cases_Bool (stands_in d v)) [
   | inr h ↦
       false_from_ne_true (list_any (stands_for ws l) d) (λ i.
       let r = some_one (stands_for ws l) d i in
-      let label : value_label ws (denotation_of r.0) ≡ Some l = label_same ws r.0 ∙ same_optional_is l (label_of ws r.0) r.2 in
+      let label : value_label ws (denotation_of r.0) ≡ Some l = label_same ws r.0
+      ∙ same_optional_is l (label_of ws r.0) r.2 in
       let same : denotation_of r.0 ≡ v = value_injective ws (denotation_of r.0) v l label e in
       true≢false (sym (ap (stands_in d) (sym same) ∙ stands_is d r.0 (has_from d r.0 r.1)) ∙ h)) ∙ sym h
 ]
 
-pub tells_elements : (ws : List (List ℕ)) (domains : List (List Elem)) (table : List Typed) → ws ≡ words_of domains → HasElements ws domains table → TellsElements ws domains table
+pub tells_elements : (ws : List (List ℕ)) (domains : List (List Elem)) (table : List Typed) → ws ≡ words_of domains
+    → HasElements ws domains table → TellsElements ws domains table
 tells_elements ws domains table words has = λ ty v. by ty v (value_label ws v) refl
   where
-    by : (ty : ℕ) (v : Denotation) (o : Option Label) → value_label ws v ≡ o → has_label_of table ty o ≡ stands_in (domain_at domains ty) v
+    by : (ty : ℕ) (v : Denotation) (o : Option Label) → value_label ws v ≡ o → has_label_of table ty o ≡ stands_in
+        (domain_at domains ty) v
     by ty v (Some l) e = has ty l ∙ label_stands ws (domain_at domains ty) v l e
     by ty v None e = sym (false_from_ne_true (stands_in (domain_at domains ty) v) (λ h.
         let r = stands (domain_at domains ty) v h in
         let none : label_of ws r.0 ≡ None = sym (label_same ws r.0) ∙ ap (value_label ws) r.2 ∙ e in
-        let some : has_label ws r.0 ≡ true = subst (λ us. has_label us r.0 ≡ true) (sym words) (typed_labelled domains ty r.0 (has_from (domain_at domains ty) r.0 r.1)) in
+        let some : has_label ws r.0 ≡ true = subst (λ us. has_label us r.0 ≡ true) (sym words)
+        (typed_labelled domains ty r.0 (has_from (domain_at domains ty) r.0 r.1)) in
         true≢false (sym some ∙ ap is_some none)))
 
 -- so it tells of each element whether it is one of a type's
-pub tells_membership : (ws : List (List ℕ)) (domains : List (List Elem)) (table : List Typed) → ws ≡ words_of domains → HasElements ws domains table
-    → (ty : ℕ) (x : Elem) → MatchBool (has_label_of table ty (label_of ws x)) (Contains (domain_at domains ty) x) (Contains (domain_at domains ty) x → ⊥)
+pub tells_membership : (ws : List (List ℕ)) (domains : List (List Elem)) (table : List Typed) → ws ≡ words_of domains
+    → HasElements ws domains table
+    → (ty : ℕ) (x : Elem) → MatchBool (has_label_of table ty (label_of ws x)) (Contains (domain_at domains ty) x)
+    (Contains (domain_at domains ty) x → ⊥)
 tells_membership ws domains table words has ty x =
     let d = domain_at domains ty in
     let told : has_label_of table ty (label_of ws x) ≡ stands_in d (denotation_of x) =
-    ap (has_label_of table ty) (sym (label_same ws x)) ∙ tells_elements ws domains table words has ty (denotation_of x) in
+    ap (has_label_of table ty) (sym (label_same ws x)) ∙ tells_elements ws domains table words has ty
+    (denotation_of x) in
     subst (λ b. MatchBool b (Contains d x) (Contains d x → ⊥)) (sym told) (by d (stands_in d (denotation_of x)) refl)
   where
     by : (d : List Elem) (b : Bool) → stands_in d (denotation_of x) ≡ b → MatchBool b (Contains d x) (Contains d x → ⊥)

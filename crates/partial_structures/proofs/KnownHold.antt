@@ -8,7 +8,8 @@ use Rattle.partial_structures.specs.Laws.{KnownAtomsHold}
 use Rattle.partial_structures.specs.declared.truths.Truth.TheVariants.{Yes, No, Unknown}
 use Rattle.partial_structures.proofs.Sames.{atom_is}
 
-at_listed : (a : GroundAtom) (P : GroundAtom → Type 0) (xs : List GroundAtom) → list_any (same_atom a) xs ≡ true → AllByRecursion P xs → P a
+at_listed : (a : GroundAtom) (P : GroundAtom → Type 0) (xs : List GroundAtom) → list_any (same_atom a) xs ≡ true
+    → AllByRecursion P xs → P a
 at_listed a P [] h all = absurd (true≢false (sym h))
 at_listed a P (x ∷ xs) h all = elim (or_cases (same_atom a x) (list_any (same_atom a) xs) h) [
   | inl e ↦ subst P (atom_is a x e) all.0
@@ -27,6 +28,8 @@ is_false false false h = absurd (cc)
 
 pub known_atoms_hold : KnownAtomsHold
 known_atoms_hold m k a extends = (
-  λ h. at_listed a _ k.true_atoms (is_true (list_any (same_atom a) k.true_atoms) (list_any (same_atom a) k.false_atoms) h) extends.true_atoms,
-  λ h. at_listed a _ k.false_atoms (is_false (list_any (same_atom a) k.true_atoms) (list_any (same_atom a) k.false_atoms) h) extends.false_atoms,
+  λ h. at_listed a _ k.true_atoms (is_true (list_any (same_atom a) k.true_atoms) (list_any (same_atom a) k.false_atoms)
+      h) extends.true_atoms,
+  λ h. at_listed a _ k.false_atoms (is_false (list_any (same_atom a) k.true_atoms)
+      (list_any (same_atom a) k.false_atoms) h) extends.false_atoms,
 )

@@ -1,5 +1,6 @@
 -- Rows and their nodes: a node is that of one row alone, and what new nodes and new marks change.
-use Rattle.std.proofs.Common.{◌≡◌, ℕ, ℤ, List, [], ◌∷◌, true, false, ◌==◌, Option, None, Some, refl, sym, ap, ◌∙◌, slice_get}
+use Rattle.std.proofs.Common.{◌≡◌, ℕ, ℤ, List, [], ◌∷◌, true, false, ◌==◌, Option, None, Some, refl, sym, ap, ◌∙◌}
+use Rattle.std.proofs.Common.{slice_get}
 use Rattle.std.specs.Option.{option_map}
 use Rattle.std.specs.Str.{bytes_eq}
 use Rattle.std.proofs.lemmas.Bool.{eqb-true, and_parts, true≢false}
@@ -37,17 +38,25 @@ pub leads : (es : List (Edge × Mark)) (p : ℕ) (l : Label) (n : ℕ) → child
 leads es p l n h =
     let f = found (λ (e : Edge × Mark). same_edge p l e.0) es n h in
     let both = and_parts (p == f.item.0.parent) (same_label l f.item.0.label) f.passes in
-    record { item = f.item; at = f.at; parent = eqb-true p f.item.0.parent both.0; label = same_label_is l f.item.0.label both.1 }
+    record {
+      item = f.item;
+      at = f.at;
+      parent = eqb-true p f.item.0.parent both.0;
+      label =
+          same_label_is l f.item.0.label both.1;
+    }
 
 -- a node has one edge to it
-child_injective : (es : List (Edge × Mark)) (p q : ℕ) (l k : Label) (n : ℕ) → child_of es p l ≡ Some n → child_of es q k ≡ Some n → (p ≡ q) × (l ≡ k)
+child_injective : (es : List (Edge × Mark)) (p q : ℕ) (l k : Label) (n : ℕ) → child_of es p l ≡ Some n
+    → child_of es q k ≡ Some n → (p ≡ q) × (l ≡ k)
 child_injective es p q l k n h i =
     let a = leads es p l n h in
     let b = leads es q k n i in
     let same : a.item ≡ b.item = cc (a.at, b.at) in
     (cc (a.parent, b.parent, same), cc (a.label, b.label, same))
 
-number_injective : (ws : List (List ℕ)) (q r : List ℕ) (n : ℕ) → place (bytes_eq q) ws ≡ Some n → place (bytes_eq r) ws ≡ Some n → q ≡ r
+number_injective : (ws : List (List ℕ)) (q r : List ℕ) (n : ℕ) → place (bytes_eq q) ws ≡ Some n → place (bytes_eq r) ws
+    ≡ Some n → q ≡ r
 number_injective ws q r n h i =
     let a = found (bytes_eq q) ws n h in
     let b = found (bytes_eq r) ws n i in
@@ -56,7 +65,8 @@ number_injective ws q r n h i =
     let second : r ≡ b.item = (bytes_eq-Decides r b.item).0 b.passes in
     cc (same, first, second)
 
-words_injective : (ws : List (List ℕ)) (q r : List ℕ) (o u : Option ℕ) (l : Label) → place (bytes_eq q) ws ≡ o → place (bytes_eq r) ws ≡ u → option_map Word o ≡ Some l → option_map Word u ≡ Some l → q ≡ r
+words_injective : (ws : List (List ℕ)) (q r : List ℕ) (o u : Option ℕ) (l : Label) → place (bytes_eq q) ws ≡ o
+    → place (bytes_eq r) ws ≡ u → option_map Word o ≡ Some l → option_map Word u ≡ Some l → q ≡ r
 words_injective ws q r None u l e f h i = absurd (cc)
 words_injective ws q r (Some n) None l e f h i = absurd (cc)
 words_injective ws q r (Some n) (Some m) l e f h i =
@@ -77,8 +87,10 @@ no_number None z l h i = cc
 no_number (Some n) z l h i = cc
 
 -- elements with one label are equal
-pub label_injective : (ws : List (List ℕ)) (x y : Elem) (l : Label) → label_of ws x ≡ Some l → label_of ws y ≡ Some l → x ≡ y
-label_injective ws (Named q) (Named r) l h i = ap Named (words_injective ws q r (place (bytes_eq q) ws) (place (bytes_eq r) ws) l refl refl h i)
+pub label_injective : (ws : List (List ℕ)) (x y : Elem) (l : Label) → label_of ws x ≡ Some l
+    → label_of ws y ≡ Some l → x ≡ y
+label_injective ws (Named q) (Named r) l h i = ap Named (words_injective ws q r (place (bytes_eq q) ws)
+    (place (bytes_eq r) ws) l refl refl h i)
 label_injective ws (Named q) (Num z) l h i = absurd (no_number (place (bytes_eq q) ws) z l h i)
 label_injective ws (Num z) (Named q) l h i = absurd (no_number (place (bytes_eq q) ws) z l i h)
 label_injective ws (Num y) (Num z) l h i = cc
@@ -90,13 +102,15 @@ pub record ChildBy (es : List (Edge × Mark)) (o : Option ℕ) (l : Option Label
   pub by : l ≡ Some label
   pub is : child_of es parent label ≡ Some n
 
-pub child_by_is : (es : List (Edge × Mark)) (o : Option ℕ) (l : Option Label) (n : ℕ) → child_by es o l ≡ Some n → ChildBy es o l n
+pub child_by_is : (es : List (Edge × Mark)) (o : Option ℕ) (l : Option Label) (n : ℕ) → child_by es o l ≡ Some n
+    → ChildBy es o l n
 child_by_is es None l n h = absurd (cc)
 child_by_is es (Some p) None n h = absurd (cc)
 child_by_is es (Some p) (Some l) n h = record { parent = p; label = l; from = refl; by = refl; is = h }
 
 -- a node is that of one row
-pub node_injective : (ws : List (List ℕ)) (es : List (Edge × Mark)) (s r : ℕ) (xs ys : List Elem) (n : ℕ) → node_of ws es s xs ≡ Some n → node_of ws es r ys ≡ Some n → (s ≡ r) × (xs ≡ ys)
+pub node_injective : (ws : List (List ℕ)) (es : List (Edge × Mark)) (s r : ℕ) (xs ys : List Elem) (n : ℕ)
+    → node_of ws es s xs ≡ Some n → node_of ws es r ys ≡ Some n → (s ≡ r) × (xs ≡ ys)
 node_injective ws es s r [] [] n h i =
     let same = child_injective es 0 0 (Symbol s) (Symbol r) n h i in
     (cc (same.1), refl)

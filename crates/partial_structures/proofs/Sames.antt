@@ -1,5 +1,6 @@
 -- The tests of equality decide.
-use Rattle.std.proofs.Common.{◌≡◌, ℕ, List, [], ◌∷◌, map, true, ◌&&◌, ◌==◌, Option, None, Some, refl, sym, ap, ◌∙◌, option_map, ◌⊎◌, inl, inr}
+use Rattle.std.proofs.Common.{◌≡◌, ℕ, List, [], ◌∷◌, map, true, ◌&&◌, ◌==◌, Option, None, Some, refl, sym, ap, ◌∙◌}
+use Rattle.std.proofs.Common.{option_map, ◌⊎◌, inl, inr}
 use Rattle.std.proofs.lemmas.Bool.{eqb-true, eq-eqb, and_parts, and_from, cases_Bool, true≢false}
 use Rattle.std.proofs.lemmas.Bool.Decides.{Decides-int_eq}
 use Rattle.std.proofs.lemmas.Slice.Eq.{bytes_eq-Decides}
@@ -31,7 +32,8 @@ row_is (x ∷ xs) (y ∷ ys) h =
 
 pub row_itself : (xs : List Elem) → same_row xs (map denotation_of xs) ≡ true
 row_itself [] = refl
-row_itself (x ∷ xs) = and_from (same_value (denotation_of x) (denotation_of x)) (same_row xs (map denotation_of xs)) (element_itself x) (row_itself xs)
+row_itself (x ∷ xs) = and_from (same_value (denotation_of x) (denotation_of x)) (same_row xs (map denotation_of xs))
+    (element_itself x) (row_itself xs)
 
 pub option_is : (o u : Option Elem) → same_option o (option_map denotation_of u) ≡ true → o ≡ u
 option_is None None h = refl
@@ -49,18 +51,24 @@ atom_by a b s r v = λ i. record { symbol = s i; args = r i; value = v i }
 
 pub atom_is : (a b : GroundAtom) → same_atom a b ≡ true → b ≡ a
 atom_is a b h =
-    let symbol = and_parts (b.symbol == a.symbol) (same_row b.args (map denotation_of a.args) && same_option b.value (option_map denotation_of a.value)) h in
-    let rest = and_parts (same_row b.args (map denotation_of a.args)) (same_option b.value (option_map denotation_of a.value)) symbol.1 in
+    let symbol = and_parts (b.symbol == a.symbol) (same_row b.args (map denotation_of a.args) && same_option b.value
+    (option_map denotation_of a.value)) h in
+    let rest = and_parts (same_row b.args (map denotation_of a.args))
+    (same_option b.value (option_map denotation_of a.value)) symbol.1 in
     atom_by b a (eqb-true b.symbol a.symbol symbol.0) (row_is b.args a.args rest.0) (option_is b.value a.value rest.1)
 
 pub atom_itself : (a : GroundAtom) → same_atom a a ≡ true
 atom_itself a =
-    and_from (a.symbol == a.symbol) (same_row a.args (map denotation_of a.args) && same_option a.value (option_map denotation_of a.value)) (eq-eqb a.symbol a.symbol refl)
-    (and_from (same_row a.args (map denotation_of a.args)) (same_option a.value (option_map denotation_of a.value)) (row_itself a.args) (option_itself a.value))
+    and_from (a.symbol == a.symbol) (same_row a.args (map denotation_of a.args) && same_option a.value
+    (option_map denotation_of a.value)) (eq-eqb a.symbol a.symbol refl)
+    (and_from (same_row a.args (map denotation_of a.args)) (same_option a.value (option_map denotation_of a.value))
+    (row_itself a.args) (option_itself a.value))
 
 -- two rows are equal or not
 pub row_cases : (r s : ℕ) (ys xs : List Elem) → ((r ≡ s) × (ys ≡ xs)) ⊎ ((r ≡ s) × (ys ≡ xs) → ⊥)
 row_cases r s ys xs = elim (cases_Bool ((r == s) && same_row ys (map denotation_of xs))) [
-  | inl h ↦ let both = and_parts (r == s) (same_row ys (map denotation_of xs)) h in inl (eqb-true r s both.0, row_is ys xs both.1)
-  | inr h ↦ inr (λ e. true≢false (sym (and_from (r == s) (same_row ys (map denotation_of xs)) (eq-eqb r s e.0) (ap (λ zs. same_row zs (map denotation_of xs)) e.1 ∙ row_itself xs)) ∙ h))
+  | inl h ↦ let both = and_parts (r == s) (same_row ys (map denotation_of xs)) h in
+      inl (eqb-true r s both.0, row_is ys xs both.1)
+  | inr h ↦ inr (λ e. true≢false (sym (and_from (r == s) (same_row ys (map denotation_of xs)) (eq-eqb r s e.0)
+      (ap (λ zs. same_row zs (map denotation_of xs)) e.1 ∙ row_itself xs)) ∙ h))
 ]

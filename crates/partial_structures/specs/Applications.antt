@@ -1,5 +1,6 @@
 -- What is known of a symbol's application to arguments whose values are known.
-use Rattle.std.specs.Prelude.{ℕ, List, [], ◌∷◌, Bool, true, false, ◌&&◌, ◌==◌, if◌then◌else◌, Option, None, Some, option_map, is_some, slice_get}
+use Rattle.std.specs.Prelude.{ℕ, List, [], ◌∷◌, Bool, true, false, ◌&&◌, ◌==◌, if◌then◌else◌, Option, None, Some}
+use Rattle.std.specs.Prelude.{option_map, is_some, slice_get}
 use Rattle.std.specs.List.{list_any}
 use Rattle.kb_logic.specs.declared.elements.Elem.{Elem}
 use Rattle.kb_logic.specs.declared.vocabularies.Symbol.{Symbol}
@@ -13,7 +14,8 @@ use Rattle.partial_structures.specs.declared.truths.Truth.TheVariants as truth
 -- the value that one of the atoms gives to the function s at these arguments
 abbrev pub given_value : ℕ → List Denotation → List GroundAtom → Option Elem
 given_value s vs [] = None
-given_value s vs (a ∷ more) = if (a.symbol == s) && (same_row a.args vs && is_some a.value) then a.value else given_value s vs more
+given_value s vs (a ∷ more) = if (a.symbol == s) && (same_row a.args vs && is_some a.value) then a.value else
+    given_value s vs more
 
 abbrev pub applied_known : KnownAtoms → ℕ → Option (List Denotation) → Option Denotation
 applied_known k s None = None
@@ -57,4 +59,5 @@ abbrev pub value_certain : KnownAtoms → ℕ → Option (List Denotation) → O
 value_certain k s None v = truth.Unknown
 value_certain k s (Some vs) None = truth.Unknown
 value_certain k s (Some vs) (Some v) =
-    if arguments_typed k (slice_get k.symbols s) vs then (if result_typed k (slice_get k.symbols s) v then value_of_row k s vs (Some v) else outside_value (slice_get k.symbols s)) else truth.Unknown
+    if arguments_typed k (slice_get k.symbols s) vs then (if result_typed k (slice_get k.symbols s) v then
+    value_of_row k s vs (Some v) else outside_value (slice_get k.symbols s)) else truth.Unknown

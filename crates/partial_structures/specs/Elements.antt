@@ -20,7 +20,8 @@ stands_for ws l x = same_optional_label l (label_of ws x)
 
 -- the table has the labels of the elements of each type
 abbrev pub HasElements : List (List ℕ) → List (List Elem) → List Typed → Type 0
-HasElements ws domains table = (ty : ℕ) (l : Label) → list_any (is_typed ty l) table ≡ list_any (stands_for ws l) (domain_at domains ty)
+HasElements ws domains table = (ty : ℕ) (l : Label) → list_any (is_typed ty l) table ≡ list_any (stands_for ws l)
+    (domain_at domains ty)
 
 -- the type has an element with the label
 abbrev pub has_label_of : List Typed → ℕ → Option Label → Bool
@@ -29,8 +30,10 @@ has_label_of table ty (Some l) = list_any (is_typed ty l) table
 
 -- the table tells of each value whether it is an element of a type
 abbrev pub TellsElements : List (List ℕ) → List (List Elem) → List Typed → Type 0
-TellsElements ws domains table = (ty : ℕ) (v : Denotation) → has_label_of table ty (value_label ws v) ≡ stands_in (domain_at domains ty) v
+TellsElements ws domains table = (ty : ℕ) (v : Denotation) → has_label_of table ty (value_label ws v) ≡ stands_in
+    (domain_at domains ty) v
 
 -- the table has one more element of a type, where it has a label
 abbrev pub HasMore : List Typed → List Typed → ℕ → Option Label → Type 0
-HasMore old new ty label = (t : ℕ) (l : Label) → list_any (is_typed t l) new ≡ (list_any (is_typed t l) old || ((t == ty) && same_optional_label l label))
+HasMore old new ty label = (t : ℕ) (l : Label) → list_any (is_typed t l) new
+    ≡ (list_any (is_typed t l) old || ((t == ty) && same_optional_label l label))

@@ -1,5 +1,6 @@
 -- What is known, as it is lent to the evaluator, and where an application's atoms stand in it.
-use Rattle.std.specs.Prelude.{ℕ, List, [], ◌∷◌, fold, filter, Bool, true, false, ◌&&◌, Option, None, Some, is_some, slice_get}
+use Rattle.std.specs.Prelude.{ℕ, List, [], ◌∷◌, fold, filter, Bool, true, false, ◌&&◌, Option, None, Some, is_some}
+use Rattle.std.specs.Prelude.{slice_get}
 use Rattle.std.specs.Option.{option_map_or}
 use Rattle.kb_logic.specs.declared.elements.Elem.{Elem}
 use Rattle.kb_logic.specs.declared.vocabularies.Symbol.{Symbol}
@@ -18,7 +19,8 @@ use Rattle.partial_structures.specs.declared.known.Known.{Known}
 use Rattle.partial_structures.specs.declared.spots.Place.{Place}
 
 abbrev pub status_in : Known → GroundAtom → Truth
-status_in s a = status_of (words_in s.rows.now.words) s.rows.now.nodes.entries (is_closed s.closed.now a.symbol) a.symbol a.args a.value
+status_in s a = status_of (words_in s.rows.now.words) s.rows.now.nodes.entries (is_closed s.closed.now a.symbol)
+    a.symbol a.args a.value
 
 abbrev pub known_in : Known → KnownAtoms
 known_in s = record {
@@ -52,7 +54,8 @@ first_spot node None = record { node = node; types = []; typed = false }
 first_spot node (Some d) = record { node = node; types = d.args; typed = true }
 
 abbrev pub start_of : Known → ℕ → Spot
-start_of s symbol = first_spot (node_of (words_in s.rows.now.words) s.rows.now.nodes.entries symbol []) (slice_get s.symbols.now symbol)
+start_of s symbol = first_spot (node_of (words_in s.rows.now.words) s.rows.now.nodes.entries symbol [])
+    (slice_get s.symbols.now symbol)
 
 -- one argument further
 abbrev pub stepped : Known → Spot → Denotation → Spot

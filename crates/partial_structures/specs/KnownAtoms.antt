@@ -1,5 +1,6 @@
 -- What is known of the atoms over symbols and domains, and what a change of it makes known.
-use Rattle.std.specs.Prelude.{ℕ, List, [], ◌∷◌, map, filter, Bool, true, false, not, ◌&&◌, ◌||◌, ◌==◌, if◌then◌else◌, Option, None, Some, option_map, slice_get}
+use Rattle.std.specs.Prelude.{ℕ, List, [], ◌∷◌, map, filter, Bool, true, false, not, ◌&&◌, ◌||◌, ◌==◌, if◌then◌else◌}
+use Rattle.std.specs.Prelude.{Option, None, Some, option_map, slice_get}
 use Rattle.std.specs.List.{list_any}
 use Rattle.std.specs.Option.{option_map_or}
 use Rattle.kb_logic.specs.declared.elements.Elem.{Elem}
@@ -32,7 +33,8 @@ is_atom s vs v a = (a.symbol == s) && (same_row a.args vs && same_option a.value
 -- the truth of the atom of symbol s with these arguments and this value
 abbrev pub value_of_row : KnownAtoms → ℕ → List Denotation → Option Denotation → Truth
 value_of_row k s vs v =
-    if list_any (is_atom s vs v) k.true_atoms then truth.Yes else (if list_any (is_atom s vs v) k.false_atoms then truth.No else truth.Unknown)
+    if list_any (is_atom s vs v) k.true_atoms then truth.Yes else (if list_any (is_atom s vs v) k.false_atoms then
+    truth.No else truth.Unknown)
 
 -- what is known of the atom
 abbrev pub value_at : KnownAtoms → GroundAtom → Truth
@@ -49,11 +51,13 @@ both_values _ _ = false
 
 -- b gives a function another value than a does, at the same arguments
 abbrev pub is_rival : GroundAtom → GroundAtom → Bool
-is_rival a b = (b.symbol == a.symbol) && (same_row b.args (map denotation_of a.args) && (both_values a.value b.value && not (same_option b.value (option_map denotation_of a.value))))
+is_rival a b = (b.symbol == a.symbol) && (same_row b.args (map denotation_of a.args) &&
+    (both_values a.value b.value && not (same_option b.value (option_map denotation_of a.value))))
 
 -- the atoms of the symbol with this number, in the order of all atoms
 abbrev pub atoms_of : KnownAtoms → ℕ → List GroundAtom
-atoms_of k s = option_map_or (λ (d : Symbol). atoms_with k.domains s (tuples_of k.domains d.args) d.value) (slice_get k.symbols s) []
+atoms_of k s = option_map_or (λ (d : Symbol). atoms_with k.domains s (tuples_of k.domains d.args) d.value)
+    (slice_get k.symbols s) []
 
 -- the atoms with this test, in their order
 abbrev pub atoms_where : KnownAtoms → (GroundAtom → Bool) → List GroundAtom
@@ -73,7 +77,8 @@ with_false k a = record k { false_atoms = atoms_where k (λ b. same_atom a b || 
 -- the atoms of symbol s that were unknown have become certainly false
 abbrev pub with_closed : KnownAtoms → ℕ → KnownAtoms
 with_closed k s = record k {
-  false_atoms = atoms_where k (λ b. ((b.symbol == s) && not (list_any (same_atom b) k.true_atoms)) || list_any (same_atom b) k.false_atoms);
+  false_atoms = atoms_where k (λ b. ((b.symbol == s) && not (list_any (same_atom b) k.true_atoms)) || list_any
+      (same_atom b) k.false_atoms);
 }
 
 -- nothing is known

@@ -8,4 +8,5 @@ use Rattle.partial_structures.specs.declared.truths.Truth.TheVariants as truth
 
 -- what is known of an atom is so in every structure that extends the data
 abbrev pub KnownAtomsHold : Type 0
-KnownAtomsHold = (m : Structure) (k : KnownAtoms) (a : GroundAtom) → ExtendsData m k → (value_at k a ≡ truth.Yes → AtomHolds m a) × (value_at k a ≡ truth.No → AtomHolds m a → ⊥)
+KnownAtomsHold = (m : Structure) (k : KnownAtoms) (a : GroundAtom) → ExtendsData m k
+    → (value_at k a ≡ truth.Yes → AtomHolds m a) × (value_at k a ≡ truth.No → AtomHolds m a → ⊥)

@@ -1,5 +1,6 @@
 -- A tree of rows: the nodes with their marks, each numbered by its place.
-use Rattle.std.specs.Prelude.{◌≡◌, ℕ, List, [], ◌∷◌, length, Option, None, Some, Bool, true, false, ◌==◌, ◌&&◌, ◌||◌, nat_lt, option_map, slice_get, is_some, reverse, if◌then◌else◌}
+use Rattle.std.specs.Prelude.{◌≡◌, ℕ, List, [], ◌∷◌, length, Option, None, Some, Bool, true, false, ◌==◌, ◌&&◌, ◌||◌}
+use Rattle.std.specs.Prelude.{nat_lt, option_map, slice_get, is_some, reverse, if◌then◌else◌}
 use Rattle.std.specs.Option.{option_map_or}
 use Rattle.std.specs.List.{list_all}
 use Rattle.std.specs.Ordering.{int_eq}
@@ -64,10 +65,12 @@ is_tree es = list_all (λ e. is_symbol e.0.label || nat_lt e.0.parent (length es
 
 -- the new tree has the old one's nodes, and every row has the mark that it had
 pub record Grows (old new : List (Edge × Mark)) : Type 0 where
-  pub nodes : (ws : List (List ℕ)) (s : ℕ) (xs : List Elem) (n : ℕ) → node_of ws old s xs ≡ Some n → node_of ws new s xs ≡ Some n
+  pub nodes : (ws : List (List ℕ)) (s : ℕ) (xs : List Elem) (n : ℕ) → node_of ws old s xs ≡ Some n
+      → node_of ws new s xs ≡ Some n
   pub marks : (ws : List (List ℕ)) (s : ℕ) (xs : List Elem) → mark_of ws new s xs ≡ mark_of ws old s xs
 
--- the row of symbol s with the elements xs, the last one first, has a new mark, and every other row has the mark that it had
+-- the row of symbol s with the elements xs, the last one first, has a new mark, and every other row has the mark that
+-- it had
 pub record Marks (ws : List (List ℕ)) (old new : List (Edge × Mark)) (s : ℕ) (xs : List Elem) (m : Mark) : Type 0 where
   pub here : mark_of ws new s xs ≡ m
   pub others : (r : ℕ) (ys : List Elem) → ((r ≡ s) × (ys ≡ xs) → ⊥) → mark_of ws new r ys ≡ mark_of ws old r ys
@@ -79,12 +82,15 @@ row_of args (Some x) = x ∷ reverse args
 
 -- the rows say that an atom is true: a predicate's row, or a function's value at its arguments
 abbrev pub MadeTrue : List (List ℕ) → List (Edge × Mark) → List (Edge × Mark) → ℕ → List Elem → Option Elem → Type 0
-MadeTrue ws old new s args None = Marks ws old new s (reverse args) (record (mark_of ws old s (reverse args)) { known = Yes })
-MadeTrue ws old new s args (Some x) = Marks ws old new s (reverse args) (record (mark_of ws old s (reverse args)) { value = label_of ws x })
+MadeTrue ws old new s args None = Marks ws old new s (reverse args) (record (mark_of ws old s (reverse args))
+    { known = Yes })
+MadeTrue ws old new s args (Some x) = Marks ws old new s (reverse args) (record (mark_of ws old s (reverse args))
+    { value = label_of ws x })
 
 -- the rows say that an atom is false
 abbrev pub MadeFalse : List (List ℕ) → List (Edge × Mark) → List (Edge × Mark) → ℕ → List Elem → Option Elem → Type 0
-MadeFalse ws old new s args v = Marks ws old new s (row_of args v) (record (mark_of ws old s (row_of args v)) { known = No })
+MadeFalse ws old new s args v = Marks ws old new s (row_of args v) (record (mark_of ws old s (row_of args v))
+    { known = No })
 
 -- the elements of an atom have labels
 abbrev pub has_label : List (List ℕ) → Elem → Bool
@@ -115,4 +121,5 @@ value_status (Some v) l row = if same_optional_label v l then Yes else No
 abbrev pub status_of : List (List ℕ) → List (Edge × Mark) → Bool → ℕ → List Elem → Option Elem → Truth
 status_of ws es closed s args None = settled closed (mark_of ws es s (reverse args)).known
 status_of ws es closed s args (Some x) =
-    value_status (mark_of ws es s (reverse args)).value (label_of ws x) (settled closed (denied (mark_of ws es s (x ∷ reverse args)).known))
+    value_status (mark_of ws es s (reverse args)).value (label_of ws x)
+    (settled closed (denied (mark_of ws es s (x ∷ reverse args)).known))

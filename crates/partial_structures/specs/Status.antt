@@ -23,7 +23,8 @@ is_no truth.No = true
 is_no truth.Unknown = false
 
 abbrev pub status : Inside → GroundAtom → Truth
-status p a = status_of (words_in p.rows.words) p.rows.nodes.entries (is_closed p.closed.items a.symbol) a.symbol a.args a.value
+status p a = status_of (words_in p.rows.words) p.rows.nodes.entries (is_closed p.closed.items a.symbol) a.symbol
+    a.args a.value
 
 -- what a partial structure knows
 abbrev pub known_atoms : Inside → KnownAtoms
@@ -34,7 +35,8 @@ known_atoms p = record {
   false_atoms = filter (λ a. is_no (status p a)) (atoms_over p.symbols p.domains);
 }
 
--- the domains have no element twice, each symbol has its flag, each name of an element has its number, the table has the
+-- the domains have no element twice, each symbol has its flag, each name of an element has its number, the table has
+-- the
 -- elements of each type, and the atoms that are certainly true are counted
 pub record IsSound (p : Inside) : Type 0 where
   pub distinct : AllByRecursion IsDistinct p.domains

@@ -44,4 +44,5 @@ left_after P (x ∷ xs) n = option_and_then (left_after P xs) (taken (P x) n)
 abbrev pub tables_left : List (List ℕ) → List (Edge × Mark) → List Bool → Bool → List Table → ℕ → Option ℕ
 tables_left ws es closed function [] n = Some n
 tables_left ws es closed function (t ∷ ts) n =
-    option_and_then (tables_left ws es closed function ts) (left_after (row_status ws es (is_closed closed t.symbol) function t.symbol) t.rows n)
+    option_and_then (tables_left ws es closed function ts) (left_after
+    (row_status ws es (is_closed closed t.symbol) function t.symbol) t.rows n)

@@ -3,7 +3,8 @@ ghost use Rattle.std.specs.Prelude.{IfOk, Some, ◌≡◌, List, ℕ, All, IfSom
 ghost use Rattle.kb_logic.specs.declared.elements.Elem.{Elem as Element};
 ghost use Rattle.partial_structures.specs.Words.{words_in};
 ghost use Rattle.partial_structures.specs.Ordered.{value_behind};
-ghost use Rattle.partial_structures.specs.Rows.{Grows, MadeFalse, MadeTrue, node_of, row_of, denied, has_label, mark_of, settled, status_of};
+ghost use Rattle.partial_structures.specs.Rows.{Grows, MadeFalse, MadeTrue, node_of, row_of, denied, has_label};
+ghost use Rattle.partial_structures.specs.Rows.{mark_of, settled, status_of};
 
 use crate::rows::{Mark, Rows};
 use crate::truths::Truth;
@@ -61,14 +62,16 @@ pub(crate) fn function_status(
     args: &[Elem],
     value: &Elem,
 ) -> Truth
-    ensures { result ≡ status_of (words_in rows.now.words) rows.now.nodes.entries closed symbol args.now (Some value.now) }
+    ensures { result ≡ status_of (words_in rows.now.words) rows.now.nodes.entries closed symbol args.now
+        (Some value.now) }
 {
     value_known(rows, closed, rows.find(symbol, args), value)
 }
 
 /// What is known of the atom, in the same way.
 pub(crate) fn status(rows: &Rows, closed: bool, atom: &Literal) -> Truth
-    ensures { result ≡ status_of (words_in rows.now.words) rows.now.nodes.entries closed atom.now.symbol atom.now.args atom.now.value }
+    ensures { result ≡ status_of (words_in rows.now.words) rows.now.nodes.entries closed atom.now.symbol atom.now.args
+        atom.now.value }
 {
     match &atom.value {
         None => predicate_status(rows, closed, atom.symbol, atom.args.as_slice()),
@@ -79,8 +82,10 @@ pub(crate) fn status(rows: &Rows, closed: bool, atom: &Literal) -> Truth
 /// Makes the atom true.
 pub(crate) fn make_true(rows: &mut Rows, atom: &Literal) -> Result<(), Memory>
     requires { All (λ x. IsTrue (has_label (words_in rows.old.words) x)) atom.now.args }
-    ensures ok { OnOk result (MadeTrue (words_in rows.old.words) rows.old.nodes.entries rows.new.nodes.entries atom.now.symbol atom.now.args atom.now.value) }
-    ensures err { OnErr result ((s : ℕ) (xs : List Element) → mark_of (words_in rows.old.words) rows.new.nodes.entries s xs ≡ mark_of (words_in rows.old.words) rows.old.nodes.entries s xs) }
+    ensures ok { OnOk result (MadeTrue (words_in rows.old.words) rows.old.nodes.entries rows.new.nodes.entries
+        atom.now.symbol atom.now.args atom.now.value) }
+    ensures err { OnErr result ((s : ℕ) (xs : List Element) → mark_of (words_in rows.old.words) rows.new.nodes.entries s
+        xs ≡ mark_of (words_in rows.old.words) rows.old.nodes.entries s xs) }
     ensures words { rows.new.words ≡ rows.old.words }
 {
     let node = rows.reach(atom.symbol, atom.args.as_slice())?;
@@ -114,8 +119,10 @@ pub(crate) fn make_true(rows: &mut Rows, atom: &Literal) -> Result<(), Memory>
 pub(crate) fn make_false(rows: &mut Rows, atom: &Literal) -> Result<(), Memory>
     requires args { All (λ x. IsTrue (has_label (words_in rows.old.words) x)) atom.now.args }
     requires value { IfSome atom.now.value (λ x. IsTrue (has_label (words_in rows.old.words) x)) }
-    ensures ok { OnOk result (MadeFalse (words_in rows.old.words) rows.old.nodes.entries rows.new.nodes.entries atom.now.symbol atom.now.args atom.now.value) }
-    ensures err { OnErr result ((s : ℕ) (xs : List Element) → mark_of (words_in rows.old.words) rows.new.nodes.entries s xs ≡ mark_of (words_in rows.old.words) rows.old.nodes.entries s xs) }
+    ensures ok { OnOk result (MadeFalse (words_in rows.old.words) rows.old.nodes.entries rows.new.nodes.entries
+        atom.now.symbol atom.now.args atom.now.value) }
+    ensures err { OnErr result ((s : ℕ) (xs : List Element) → mark_of (words_in rows.old.words) rows.new.nodes.entries s
+        xs ≡ mark_of (words_in rows.old.words) rows.old.nodes.entries s xs) }
     ensures words { rows.new.words ≡ rows.old.words }
 {
     let node = reach_atom(rows, atom)?;
@@ -134,7 +141,8 @@ pub(crate) fn make_false(rows: &mut Rows, atom: &Literal) -> Result<(), Memory>
 fn reach_atom(rows: &mut Rows, atom: &Literal) -> Result<usize, Memory>
     requires args { All (λ x. IsTrue (has_label (words_in rows.old.words) x)) atom.now.args }
     requires value { IfSome atom.now.value (λ x. IsTrue (has_label (words_in rows.old.words) x)) }
-    ensures node { IfOk result (λ n. node_of (words_in rows.new.words) rows.new.nodes.entries atom.now.symbol (row_of atom.now.args atom.now.value) ≡ Some n) }
+    ensures node { IfOk result (λ n. node_of (words_in rows.new.words) rows.new.nodes.entries atom.now.symbol
+        (row_of atom.now.args atom.now.value) ≡ Some n) }
     ensures grows { Grows rows.old.nodes.entries rows.new.nodes.entries }
     ensures words { rows.new.words ≡ rows.old.words }
 {

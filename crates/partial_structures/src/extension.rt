@@ -43,7 +43,8 @@ fn rows_left(
     table: &[ElemList],
     left: u64,
 ) -> Option<u64>
-    ensures { result ≡ left_after (status_of_row (words_in rows.now.words) rows.now.nodes.entries closed function symbol) table.now left }
+    ensures { result ≡ left_after (status_of_row (words_in rows.now.words) rows.now.nodes.entries closed function
+        symbol) table.now left }
 {
     let mut left = left;
     for row in table {
@@ -67,7 +68,8 @@ pub(crate) fn left_over(
     tables: &[Table],
     left: u64,
 ) -> Option<u64>
-    ensures { result ≡ tables_left (words_in rows.now.words) rows.now.nodes.entries closed.now function tables.now left }
+    ensures { result ≡ tables_left (words_in rows.now.words) rows.now.nodes.entries closed.now function
+        tables.now left }
 {
     let mut left = left;
     for table in tables {

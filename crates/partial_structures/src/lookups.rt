@@ -3,9 +3,11 @@ ghost use Rattle.std.specs.Prelude.{◌≡◌, List, Some, slice_get};
 ghost use Rattle.std.specs.Option.{option_map};
 ghost use Rattle.kb_logic.specs.Denotations.{Denotation};
 ghost use Rattle.kb_logic.specs.Structures.{domain_at};
-ghost use Rattle.partial_structures.specs.Applications.{applied_known, atom_certain, value_certain, result_typed, outside_value, stands_in};
+ghost use Rattle.partial_structures.specs.Applications.{applied_known, atom_certain, value_certain, result_typed};
+ghost use Rattle.partial_structures.specs.Applications.{outside_value, stands_in};
 ghost use Rattle.partial_structures.specs.Values.{value_view};
-ghost use Rattle.partial_structures.specs.Known.{known_in, place_view, start_of, stepped, spot_of, is_whole, is_function_of};
+ghost use Rattle.partial_structures.specs.Known.{known_in, place_view, start_of, stepped, spot_of, is_whole};
+ghost use Rattle.partial_structures.specs.Known.{is_function_of};
 
 use crate::atoms::{denial, if_closed};
 use crate::flags::flag;
@@ -103,7 +105,8 @@ fn outside(s: Known<'_>, symbol: u32) -> Truth
 
 /// The known value of the function where its arguments lead.
 pub fn given_value<'a>(s: Known<'a>, symbol: u32, place: Place<'_>) -> Option<Value<'a>>
-    ensures { (vs : List Denotation) → place_view place.entry ≡ spot_of s.entry symbol vs → option_map value_view result ≡ applied_known (known_in s.entry) symbol (Some vs) }
+    ensures { (vs : List Denotation) → place_view place.entry ≡ spot_of s.entry symbol vs → option_map value_view result
+        ≡ applied_known (known_in s.entry) symbol (Some vs) }
 {
     if !is_complete(place) {
         return None;
@@ -123,7 +126,8 @@ pub fn given_value<'a>(s: Known<'a>, symbol: u32, place: Place<'_>) -> Option<Va
 
 /// What is known of the predicate's atom where its arguments lead.
 pub fn atom_truth(s: Known<'_>, symbol: u32, place: Place<'_>) -> Truth
-    ensures { (vs : List Denotation) → place_view place.entry ≡ spot_of s.entry symbol vs → result ≡ atom_certain (known_in s.entry) symbol (Some vs) }
+    ensures { (vs : List Denotation) → place_view place.entry ≡ spot_of s.entry symbol vs
+        → result ≡ atom_certain (known_in s.entry) symbol (Some vs) }
 {
     if !is_complete(place) {
         return Truth::No;
@@ -136,7 +140,8 @@ pub fn atom_truth(s: Known<'_>, symbol: u32, place: Place<'_>) -> Truth
 
 /// What is known of the function's having this value where its arguments lead.
 pub fn value_truth(s: Known<'_>, symbol: u32, place: Place<'_>, value: Value<'_>) -> Truth
-    ensures { (vs : List Denotation) → place_view place.entry ≡ spot_of s.entry symbol vs → result ≡ value_certain (known_in s.entry) symbol (Some vs) (Some (value_view value.entry)) }
+    ensures { (vs : List Denotation) → place_view place.entry ≡ spot_of s.entry symbol vs
+        → result ≡ value_certain (known_in s.entry) symbol (Some vs) (Some (value_view value.entry)) }
 {
     if !is_complete(place) {
         return Truth::Unknown;

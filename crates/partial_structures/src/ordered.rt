@@ -29,7 +29,8 @@ fn push_each(
     Ok(())
 }
 
-/// Pushes what is known of the atoms whose arguments lead to the node: of one, or of a function's with each value of this
+/// Pushes what is known of the atoms whose arguments lead to the node: of one, or of a function's with each value of
+/// this
 /// type.
 fn push_ending(
     s: Known<'_>,

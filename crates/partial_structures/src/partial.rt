@@ -1,9 +1,11 @@
 //! Partial structures.
-ghost use Rattle.std.specs.Prelude.{◌≡◌, ◌↔◌, ◌<◌, ◌+◌, ◌++◌, length, map, Contains, IfOk, IfSome, IsTrue, MatchBool, OnOk, OnErr, IsErrOf};
+ghost use Rattle.std.specs.Prelude.{◌≡◌, ◌↔◌, ◌<◌, ◌+◌, ◌++◌, length, map, Contains, IfOk, IfSome, IsTrue, MatchBool};
+ghost use Rattle.std.specs.Prelude.{OnOk, OnErr, IsErrOf};
 ghost use Rattle.std.specs.List.{AllByRecursion};
 ghost use Rattle.kb_logic.specs.Structures.{IsDistinct, domain_at};
 ghost use Rattle.partial_structures.specs.Known.{known_in};
-ghost use Rattle.partial_structures.specs.KnownAtoms.{IsAtomOver, atom_of, atoms_of, nothing_known, value_at, with_closed, with_false, with_true};
+ghost use Rattle.partial_structures.specs.KnownAtoms.{IsAtomOver, atom_of, atoms_of, nothing_known, value_at};
+ghost use Rattle.partial_structures.specs.KnownAtoms.{with_closed, with_false, with_true};
 ghost use Rattle.partial_structures.specs.Consistency.{IsConsistent, IsListed};
 ghost use Rattle.partial_structures.specs.Counts.{added_by};
 ghost use Rattle.partial_structures.specs.Extension.{ExtendsData, IsStructureOver};
@@ -103,7 +105,8 @@ impl Partial {
 
     /// Whether the element is one of the type's. It takes no more time than the element is long.
     pub fn has_element(&self, ty: u32, elem: &Elem) -> bool
-        ensures { MatchBool result (Contains (domain_at self.now.domains ty) elem.now) (Contains (domain_at self.now.domains ty) elem.now → ⊥) }
+        ensures { MatchBool result (Contains (domain_at self.now.domains ty) elem.now)
+            (Contains (domain_at self.now.domains ty) elem.now → ⊥) }
     {
         self.elements.contains(ty, self.rows.label(elem))
     }

@@ -1,9 +1,11 @@
 //! A trie of rows with hashed edges: a row is found by its elements one after another, without memory and whatever its
 //! length.
-ghost use Rattle.std.specs.Prelude.{◌≡◌, ◌<◌, ◌||◌, ◌++◌, ◌∷◌, None, Some, [], List, ℕ, length, reverse, nat_lt, true, IsTrue, IsSome, All, OnOk, OnErr, IfOk};
+ghost use Rattle.std.specs.Prelude.{◌≡◌, ◌<◌, ◌||◌, ◌++◌, ◌∷◌, None, Some, [], List, ℕ, length, reverse, nat_lt, true};
+ghost use Rattle.std.specs.Prelude.{IsTrue, IsSome, All, OnOk, OnErr, IfOk};
 ghost use Rattle.indexmap.specs.IndexMap.{set_value_at};
 ghost use Rattle.partial_structures.specs.Words.{words_in};
-ghost use Rattle.partial_structures.specs.Rows.{Grows, child_of, child_by, has_label, is_symbol, is_tree, label_of, mark_at, node_of};
+ghost use Rattle.partial_structures.specs.Rows.{Grows, child_of, child_by, has_label, is_symbol, is_tree, label_of};
+ghost use Rattle.partial_structures.specs.Rows.{mark_at, node_of};
 ghost use Rattle.partial_structures.specs.Values.{IsValueOf, value_label};
 ghost use Rattle.kb_logic.specs.Values.{value_view};
 
@@ -149,7 +151,8 @@ impl Rows {
 
     /// The node of the row with one more value.
     pub fn step_value(&self, node: Option<usize>, value: Value<'_>) -> Option<usize>
-        ensures { result ≡ child_by self.now.nodes.entries node (value_label (words_in self.now.words) (value_view value.entry)) }
+        ensures { result ≡ child_by self.now.nodes.entries node (value_label (words_in self.now.words)
+            (value_view value.entry)) }
     {
         match (node, self.value_label(value)) {
             (Some(parent), Some(label)) => self.child(parent, label),
@@ -199,7 +202,8 @@ impl Rows {
     /// The node of a symbol's row, which is made where there is none. Its elements have labels.
     pub fn reach(&mut self, symbol: u32, args: &[Elem]) -> Result<usize, Memory>
         requires { All (λ x. IsTrue (has_label (words_in self.old.words) x)) args.now }
-        ensures node { IfOk result (λ n. node_of (words_in self.new.words) self.new.nodes.entries symbol (reverse args.now) ≡ Some n) }
+        ensures node { IfOk result (λ n. node_of (words_in self.new.words) self.new.nodes.entries symbol
+            (reverse args.now) ≡ Some n) }
         ensures grows { Grows self.old.nodes.entries self.new.nodes.entries }
         ensures words { self.new.words ≡ self.old.words }
     {
@@ -214,7 +218,8 @@ impl Rows {
     pub fn reach_child(&mut self, node: usize, elem: &Elem) -> Result<usize, Memory>
         requires parent { node < length self.old.nodes.entries }
         requires label { IsTrue (has_label (words_in self.old.words) elem.now) }
-        ensures child { IfOk result (λ n. child_by self.new.nodes.entries (Some node) (label_of (words_in self.new.words) elem.now) ≡ Some n) }
+        ensures child { IfOk result (λ n. child_by self.new.nodes.entries (Some node)
+            (label_of (words_in self.new.words) elem.now) ≡ Some n) }
         ensures grows { Grows self.old.nodes.entries self.new.nodes.entries }
         ensures words { self.new.words ≡ self.old.words }
     {

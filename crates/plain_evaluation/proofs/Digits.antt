@@ -1,6 +1,8 @@
--- The number of an assignment is a digit for the first variable, which says the place of its element in its type, and the
+-- The number of an assignment is a digit for the first variable, which says the place of its element in its type, and
+-- the
 -- number of the assignment of the rest.
-use Rattle.std.proofs.Common.{◌≡◌, ℕ, zero, suc, ◌+◌, ◌*◌, ◌/◌, ◌%◌, ◌<◌, ◌≤◌, List, [], ◌∷◌, length, get_or, drop, Some, refl, sym, ap, ◌∙◌, arith, inl, inr, pos}
+use Rattle.std.proofs.Common.{◌≡◌, ℕ, zero, suc, ◌+◌, ◌*◌, ◌/◌, ◌%◌, ◌<◌, ◌≤◌, List, [], ◌∷◌, length, get_or, drop}
+use Rattle.std.proofs.Common.{Some, refl, sym, ap, ◌∙◌, arith, inl, inr, pos}
 use Rattle.std.specs.List.{slice_get}
 use Rattle.std.proofs.lemmas.List.{at_drop_more}
 use Rattle.std.proofs.lemmas.Bool.{cases_lt}
@@ -27,7 +29,8 @@ positive_right s m n h = elim (cases_lt 0 m) [
 ]
 
 quotient : (c s m : ℕ) → c ≡ s * m → 0 < s → c / s ≡ m
-quotient c s m e p = let turned : c ≡ m * s + 0 = e ∙ mul_comm s m ∙ omega arith in ap (λ n. n / s) turned ∙ div-mul-add m s 0 p
+quotient c s m e p = let turned : c ≡ m * s + 0 = e ∙ mul_comm s m ∙ omega arith in ap (λ n. n / s) turned
+    ∙ div-mul-add m s 0 p
 
 drop_tail : {X : Type 0} (xs ys : List X) (n : ℕ) (x : X) → drop n xs ≡ x ∷ ys → drop (suc n) xs ≡ ys
 drop_tail [] ys n x h = let none : [] ≡ x ∷ ys = sym (drop-nil n) ∙ h in cc
@@ -44,10 +47,12 @@ same_at [] n x y h = absurd (omega arith)
 same_at (z ∷ xs) zero x y h = refl
 same_at (z ∷ xs) (suc n) x y h = same_at xs n x y (omega arith)
 
-pub whole : (domains : List (List Elem)) (bs : List Bound) (i : ℕ) (b : Bound) (dom : List Elem) → i < length bs → b ≡ get_or bs i b → dom ≡ domain_at domains b.ty
+pub whole : (domains : List (List Elem)) (bs : List Bound) (i : ℕ) (b : Bound) (dom : List Elem) → i < length bs
+    → b ≡ get_or bs i b → dom ≡ domain_at domains b.ty
     → choices domains (drop i bs) ≡ pairs before (choices domains (drop (i + 1) bs)) dom
 whole domains bs i b dom h at is =
-    at_drop_more (choices domains) bs i b h ∙ ap (λ y. choices domains (y ∷ drop (i + 1) bs)) (sym at) ∙ ap (pairs before (choices domains (drop (i + 1) bs))) (sym is)
+    at_drop_more (choices domains) bs i b h ∙ ap (λ y. choices domains (y ∷ drop (i + 1) bs)) (sym at)
+    ∙ ap (pairs before (choices domains (drop (i + 1) bs))) (sym is)
 
 -- what is true of the number and the count of the assignments of the variables from i on
 pub record At (domains : List (List Elem)) (bs : List Bound) (view : List Elem) (i count number : ℕ) : Type 0 where
@@ -55,15 +60,18 @@ pub record At (domains : List (List Elem)) (bs : List Bound) (view : List Elem) 
   pub below : number < count
   pub seen : drop i view ≡ get_or (choices domains (drop i bs)) number []
 
-pub record Step (domains : List (List Elem)) (bs : List Bound) (view : List Elem) (i : ℕ) (dom : List Elem) (count number : ℕ) : Type 0 where
+pub record Step (domains : List (List Elem)) (bs : List Bound) (view : List Elem) (i : ℕ) (dom : List Elem)
+    (count number : ℕ) : Type 0 where
   pub size : 0 < length dom
   pub positive : 0 < count / length dom
   pub digit : number / (count / length dom) < length dom
   pub next : At domains bs view (i + 1) (count / length dom) (number % (count / length dom))
   pub element : (x : Elem) → x ≡ get_or dom (number / (count / length dom)) x → slice_get view i ≡ Some x
 
-pub step : (domains : List (List Elem)) (bs : List Bound) (view : List Elem) (i : ℕ) (b : Bound) (dom : List Elem) (count number : ℕ)
-    → i < length bs → b ≡ get_or bs i b → dom ≡ domain_at domains b.ty → At domains bs view i count number → Step domains bs view i dom count number
+pub step : (domains : List (List Elem)) (bs : List Bound) (view : List Elem) (i : ℕ) (b : Bound) (dom : List Elem)
+    (count number : ℕ)
+    → i < length bs → b ≡ get_or bs i b → dom ≡ domain_at domains b.ty → At domains bs view i count number
+    → Step domains bs view i dom count number
 step domains bs view i b dom count number h at is now =
     let more = choices domains (drop (i + 1) bs) in
     let split = whole domains bs i b dom h at is in
@@ -75,9 +83,12 @@ step domains bs view i b dom count number h at is now =
     let succ : i + 1 ≡ suc i = omega arith in
     let digit : number / length more < length dom = div_below number (length more) (length dom) some under in
     let left : number % length more < length more = mod-lt number some in
-    let parts : number ≡ number / length more * length more + number % length more = sym (div-add-mod' number (length more)) in
-    let pair : get_or (choices domains (drop i bs)) number [] ≡ get_or dom (number / length more) (Num (pos 0)) ∷ get_or more (number % length more) [] =
-    ap (λ xs. get_or xs number []) split ∙ ap (λ n. get_or (pairs before more dom) n []) parts ∙ get_or-pairs before more dom (number / length more) (number % length more) (Num (pos 0)) [] [] digit left in
+    let parts : number ≡ number / length more * length more + number % length more =
+    sym (div-add-mod' number (length more)) in
+    let pair : get_or (choices domains (drop i bs)) number [] ≡ get_or dom (number / length more) (Num (pos 0))
+    ∷ get_or more (number % length more) [] =
+    ap (λ xs. get_or xs number []) split ∙ ap (λ n. get_or (pairs before more dom) n []) parts
+    ∙ get_or-pairs before more dom (number / length more) (number % length more) (Num (pos 0)) [] [] digit left in
     record {
       size = size;
       positive = rw rest some;
@@ -85,8 +96,10 @@ step domains bs view i b dom count number h at is now =
       next = record {
         counted = rest;
         below = rw rest left;
-        seen = rw rest (ap (λ n. drop n view) succ ∙ drop_tail view (get_or more (number % length more) []) i (get_or dom (number / length more) (Num (pos 0))) (now.seen ∙ pair));
+        seen = rw rest (ap (λ n. drop n view) succ ∙ drop_tail view (get_or more (number % length more) []) i
+            (get_or dom (number / length more) (Num (pos 0))) (now.seen ∙ pair));
       };
       element = λ x e. head_at view (get_or more (number % length more) []) i x
-          (now.seen ∙ pair ∙ ap (λ y. y ∷ get_or more (number % length more) []) (same_at dom (number / length more) (Num (pos 0)) x digit ∙ sym (rw rest at e)));
+          (now.seen ∙ pair ∙ ap (λ y. y ∷ get_or more (number % length more) [])
+          (same_at dom (number / length more) (Num (pos 0)) x digit ∙ sym (rw rest at e)));
     }

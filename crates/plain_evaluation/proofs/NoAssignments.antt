@@ -1,5 +1,6 @@
 -- Variables that have no assignment.
-use Rattle.std.proofs.Common.{◌≡◌, ℕ, zero, suc, ◌+◌, ◌*◌, ◌<◌, ◌≤◌, ◌==◌, List, false, length, get_or, drop, refl, ap, ◌∙◌, arith}
+use Rattle.std.proofs.Common.{◌≡◌, ℕ, zero, suc, ◌+◌, ◌*◌, ◌<◌, ◌≤◌, ◌==◌, List, false, length, get_or, drop, refl, ap}
+use Rattle.std.proofs.Common.{◌∙◌, arith}
 use Rattle.std.proofs.lemmas.Nat.{mul-le}
 use Rattle.kb_logic.specs.declared.elements.Elem.{Elem}
 use Rattle.kb_logic.specs.declared.vocabularies.Bound.{Bound}
@@ -16,8 +17,10 @@ product_none n (suc s) (suc m) e h =
     (λ none. absurd (omega (arith, none, e, some)), λ none. absurd (omega (arith, none)))
 
 -- after a variable of a type with elements there are none exactly where there are none with it
-pub none_behind : (domains : List (List Elem)) (bs : List Bound) (i : ℕ) (b : Bound) (dom : List Elem) → i < length bs → b ≡ get_or bs i b → dom ≡ domain_at domains b.ty → (length dom == 0) ≡ false
-    → (length (choices domains (drop i bs)) ≡ 0 → length (choices domains (drop (i + 1) bs)) ≡ 0) × (length (choices domains (drop (i + 1) bs)) ≡ 0 → length (choices domains (drop i bs)) ≡ 0)
+pub none_behind : (domains : List (List Elem)) (bs : List Bound) (i : ℕ) (b : Bound) (dom : List Elem) → i < length bs
+    → b ≡ get_or bs i b → dom ≡ domain_at domains b.ty → (length dom == 0) ≡ false
+    → (length (choices domains (drop i bs)) ≡ 0 → length (choices domains (drop (i + 1) bs)) ≡ 0)
+    × (length (choices domains (drop (i + 1) bs)) ≡ 0 → length (choices domains (drop i bs)) ≡ 0)
 none_behind domains bs i b dom h at is some =
     product_none (length (choices domains (drop i bs))) (length dom) (length (choices domains (drop (i + 1) bs)))
     (ap length (whole domains bs i b dom h at is) ∙ length-pairs before (choices domains (drop (i + 1) bs)) dom) some

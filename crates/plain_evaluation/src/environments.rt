@@ -3,7 +3,8 @@
 //! The variables of one binder have one frame, however many they are: it holds their assignment as one
 //! number, with a digit for each variable in the base of its type's size. Frames lie on the stack, each with
 //! a reference to the one around it.
-ghost use Rattle.std.specs.Prelude.{◌≡◌, ◌<◌, ◌++◌, ◌↔◌, [], IsTrue, Some, length, slice_get, slice_index_or, take, ◌≤◌};
+ghost use Rattle.std.specs.Prelude.{◌≡◌, ◌<◌, ◌++◌, ◌↔◌, [], IsTrue, Some, length, slice_get, slice_index_or, take};
+ghost use Rattle.std.specs.Prelude.{◌≤◌};
 ghost use Rattle.kb_logic.specs.Structures.{choices};
 ghost use Rattle.kb_logic.specs.Meaning.{element_value};
 ghost use Rattle.kb_logic.specs.Values.{value_view};
@@ -82,7 +83,8 @@ fn countable(domains: &[ElemList], bounds: &[Bound]) -> (usize, u64)
 /// The environment with the block's variables inside it, under the assignment with this number.
 pub fn extend<'a>(env: &'a Env<'a>, block: Block<'a>, number: u64) -> Env<'a>
     requires { number < block.count }
-    ensures { env_view result ≡ env_view env.now ++ slice_index_or (choices block.entry.domains.now block.entry.bounds.now) number [] }
+    ensures { env_view result ≡ env_view env.now ++ slice_index_or
+        (choices block.entry.domains.now block.entry.bounds.now) number [] }
 {
     Env::Bound(Frame { block, number }, env)
 }

@@ -5,10 +5,12 @@ ghost use Rattle.std.specs.Option.{option_map};
 ghost use Rattle.kb_logic.specs.Trees.{terms_of, summands_of};
 ghost use Rattle.kb_logic.specs.Views.{formula_view, term_view, signed_view};
 ghost use Rattle.kb_logic.specs.Denotations.{added, lower_value, as_number};
-ghost use Rattle.kb_logic.specs.Meaning.{assignments, behind, applied, last_value, has_row, signed_of, value_of, values_of, sum_of, truth_of, product_from, values_where};
+ghost use Rattle.kb_logic.specs.Meaning.{assignments, behind, applied, last_value, has_row, signed_of, value_of};
+ghost use Rattle.kb_logic.specs.Meaning.{values_of, sum_of, truth_of, product_from, values_where};
 ghost use Rattle.kb_logic.specs.Values.{value_view, total_view, count_up_to};
 ghost use Rattle.plain_evaluation.specs.Environments.{env_view};
-ghost use Rattle.kb_logic.specs.Arithmetic.{start, combined, TermFits, TermsFit, SummandsFit, ArithmeticFits, NumberFits, FoldFits, ProductFits};
+ghost use Rattle.kb_logic.specs.Arithmetic.{start, combined, TermFits, TermsFit, SummandsFit, ArithmeticFits};
+ghost use Rattle.kb_logic.specs.Arithmetic.{NumberFits, FoldFits, ProductFits};
 
 use crate::environments::{Env, extend, split_in, variable_value};
 use crate::frames::Block;
@@ -91,8 +93,10 @@ fn sum<'a>(m: &'a Structure, parts: &'a [Signed], env: &'a Env<'a>) -> Option<i1
 #[cycle(eval)]
 fn product<'a>(m: &'a Structure, factors: &'a [Term], env: &'a Env<'a>) -> Option<i64>
     requires terms { TermsFit m.now (terms_of (map term_view factors.now)) (env_view env.now) }
-    requires products { ProductFits (pos 1) (values_of m.now (terms_of (map term_view factors.now)) (env_view env.now)) }
-    ensures { result ≡ product_from (pos 1) (values_of m.now (terms_of (map term_view factors.now)) (env_view env.now)) }
+    requires products { ProductFits (pos 1) (values_of m.now (terms_of (map term_view factors.now))
+        (env_view env.now)) }
+    ensures { result ≡ product_from (pos 1) (values_of m.now (terms_of (map term_view factors.now))
+        (env_view env.now)) }
 {
     let mut total = 1i64;
     for factor in factors {
@@ -113,7 +117,8 @@ fn strip<'a>(
     env: &'a Env<'a>,
 ) -> Option<&'a [Elem]>
     requires { TermsFit m.now (terms_of (map term_view args.now)) (env_view env.now) }
-    ensures { option_map (λ r. r.now) result ≡ behind row.now (values_of m.now (terms_of (map term_view args.now)) (env_view env.now)) }
+    ensures { option_map (λ r. r.now) result ≡ behind row.now (values_of m.now (terms_of (map term_view args.now))
+        (env_view env.now)) }
 {
     let mut rest = row;
     for arg in args {
@@ -139,7 +144,8 @@ fn application<'a>(
     env: &'a Env<'a>,
 ) -> Value<'a>
     requires { TermsFit m.now (terms_of (map term_view args.now)) (env_view env.now) }
-    ensures { value_view result ≡ applied rows.now (values_of m.now (terms_of (map term_view args.now)) (env_view env.now)) }
+    ensures { value_view result ≡ applied rows.now (values_of m.now (terms_of (map term_view args.now))
+        (env_view env.now)) }
 {
     for row in rows {
         if let Some(rest) = strip(m, row.as_slice(), args, env) {
@@ -208,8 +214,10 @@ fn is_every<'a>(
     formula: &'a Formula,
     env: &'a Env<'a>,
 ) -> bool
-    requires { AllByRecursion (λ a. ArithmeticFits m.now (formula_view formula.now) (env_view env.now ++ a)) (assignments m.now bounds.now) }
-    ensures { result ≡ list_all (λ a. truth_of m.now (formula_view formula.now) (env_view env.now ++ a)) (assignments m.now bounds.now) }
+    requires { AllByRecursion (λ a. ArithmeticFits m.now (formula_view formula.now) (env_view env.now ++ a))
+        (assignments m.now bounds.now) }
+    ensures { result ≡ list_all (λ a. truth_of m.now (formula_view formula.now) (env_view env.now ++ a))
+        (assignments m.now bounds.now) }
 {
     if bounds.is_empty() {
         return is_true(m, formula, env);
@@ -226,8 +234,10 @@ fn is_every<'a>(
 /// Whether the formula is true under some assignment of the variables.
 #[cycle(eval)]
 fn is_any<'a>(m: &'a Structure, bounds: &'a [Bound], formula: &'a Formula, env: &'a Env<'a>) -> bool
-    requires { AllByRecursion (λ a. ArithmeticFits m.now (formula_view formula.now) (env_view env.now ++ a)) (assignments m.now bounds.now) }
-    ensures { result ≡ list_any (λ a. truth_of m.now (formula_view formula.now) (env_view env.now ++ a)) (assignments m.now bounds.now) }
+    requires { AllByRecursion (λ a. ArithmeticFits m.now (formula_view formula.now) (env_view env.now ++ a))
+        (assignments m.now bounds.now) }
+    ensures { result ≡ list_any (λ a. truth_of m.now (formula_view formula.now) (env_view env.now ++ a))
+        (assignments m.now bounds.now) }
 {
     if bounds.is_empty() {
         return is_true(m, formula, env);
@@ -244,8 +254,10 @@ fn is_any<'a>(m: &'a Structure, bounds: &'a [Bound], formula: &'a Formula, env: 
 /// Under how many assignments of the variables the formula is true, up to the largest number.
 #[cycle(eval)]
 fn count<'a>(m: &'a Structure, bounds: &'a [Bound], formula: &'a Formula, env: &'a Env<'a>) -> u64
-    requires { AllByRecursion (λ a. ArithmeticFits m.now (formula_view formula.now) (env_view env.now ++ a)) (assignments m.now bounds.now) }
-    ensures { result ≡ min (2 ^ 64 - 1) (count_by (λ a. truth_of m.now (formula_view formula.now) (env_view env.now ++ a)) (assignments m.now bounds.now)) }
+    requires { AllByRecursion (λ a. ArithmeticFits m.now (formula_view formula.now) (env_view env.now ++ a))
+        (assignments m.now bounds.now) }
+    ensures { result ≡ min (2 ^ 64 - 1) (count_by (λ a. truth_of m.now (formula_view formula.now)
+        (env_view env.now ++ a)) (assignments m.now bounds.now)) }
 {
     if bounds.is_empty() {
         return u64::from(is_true(m, formula, env));
@@ -270,9 +282,15 @@ fn aggregate<'a>(
     env: &'a Env<'a>,
     before: Total,
 ) -> Total
-    requires each { AllByRecursion (λ a. ArithmeticFits m.now (formula_view formula.now) (env_view env.now ++ a) × TermFits m.now (term_view weight.now) (env_view env.now ++ a)) (assignments m.now bounds.now) }
-    requires sums { FoldFits kind (total_view before) (values_where (λ a. truth_of m.now (formula_view formula.now) (env_view env.now ++ a)) (λ a. as_number (value_of m.now (term_view weight.now) (env_view env.now ++ a))) (assignments m.now bounds.now)) }
-    ensures { total_view result ≡ fold (combined kind) (total_view before) (values_where (λ a. truth_of m.now (formula_view formula.now) (env_view env.now ++ a)) (λ a. as_number (value_of m.now (term_view weight.now) (env_view env.now ++ a))) (assignments m.now bounds.now)) }
+    requires each { AllByRecursion (λ a. ArithmeticFits m.now (formula_view formula.now) (env_view env.now ++ a)
+        × TermFits m.now (term_view weight.now) (env_view env.now ++ a)) (assignments m.now bounds.now) }
+    requires sums { FoldFits kind (total_view before) (values_where (λ a. truth_of m.now (formula_view formula.now)
+        (env_view env.now ++ a)) (λ a. as_number (value_of m.now (term_view weight.now) (env_view env.now ++ a)))
+        (assignments m.now bounds.now)) }
+    ensures { total_view result ≡ fold (combined kind) (total_view before)
+        (values_where (λ a. truth_of m.now (formula_view formula.now) (env_view env.now ++ a))
+        (λ a. as_number (value_of m.now (term_view weight.now) (env_view env.now ++ a)))
+        (assignments m.now bounds.now)) }
 {
     if bounds.is_empty() {
         return if is_true(m, formula, env) {

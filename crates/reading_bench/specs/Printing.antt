@@ -16,8 +16,10 @@ line_of place src = newlines (take place src) + 1
 
 -- the line that tells a refusal: its number and name, its line and its place
 abbrev pub refusal_text : List ℕ → KbFault → List ℕ
-refusal_text src fault = text_of fault.cause ++ (codes " line " ++ (decimal (line_of fault.place src) ++ (codes " place " ++ (decimal fault.place ++ codes "\n"))))
+refusal_text src fault = text_of fault.cause ++ (codes " line " ++
+    (decimal (line_of fault.place src) ++ (codes " place " ++ (decimal fault.place ++ codes "\n"))))
 
 -- that the text is this part, or its refusal
 abbrev pub IsPrinted : Part → List ℕ → List ℕ → Type 0
-IsPrinted part src out = (IsPart part src × (out ≡ codes "read\n")) ⊎ ((fault : KbFault) × IsRefused part src fault × (out ≡ refusal_text src fault))
+IsPrinted part src out = (IsPart part src × (out ≡ codes "read\n")) ⊎ ((fault : KbFault) × IsRefused part src fault
+    × (out ≡ refusal_text src fault))

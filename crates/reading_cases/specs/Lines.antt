@@ -122,7 +122,8 @@ IsNamesLine text line =
 
 -- refused by the stage of names, or by that of types where that of names accepts
 abbrev pub NamesOrTypes : File → KbFault → Type 0
-NamesOrTypes f fault = IsEarliest (NamesRefuse f) fault ⊎ ((n : NamedFile) × IsNamed f n × IsEarliest (TypesRefuse n) fault)
+NamesOrTypes f fault = IsEarliest (NamesRefuse f) fault ⊎ ((n : NamedFile) × IsNamed f n × IsEarliest
+    (TypesRefuse n) fault)
 
 abbrev pub IsTypesLine : List ℕ → List ℕ → Type 0
 IsTypesLine text line =
@@ -139,7 +140,8 @@ DataOrSizes y t tree fault =
 -- the sizes over the structure beside the theory with this number
 abbrev pub IsMeasuredLine : TypedFile → ℕ → Structure → List ℕ → Type 0
 IsMeasuredLine y t tree line =
-    ((d : KnownAtoms) × (z : Sizes) × IsDataOf y t tree d × AreSizesOf y t d.domains z × (line ≡ sizes_text z.atoms z.weight))
+    ((d : KnownAtoms) × (z : Sizes) × IsDataOf y t tree d × AreSizesOf y t d.domains z
+    × (line ≡ sizes_text z.atoms z.weight))
     ⊎ IsFaultLine (DataOrSizes y t tree) line
 
 -- the same in a file, once its names and its types are accepted

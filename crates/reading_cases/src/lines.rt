@@ -6,7 +6,10 @@ ghost use Rattle.block_choice.specs.Choices.{word_given};
 ghost use Rattle.fo_syntax.specs.BlockView.{structure_view};
 ghost use Rattle.reading_stages.specs.FileView.{file_in};
 ghost use Rattle.type_derivation.specs.TypedViews.{typed_view};
-ghost use Rattle.reading_cases.specs.Lines.{letter_of, word_of, words_of, counts_text, fault_text, picked_text, sizes_text, IsChosenLine, IsCountLine, IsDataLine, IsFileLine, IsFormulaLine, IsLine, IsMeasuredLine, IsNamesLine, IsPickLine, IsTermLine, IsTokensLine, IsTypesLine};
+ghost use Rattle.reading_cases.specs.Lines.{letter_of, word_of, words_of, counts_text, fault_text, picked_text};
+ghost use Rattle.reading_cases.specs.Lines.{sizes_text, IsChosenLine, IsCountLine, IsDataLine, IsFileLine};
+ghost use Rattle.reading_cases.specs.Lines.{IsFormulaLine, IsLine, IsMeasuredLine, IsNamesLine, IsPickLine, IsTermLine};
+ghost use Rattle.reading_cases.specs.Lines.{IsTokensLine, IsTypesLine};
 
 use crate::calls::{Call, call_of, cut};
 use fo_reader::{KbError, RawKb, read_formula, read_kb, read_term};
@@ -102,7 +105,8 @@ fn term_line(alloc: Global, text: &[u8]) -> Result<String, AllocError>
 
 // How many blocks there are of each kind, and where the text ends.
 fn counts(alloc: Global, kb: &RawKb) -> Result<String, AllocError>
-    ensures { IfOk result (λ line. string_bytes line ≡ counts_text (length kb.now.vocabularies) (length kb.now.theories) (length kb.now.structures) (length kb.now.terms) kb.now.end) }
+    ensures { IfOk result (λ line. string_bytes line ≡ counts_text (length kb.now.vocabularies) (length kb.now.theories)
+        (length kb.now.structures) (length kb.now.terms) kb.now.end) }
 {
     let vocabularies = kb.vocabularies.len();
     let theories = kb.theories.len();
@@ -195,7 +199,8 @@ fn measured_line(
     theory: usize,
     structure: &RawStructure,
 ) -> Result<String, AllocError>
-    ensures { IfOk result (λ line. IsMeasuredLine (typed_view kb.now) theory (structure_view structure.now) (string_bytes line)) }
+    ensures { IfOk result (λ line. IsMeasuredLine (typed_view kb.now) theory (structure_view structure.now)
+        (string_bytes line)) }
 {
     let partial = match read_structure(alloc, kb, theory, structure) {
         Ok(partial) => partial,
@@ -216,7 +221,8 @@ fn chosen_line(
     theory: usize,
     structure: &RawStructure,
 ) -> Result<String, AllocError>
-    ensures { IfOk result (λ line. IsChosenLine (file_in raw.now) theory (structure_view structure.now) (string_bytes line)) }
+    ensures { IfOk result (λ line. IsChosenLine (file_in raw.now) theory (structure_view structure.now)
+        (string_bytes line)) }
 {
     let named = match resolve(alloc, raw) {
         Ok(named) => named,

@@ -1,9 +1,12 @@
 -- What was noted use by use is the earliest refusal of a stage.
-use Rattle.std.proofs.Common.{◌≡◌, ◌<◌, ◌==◌, ℕ, Bool, true, false, ◌||◌, ◌&&◌, nat_lt, IsTrue, List, [], ◌∷◌, Option, None, Some, if◌then◌else◌, fold, refl, ap, sym, ◌∙◌, arith, ◌⊎◌, inl, inr, Contains, subst}
+use Rattle.std.proofs.Common.{◌≡◌, ◌<◌, ◌==◌, ℕ, Bool, true, false, ◌||◌, ◌&&◌, nat_lt, IsTrue, List, [], ◌∷◌, Option}
+use Rattle.std.proofs.Common.{None, Some, if◌then◌else◌, fold, refl, ap, sym, ◌∙◌, arith, ◌⊎◌, inl, inr, Contains}
+use Rattle.std.proofs.Common.{subst}
 use Rattle.std.specs.List.{flat_map}
 use Rattle.std.proofs.lemmas.Grind.{fold-append}
 use Rattle.std.proofs.lemmas.Bool.Decides.{nat_tests}
-use Rattle.std.proofs.lemmas.List.Elements.{Contains-append_cases, Contains-append_left, Contains-append_right, Contains-push_cases}
+use Rattle.std.proofs.lemmas.List.Elements.{Contains-append_cases, Contains-append_left, Contains-append_right}
+use Rattle.std.proofs.lemmas.List.Elements.{Contains-push_cases}
 use Rattle.kb_text.specs.Refusals.{number_of}
 use Rattle.kb_text.specs.declared.fault.K.{K}
 use Rattle.kb_text.specs.declared.fault.KbFault.{KbFault}
@@ -101,14 +104,16 @@ best [] start r e = record {
 best (x ∷ rs) None r e = first_best x rs r (best rs (Some x) r e)
 best (x ∷ rs) (Some f) r e = next_best (comes_before x f) x f rs r refl (best rs (earlier (Some f) x) r e)
 
-pub flat_has : {X Y : Type 0} (f : X → List Y) (xs : List X) (x : X) (y : Y) → Contains xs x → Contains (f x) y → Contains (flat_map f xs) y
+pub flat_has : {X Y : Type 0} (f : X → List Y) (xs : List X) (x : X) (y : Y) → Contains xs x → Contains (f x) y
+    → Contains (flat_map f xs) y
 flat_has f [] x y there has = contains_nothing x there
 flat_has f (z ∷ xs) x y there has = elim (contains_cases z xs x there) [
   | inl same ↦ Contains-append_left (f z) (flat_map f xs) y (rw same has)
   | inr later ↦ Contains-append_right (f z) (flat_map f xs) y (flat_has f xs x y later has)
 ]
 
-pub flat_from : {X Y : Type 0} (f : X → List Y) (xs : List X) (y : Y) → Contains (flat_map f xs) y → (x : X) × Contains xs x × Contains (f x) y
+pub flat_from : {X Y : Type 0} (f : X → List Y) (xs : List X) (y : Y) → Contains (flat_map f xs) y
+    → (x : X) × Contains xs x × Contains (f x) y
 flat_from f [] y has = contains_nothing y has
 flat_from f (z ∷ xs) y has = elim (Contains-append_cases (f z) (flat_map f xs) y has) [
   | inl here ↦ (z, contains_head z xs z refl, here)
@@ -127,7 +132,8 @@ noted_has true c p t = contains_head (refusal c p) [] (refusal c p) refl
 noted_has false c p t = absurd (let n : ⊥ = cc in n)
 
 noted_from : (b : Bool) (c : K) (p : ℕ) (r : KbFault) → Contains (noted b c p) r → IsTrue b × (refusal c p ≡ r)
-noted_from true c p r has = elim (contains_cases (refusal c p) [] r has) [ inl same ↦ (refl, same) | inr none ↦ contains_nothing r none ]
+noted_from true c p r has = elim (contains_cases (refusal c p) [] r has)
+    [ inl same ↦ (refl, same) | inr none ↦ contains_nothing r none ]
 noted_from false c p r has = contains_nothing r has
 
 noted_if-is : (b : Bool) (c : K) (p : ℕ) (o : Option KbFault) → noted_if b c p o ≡ fold earlier o (noted b c p)
@@ -143,22 +149,26 @@ noted_at-is : {Use : Type 0} (test : Use → K → Bool) (place : Use → ℕ) (
 noted_at-is test place [] u o = refl
 noted_at-is test place (c ∷ causes) u o =
     noted_at-is test place causes u (noted_if (test u c) c (place u) o)
-    ∙ ap (λ (before : Option KbFault). fold earlier before (listed_at test place causes u)) (noted_if-is (test u c) c (place u) o)
+    ∙ ap (λ (before : Option KbFault). fold earlier before (listed_at test place causes u))
+    (noted_if-is (test u c) c (place u) o)
     ∙ sym (fold-append earlier o (noted (test u c) c (place u)) (listed_at test place causes u))
 
-noted_all-is : {Use : Type 0} (test : Use → K → Bool) (place : Use → ℕ) (causes : List K) (us : List Use) (o : Option KbFault)
+noted_all-is : {Use : Type 0} (test : Use → K → Bool) (place : Use → ℕ) (causes : List K) (us : List Use)
+    (o : Option KbFault)
     → fold (noted_at test place causes) o us ≡ fold earlier o (flat_map (listed_at test place causes) us)
 noted_all-is test place causes [] o = refl
 noted_all-is test place causes (u ∷ us) o =
     noted_all-is test place causes us (noted_at test place causes o u)
-    ∙ ap (λ (before : Option KbFault). fold earlier before (flat_map (listed_at test place causes) us)) (noted_at-is test place causes u o)
+    ∙ ap (λ (before : Option KbFault). fold earlier before (flat_map (listed_at test place causes) us))
+    (noted_at-is test place causes u o)
     ∙ sym (fold-append earlier o (listed_at test place causes u) (flat_map (listed_at test place causes) us))
 
 listed : {Use : Type 0} (test : Use → K → Bool) (place : Use → ℕ) (causes : List K) (us : List Use) (r : KbFault)
     → IsRowOf test place causes us r → Contains (flat_map (listed_at test place causes) us) r
 listed test place causes us _ (row u cause there among holds) =
     flat_has (listed_at test place causes) us u (refusal cause (place u)) there
-    (flat_has (λ (c : K). noted (test u c) c (place u)) causes cause (refusal cause (place u)) among (noted_has (test u cause) cause (place u) holds))
+    (flat_has (λ (c : K). noted (test u c) c (place u)) causes cause (refusal cause (place u)) among
+    (noted_has (test u cause) cause (place u) holds))
 
 from_listed : {Use : Type 0} (test : Use → K → Bool) (place : Use → ℕ) (causes : List K) (us : List Use) (r : KbFault)
     → Contains (flat_map (listed_at test place causes) us) r → IsRowOf test place causes us r
@@ -182,17 +192,24 @@ nothing_noted test place causes us e q h =
     contains_nothing q (subst (λ (rs : List KbFault). Contains rs q) none (listed test place causes us q h))
 
 -- what was noted is the earliest refusal
-pub earliest_noted : {Use : Type 0} (test : Use → K → Bool) (place : Use → ℕ) (causes : List K) (us : List Use) (r : KbFault)
+pub earliest_noted : {Use : Type 0} (test : Use → K → Bool) (place : Use → ℕ) (causes : List K) (us : List Use)
+    (r : KbFault)
     → fold (noted_at test place causes) None us ≡ Some r → IsEarliest (IsRowOf test place causes us) r
 earliest_noted test place causes us r e =
-    let p = best (flat_map (listed_at test place causes) us) None r (sym (noted_all-is test place causes us None) ∙ e) in
+    let p = best (flat_map (listed_at test place causes) us) None r
+    (sym (noted_all-is test place causes us None) ∙ e) in
     record {
-      refused = elim p.found [ inl none ↦ absurd (let n : ⊥ = cc in n) | inr there ↦ from_listed test place causes us r there ];
+      refused = elim p.found [
+        | inl none ↦ absurd (let n : ⊥ = cc in n)
+        | inr there ↦ from_listed test place causes
+            us r there
+      ];
       earliest = λ q h t. not_true (comes_before q r) (p.from_list q (listed test place causes us q h)) t;
     }
 
 -- the same refusals in other words
-pub earliest_of_same : (P Q : KbFault → Type 0) (r : KbFault) → ((q : KbFault) → P q → Q q) → ((q : KbFault) → Q q → P q)
+pub earliest_of_same : (P Q : KbFault → Type 0) (r : KbFault) → ((q : KbFault) → P q → Q q)
+    → ((q : KbFault) → Q q → P q)
     → IsEarliest P r → IsEarliest Q r
 earliest_of_same P Q r to from e = record {
   refused = to r e.refused;

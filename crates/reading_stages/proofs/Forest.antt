@@ -1,5 +1,6 @@
 -- Where each parent has a lower rank, types are a forest.
-use Rattle.std.proofs.Common.{◌≡◌, ◌≤◌, ◌<◌, ◌==◌, ◌||◌, ◌⊎◌, inl, inr, ℕ, zero, suc, Bool, true, false, IsTrue, Option, None, Some, length, slice_get, refl, sym, subst, arith, if◌then◌else◌, nat_lt}
+use Rattle.std.proofs.Common.{◌≡◌, ◌≤◌, ◌<◌, ◌==◌, ◌||◌, ◌⊎◌, inl, inr, ℕ, zero, suc, Bool, true, false, IsTrue, Option}
+use Rattle.std.proofs.Common.{None, Some, length, slice_get, refl, sym, subst, arith, if◌then◌else◌, nat_lt}
 use Rattle.std.proofs.lemmas.Bool.Decides.{nat_tests}
 use Rattle.reading_stages.specs.NamesStage.{stepped, comes_back, begins_cycle}
 use Rattle.reading_stages.specs.Below.{Parents, Below, ComesBack, itself, under, reaches, is_below, IsRank, IsForest}
@@ -18,12 +19,14 @@ reach_here : (n : ℕ) (ps : Parents) (t : ℕ) → reaches n ps t t ≡ true
 reach_here zero ps t = same_here t t refl
 reach_here (suc n) ps t = rw (same_here t t refl) refl
 
-reach_up : (n : ℕ) (ps : Parents) (t p u : ℕ) → slice_get ps t ≡ Some (Some p) → reaches n ps p u ≡ true → reaches (suc n) ps t u ≡ true
+reach_up : (n : ℕ) (ps : Parents) (t p u : ℕ) → slice_get ps t ≡ Some (Some p) → reaches n ps p u ≡ true
+    → reaches (suc n) ps t u ≡ true
 reach_up n ps t p u e h = rw (e, h) (or_true (t == u))
 
 -- ---- from the walk to the relation
 
-up_below : (ps : Parents) (n t u : ℕ) (o : Option (Option ℕ)) → slice_get ps t ≡ o → stepped o (λ p. reaches n ps p u) ≡ true
+up_below : (ps : Parents) (n t u : ℕ) (o : Option (Option ℕ)) → slice_get ps t ≡ o
+    → stepped o (λ p. reaches n ps p u) ≡ true
     → ((p : ℕ) → reaches n ps p u ≡ true → Below ps p u) → Below ps t u
 up_below ps n t u None e h go = absurd (let no : ⊥ = cc in no)
 up_below ps n t u (Some None) e h go = absurd (let no : ⊥ = cc in no)
@@ -32,7 +35,8 @@ up_below ps n t u (Some (Some p)) e h go = under t p u e (go p h)
 here_below : (ps : Parents) (t u : ℕ) → t ≡ u → Below ps t u
 here_below ps t u e = subst (λ (v : ℕ). Below ps t v) e (itself t)
 
-either_below : (ps : Parents) (n t u : ℕ) (b : Bool) → (t == u) ≡ b → (b || stepped (slice_get ps t) (λ p. reaches n ps p u)) ≡ true
+either_below : (ps : Parents) (n t u : ℕ) (b : Bool) → (t == u) ≡ b
+    → (b || stepped (slice_get ps t) (λ p. reaches n ps p u)) ≡ true
     → ((p : ℕ) → reaches n ps p u ≡ true → Below ps p u) → Below ps t u
 either_below ps n t u true e h go = here_below ps t u (equal t u e)
 either_below ps n t u false e h go = up_below ps n t u (slice_get ps t) refl h go
@@ -43,14 +47,16 @@ walked (suc n) ps t u e = either_below ps n t u (t == u) refl e (λ p h. walked 
 
 -- ---- and back, where there is a rank
 
-climb : (ps : Parents) (rank : ℕ → ℕ) (t p u : ℕ) → IsRank ps rank → slice_get ps t ≡ Some (Some p) → (m : ℕ) → rank t ≤ m
+climb : (ps : Parents) (rank : ℕ → ℕ) (t p u : ℕ) → IsRank ps rank → slice_get ps t ≡ Some (Some p)
+    → (m : ℕ) → rank t ≤ m
     → ((k : ℕ) → rank p ≤ k → reaches k ps p u ≡ true) → reaches m ps t u ≡ true
 climb ps rank t p u r e zero le go = absurd (let lt : rank p < rank t = r.falls t p e in omega arith)
 climb ps rank t p u r e (suc k) le go =
     let lt : rank p < rank t = r.falls t p e in
     reach_up k ps t p u e (go k (omega arith))
 
-pub found : (ps : Parents) (rank : ℕ → ℕ) → IsRank ps rank → (t u : ℕ) → Below ps t u → (m : ℕ) → rank t ≤ m → reaches m ps t u ≡ true
+pub found : (ps : Parents) (rank : ℕ → ℕ) → IsRank ps rank → (t u : ℕ) → Below ps t u → (m : ℕ) → rank t ≤ m
+    → reaches m ps t u ≡ true
 found ps rank r _ _ (itself t) m le = reach_here m ps t
 found ps rank r _ _ (under t p u e b) m le = climb ps rank t p u r e m le (λ k l. found ps rank r p u b k l)
 
@@ -89,14 +95,19 @@ only_itself ps rank r _ _ (under t p u e b) le =
 pub forest : (ps : Parents) (rank : ℕ → ℕ) → IsRank ps rank → IsForest ps
 forest ps rank r =
     let to : (t u : ℕ) → IsTrue (is_below ps t u) → Below ps t u = λ t u e. walked (length ps) ps t u e in
-    let back : (t u : ℕ) → Below ps t u → IsTrue (is_below ps t u) = λ t u b. found ps rank r t u b (length ps) (r.low t) in
+    let back : (t u : ℕ) → Below ps t u → IsTrue (is_below ps t u) =
+    λ t u b. found ps rank r t u b (length ps) (r.low t) in
     record {
       decided = back;
       right = to;
       reflexive = λ t. reach_here (length ps) ps t;
       transitive = λ t u v e f. back t v (below_on ps t u v (to t u e) (to u v f));
       antisymmetric = λ t u e f. only_itself ps rank r t u (to t u e) (lower ps rank r u t (to u t f));
-      one_way_up = λ t u v e f. elim (one_way ps t u v (to t u e) (to t v f)) [ inl b ↦ inl (back u v b) | inr b ↦ inr (back v u b) ];
+      one_way_up = λ t u v e f. elim (one_way ps t u v (to t u e) (to t v f)) [
+        | inl b ↦ inl (back u v b)
+        | inr b ↦ inr
+            (back v u b)
+      ];
     }
 
 -- ---- what the search for cycles says
@@ -117,7 +128,8 @@ cycle_up n ps t a None e h go = absurd (let no : ⊥ = cc in no)
 cycle_up n ps t a (Some None) e h go = absurd (let no : ⊥ = cc in no)
 cycle_up n ps t a (Some (Some b)) e h go = cycle_by n ps t a b (b == t) (nat_lt b t) e refl h (go b)
 
-cycle_from : (n : ℕ) (ps : Parents) (t a : ℕ) → comes_back n ps t a ≡ true → (p : ℕ) × (slice_get ps a ≡ Some (Some p)) × Below ps p t
+cycle_from : (n : ℕ) (ps : Parents) (t a : ℕ) → comes_back n ps t a ≡ true → (p : ℕ) × (slice_get ps a ≡ Some (Some p))
+    × Below ps p t
 cycle_from zero ps t a h = absurd (let no : ⊥ = cc in no)
 cycle_from (suc n) ps t a h = cycle_up n ps t a (slice_get ps a) refl h (λ b g. cycle_from n ps t b g)
 

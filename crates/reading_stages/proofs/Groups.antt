@@ -17,7 +17,8 @@ pub implies_next : (f whole : tree.NamedFormula) (old new : List NamedFormula) (
     → implies f (map formula_view old ++ formula_view r ∷ []) ≡ whole
     → implies f (map formula_view new ++ formula_view n ∷ []) ≡ whole
 implies_next f whole old new l r n popped made so_far =
-    rw made (sym (implies-push f (map formula_view new) (formula_view l) (formula_view r)) ∙ rw (← map-append formula_view new (l ∷ []), ← popped) so_far)
+    rw made (sym (implies-push f (map formula_view new) (formula_view l) (formula_view r))
+    ∙ rw (← map-append formula_view new (l ∷ []), ← popped) so_far)
 
 pub implies_all : (f whole : tree.NamedFormula) (old new : List NamedFormula) (r : NamedFormula) (n : tree.NamedFormula)
     → old ≡ new ++ [] → length new ≡ 0 → n ≡ tree.implication f (formula_view r)

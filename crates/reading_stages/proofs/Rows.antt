@@ -6,8 +6,10 @@ use Rattle.kb_text.specs.declared.fault.KbFault.{KbFault}
 use Rattle.reading_stages.specs.Earliest.{IsEarliest, IsRowOf, row}
 use Rattle.reading_stages.specs.Names.{Names}
 use Rattle.reading_stages.specs.Uses.{Use, place_of_use}
-use Rattle.reading_stages.specs.NamesStage.{Refuses, unknown_name, redeclared, wrong_arity, unsupported, too_large, is_refused, name_causes, name_noted}
-use Rattle.reading_stages.proofs.EarliestLaws.{contains_head, contains_tail, nothing_noted, earliest_noted, earliest_of_same}
+use Rattle.reading_stages.specs.NamesStage.{Refuses, unknown_name, redeclared, wrong_arity, unsupported, too_large}
+use Rattle.reading_stages.specs.NamesStage.{is_refused, name_causes, name_noted}
+use Rattle.reading_stages.proofs.EarliestLaws.{contains_head, contains_tail, nothing_noted, earliest_noted}
+use Rattle.reading_stages.proofs.EarliestLaws.{earliest_of_same}
 
 abbrev Row : Names → List Use → KbFault → Type 0
 Row names us = IsRowOf (is_refused names) place_of_use name_causes us
@@ -46,21 +48,25 @@ first : Contains name_causes k.UnknownName
 first = contains_head k.UnknownName behind_unknown k.UnknownName refl
 
 second : Contains name_causes k.Redeclared
-second = contains_tail k.UnknownName behind_unknown k.Redeclared (contains_head k.Redeclared behind_redeclared k.Redeclared refl)
+second = contains_tail k.UnknownName behind_unknown k.Redeclared
+    (contains_head k.Redeclared behind_redeclared k.Redeclared refl)
 
 third : Contains name_causes k.WrongArity
 third =
-    contains_tail k.UnknownName behind_unknown k.WrongArity (contains_tail k.Redeclared behind_redeclared k.WrongArity (contains_head k.WrongArity behind_arity k.WrongArity refl))
+    contains_tail k.UnknownName behind_unknown k.WrongArity (contains_tail k.Redeclared behind_redeclared k.WrongArity
+    (contains_head k.WrongArity behind_arity k.WrongArity refl))
 
 fourth : Contains name_causes k.Unsupported
 fourth =
     contains_tail k.UnknownName behind_unknown k.Unsupported (contains_tail k.Redeclared behind_redeclared k.Unsupported
-    (contains_tail k.WrongArity behind_arity k.Unsupported (contains_head k.Unsupported (k.TooLarge ∷ []) k.Unsupported refl)))
+    (contains_tail k.WrongArity behind_arity k.Unsupported (contains_head k.Unsupported (k.TooLarge ∷ [])
+    k.Unsupported refl)))
 
 fifth : Contains name_causes k.TooLarge
 fifth =
     contains_tail k.UnknownName behind_unknown k.TooLarge (contains_tail k.Redeclared behind_redeclared k.TooLarge
-    (contains_tail k.WrongArity behind_arity k.TooLarge (contains_tail k.Unsupported (k.TooLarge ∷ []) k.TooLarge (contains_head k.TooLarge [] k.TooLarge refl))))
+    (contains_tail k.WrongArity behind_arity k.TooLarge (contains_tail k.Unsupported (k.TooLarge ∷ []) k.TooLarge
+    (contains_head k.TooLarge [] k.TooLarge refl))))
 
 from_rows : (names : Names) (us : List Use) (q : KbFault) → Refuses names us q → Row names us q
 from_rows names us _ (unknown_name u there holds) = row u k.UnknownName there first holds
@@ -70,11 +76,14 @@ from_rows names us _ (unsupported u there holds) = row u k.Unsupported there fou
 from_rows names us _ (too_large u there holds) = row u k.TooLarge there fifth holds
 
 -- where nothing was noted nothing is refused
-pub nothing_refused : (names : Names) (us : List Use) → fold (name_noted names) None us ≡ None → (q : KbFault) → Refuses names us q → ⊥
-nothing_refused names us e q h = nothing_noted (is_refused names) place_of_use name_causes us e q (from_rows names us q h)
+pub nothing_refused : (names : Names) (us : List Use) → fold (name_noted names) None us ≡ None → (q : KbFault)
+    → Refuses names us q → ⊥
+nothing_refused names us e q h = nothing_noted (is_refused names) place_of_use name_causes us e q
+    (from_rows names us q h)
 
 -- what was noted is the earliest refusal
-pub earliest_refused : (names : Names) (us : List Use) (r : KbFault) → fold (name_noted names) None us ≡ Some r → IsEarliest (Refuses names us) r
+pub earliest_refused : (names : Names) (us : List Use) (r : KbFault) → fold (name_noted names) None us ≡ Some r
+    → IsEarliest (Refuses names us) r
 earliest_refused names us r e =
     earliest_of_same (Row names us) (Refuses names us) r (to_rows names us) (from_rows names us)
     (earliest_noted (is_refused names) place_of_use name_causes us r e)

@@ -1,5 +1,6 @@
 -- Types that are below one another by `isa`.
-use Rattle.std.specs.Prelude.{ℕ, ◌≡◌, ◌<◌, ◌≤◌, ◌==◌, ◌||◌, ◌⊎◌, Bool, false, IsTrue, List, Option, None, Some, length, map, slice_get, zero, suc}
+use Rattle.std.specs.Prelude.{ℕ, ◌≡◌, ◌<◌, ◌≤◌, ◌==◌, ◌||◌, ◌⊎◌, Bool, false, IsTrue, List, Option, None, Some, length}
+use Rattle.std.specs.Prelude.{map, slice_get, zero, suc}
 use Rattle.kb_logic.specs.declared.vocabularies.Parent.{Parent}
 use Rattle.kb_logic.specs.declared.vocabularies.Parent.TheVariants.{Root, Int, Nat, Of}
 use Rattle.kb_logic.specs.declared.vocabularies.TypeDecl.{TypeDecl}
@@ -52,6 +53,8 @@ pub record IsForest (parents : Parents) : Type 0 where
   pub decided : (t u : ℕ) → Below parents t u → IsTrue (is_below parents t u)
   pub right : (t u : ℕ) → IsTrue (is_below parents t u) → Below parents t u
   pub reflexive : (t : ℕ) → IsTrue (is_below parents t t)
-  pub transitive : (t u v : ℕ) → IsTrue (is_below parents t u) → IsTrue (is_below parents u v) → IsTrue (is_below parents t v)
+  pub transitive : (t u v : ℕ) → IsTrue (is_below parents t u) → IsTrue (is_below parents u v)
+      → IsTrue (is_below parents t v)
   pub antisymmetric : (t u : ℕ) → IsTrue (is_below parents t u) → IsTrue (is_below parents u t) → t ≡ u
-  pub one_way_up : (t u v : ℕ) → IsTrue (is_below parents t u) → IsTrue (is_below parents t v) → IsTrue (is_below parents u v) ⊎ IsTrue (is_below parents v u)
+  pub one_way_up : (t u v : ℕ) → IsTrue (is_below parents t u) → IsTrue (is_below parents t v)
+      → IsTrue (is_below parents u v) ⊎ IsTrue (is_below parents v u)

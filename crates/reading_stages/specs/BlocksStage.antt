@@ -1,5 +1,6 @@
 -- The stage of blocks: which blocks a file may have, and which theory and structure are chosen.
-use Rattle.std.specs.Prelude.{ℕ, ◌≡◌, ◌+◌, Bool, true, false, not, ◌&&◌, IsTrue, nat_lt, is_none, List, [], ◌∷◌, ◌++◌, length, map, Option, None, Some, position, Contains}
+use Rattle.std.specs.Prelude.{ℕ, ◌≡◌, ◌+◌, Bool, true, false, not, ◌&&◌, IsTrue, nat_lt, is_none, List, [], ◌∷◌, ◌++◌}
+use Rattle.std.specs.Prelude.{length, map, Option, None, Some, position, Contains}
 use Rattle.std.specs.List.{flat_map, list_any}
 use Rattle.std.specs.Str.{bytes_eq}
 use Rattle.kb_text.specs.declared.fault.K.{K}
@@ -100,9 +101,12 @@ block_uses f theory structure =
 
 -- a constructor for each row
 pub data BlocksRefuse (us : List BlockUse) : KbFault → Type 0 where
-  unknown_name : (u : BlockUse) → Contains us u → IsTrue (is_unknown u) → BlocksRefuse us (refusal k.UnknownName (place_of_block u))
-  redeclared : (u : BlockUse) → Contains us u → IsTrue (is_redeclared u) → BlocksRefuse us (refusal k.Redeclared (place_of_block u))
-  block_choice : (u : BlockUse) → Contains us u → IsTrue (is_choiceless u) → BlocksRefuse us (refusal k.BlockChoice (place_of_block u))
+  unknown_name : (u : BlockUse) → Contains us u → IsTrue (is_unknown u)
+      → BlocksRefuse us (refusal k.UnknownName (place_of_block u))
+  redeclared : (u : BlockUse) → Contains us u → IsTrue (is_redeclared u)
+      → BlocksRefuse us (refusal k.Redeclared (place_of_block u))
+  block_choice : (u : BlockUse) → Contains us u → IsTrue (is_choiceless u)
+      → BlocksRefuse us (refusal k.BlockChoice (place_of_block u))
 
 -- the same table by causes
 abbrev pub is_refused : BlockUse → K → Bool

@@ -1,9 +1,15 @@
--- What formulas and terms demand of the types of their terms, each list of variables round what is demanded in its scope.
+-- What formulas and terms demand of the types of their terms, each list of variables round what is demanded in its
+-- scope.
 use Rattle.std.specs.Prelude.{ℕ, Bool, true, false, List, [], ◌∷◌, ◌++◌, map, Option, None, Some, slice_get}
 use Rattle.kb_logic.specs.declared.syntax.Cmp.{Cmp}
 use Rattle.kb_logic.specs.declared.syntax.Cmp.TheVariants as cmp
 use Rattle.kb_logic.specs.declared.vocabularies.Symbol.{Symbol}
-use Rattle.reading_stages.specs.NamedTrees.{NamedVar, NamedTerm, at, NamedNode, variable, integer, constructed, application, summation, product, aggregate, NamedTerms, no_terms, more_terms, NamedSummands, no_summands, more_summands, NamedFormula, truth, atom, comparison, negation, conjunction, disjunction, implication, equivalence, universal, existential, numbered, NamedFormulas, no_formulas, more_formulas, place_of}
+use Rattle.reading_stages.specs.NamedTrees.{NamedVar, NamedTerm, at, NamedNode, variable, integer, constructed}
+use Rattle.reading_stages.specs.NamedTrees.{application, summation, product, aggregate, NamedTerms, no_terms}
+use Rattle.reading_stages.specs.NamedTrees.{more_terms, NamedSummands, no_summands, more_summands, NamedFormula, truth}
+use Rattle.reading_stages.specs.NamedTrees.{atom, comparison, negation, conjunction, disjunction, implication}
+use Rattle.reading_stages.specs.NamedTrees.{equivalence, universal, existential, numbered, NamedFormulas, no_formulas}
+use Rattle.reading_stages.specs.NamedTrees.{more_formulas, place_of}
 
 -- a term's type: `int`, a type of the vocabulary, or none, as of a variable that has none
 pub data TermType : Type 0 where
@@ -156,7 +162,8 @@ abbrev mutual
   pub formula_parts : List Symbol → NamedFormula → List Part
   formula_parts symbols (truth b) = []
   formula_parts symbols (atom s ts) = arguments_parts symbols false (argument_types (slice_get symbols s)) ts
-  formula_parts symbols (comparison c x y) = comparison_demands symbols c x y ++ (term_parts symbols x ++ term_parts symbols y)
+  formula_parts symbols (comparison c x y) = comparison_demands symbols c x y ++
+      (term_parts symbols x ++ term_parts symbols y)
   formula_parts symbols (negation f) = formula_parts symbols f
   formula_parts symbols (conjunction fs) = formulas_parts symbols fs
   formula_parts symbols (disjunction fs) = formulas_parts symbols fs
@@ -182,7 +189,8 @@ abbrev mutual
   node_parts symbols (summation ss) = summands_parts symbols ss
   node_parts symbols (product ts) = factors_parts symbols ts
   node_parts symbols (aggregate how xs f w) =
-      scope (map binding_of xs) (parts_of (formula_parts symbols f ++ number_demand symbols w ∷ term_parts symbols w)) ∷ []
+      scope (map binding_of xs) (parts_of (formula_parts symbols f ++ number_demand symbols w ∷ term_parts symbols w)) ∷
+      []
 
   -- arguments at positions of these types
   pub arguments_parts : List Symbol → Bool → List ℕ → NamedTerms → List Part
@@ -197,4 +205,5 @@ abbrev mutual
 
   pub summands_parts : List Symbol → NamedSummands → List Part
   summands_parts symbols no_summands = []
-  summands_parts symbols (more_summands m t ss) = number_demand symbols t ∷ (term_parts symbols t ++ summands_parts symbols ss)
+  summands_parts symbols (more_summands m t ss) = number_demand symbols t ∷
+      (term_parts symbols t ++ summands_parts symbols ss)

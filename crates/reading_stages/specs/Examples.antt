@@ -7,7 +7,8 @@ use Rattle.fo_syntax.specs.Trees.{Name, name}
 use Rattle.reading_stages.specs.Files.{Declaration, type_under, constructed_type, symbol}
 use Rattle.reading_stages.specs.Names.{Names, names_of, meaning_of, a_type}
 use Rattle.reading_stages.specs.NamedTrees as tree
-use Rattle.reading_stages.specs.NamesStage.{is_unknown, is_redeclared, is_wrong, is_unsupported, is_too_many, begins_cycle}
+use Rattle.reading_stages.specs.NamesStage.{is_unknown, is_redeclared, is_wrong, is_unsupported, is_too_many}
+use Rattle.reading_stages.specs.NamesStage.{begins_cycle}
 use Rattle.reading_stages.specs.Numbering.{grouped, named_factor, named_product, parent_named}
 use Rattle.reading_stages.specs.Scopes.{last_position}
 use Rattle.reading_stages.specs.Uses.{declares, counted, climbs, bound, formula_word, term_word, position, an_aggregate}
@@ -56,7 +57,8 @@ pub record NamesAreWorkedOut : Type 0 where
   pub element_declared_again : is_redeclared (declares some_names (word (codes "Red"))) ≡ true
   pub variable_bound_twice : is_redeclared (bound (codes "x" ∷ []) (word (codes "x"))) ≡ true
   -- a name that is declared twice means its first declaration
-  pub first_declaration : meaning_of (names_of (type_under (word (codes "A")) None ∷ symbol (word (codes "A")) [] None ∷ [])) (codes "A") ≡ a_type 0
+  pub first_declaration : meaning_of (names_of (type_under (word (codes "A")) None ∷ symbol (word (codes "A")) [] None ∷
+      [])) (codes "A") ≡ a_type 0
   pub types_up_to_256 : is_too_many (counted 256 256 (word (codes "A"))) ≡ false
   pub types_past_256 : is_too_many (counted 256 257 (word (codes "A"))) ≡ true
   -- a cycle begins at its first type in the text; a type under itself is one
@@ -67,13 +69,20 @@ pub record NamesAreWorkedOut : Type 0 where
   -- the innermost variable of a name, counted from the outermost variable
   pub shadowed : last_position (codes "x") (codes "x" ∷ codes "y" ∷ codes "x" ∷ codes "z" ∷ []) ≡ Some 2
   -- `x()` is the variable x, and a bracket is the place of what stands in it
-  pub empty_brackets : named_factor some_names (codes "x" ∷ []) (raw.value (raw.empty (word (codes "x")) 8 9)) ≡ tree.at 7 (tree.variable 0)
-  pub in_brackets : named_factor some_names [] (raw.brackets 1 (raw.product (raw.factor (raw.integer 5 2))) 3) ≡ tree.at 1 (tree.integer 5)
+  pub empty_brackets : named_factor some_names (codes "x" ∷ []) (raw.value (raw.empty (word (codes "x")) 8 9))
+      ≡ tree.at 7 (tree.variable 0)
+  pub in_brackets : named_factor some_names [] (raw.brackets 1 (raw.product (raw.factor (raw.integer 5 2))) 3)
+      ≡ tree.at 1 (tree.integer 5)
   -- `-2 * 3` is a product of a sum of one with minus and 3
   pub minus_two_times_three :
       named_product some_names [] (raw.times (raw.negative 0 (raw.integer 2 1)) 2 (raw.factor (raw.integer 3 3)))
-      ≡ tree.at 0 (tree.product (tree.more_terms (tree.at 0 (tree.summation (tree.more_summands true (tree.at 1 (tree.integer 2)) tree.no_summands))) (tree.more_terms (tree.at 3 (tree.integer 3)) tree.no_terms)))
+      ≡ tree.at 0 (tree.product (tree.more_terms (tree.at 0 (tree.summation
+      (tree.more_summands true (tree.at 1 (tree.integer 2)) tree.no_summands)))
+      (tree.more_terms (tree.at 3 (tree.integer 3)) tree.no_terms)))
   -- arrows are grouped to the right, but `<=` and `<=>` to the left
-  pub right : grouped arrow.Implies (formula_number 0) (formula_number 1 ∷ formula_number 2 ∷ []) ≡ tree.implication (formula_number 0) (tree.implication (formula_number 1) (formula_number 2))
-  pub left : grouped arrow.ImpliedBy (formula_number 0) (formula_number 1 ∷ formula_number 2 ∷ []) ≡ tree.implication (formula_number 2) (tree.implication (formula_number 1) (formula_number 0))
-  pub both : grouped arrow.Equivalent (formula_number 0) (formula_number 1 ∷ formula_number 2 ∷ []) ≡ tree.equivalence (tree.equivalence (formula_number 0) (formula_number 1)) (formula_number 2)
+  pub right : grouped arrow.Implies (formula_number 0) (formula_number 1 ∷ formula_number 2 ∷ []) ≡ tree.implication
+      (formula_number 0) (tree.implication (formula_number 1) (formula_number 2))
+  pub left : grouped arrow.ImpliedBy (formula_number 0) (formula_number 1 ∷ formula_number 2 ∷ []) ≡ tree.implication
+      (formula_number 2) (tree.implication (formula_number 1) (formula_number 0))
+  pub both : grouped arrow.Equivalent (formula_number 0) (formula_number 1 ∷ formula_number 2 ∷ []) ≡ tree.equivalence
+      (tree.equivalence (formula_number 0) (formula_number 1)) (formula_number 2)

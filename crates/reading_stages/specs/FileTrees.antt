@@ -7,7 +7,8 @@ use Rattle.fo_syntax.specs.Trees.{Name}
 use Rattle.fo_syntax.specs.BlockTrees as tree
 use Rattle.fo_syntax.specs.BlockTrees.{Block}
 use Rattle.fo_syntax.specs.BlockView.{as_vocabulary, as_theory, as_structure, as_term_block}
-use Rattle.reading_stages.specs.Files.{Declaration, type_under, constructed_type, symbol, Part, sentence, definition, Header, VocabularyBlock, TheoryBlock, TermBlock, File}
+use Rattle.reading_stages.specs.Files.{Declaration, type_under, constructed_type, symbol, Part, sentence, definition}
+use Rattle.reading_stages.specs.Files.{Header, VocabularyBlock, TheoryBlock, TermBlock, File}
 
 -- the name after a sign
 abbrev pub named_after : ℕ × Name → Name

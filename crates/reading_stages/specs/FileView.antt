@@ -19,7 +19,8 @@ use Rattle.fo_syntax.specs.declared.raw_blocks.RawTerm.{RawTerm}
 use Rattle.fo_syntax.specs.declared.raw_blocks.RawStructure.{RawStructure}
 use Rattle.fo_syntax.specs.Trees.{Name}
 use Rattle.fo_syntax.specs.View.{name_view, formula_view, term_view}
-use Rattle.reading_stages.specs.Files.{Declaration, type_under, constructed_type, symbol, Part, sentence, definition, Header, VocabularyBlock, TheoryBlock, TermBlock, File}
+use Rattle.reading_stages.specs.Files.{Declaration, type_under, constructed_type, symbol, Part, sentence, definition}
+use Rattle.reading_stages.specs.Files.{Header, VocabularyBlock, TheoryBlock, TermBlock, File}
 
 abbrev pub isa_name : RawIsa → Name
 isa_name x = name_view x.name
@@ -43,8 +44,10 @@ argument_names (Some x) = names_among x.names
 
 abbrev pub declaration_in : RawDeclaration → Declaration
 declaration_in (declared.Type x) = type_under (name_view x.name) (option_map isa_name x.isa)
-declaration_in (declared.Constructed x) = constructed_type (name_view x.name) (name_view x.first ∷ map element_name x.more)
-declaration_in (declared.Symbol x) = symbol (name_view x.name) (argument_names x.arguments) (option_map result_name x.result)
+declaration_in (declared.Constructed x) = constructed_type (name_view x.name)
+    (name_view x.first ∷ map element_name x.more)
+declaration_in (declared.Symbol x) = symbol (name_view x.name) (argument_names x.arguments)
+    (option_map result_name x.result)
 
 abbrev pub vocabulary_in : RawVocabulary → VocabularyBlock
 vocabulary_in x = record { place = x.place; name = name_view x.name; declarations = map declaration_in x.declarations }

@@ -1,5 +1,6 @@
 -- What the words of a vocabulary mean.
-use Rattle.std.specs.Prelude.{ℕ, ◌+◌, ◌==◌, is_some, List, [], ◌∷◌, ◌++◌, length, Option, None, Some, unwrap_or, if◌then◌else◌, codes}
+use Rattle.std.specs.Prelude.{ℕ, ◌+◌, ◌==◌, is_some, List, [], ◌∷◌, ◌++◌, length, Option, None, Some, unwrap_or}
+use Rattle.std.specs.Prelude.{if◌then◌else◌, codes}
 use Rattle.std.specs.Str.{bytes_eq}
 use Rattle.fo_syntax.specs.Trees.{Name, name}
 use Rattle.reading_stages.specs.Scopes.{Text, last_position}

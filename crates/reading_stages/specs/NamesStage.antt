@@ -1,5 +1,6 @@
 -- The stage of names: what it refuses.
-use Rattle.std.specs.Prelude.{ℕ, ◌==◌, Bool, true, false, not, IsTrue, is_some, nat_lt, List, [], ◌∷◌, ◌++◌, length, Option, None, Some, if◌then◌else◌, zero, suc, slice_get, Contains}
+use Rattle.std.specs.Prelude.{ℕ, ◌==◌, Bool, true, false, not, IsTrue, is_some, nat_lt, List, [], ◌∷◌, ◌++◌, length}
+use Rattle.std.specs.Prelude.{Option, None, Some, if◌then◌else◌, zero, suc, slice_get, Contains}
 use Rattle.std.specs.List.{flat_map}
 use Rattle.kb_text.specs.declared.fault.K.{K}
 use Rattle.kb_text.specs.declared.fault.K.TheVariants as k
@@ -7,8 +8,11 @@ use Rattle.kb_text.specs.declared.fault.KbFault.{KbFault}
 use Rattle.reading_stages.specs.Earliest.{refusal, noted_at}
 use Rattle.reading_stages.specs.Scopes.{last_position}
 use Rattle.reading_stages.specs.Files.{Declaration, VocabularyBlock, File}
-use Rattle.reading_stages.specs.Names.{Names, Meaning, undeclared, integers, naturals, a_type, predicate, function, made, variable, meaning_in, meaning_of, meaning_at, text_of, names_of}
-use Rattle.reading_stages.specs.Uses.{Use, declares, counted, climbs, parent, position, bound, formula_word, term_word, an_aggregate, a_number_quantifier, a_definition, place_of_use, uses_of_declarations, uses_in_theory, uses_in_block}
+use Rattle.reading_stages.specs.Names.{Names, Meaning, undeclared, integers, naturals, a_type, predicate, function}
+use Rattle.reading_stages.specs.Names.{made, variable, meaning_in, meaning_of, meaning_at, text_of, names_of}
+use Rattle.reading_stages.specs.Uses.{Use, declares, counted, climbs, parent, position, bound, formula_word, term_word}
+use Rattle.reading_stages.specs.Uses.{an_aggregate, a_number_quantifier, a_definition, place_of_use}
+use Rattle.reading_stages.specs.Uses.{uses_of_declarations, uses_in_theory, uses_in_block}
 
 -- ---- what a word may mean
 
@@ -88,7 +92,8 @@ stepped (Some (Some b)) test = test b
 abbrev pub comes_back : ℕ → List (Option ℕ) → ℕ → ℕ → Bool
 comes_back zero parents t a = false
 comes_back (suc n) parents t a =
-    stepped (slice_get parents a) (λ b. if b == t then true else (if nat_lt b t then false else comes_back n parents t b))
+    stepped (slice_get parents a) (λ b. if b == t then true else
+    (if nat_lt b t then false else comes_back n parents t b))
 
 -- the type number t is the first one of a cycle: some steps up lead back to it, by no earlier type
 abbrev pub begins_cycle : List (Option ℕ) → ℕ → Bool
@@ -164,11 +169,16 @@ is_too_many (a_definition place) = false
 
 -- a constructor for each row
 pub data Refuses (names : Names) (us : List Use) : KbFault → Type 0 where
-  unknown_name : (u : Use) → Contains us u → IsTrue (is_unknown names u) → Refuses names us (refusal k.UnknownName (place_of_use u))
-  redeclared : (u : Use) → Contains us u → IsTrue (is_redeclared u) → Refuses names us (refusal k.Redeclared (place_of_use u))
-  wrong_arity : (u : Use) → Contains us u → IsTrue (is_wrong names u) → Refuses names us (refusal k.WrongArity (place_of_use u))
-  unsupported : (u : Use) → Contains us u → IsTrue (is_unsupported names u) → Refuses names us (refusal k.Unsupported (place_of_use u))
-  too_large : (u : Use) → Contains us u → IsTrue (is_too_many u) → Refuses names us (refusal k.TooLarge (place_of_use u))
+  unknown_name : (u : Use) → Contains us u → IsTrue (is_unknown names u)
+      → Refuses names us (refusal k.UnknownName (place_of_use u))
+  redeclared : (u : Use) → Contains us u → IsTrue (is_redeclared u)
+      → Refuses names us (refusal k.Redeclared (place_of_use u))
+  wrong_arity : (u : Use) → Contains us u → IsTrue (is_wrong names u)
+      → Refuses names us (refusal k.WrongArity (place_of_use u))
+  unsupported : (u : Use) → Contains us u → IsTrue (is_unsupported names u)
+      → Refuses names us (refusal k.Unsupported (place_of_use u))
+  too_large : (u : Use) → Contains us u → IsTrue (is_too_many u)
+      → Refuses names us (refusal k.TooLarge (place_of_use u))
 
 -- the same table by causes
 abbrev pub is_refused : Names → Use → K → Bool
@@ -205,7 +215,8 @@ declarations_of (v ∷ vs) = v.declarations
 
 abbrev pub uses_of_file : File → List Use
 uses_of_file f =
-    uses_of_declarations (declarations_of f.vocabularies) ++ (flat_map uses_in_theory f.theories ++ flat_map uses_in_block f.terms)
+    uses_of_declarations (declarations_of f.vocabularies) ++ (flat_map uses_in_theory f.theories ++ flat_map
+    uses_in_block f.terms)
 
 abbrev pub NamesRefuse : File → KbFault → Type 0
 NamesRefuse f = Refuses (names_of (declarations_of f.vocabularies)) (uses_of_file f)

@@ -1,5 +1,6 @@
 -- The tree with numbers for words. Where a word is refused its number is 0.
-use Rattle.std.specs.Prelude.{ℕ, ◌≡◌, Bool, true, false, nat_lt, List, [], ◌∷◌, map, Option, None, Some, option_map, if◌then◌else◌}
+use Rattle.std.specs.Prelude.{ℕ, ◌≡◌, Bool, true, false, nat_lt, List, [], ◌∷◌, map, Option, None, Some, option_map}
+use Rattle.std.specs.Prelude.{if◌then◌else◌}
 use Rattle.std.specs.List.{flat_map}
 use Rattle.kb_logic.specs.declared.syntax.AggKind.{AggKind}
 use Rattle.kb_logic.specs.declared.syntax.AggKind.TheVariants as kind
@@ -20,13 +21,19 @@ use Rattle.fo_syntax.specs.declared.terminal.Aggregation.TheVariants as how
 use Rattle.fo_syntax.specs.declared.terminal.Adding.{Adding}
 use Rattle.fo_syntax.specs.declared.terminal.Adding.TheVariants as adding
 use Rattle.fo_syntax.specs.Trees as raw
-use Rattle.fo_syntax.specs.Trees.{Name, Var, Vars, Formula, Links, Or, And, Unary, Prim, Term, Product, Factor, App, Terms, Number}
+use Rattle.fo_syntax.specs.Trees.{Name, Var, Vars, Formula, Links, Or, And, Unary, Prim, Term, Product, Factor, App}
+use Rattle.fo_syntax.specs.Trees.{Terms, Number}
 use Rattle.reading_stages.specs.Scopes.{Text}
-use Rattle.reading_stages.specs.Files.{Declaration, type_under, constructed_type, symbol, Part, sentence, definition, VocabularyBlock, TheoryBlock, TermBlock, File}
-use Rattle.reading_stages.specs.Names.{Names, Meaning, integers, naturals, a_type, predicate, function, made, variable, meaning_of, meaning_at, text_of, place_of_name, names_of}
+use Rattle.reading_stages.specs.Files.{Declaration, type_under, constructed_type, symbol, Part, sentence, definition}
+use Rattle.reading_stages.specs.Files.{VocabularyBlock, TheoryBlock, TermBlock, File}
+use Rattle.reading_stages.specs.Names.{Names, Meaning, integers, naturals, a_type, predicate, function, made, variable}
+use Rattle.reading_stages.specs.Names.{meaning_of, meaning_at, text_of, place_of_name, names_of}
 use Rattle.reading_stages.specs.Uses.{vars_in, var_name, var_type, within, app_name, app_count}
 use Rattle.reading_stages.specs.NamesStage.{declarations_of, NamesRefuse}
-use Rattle.reading_stages.specs.NamedTrees.{NamedVar, NamedTerm, at, NamedNode, NamedTerms, no_terms, more_terms, NamedSummands, no_summands, more_summands, NamedFormula, NamedFormulas, no_formulas, more_formulas, formulas_of, terms_of, summands_of, place_of, begun_at}
+use Rattle.reading_stages.specs.NamedTrees.{NamedVar, NamedTerm, at, NamedNode, NamedTerms, no_terms, more_terms}
+use Rattle.reading_stages.specs.NamedTrees.{NamedSummands, no_summands, more_summands, NamedFormula, NamedFormulas}
+use Rattle.reading_stages.specs.NamedTrees.{no_formulas, more_formulas, formulas_of, terms_of, summands_of, place_of}
+use Rattle.reading_stages.specs.NamedTrees.{begun_at}
 use Rattle.reading_stages.specs.NamedTrees as named
 
 -- a number past the greatest count is refused, and counts as 0
@@ -62,8 +69,10 @@ parent_named names (Some w) = parent_of (meaning_of names (text_of w))
 
 abbrev pub types_in : Names → List Declaration → List TypeDecl
 types_in names [] = []
-types_in names (type_under n p ∷ ds) = record { name = text_of n; parent = parent_named names p; made = [] } ∷ types_in names ds
-types_in names (constructed_type n ns ∷ ds) = record { name = text_of n; parent = parent.Root; made = map text_of ns } ∷ types_in names ds
+types_in names (type_under n p ∷ ds) = record { name = text_of n; parent = parent_named names p; made = [] }
+    ∷ types_in names ds
+types_in names (constructed_type n ns ∷ ds) = record { name = text_of n; parent = parent.Root; made = map text_of ns }
+    ∷ types_in names ds
 types_in names (symbol n args to ∷ ds) = types_in names ds
 
 abbrev pub symbols_in : Names → List Declaration → List Symbol
@@ -71,7 +80,8 @@ symbols_in names [] = []
 symbols_in names (type_under n p ∷ ds) = symbols_in names ds
 symbols_in names (constructed_type n ns ∷ ds) = symbols_in names ds
 symbols_in names (symbol n args to ∷ ds) =
-    record { name = text_of n; args = map (type_number_of names) args; value = option_map (type_number_of names) to } ∷ symbols_in names ds
+    record { name = text_of n; args = map (type_number_of names) args; value = option_map (type_number_of names) to }
+    ∷ symbols_in names ds
 
 -- the places of the types' and of the symbols' names
 abbrev pub type_places : List Declaration → List ℕ
@@ -159,7 +169,8 @@ abbrev mutual
 
   pub named_or : Names → List Text → Or → NamedFormula
   named_or names scope (raw.one a) = named_and names scope a
-  named_or names scope (raw.or a p o) = named.disjunction (more_formulas (named_and names scope a) (disjuncts names scope o))
+  named_or names scope (raw.or a p o) = named.disjunction (more_formulas (named_and names scope a)
+      (disjuncts names scope o))
 
   pub disjuncts : Names → List Text → Or → NamedFormulas
   disjuncts names scope (raw.one a) = more_formulas (named_and names scope a) no_formulas
@@ -167,7 +178,8 @@ abbrev mutual
 
   pub named_and : Names → List Text → And → NamedFormula
   named_and names scope (raw.single u) = named_unary names scope u
-  named_and names scope (raw.and u p a) = named.conjunction (more_formulas (named_unary names scope u) (conjuncts names scope a))
+  named_and names scope (raw.and u p a) = named.conjunction (more_formulas (named_unary names scope u)
+      (conjuncts names scope a))
 
   pub conjuncts : Names → List Text → And → NamedFormulas
   conjuncts names scope (raw.single u) = more_formulas (named_unary names scope u) no_formulas
@@ -175,8 +187,10 @@ abbrev mutual
 
   pub named_unary : Names → List Text → Unary → NamedFormula
   named_unary names scope (raw.not p u) = named.negation (named_unary names scope u)
-  named_unary names scope (raw.every p vs q f) = named.universal (named_vars names vs) (named_formula names (within scope vs) f)
-  named_unary names scope (raw.some p n vs q f) = counted_by n (named_vars names vs) (named_formula names (within scope vs) f)
+  named_unary names scope (raw.every p vs q f) = named.universal (named_vars names vs)
+      (named_formula names (within scope vs) f)
+  named_unary names scope (raw.some p n vs q f) = counted_by n (named_vars names vs)
+      (named_formula names (within scope vs) f)
   named_unary names scope (raw.prim x) = named_prim names scope x
 
   pub named_prim : Names → List Text → Prim → NamedFormula
@@ -190,16 +204,19 @@ abbrev mutual
   pub named_term : Names → List Text → Term → NamedTerm
   named_term names scope (raw.product p) = named_product names scope p
   named_term names scope (raw.sum p a q t) =
-      at (place_of (named_product names scope p)) (named.summation (more_summands false (named_product names scope p) (summands names scope a t)))
+      at (place_of (named_product names scope p)) (named.summation (more_summands false (named_product names scope p)
+      (summands names scope a t)))
 
   pub summands : Names → List Text → Adding → Term → NamedSummands
   summands names scope a (raw.product p) = more_summands (is_minus a) (named_product names scope p) no_summands
-  summands names scope a (raw.sum p b q t) = more_summands (is_minus a) (named_product names scope p) (summands names scope b t)
+  summands names scope a (raw.sum p b q t) = more_summands (is_minus a) (named_product names scope p)
+      (summands names scope b t)
 
   pub named_product : Names → List Text → Product → NamedTerm
   named_product names scope (raw.factor f) = named_factor names scope f
   named_product names scope (raw.times f p q) =
-      at (place_of (named_factor names scope f)) (named.product (more_terms (named_factor names scope f) (factors names scope q)))
+      at (place_of (named_factor names scope f)) (named.product (more_terms (named_factor names scope f)
+      (factors names scope q)))
 
   pub factors : Names → List Text → Product → NamedTerms
   factors names scope (raw.factor f) = more_terms (named_factor names scope f) no_terms
@@ -209,13 +226,17 @@ abbrev mutual
   pub named_factor : Names → List Text → Factor → NamedTerm
   named_factor names scope (raw.integer n p) = at p (named.integer n)
   named_factor names scope (raw.value a) =
-      at (place_of_name (app_name a)) (node_of (meaning_at names scope (app_name a) (app_count a)) (named_arguments names scope a))
+      at (place_of_name (app_name a)) (node_of (meaning_at names scope (app_name a) (app_count a))
+      (named_arguments names scope a))
   named_factor names scope (raw.brackets p t q) = begun_at p (named_term names scope t)
-  named_factor names scope (raw.negative p f) = at p (named.summation (more_summands true (named_factor names scope f) no_summands))
+  named_factor names scope (raw.negative p f) = at p (named.summation
+      (more_summands true (named_factor names scope f) no_summands))
   named_factor names scope (raw.count p b vs q f r) =
-      at p (named.aggregate kind.Count (named_vars names vs) (named_formula names (within scope vs) f) (at p (named.integer 1)))
+      at p (named.aggregate kind.Count (named_vars names vs) (named_formula names (within scope vs) f)
+      (at p (named.integer 1)))
   named_factor names scope (raw.aggregate how p b vs q f r t e) =
-      at p (named.aggregate (kind_of how) (named_vars names vs) (named_formula names (within scope vs) f) (named_term names (within scope vs) t))
+      at p (named.aggregate (kind_of how) (named_vars names vs) (named_formula names (within scope vs) f)
+      (named_term names (within scope vs) t))
 
   pub named_arguments : Names → List Text → App → NamedTerms
   named_arguments names scope (raw.constant n) = no_terms

@@ -1,7 +1,8 @@
 -- Worked examples of the stage of blocks, and of types below one another.
 use Rattle.std.specs.Prelude.{◌≡◌, true, false, List, [], ◌∷◌, None, Some, codes}
 use Rattle.reading_stages.specs.Below.{Parents, is_below}
-use Rattle.reading_stages.specs.BlocksStage.{over, called, one_of, wanted, is_unknown, is_redeclared, is_choiceless, chosen, one_unless_named}
+use Rattle.reading_stages.specs.BlocksStage.{over, called, one_of, wanted, is_unknown, is_redeclared, is_choiceless}
+use Rattle.reading_stages.specs.BlocksStage.{chosen, one_unless_named}
 use Rattle.fo_syntax.specs.Trees.{Name, name}
 
 -- `theory T : V {}` and `theory U : V {}`, by their names

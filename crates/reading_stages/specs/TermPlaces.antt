@@ -1,6 +1,10 @@
 -- Where terms begin.
 use Rattle.std.specs.Prelude.{ℕ, List, [], ◌∷◌, ◌++◌}
-use Rattle.reading_stages.specs.NamedTrees.{NamedTerm, at, NamedNode, variable, integer, constructed, application, summation, product, aggregate, NamedTerms, no_terms, more_terms, NamedSummands, no_summands, more_summands, NamedFormula, truth, atom, comparison, negation, conjunction, disjunction, implication, equivalence, universal, existential, numbered, NamedFormulas, no_formulas, more_formulas}
+use Rattle.reading_stages.specs.NamedTrees.{NamedTerm, at, NamedNode, variable, integer, constructed, application}
+use Rattle.reading_stages.specs.NamedTrees.{summation, product, aggregate, NamedTerms, no_terms, more_terms}
+use Rattle.reading_stages.specs.NamedTrees.{NamedSummands, no_summands, more_summands, NamedFormula, truth, atom}
+use Rattle.reading_stages.specs.NamedTrees.{comparison, negation, conjunction, disjunction, implication, equivalence}
+use Rattle.reading_stages.specs.NamedTrees.{universal, existential, numbered, NamedFormulas, no_formulas, more_formulas}
 
 -- the places of all terms in a tree, in its order, a term before its parts
 abbrev mutual

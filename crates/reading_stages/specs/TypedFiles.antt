@@ -36,7 +36,13 @@ pub record TypedFile : Type 0 where
 
 -- a theory with the types of its variables; definitions are refused as yet
 abbrev pub typed_theory : Vocabulary → NamedTheoryTree → TypedTheoryTree
-typed_theory v t = record { name = t.name; theory = record { sentences = map (typed_sentence v) t.sentences; definitions = [] } }
+typed_theory v t = record {
+  name = t.name;
+  theory = record {
+    sentences = map (typed_sentence v) t.sentences;
+    definitions = [];
+  };
+}
 
 -- a term block with the types of its variables
 abbrev pub typed_block : Vocabulary → NamedTermTree → TypedTermTree

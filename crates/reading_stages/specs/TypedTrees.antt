@@ -7,8 +7,14 @@ use Rattle.kb_logic.specs.declared.vocabularies.Vocabulary.{Vocabulary}
 use Rattle.kb_logic.specs.declared.vocabularies.Bound.{Bound}
 use Rattle.kb_logic.specs.Trees.{TermTree, TermTrees, SummandTrees, FormulaTree, FormulaTrees}
 use Rattle.kb_logic.specs.Trees as tree
-use Rattle.reading_stages.specs.Demands.{Finding, nothing, found, torn, Part, Parts, parts_of, written, formula_parts, term_parts, number_demand}
-use Rattle.reading_stages.specs.NamedTrees.{NamedVar, NamedTerm, at, NamedNode, variable, integer, constructed, application, summation, product, aggregate, NamedTerms, no_terms, more_terms, NamedSummands, no_summands, more_summands, NamedFormula, truth, atom, comparison, negation, conjunction, disjunction, implication, equivalence, universal, existential, numbered, NamedFormulas, no_formulas, more_formulas}
+use Rattle.reading_stages.specs.Demands.{Finding, nothing, found, torn, Part, Parts, parts_of, written, formula_parts}
+use Rattle.reading_stages.specs.Demands.{term_parts, number_demand}
+use Rattle.reading_stages.specs.NamedTrees.{NamedVar, NamedTerm, at, NamedNode, variable, integer, constructed}
+use Rattle.reading_stages.specs.NamedTrees.{application, summation, product, aggregate, NamedTerms, no_terms}
+use Rattle.reading_stages.specs.NamedTrees.{more_terms, NamedSummands, no_summands, more_summands, NamedFormula, truth}
+use Rattle.reading_stages.specs.NamedTrees.{atom, comparison, negation, conjunction, disjunction, implication}
+use Rattle.reading_stages.specs.NamedTrees.{equivalence, universal, existential, numbered, NamedFormulas, no_formulas}
+use Rattle.reading_stages.specs.NamedTrees.{more_formulas}
 use Rattle.reading_stages.specs.Numbering.{within_count}
 use Rattle.reading_stages.specs.Typing.{finding_of, settled, places_in, by_places, sides_in, type_found}
 
@@ -22,7 +28,8 @@ found_by_places types ps n x = settled (written x.ty) (finding_of types (places_
 -- that are bound further inside have theirs as they are written or by their places
 abbrev pub found_by_sides : List TypeDecl → List (Option ℕ) → Parts → ℕ → NamedVar → Finding
 found_by_sides types in_scope ps n x =
-    settled (found_by_places types ps n x) (finding_of types (sides_in in_scope n (by_places types (length in_scope) ps)))
+    settled (found_by_places types ps n x) (finding_of types (sides_in in_scope n
+    (by_places types (length in_scope) ps)))
 
 -- a type that is found; where none is, 0
 abbrev pub chosen : Finding → ℕ
@@ -41,7 +48,8 @@ types_by_places types ps n (x ∷ xs) = type_found (found_by_places types ps n x
 abbrev pub typed_from : List TypeDecl → List (Option ℕ) → Parts → ℕ → List NamedVar → List Bound
 typed_from types in_scope ps n [] = []
 typed_from types in_scope ps n (x ∷ xs) =
-    record { name = x.name; ty = chosen (found_by_sides types in_scope ps n x) } ∷ typed_from types in_scope ps (n + 1) xs
+    record { name = x.name; ty = chosen (found_by_sides types in_scope ps n x) } ∷ typed_from types in_scope
+    ps (n + 1) xs
 
 -- ---- a list of variables in the scope of others, which have these types as they are written or by their places
 
@@ -91,7 +99,8 @@ abbrev mutual
 
   pub typed_formulas : Vocabulary → List (Option ℕ) → NamedFormulas → FormulaTrees
   typed_formulas v around no_formulas = tree.no_formulas
-  typed_formulas v around (more_formulas f fs) = tree.more_formulas (typed_formula v around f) (typed_formulas v around fs)
+  typed_formulas v around (more_formulas f fs) = tree.more_formulas (typed_formula v around f)
+      (typed_formulas v around fs)
 
   pub typed_term : Vocabulary → List (Option ℕ) → NamedTerm → TermTree
   typed_term v around (at p x) = typed_node v around x
@@ -114,7 +123,8 @@ abbrev mutual
 
   pub typed_summands : Vocabulary → List (Option ℕ) → NamedSummands → SummandTrees
   typed_summands v around no_summands = tree.no_summands
-  typed_summands v around (more_summands m u ss) = tree.more_summands m (typed_term v around u) (typed_summands v around ss)
+  typed_summands v around (more_summands m u ss) = tree.more_summands m (typed_term v around u)
+      (typed_summands v around ss)
 
 -- ---- trees in no variable's scope
 

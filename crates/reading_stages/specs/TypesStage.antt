@@ -8,7 +8,10 @@ use Rattle.kb_logic.specs.declared.vocabularies.TypeDecl.{TypeDecl}
 use Rattle.kb_logic.specs.declared.vocabularies.Vocabulary.{Vocabulary}
 use Rattle.reading_stages.specs.Earliest.{refusal, noted_at}
 use Rattle.reading_stages.specs.Kinship.{is_number_type, are_akin, is_under}
-use Rattle.reading_stages.specs.Demands.{TermType, whole, declared, untyped, Demand, a_number, sides, predicate_argument, function_argument, Finding, nothing, found, torn, Binding, Part, demand, scope, Parts, no_parts, more_parts, parts_of, formula_parts, term_parts, number_demand}
+use Rattle.reading_stages.specs.Demands.{TermType, whole, declared, untyped, Demand, a_number, sides}
+use Rattle.reading_stages.specs.Demands.{predicate_argument, function_argument, Finding, nothing, found, torn, Binding}
+use Rattle.reading_stages.specs.Demands.{Part, demand, scope, Parts, no_parts, more_parts, parts_of, formula_parts}
+use Rattle.reading_stages.specs.Demands.{term_parts, number_demand}
 use Rattle.reading_stages.specs.NamedTrees.{NamedTerm, NamedFormula}
 use Rattle.reading_stages.specs.Numbering.{NamedTheoryTree, NamedTermTree, NamedFile}
 use Rattle.reading_stages.specs.TypedFiles.{TypedFile, typed_file}
@@ -106,8 +109,10 @@ type_uses_of_file f = flat_map (theory_type_uses f) f.theories ++ flat_map (bloc
 
 -- a constructor for each row
 pub data TypesRefuse (f : NamedFile) : KbFault → Type 0 where
-  type_clash : (u : TypeUse) → Contains (type_uses_of_file f) u → IsTrue (is_type_clash f.vocabulary.types u) → TypesRefuse f (refusal k.TypeClash (place_of_type_use u))
-  no_type : (u : TypeUse) → Contains (type_uses_of_file f) u → IsTrue (is_untyped u) → TypesRefuse f (refusal k.Untyped (place_of_type_use u))
+  type_clash : (u : TypeUse) → Contains (type_uses_of_file f) u → IsTrue (is_type_clash f.vocabulary.types u)
+      → TypesRefuse f (refusal k.TypeClash (place_of_type_use u))
+  no_type : (u : TypeUse) → Contains (type_uses_of_file f) u → IsTrue (is_untyped u)
+      → TypesRefuse f (refusal k.Untyped (place_of_type_use u))
 
 -- the same table by causes
 abbrev pub is_type_refused : List TypeDecl → TypeUse → K → Bool

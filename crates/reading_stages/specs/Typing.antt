@@ -1,12 +1,17 @@
--- The types of variables: as they are written, else by the places where they stand, else by the other sides of comparisons.
+-- The types of variables: as they are written, else by the places where they stand, else by the other sides of
+-- comparisons.
 --
 -- Variables are named by their numbers, counted from the outermost, so the number n stands for one variable in the
 -- whole scope of its list.
-use Rattle.std.specs.Prelude.{ℕ, ◌+◌, ◌==◌, Bool, false, not, ◌||◌, List, [], ◌∷◌, ◌++◌, length, map, Option, None, Some, slice_get, unwrap_or, if◌then◌else◌}
+use Rattle.std.specs.Prelude.{ℕ, ◌+◌, ◌==◌, Bool, false, not, ◌||◌, List, [], ◌∷◌, ◌++◌, length, map, Option, None}
+use Rattle.std.specs.Prelude.{Some, slice_get, unwrap_or, if◌then◌else◌}
 use Rattle.std.specs.List.{list_any, list_all}
 use Rattle.kb_logic.specs.declared.vocabularies.TypeDecl.{TypeDecl}
 use Rattle.reading_stages.specs.Kinship.{is_under}
-use Rattle.reading_stages.specs.Demands.{TermType, whole, declared, untyped, known, Kind, of_variable, by_itself, Demand, a_number, sides, predicate_argument, function_argument, Finding, nothing, found, torn, Binding, Part, demand, scope, Parts, no_parts, more_parts}
+use Rattle.reading_stages.specs.Demands.{TermType, whole, declared, untyped, known, Kind, of_variable, by_itself}
+use Rattle.reading_stages.specs.Demands.{Demand, a_number, sides, predicate_argument, function_argument, Finding}
+use Rattle.reading_stages.specs.Demands.{nothing, found, torn, Binding, Part, demand, scope, Parts, no_parts}
+use Rattle.reading_stages.specs.Demands.{more_parts}
 
 -- ---- the least of some types
 

@@ -1,10 +1,16 @@
 -- Each use of a word, with what is known at its place.
 use Rattle.std.specs.Prelude.{ℕ, ◌+◌, List, [], ◌∷◌, ◌++◌, length, map, Option, None, Some}
 use Rattle.std.specs.List.{flat_map}
-use Rattle.fo_syntax.specs.Trees.{Name, Var, untyped, typed, Vars, var, beside, comma, Number, any, exactly, compared, Formula, alone, linked, Links, last, link, Or, one, or, And, single, and, Unary, not, every, some, prim, Prim, group, truth, atom, compare, Term, product, sum, Product, factor, times, Factor, integer, value, brackets, negative, count, aggregate, App, constant, empty, apply, Terms, final, then}
+use Rattle.fo_syntax.specs.Trees.{Name, Var, untyped, typed, Vars, var, beside, comma, Number, any, exactly, compared}
+use Rattle.fo_syntax.specs.Trees.{Formula, alone, linked, Links, last, link, Or, one, or, And, single, and, Unary, not}
+use Rattle.fo_syntax.specs.Trees.{every, some, prim, Prim, group, truth, atom, compare, Term, product, sum, Product}
+use Rattle.fo_syntax.specs.Trees.{factor, times, Factor, integer, value, brackets, negative, count, aggregate, App}
+use Rattle.fo_syntax.specs.Trees.{constant, empty, apply, Terms, final, then}
 use Rattle.reading_stages.specs.Scopes.{Text}
-use Rattle.reading_stages.specs.Files.{Declaration, type_under, constructed_type, symbol, Part, sentence, definition, TheoryBlock, TermBlock}
-use Rattle.reading_stages.specs.Names.{text_of, place_of_name, Meaning, a_type, Names, meaning_of, declared, number_types, declared_names, names_of}
+use Rattle.reading_stages.specs.Files.{Declaration, type_under, constructed_type, symbol, Part, sentence, definition}
+use Rattle.reading_stages.specs.Files.{TheoryBlock, TermBlock}
+use Rattle.reading_stages.specs.Names.{text_of, place_of_name, Meaning, a_type, Names, meaning_of, declared}
+use Rattle.reading_stages.specs.Names.{number_types, declared_names, names_of}
 
 pub data Use : Type 0 where
   -- a name that is declared, after these
@@ -63,7 +69,8 @@ uses_in_declarations types symbols (type_under n p ∷ ds) =
 uses_in_declarations types symbols (constructed_type n ns ∷ ds) =
     (counted 256 (types + 1) n ∷ counted 65536 (length ns) n ∷ []) ++ uses_in_declarations (types + 1) symbols ds
 uses_in_declarations types symbols (symbol n args to ∷ ds) =
-    (counted 1024 (symbols + 1) n ∷ counted 8 (length args) n ∷ (map position args ++ position_uses to)) ++ uses_in_declarations types (symbols + 1) ds
+    (counted 1024 (symbols + 1) n ∷ counted 8 (length args) n ∷ (map position args ++ position_uses to))
+    ++ uses_in_declarations types (symbols + 1) ds
 
 abbrev pub type_names : List Declaration → List Name
 type_names [] = []

@@ -14,6 +14,8 @@ pub fn worked_examples()
 
 /// What is noted use by use is the earliest refusal of all rows, and nothing where no row refuses.
 pub fn noted_is_earliest()
-    ensures found { (names : Names) → (us : List Use) → (r : KbFault) → fold (name_noted names) None us ≡ Some r → IsEarliest (Refuses names us) r }
-    ensures nothing { (names : Names) → (us : List Use) → fold (name_noted names) None us ≡ None → (q : KbFault) → Refuses names us q → ⊥ }
+    ensures found { (names : Names) → (us : List Use) → (r : KbFault) → fold (name_noted names) None us ≡ Some r
+        → IsEarliest (Refuses names us) r }
+    ensures nothing { (names : Names) → (us : List Use) → fold (name_noted names) None us ≡ None → (q : KbFault)
+        → Refuses names us q → ⊥ }
 {}

@@ -8,6 +8,7 @@ use Rattle.ground_core.specs.Meaning.{Satisfies, RefutesAll}
 use Rattle.ground_core.specs.Solving.{IsSublist}
 
 -- what refutes some of no literals refutes all valuations
-pub none_satisfies : (p : ProblemState) (core : List Lit) → IsSublist core [] → RefutesAll p core → (v : ℕ → Bool) → Satisfies p v → ⊥
+pub none_satisfies : (p : ProblemState) (core : List Lit) → IsSublist core [] → RefutesAll p core → (v : ℕ → Bool)
+    → Satisfies p v → ⊥
 none_satisfies p [] sub refutes = λ v s. refutes v s (All-nil (λ l. literal_value v l ≡ true))
 none_satisfies p (l ∷ core) sub refutes = absurd sub

@@ -20,7 +20,8 @@ digits_ascii : (bs : List ℕ) → AllDigits 10 bs → IsAscii bs
 digits_ascii [] h = none_ascii
 digits_ascii (b ∷ bs) h = ascii_more b bs (digit_ascii b h.0) (digits_ascii bs h.1)
 
-by_sign : (minus plus : Bool) (b : ℕ) (bs : List ℕ) → (b == 45) ≡ minus → (b == 43) ≡ plus → AllDigits 10 (cond minus bs (drop (cond plus 1 0) (b ∷ bs))) → IsAscii (b ∷ bs)
+by_sign : (minus plus : Bool) (b : ℕ) (bs : List ℕ) → (b == 45) ≡ minus → (b == 43) ≡ plus
+    → AllDigits 10 (cond minus bs (drop (cond plus 1 0) (b ∷ bs))) → IsAscii (b ∷ bs)
 by_sign true plus b bs e f h = ascii_more b bs (omega (arith, eqb-true b 45 e)) (digits_ascii bs h)
 by_sign false true b bs e f h = ascii_more b bs (omega (arith, eqb-true b 43 f)) (digits_ascii bs h)
 by_sign false false b bs e f h = digits_ascii (b ∷ bs) h

@@ -1,5 +1,6 @@
 -- Sets of clauses, as DIMACS writes them.
-use Rattle.std.specs.Prelude.{◌≡◌, ℕ, ◌+◌, ◌<◌, ◌^◌, ℤ, pos, neg_ℤ, Bool, true, false, List, [], ◌∷◌, ◌++◌, map, length, take, drop, slice_get, Some, codes, ◌⊎◌, All}
+use Rattle.std.specs.Prelude.{◌≡◌, ℕ, ◌+◌, ◌<◌, ◌^◌, ℤ, pos, neg_ℤ, Bool, true, false, List, [], ◌∷◌, ◌++◌, map, length}
+use Rattle.std.specs.Prelude.{take, drop, slice_get, Some, codes, ◌⊎◌, All}
 use Rattle.std.specs.List.{AllZip}
 use Rattle.std.specs.Prelude.{FitsSigned}
 use Rattle.std.specs.Int.{w64}
@@ -20,7 +21,8 @@ signed_by false n = neg_ℤ (pos n)
 abbrev pub number_of : Lit → ℤ
 number_of l = signed_by l.positive l.var.0
 
--- the words of the line, with one space between two of them, write the clause's literals, which are over the first n variables, and 0
+-- the words of the line, with one space between two of them, write the clause's literals, which are over the first n
+-- variables, and 0
 pub record IsClauseLine (n : ℕ) (c : List Lit) (line : List ℕ) : Type 0 where
   pub over : AreLitsOf n c
   pub words : AllZip IsNumber (cut_at 32 line) (map number_of c ++ pos 0 ∷ [])
@@ -40,7 +42,16 @@ pub record IsHeader (n m : ℕ) (line : List ℕ) : Type 0 where
 
 -- the problem with these clauses behind its own
 abbrev pub with_clauses : ProblemState → List (List Lit) → ProblemState
-with_clauses p cs = record { atoms = p.atoms; vars = p.vars; gates = p.gates; clauses = p.clauses ++ cs; sums = p.sums; terms = p.terms; bounds = p.bounds; retired = p.retired }
+with_clauses p cs = record {
+  atoms = p.atoms;
+  vars = p.vars;
+  gates = p.gates;
+  clauses = p.clauses ++ cs;
+  sums = p.sums;
+  terms = p.terms;
+  bounds = p.bounds;
+  retired = p.retired;
+}
 
 -- the line adds these clauses: none where it says nothing, or else its own
 abbrev pub AddsOfLine : ℕ → List ℕ → List (List Lit) → Type 0
@@ -50,7 +61,8 @@ AddsOfLine n line cs = (IsPassedOver line × (cs ≡ [])) ⊎ ((c : List Lit) ×
 abbrev pub AreClauseLines : ℕ → List (List ℕ) → List (List Lit) → Type 0
 AreClauseLines n [] cs = cs ≡ []
 AreClauseLines n (line ∷ lines) cs =
-    (IsPassedOver line × AreClauseLines n lines cs) ⊎ ((c : List Lit) × (ds : List (List Lit)) × (cs ≡ c ∷ ds) × IsClauseLine n c line × AreClauseLines n lines ds)
+    (IsPassedOver line × AreClauseLines n lines cs) ⊎ ((c : List Lit) × (ds : List (List Lit)) × (cs ≡ c ∷ ds)
+    × IsClauseLine n c line × AreClauseLines n lines ds)
 
 -- lines that say nothing, the header, and the lines of as many clauses as it tells
 pub record IsDimacs (lines : List (List ℕ)) (n : ℕ) (cs : List (List Lit)) : Type 0 where

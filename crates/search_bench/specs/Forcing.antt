@@ -7,11 +7,13 @@ use Rattle.ground_core.specs.Meaning.{Satisfies}
 use Rattle.consequences.specs.declared.kept.Kept.{Kept}
 use Rattle.search_bench.specs.Verdicts.{value_text}
 
--- the problem has a model; each of these literals is true in all models, and of each other literal some model makes it false
+-- the problem has a model; each of these literals is true in all models, and of each other literal some model makes it
+-- false
 pub record AreAlwaysTrue (p : ProblemState) (lits : List Lit) : Type 0 where
   pub some : (v : ℕ → Bool) × Satisfies p v
   pub always : All (λ l. (v : ℕ → Bool) → Satisfies p v → literal_value v l ≡ true) lits
-  pub others : (l : Lit) → IsLitOf p.vars l → Contains lits l ⊎ ((v : ℕ → Bool) × Satisfies p v × (literal_value v l ≡ false))
+  pub others : (l : Lit) → IsLitOf p.vars l → Contains lits l
+      ⊎ ((v : ℕ → Bool) × Satisfies p v × (literal_value v l ≡ false))
 
 -- each literal with a space before it
 abbrev pub lits_text : List Lit → List ℕ

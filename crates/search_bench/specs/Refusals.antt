@@ -49,7 +49,8 @@ pub record HasNoEnd (lines : List (List ℕ)) (number : ℕ) : Type 0 where
   pub count : ℕ
   pub tells : IsHeader vars count header
   pub later : ℕ
-  pub wrong : HasNoClause vars (drop (before + 1) lines) later ⊎ HasOtherCount vars count (drop (before + 1) lines) later
+  pub wrong : HasNoClause vars (drop (before + 1) lines) later ⊎ HasOtherCount vars count
+      (drop (before + 1) lines) later
   pub refused : number ≡ before + 1 + later
 
 -- why the line with this number is refused
@@ -66,7 +67,9 @@ AreReadAs lines (Err errors.Memory) = Unit {0}
 abbrev pub IsReadAs : List ℕ → Result Problem ReadError → Type 0
 IsReadAs text r = AreReadAs (cut_at 10 text) r
 
--- behind a header that tells so many variables and clauses: the problem, or the number of the line that is refused among these
+-- behind a header that tells so many variables and clauses: the problem, or the number of the line that is refused
+-- among these
 abbrev pub AreReadBehind : ℕ → ℕ → List (List ℕ) → Result Problem ℕ → Type 0
-AreReadBehind n m lines (Ok p) = (p.vars ≡ n) × (length p.clauses ≡ m) × AreClauseLines n lines p.clauses × HasClausesAlone p
+AreReadBehind n m lines (Ok p) = (p.vars ≡ n) × (length p.clauses ≡ m) × AreClauseLines n lines p.clauses
+    × HasClausesAlone p
 AreReadBehind n m lines (Err number) = HasNoClause n lines number ⊎ HasOtherCount n m lines number

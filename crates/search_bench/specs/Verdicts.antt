@@ -1,5 +1,6 @@
 -- Verdicts, as they are printed.
-use Rattle.std.specs.Prelude.{◌≡◌, ℕ, ◌+◌, pos, neg_ℤ, Bool, if◌then◌else◌, List, [], ◌∷◌, ◌++◌, length, drop, codes, ◌⊎◌}
+use Rattle.std.specs.Prelude.{◌≡◌, ℕ, ◌+◌, pos, neg_ℤ, Bool, if◌then◌else◌, List, [], ◌∷◌, ◌++◌, length, drop, codes}
+use Rattle.std.specs.Prelude.{◌⊎◌}
 use Rattle.std.specs.Fmt.{signed_decimal}
 use Rattle.lit_core.specs.Literals.{valuation}
 use Rattle.ground_core.specs.Problems.{ProblemState}

@@ -23,7 +23,9 @@ pub fn is_passed_over(line: &[u8]) -> bool
 
 /// The literals that the words write.
 fn lits_of(alloc: Global, vars: u64, words: &[&[u8]]) -> Result<Option<Clause>, Memory>
-    ensures { IfOk result (λ o. MatchOption o ((c : List Lit) → AreLitsOf vars c → AllZip IsNumber (map (λ w. w.now) words.now) (map number_of c) → ⊥) (λ c. AreLitsOf vars c × AllZip IsNumber (map (λ w. w.now) words.now) (map number_of c))) }
+    ensures { IfOk result (λ o. MatchOption o ((c : List Lit) → AreLitsOf vars c
+        → AllZip IsNumber (map (λ w. w.now) words.now) (map number_of c) → ⊥) (λ c. AreLitsOf vars c × AllZip IsNumber
+        (map (λ w. w.now) words.now) (map number_of c))) }
 {
     let mut clause = Clause::new(alloc);
     for word in words {
@@ -47,7 +49,8 @@ fn is_zero(word: &[u8]) -> bool
 
 /// The clause that the line writes.
 pub fn clause_of(alloc: Global, vars: u64, line: &[u8]) -> Result<Option<Clause>, Memory>
-    ensures { IfOk result (λ o. MatchOption o ((c : List Lit) → IsClauseLine vars c line.now → ⊥) (λ c. IsClauseLine vars c line.now)) }
+    ensures { IfOk result (λ o. MatchOption o ((c : List Lit) → IsClauseLine vars c line.now → ⊥)
+        (λ c. IsClauseLine vars c line.now)) }
 {
     let words = pieces(alloc, line, b' ')?;
     let Some((last, others)) = words.as_slice().split_last() else {
@@ -81,7 +84,8 @@ fn count(word: &[u8]) -> Option<u64>
 
 /// The counts that these words write.
 fn counts(vars: &[u8], clauses: &[u8]) -> Option<Header>
-    ensures { MatchOption result ((n m : ℕ) → IsNumber vars.now (pos n) → n < 2 ^ 32 → IsNumber clauses.now (pos m) → ⊥) (λ h. IsNumber vars.now (pos h.vars) × IsNumber clauses.now (pos h.clauses) × (h.vars < 2 ^ 32)) }
+    ensures { MatchOption result ((n m : ℕ) → IsNumber vars.now (pos n) → n < 2 ^ 32 → IsNumber clauses.now (pos m) → ⊥)
+        (λ h. IsNumber vars.now (pos h.vars) × IsNumber clauses.now (pos h.clauses) × (h.vars < 2 ^ 32)) }
 {
     let Some(vars) = count(vars) else {
         return None;
@@ -106,7 +110,8 @@ fn is_word(word: &[u8], text: &[u8]) -> bool
 
 /// The words behind `p cnf`.
 fn behind_kind<'a>(words: &[&'a [u8]]) -> Option<(&'a [u8], &'a [u8])>
-    ensures { MatchOption result ((a b : List ℕ) → map (λ w. w.now) words.now ≡ codes "p" ∷ codes "cnf" ∷ a ∷ b ∷ [] → ⊥) (λ r. map (λ w. w.now) words.now ≡ codes "p" ∷ codes "cnf" ∷ r.0.now ∷ r.1.now ∷ []) }
+    ensures { MatchOption result ((a b : List ℕ) → map (λ w. w.now) words.now ≡ codes "p" ∷ codes "cnf" ∷ a ∷ b ∷ []
+        → ⊥) (λ r. map (λ w. w.now) words.now ≡ codes "p" ∷ codes "cnf" ∷ r.0.now ∷ r.1.now ∷ []) }
 {
     match words {
         [p, cnf, vars, clauses] if is_word(p, b"p") && is_word(cnf, b"cnf") => {
@@ -118,7 +123,8 @@ fn behind_kind<'a>(words: &[&'a [u8]]) -> Option<(&'a [u8], &'a [u8])>
 
 /// The header that the line is.
 pub fn header_of(alloc: Global, line: &[u8]) -> Result<Option<Header>, Memory>
-    ensures { IfOk result (λ o. MatchOption o ((n m : ℕ) → IsHeader n m line.now → ⊥) (λ h. IsHeader h.vars h.clauses line.now)) }
+    ensures { IfOk result (λ o. MatchOption o ((n m : ℕ) → IsHeader n m line.now → ⊥)
+        (λ h. IsHeader h.vars h.clauses line.now)) }
 {
     let words = pieces(alloc, line, b' ')?;
     let Some((vars, clauses)) = behind_kind(words.as_slice()) else {

@@ -22,7 +22,8 @@ pub fn number(word: &[u8]) -> Option<i64>
 
 /// The literal over the first `vars` variables whose number the word writes.
 pub fn literal(vars: u64, word: &[u8]) -> Option<Lit>
-    ensures { MatchOption result ((l : Lit) → IsLitOf vars l → IsNumber word.now (number_of l) → ⊥) (λ l. IsLitOf vars l × IsNumber word.now (number_of l)) }
+    ensures { MatchOption result ((l : Lit) → IsLitOf vars l → IsNumber word.now (number_of l) → ⊥)
+        (λ l. IsLitOf vars l × IsNumber word.now (number_of l)) }
 {
     let number = number(word)?;
     let var = number.unsigned_abs();

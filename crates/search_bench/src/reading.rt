@@ -1,5 +1,6 @@
 //! Reads a text as a problem.
-ghost use Rattle.std.specs.Prelude.{◌≡◌, ℕ, ◌+◌, ◌≤◌, ◌<◌, ◌^◌, List, map, take, length, slice_get, Some, [], All, IfOk, MatchBool, MatchOption, ◌⊎◌};
+ghost use Rattle.std.specs.Prelude.{◌≡◌, ℕ, ◌+◌, ◌≤◌, ◌<◌, ◌^◌, List, map, take, length, slice_get, Some, [], All};
+ghost use Rattle.std.specs.Prelude.{IfOk, MatchBool, MatchOption, ◌⊎◌};
 ghost use Rattle.lit_core.specs.declared.literals.Lit.{Lit};
 ghost use Rattle.search_bench.specs.Dimacs.{IsPassedOver, IsClauseLine, AddsOfLine, AreClauseLines, with_clauses};
 ghost use Rattle.search_bench.specs.Refusals.{HasNoClause, HasOtherCount, AreReadBehind, AreReadAs, IsReadAs};
@@ -44,7 +45,9 @@ fn silent_lines(lines: &[&[u8]]) -> usize
 
 /// Adds what the line says, and answers false where it is not as it must be.
 fn add_line(alloc: Global, line: &[u8], problem: &mut Problem) -> Result<bool, Memory>
-    ensures { IfOk result (λ fine. MatchBool fine ((cs : List (List Lit)) × AddsOfLine problem.old.vars line.now cs × (problem.new ≡ with_clauses problem.old cs)) ((IsPassedOver line.now → ⊥) × ((c : List Lit) → IsClauseLine problem.old.vars c line.now → ⊥))) }
+    ensures { IfOk result (λ fine. MatchBool fine ((cs : List (List Lit)) × AddsOfLine problem.old.vars line.now cs
+        × (problem.new ≡ with_clauses problem.old cs)) ((IsPassedOver line.now → ⊥)
+        × ((c : List Lit) → IsClauseLine problem.old.vars c line.now → ⊥))) }
 {
     if is_passed_over(line) {
         return Ok(true);
@@ -60,7 +63,9 @@ fn add_line(alloc: Global, line: &[u8], problem: &mut Problem) -> Result<bool, M
 
 /// Adds what the lines say, and answers the number of the first that is not as it must be.
 fn add_lines(alloc: Global, lines: &[&[u8]], problem: &mut Problem) -> Result<Option<u64>, Memory>
-    ensures { IfOk result (λ o. MatchOption o ((cs : List (List Lit)) × AreClauseLines problem.old.vars (map (λ l. l.now) lines.now) cs × (problem.new ≡ with_clauses problem.old cs)) (λ number. HasNoClause problem.old.vars (map (λ l. l.now) lines.now) number)) }
+    ensures { IfOk result (λ o. MatchOption o ((cs : List (List Lit)) × AreClauseLines problem.old.vars
+        (map (λ l. l.now) lines.now) cs × (problem.new ≡ with_clauses problem.old cs))
+        (λ number. HasNoClause problem.old.vars (map (λ l. l.now) lines.now) number)) }
 {
     for place in 0..lines.len() {
         if !add_line(alloc, lines[place], problem)? {
@@ -78,7 +83,10 @@ fn add_clauses(
     problem: &mut Problem,
 ) -> Result<Option<u64>, Memory>
     requires { problem.old.clauses ≡ [] }
-    ensures { IfOk result (λ o. MatchOption o ((cs : List (List Lit)) × AreClauseLines problem.old.vars (map (λ l. l.now) lines.now) cs × (problem.new ≡ with_clauses problem.old cs) × (length cs ≡ count)) (λ number. HasNoClause problem.old.vars (map (λ l. l.now) lines.now) number ⊎ HasOtherCount problem.old.vars count (map (λ l. l.now) lines.now) number)) }
+    ensures { IfOk result (λ o. MatchOption o ((cs : List (List Lit)) × AreClauseLines problem.old.vars
+        (map (λ l. l.now) lines.now) cs × (problem.new ≡ with_clauses problem.old cs) × (length cs ≡ count))
+        (λ number. HasNoClause problem.old.vars (map (λ l. l.now) lines.now) number ⊎ HasOtherCount problem.old.vars
+        count (map (λ l. l.now) lines.now) number)) }
 {
     match add_lines(alloc, lines, problem)? {
         Some(number) => Ok(Some(number)),

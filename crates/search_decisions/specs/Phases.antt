@@ -1,5 +1,6 @@
 -- The choices, and how often variables were true in answers.
-use Rattle.std.specs.Prelude.{◌≡◌, ℕ, ◌+◌, ◌≤◌, ◌<◌, ◌↔◌, ◌⊎◌, Bool, true, false, IsTrue, Option, Some, None, List, [], length, slice_index_or, All, Any, IfSome}
+use Rattle.std.specs.Prelude.{◌≡◌, ℕ, ◌+◌, ◌≤◌, ◌<◌, ◌↔◌, ◌⊎◌, Bool, true, false, IsTrue, Option, Some, None, List, []}
+use Rattle.std.specs.Prelude.{length, slice_index_or, All, Any, IfSome}
 use Rattle.lit_core.specs.declared.literals.Lit.{Lit}
 use Rattle.lit_core.specs.declared.literals.Var.{Var}
 use Rattle.lit_core.specs.Literals.{valuation}
@@ -27,25 +28,30 @@ pub record KeepsAnswers (old new : Phases) : Type 0 where
   pub answers : new.answers ≡ old.answers
   pub found : new.first ≡ old.first
 
--- at this place, from the known ones on, stands a choice that has the variable: a clause of ground atoms alone, none of them negated
+-- at this place, from the known ones on, stands a choice that has the variable: a clause of ground atoms alone, none of
+-- them negated
 pub record IsChoiceAt (p : ProblemState) (known v place : ℕ) : Type 0 where
   pub later : known ≤ place
   pub stands : place < length p.clauses
   pub atoms : All (λ l. (l.positive ≡ true) × (l.var.0 ≤ length p.atoms)) (slice_index_or p.clauses place [])
   pub has : Any (λ l. l.var.0 ≡ v) (slice_index_or p.clauses place [])
 
--- places were noted for variables that there is room for: what was noted stays, a new place fits its variable, and no earlier one does
+-- places were noted for variables that there is room for: what was noted stays, a new place fits its variable, and no
+-- earlier one does
 pub record Notes (Fits : ℕ → ℕ → Type 0) (old new : Phases) : Type 0 where
   pub room : length new.choices.items ≡ length old.choices.items
   pub kept : (v k : ℕ) → choice_of old v ≡ Some k → choice_of new v ≡ Some k
   pub fits : (v k : ℕ) → choice_of new v ≡ Some k → (choice_of old v ≡ Some k) ⊎ Fits v k
-  pub least : (v k : ℕ) → v < length old.choices.items → Fits v k → (j : ℕ) × (choice_of new v ≡ Some j) × ((choice_of old v ≡ Some j) ⊎ (j ≤ k))
+  pub least : (v k : ℕ) → v < length old.choices.items → Fits v k → (j : ℕ) × (choice_of new v ≡ Some j)
+      × ((choice_of old v ≡ Some j) ⊎ (j ≤ k))
 
--- an answer was counted: of the variables that there is room for, each that is true in it was seen once more, and each other as often
+-- an answer was counted: of the variables that there is room for, each that is true in it was seen once more, and each
+-- other as often
 pub record CountsAnswer (old : Phases) (values : List Bool) (new : Phases) : Type 0 where
   pub answers : new.answers ≡ counted (old.answers + 1)
   pub room : length new.seen.items ≡ length old.seen.items
-  pub trues : (v : ℕ) → v < length old.seen.items → valuation values v ≡ true → times_seen new v ≡ counted (times_seen old v + 1)
+  pub trues : (v : ℕ) → v < length old.seen.items → valuation values v ≡ true
+      → times_seen new v ≡ counted (times_seen old v + 1)
   pub others : (v : ℕ) → valuation values v ≡ false → times_seen new v ≡ times_seen old v
 
 -- the variable is one of these, and unassigned
@@ -65,8 +71,10 @@ IsFirstRight clauses values s = IfSome s.first (λ f. IsLeastSeen s values (slic
 abbrev pub HasChoice : List (List Lit) → Phases → ℕ → Type 0
 HasChoice clauses s v = IfSome (choice_of s v) (λ place. Any (λ l. l.var.0 ≡ v) (slice_index_or clauses place []))
 
--- the answer is whether what was found last, in the clause at this place, is the variable; if not, it is another open one
-pub record IsFoundFor (values : List (Option Bool)) (place : ℕ) (v : Var) (salt : ℕ) (result : Bool) (s : Phases) : Type 0 where
+-- the answer is whether what was found last, in the clause at this place, is the variable; if not, it is another open
+-- one
+pub record IsFoundFor (values : List (Option Bool)) (place : ℕ) (v : Var) (salt : ℕ) (result : Bool)
+    (s : Phases) : Type 0 where
   pub found : Var
   pub last : s.first ≡ Some (record { clause = place; salt = salt; var = found })
   pub same : IsTrue result ↔ (found ≡ v)

@@ -1,5 +1,6 @@
 -- Scores of variables, and lists of those that may be decided.
-use Rattle.std.specs.Prelude.{◌≡◌, ℕ, ◌+◌, ◌-◌, ◌^◌, ◌<◌, ◌≤◌, min, Bool, Option, None, IsSome, List, [], length, map, slice_index_or, All, Any, Contains, ◌⊎◌}
+use Rattle.std.specs.Prelude.{◌≡◌, ℕ, ◌+◌, ◌-◌, ◌^◌, ◌<◌, ◌≤◌, min, Bool, Option, None, IsSome, List, [], length, map}
+use Rattle.std.specs.Prelude.{slice_index_or, All, Any, Contains, ◌⊎◌}
 use Rattle.lit_core.specs.declared.literals.Lit.{Lit}
 use Rattle.ground_core.specs.Solving.{counted}
 use Rattle.search_decisions.specs.declared.scores.Scores.{Scores}
@@ -17,7 +18,8 @@ abbrev pub HaveValues : List (Option Bool) → ℕ → ℕ → Type 0
 HaveValues values from end = (k : ℕ) → from ≤ k → k < end → IsSome (slice_index_or values k None)
 
 -- all unassigned variables between these numbers, in their order, and their scores
-pub record AreListed (scores : List ℕ) (values : List (Option Bool)) (from end : ℕ) (vars listed : List ℕ) : Type 0 where
+pub record AreListed (scores : List ℕ) (values : List (Option Bool)) (from end : ℕ)
+    (vars listed : List ℕ) : Type 0 where
   pub scored : listed ≡ map (score_of scores) vars
   pub each : All (IsOpenBetween values from end) vars
   pub all : (v : ℕ) → IsOpenBetween values from end v → Contains vars v
@@ -32,4 +34,5 @@ pub record Raises (lits : List Lit) (old new : List ℕ) : Type 0 where
 
 -- listed are the unassigned ones of the first variables, or where there are none the unassigned ones of the others
 pub record AreListedFirst (scores : List ℕ) (values : List (Option Bool)) (first end : ℕ) (s : Scores) : Type 0 where
-  pub part : (AreListed scores values 1 first s.open.items s.listed.items × (0 < length s.listed.items)) ⊎ (AreListed scores values 1 first [] [] × AreListed scores values first end s.open.items s.listed.items)
+  pub part : (AreListed scores values 1 first s.open.items s.listed.items × (0 < length s.listed.items))
+      ⊎ (AreListed scores values 1 first [] [] × AreListed scores values first end s.open.items s.listed.items)

@@ -1,5 +1,6 @@
 //! What the search decides next.
-ghost use Rattle.std.specs.Prelude.{◌≡◌, ℕ, ◌≤◌, ◌<◌, ◌+◌, None, length, slice_index_or, IfOk, IfSome, OnOk, MatchOption};
+ghost use Rattle.std.specs.Prelude.{◌≡◌, ℕ, ◌≤◌, ◌<◌, ◌+◌, None, length, slice_index_or, IfOk, IfSome, OnOk};
+ghost use Rattle.std.specs.Prelude.{MatchOption};
 ghost use Rattle.lit_core.specs.Literals.{value_in};
 ghost use Rattle.clause_store.specs.StoreState.{IsStore};
 ghost use Rattle.search_decisions.specs.Scores.{AreListed, AreListedFirst, HaveValues, IsOpenBetween, Raises};
@@ -50,7 +51,8 @@ impl Decider {
         requires some { 1 ≤ first }
         requires first { first ≤ end }
         requires end { end ≤ length assignment.now }
-        ensures lists { OnOk result (AreListedFirst self.old.scores.scores.items assignment.now first end self.new.scores) }
+        ensures lists { OnOk result (AreListedFirst self.old.scores.scores.items assignment.now first end
+            self.new.scores) }
         ensures phases { self.new.phases ≡ self.old.phases }
     {
         self.scores.list(assignment, 1, first)?;
@@ -71,7 +73,8 @@ impl Decider {
         requires some { 1 ≤ first }
         requires first { first ≤ end }
         requires end { end ≤ length assignment.now }
-        ensures found { IfOk result (λ next. MatchOption next (HaveValues assignment.now 1 end) (IsOpenBetween assignment.now 1 end)) }
+        ensures found { IfOk result (λ next. MatchOption next (HaveValues assignment.now 1 end)
+            (IsOpenBetween assignment.now 1 end)) }
         ensures phases { self.new.phases ≡ self.old.phases }
     {
         self.list(assignment, first, end)?;
@@ -119,7 +122,8 @@ impl Decider {
         requires some { 1 ≤ first }
         requires first { first ≤ end }
         requires end { end ≤ length assignment.now }
-        ensures found { IfOk result (λ next. MatchOption next (HaveValues assignment.now 1 end) (IsOpenBetween assignment.now 1 end)) }
+        ensures found { IfOk result (λ next. MatchOption next (HaveValues assignment.now 1 end)
+            (IsOpenBetween assignment.now 1 end)) }
         ensures phases { self.new.phases ≡ self.old.phases }
     {
         if rule.takes_first_of_falling() {
@@ -145,7 +149,8 @@ impl Decider {
         requires laws { IsStore store.now }
         requires atoms { length problem.now.atoms < end }
         requires end { end ≤ length store.now.trail.values }
-        ensures found { IfOk result (λ next. MatchOption next (HaveValues store.now.trail.values 1 end) (λ l. (1 ≤ l.var.0) × (l.var.0 < end) × (value_in store.now.trail.values l ≡ None))) }
+        ensures found { IfOk result (λ next. MatchOption next (HaveValues store.now.trail.values 1 end)
+            (λ l. (1 ≤ l.var.0) × (l.var.0 < end) × (value_in store.now.trail.values l ≡ None))) }
     {
         let first = problem.atom_count() + 1;
         let Some(number) = self.next_variable(rule, store.assignment(), first, end)? else {

@@ -1,8 +1,11 @@
 //! The sign of a decision: the atom of a choice that was seen least often in answers.
-ghost use Rattle.std.specs.Prelude.{◌≡◌, ℕ, ◌≤◌, ◌<◌, ◌+◌, ◌↔◌, ◌⊎◌, Some, None, true, false, [], length, slice_index_or, slice_set, IsTrue, All, Any, IfSome, OnOk};
+ghost use Rattle.std.specs.Prelude.{◌≡◌, ℕ, ◌≤◌, ◌<◌, ◌+◌, ◌↔◌, ◌⊎◌, Some, None, true, false, [], length};
+ghost use Rattle.std.specs.Prelude.{slice_index_or, slice_set, IsTrue, All, Any, IfSome, OnOk};
 ghost use Rattle.ground_core.specs.Solving.{counted};
 ghost use Rattle.search_decisions.specs.declared.phases.First.{First};
-ghost use Rattle.search_decisions.specs.Phases.{CountsAnswer, HasChoice, IsChoiceAt, IsFirstRight, IsFoundFor, IsLeastSeen, IsOpen, KeepsAll, KeepsAnswers, Notes, choice_of, times_seen};
+ghost use Rattle.search_decisions.specs.Phases.{CountsAnswer, HasChoice, IsChoiceAt, IsFirstRight, IsFoundFor};
+ghost use Rattle.search_decisions.specs.Phases.{IsLeastSeen, IsOpen, KeepsAll, KeepsAnswers, Notes, choice_of};
+ghost use Rattle.search_decisions.specs.Phases.{times_seen};
 
 use ground_core::Memory;
 use kept_problem::KeptProblem;
@@ -113,7 +116,8 @@ impl Phases {
     /// Makes room for so many variables.
     pub fn reserve(&mut self, len: usize) -> Result<(), Memory>
         ensures room { OnOk result ((len ≤ length self.new.seen.items) × (len ≤ length self.new.choices.items)) }
-        ensures longer { (length self.old.seen.items ≤ length self.new.seen.items) × (length self.old.choices.items ≤ length self.new.choices.items) }
+        ensures longer { (length self.old.seen.items ≤ length self.new.seen.items)
+            × (length self.old.choices.items ≤ length self.new.choices.items) }
         ensures seen { (v : ℕ) → times_seen self.new v ≡ times_seen self.old v }
         ensures choices { (v : ℕ) → choice_of self.new v ≡ choice_of self.old v }
         ensures answers { self.new.answers ≡ self.old.answers }
@@ -164,7 +168,8 @@ impl Phases {
 
     /// Counts an answer in which the variable is true.
     fn count(&mut self, number: usize)
-        ensures seen { self.new.seen.items ≡ slice_set self.old.seen.items number (counted (times_seen self.old number + 1)) }
+        ensures seen { self.new.seen.items ≡ slice_set self.old.seen.items number
+            (counted (times_seen self.old number + 1)) }
         ensures choices { self.new.choices.items ≡ self.old.choices.items }
         ensures answers { self.new.answers ≡ self.old.answers }
         ensures found { self.new.first ≡ self.old.first }
@@ -233,15 +238,18 @@ impl Phases {
 
     /// Whether the one is open and comes before the other.
     fn is_better(&self, assignment: &Assignment, one: Var, other: Var, salt: u64) -> bool
-        ensures better { result ≡ true → IsOpen assignment.now one.0 × (times_seen self.now one.0 ≤ times_seen self.now other.0) }
-        ensures not { result ≡ false → IsOpen assignment.now one.0 → times_seen self.now other.0 ≤ times_seen self.now one.0 }
+        ensures better { result ≡ true → IsOpen assignment.now one.0
+            × (times_seen self.now one.0 ≤ times_seen self.now other.0) }
+        ensures not { result ≡ false → IsOpen assignment.now one.0 → times_seen self.now other.0
+            ≤ times_seen self.now one.0 }
     {
         is_open(assignment, one) && self.is_before(one, other, salt)
     }
 
     /// The open variable of the clause that comes first, which is at most this one.
     fn first_of(&self, assignment: &Assignment, clause: &[Lit], var: Var, salt: u64) -> Var
-        ensures least { Any (λ l. l.var.0 ≡ var.0) clause.now → IsLeastSeen self.now assignment.now clause.now result.0 }
+        ensures least { Any (λ l. l.var.0 ≡ var.0) clause.now → IsLeastSeen self.now assignment.now
+            clause.now result.0 }
         ensures open_or { (result ≡ var) ⊎ IsOpen assignment.now result.0 }
     {
         let mut first = var;
@@ -255,7 +263,8 @@ impl Phases {
 
     /// What was found last, where it still is the first of this choice.
     fn still_first(&self, assignment: &Assignment, place: usize, salt: u64) -> Option<Var>
-        ensures { IfSome result (λ v. IsOpen assignment.now v.0 × (self.now.first ≡ Some (record { clause = place; salt = salt; var = v }))) }
+        ensures { IfSome result (λ v. IsOpen assignment.now v.0 ×
+            (self.now.first ≡ Some (record { clause = place; salt = salt; var = v }))) }
     {
         match self.first {
             Some(first) => {
@@ -278,7 +287,9 @@ impl Phases {
         var: Var,
         salt: u64,
     ) -> Var
-        ensures least { let clause = slice_index_or problem.now.clauses place [] in IsFirstRight problem.now.clauses assignment.now self.now → Any (λ l. l.var.0 ≡ var.0) clause → IsLeastSeen self.now assignment.now clause result.0 }
+        ensures least { let clause = slice_index_or problem.now.clauses place [] in
+            IsFirstRight problem.now.clauses assignment.now self.now → Any (λ l. l.var.0 ≡ var.0) clause
+            → IsLeastSeen self.now assignment.now clause result.0 }
         ensures open_or { (result ≡ var) ⊎ IsOpen assignment.now result.0 }
     {
         match self.still_first(assignment, place, salt) {
@@ -287,8 +298,10 @@ impl Phases {
         }
     }
 
-    /// Whether the variable was true in fewer than half of the answers. Where it was in half of them the salt decides, so
-    /// that later answers are not all the same but for a few variables, which their exclusions would have to tell apart.
+    /// Whether the variable was true in fewer than half of the answers. Where it was in half of them the salt decides,
+    /// so
+    /// that later answers are not all the same but for a few variables, which their exclusions would have to tell
+    /// apart.
     fn is_due(&self, var: Var, salt: u64) -> bool
         ensures due { result ≡ true → times_seen self.now var.0 + times_seen self.now var.0 ≤ self.now.answers }
         ensures not { result ≡ false → self.now.answers ≤ times_seen self.now var.0 + times_seen self.now var.0 }
@@ -311,10 +324,14 @@ impl Phases {
         salt: u64,
     ) -> bool
         ensures same { KeepsAll self.old self.new }
-        ensures alone { choice_of self.old var.0 ≡ None → result ≡ true → times_seen self.old var.0 + times_seen self.old var.0 ≤ self.old.answers }
-        ensures alone_not { choice_of self.old var.0 ≡ None → result ≡ false → self.old.answers ≤ times_seen self.old var.0 + times_seen self.old var.0 }
-        ensures choice { IfSome (choice_of self.old var.0) (λ place. IsFoundFor assignment.now place var salt result self.new) }
-        ensures least { HasChoice problem.now.clauses self.old var.0 → IsFirstRight problem.now.clauses assignment.now self.old → IsFirstRight problem.now.clauses assignment.now self.new }
+        ensures alone { choice_of self.old var.0 ≡ None → result ≡ true
+            → times_seen self.old var.0 + times_seen self.old var.0 ≤ self.old.answers }
+        ensures alone_not { choice_of self.old var.0 ≡ None → result ≡ false
+            → self.old.answers ≤ times_seen self.old var.0 + times_seen self.old var.0 }
+        ensures choice { IfSome (choice_of self.old var.0) (λ place. IsFoundFor assignment.now place var salt
+            result self.new) }
+        ensures least { HasChoice problem.now.clauses self.old var.0 → IsFirstRight problem.now.clauses assignment.now
+            self.old → IsFirstRight problem.now.clauses assignment.now self.new }
     {
         let Some(place) = self.choice_of(var) else {
             return self.is_due(var, salt);

@@ -55,7 +55,9 @@ impl Scores {
     /// Lists the variable of this number, if it is unassigned.
     fn list_next(&mut self, assignment: &Assignment, number: u64) -> Result<(), Memory>
         requires { number < length assignment.now }
-        ensures lists { OnOk result ((from : ℕ) → from ≤ number → AreListed self.old.scores.items assignment.now from number self.old.open.items self.old.listed.items → AreListed self.old.scores.items assignment.now from (number + 1) self.new.open.items self.new.listed.items) }
+        ensures lists { OnOk result ((from : ℕ) → from ≤ number → AreListed self.old.scores.items assignment.now from
+            number self.old.open.items self.old.listed.items → AreListed self.old.scores.items assignment.now from
+            (number + 1) self.new.open.items self.new.listed.items) }
         ensures scores { self.new.scores ≡ self.old.scores }
     {
         if is_open(assignment, Var(number)) {
@@ -70,7 +72,8 @@ impl Scores {
     pub fn list(&mut self, assignment: &Assignment, from: u64, end: u64) -> Result<(), Memory>
         requires some { from ≤ end }
         requires end { end ≤ length assignment.now }
-        ensures lists { OnOk result (AreListed self.old.scores.items assignment.now from end self.new.open.items self.new.listed.items) }
+        ensures lists { OnOk result (AreListed self.old.scores.items assignment.now from end self.new.open.items
+            self.new.listed.items) }
         ensures scores { self.new.scores ≡ self.old.scores }
     {
         self.open.clear();
@@ -90,7 +93,8 @@ impl Scores {
 
     /// Raises the score of a variable by 1, up to the greatest number of 64 bits.
     fn raise_one(&mut self, number: usize)
-        ensures raises { (lit : Lit) → lit.var.0 ≡ number → Raises (lit ∷ []) self.old.scores.items self.new.scores.items }
+        ensures raises { (lit : Lit) → lit.var.0 ≡ number → Raises (lit ∷ []) self.old.scores.items
+            self.new.scores.items }
     {
         if number < self.scores.len() {
             self.scores[number] = self.scores[number].saturating_add(1);

@@ -1,5 +1,7 @@
 -- How a search begins.
-use Rattle.std.proofs.Common.{◌≡◌, ℕ, zero, suc, ◌+◌, ◌-◌, ◌*◌, ◌^◌, ◌<◌, ◌≤◌, true, Some, None, Option, is_some, List, [], ◌∷◌, length, take, replicate, slice_get, get_or, refl, sym, ap, ◌∙◌, subst, inl, ⊎_elim, arith}
+use Rattle.std.proofs.Common.{◌≡◌, ℕ, zero, suc, ◌+◌, ◌-◌, ◌*◌, ◌^◌, ◌<◌, ◌≤◌, true, Some, None, Option, is_some, List}
+use Rattle.std.proofs.Common.{[], ◌∷◌, length, take, replicate, slice_get, get_or, refl, sym, ap, ◌∙◌, subst, inl}
+use Rattle.std.proofs.Common.{⊎_elim, arith}
 use Rattle.std.proofs.Math.Nat.{pow-suc}
 use Rattle.std.proofs.lemmas.Bool.{cases_lt}
 use Rattle.std.proofs.lemmas.List.{take_all}
@@ -30,7 +32,8 @@ use Rattle.search_engine.proofs.GrowFacts.{pow-le, resting-moves, same-itself}
 
 -- so much is a trail worth on which all follows
 pub base-worth : (v b m : ℕ) → b + m ≡ v → potential v (replicate b true) + 2 ^ m ≡ 2 ^ v
-base-worth v zero m e = let same : 2 ^ m ≡ 2 ^ v = ap (λ (n : ℕ). 2 ^ n) (let x : m ≡ v = omega arith in x) in omega (arith, same)
+base-worth v zero m e = let same : 2 ^ m ≡ 2 ^ v = ap (λ (n : ℕ). 2 ^ n) (let x : m ≡ v = omega arith in x) in
+    omega (arith, same)
 base-worth zero (suc b) m e = absurd (omega arith)
 base-worth (suc v) (suc b) m e =
     let r : potential v (replicate b true) + 2 ^ m ≡ 2 ^ v = base-worth v b m (omega arith) in
@@ -45,7 +48,8 @@ fewer-free c v b r le few h =
     omega (arith, worth, up, h)
 
 -- where no step is without a reason, all follow
-bits-true : (steps : List Step) → ((k : ℕ) (t : Step) → slice_get steps k ≡ Some t → t.reason ≡ None → ⊥) → implied_of steps ≡ replicate (length steps) true
+bits-true : (steps : List Step) → ((k : ℕ) (t : Step) → slice_get steps k ≡ Some t → t.reason ≡ None → ⊥)
+    → implied_of steps ≡ replicate (length steps) true
 bits-true [] h = refl
 bits-true (t ∷ steps) h =
     let rest : implied_of steps ≡ replicate (length steps) true = bits-true steps (λ k u at. h (suc k) u at) in
@@ -56,7 +60,8 @@ bits-true (t ∷ steps) h =
     by_reason None e = absurd (h 0 t refl e)
     by_reason (Some i) e = refl
 
-module _ (vars : ℕ) (s : TrailState) (laws : IsTrail s) (level : s.level ≡ 0) (orderly : IsOrderly vars s.steps) (sized : vars < length s.values) where
+module _ (vars : ℕ) (s : TrailState) (laws : IsTrail s) (level : s.level ≡ 0) (orderly : IsOrderly vars s.steps)
+    (sized : vars < length s.values) where
   -- nothing was decided
   pub none-decided : (k : ℕ) (t : Step) → slice_get s.steps k ≡ Some t → t.reason ≡ None → ⊥
   none-decided k t at none =
@@ -70,21 +75,32 @@ module _ (vars : ℕ) (s : TrailState) (laws : IsTrail s) (level : s.level ≡ 0
   pub begin-ahead : Ahead vars (implied_of s.steps) (0 + potential vars (replicate (length s.steps) true)) 0
   begin-ahead =
       let bits : implied_of s.steps ≡ replicate (length s.steps) true = bits-true s.steps none-decided in
-      let worth : potential vars (implied_of s.steps) ≡ potential vars (replicate (length s.steps) true) = ap (potential vars) bits in
+      let worth : potential vars (implied_of s.steps) ≡ potential vars (replicate (length s.steps) true) =
+      ap (potential vars) bits in
       let same : length (implied_of s.steps) ≡ length s.steps = bits-length s.steps in
       let fit : length s.steps ≤ vars = few-steps in
-      record { room = vars - length s.steps; fits = omega (arith, fit, same); paid = omega (arith, worth); gone = omega arith }
+      record {
+        room = vars - length s.steps;
+        fits = omega (arith, fit, same);
+        paid = omega (arith, worth);
+        gone =
+            omega arith;
+      }
 
   pub begin-assumed : (assume : List Lit) → AreAssumed assume s.steps
   begin-assumed assume k t at none = absurd (none-decided k t at none)
 
 -- every retired selector is one of the literals that follow
-pub retired-follow : (e : Engine) → IsResting e → IsQuiet e.store → e.closed ≡ length e.problem.retired → AreSelectors e.problem.retired → length e.problem.retired ≤ length e.store.trail.steps
+pub retired-follow : (e : Engine) → IsResting e → IsQuiet e.store → e.closed ≡ length e.problem.retired
+    → AreSelectors e.problem.retired → length e.problem.retired ≤ length e.store.trail.steps
 retired-follow e h quiet all selectors =
-    let whole : take e.closed e.problem.retired ≡ e.problem.retired = take_all e.closed e.problem.retired (omega (arith, all)) in
-    let closed : AreClosed e.store.clauses e.ids.items e.problem.retired = subst (AreClosed e.store.clauses e.ids.items) whole h.engine.closed in
+    let whole : take e.closed e.problem.retired ≡ e.problem.retired = take_all e.closed e.problem.retired
+    (omega (arith, all)) in
+    let closed : AreClosed e.store.clauses e.ids.items e.problem.retired =
+    subst (AreClosed e.store.clauses e.ids.items) whole h.engine.closed in
     few-made e.problem.retired e.store.trail.steps selectors (λ l has.
-    let w : IsMade e.store.trail.steps (negated l) = h.engine.store.trail.coherent.was_made (negated l) (closed-true e.store e.ids.items e.problem.retired quiet closed l has) in
+    let w : IsMade e.store.trail.steps (negated l) = h.engine.store.trail.coherent.was_made (negated l)
+    (closed-true e.store e.ids.items e.problem.retired quiet closed l has) in
     (w.0, w.1, w.2, ap (λ (m : Lit). m.var.0) (sym w.3)))
 
 -- propagation at rest
@@ -93,44 +109,57 @@ module _ (e : Engine) (t : StoreState) (h : IsResting e) (p : Propagates e.store
   grown = extends-propagates e.store t p
 
   within-after : (id : ℕ) (c : List Lit) → IsHeld t id c → AreLitsOf e.problem.vars c
-  within-after id c held = h.engine.knows.within id c (ap (λ (xs : List (Option (List Lit))). slice_get xs id) (sym p.clauses) ∙ held)
+  within-after id c held = h.engine.knows.within id c (ap (λ (xs : List (Option (List Lit))). slice_get xs id)
+      (sym p.clauses) ∙ held)
 
   pub rest-orderly : IsOrderly e.problem.vars t.trail.steps
   rest-orderly = record {
     named = λ k u at. ⊎_elim
-        (λ lt. h.orderly.named k u (ap (λ (xs : List Step). slice_get xs k) p.kept ∙ (slice_get-take-below (length e.store.trail.steps) t.trail.steps k lt ∙ at)))
+        (λ lt. h.orderly.named k u (ap (λ (xs : List Step). slice_get xs k) p.kept
+        ∙ (slice_get-take-below (length e.store.trail.steps) t.trail.steps k lt ∙ at)))
         (λ ge. reason-within t e.problem.vars laws within-after k u at u.reason refl (p.reasoned k u ge at).0)
         (cases_lt k (length e.store.trail.steps));
-    decided = λ k u at none. h.orderly.decided k u (extends-from e.store.trail.steps t.trail.steps grown k u at none) none;
+    decided = λ k u at none. h.orderly.decided k u (extends-from e.store.trail.steps t.trail.steps grown k u
+        at none) none;
   }
 
   pub rest-level : t.trail.level ≡ 0
   rest-level = p.level ∙ h.level
 
   pub rest-sized : e.problem.vars < length t.trail.values
-  rest-sized = let was : e.problem.vars < length e.store.trail.values = h.engine.sized in let same : length t.trail.values ≡ length e.store.trail.values = p.size in omega (arith, was, same)
+  rest-sized = let was : e.problem.vars < length e.store.trail.values = h.engine.sized in
+      let same : length t.trail.values ≡ length e.store.trail.values = p.size in omega (arith, was, same)
 
   pub resting-propagated : IsResting (with_store e t)
-  resting-propagated = resting-moves e (with_store e t) h (record { same = same-itself e (with_store e t) refl refl refl refl refl; ids = refl; closed = refl }) refl p.clauses rest-orderly rest-level laws rest-sized
+  resting-propagated = resting-moves e (with_store e t) h (record {
+    same =
+        same-itself e (with_store e t) refl refl refl refl refl;
+    ids = refl;
+    closed = refl;
+  }) refl p.clauses rest-orderly
+      rest-level laws rest-sized
 
 -- a clause that is false where nothing was decided refutes the problem
 pub rest-refuted : (e : Engine) (id : ℕ) → IsResting e → IsConflict e.store id → RefutesAll e.problem []
-rest-refuted e id h conflict v sat make = root-refuted e.store h.engine.store v (satisfies-held e h.engine v sat) h.orderly.decided id (record {
-  clause = conflict.0;
-  held = conflict.1;
-  upto = λ k d lt.
-      let m : Lit = get_or conflict.0 k d in
-      let made : IsMade e.store.trail.steps (negated m) = h.engine.store.trail.coherent.was_made (negated m) (negated-true e.store.trail.values m (conflict.2 k d lt)) in
-      let top : made.1.level ≤ e.store.trail.level = h.engine.store.trail.top made.0 made.1 made.2 in
-      let low : e.store.trail.level ≡ 0 = h.level in
-      (made.0, made.1, made.2, made.3, omega (arith, top, low));
-  here = inl refl;
-})
+rest-refuted e id h conflict v sat make = root-refuted e.store h.engine.store v (satisfies-held e h.engine v sat)
+    h.orderly.decided id (record {
+      clause = conflict.0;
+      held = conflict.1;
+      upto = λ k d lt.
+          let m : Lit = get_or conflict.0 k d in
+          let made : IsMade e.store.trail.steps (negated m) = h.engine.store.trail.coherent.was_made (negated m)
+          (negated-true e.store.trail.values m (conflict.2 k d lt)) in
+          let top : made.1.level ≤ e.store.trail.level = h.engine.store.trail.top made.0 made.1 made.2 in
+          let low : e.store.trail.level ≡ 0 = h.level in
+          (made.0, made.1, made.2, made.3, omega (arith, top, low));
+      here = inl refl;
+    })
 
 -- a search begins
 module _ (e : Engine) (h : IsResting e) (base : e.base ≡ length e.store.trail.steps) (conflicts : e.conflicts ≡ 0) where
   pub ahead-begun : AheadAt e 0
-  ahead-begun = rw (conflicts, base) (begin-ahead e.problem.vars e.store.trail h.engine.store.trail h.level h.orderly h.engine.sized)
+  ahead-begun = rw (conflicts, base) (begin-ahead e.problem.vars e.store.trail h.engine.store.trail h.level h.orderly
+      h.engine.sized)
 
   pub search-begun : e.closed ≡ length e.problem.retired → length e.learnt ≤ e.known → IsSearch e
   search-begun closed known = record {
@@ -143,8 +172,12 @@ module _ (e : Engine) (h : IsResting e) (base : e.base ≡ length e.store.trail.
   }
 
 -- fewer conflicts were met than there are free variables for
-pub few-conflicts : (e f : Engine) → IsResting e → e.base ≡ length e.store.trail.steps → length e.problem.retired ≤ e.base → f.problem ≡ e.problem → f.base ≡ e.base → paid_of f < 2 ^ f.problem.vars → f.conflicts < 2 ^ (e.problem.vars - length e.problem.retired)
+pub few-conflicts : (e f : Engine) → IsResting e → e.base ≡ length e.store.trail.steps → length e.problem.retired
+    ≤ e.base → f.problem ≡ e.problem → f.base ≡ e.base → paid_of f < 2 ^ f.problem.vars
+    → f.conflicts < 2 ^ (e.problem.vars - length e.problem.retired)
 few-conflicts e f h base retired problem same fewer =
-    let fit : length e.store.trail.steps ≤ e.problem.vars = few-steps e.problem.vars e.store.trail h.engine.store.trail h.level h.orderly h.engine.sized in
-    let paid : f.conflicts + potential e.problem.vars (replicate e.base true) < 2 ^ e.problem.vars = rw (← problem, ← same) fewer in
+    let fit : length e.store.trail.steps ≤ e.problem.vars = few-steps e.problem.vars e.store.trail h.engine.store.trail
+    h.level h.orderly h.engine.sized in
+    let paid : f.conflicts + potential e.problem.vars (replicate e.base true) < 2 ^ e.problem.vars =
+    rw (← problem, ← same) fewer in
     fewer-free f.conflicts e.problem.vars e.base (length e.problem.retired) (omega (arith, fit, base)) retired paid

@@ -1,5 +1,6 @@
 -- How the potential bounds the conflicts of a search.
-use Rattle.std.proofs.Common.{◌≡◌, ℕ, zero, suc, ◌+◌, ◌*◌, ◌^◌, ◌<◌, ◌≤◌, Bool, true, false, List, [], ◌∷◌, ◌++◌, length, arith}
+use Rattle.std.proofs.Common.{◌≡◌, ℕ, zero, suc, ◌+◌, ◌*◌, ◌^◌, ◌<◌, ◌≤◌, Bool, true, false, List, [], ◌∷◌, ◌++◌}
+use Rattle.std.proofs.Common.{length, arith}
 use Rattle.std.proofs.Math.Nat.{pow-suc}
 use Rattle.std.proofs.lemmas.Nat.{pow_pos}
 use Rattle.search_engine.specs.Potential.{potential, progress}
@@ -24,14 +25,17 @@ bounded (suc v) (false ∷ bs) m e =
     omega arith
 
 -- the part after the front P
-pub at-append : (v : ℕ) (p q : List Bool) (m : ℕ) → length p + m ≡ v → potential v (p ++ q) ≡ potential v p + potential m q
+pub at-append : (v : ℕ) (p q : List Bool) (m : ℕ) → length p + m ≡ v → potential v (p ++ q)
+    ≡ potential v p + potential m q
 at-append v [] q m e = let s : m ≡ v = omega arith in rw s (omega arith)
 at-append zero (b ∷ p) q m e = absurd (omega arith)
-at-append (suc v) (true ∷ p) q m e = let r : potential v (p ++ q) ≡ potential v p + potential m q = at-append v p q m (omega arith) in omega arith
+at-append (suc v) (true ∷ p) q m e = let r : potential v (p ++ q) ≡ potential v p + potential m q =
+    at-append v p q m (omega arith) in omega arith
 at-append (suc v) (false ∷ p) q m e = at-append v p q m (omega arith)
 
 -- a conflict that passes the decision after p: m places are left after the decision's, k of them after s
-pub passes : (v : ℕ) (p s : List Bool) (m k c : ℕ) → length p + suc m ≡ v → length s + k ≡ m → c ≤ potential v (p ++ false ∷ s) → c + 1 ≤ potential v p + 2 ^ m
+pub passes : (v : ℕ) (p s : List Bool) (m k c : ℕ) → length p + suc m ≡ v → length s + k ≡ m
+    → c ≤ potential v (p ++ false ∷ s) → c + 1 ≤ potential v p + 2 ^ m
 passes v p s m k c ev em h =
     let a : potential v (p ++ false ∷ s) ≡ potential v p + potential m s = at-append v p (false ∷ s) (suc m) ev in
     let b : potential m s + 2 ^ k ≤ 2 ^ m = bounded m s k em in
@@ -39,7 +43,8 @@ passes v p s m k c ev em h =
     omega arith
 
 -- another conflict before a literal follows at the place after the front
-pub passes-more : (v : ℕ) (p s : List Bool) (m k c : ℕ) → length p + suc m ≡ v → length s + suc k ≡ m → c ≤ potential v (p ++ false ∷ s) + 2 ^ k → c + 1 ≤ potential v p + 2 ^ m
+pub passes-more : (v : ℕ) (p s : List Bool) (m k c : ℕ) → length p + suc m ≡ v → length s + suc k ≡ m
+    → c ≤ potential v (p ++ false ∷ s) + 2 ^ k → c + 1 ≤ potential v p + 2 ^ m
 passes-more v p s m k c ev em h =
     let a : potential v (p ++ false ∷ s) ≡ potential v p + potential m s = at-append v p (false ∷ s) (suc m) ev in
     let b : potential m s + 2 ^ (suc k) ≤ 2 ^ m = bounded m s (suc k) em in
@@ -48,9 +53,11 @@ passes-more v p s m k c ev em h =
     omega arith
 
 -- a literal follows there
-pub follows : (v : ℕ) (p q : List Bool) (m c : ℕ) → length p + suc m ≡ v → c ≤ potential v p + 2 ^ m → c ≤ potential v (p ++ true ∷ q)
+pub follows : (v : ℕ) (p q : List Bool) (m c : ℕ) → length p + suc m ≡ v → c ≤ potential v p + 2 ^ m
+    → c ≤ potential v (p ++ true ∷ q)
 follows v p q m c ev h =
-    let a : potential v (p ++ true ∷ q) ≡ potential v p + (2 ^ m + potential m q) = at-append v p (true ∷ q) (suc m) ev in
+    let a : potential v (p ++ true ∷ q) ≡ potential v p + (2 ^ m + potential m q) =
+    at-append v p (true ∷ q) (suc m) ev in
     omega arith
 
 -- so there are fewer conflicts than 2^v
@@ -87,21 +94,28 @@ progress-bounded (suc v) (false ∷ bs) m e =
     let t : 3 ^ (suc v) ≡ 3 ^ v + 3 ^ v + 3 ^ v = thrice v in
     omega arith
 
-pub progress-append : (v : ℕ) (p q : List Bool) (m : ℕ) → length p + m ≡ v → progress v (p ++ q) ≡ progress v p + progress m q
+pub progress-append : (v : ℕ) (p q : List Bool) (m : ℕ) → length p + m ≡ v → progress v (p ++ q)
+    ≡ progress v p + progress m q
 progress-append v [] q m e = let s : m ≡ v = omega arith in rw s (omega arith)
 progress-append zero (b ∷ p) q m e = absurd (omega arith)
-progress-append (suc v) (true ∷ p) q m e = let r : progress v (p ++ q) ≡ progress v p + progress m q = progress-append v p q m (omega arith) in omega arith
-progress-append (suc v) (false ∷ p) q m e = let r : progress v (p ++ q) ≡ progress v p + progress m q = progress-append v p q m (omega arith) in omega arith
+progress-append (suc v) (true ∷ p) q m e = let r : progress v (p ++ q) ≡ progress v p + progress m q =
+    progress-append v p q m (omega arith) in omega arith
+progress-append (suc v) (false ∷ p) q m e = let r : progress v (p ++ q) ≡ progress v p + progress m q =
+    progress-append v p q m (omega arith) in omega arith
 
 -- a literal that follows in place of a decision raises it, whatever stood after the decision
-pub progress-raises : (v : ℕ) (p s q : List Bool) (m k : ℕ) → length p + suc m ≡ v → length s + k ≡ m → progress v (p ++ false ∷ s) < progress v (p ++ true ∷ q)
+pub progress-raises : (v : ℕ) (p s q : List Bool) (m k : ℕ) → length p + suc m ≡ v → length s + k ≡ m
+    → progress v (p ++ false ∷ s) < progress v (p ++ true ∷ q)
 progress-raises v p s q m k ev em =
-    let a : progress v (p ++ false ∷ s) ≡ progress v p + (3 ^ m + progress m s) = progress-append v p (false ∷ s) (suc m) ev in
-    let b : progress v (p ++ true ∷ q) ≡ progress v p + (2 * 3 ^ m + progress m q) = progress-append v p (true ∷ q) (suc m) ev in
+    let a : progress v (p ++ false ∷ s) ≡ progress v p + (3 ^ m + progress m s) = progress-append v p (false ∷ s)
+    (suc m) ev in
+    let b : progress v (p ++ true ∷ q) ≡ progress v p + (2 * 3 ^ m + progress m q) =
+    progress-append v p (true ∷ q) (suc m) ev in
     let c : progress m s + 3 ^ k ≤ 3 ^ m = progress-bounded m s k em in
     let z : 0 < 3 ^ k = one-le-pow-three k in
     omega arith
   where
     one-le-pow-three : (n : ℕ) → 0 < 3 ^ n
     one-le-pow-three zero = omega arith
-    one-le-pow-three (suc n) = let r : 0 < 3 ^ n = one-le-pow-three n in let t : 3 ^ (suc n) ≡ 3 ^ n + 3 ^ n + 3 ^ n = thrice n in omega arith
+    one-le-pow-three (suc n) = let r : 0 < 3 ^ n = one-le-pow-three n in let t : 3 ^ (suc n) ≡ 3 ^ n + 3 ^ n + 3 ^ n =
+        thrice n in omega arith

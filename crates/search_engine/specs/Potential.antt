@@ -1,8 +1,10 @@
 -- Numbers that bound the conflicts of a search, and its turns.
-use Rattle.std.specs.Prelude.{◌≡◌, ℕ, zero, suc, ◌+◌, ◌*◌, ◌^◌, ◌≤◌, ◌<◌, ◌⊎◌, Bool, true, false, is_some, List, [], ◌∷◌, length, map}
+use Rattle.std.specs.Prelude.{◌≡◌, ℕ, zero, suc, ◌+◌, ◌*◌, ◌^◌, ◌≤◌, ◌<◌, ◌⊎◌, Bool, true, false, is_some, List, []}
+use Rattle.std.specs.Prelude.{◌∷◌, length, map}
 use Rattle.clause_store.specs.declared.trails.Step.{Step}
 
--- of v variables those on the trail in order, true for one that follows by a clause: 2^(v-1-p) for each of these, p its place
+-- of v variables those on the trail in order, true for one that follows by a clause: 2^(v-1-p) for each of these, p its
+-- place
 abbrev pub potential : ℕ → List Bool → ℕ
 potential v [] = 0
 potential zero (b ∷ bs) = 0

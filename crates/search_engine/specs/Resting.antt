@@ -77,9 +77,11 @@ pub record KeepsProblem (old new : Engine) : Type 0 where
   pub known : new.known ≡ old.known
   pub assumed : new.assumed ≡ old.assumed
 
--- nothing is left to propagate, and every retired selector is one of those that are false before a search; or the problem is refuted
+-- nothing is left to propagate, and every retired selector is one of those that are false before a search; or the
+-- problem is refuted
 abbrev pub IsBegun : Engine → Bool → Type 0
-IsBegun e true = IsQuiet e.store × (e.base ≡ length e.store.trail.steps) × (e.closed ≡ length e.problem.retired) × (length e.problem.retired ≤ e.base)
+IsBegun e true = IsQuiet e.store × (e.base ≡ length e.store.trail.steps) × (e.closed ≡ length e.problem.retired)
+    × (length e.problem.retired ≤ e.base)
 IsBegun e false = RefutesAll e.problem []
 
 -- what the other problem says is said, too

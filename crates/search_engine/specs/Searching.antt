@@ -1,5 +1,7 @@
 -- A search: what holds at each of its turns.
-use Rattle.std.specs.Prelude.{◌≡◌, ℕ, ◌+◌, ◌-◌, ◌^◌, ◌<◌, ◌≤◌, min, Bool, true, false, Option, Some, None, IsSome, IfSome, List, [], ◌∷◌, ◌++◌, length, take, replicate, slice_get, slice_index_or, All, Contains, ◌⊎◌}
+use Rattle.std.specs.Prelude.{◌≡◌, ℕ, ◌+◌, ◌-◌, ◌^◌, ◌<◌, ◌≤◌, min, Bool, true, false, Option, Some, None, IsSome}
+use Rattle.std.specs.Prelude.{IfSome, List, [], ◌∷◌, ◌++◌, length, take, replicate, slice_get, slice_index_or, All}
+use Rattle.std.specs.Prelude.{Contains, ◌⊎◌}
 use Rattle.lit_core.specs.declared.literals.Lit.{Lit}
 use Rattle.lit_core.specs.Literals.{value_in, valuation, negated}
 use Rattle.clause_store.specs.declared.trails.Step.{Step}
@@ -29,7 +31,8 @@ pub record IsOrderly (vars : ℕ) (steps : List Step) : Type 0 where
 
 -- each decision was assumed, or all that was assumed was true before it
 abbrev pub AreAssumed : List Lit → List Step → Type 0
-AreAssumed assume steps = (k : ℕ) (t : Step) → slice_get steps k ≡ Some t → t.reason ≡ None → Contains assume t.lit ⊎ All (IsMadeBefore steps k) assume
+AreAssumed assume steps = (k : ℕ) (t : Step) → slice_get steps k ≡ Some t → t.reason ≡ None → Contains assume t.lit
+    ⊎ All (IsMadeBefore steps k) assume
 
 -- steps that follow by clauses were added
 pub record Extends (old new : List Step) : Type 0 where
@@ -76,7 +79,8 @@ pub record IsSearch (e : Engine) : Type 0 where
 
 -- so many clauses were learnt, of the problem as it is
 abbrev pub LearnsNow : Engine → Engine → Type 0
-LearnsNow old new = (k : ℕ) × (length new.learnt ≡ length old.learnt + k) × (new.moments.items ≡ old.moments.items ++ replicate k (moment_of old.problem))
+LearnsNow old new = (k : ℕ) × (length new.learnt ≡ length old.learnt + k)
+    × (new.moments.items ≡ old.moments.items ++ replicate k (moment_of old.problem))
 
 -- the search goes on: the problem stays, and the learnt list grows at its end
 pub record Continues (old new : Engine) : Type 0 where
@@ -116,7 +120,8 @@ IsFirstOpen values c = (l : Lit) × (slice_get c 0 ≡ Some l) × (value_in valu
 abbrev pub IsFirstAssigned : List (Option Bool) → List Lit → Type 0
 IsFirstAssigned values c = (l : Lit) × (slice_get c 0 ≡ Some l) × (value_in values l ≡ None → ⊥)
 
--- a clause that may be learnt: the problem entails it, all its literals but the first are false, and its conflict was counted
+-- a clause that may be learnt: the problem entails it, all its literals but the first are false, and its conflict was
+-- counted
 pub record IsLesson (e : Engine) (c : List Lit) : Type 0 where
   pub within : AreLitsOf e.problem.vars c
   pub occurs : All (Occurs e.problem) c
@@ -130,16 +135,21 @@ pub record SameCounts (old new : Engine) : Type 0 where
   pub root_conflicts : new.root_conflicts ≡ old.root_conflicts
   pub assumed : new.assumed ≡ old.assumed
 
--- what was learnt of a conflict: that the problem is refuted, or a clause that is unit after the step back, whether it is kept or not, so that the conflict is counted
+-- what was learnt of a conflict: that the problem is refuted, or a clause that is unit after the step back, whether it
+-- is kept or not, so that the conflict is counted
 abbrev pub LessonGives : Engine → Engine → Option (List Lit) → Type 0
 LessonGives old new None = (new.root_conflicts ≡ 1) × RefutesAll old.problem [] × (new.conflicts ≡ old.conflicts)
 LessonGives old new (Some c) =
-    (new.root_conflicts ≡ 0) × IsLesson new c × IsFirstOpen new.store.trail.values c × (new.store.trail.level < old.store.trail.level) × ((goal : ℕ) → StandsAt old goal → BehindAt new goal) × (new.conflicts ≡ counted (old.conflicts + 1))
+    (new.root_conflicts ≡ 0) × IsLesson new c × IsFirstOpen new.store.trail.values c
+    × (new.store.trail.level < old.store.trail.level) × ((goal : ℕ) → StandsAt old goal → BehindAt new goal)
+    × (new.conflicts ≡ counted (old.conflicts + 1))
 
 -- a conflict ended the search, or another one is left at a lower level, or a literal follows in place of a decision
 abbrev pub TurnGives : Engine → Engine → Turn → Type 0
 TurnGives old new Refuted = (new.root_conflicts ≡ 1) × RefutesAll old.problem []
-TurnGives old new (Conflict id) = (new.root_conflicts ≡ 0) × IsConflict new.store id × (new.store.trail.level < old.store.trail.level) × ((goal : ℕ) → StandsAt old goal → StandsAt new goal) × (new.learnt ≡ old.learnt)
+TurnGives old new (Conflict id) = (new.root_conflicts ≡ 0) × IsConflict new.store id
+    × (new.store.trail.level < old.store.trail.level) × ((goal : ℕ) → StandsAt old goal → StandsAt new goal)
+    × (new.learnt ≡ old.learnt)
 TurnGives old new Follows = (new.root_conflicts ≡ 0) × ((goal : ℕ) → StandsAt old goal → AheadAt new (goal + 1))
 
 -- the search goes on, further than before, or the problem is refuted
@@ -154,7 +164,8 @@ pub record GivesValues (assigned : List (Option Bool)) (end : ℕ) (values : Lis
 
 -- where every variable of terms and bounds has a value, the bounds hold
 abbrev pub HoldsWhereDecided : Engine → Type 0
-HoldsWhereDecided e = (v : ℕ → Bool) → HasLits (IsDecidedAs e.store.trail.values v) e.problem.terms e.problem.bounds → All (BoundHolds v e.problem.terms) e.problem.bounds
+HoldsWhereDecided e = (v : ℕ → Bool) → HasLits (IsDecidedAs e.store.trail.values v) e.problem.terms e.problem.bounds
+    → All (BoundHolds v e.problem.terms) e.problem.bounds
 
 -- what the search needs between its turns
 pub record IsTurn (assume : List Lit) (e : Engine) : Type 0 where
@@ -169,8 +180,10 @@ AdvanceGives assume old new (Some verdict) = Answers old.problem assume verdict
 -- a verdict, or the search has gone further, or what is assumed is true and nothing follows
 abbrev pub OutcomeGives : List Lit → Engine → Engine → Outcome → Type 0
 OutcomeGives assume old new (Answered verdict) = Answers old.problem assume verdict
-OutcomeGives assume old new Further = (new.root_conflicts ≡ 0) × ((goal : ℕ) → AheadAt old goal → AheadAt new (goal + 1))
-OutcomeGives assume old new Open = (new.root_conflicts ≡ 0) × IsQuiet new.store × AreTrue new.store.trail.values assume × ((goal : ℕ) → AheadAt old goal → AheadAt new goal)
+OutcomeGives assume old new Further = (new.root_conflicts ≡ 0) × ((goal : ℕ) → AheadAt old goal
+    → AheadAt new (goal + 1))
+OutcomeGives assume old new Open = (new.root_conflicts ≡ 0) × IsQuiet new.store × AreTrue new.store.trail.values assume
+    × ((goal : ℕ) → AheadAt old goal → AheadAt new goal)
 OutcomeGives assume old new Spent = ⊥
 
 -- the learnt list is no longer than it may be

@@ -26,7 +26,8 @@ pub fn chosen(alloc: Global, assume: &[Lit], blamed: &LitSet) -> Result<LitList,
 /// Those of the assumptions, in their order, that are the literal or one of these others.
 pub fn core_of(alloc: Global, assume: &[Lit], lit: Lit, others: &[Lit]) -> Result<LitList, Memory>
     ensures sublist { IfOk result (λ core. IsSublist core assume.now) }
-    ensures covers { IfOk result (λ core. (l : Lit) → Contains assume.now l → (l ≡ lit) ⊎ Contains others.now l → Contains core l) }
+    ensures covers { IfOk result (λ core. (l : Lit) → Contains assume.now l → (l ≡ lit) ⊎ Contains others.now l
+        → Contains core l) }
     ensures from { IfOk result (λ core. (l : Lit) → Contains core l → (l ≡ lit) ⊎ Contains others.now l) }
 {
     let mut blamed = LitSet::of(alloc, others)?;

@@ -1,7 +1,9 @@
 //! Learning from conflicts.
 ghost use Rattle.std.specs.Prelude.{◌≡◌, ℕ, ◌+◌, ◌≤◌, Some, None, length, IfOk, OnOk, MatchOption};
 ghost use Rattle.clause_store.specs.StoreState.{IsConflict, IsQuiet};
-ghost use Rattle.search_engine.specs.Searching.{Continues, Extends, IsFirstAssigned, IsFirstOpen, IsLesson, IsSearch, KeepsAssumed, LessonGives, SameCounts, SettleGives, StandsAt, TurnGives};
+ghost use Rattle.search_engine.specs.Searching.{Continues, Extends, IsFirstAssigned, IsFirstOpen, IsLesson, IsSearch};
+ghost use Rattle.search_engine.specs.Searching.{KeepsAssumed, LessonGives, SameCounts, SettleGives, StandsAt};
+ghost use Rattle.search_engine.specs.Searching.{TurnGives};
 
 use crate::levels::conflict_level;
 use clause_store::Store;
@@ -65,7 +67,8 @@ impl Engine {
         ensures decisions { KeepsAssumed self.old.store.trail.steps self.new.store.trail.steps }
         ensures assumed { self.new.assumed ≡ 0 }
         ensures learnt { self.new.learnt ≡ self.old.learnt }
-        ensures lesson { IfOk result (λ lesson. MatchOption lesson (LessonGives self.old self.new None) (λ c. LessonGives self.old self.new (Some c.items))) }
+        ensures lesson { IfOk result (λ lesson. MatchOption lesson (LessonGives self.old self.new None)
+            (λ c. LessonGives self.old self.new (Some c.items))) }
     {
         let level = conflict_level(&self.store, conflict);
         self.assumed = 0;

@@ -4,7 +4,8 @@ ghost use Rattle.ground_core.specs.Problems.{AreLitsOf, IsProblem};
 ghost use Rattle.ground_core.specs.Growth.{next_lit};
 ghost use Rattle.ground_core.specs.Growing.{IsSelector, with_retired};
 ghost use Rattle.kept_problem.specs.Joining.{CanJoin, with_selected};
-ghost use Rattle.search_engine.specs.Resting.{Bounds, Excludes, Grows, IsHalfDone, IsNew, IsResting, Reserves, SameSearches, Stays};
+ghost use Rattle.search_engine.specs.Resting.{Bounds, Excludes, Grows, IsHalfDone, IsNew, IsResting, Reserves};
+ghost use Rattle.search_engine.specs.Resting.{SameSearches, Stays};
 
 use crate::engine::Engine;
 use crate::exclusions::exclusion;
@@ -107,7 +108,8 @@ impl Engine {
         requires sized { self.old.problem.vars + 1 < length self.old.store.trail.values }
         requires lits { AreLitsOf (self.old.problem.vars + 1) clause }
         ensures resting { IsResting self.new }
-        ensures ok { OnOk result ((self.new.problem ≡ with_selected self.old.problem clause) × SameSearches self.old self.new) }
+        ensures ok { OnOk result ((self.new.problem ≡ with_selected self.old.problem clause)
+            × SameSearches self.old self.new) }
         ensures err { OnErr result (Stays self.old self.new) }
     {
         self.store.reserve_clause(clause.len())?;
@@ -169,7 +171,8 @@ impl Engine {
         requires selector { IsSelector self.old.problem selector }
         ensures resting { IsResting self.new }
         ensures already { Contains self.old.problem.retired selector → self.new.problem ≡ self.old.problem }
-        ensures retired { (Contains self.old.problem.retired selector → ⊥) → self.new.problem ≡ with_retired self.old.problem selector }
+        ensures retired { (Contains self.old.problem.retired selector → ⊥)
+            → self.new.problem ≡ with_retired self.old.problem selector }
         ensures few { length self.new.problem.retired ≤ self.new.problem.vars }
         ensures same { SameSearches self.old self.new }
         ensures held { self.new.store ≡ self.old.store }

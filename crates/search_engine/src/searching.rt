@@ -1,5 +1,6 @@
 //! The search for a valuation under assumptions.
-ghost use Rattle.std.specs.Prelude.{◌≡◌, ◌≢◌, ℕ, ◌≤◌, ◌<◌, ◌+◌, ◌-◌, ◌^◌, Some, true, false, None, List, length, take, All, Contains, slice_get, IfOk, IfErr, OnOk, IfSome, IsSome, IsTrue};
+ghost use Rattle.std.specs.Prelude.{◌≡◌, ◌≢◌, ℕ, ◌≤◌, ◌<◌, ◌+◌, ◌-◌, ◌^◌, Some, true, false, None, List, length, take};
+ghost use Rattle.std.specs.Prelude.{All, Contains, slice_get, IfOk, IfErr, OnOk, IfSome, IsSome, IsTrue};
 ghost use Rattle.lit_core.specs.declared.literals.Lit.{Lit};
 ghost use Rattle.lit_core.specs.Literals.{value_in};
 ghost use Rattle.clause_store.specs.StoreState.{IsConflict, IsQuiet, IsStore};
@@ -7,7 +8,9 @@ ghost use Rattle.ground_core.specs.Problems.{AreLitsOf};
 ghost use Rattle.ground_core.specs.Solving.{Answers, counted};
 ghost use Rattle.term_bounds.specs.Breaking.{IsBrokenBy};
 ghost use Rattle.search_engine.specs.Resting.{IsBegun, IsResting, KeepsProblem};
-ghost use Rattle.search_engine.specs.Searching.{AdvanceGives, AheadAt, AreTrue, Continues, GivesValues, HaltsAt, HasRoom, HoldsWhereDecided, IsSearch, IsTurn, LearnsNow, OutcomeGives, StandsAt, TurnEnds};
+ghost use Rattle.search_engine.specs.Searching.{AdvanceGives, AheadAt, AreTrue, Continues, GivesValues, HaltsAt};
+ghost use Rattle.search_engine.specs.Searching.{HasRoom, HoldsWhereDecided, IsSearch, IsTurn, LearnsNow, OutcomeGives};
+ghost use Rattle.search_engine.specs.Searching.{StandsAt, TurnEnds};
 ghost use Rattle.search_decisions.specs.Scores.{HaveValues};
 
 use crate::cores::core_of;
@@ -25,7 +28,8 @@ use term_bounds::broken;
 fn first_untrue(store: &Store, assume: &[Lit], from: usize) -> usize
     requires laws { IsStore store.now }
     requires in_range { All (λ l. l.var.0 < length store.now.trail.values) assume.now }
-    ensures trues { AreTrue store.now.trail.values (take from assume.now) → AreTrue store.now.trail.values (take result assume.now) }
+    ensures trues { AreTrue store.now.trail.values (take from assume.now) → AreTrue store.now.trail.values
+        (take result assume.now) }
     ensures untrue { (l : Lit) → slice_get assume.now result ≡ Some l → value_in store.now.trail.values l ≢ Some true }
 {
     for place in from..assume.len() {
@@ -190,7 +194,8 @@ impl Engine {
     /// learnt.
     fn settle_broken(&mut self, clause: &[Lit], most: Option<u64>) -> Result<Option<Verdict>, Halt>
         requires search { IsSearch self.old }
-        requires broken { IsBrokenBy self.old.problem.terms self.old.problem.bounds self.old.store.trail.values clause.now }
+        requires broken { IsBrokenBy self.old.problem.terms self.old.problem.bounds
+            self.old.store.trail.values clause.now }
         requires unrefuted { self.old.root_conflicts ≡ 0 }
         requires ahead { AheadAt self.old 0 }
         requires room { HasRoom most self.old }

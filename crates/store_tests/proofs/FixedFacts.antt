@@ -14,7 +14,8 @@ pub fixed-false : (s : TrailState) → IsTrail s → (l : Lit) → IsFixed s (ne
 fixed-false s h l f = made-false s.values s.steps l h.coherent f.0 f.1 f.2 f.3
 
 -- and its variable's step is of level 0 and has no reason
-pub fixed-step : (s : TrailState) → IsTrail s → (l : Lit) → IsFixed s (negated l) → (t : Step) → IsStepOf s l.var t → (t.level ≡ 0) × (t.reason ≡ None)
+pub fixed-step : (s : TrailState) → IsTrail s → (l : Lit) → IsFixed s (negated l) → (t : Step) → IsStepOf s l.var t
+    → (t.level ≡ 0) × (t.reason ≡ None)
 fixed-step s h l f t w =
     let vars : f.1.lit.var.0 ≡ t.lit.var.0 = ap (λ (x : Lit). x.var.0) f.3 ∙ ap (λ (v : Var). v.0) (sym w.2) in
     let at : f.0 ≡ w.0 = h.coherent.apart f.0 w.0 f.1 t f.2 w.1 vars in

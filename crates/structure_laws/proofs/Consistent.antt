@@ -1,5 +1,6 @@
 -- Where no fact clashes with one before it, no atom is said to be true and false.
-use Rattle.std.proofs.Common.{◌≡◌, ℕ, ℤ, pos, negsuc, ◌-ℤ◌, ◌≤ℤ◌, Bool, true, false, not, ◌&&◌, ◌||◌, ◌==◌, nat_lt, int_lt, List, [], ◌∷◌, ◌++◌, refl, sym, ap, ◌∙◌, arith, inl, inr}
+use Rattle.std.proofs.Common.{◌≡◌, ℕ, ℤ, pos, negsuc, ◌-ℤ◌, ◌≤ℤ◌, Bool, true, false, not, ◌&&◌, ◌||◌, ◌==◌, nat_lt}
+use Rattle.std.proofs.Common.{int_lt, List, [], ◌∷◌, ◌++◌, refl, sym, ap, ◌∙◌, arith, inl, inr}
 use Rattle.std.specs.Prelude.{⊤}
 use Rattle.std.specs.Int.{int_min, int_max}
 use Rattle.std.specs.List.{list_any, list_all, Contains}
@@ -13,10 +14,14 @@ use Rattle.kb_logic.specs.declared.elements.Elem.{Elem}
 use Rattle.kb_logic.specs.declared.elements.Elem.TheVariants.{Named, Num}
 use Rattle.kb_logic.specs.declared.vocabularies.TypeDecl.{TypeDecl}
 use Rattle.kb_logic.specs.Models.{GroundAtom}
-use Rattle.reading_stages.specs.Elements.{Cell, one, span, is_between, is_in, as_interval, one_more, common, size_of, do_share}
+use Rattle.reading_stages.specs.Elements.{Cell, one, span, is_between, is_in, as_interval, one_more, common, size_of}
+use Rattle.reading_stages.specs.Elements.{do_share}
 use Rattle.reading_stages.specs.DataEntries.{Said, said_in}
-use Rattle.reading_stages.specs.DataFacts.{Fact, facts_in, same_value_of, all_share, are_opposed, do_clash, clashes_with, are_in, is_about, says_true, says_false, is_whole, is_said_true, is_said_false}
-use Rattle.reading_stages.specs.DataStage.{DataUse, fact, uses_of_types, uses_of_entries, uses_of_facts, structure_uses, is_clash}
+use Rattle.reading_stages.specs.DataFacts.{Fact, facts_in, same_value_of, all_share, are_opposed, do_clash}
+use Rattle.reading_stages.specs.DataFacts.{clashes_with, are_in, is_about, says_true, says_false, is_whole}
+use Rattle.reading_stages.specs.DataFacts.{is_said_true, is_said_false}
+use Rattle.reading_stages.specs.DataStage.{DataUse, fact, uses_of_types, uses_of_entries, uses_of_facts, structure_uses}
+use Rattle.reading_stages.specs.DataStage.{is_clash}
 use Rattle.structure_laws.specs.DataLaws.{GivenIsConsistent}
 use Rattle.structure_laws.proofs.Same.{is_same, same_value_is, value_itself, value_back}
 use Rattle.structure_laws.proofs.Bounded.{not_lower}
@@ -28,7 +33,8 @@ more_than_none : (y : ℤ) → pos 0 ≤ℤ y → nat_lt 0 (one_more y) ≡ true
 more_than_none (pos n) h = grind (arith, nat_tests)
 more_than_none (negsuc n) h = absurd (omega (arith, ints, h))
 
-pub meets : (a b c d z : ℤ) → is_between a b z ≡ true → is_between c d z ≡ true → nat_lt 0 (size_of (common (as_interval a b) (as_interval c d))) ≡ true
+pub meets : (a b c d z : ℤ) → is_between a b z ≡ true → is_between c d z ≡ true
+    → nat_lt 0 (size_of (common (as_interval a b) (as_interval c d))) ≡ true
 meets a b c d z h k =
     let first = and_parts (not (int_lt z a)) (not (int_lt b z)) h in
     let second = and_parts (not (int_lt z c)) (not (int_lt d z)) k in
@@ -60,28 +66,35 @@ rows_share (x ∷ xs) (c ∷ cs) (d ∷ ds) h k =
 
 -- ---- a true fact and a false one about one atom
 
-both_about : (a : GroundAtom) (f g : Fact) → is_about a f ≡ true → is_about a g ≡ true → ((f.symbol == g.symbol) ≡ true) × (all_share f.args g.args ≡ true)
+both_about : (a : GroundAtom) (f g : Fact) → is_about a f ≡ true → is_about a g ≡ true → ((f.symbol == g.symbol) ≡ true)
+    × (all_share f.args g.args ≡ true)
 both_about a f g h k =
     let first = and_parts (f.symbol == a.symbol) (are_in a.args f.args) h in
-    let second = and_parts (g.symbol == a.symbol) (are_in a.args g.args) k in
-    (eq-eqb f.symbol g.symbol (eqb-true f.symbol a.symbol first.0 ∙ sym (eqb-true g.symbol a.symbol second.0)), rows_share a.args f.args g.args first.1 second.1)
+    let second = and_parts (g.symbol == a.symbol) (are_in a.args g.args) k in (
+      eq-eqb f.symbol g.symbol (eqb-true f.symbol a.symbol first.0 ∙ sym (eqb-true g.symbol a.symbol second.0)),
+      rows_share a.args f.args g.args first.1 second.1,
+    )
 
 back_opposed : (b same : Bool) → are_opposed b true same ≡ are_opposed true b same
 back_opposed true same = refl
 back_opposed false same = refl
 
-clash_from : (f g : Fact) → (f.symbol == g.symbol) ≡ true → all_share f.args g.args ≡ true → are_opposed f.holds g.holds (same_value_of f.value g.value) ≡ true → do_clash f g ≡ true
+clash_from : (f g : Fact) → (f.symbol == g.symbol) ≡ true → all_share f.args g.args ≡ true
+    → are_opposed f.holds g.holds (same_value_of f.value g.value) ≡ true → do_clash f g ≡ true
 clash_from f g h k o =
-    and_from (f.symbol == g.symbol) (all_share f.args g.args && are_opposed f.holds g.holds (same_value_of f.value g.value)) h
+    and_from (f.symbol == g.symbol) (all_share f.args g.args && are_opposed f.holds g.holds
+    (same_value_of f.value g.value)) h
     (and_from (all_share f.args g.args) (are_opposed f.holds g.holds (same_value_of f.value g.value)) k o)
 
-true_parts : (a : GroundAtom) (f : Fact) → says_true a f ≡ true → (is_about a f ≡ true) × (f.holds ≡ true) × (f.value ≡ a.value)
+true_parts : (a : GroundAtom) (f : Fact) → says_true a f ≡ true → (is_about a f ≡ true) × (f.holds ≡ true)
+    × (f.value ≡ a.value)
 true_parts a f h =
     let outer = and_parts (is_about a f) (f.holds && same_value_of f.value a.value) h in
     let inner = and_parts f.holds (same_value_of f.value a.value) outer.1 in
     (outer.0, inner.0, same_value_is f.value a.value inner.1)
 
-false_parts : (a : GroundAtom) (g : Fact) → says_false a g ≡ true → (is_about a g ≡ true) × (are_opposed true g.holds (same_value_of g.value a.value) ≡ true)
+false_parts : (a : GroundAtom) (g : Fact) → says_false a g ≡ true → (is_about a g ≡ true)
+    × (are_opposed true g.holds (same_value_of g.value a.value) ≡ true)
 false_parts a g h = and_parts (is_about a g) (are_opposed true g.holds (same_value_of g.value a.value)) h
 
 true_before_false : (a : GroundAtom) (f g : Fact) → says_true a f ≡ true → says_false a g ≡ true → do_clash f g ≡ true
@@ -121,7 +134,8 @@ abbrev Apart : List Fact → Type 0
 Apart [] = ⊤
 Apart (f ∷ fs) = (keeps_apart f fs ≡ true) × Apart fs
 
-none_among : (f : Fact) (gs : List Fact) (test : Fact → Bool) → ((g : Fact) → test g ≡ true → do_clash f g ≡ true) → list_any test gs ≡ true → keeps_apart f gs ≡ true → ⊥
+none_among : (f : Fact) (gs : List Fact) (test : Fact → Bool) → ((g : Fact) → test g ≡ true → do_clash f g ≡ true)
+    → list_any test gs ≡ true → keeps_apart f gs ≡ true → ⊥
 none_among f [] test clash h k = absurd (cc)
 none_among f (g ∷ gs) test clash h k =
     let parts = and_parts (not (do_clash f g)) (keeps_apart f gs) k in
@@ -130,7 +144,8 @@ none_among f (g ∷ gs) test clash h k =
       | inr e ↦ none_among f gs test clash e parts.1
     ]
 
-one_way : (a : GroundAtom) (fs : List Fact) → Apart fs → list_any (says_true a) fs ≡ true → list_any (says_false a) fs ≡ true → ⊥
+one_way : (a : GroundAtom) (fs : List Fact) → Apart fs → list_any (says_true a) fs ≡ true
+    → list_any (says_false a) fs ≡ true → ⊥
 one_way a [] apart h k = absurd (cc)
 one_way a (f ∷ fs) apart h k = elim (or_cases (says_true a f) (list_any (says_true a) fs) h) [
   | inl t ↦ elim (or_cases (says_false a f) (list_any (says_false a) fs) k) [
@@ -153,11 +168,13 @@ nothing_behind : (before : List Fact) → list_all (λ p. keeps_apart p []) befo
 nothing_behind [] = refl
 nothing_behind (p ∷ ps) = nothing_behind ps
 
-one_behind : (before fs : List Fact) (f : Fact) → clashes_with before f ≡ false → list_all (λ p. keeps_apart p fs) before ≡ true → list_all (λ p. keeps_apart p (f ∷ fs)) before ≡ true
+one_behind : (before fs : List Fact) (f : Fact) → clashes_with before f ≡ false
+    → list_all (λ p. keeps_apart p fs) before ≡ true → list_all (λ p. keeps_apart p (f ∷ fs)) before ≡ true
 one_behind [] fs f h k = refl
 one_behind (p ∷ ps) fs f h k =
     let parts = and_parts (keeps_apart p fs) (list_all (λ q. keeps_apart q fs) ps) k in
-    let first : do_clash p f ≡ false = false_from_ne_true (do_clash p f) (λ e. true≢false (sym (ap (λ b. b || clashes_with ps f) e) ∙ h)) in
+    let first : do_clash p f ≡ false = false_from_ne_true (do_clash p f)
+    (λ e. true≢false (sym (ap (λ b. b || clashes_with ps f) e) ∙ h)) in
     let rest : clashes_with ps f ≡ false = ap (λ b. b || clashes_with ps f) (sym first) ∙ h in
     and_from (keeps_apart p (f ∷ fs)) (list_all (λ q. keeps_apart q (f ∷ fs)) ps)
     (and_from (not (do_clash p f)) (keeps_apart p fs) (ap not first) parts.0)
@@ -167,28 +184,36 @@ apart_from : (before fs : List Fact) → Clear before fs → (list_all (λ p. ke
 apart_from before [] clear = (nothing_behind before, tt)
 apart_from before (f ∷ fs) clear =
     let rest = apart_from (before ++ f ∷ []) fs clear.1 in
-    let split = and_parts (list_all (λ p. keeps_apart p fs) before) (list_all (λ p. keeps_apart p fs) (f ∷ [])) (sym (list_all-append (λ p. keeps_apart p fs) before (f ∷ [])) ∙ rest.0) in
+    let split = and_parts (list_all (λ p. keeps_apart p fs) before) (list_all (λ p. keeps_apart p fs) (f ∷ []))
+    (sym (list_all-append (λ p. keeps_apart p fs) before (f ∷ [])) ∙ rest.0) in
     (one_behind before fs f clear.0 split.0, ((and_parts (keeps_apart f fs) true split.1).0, rest.1))
 
-clear_of : (types : List TypeDecl) (es : List Said) (before fs : List Fact) → ((u : DataUse) → Contains (uses_of_facts before fs) u → is_clash types es u ≡ true → ⊥) → Clear before fs
+clear_of : (types : List TypeDecl) (es : List Said) (before fs : List Fact)
+    → ((u : DataUse) → Contains (uses_of_facts before fs) u → is_clash types es u ≡ true → ⊥) → Clear before fs
 clear_of types es before [] fine = tt
 clear_of types es before (f ∷ fs) fine = (
-  false_from_ne_true (clashes_with before f) (λ e. fine (fact before f) (Contains-append_left (fact before f ∷ []) (uses_of_facts (before ++ f ∷ []) fs) (fact before f) (Contains-push [] (fact before f))) e),
-  clear_of types es (before ++ f ∷ []) fs (λ u c e. fine u (Contains-append_right (fact before f ∷ []) (uses_of_facts (before ++ f ∷ []) fs) u c) e),
+  false_from_ne_true (clashes_with before f) (λ e. fine (fact before f) (Contains-append_left (fact before f ∷ [])
+      (uses_of_facts (before ++ f ∷ []) fs) (fact before f) (Contains-push [] (fact before f))) e),
+  clear_of types es (before ++ f ∷ []) fs (λ u c e. fine u (Contains-append_right (fact before f ∷ [])
+      (uses_of_facts (before ++ f ∷ []) fs) u c) e),
 )
 
 -- ---- a structure in which nothing is refused
 
-among_uses : (types : List TypeDecl) (places : List ℕ) (es : List Said) (u : DataUse) → Contains (uses_of_facts [] (facts_in es)) u → Contains (structure_uses types places es) u
+among_uses : (types : List TypeDecl) (places : List ℕ) (es : List Said) (u : DataUse)
+    → Contains (uses_of_facts [] (facts_in es)) u → Contains (structure_uses types places es) u
 among_uses types places es u c =
     let facts = uses_of_facts [] (facts_in es) in
     let entries = uses_of_entries [] es in
     Contains-append_right (uses_of_types types places) (entries ++ facts) u (Contains-append_right entries facts u c)
 
-not_false : (es : List Said) (a : GroundAtom) → (list_any (says_true a) (facts_in es) ≡ true → list_any (says_false a) (facts_in es) ≡ true → ⊥) → is_said_true es a ≡ true → is_said_false es a ≡ false
+not_false : (es : List Said) (a : GroundAtom) → (list_any (says_true a) (facts_in es) ≡ true
+    → list_any (says_false a) (facts_in es) ≡ true → ⊥) → is_said_true es a ≡ true → is_said_false es a ≡ false
 not_false es a apart h =
-    let first : list_any (says_false a) (facts_in es) ≡ false = false_from_ne_true (list_any (says_false a) (facts_in es)) (apart h) in
-    ap (λ b. b || (is_whole es a.symbol && not (is_said_true es a))) first ∙ ap (λ b. is_whole es a.symbol && not b) h ∙ nothing (is_whole es a.symbol)
+    let first : list_any (says_false a) (facts_in es) ≡ false =
+    false_from_ne_true (list_any (says_false a) (facts_in es)) (apart h) in
+    ap (λ b. b || (is_whole es a.symbol && not (is_said_true es a))) first ∙ ap (λ b. is_whole es a.symbol && not b) h
+    ∙ nothing (is_whole es a.symbol)
   where
     nothing : (b : Bool) → (b && not true) ≡ false
     nothing true = refl
@@ -198,5 +223,6 @@ pub given_is_consistent : GivenIsConsistent
 given_is_consistent v places s accepted a h =
     let es = said_in v s in
     let all = fine v.types es (structure_uses v.types places es) accepted in
-    let clear = clear_of v.types es [] (facts_in es) (λ u c e. true≢false (sym e ∙ all u (among_uses v.types places es u c) k.DataClash data_clash)) in
+    let clear = clear_of v.types es [] (facts_in es) (λ u c e.
+    true≢false (sym e ∙ all u (among_uses v.types places es u c) k.DataClash data_clash)) in
     not_false es a (one_way a (facts_in es) (apart_from [] (facts_in es) clear).1) h

@@ -1,5 +1,6 @@
 -- The elements of cells, listed one by one.
-use Rattle.std.proofs.Common.{◌≡◌, ℕ, zero, suc, ℤ, pos, negsuc, ◌+ℤ◌, ◌-ℤ◌, ◌≤ℤ◌, ◌<ℤ◌, Bool, true, false, not, ◌||◌, int_lt, List, [], ◌∷◌, ◌++◌, fold, if◌then◌else◌, refl, sym, ap, ◌∙◌, arith, inl, inr}
+use Rattle.std.proofs.Common.{◌≡◌, ℕ, zero, suc, ℤ, pos, negsuc, ◌+ℤ◌, ◌-ℤ◌, ◌≤ℤ◌, ◌<ℤ◌, Bool, true, false, not, ◌||◌}
+use Rattle.std.proofs.Common.{int_lt, List, [], ◌∷◌, ◌++◌, fold, if◌then◌else◌, refl, sym, ap, ◌∙◌, arith, inl, inr}
 use Rattle.std.specs.List.{list_any, flat_map}
 use Rattle.std.proofs.lemmas.Bool.{cases_Bool, true≢false, and_from, and_parts, or_cases}
 use Rattle.std.proofs.lemmas.Bool.Decides.{Decides-int_eq}
@@ -7,7 +8,8 @@ use Rattle.std.proofs.lemmas.Int.{ints, by_lt_z}
 use Rattle.std.proofs.lemmas.List.Folds.{list_any-append}
 use Rattle.kb_logic.specs.declared.elements.Elem.{Elem}
 use Rattle.kb_logic.specs.declared.elements.Elem.TheVariants.{Named, Num}
-use Rattle.reading_stages.specs.Elements.{Cell, one, span, same_element, is_between, is_in, is_among, one_more, integers_from, members, with_element}
+use Rattle.reading_stages.specs.Elements.{Cell, one, span, same_element, is_between, is_in, is_among, one_more}
+use Rattle.reading_stages.specs.Elements.{integers_from, members, with_element}
 use Rattle.structure_laws.specs.CellLaws.{ListedAreAmong}
 use Rattle.structure_laws.proofs.Same.{is_same}
 use Rattle.structure_laws.proofs.Bounded.{not_lower}
@@ -19,12 +21,14 @@ no_word n a zero = refl
 no_word n a (suc k) = no_word n (a +ℤ pos 1) k
 
 -- an integer that is listed lies between, and one that lies between is listed
-pub lies_between : (z a : ℤ) (k : ℕ) → list_any (same_element (Num z)) (integers_from a k) ≡ true → (a ≤ℤ z) × (z <ℤ (a +ℤ pos k))
+pub lies_between : (z a : ℤ) (k : ℕ) → list_any (same_element (Num z)) (integers_from a k) ≡ true
+    → (a ≤ℤ z) × (z <ℤ (a +ℤ pos k))
 lies_between z a zero h = absurd (cc)
-lies_between z a (suc k) h = elim (or_cases (same_element (Num z) (Num a)) (list_any (same_element (Num z)) (integers_from (a +ℤ pos 1) k)) h) [
-  | inl e ↦ let same : z ≡ a = (Decides-int_eq z a).0 e in (omega (arith, ints, same), omega (arith, ints, same))
-  | inr e ↦ let rest = lies_between z (a +ℤ pos 1) k e in (omega (arith, ints, rest.0), omega (arith, ints, rest.1))
-]
+lies_between z a (suc k) h = elim (or_cases (same_element (Num z) (Num a))
+    (list_any (same_element (Num z)) (integers_from (a +ℤ pos 1) k)) h) [
+      | inl e ↦ let same : z ≡ a = (Decides-int_eq z a).0 e in (omega (arith, ints, same), omega (arith, ints, same))
+      | inr e ↦ let rest = lies_between z (a +ℤ pos 1) k e in (omega (arith, ints, rest.0), omega (arith, ints, rest.1))
+    ]
 
 is_listed : (z a : ℤ) (k : ℕ) → a ≤ℤ z → z <ℤ (a +ℤ pos k) → list_any (same_element (Num z)) (integers_from a k) ≡ true
 is_listed z a zero h l = absurd (omega (arith, ints, h, l))
@@ -63,7 +67,8 @@ or_none : (b : Bool) → (b || false) ≡ b
 or_none true = refl
 or_none false = refl
 
-between_is_listed : (z a b : ℤ) → is_between a b z ≡ true → list_any (same_element (Num z)) (integers_from a (one_more (b -ℤ a))) ≡ true
+between_is_listed : (z a b : ℤ) → is_between a b z ≡ true → list_any (same_element (Num z))
+    (integers_from a (one_more (b -ℤ a))) ≡ true
 between_is_listed z a b h =
     let parts = and_parts (not (int_lt z a)) (not (int_lt b z)) h in
     let low : a ≤ℤ z = not_lower z a parts.0 in
@@ -71,7 +76,8 @@ between_is_listed z a b h =
     let size = one_more_is (b -ℤ a) (omega (arith, ints, low, high)) in
     is_listed z a (one_more (b -ℤ a)) low (omega (arith, ints, high, size))
 
-listed_is_between : (z a b : ℤ) → list_any (same_element (Num z)) (integers_from a (one_more (b -ℤ a))) ≡ true → is_between a b z ≡ true
+listed_is_between : (z a b : ℤ) → list_any (same_element (Num z)) (integers_from a (one_more (b -ℤ a))) ≡ true
+    → is_between a b z ≡ true
 listed_is_between z a b h =
     let ends = lies_between z a (one_more (b -ℤ a)) h in
     let high : z ≤ℤ b = by_lt_z b a
@@ -82,7 +88,9 @@ listed_is_between z a b h =
 pub in_members : (x : Elem) (c : Cell) → is_in x c ≡ list_any (same_element x) (members c)
 in_members x (one y) = sym (or_none (same_element x y))
 in_members (Named n) (span a b) = sym (no_word n a (one_more (b -ℤ a)))
-in_members (Num z) (span a b) = same_tests (is_between a b z) (list_any (same_element (Num z)) (integers_from a (one_more (b -ℤ a)))) (between_is_listed z a b) (listed_is_between z a b)
+in_members (Num z) (span a b) = same_tests (is_between a b z)
+    (list_any (same_element (Num z)) (integers_from a (one_more (b -ℤ a)))) (between_is_listed z a b)
+    (listed_is_between z a b)
 
 -- ---- some cells
 
@@ -104,18 +112,22 @@ or_held false true c f = absurd (true≢false (sym (f refl)))
 or_held false false c f = refl
 
 with_one_more : (x y : Elem) (before rest : List Elem) (t : Bool) → list_any (same_element y) before ≡ t
-    → (list_any (same_element x) (with_element before y) || list_any (same_element x) rest) ≡ (list_any (same_element x) before || (same_element x y || list_any (same_element x) rest))
+    → (list_any (same_element x) (with_element before y) || list_any (same_element x) rest)
+    ≡ (list_any (same_element x) before || (same_element x y || list_any (same_element x) rest))
 with_one_more x y before rest true e =
     ap (λ b. list_any (same_element x) (if b then before else before ++ y ∷ []) || list_any (same_element x) rest) e
-    ∙ or_held (list_any (same_element x) before) (same_element x y) (list_any (same_element x) rest) (λ s. ap (λ w. list_any (same_element w) before) (is_same x y s) ∙ e)
+    ∙ or_held (list_any (same_element x) before) (same_element x y) (list_any (same_element x) rest)
+    (λ s. ap (λ w. list_any (same_element w) before) (is_same x y s) ∙ e)
 with_one_more x y before rest false e =
     ap (λ b. list_any (same_element x) (if b then before else before ++ y ∷ []) || list_any (same_element x) rest) e
     ∙ ap (λ b. b || list_any (same_element x) rest) (list_any-append (same_element x) before (y ∷ []))
     ∙ or_through (list_any (same_element x) before) (same_element x y) (list_any (same_element x) rest)
 
-kept : (x : Elem) (before xs : List Elem) → list_any (same_element x) (fold with_element before xs) ≡ (list_any (same_element x) before || list_any (same_element x) xs)
+kept : (x : Elem) (before xs : List Elem) → list_any (same_element x) (fold with_element before xs)
+    ≡ (list_any (same_element x) before || list_any (same_element x) xs)
 kept x before [] = sym (or_none (list_any (same_element x) before))
-kept x before (y ∷ ys) = kept x (with_element before y) ys ∙ with_one_more x y before ys (list_any (same_element y) before) refl
+kept x before (y ∷ ys) = kept x (with_element before y) ys ∙ with_one_more x y before ys
+    (list_any (same_element y) before) refl
 
 pub listed_are_among : ListedAreAmong
 listed_are_among cells x = among_members x cells ∙ sym (kept x [] (flat_map members cells))

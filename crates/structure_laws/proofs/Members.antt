@@ -1,8 +1,10 @@
 -- Items of lists that are put together.
-use Rattle.std.proofs.Common.{◌≡◌, Bool, true, false, ◌||◌, List, [], ◌∷◌, map, filter, cond, Option, None, Some, refl, sym, ap, subst, ◌∙◌, arith, ◌⊎◌, inl, inr, Contains}
+use Rattle.std.proofs.Common.{◌≡◌, Bool, true, false, ◌||◌, List, [], ◌∷◌, map, filter, cond, Option, None, Some, refl}
+use Rattle.std.proofs.Common.{sym, ap, subst, ◌∙◌, arith, ◌⊎◌, inl, inr, Contains}
 use Rattle.std.specs.List.{list_any, list_all, flat_map, filter_map, cons_option}
 use Rattle.std.proofs.lemmas.Bool.{true≢false, or_cases, and_parts}
-use Rattle.std.proofs.lemmas.List.Elements.{Contains-append_left, Contains-append_right, Contains-append_cases, Contains-push, Contains-push_cases}
+use Rattle.std.proofs.lemmas.List.Elements.{Contains-append_left, Contains-append_right, Contains-append_cases}
+use Rattle.std.proofs.lemmas.List.Elements.{Contains-push, Contains-push_cases}
 
 or_true : (b : Bool) → (b || true) ≡ true
 or_true true = refl
@@ -54,7 +56,8 @@ module _ {X : Type 0} where
   passed test [] x c = absurd (nowhere x c)
   passed test (y ∷ ys) x c = by (test y) refl c (passed test ys x)
     where
-      by : (b : Bool) → test y ≡ b → Contains (cond b (y ∷ filter test ys) (filter test ys)) x → (Contains (filter test ys) x → Contains ys x × (test x ≡ true)) → Contains (y ∷ ys) x × (test x ≡ true)
+      by : (b : Bool) → test y ≡ b → Contains (cond b (y ∷ filter test ys) (filter test ys)) x
+          → (Contains (filter test ys) x → Contains ys x × (test x ≡ true)) → Contains (y ∷ ys) x × (test x ≡ true)
       by true e d go = elim (first_or_later y x (filter test ys) d) [
         | inl s ↦ (subst (λ z. Contains (y ∷ ys) z) s (here y ys), ap test (sym s) ∙ e)
         | inr s ↦ (there y x ys (go s).0, (go s).1)
@@ -62,14 +65,16 @@ module _ {X : Type 0} where
       by false e d go = let rest = go d in (there y x ys rest.0, rest.1)
 
 module _ {X Y : Type 0} where
-  pub in_some : (F : X → List Y) (xs : List X) (y : Y) → Contains (flat_map F xs) y → (x : X) × Contains xs x × Contains (F x) y
+  pub in_some : (F : X → List Y) (xs : List X) (y : Y) → Contains (flat_map F xs) y → (x : X) × Contains xs x
+      × Contains (F x) y
   in_some F [] y c = absurd (nowhere y c)
   in_some F (x ∷ xs) y c = elim (Contains-append_cases (F x) (flat_map F xs) y c) [
     | inl h ↦ (x, here x xs, h)
     | inr h ↦ let rest = in_some F xs y h in (rest.0, there x rest.0 xs rest.1, rest.2)
   ]
 
-  pub some_in : (F : X → List Y) (xs : List X) (x : X) (y : Y) → Contains xs x → Contains (F x) y → Contains (flat_map F xs) y
+  pub some_in : (F : X → List Y) (xs : List X) (x : X) (y : Y) → Contains xs x → Contains (F x) y
+      → Contains (flat_map F xs) y
   some_in F [] x y c d = absurd (nowhere x c)
   some_in F (z ∷ zs) x y c d = elim (first_or_later z x zs c) [
     | inl e ↦ Contains-append_left (F z) (flat_map F zs) y (subst (λ w. Contains (F w) y) (sym e) d)
@@ -90,11 +95,14 @@ module _ {X Y : Type 0} where
     | inr e ↦ let rest = of_image f zs y e in (rest.0, there z rest.0 zs rest.1, rest.2)
   ]
 
-  pub of_options : (h : X → Option Y) (xs : List X) (y : Y) → Contains (filter_map h xs) y → (x : X) × Contains xs x × (h x ≡ Some y)
+  pub of_options : (h : X → Option Y) (xs : List X) (y : Y) → Contains (filter_map h xs) y → (x : X) × Contains xs x
+      × (h x ≡ Some y)
   of_options h [] y c = absurd (nowhere y c)
   of_options h (x ∷ xs) y c = by (h x) refl c (of_options h xs y)
     where
-      by : (o : Option Y) → h x ≡ o → Contains (cons_option o (filter_map h xs)) y → (Contains (filter_map h xs) y → (z : X) × Contains xs z × (h z ≡ Some y)) → (z : X) × Contains (x ∷ xs) z × (h z ≡ Some y)
+      by : (o : Option Y) → h x ≡ o → Contains (cons_option o (filter_map h xs)) y
+          → (Contains (filter_map h xs) y → (z : X) × Contains xs z × (h z ≡ Some y)) → (z : X) × Contains (x ∷ xs) z
+          × (h z ≡ Some y)
       by None e d go = let rest = go d in (rest.0, there x rest.0 xs rest.1, rest.2)
       by (Some w) e d go = elim (first_or_later w y (filter_map h xs) d) [
         | inl s ↦ (x, here x xs, e ∙ ap Some s)

@@ -6,13 +6,15 @@ use Rattle.kb_logic.specs.declared.elements.Elem.{Elem}
 use Rattle.kb_logic.specs.Structures.{domain_at, tuples_of}
 use Rattle.structure_laws.specs.SizeLaws.{ProductCountsTuples}
 
-length-next : (more : List (List Elem)) (xs : List Elem) → length (flat_map (λ x. map (λ a. x ∷ a) more) xs) ≡ length xs * length more
+length-next : (more : List (List Elem)) (xs : List Elem) → length (flat_map (λ x. map (λ a. x ∷ a) more) xs)
+    ≡ length xs * length more
 length-next more [] = omega arith
 length-next more (x ∷ xs) =
     length-append (map (λ a. x ∷ a) more) (flat_map (λ x. map (λ a. x ∷ a) more) xs)
     ∙ rw (length-map more (λ a. x ∷ a), length-next more xs) (omega arith)
 
-product_from : (domains : List (List Elem)) (n : ℕ) (types : List ℕ) → fold (λ m t. m * length (domain_at domains t)) n types ≡ n * length (tuples_of domains types)
+product_from : (domains : List (List Elem)) (n : ℕ) (types : List ℕ) → fold (λ m t. m * length (domain_at domains t)) n
+    types ≡ n * length (tuples_of domains types)
 product_from domains n [] = omega arith
 product_from domains n (t ∷ ts) =
     let next = length-next (tuples_of domains ts) (domain_at domains t) in

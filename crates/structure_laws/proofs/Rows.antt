@@ -8,7 +8,8 @@ use Rattle.kb_text.specs.declared.fault.KbFault.{KbFault}
 use Rattle.kb_logic.specs.declared.vocabularies.TypeDecl.{TypeDecl}
 use Rattle.reading_stages.specs.Earliest.{refusal, IsRowOf, row}
 use Rattle.reading_stages.specs.DataEntries.{Said, said_in}
-use Rattle.reading_stages.specs.DataStage.{DataUse, place_of_data_use, structure_uses, argument_uses, is_data_refused, data_causes, DataRefuse}
+use Rattle.reading_stages.specs.DataStage.{DataUse, place_of_data_use, structure_uses, argument_uses, is_data_refused}
+use Rattle.reading_stages.specs.DataStage.{data_causes, DataRefuse}
 use Rattle.structure_laws.specs.DataLaws.{AcceptedIsGiven, RefusalsAreParted}
 
 -- ---- the causes
@@ -41,25 +42,31 @@ too_large = (8, omega (arith, long), refl)
 
 -- no row for a cause holds of any of these uses
 abbrev pub AreFine : List TypeDecl → List Said → List DataUse → Type 0
-AreFine types es us = (u : DataUse) → Contains us u → (cause : K) → Contains data_causes cause → is_data_refused types es u cause ≡ false
+AreFine types es us = (u : DataUse) → Contains us u → (cause : K) → Contains data_causes cause
+    → is_data_refused types es u cause ≡ false
 
-pub fine : (types : List TypeDecl) (es : List Said) (us : List DataUse) → ((q : KbFault) → DataRefuse types es us q → ⊥) → AreFine types es us
+pub fine : (types : List TypeDecl) (es : List Said) (us : List DataUse) → ((q : KbFault) → DataRefuse types es us q → ⊥)
+    → AreFine types es us
 fine types es us accepted u among cause of =
-    false_from_ne_true (is_data_refused types es u cause) (λ h. accepted (refusal cause (place_of_data_use u)) (row u cause among of h))
+    false_from_ne_true (is_data_refused types es u cause) (λ h. accepted (refusal cause (place_of_data_use u))
+    (row u cause among of h))
 
 -- ---- two lists of uses
 
 module _ {U : Type 0} (test : U → K → Bool) (place : U → ℕ) (causes : List K) where
-  pub in_either : (us vs : List U) (q : KbFault) → IsRowOf test place causes (us ++ vs) q → IsRowOf test place causes us q ⊎ IsRowOf test place causes vs q
+  pub in_either : (us vs : List U) (q : KbFault) → IsRowOf test place causes (us ++ vs) q
+      → IsRowOf test place causes us q ⊎ IsRowOf test place causes vs q
   in_either us vs _ (row u cause among of h) = elim (Contains-append_cases us vs u among) [
     | inl c ↦ inl (row u cause c of h)
     | inr c ↦ inr (row u cause c of h)
   ]
 
-  pub from_first : (us vs : List U) (q : KbFault) → IsRowOf test place causes us q → IsRowOf test place causes (us ++ vs) q
+  pub from_first : (us vs : List U) (q : KbFault) → IsRowOf test place causes us q
+      → IsRowOf test place causes (us ++ vs) q
   from_first us vs _ (row u cause among of h) = row u cause (Contains-append_left us vs u among) of h
 
-  pub from_second : (us vs : List U) (q : KbFault) → IsRowOf test place causes vs q → IsRowOf test place causes (us ++ vs) q
+  pub from_second : (us vs : List U) (q : KbFault) → IsRowOf test place causes vs q
+      → IsRowOf test place causes (us ++ vs) q
   from_second us vs _ (row u cause among of h) = row u cause (Contains-append_right us vs u among) of h
 
 pub refusals_are_parted : RefusalsAreParted
@@ -80,6 +87,7 @@ accepted_is_given f theory s answer given_data =
     let types = f.vocabulary.types in
     let es = said_in f.vocabulary s in
     record {
-      accepted = λ q h. given_data.accepted q (from_first (is_data_refused types es) place_of_data_use data_causes (structure_uses types f.places.types es) (argument_uses f theory) q h);
+      accepted = λ q h. given_data.accepted q (from_first (is_data_refused types es) place_of_data_use data_causes
+          (structure_uses types f.places.types es) (argument_uses f theory) q h);
       given = given_data.given;
     }

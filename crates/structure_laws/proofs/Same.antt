@@ -31,5 +31,6 @@ value_itself (Some x) = itself x
 pub value_back : (o u : Option Elem) → same_value_of o u ≡ same_value_of u o
 value_back o u = elim (cases_Bool (same_value_of u o)) [
   | inl e ↦ ap (λ w. same_value_of o w) (same_value_is u o e) ∙ value_itself o ∙ sym e
-  | inr e ↦ false_from_ne_true (same_value_of o u) (λ t. true≢false (sym (ap (λ w. same_value_of w o) (sym (same_value_is o u t)) ∙ value_itself o) ∙ e)) ∙ sym e
+  | inr e ↦ false_from_ne_true (same_value_of o u) (λ t. true≢false
+      (sym (ap (λ w. same_value_of w o) (sym (same_value_is o u t)) ∙ value_itself o) ∙ e)) ∙ sym e
 ]

@@ -1,5 +1,6 @@
 -- Cells that share, and lists in which each element stands once.
-use Rattle.std.proofs.Common.{◌≡◌, ℤ, pos, negsuc, ◌-ℤ◌, ◌≤ℤ◌, Bool, true, false, not, ◌||◌, nat_lt, int_lt, List, [], ◌∷◌, ◌++◌, fold, if◌then◌else◌, refl, sym, ap, ◌∙◌, arith, inl, inr}
+use Rattle.std.proofs.Common.{◌≡◌, ℤ, pos, negsuc, ◌-ℤ◌, ◌≤ℤ◌, Bool, true, false, not, ◌||◌, nat_lt, int_lt, List, []}
+use Rattle.std.proofs.Common.{◌∷◌, ◌++◌, fold, if◌then◌else◌, refl, sym, ap, ◌∙◌, arith, inl, inr}
 use Rattle.std.specs.Int.{int_min, int_max}
 use Rattle.std.specs.List.{list_any, Contains, flat_map}
 use Rattle.std.proofs.lemmas.Bool.{true≢false, and_from, or_cases}
@@ -8,7 +9,8 @@ use Rattle.std.proofs.lemmas.List.Elements.{Contains-push_cases}
 use Rattle.kb_logic.specs.declared.elements.Elem.{Elem}
 use Rattle.kb_logic.specs.declared.elements.Elem.TheVariants.{Num}
 use Rattle.kb_logic.specs.Structures.{IsDistinct}
-use Rattle.reading_stages.specs.Elements.{Cell, one, span, same_element, is_in, one_more, do_share, members, with_element}
+use Rattle.reading_stages.specs.Elements.{Cell, one, span, same_element, is_in, one_more, do_share, members}
+use Rattle.reading_stages.specs.Elements.{with_element}
 use Rattle.structure_laws.specs.CellLaws.{SharedIsSome, ListedAreDistinct}
 use Rattle.structure_laws.proofs.Same.{is_same, itself}
 use Rattle.structure_laws.proofs.Listing.{in_members, same_tests, lower_not}
@@ -19,14 +21,21 @@ or_true true = refl
 or_true false = refl
 
 -- some element passes a test exactly where one that is listed does
-any_is : (test : Elem → Bool) (xs : List Elem) → list_any test xs ≡ true → (x : Elem) × (list_any (same_element x) xs ≡ true) × (test x ≡ true)
+any_is : (test : Elem → Bool) (xs : List Elem) → list_any test xs ≡ true
+    → (x : Elem) × (list_any (same_element x) xs ≡ true) × (test x ≡ true)
 any_is test [] h = absurd (cc)
 any_is test (x ∷ xs) h = elim (or_cases (test x) (list_any test xs) h) [
   | inl e ↦ (x, ap (λ b. b || list_any (same_element x) xs) (itself x), e)
-  | inr e ↦ let rest = any_is test xs e in (rest.0, ap (λ b. same_element rest.0 x || b) rest.1 ∙ or_true (same_element rest.0 x), rest.2)
+  | inr e ↦ let rest = any_is test xs e in (
+    rest.0,
+    ap (λ b. same_element rest.0 x || b) rest.1
+        ∙ or_true (same_element rest.0 x),
+    rest.2,
+  )
 ]
 
-any_by : (test : Elem → Bool) (x : Elem) (xs : List Elem) → list_any (same_element x) xs ≡ true → test x ≡ true → list_any test xs ≡ true
+any_by : (test : Elem → Bool) (x : Elem) (xs : List Elem) → list_any (same_element x) xs ≡ true → test x ≡ true
+    → list_any test xs ≡ true
 any_by test x [] h k = absurd (cc)
 any_by test x (y ∷ ys) h k = elim (or_cases (same_element x y) (list_any (same_element x) ys) h) [
   | inl e ↦ ap (λ b. b || list_any test ys) (ap test (sym (is_same x y e)) ∙ k)
@@ -47,8 +56,10 @@ shared (span a b) (span c d) h =
     let below_b : int_max a c ≤ℤ b = omega (arith, ints, clamps, order) in
     let below_d : int_max a c ≤ℤ d = omega (arith, ints, clamps, order) in (
       Num (int_max a c),
-      and_from (not (int_lt (int_max a c) a)) (not (int_lt b (int_max a c))) (lower_not (int_max a c) a above_a) (lower_not b (int_max a c) below_b),
-      and_from (not (int_lt (int_max a c) c)) (not (int_lt d (int_max a c))) (lower_not (int_max a c) c above_c) (lower_not d (int_max a c) below_d),
+      and_from (not (int_lt (int_max a c) a)) (not (int_lt b (int_max a c))) (lower_not (int_max a c) a above_a)
+          (lower_not b (int_max a c) below_b),
+      and_from (not (int_lt (int_max a c) c)) (not (int_lt d (int_max a c))) (lower_not (int_max a c) c above_c)
+          (lower_not d (int_max a c) below_d),
     )
 
 share_some : (c d : Cell) → do_share c d ≡ true → list_any (λ x. is_in x d) (members c) ≡ true
@@ -67,7 +78,8 @@ shared_is_some c d = same_tests (do_share c d) (list_any (λ x. is_in x d) (memb
 -- ---- each element once
 
 not_first : (x y : Elem) (xs : List Elem) → list_any (same_element y) (x ∷ xs) ≡ false → y ≡ x → ⊥
-not_first x y xs h e = true≢false (sym (ap (λ z. same_element y z || list_any (same_element y) xs) (sym e) ∙ ap (λ b. b || list_any (same_element y) xs) (itself y)) ∙ h)
+not_first x y xs h e = true≢false (sym (ap (λ z. same_element y z || list_any (same_element y) xs) (sym e)
+    ∙ ap (λ b. b || list_any (same_element y) xs) (itself y)) ∙ h)
 
 not_later : (a b : Bool) → (a || b) ≡ false → b ≡ false
 not_later true b h = absurd (true≢false h)
@@ -83,13 +95,15 @@ pushed (x ∷ xs) y d h = (
   pushed xs y d.1 (not_later (same_element y x) (list_any (same_element y) xs) h),
 )
 
-one_more_distinct : (before : List Elem) (y : Elem) (t : Bool) → list_any (same_element y) before ≡ t → IsDistinct before → IsDistinct (if t then before else before ++ y ∷ [])
+one_more_distinct : (before : List Elem) (y : Elem) (t : Bool) → list_any (same_element y) before ≡ t
+    → IsDistinct before → IsDistinct (if t then before else before ++ y ∷ [])
 one_more_distinct before y true e d = d
 one_more_distinct before y false e d = pushed before y d e
 
 all_distinct : (before xs : List Elem) → IsDistinct before → IsDistinct (fold with_element before xs)
 all_distinct before [] d = d
-all_distinct before (y ∷ ys) d = all_distinct (with_element before y) ys (one_more_distinct before y (list_any (same_element y) before) refl d)
+all_distinct before (y ∷ ys) d = all_distinct (with_element before y) ys
+    (one_more_distinct before y (list_any (same_element y) before) refl d)
 
 pub listed_are_distinct : ListedAreDistinct
 listed_are_distinct cells = all_distinct [] (flat_map members cells) tt

@@ -40,7 +40,8 @@ fn elements_of(alloc: Global, cells: &[Cell<'_>]) -> Result<ElemList, Memory>
 
 /// The elements of each type.
 pub fn domains_of(alloc: Global, types: &[TypeData<'_>]) -> Result<DomainList, Memory>
-    ensures { IfOk result (λ ds. (decls : List AType) (es : List said.Said) → AreTypesOf decls es types.now → ds ≡ domain.domains_of decls es) }
+    ensures { IfOk result (λ ds. (decls : List AType) (es : List said.Said) → AreTypesOf decls es types.now
+        → ds ≡ domain.domains_of decls es) }
 {
     let mut domains = DomainList::new(alloc);
     for data in types {

@@ -27,7 +27,8 @@ pub fn note_all<'a>(
     entries: &[Entry<'a>],
 ) -> Result<(), Memory>
     requires { AreTypesOf kb.now.vocab.types (map said_view entries.now) types.now }
-    ensures { OnOk result (earliest.new.first ≡ fold (stage.data_noted kb.now.vocab.types (map said_view entries.now)) earliest.old.first (stage.data_uses (typed_view kb.now) theory (map said_view entries.now))) }
+    ensures { OnOk result (earliest.new.first ≡ fold (stage.data_noted kb.now.vocab.types (map said_view entries.now))
+        earliest.old.first (stage.data_uses (typed_view kb.now) theory (map said_view entries.now))) }
 {
     let decls = kb.vocab.types.as_slice();
     note_types(earliest, decls, types, kb.places.types.as_slice());

@@ -1,5 +1,6 @@
 -- Items left out one after another.
-use Rattle.std.proofs.Common.{◌≡◌, ℕ, ◌+◌, ◌-◌, ◌<◌, ◌≤◌, Bool, true, false, not, Err, List, [], ◌∷◌, ◌++◌, length, get_or, Contains, refl, sym, ap, ◌∙◌, subst, arith, ⊎_elim}
+use Rattle.std.proofs.Common.{◌≡◌, ℕ, ◌+◌, ◌-◌, ◌<◌, ◌≤◌, Bool, true, false, not, Err, List, [], ◌∷◌, ◌++◌, length}
+use Rattle.std.proofs.Common.{get_or, Contains, refl, sym, ap, ◌∙◌, subst, arith, ⊎_elim}
 use Rattle.std.proofs.lemmas.Bool.{cases_lt}
 use Rattle.std.proofs.lemmas.List.Elements.{All-contains, All-contains_itself, Contains-push, Contains-append_left}
 use Rattle.lit_core.specs.declared.literals.Lit.{Lit}
@@ -18,7 +19,8 @@ use Rattle.ground_core.proofs.CoreFacts.{sublist-within, still-shown, within-tra
 use Rattle.ground_core.proofs.CallFacts.{none-yet, stays-twice, keeps-none, keeps-twice, counts-twice}
 use Rattle.model_search.specs.Models.{IsConsistent, IsRefuted}
 use Rattle.support_explainer.specs.Reasons.{without_item, IsIrreducible, IsNoReason}
-use Rattle.support_explainer.proofs.ItemFacts.{without-sublist, without-two, length-without, sublist-append, sublist-trans}
+use Rattle.support_explainer.proofs.ItemFacts.{without-sublist, without-two, length-without, sublist-append}
+use Rattle.support_explainer.proofs.ItemFacts.{sublist-trans}
 
 -- what is consistent stays so with fewer literals
 consistent-fewer : (p : ProblemState) (xs ys : List Lit) → IsSublist xs ys → IsConsistent p ys → IsConsistent p xs
@@ -33,14 +35,16 @@ unretired-fewer p xs ys s h = λ l gone has. h l gone (All-contains (Contains ys
 pub two-more : (n : ℕ) → n + 1 + 1 ≡ n + 2
 two-more n = omega arith
 
-pub counts-wider : (top m n : ℕ) (s t : SolveState) (a b : Budget) → m ≤ n → CountsUpTo top m s t a b → CountsUpTo top n s t a b
+pub counts-wider : (top m n : ℕ) (s t : SolveState) (a b : Budget) → m ≤ n → CountsUpTo top m s t a b
+    → CountsUpTo top n s t a b
 counts-wider top m n s t a b le h = (h.0, omega (arith, h.1, le), h.2)
 
 -- what is still to be tried falls
 pub falls-needed : (items : List Lit) (i : ℕ) → i < length items → length items - (i + 1) < length items - i
 falls-needed items i lt = omega (arith, lt)
 
-pub falls-fewer : (items fewer : List Lit) (i : ℕ) → i < length items → fewer ≡ without_item items i → length fewer - i < length items - i
+pub falls-fewer : (items fewer : List Lit) (i : ℕ) → i < length items → fewer ≡ without_item items i
+    → length fewer - i < length items - i
 falls-fewer items fewer i lt is =
     let n : length (without_item items i) + 1 ≡ length items = length-without items i lt in
     let m : length fewer ≡ length (without_item items i) = ap (λ (l : List Lit). length l) is in omega (arith, lt, n, m)
@@ -58,7 +62,8 @@ pub record IsSoFar (first last items : List Lit) (i : ℕ) (r s : SolveState) (a
   pub room : count + length items ≤ length first + i
   pub counts : Counts r.free count r s a b
 
-pub so-far-begins : (first last : List Lit) (r : SolveState) (a : Budget) → IsBudgetOf r.learnt a → IsKept r → IsRefuted r.problem r.cores (first ++ last) → IsSoFar first last first 0 r r a a
+pub so-far-begins : (first last : List Lit) (r : SolveState) (a : Budget) → IsBudgetOf r.learnt a → IsKept r
+    → IsRefuted r.problem r.cores (first ++ last) → IsSoFar first last first 0 r r a a
 so-far-begins first last r a budget kept refuted = record {
   kept = kept;
   stays = record { problem = refl; additions = refl; free = refl };
@@ -72,7 +77,8 @@ so-far-begins first last r a budget kept refuted = record {
   counts = none-yet r.free r a kept.counted;
 }
 
-module _ (first last items : List Lit) (i : ℕ) (r s : SolveState) (a b : Budget) (h : IsSoFar first last items i r s a b) where
+module _ (first last items : List Lit) (i : ℕ) (r s : SolveState) (a b : Budget)
+    (h : IsSoFar first last items i r s a b) where
   pub so-far-budget : IsBudgetOf r.learnt a → IsBudgetOf s.learnt b
   so-far-budget budget = record {
     within = h.keeps.within;
@@ -82,10 +88,12 @@ module _ (first last items : List Lit) (i : ℕ) (r s : SolveState) (a b : Budge
   }
 
   pub so-far-lits : AreLitsOf r.problem.vars (first ++ last) → AreLitsOf r.problem.vars (items ++ last)
-  so-far-lits lits = lits-fewer r.problem.vars (items ++ last) (first ++ last) (sublist-append items first last h.among) lits
+  so-far-lits lits = lits-fewer r.problem.vars (items ++ last) (first ++ last)
+      (sublist-append items first last h.among) lits
 
   pub so-far-unretired : AreUnretired r.problem (first ++ last) → AreUnretired r.problem (items ++ last)
-  so-far-unretired not = unretired-fewer r.problem (items ++ last) (first ++ last) (sublist-append items first last h.among) not
+  so-far-unretired not = unretired-fewer r.problem (items ++ last) (first ++ last)
+      (sublist-append items first last h.among) not
 
   pub so-far-ends : length items ≤ i → IsIrreducible r.problem s.cores last items
   so-far-ends le = record { refuted = h.refuted; needed = λ k lt. h.needed k (omega (arith, lt, le)) }
@@ -93,7 +101,8 @@ module _ (first last items : List Lit) (i : ℕ) (r s : SolveState) (a b : Budge
   pub so-far-most : CountsUpTo r.free (length first) r s a b
   so-far-most = (h.count, omega (arith, h.room, h.within), h.counts)
 
-  module _ (lt : i < length items) (t : SolveState) (c : Budget) (stays : Stays s t) (keeps : Keeps s t b c) (counts : CountsUpTo s.free 1 s t b c) (kept : IsKept t) where
+  module _ (lt : i < length items) (t : SolveState) (c : Budget) (stays : Stays s t) (keeps : Keeps s t b c)
+      (counts : CountsUpTo s.free 1 s t b c) (kept : IsKept t) where
     stays2 : Stays r t
     stays2 = stays-twice r s t h.stays stays
 
@@ -101,23 +110,28 @@ module _ (first last items : List Lit) (i : ℕ) (r s : SolveState) (a b : Budge
     keeps2 = keeps-twice r s t a b c h.keeps keeps
 
     counts2 : Counts r.free (h.count + counts.0) r t a c
-    counts2 = counts-twice r.free h.count counts.0 r s t a b c h.counts (subst (λ (n : ℕ). Counts n counts.0 s t b c) h.stays.free counts.2)
+    counts2 = counts-twice r.free h.count counts.0 r s t a b c h.counts
+        (subst (λ (n : ℕ). Counts n counts.0 s t b c) h.stays.free counts.2)
 
     pub turn-most : CountsUpTo r.free (length first) r t a c
     turn-most = (h.count + counts.0, omega (arith, h.room, lt, counts.1), counts2)
 
     -- the item is not needed
-    pub turn-fewer : (fewer : List Lit) → fewer ≡ without_item items i → IsRefuted s.problem t.cores (fewer ++ last) → IsSoFar first last fewer i r t a c
+    pub turn-fewer : (fewer : List Lit) → fewer ≡ without_item items i → IsRefuted s.problem t.cores (fewer ++ last)
+        → IsSoFar first last fewer i r t a c
     turn-fewer fewer is refuted =
         let n : length (without_item items i) + 1 ≡ length items = length-without items i lt in
         let m : length fewer ≡ length (without_item items i) = ap (λ (l : List Lit). length l) is in record {
           kept = kept;
           stays = stays2;
           keeps = keeps2;
-          among = subst (λ (l : List Lit). IsSublist l first) (sym is) (sublist-trans (without_item items i) items first (without-sublist items i) h.among);
+          among = subst (λ (l : List Lit). IsSublist l first) (sym is) (sublist-trans (without_item items i) items first
+              (without-sublist items i) h.among);
           refuted = subst (λ (p : ProblemState). IsRefuted p t.cores (fewer ++ last)) h.stays.problem refuted;
           needed = λ k less. subst (λ (l : List Lit). IsConsistent r.problem (without_item l k ++ last)) (sym is)
-              (consistent-fewer r.problem (without_item (without_item items i) k ++ last) (without_item items k ++ last) (sublist-append (without_item (without_item items i) k) (without_item items k) last (without-two items k i less)) (h.needed k less));
+              (consistent-fewer r.problem (without_item (without_item items i) k ++ last) (without_item items k ++ last)
+              (sublist-append (without_item (without_item items i) k) (without_item items k) last
+              (without-two items k i less)) (h.needed k less));
           within = omega (arith, lt, n, m);
           count = h.count + counts.0;
           room = omega (arith, h.room, n, m, counts.1);
@@ -134,7 +148,9 @@ module _ (first last items : List Lit) (i : ℕ) (r s : SolveState) (a b : Budge
       refuted = (h.refuted.0, still-shown s.cores t.cores (items ++ last) keeps.cores h.refuted.1);
       needed = λ k less. ⊎_elim
           (λ below. h.needed k below)
-          (λ above. subst (λ (n : ℕ). IsConsistent r.problem (without_item items n ++ last)) (omega (arith, less, above)) (subst (λ (p : ProblemState). IsConsistent p (without_item items i ++ last)) h.stays.problem left))
+          (λ above. subst (λ (n : ℕ). IsConsistent r.problem (without_item items n ++ last))
+          (omega (arith, less, above)) (subst (λ (p : ProblemState). IsConsistent p (without_item items i ++ last))
+          h.stays.problem left))
           (cases_lt k i);
       within = omega (arith, lt);
       count = h.count + counts.0;
@@ -143,13 +159,24 @@ module _ (first last items : List Lit) (i : ℕ) (r s : SolveState) (a b : Budge
     }
 
 -- one search, and then more
-pub counts-after : (m : ℕ) (r s t : SolveState) (a b c : Budget) → s.free ≡ r.free → Counts r.free 1 r s a b → CountsUpTo s.free m s t b c → CountsUpTo r.free (m + 1) r t a c
-counts-after m r s t a b c free x y = (1 + y.0, omega (arith, y.1), counts-twice r.free 1 y.0 r s t a b c x (subst (λ (f : ℕ). Counts f y.0 s t b c) free y.2))
+pub counts-after : (m : ℕ) (r s t : SolveState) (a b c : Budget) → s.free ≡ r.free → Counts r.free 1 r s a b
+    → CountsUpTo s.free m s t b c → CountsUpTo r.free (m + 1) r t a c
+counts-after m r s t a b c free x y = (
+  1 + y.0,
+  omega (arith, y.1),
+  counts-twice r.free 1 y.0 r s t a b c x
+      (subst (λ (f : ℕ). Counts f y.0 s t b c) free y.2),
+)
 
 -- what makes the negation true makes the literal false
-pub frees : (p : ProblemState) (assumed : List Lit) (l : Lit) (values : List Bool) → (p.vars < length values) × Satisfies p (valuation values) × MakesTrue (valuation values) (assumed ++ negated l ∷ []) → (p.vars < length values) × Satisfies p (valuation values) × MakesTrue (valuation values) assumed × (literal_value (valuation values) l ≡ false)
+pub frees : (p : ProblemState) (assumed : List Lit) (l : Lit) (values : List Bool) → (p.vars < length values)
+    × Satisfies p (valuation values) × MakesTrue (valuation values) (assumed ++ negated l ∷ [])
+    → (p.vars < length values) × Satisfies p (valuation values) × MakesTrue (valuation values) assumed
+    × (literal_value (valuation values) l ≡ false)
 frees p assumed l values h =
-    let on : literal_value (valuation values) (negated l) ≡ true = All-contains (λ k. literal_value (valuation values) k ≡ true) (assumed ++ negated l ∷ []) (negated l) h.2 (Contains-push assumed (negated l)) in (
+    let on : literal_value (valuation values) (negated l) ≡ true =
+    All-contains (λ k. literal_value (valuation values) k ≡ true) (assumed ++ negated l ∷ []) (negated l) h.2
+    (Contains-push assumed (negated l)) in (
       h.0,
       h.1,
       All-front (λ k. literal_value (valuation values) k ≡ true) assumed (negated l ∷ []) h.2,
@@ -161,8 +188,16 @@ frees p assumed l values h =
     flip false e = refl
 
 -- a core within literals is within more of them
-pub core-wider : (cores : List (List Lit)) (ls more : List Lit) → HasCoreWithin cores ls → HasCoreWithin cores (ls ++ more)
-core-wider cores ls more h = (h.0, h.1, h.2, h.3, within-trans h.1 ls (ls ++ more) h.4 (λ k d lt. Contains-append_left ls more (get_or ls k d) (All-contains_itself ls k d lt)))
+pub core-wider : (cores : List (List Lit)) (ls more : List Lit) → HasCoreWithin cores ls
+    → HasCoreWithin cores (ls ++ more)
+core-wider cores ls more h = (
+  h.0,
+  h.1,
+  h.2,
+  h.3,
+  within-trans h.1 ls (ls ++ more) h.4
+      (λ k d lt. Contains-append_left ls more (get_or ls k d) (All-contains_itself ls k d lt)),
+)
 
 pub no-reason : (h : Halt) → IsNone {T = List Bool} (Err h) → IsNoReason (Err h)
 no-reason Spent n = absurd n

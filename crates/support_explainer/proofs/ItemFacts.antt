@@ -1,5 +1,6 @@
 -- Lists without one of their items.
-use Rattle.std.proofs.Common.{◌≡◌, ℕ, zero, suc, ◌+◌, ◌-◌, ◌<◌, ◌≤◌, List, [], ◌∷◌, ◌++◌, take, drop, take_all, length-drop, length, refl, ap, ◌∙◌, arith, inl, inr, ⊎_elim}
+use Rattle.std.proofs.Common.{◌≡◌, ℕ, zero, suc, ◌+◌, ◌-◌, ◌<◌, ◌≤◌, List, [], ◌∷◌, ◌++◌, take, drop, take_all}
+use Rattle.std.proofs.Common.{length-drop, length, refl, ap, ◌∙◌, arith, inl, inr, ⊎_elim}
 use Rattle.std.proofs.Math.Numerals.{add-one}
 use Rattle.lit_core.specs.declared.literals.Lit.{Lit}
 use Rattle.ground_core.specs.Solving.{IsSublist}
@@ -17,12 +18,14 @@ without-parts xs k = ap (λ (n : ℕ). take k xs ++ drop n xs) (add-one k) ∙ t
 
 -- a slice to the end is all that is left
 pub take-rest : (xs : List Lit) (k : ℕ) → take (length xs - k) (drop k xs) ≡ drop k xs
-take-rest xs k = let n : length (drop k xs) ≡ length xs - k = length-drop k xs in take_all (length xs - k) (drop k xs) (omega (arith, n))
+take-rest xs k = let n : length (drop k xs) ≡ length xs - k = length-drop k xs in take_all (length xs - k) (drop k xs)
+    (omega (arith, n))
 
 pub length-without : (xs : List Lit) (k : ℕ) → k < length xs → length (without_item xs k) + 1 ≡ length xs
 length-without [] k lt = omega (arith, lt)
 length-without (x ∷ xs) zero lt = omega arith
-length-without (x ∷ xs) (suc k) lt = let r : length (without_item xs k) + 1 ≡ length xs = length-without xs k (omega (arith, lt)) in omega (arith, r)
+length-without (x ∷ xs) (suc k) lt = let r : length (without_item xs k) + 1 ≡ length xs =
+    length-without xs k (omega (arith, lt)) in omega (arith, r)
 
 pub without-sublist : (xs : List Lit) (k : ℕ) → IsSublist (without_item xs k) xs
 without-sublist [] k = tt

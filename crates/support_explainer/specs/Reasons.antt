@@ -1,5 +1,6 @@
 -- Why no valuation is left, or why a literal is true in all that are left.
-use Rattle.std.specs.Prelude.{◌≡◌, ℕ, zero, suc, ◌<◌, Bool, false, Option, Some, None, Result, Ok, Err, List, [], ◌∷◌, ◌++◌, length}
+use Rattle.std.specs.Prelude.{◌≡◌, ℕ, zero, suc, ◌<◌, Bool, false, Option, Some, None, Result, Ok, Err, List, [], ◌∷◌}
+use Rattle.std.specs.Prelude.{◌++◌, length}
 use Rattle.lit_core.specs.declared.literals.Lit.{Lit}
 use Rattle.lit_core.specs.Literals.{valuation, literal_value, negated}
 use Rattle.ground_core.specs.declared.solving.Halt.{Halt}
@@ -37,12 +38,15 @@ abbrev pub FindsConflict : ProblemState → List Lit → List (List Lit) → Opt
 FindsConflict p assumed cores None = IsConsistent p assumed
 FindsConflict p assumed cores (Some items) = IsSublist items assumed × IsIrreducible p cores [] items
 
--- some values make the target false, or what is assumed is refuted, or some of it is with the target's negation, irreducibly
+-- some values make the target false, or what is assumed is refuted, or some of it is with the target's negation,
+-- irreducibly
 abbrev pub FindsSupport : ProblemState → List Lit → Lit → List (List Lit) → Support → Type 0
 FindsSupport p assumed target cores (Free values) =
-    (p.vars < length values) × Satisfies p (valuation values) × MakesTrue (valuation values) assumed × (literal_value (valuation values) target ≡ false)
+    (p.vars < length values) × Satisfies p (valuation values) × MakesTrue (valuation values) assumed
+    × (literal_value (valuation values) target ≡ false)
 FindsSupport p assumed target cores Inconsistent = IsRefuted p cores assumed
-FindsSupport p assumed target cores (By items) = IsConsistent p assumed × IsSublist items assumed × IsIrreducible p cores (negated target ∷ []) items
+FindsSupport p assumed target cores (By items) = IsConsistent p assumed × IsSublist items assumed
+    × IsIrreducible p cores (negated target ∷ []) items
 
 -- what is assumed is refuted, or there was no memory
 abbrev pub IsNoReason : Result Support Halt → Type 0

@@ -91,7 +91,8 @@ pub fn irreducible<S: Solve>(
     ensures halt { IfErr result (HaltedAt budget.new) }
     ensures stays { Stays (S.state s.old) (S.state s.new) }
     ensures keeps { Keeps (S.state s.old) (S.state s.new) budget.old budget.new }
-    ensures counts { CountsUpTo (S.state s.old).free (length first) (S.state s.old) (S.state s.new) budget.old budget.new }
+    ensures counts { CountsUpTo (S.state s.old).free (length first) (S.state s.old)
+        (S.state s.new) budget.old budget.new }
     ensures kept { IsKept (S.state s.new) }
     ensures later { S.goes_on s.old s.new }
 {

@@ -63,8 +63,10 @@ fn supported<S: Solve>(
     ensures halt { IfErr result (HaltedAt budget.new) }
     ensures stays { Stays (S.state s.old) (S.state s.new) }
     ensures keeps { Keeps (S.state s.old) (S.state s.new) budget.old budget.new }
-    ensures counts { CountsUpTo (S.state s.old).free (length assume.now + 1) (S.state s.old) (S.state s.new) budget.old budget.new }
-    ensures decided { HasCoreWithin (S.state s.old).cores assume.now → IsInconsistentAtOnce (S.state s.old) (S.state s.new) result }
+    ensures counts { CountsUpTo (S.state s.old).free (length assume.now + 1) (S.state s.old)
+        (S.state s.new) budget.old budget.new }
+    ensures decided { HasCoreWithin (S.state s.old).cores assume.now → IsInconsistentAtOnce (S.state s.old)
+        (S.state s.new) result }
     ensures kept { IsKept (S.state s.new) }
     ensures later { S.goes_on s.old s.new }
 {
@@ -102,7 +104,8 @@ pub fn support<S: Solve>(
     ensures stays { Stays (S.state s.old) (S.state s.new) }
     ensures keeps { Keeps (S.state s.old) (S.state s.new) budget.old budget.new }
     ensures costs { Costs (length assume.now + 2) (S.state s.old) (S.state s.new) budget.old budget.new }
-    ensures decided { HasCoreWithin (S.state s.old).cores assume.now → IsInconsistentAtOnce (S.state s.old) (S.state s.new) result }
+    ensures decided { HasCoreWithin (S.state s.old).cores assume.now → IsInconsistentAtOnce (S.state s.old)
+        (S.state s.new) result }
     ensures kept { IsKept (S.state s.new) }
     ensures later { S.goes_on s.old s.new }
 {

@@ -1,5 +1,7 @@
 -- What the least that parts may count says of a bound.
-use Rattle.std.proofs.Common.{◌≡◌, ◌≢◌, ℕ, zero, suc, ◌<◌, ◌+◌, ℤ, pos, ◌+ℤ◌, ◌≤ℤ◌, Bool, true, false, not, Option, Some, None, List, [], ◌∷◌, length, get_or, drop, slice_get, refl, sym, ap, ◌∙◌, subst, ◌⊎◌, inl, inr, ⊎_elim, arith, All, Any, Contains}
+use Rattle.std.proofs.Common.{◌≡◌, ◌≢◌, ℕ, zero, suc, ◌<◌, ◌+◌, ℤ, pos, ◌+ℤ◌, ◌≤ℤ◌, Bool, true, false, not, Option}
+use Rattle.std.proofs.Common.{Some, None, List, [], ◌∷◌, length, get_or, drop, slice_get, refl, sym, ap, ◌∙◌, subst}
+use Rattle.std.proofs.Common.{◌⊎◌, inl, inr, ⊎_elim, arith, All, Any, Contains}
 use Rattle.std.proofs.lemmas.Bool.{both_ways}
 use Rattle.std.proofs.lemmas.List.{at_drop_more}
 use Rattle.std.proofs.lemmas.List.Elements.{All-nil, All-cons, All-weaker, All-contains}
@@ -28,7 +30,8 @@ some-or-none : (v : ℕ → Bool) (c : List Lit) → IsSatisfied v c ⊎ AreAllF
 some-or-none v [] = inr (All-nil (λ l. literal_value v l ≡ false))
 some-or-none v (l ∷ c) = by_value (some-or-none v c) (literal_value v l) refl
   where
-    by_value : (IsSatisfied v c ⊎ AreAllFalse v c) → (b : Bool) → literal_value v l ≡ b → IsSatisfied v (l ∷ c) ⊎ AreAllFalse v (l ∷ c)
+    by_value : (IsSatisfied v c ⊎ AreAllFalse v c) → (b : Bool) → literal_value v l ≡ b → IsSatisfied v (l ∷ c)
+        ⊎ AreAllFalse v (l ∷ c)
     by_value r true e = inl (0, l, omega arith, refl, e)
     by_value r false e = ⊎_elim
         (λ s. inl (suc s.0, s.1, omega (arith, s.2), s.3, s.4))
@@ -41,37 +44,48 @@ negated-off true false e = sym e
 negated-off false true e = sym e
 negated-off false false e = refl
 
-module _ (t : GroundTerm) (b : TermBound) (a : List (Option Bool)) (k : AggKind) (bound : ExtInt) (ps : List Part) (kind : k ≡ t.kind) (is : bound ≡ lessened t.base b.below) (parts : ps ≡ t.parts) where
-  by-total : (v : ℕ → Bool) → is_under b.below (term_value v t) ≡ is_under (total_bound k bound) (number (total v k bound ps))
+module _ (t : GroundTerm) (b : TermBound) (a : List (Option Bool)) (k : AggKind) (bound : ExtInt) (ps : List Part)
+    (kind : k ≡ t.kind) (is : bound ≡ lessened t.base b.below) (parts : ps ≡ t.parts) where
+  by-total : (v : ℕ → Bool) → is_under b.below (term_value v t) ≡ is_under (total_bound k bound)
+      (number (total v k bound ps))
   by-total v = rw (kind, is, parts) (bounds-by-totals v t b.below)
 
   -- where all has values, and the sum is below
-  pub holds-where-below : is_under (total_bound k bound) (number (least_total a k bound ps)) ≡ true → (v : ℕ → Bool) → All (λ (p : Part). IsDecidedAs a v p.lit) t.parts → Holds v t b
+  pub holds-where-below : is_under (total_bound k bound) (number (least_total a k bound ps)) ≡ true → (v : ℕ → Bool)
+      → All (λ (p : Part). IsDecidedAs a v p.lit) t.parts → Holds v t b
   holds-where-below below v decided on =
-      let all : All (λ (p : Part). IsDecidedAs a v p.lit) ps = subst (All (λ (p : Part). IsDecidedAs a v p.lit)) (sym parts) decided in
-      by-total v ∙ (ap (λ z. is_under (total_bound k bound) (number z)) (sym (decided-total a v k bound ps all)) ∙ below)
+      let all : All (λ (p : Part). IsDecidedAs a v p.lit) ps = subst (All (λ (p : Part). IsDecidedAs a v p.lit))
+      (sym parts) decided in
+      by-total v ∙ (ap (λ z. is_under (total_bound k bound) (number z)) (sym (decided-total a v k bound ps all))
+      ∙ below)
 
   -- where the sum cannot be below
-  pub broken-where-not : (spare : ℤ) (c : List Lit) → IsReason a k bound b.out ps spare c → ((z : ℤ) → least_total a k bound ps ≤ℤ (z +ℤ spare) → is_under (total_bound k bound) (number z) ≡ false) → IsBroken t b a c
+  pub broken-where-not : (spare : ℤ) (c : List Lit) → IsReason a k bound b.out ps spare c
+      → ((z : ℤ) → least_total a k bound ps ≤ℤ (z +ℤ spare) → is_under (total_bound k bound) (number z) ≡ false)
+      → IsBroken t b a c
   broken-where-not spare c r not-below = record {
     falsified = r.falsified;
     implied = λ v holds. ⊎_elim
         (λ s. s)
         (λ off.
-        let out-off : literal_value v (negated b.out) ≡ false = All-contains (λ l. literal_value v l ≡ false) c (negated b.out) off r.output in
+        let out-off : literal_value v (negated b.out) ≡ false = All-contains (λ l. literal_value v l ≡ false) c
+        (negated b.out) off r.output in
         let on : literal_value v b.out ≡ true = negated-off b.out.positive (v b.out.var.0) out-off in
         let under : is_under (total_bound k bound) (number (total v k bound ps)) ≡ true = sym (by-total v) ∙ holds on in
         absurd (both_ways false refl (sym (not-below (total v k bound ps) (r.total v off)) ∙ under)))
         (some-or-none v c);
-    within = subst (λ (qs : List Part). All (λ (l : Lit). (b.out.var.0 ≡ l.var.0) ⊎ Any (λ (u : Part). u.lit.var.0 ≡ l.var.0) qs) c) parts r.within;
+    within = subst (λ (qs : List Part). All (λ (l : Lit). (b.out.var.0 ≡ l.var.0)
+        ⊎ Any (λ (u : Part). u.lit.var.0 ≡ l.var.0) qs) c) parts r.within;
   }
 
 -- one of the bounds, and its term
-module _ (terms : List GroundTerm) (bounds : List TermBound) (a : List (Option Bool)) (i : ℕ) (b : TermBound) (t : GroundTerm) (at-bound : slice_get bounds i ≡ Some b) (at-term : slice_get terms b.term ≡ Some t) where
+module _ (terms : List GroundTerm) (bounds : List TermBound) (a : List (Option Bool)) (i : ℕ) (b : TermBound)
+    (t : GroundTerm) (at-bound : slice_get bounds i ≡ Some b) (at-term : slice_get terms b.term ≡ Some t) where
   bound-held : (v : ℕ → Bool) → BoundHolds v terms b → Holds v t b
   bound-held v h on = by_term (slice_get terms b.term) at-term (h on)
     where
-      by_term : (o : Option GroundTerm) → o ≡ Some t → IfSome o (λ u. is_under b.below (term_value v u) ≡ true) → is_under b.below (term_value v t) ≡ true
+      by_term : (o : Option GroundTerm) → o ≡ Some t → IfSome o (λ u. is_under b.below (term_value v u) ≡ true)
+          → is_under b.below (term_value v t) ≡ true
       by_term None e g = cc
       by_term (Some u) e g = subst (λ (x : GroundTerm). is_under b.below (term_value v x) ≡ true) (same_Some u t e) g
 
@@ -92,7 +106,8 @@ module _ (terms : List GroundTerm) (bounds : List TermBound) (a : List (Option B
   broken-one c h = record {
     falsified = h.falsified;
     implied = (i, b, in-bounds, is-bound, λ v holds. h.implied v (bound-held v holds));
-    within = All-weaker (λ (l : Lit). (b.out.var.0 ≡ l.var.0) ⊎ Any (λ (u : Part). u.lit.var.0 ≡ l.var.0) t.parts) (IsOfBounds terms bounds)
+    within = All-weaker (λ (l : Lit). (b.out.var.0 ≡ l.var.0) ⊎ Any (λ (u : Part). u.lit.var.0 ≡ l.var.0) t.parts)
+        (IsOfBounds terms bounds)
         (λ l way. ⊎_elim
         (λ same. inl (i, b, in-bounds, is-bound, same))
         (λ w. inr (b.term, t, in-terms, is-term, w))
@@ -101,10 +116,16 @@ module _ (terms : List GroundTerm) (bounds : List TermBound) (a : List (Option B
   }
 
   -- where it holds, and those after it
-  pub hold-here : (v : ℕ → Bool) → HasLits (IsDecidedAs a v) terms bounds → ((w : ℕ → Bool) → IsDecidedAs a w b.out → All (λ (p : Part). IsDecidedAs a w p.lit) t.parts → Holds w t b) → All (BoundHolds v terms) (drop (i + 1) bounds) → All (BoundHolds v terms) (drop i bounds)
+  pub hold-here : (v : ℕ → Bool) → HasLits (IsDecidedAs a v) terms bounds → ((w : ℕ → Bool) → IsDecidedAs a w b.out
+      → All (λ (p : Part). IsDecidedAs a w p.lit) t.parts → Holds w t b)
+      → All (BoundHolds v terms) (drop (i + 1) bounds) → All (BoundHolds v terms) (drop i bounds)
   hold-here v decided holds rest =
-      let out : IsDecidedAs a v b.out = subst (λ (x : TermBound). IsDecidedAs a v x.out) is-bound (decided.1 i b in-bounds) in
-      let parts : All (λ (p : Part). IsDecidedAs a v p.lit) t.parts = subst (λ (x : GroundTerm). All (λ (p : Part). IsDecidedAs a v p.lit) x.parts) is-term (decided.0 b.term t in-terms) in
+      let out : IsDecidedAs a v b.out = subst (λ (x : TermBound). IsDecidedAs a v x.out) is-bound
+      (decided.1 i b in-bounds) in
+      let parts : All (λ (p : Part). IsDecidedAs a v p.lit) t.parts =
+      subst (λ (x : GroundTerm). All (λ (p : Part). IsDecidedAs a v p.lit) x.parts) is-term
+      (decided.0 b.term t in-terms) in
       let here : BoundHolds v terms b = λ on. rw at-term (holds v out parts on) in
-      let split : drop i bounds ≡ b ∷ drop (i + 1) bounds = at_drop_more (λ (xs : List TermBound). xs) bounds i b in-bounds ∙ ap (λ (x : TermBound). x ∷ drop (i + 1) bounds) is-bound in
+      let split : drop i bounds ≡ b ∷ drop (i + 1) bounds = at_drop_more (λ (xs : List TermBound). xs) bounds i b
+      in-bounds ∙ ap (λ (x : TermBound). x ∷ drop (i + 1) bounds) is-bound in
       subst (All (BoundHolds v terms)) (sym split) (All-cons (BoundHolds v terms) b (drop (i + 1) bounds) here rest)

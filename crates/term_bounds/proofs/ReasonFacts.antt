@@ -1,6 +1,9 @@
 -- Reasons, part by part.
-use Rattle.std.proofs.Common.{◌≡◌, ℕ, zero, suc, ◌+◌, ◌<◌, ℤ, pos, ◌+ℤ◌, ◌-ℤ◌, ◌≤ℤ◌, Bool, true, false, not, Option, Some, None, List, [], ◌∷◌, ◌++◌, length, drop, get_or, refl, sym, ap, ◌∙◌, subst, inl, inr, ◌⊎◌, arith, All, Any, Contains}
-use Rattle.std.proofs.lemmas.List.Elements.{All-nil, All-cons, All-push, All-contains, Contains-push, Contains-append_left, Contains-get_or}
+use Rattle.std.proofs.Common.{◌≡◌, ℕ, zero, suc, ◌+◌, ◌<◌, ℤ, pos, ◌+ℤ◌, ◌-ℤ◌, ◌≤ℤ◌, Bool, true, false, not, Option}
+use Rattle.std.proofs.Common.{Some, None, List, [], ◌∷◌, ◌++◌, length, drop, get_or, refl, sym, ap, ◌∙◌, subst, inl}
+use Rattle.std.proofs.Common.{inr, ◌⊎◌, arith, All, Any, Contains}
+use Rattle.std.proofs.lemmas.List.Elements.{All-nil, All-cons, All-push, All-contains, Contains-push}
+use Rattle.std.proofs.lemmas.List.Elements.{Contains-append_left, Contains-get_or}
 use Rattle.std.proofs.lemmas.List.{at_drop_more}
 use Rattle.std.proofs.lemmas.Int.{ints}
 use Rattle.kb_logic.specs.declared.elements.ExtInt.{ExtInt}
@@ -49,7 +52,8 @@ some-false s b (Some x) e = ap Some (false-by s b x (same (by_sign s x) b e))
     same : (x y : Bool) → Some x ≡ Some y → x ≡ y
     same x y e = cc
 
-is-false : (a : List (Option Bool)) (l : Lit) (b : Bool) → value_in a l ≡ Some b → value_in a (false_lit l b) ≡ Some false
+is-false : (a : List (Option Bool)) (l : Lit) (b : Bool) → value_in a l ≡ Some b
+    → value_in a (false_lit l b) ≡ Some false
 is-false a l b e = some-false l.positive b (slot a l) e
   where
     slot : List (Option Bool) → Lit → Option Bool
@@ -69,7 +73,8 @@ get_or-itself (x ∷ xs) zero e l = refl
 get_or-itself (x ∷ xs) (suc j) e l = get_or-itself xs j e (omega arith)
 
 -- what was given so far, where these parts are left
-pub record SoFar (a : List (Option Bool)) (k : AggKind) (bound : ExtInt) (out : Lit) (ps rest : List Part) (first spare : ℤ) (c : List Lit) : Type 0 where
+pub record SoFar (a : List (Option Bool)) (k : AggKind) (bound : ExtInt) (out : Lit) (ps rest : List Part)
+    (first spare : ℤ) (c : List Lit) : Type 0 where
   pub falsified : IsFalsified a c
   pub output : Contains c (negated out)
   pub low : pos 0 ≤ℤ spare
@@ -83,20 +88,24 @@ module _ (a : List (Option Bool)) (k : AggKind) (bound : ExtInt) (out : Lit) (ps
   out-false : value_in a out ≡ Some true → value_in a (negated out) ≡ Some false
   out-false e = negated-false out.positive (get_or a out.var.0 None) e
     where
-      negated-false : (s : Bool) (o : Option Bool) → by_sign_if_any s o ≡ Some true → by_sign_if_any (not s) o ≡ Some false
+      negated-false : (s : Bool) (o : Option Bool) → by_sign_if_any s o ≡ Some true
+          → by_sign_if_any (not s) o ≡ Some false
       negated-false true o e = some-false true true o e
       negated-false false o e = some-false false true o e
 
-  pub so-far-none : value_in a out ≡ Some true → pos 0 ≤ℤ first → SoFar a k bound out ps ps first first (negated out ∷ [])
+  pub so-far-none : value_in a out ≡ Some true → pos 0 ≤ℤ first → SoFar a k bound out ps ps first first
+      (negated out ∷ [])
   so-far-none e low = record {
-    falsified = All-cons (λ l. value_in a l ≡ Some false) (negated out) [] (out-false e) (All-nil (λ l. value_in a l ≡ Some false));
+    falsified = All-cons (λ l. value_in a l ≡ Some false) (negated out) [] (out-false e)
+        (All-nil (λ l. value_in a l ≡ Some false));
     output = (0, omega arith, refl);
     low = low;
     total = λ v off. omega (arith, ints);
     within = All-cons Within (negated out) [] (inl refl) (All-nil Within);
   }
 
-  module _ (i : ℕ) (d : Part) (spare : ℤ) (c : List Lit) (lt : i < length ps) (h : SoFar a k bound out ps (drop i ps) first spare c) where
+  module _ (i : ℕ) (d : Part) (spare : ℤ) (c : List Lit) (lt : i < length ps)
+      (h : SoFar a k bound out ps (drop i ps) first spare c) where
     abbrev p : Part
     p = get_or ps i d
 
@@ -106,7 +115,8 @@ module _ (a : List (Option Bool)) (k : AggKind) (bound : ExtInt) (out : Lit) (ps
     abbrev rest : List Part
     rest = drop (i + 1) ps
 
-    gap-here : (v : ℕ → Bool) → gap a v k bound (drop i ps) ≡ (share (value_in a p.lit) w -ℤ where_true (literal_value v p.lit) w) +ℤ gap a v k bound rest
+    gap-here : (v : ℕ → Bool) → gap a v k bound (drop i ps) ≡ (share (value_in a p.lit) w -ℤ where_true
+        (literal_value v p.lit) w) +ℤ gap a v k bound rest
     gap-here v =
         let e : gap a v k bound (drop i ps) ≡ gap a v k bound (p ∷ rest) = at_drop_more (gap a v k bound) ps i d lt in
         omega (arith, ints, e)
@@ -115,24 +125,31 @@ module _ (a : List (Option Bool)) (k : AggKind) (bound : ExtInt) (out : Lit) (ps
     in-parts = (i, p, lt, get_or-itself ps i d lt, refl)
 
     -- the part's value is blamed
-    pub so-far-kept : (b : Bool) → value_in a p.lit ≡ Some b → SoFar a k bound out ps rest first spare (c ++ false_lit p.lit b ∷ [])
+    pub so-far-kept : (b : Bool) → value_in a p.lit ≡ Some b → SoFar a k bound out ps rest first spare
+        (c ++ false_lit p.lit b ∷ [])
     so-far-kept b e = record {
       falsified = All-push (λ l. value_in a l ≡ Some false) c (false_lit p.lit b) h.falsified (is-false a p.lit b e);
       output = Contains-append_left c (false_lit p.lit b ∷ []) (negated out) h.output;
       low = h.low;
       total = λ v off.
           let more : List Lit = c ++ false_lit p.lit b ∷ [] in
-          let before : AreAllFalse v c = λ j m less. All-contains (λ l. literal_value v l ≡ false) more (get_or c j m) off (Contains-append_left c (false_lit p.lit b ∷ []) (get_or c j m) (Contains-get_or c j m less)) in
-          let last : literal_value v (false_lit p.lit b) ≡ false = All-contains (λ l. literal_value v l ≡ false) more (false_lit p.lit b) off (Contains-push c (false_lit p.lit b)) in
+          let before : AreAllFalse v c = λ j m less. All-contains (λ l. literal_value v l ≡ false) more
+          (get_or c j m) off (Contains-append_left c (false_lit p.lit b ∷ []) (get_or c j m)
+          (Contains-get_or c j m less)) in
+          let last : literal_value v (false_lit p.lit b) ≡ false = All-contains (λ l. literal_value v l ≡ false) more
+          (false_lit p.lit b) off (Contains-push c (false_lit p.lit b)) in
           let same : literal_value v p.lit ≡ b = was-value v p.lit b last in
-          let none : share (value_in a p.lit) w -ℤ where_true (literal_value v p.lit) w ≡ share (Some b) w -ℤ where_true b w = ap (λ o. share o w -ℤ where_true (literal_value v p.lit) w) e ∙ ap (λ x. share (Some b) w -ℤ where_true x w) same in
+          let none : share (value_in a p.lit) w -ℤ where_true (literal_value v p.lit) w ≡ share (Some b) w -ℤ where_true
+          b w = ap (λ o. share o w -ℤ where_true (literal_value v p.lit) w) e
+          ∙ ap (λ x. share (Some b) w -ℤ where_true x w) same in
           let zero-is : share (Some b) w -ℤ where_true b w ≡ pos 0 = omega (arith, ints) in
           omega (arith, ints, h.total v before, gap-here v, none, zero-is);
       within = All-push Within c (false_lit p.lit b) h.within (inr in-parts);
     }
 
     -- the part's value is not needed
-    pub so-far-spared : (left : ℤ) → left ≡ spare -ℤ raised (value_in a p.lit) w → pos 0 ≤ℤ left → SoFar a k bound out ps rest first left c
+    pub so-far-spared : (left : ℤ) → left ≡ spare -ℤ raised (value_in a p.lit) w → pos 0 ≤ℤ left
+        → SoFar a k bound out ps rest first left c
     so-far-spared left e low = record {
       falsified = h.falsified;
       output = h.output;
@@ -144,10 +161,12 @@ module _ (a : List (Option Bool)) (k : AggKind) (bound : ExtInt) (out : Lit) (ps
     }
 
   -- nothing is left
-  pub so-far-all : (spare : ℤ) (c : List Lit) → SoFar a k bound out ps [] first spare c → IsReason a k bound out ps first c
+  pub so-far-all : (spare : ℤ) (c : List Lit) → SoFar a k bound out ps [] first spare c
+      → IsReason a k bound out ps first c
   so-far-all spare c h = record {
     falsified = h.falsified;
     output = h.output;
-    total = λ v off. let x : gap a v k bound ps ≤ℤ (gap a v k bound [] +ℤ (first -ℤ spare)) = h.total v off in let low : pos 0 ≤ℤ spare = h.low in omega (arith, ints, x, low);
+    total = λ v off. let x : gap a v k bound ps ≤ℤ (gap a v k bound [] +ℤ (first -ℤ spare)) = h.total v off in
+        let low : pos 0 ≤ℤ spare = h.low in omega (arith, ints, x, low);
     within = h.within;
   }

@@ -1,5 +1,6 @@
 -- The least that parts may count.
-use Rattle.std.proofs.Common.{◌≡◌, ℕ, ℤ, pos, ◌+ℤ◌, ◌-ℤ◌, ◌≤ℤ◌, int_lt, Bool, true, false, if◌then◌else◌, Option, Some, None, List, [], ◌∷◌, All, refl, sym, ap, ◌∙◌, subst, arith}
+use Rattle.std.proofs.Common.{◌≡◌, ℕ, ℤ, pos, ◌+ℤ◌, ◌-ℤ◌, ◌≤ℤ◌, int_lt, Bool, true, false, if◌then◌else◌, Option, Some}
+use Rattle.std.proofs.Common.{None, List, [], ◌∷◌, All, refl, sym, ap, ◌∙◌, subst, arith}
 use Rattle.std.proofs.lemmas.List.Elements.{All-head, All-tail}
 use Rattle.std.proofs.lemmas.Bool.Decides.{nat_tests}
 use Rattle.std.proofs.lemmas.Int.{ints}
@@ -32,7 +33,8 @@ pub least-is-least : LeastIsLeast
 least-is-least a v k bound [] ex = omega (arith, ints)
 least-is-least a v k bound (p ∷ ps) ex =
     let w = counted_as k bound p.weight in
-    let here : share (value_in a p.lit) w ≤ℤ where_true (literal_value v p.lit) w = share-least (value_in a p.lit) (literal_value v p.lit) w (λ x e. ex p.lit x e) in
+    let here : share (value_in a p.lit) w ≤ℤ where_true (literal_value v p.lit) w =
+    share-least (value_in a p.lit) (literal_value v p.lit) w (λ x e. ex p.lit x e) in
     let rest : least_total a k bound ps ≤ℤ total v k bound ps = least-is-least a v k bound ps ex in
     omega (arith, ints, here, rest)
 
@@ -42,10 +44,13 @@ raised-low None w = omega (arith, ints)
 raised-low (Some b) w = let least : share None w ≤ℤ where_true b w = none-least w b in omega (arith, ints, least)
 
 -- where all parts have values they count as under any valuation that has these
-pub decided-total : (a : List (Option Bool)) (v : ℕ → Bool) (k : AggKind) (bound : ExtInt) (ps : List Part) → All (λ (p : Part). IsDecidedAs a v p.lit) ps → least_total a k bound ps ≡ total v k bound ps
+pub decided-total : (a : List (Option Bool)) (v : ℕ → Bool) (k : AggKind) (bound : ExtInt) (ps : List Part)
+    → All (λ (p : Part). IsDecidedAs a v p.lit) ps → least_total a k bound ps ≡ total v k bound ps
 decided-total a v k bound [] all = refl
 decided-total a v k bound (p ∷ ps) all =
     let w = counted_as k bound p.weight in
-    let here : share (value_in a p.lit) w ≡ where_true (literal_value v p.lit) w = ap (λ o. share o w) (All-head (λ (q : Part). IsDecidedAs a v q.lit) p ps all) in
-    let rest : least_total a k bound ps ≡ total v k bound ps = decided-total a v k bound ps (All-tail (λ (q : Part). IsDecidedAs a v q.lit) p ps all) in
+    let here : share (value_in a p.lit) w ≡ where_true (literal_value v p.lit) w =
+    ap (λ o. share o w) (All-head (λ (q : Part). IsDecidedAs a v q.lit) p ps all) in
+    let rest : least_total a k bound ps ≡ total v k bound ps =
+    decided-total a v k bound ps (All-tail (λ (q : Part). IsDecidedAs a v q.lit) p ps all) in
     omega (arith, ints, here, rest)

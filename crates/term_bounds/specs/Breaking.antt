@@ -15,7 +15,8 @@ Holds v t b = literal_value v b.out ≡ true → is_under b.below (term_value v 
 
 -- what holds of the literal of each part holds of each term, and of each bound what holds of its output
 abbrev pub HasLits : (Lit → Type 0) → List GroundTerm → List TermBound → Type 0
-HasLits P terms bounds = All (λ (t : GroundTerm). All (λ (u : Part). P u.lit) t.parts) terms × All (λ (b : TermBound). P b.out) bounds
+HasLits P terms bounds = All (λ (t : GroundTerm). All (λ (u : Part). P u.lit) t.parts) terms
+    × All (λ (b : TermBound). P b.out) bounds
 
 -- each bound is on one of the terms
 abbrev pub AreOnTerms : List GroundTerm → List TermBound → Type 0
@@ -23,10 +24,12 @@ AreOnTerms terms bounds = All (λ (b : TermBound). b.term < length terms) bounds
 
 -- a bound's output or the literal of a term's part has the literal's variable
 abbrev pub IsOfBounds : List GroundTerm → List TermBound → Lit → Type 0
-IsOfBounds terms bounds l = Any (λ (b : TermBound). b.out.var.0 ≡ l.var.0) bounds ⊎ Any (λ (t : GroundTerm). Any (λ (u : Part). u.lit.var.0 ≡ l.var.0) t.parts) terms
+IsOfBounds terms bounds l = Any (λ (b : TermBound). b.out.var.0 ≡ l.var.0) bounds
+    ⊎ Any (λ (t : GroundTerm). Any (λ (u : Part). u.lit.var.0 ≡ l.var.0) t.parts) terms
 
 -- the clause is false now, and holds in every valuation that satisfies a certain one of the bounds
-pub record IsBrokenBy (terms : List GroundTerm) (bounds : List TermBound) (a : List (Option Bool)) (c : List Lit) : Type 0 where
+pub record IsBrokenBy (terms : List GroundTerm) (bounds : List TermBound) (a : List (Option Bool))
+    (c : List Lit) : Type 0 where
   pub falsified : IsFalsified a c
   pub implied : Any (λ b. (v : ℕ → Bool) → BoundHolds v terms b → IsSatisfied v c) bounds
   pub within : All (IsOfBounds terms bounds) c

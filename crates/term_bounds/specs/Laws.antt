@@ -15,7 +15,8 @@ use Rattle.term_bounds.specs.Shares.{least_total}
 -- a term is below a bound exactly where what its true parts count is below a bound on that
 abbrev pub BoundsByTotals : Type 0
 BoundsByTotals = (v : ℕ → Bool) (t : GroundTerm) (below : ExtInt) →
-    is_under below (term_value v t) ≡ is_under (total_bound t.kind (lessened t.base below)) (number (total v t.kind (lessened t.base below) t.parts))
+    is_under below (term_value v t) ≡ is_under (total_bound t.kind (lessened t.base below))
+    (number (total v t.kind (lessened t.base below) t.parts))
 
 -- the valuation gives each literal the value that the assignment has for it, if any
 abbrev pub Extends : List (Option Bool) → (ℕ → Bool) → Type 0
@@ -23,4 +24,5 @@ Extends a v = (l : Lit) (b : Bool) → value_in a l ≡ Some b → literal_value
 
 -- parts count no less in any valuation that extends the assignment
 abbrev pub LeastIsLeast : Type 0
-LeastIsLeast = (a : List (Option Bool)) (v : ℕ → Bool) (k : AggKind) (bound : ExtInt) (ps : List Part) → Extends a v → least_total a k bound ps ≤ℤ total v k bound ps
+LeastIsLeast = (a : List (Option Bool)) (v : ℕ → Bool) (k : AggKind) (bound : ExtInt) (ps : List Part) → Extends a v
+    → least_total a k bound ps ≤ℤ total v k bound ps

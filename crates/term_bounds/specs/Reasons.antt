@@ -10,8 +10,10 @@ use Rattle.ground_core.specs.Meaning.{AreAllFalse}
 use Rattle.term_bounds.specs.Shares.{least_total}
 use Rattle.term_bounds.specs.Totals.{total}
 
--- the clause is false now; wherever it is, the output is true and the parts count at least the least that they may now, less the spare
-pub record IsReason (a : List (Option Bool)) (k : AggKind) (bound : ExtInt) (out : Lit) (ps : List Part) (spare : ℤ) (c : List Lit) : Type 0 where
+-- the clause is false now; wherever it is, the output is true and the parts count at least the least that they may now,
+-- less the spare
+pub record IsReason (a : List (Option Bool)) (k : AggKind) (bound : ExtInt) (out : Lit) (ps : List Part) (spare : ℤ)
+    (c : List Lit) : Type 0 where
   pub falsified : IsFalsified a c
   pub output : Contains c (negated out)
   pub total : (v : ℕ → Bool) → AreAllFalse v c → least_total a k bound ps ≤ℤ (total v k bound ps +ℤ spare)

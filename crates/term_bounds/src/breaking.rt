@@ -23,7 +23,8 @@ fn broken_by(
     requires out { bound.out.var.0 < length assignment.now }
     requires within { All (λ (p : PartRow). p.lit.var.0 < length assignment.now) term.now.parts }
     ensures broken { IfOk result (λ o. IfSome o (λ c. IsBroken term.now bound assignment.now c.items)) }
-    ensures holds { IfOk result (λ o. IfNone o ((v : ℕ → Bool) → IsDecidedAs assignment.now v bound.out → All (λ (p : PartRow). IsDecidedAs assignment.now v p.lit) term.now.parts → Holds v term.now bound)) }
+    ensures holds { IfOk result (λ o. IfNone o ((v : ℕ → Bool) → IsDecidedAs assignment.now v bound.out
+        → All (λ (p : PartRow). IsDecidedAs assignment.now v p.lit) term.now.parts → Holds v term.now bound)) }
 {
     if assignment.value(bound.out) != Some(true) {
         return Ok(None);
@@ -47,7 +48,8 @@ pub fn broken(
     requires terms { AreOnTerms terms.now bounds.now }
     requires within { HasLits (λ l. l.var.0 < length assignment.now) terms.now bounds.now }
     ensures broken { IfOk result (λ o. IfSome o (λ c. IsBrokenBy terms.now bounds.now assignment.now c.items)) }
-    ensures hold { IfOk result (λ o. IfNone o ((v : ℕ → Bool) → HasLits (IsDecidedAs assignment.now v) terms.now bounds.now → All (BoundHolds v terms.now) bounds.now)) }
+    ensures hold { IfOk result (λ o. IfNone o ((v : ℕ → Bool) → HasLits (IsDecidedAs assignment.now v) terms.now
+        bounds.now → All (BoundHolds v terms.now) bounds.now)) }
 {
     // The newest bounds come first: they are the tightest.
     let mut left = bounds.len();

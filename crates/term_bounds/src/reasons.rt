@@ -44,7 +44,8 @@ pub fn reasons(
     requires out { value_in assignment.now out ≡ Some true }
     requires within { All (λ (p : PartRow). p.lit.var.0 < length assignment.now) parts.now }
     requires spare { pos 0 ≤ℤ spare }
-    ensures reason { IfOk result (λ c. IsReason assignment.now line.kind (amount_of line.bound) out parts.now spare c.items) }
+    ensures reason { IfOk result (λ c. IsReason assignment.now line.kind (amount_of line.bound) out parts.now
+        spare c.items) }
 {
     let mut clause = Vec::new(alloc);
     clause.push(out.negated())?;

@@ -1,5 +1,6 @@
 //! The least that the parts of a term may count.
-ghost use Rattle.std.specs.Prelude.{◌≡◌, ◌<◌, ◌≤ℤ◌, ◌+ℤ◌, ◌-ℤ◌, ◌-◌, ◌^◌, ℤ, pos, neg_ℤ, false, length, All, IfNone, IfSome, true};
+ghost use Rattle.std.specs.Prelude.{◌≡◌, ◌<◌, ◌≤ℤ◌, ◌+ℤ◌, ◌-ℤ◌, ◌-◌, ◌^◌, ℤ, pos, neg_ℤ, false, length, All, IfNone};
+ghost use Rattle.std.specs.Prelude.{IfSome, true};
 ghost use Rattle.kb_logic.specs.Denotations.{number};
 ghost use Rattle.ground_core.specs.declared.parts.Part.{Part as PartRow};
 ghost use Rattle.term_bounds.specs.Amounts.{amount_of, is_under};
@@ -63,7 +64,8 @@ pub fn least_of(line: Line, parts: &[Part], assignment: &Assignment) -> i128
 /// How much less a sum could be and still not be below the bound; None where it is below.
 pub fn spare_of(sum: i128, bound: Amount) -> Option<i128>
     ensures none { IfNone result (is_under (amount_of bound) (number sum) ≡ true) }
-    ensures some { IfSome result (λ spare. (pos 0 ≤ℤ spare) × ((z : ℤ) → sum ≤ℤ (z +ℤ spare) → is_under (amount_of bound) (number z) ≡ false)) }
+    ensures some { IfSome result (λ spare. (pos 0 ≤ℤ spare) × ((z : ℤ) → sum ≤ℤ (z +ℤ spare)
+        → is_under (amount_of bound) (number z) ≡ false)) }
 {
     match bound {
         Amount::NegInf => Some(i128::MAX),

@@ -97,7 +97,8 @@ fn further(greatest: bool, found: Amount, weight: i64) -> Amount
 
 /// What was found, and the part's weight where its literal is true.
 fn with_part(greatest: bool, found: Amount, part: &Part, values: &Values) -> Amount
-    ensures { value_of_bound (amount_of result) ≡ extreme_with greatest (literal_value (valuation values.now) part.now.lit) (value_of_bound (amount_of found)) part.now.weight }
+    ensures { value_of_bound (amount_of result) ≡ extreme_with greatest
+        (literal_value (valuation values.now) part.now.lit) (value_of_bound (amount_of found)) part.now.weight }
 {
     if value_of_lit(values, part.lit) {
         further(greatest, found, part.weight)

@@ -1,5 +1,6 @@
 -- Rows in flat arrays, by their indices, and one row more.
-use Rattle.std.proofs.Common.{◌≡◌, ◌≤◌, ◌<◌, ◌-◌, ℕ, zero, suc, List, [], ◌∷◌, ◌++◌, map, length, take, drop, slice_range, slice_get, Some}
+use Rattle.std.proofs.Common.{◌≡◌, ◌≤◌, ◌<◌, ◌-◌, ℕ, zero, suc, List, [], ◌∷◌, ◌++◌, map, length, take, drop}
+use Rattle.std.proofs.Common.{slice_range, slice_get, Some}
 use Rattle.std.proofs.Common.{refl, sym, ap, ◌∙◌, subst, arith, option_map, get_or}
 use Rattle.std.proofs.lemmas.Option.{slice_get-get_or}
 use Rattle.std.proofs.lemmas.List.{length-take-le, take-take, take_all, length-append, drop_at, take_at}
@@ -11,7 +12,8 @@ use Rattle.lit_core.specs.declared.literals.Lit.{Lit}
 use Rattle.term_values.specs.declared.rows.RowEnd.{RowEnd}
 use Rattle.term_values.specs.declared.rows.RowValue.{RowValue}
 use Rattle.term_values.specs.RowValues.{row_value}
-use Rattle.term_values.specs.FlatRows.{origin, row_start, row_between, rows_between, AreEnds, first_value, single_rows, HasOneValue}
+use Rattle.term_values.specs.FlatRows.{origin, row_start, row_between, rows_between, AreEnds, first_value, single_rows}
+use Rattle.term_values.specs.FlatRows.{HasOneValue}
 
 pub start_first : (s : RowEnd) (es : List RowEnd) → row_start s es 0 ≡ s
 start_first s [] = refl

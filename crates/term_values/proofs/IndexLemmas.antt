@@ -1,10 +1,12 @@
 -- The place of an element, where one more stands at the end of a domain.
-use Rattle.std.proofs.Common.{◌≡◌, ℕ, ◌+◌, suc, List, [], ◌∷◌, ◌++◌, length, Option, None, Some, option_map, is_some, Bool, true, false, cond}
+use Rattle.std.proofs.Common.{◌≡◌, ℕ, ◌+◌, suc, List, [], ◌∷◌, ◌++◌, length, Option, None, Some, option_map, is_some}
+use Rattle.std.proofs.Common.{Bool, true, false, cond}
 use Rattle.std.proofs.Common.{refl, sym, ap, ◌∙◌, arith}
 use Rattle.std.specs.Ordering.{int_eq}
 use Rattle.std.specs.Str.{bytes_eq}
 use Rattle.kb_logic.specs.declared.elements.Elem.{Elem}
-use Rattle.kb_logic.specs.Denotations.{Denotation, denotation_of, same_value, named, number, minus_infinity, plus_infinity, undefined}
+use Rattle.kb_logic.specs.Denotations.{Denotation, denotation_of, same_value, named, number, minus_infinity}
+use Rattle.kb_logic.specs.Denotations.{plus_infinity, undefined}
 use Rattle.kb_logic.specs.declared.elements.Elem.TheVariants.{Named, Num}
 use Rattle.kb_logic.specs.Structures.{EachWith, domain_at}
 use Rattle.indexmap.specs.IndexMap.{get_by}

@@ -2,7 +2,8 @@
 //!
 //! The guards and the values of all rows lie one after another in two arrays, so that no row has memory of its own. A
 //! few rows, as those of a term without unknown applications, lie in the value itself, and take no memory at all.
-ghost use Rattle.std.specs.Prelude.{◌≡◌, ◌<◌, ◌≤◌, ◌++◌, ◌∷◌, [], Some, length, map, option_map, slice_get, slice_range, take, IfOk, OnOk, OnErr};
+ghost use Rattle.std.specs.Prelude.{◌≡◌, ◌<◌, ◌≤◌, ◌++◌, ◌∷◌, [], Some, length, map, option_map, slice_get};
+ghost use Rattle.std.specs.Prelude.{slice_range, take, IfOk, OnOk, OnErr};
 ghost use Rattle.kb_logic.specs.Values.{value_view};
 ghost use Rattle.term_values.specs.RowValues.{row_value};
 

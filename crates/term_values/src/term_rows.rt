@@ -11,7 +11,8 @@ ghost use Rattle.kb_logic.specs.Values.{value_view};
 ghost use Rattle.kb_logic.specs.Views.{term_view, signed_view};
 ghost use Rattle.term_values.specs.GroundBases.{known_of, row_index, tuples_at};
 ghost use Rattle.term_values.specs.RowArithmetic.{RowsFit, RowSumFits, TupleRowsFit, OperandRowsFit};
-ghost use Rattle.term_values.specs.Rows.{map_rows, rows_at, rows_of_term, rows_of_terms, rows_of_sum, pair_rows, value_rows, with_row};
+ghost use Rattle.term_values.specs.Rows.{map_rows, rows_at, rows_of_term, rows_of_terms, rows_of_sum, pair_rows};
+ghost use Rattle.term_values.specs.Rows.{value_rows, with_row};
 ghost use Rattle.term_values.specs.RowSums.{operands_of};
 ghost use Rattle.term_values.specs.RowValues.{row_value};
 

@@ -3,8 +3,13 @@ use Rattle.std.proofs.Common.{◌≡◌, List, [], ◌∷◌, refl, ◌∙◌}
 use Rattle.fo_syntax.specs.declared.terminal.Terminal.TheVariants as t
 use Rattle.fo_syntax.specs.declared.terminal.Arrow.{Arrow}
 use Rattle.fo_syntax.specs.Terminals.{Tok, tok_at, mark, sign}
-use Rattle.fo_syntax.specs.Trees.{Name, name, Var, untyped, typed, Vars, var, beside, comma, Number, any, exactly, compared, Formula, alone, linked, Links, last, link, Or, one, or, And, single, and, Unary, not, every, some, prim, Prim, group, truth, atom, compare, Term, product, sum, Product, factor, times, Factor, integer, value, brackets, negative, count, aggregate, App, constant, empty, apply, Terms, final, then}
-use Rattle.fo_syntax.specs.Spelling.{put_name, put_var, put_vars, put_number, put_formula, put_links, put_or, put_and, put_unary, put_prim, put_term, put_product, put_factor, put_app, put_terms}
+use Rattle.fo_syntax.specs.Trees.{Name, name, Var, untyped, typed, Vars, var, beside, comma, Number, any, exactly}
+use Rattle.fo_syntax.specs.Trees.{compared, Formula, alone, linked, Links, last, link, Or, one, or, And, single, and}
+use Rattle.fo_syntax.specs.Trees.{Unary, not, every, some, prim, Prim, group, truth, atom, compare, Term, product, sum}
+use Rattle.fo_syntax.specs.Trees.{Product, factor, times, Factor, integer, value, brackets, negative, count, aggregate}
+use Rattle.fo_syntax.specs.Trees.{App, constant, empty, apply, Terms, final, then}
+use Rattle.fo_syntax.specs.Spelling.{put_name, put_var, put_vars, put_number, put_formula, put_links, put_or, put_and}
+use Rattle.fo_syntax.specs.Spelling.{put_unary, put_prim, put_term, put_product, put_factor, put_app, put_terms}
 
 -- how many brackets are open beside the one
 pub data Depth : Type 0 where
@@ -24,7 +29,8 @@ name-passed (name text p) d ts = refl
 
 pub var-passed : (x : Var) (d : Depth) (ts : List Tok) → behind_close d (put_var x ts) ≡ behind_close d ts
 var-passed (untyped n) d ts = name-passed n d ts
-var-passed (typed n p type q) d ts = name-passed n d (sign t.OpenSquare p ∷ put_name type (sign t.CloseSquare q ∷ ts)) ∙ name-passed type d (sign t.CloseSquare q ∷ ts)
+var-passed (typed n p type q) d ts = name-passed n d (sign t.OpenSquare p ∷ put_name type (sign t.CloseSquare q ∷ ts))
+    ∙ name-passed type d (sign t.CloseSquare q ∷ ts)
 
 pub vars-passed : (x : Vars) (d : Depth) (ts : List Tok) → behind_close d (put_vars x ts) ≡ behind_close d ts
 vars-passed (var v) d ts = var-passed v d ts
@@ -39,9 +45,11 @@ number-passed (compared c p n q) d ts = refl
 mutual
   pub formula-passed : (x : Formula) (d : Depth) (ts : List Tok) → behind_close d (put_formula x ts) ≡ behind_close d ts
   formula-passed (alone o) d ts = or-passed o d ts
-  formula-passed (linked a o p os) d ts = or-passed o d (sign (t.Arrow a) p ∷ put_links a os ts) ∙ links-passed a os d ts
+  formula-passed (linked a o p os) d ts = or-passed o d (sign (t.Arrow a) p ∷ put_links a os ts)
+      ∙ links-passed a os d ts
 
-  pub links-passed : (a : Arrow) (x : Links) (d : Depth) (ts : List Tok) → behind_close d (put_links a x ts) ≡ behind_close d ts
+  pub links-passed : (a : Arrow) (x : Links) (d : Depth) (ts : List Tok) → behind_close d (put_links a x ts)
+      ≡ behind_close d ts
   links-passed a (last o) d ts = or-passed o d ts
   links-passed a (link o p os) d ts = or-passed o d (sign (t.Arrow a) p ∷ put_links a os ts) ∙ links-passed a os d ts
 
@@ -56,7 +64,8 @@ mutual
   pub unary-passed : (x : Unary) (d : Depth) (ts : List Tok) → behind_close d (put_unary x ts) ≡ behind_close d ts
   unary-passed (not p u) d ts = unary-passed u d ts
   unary-passed (every p vs q f) d ts = vars-passed vs d (sign t.Colon q ∷ put_formula f ts) ∙ formula-passed f d ts
-  unary-passed (some p n vs q f) d ts = number-passed n d (put_vars vs (sign t.Colon q ∷ put_formula f ts)) ∙ vars-passed vs d (sign t.Colon q ∷ put_formula f ts) ∙ formula-passed f d ts
+  unary-passed (some p n vs q f) d ts = number-passed n d (put_vars vs (sign t.Colon q ∷ put_formula f ts))
+      ∙ vars-passed vs d (sign t.Colon q ∷ put_formula f ts) ∙ formula-passed f d ts
   unary-passed (prim x) d ts = prim-passed x d ts
 
   pub prim-passed : (x : Prim) (d : Depth) (ts : List Tok) → behind_close d (put_prim x ts) ≡ behind_close d ts
@@ -78,13 +87,18 @@ mutual
   factor-passed (value a) d ts = app-passed a d ts
   factor-passed (brackets p x q) d ts = term-passed x (under d) (sign t.Close q ∷ ts)
   factor-passed (negative p x) d ts = factor-passed x d ts
-  factor-passed (count p b vs c f d) k ts = vars-passed vs k (sign t.Colon c ∷ put_formula f (sign t.CloseBrace d ∷ ts)) ∙ formula-passed f k (sign t.CloseBrace d ∷ ts)
-  factor-passed (aggregate a p b vs c f d x e1) k ts = vars-passed vs k (sign t.Colon c ∷ put_formula f (sign t.Colon d ∷ put_term x (sign t.CloseBrace e1 ∷ ts))) ∙ formula-passed f k (sign t.Colon d ∷ put_term x (sign t.CloseBrace e1 ∷ ts)) ∙ term-passed x k (sign t.CloseBrace e1 ∷ ts)
+  factor-passed (count p b vs c f d) k ts = vars-passed vs k (sign t.Colon c ∷ put_formula f (sign t.CloseBrace d ∷ ts))
+      ∙ formula-passed f k (sign t.CloseBrace d ∷ ts)
+  factor-passed (aggregate a p b vs c f d x e1) k ts = vars-passed vs k
+      (sign t.Colon c ∷ put_formula f (sign t.Colon d ∷ put_term x (sign t.CloseBrace e1 ∷ ts)))
+      ∙ formula-passed f k (sign t.Colon d ∷ put_term x (sign t.CloseBrace e1 ∷ ts))
+      ∙ term-passed x k (sign t.CloseBrace e1 ∷ ts)
 
   pub app-passed : (x : App) (d : Depth) (ts : List Tok) → behind_close d (put_app x ts) ≡ behind_close d ts
   app-passed (constant n) d ts = name-passed n d ts
   app-passed (empty n p q) d ts = name-passed n d (sign t.Open p ∷ sign t.Close q ∷ ts)
-  app-passed (apply n p xs q) d ts = name-passed n d (sign t.Open p ∷ put_terms xs (sign t.Close q ∷ ts)) ∙ terms-passed xs (under d) (sign t.Close q ∷ ts)
+  app-passed (apply n p xs q) d ts = name-passed n d (sign t.Open p ∷ put_terms xs (sign t.Close q ∷ ts))
+      ∙ terms-passed xs (under d) (sign t.Close q ∷ ts)
 
   pub terms-passed : (x : Terms) (d : Depth) (ts : List Tok) → behind_close d (put_terms x ts) ≡ behind_close d ts
   terms-passed (final x) d ts = term-passed x d ts

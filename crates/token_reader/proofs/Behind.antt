@@ -2,11 +2,14 @@
 use Rattle.std.proofs.Common.{◌≡◌, Some, Bool, true, false, refl, ap, ◌∙◌}
 use Rattle.fo_syntax.specs.declared.terminal.Arrow.{Arrow}
 use Rattle.fo_syntax.specs.declared.terminal.Arrow.TheVariants as arrow
-use Rattle.fo_syntax.specs.Trees.{Formula, alone, linked, Links, last, link, Or, one, or, And, single, and, Unary, not, every, some, prim, Prim, group, truth, atom, compare}
+use Rattle.fo_syntax.specs.Trees.{Formula, alone, linked, Links, last, link, Or, one, or, And, single, and, Unary, not}
+use Rattle.fo_syntax.specs.Trees.{every, some, prim, Prim, group, truth, atom, compare}
 use Rattle.fo_syntax.specs.Fine.{closed_unary, closed_and, closed_or}
 use Rattle.token_reader.specs.Sorts.{app_formula, app_or, app_and, app_unary, app_prim}
-use Rattle.token_reader.specs.Machine.{Chain, unsettled, fresh, chained, in_formula, formula, need, settled, connects, links_on, link_on, ended}
-use Rattle.token_reader.specs.Modes.{formula_sort, mode_prim, sort_prim, mode_formula, mode_links, mode_or, mode_and, mode_unary, sort_formula, sort_links, sort_or, sort_and, sort_unary}
+use Rattle.token_reader.specs.Machine.{Chain, unsettled, fresh, chained, in_formula, formula, need, settled, connects}
+use Rattle.token_reader.specs.Machine.{links_on, link_on, ended}
+use Rattle.token_reader.specs.Modes.{formula_sort, mode_prim, sort_prim, mode_formula, mode_links, mode_or, mode_and}
+use Rattle.token_reader.specs.Modes.{mode_unary, sort_formula, sort_links, sort_or, sort_and, sort_unary}
 
 pub settled_twice : (c : Chain) → settled (settled c) ≡ settled c
 settled_twice unsettled = refl
@@ -35,13 +38,15 @@ connects_prim c (truth b p) = refl
 connects_prim c (atom a) = refl
 connects_prim c (compare x r p y) = refl
 
-pub connects_unary : (c : Chain) (u : Unary) → closed_unary u ≡ true → connects (mode_unary c u) (sort_unary u) ≡ Some (need (settled c))
+pub connects_unary : (c : Chain) (u : Unary) → closed_unary u ≡ true → connects (mode_unary c u) (sort_unary u)
+    ≡ Some (need (settled c))
 connects_unary c (not p u) h = connects_unary (settled c) u h ∙ ap (λ (x : Chain). Some (need x)) (settled_twice c)
 connects_unary c (every p vs q f) h = absurd (cc)
 connects_unary c (some p n vs q f) h = absurd (cc)
 connects_unary c (prim x) h = connects_prim c x
 
-pub connects_and : (c : Chain) (a : And) → closed_and a ≡ true → connects (mode_and c a) (sort_and a) ≡ Some (need (settled c))
+pub connects_and : (c : Chain) (a : And) → closed_and a ≡ true → connects (mode_and c a) (sort_and a)
+    ≡ Some (need (settled c))
 connects_and c (single u) h = connects_unary c u h
 connects_and c (and u p a) h = connects_and (settled c) a h ∙ ap (λ (x : Chain). Some (need x)) (settled_twice c)
 
@@ -55,17 +60,20 @@ links_prim a c (truth b p) = refl
 links_prim a c (atom x) = refl
 links_prim a c (compare x r p y) = refl
 
-links_unary : (a : Arrow) (c : Chain) (u : Unary) → closed_unary u ≡ true → links_on a (mode_unary c u) (sort_unary u) ≡ link_on c a
+links_unary : (a : Arrow) (c : Chain) (u : Unary) → closed_unary u ≡ true → links_on a (mode_unary c u) (sort_unary u)
+    ≡ link_on c a
 links_unary a c (not p u) h = links_unary a (settled c) u h ∙ link_settled c a
 links_unary a c (every p vs q f) h = absurd (cc)
 links_unary a c (some p n vs q f) h = absurd (cc)
 links_unary a c (prim x) h = links_prim a c x
 
-links_and : (a : Arrow) (c : Chain) (x : And) → closed_and x ≡ true → links_on a (mode_and c x) (sort_and x) ≡ link_on c a
+links_and : (a : Arrow) (c : Chain) (x : And) → closed_and x ≡ true → links_on a (mode_and c x) (sort_and x)
+    ≡ link_on c a
 links_and a c (single u) h = links_unary a c u h
 links_and a c (and u p x) h = links_and a (settled c) x h ∙ link_settled c a
 
-pub links_or : (a : Arrow) (c : Chain) (o : Or) → closed_or o ≡ true → links_on a (mode_or c o) (sort_or o) ≡ link_on c a
+pub links_or : (a : Arrow) (c : Chain) (o : Or) → closed_or o ≡ true → links_on a (mode_or c o) (sort_or o)
+    ≡ link_on c a
 links_or a c (one x) h = links_and a c x h
 links_or a c (or x p o) h = links_or a (settled c) o h ∙ link_settled c a
 
@@ -137,6 +145,7 @@ opens_or : (o : Or) → ended (mode_or unsettled o) (sort_or o) ≡ Some (formul
 opens_or (one a) = opens_and a
 opens_or (or a p o) = ends_or fresh tt o
 
-pub opens_formula : (f : Formula) → ended (mode_formula unsettled f) (sort_formula f) ≡ Some (formula_sort (app_formula f))
+pub opens_formula : (f : Formula) → ended (mode_formula unsettled f) (sort_formula f)
+    ≡ Some (formula_sort (app_formula f))
 opens_formula (alone o) = opens_or o
 opens_formula (linked a o p os) = ends_links a os

@@ -8,8 +8,13 @@ use Rattle.token_reader.proofs.Balance.{outer, behind_close, formula-passed, ter
 use Rattle.fo_syntax.specs.declared.terminal.Terminal.TheVariants as t
 use Rattle.fo_syntax.specs.declared.terminal.Arrow.{Arrow}
 use Rattle.fo_syntax.specs.Terminals.{Tok, tok_at, mark, word, sign}
-use Rattle.fo_syntax.specs.Trees.{Name, name, untyped, typed, Vars, var, beside, comma, Formula, alone, linked, Links, last, link, Or, one, or, And, single, and, Unary, not, every, some, prim, Prim, group, truth, atom, compare, Term, product, sum, Product, factor, times, Factor, integer, value, brackets, negative, count, aggregate, App, constant, empty, apply, Terms, final, then}
-use Rattle.fo_syntax.specs.Spelling.{put_name, put_vars, put_unary, put_prim, put_term, put_product, put_factor, put_app, put_terms}
+use Rattle.fo_syntax.specs.Trees.{Name, name, untyped, typed, Vars, var, beside, comma, Formula, alone, linked, Links}
+use Rattle.fo_syntax.specs.Trees.{last, link, Or, one, or, And, single, and, Unary, not, every, some, prim, Prim, group}
+use Rattle.fo_syntax.specs.Trees.{truth, atom, compare, Term, product, sum, Product, factor, times, Factor, integer}
+use Rattle.fo_syntax.specs.Trees.{value, brackets, negative, count, aggregate, App, constant, empty, apply, Terms}
+use Rattle.fo_syntax.specs.Trees.{final, then}
+use Rattle.fo_syntax.specs.Spelling.{put_name, put_vars, put_unary, put_prim, put_term, put_product, put_factor}
+use Rattle.fo_syntax.specs.Spelling.{put_app, put_terms}
 
 -- no type in brackets comes
 abbrev pub EndsName : List Tok → Type 0
@@ -367,7 +372,8 @@ factor_start (negative p x) ts = refl
 factor_start (count p b vs c f e) ts = refl
 factor_start (aggregate a p b vs c f d x e) ts = refl
 
-pub same_start_factor : (x y : Factor) (m n : List Tok) → put_factor x m ≡ put_factor y n → start_of_factor x ≡ start_of_factor y
+pub same_start_factor : (x y : Factor) (m n : List Tok) → put_factor x m ≡ put_factor y n
+    → start_of_factor x ≡ start_of_factor y
 same_start_factor x y m n e = sym (factor_start x m) ∙ ap start e ∙ factor_start y n
 
 abbrev pub start_of_product : Product → Start
@@ -516,8 +522,10 @@ term_is_start (sum (factor x) s p y) h = factor_is_start x h
 term_is_start (sum (times x q z) s p y) h = factor_is_start x h
 
 pub terms_no_close : (xs : Terms) (q : ℕ) (ts us : List Tok) → sign t.Close q ∷ ts ≡ put_terms xs us → ⊥
-terms_no_close (final x) q ts us e = let h : s_other ≡ start_of_term x = ap start e ∙ term_start x us in term_is_start x (sym h)
-terms_no_close (then x p xs) q ts us e = let h : s_other ≡ start_of_term x = ap start e ∙ term_start x _ in term_is_start x (sym h)
+terms_no_close (final x) q ts us e = let h : s_other ≡ start_of_term x = ap start e ∙ term_start x us in
+    term_is_start x (sym h)
+terms_no_close (then x p xs) q ts us e = let h : s_other ≡ start_of_term x = ap start e ∙ term_start x _ in
+    term_is_start x (sym h)
 
 -- ---- an operand without a comparison is not followed by one
 
@@ -564,19 +572,30 @@ simple_opens (truth b p) s = tt
 simple_opens (atom a) s = tt
 simple_opens (compare x c p y) s = elim s [ ]
 
-as_factor : (x : Prim) → Simple x → (m : List Tok) (y : Factor) (n : List Tok) → put_prim x m ≡ put_factor y n → OpensSimple (start_of_factor y)
+as_factor : (x : Prim) → Simple x → (m : List Tok) (y : Factor) (n : List Tok) → put_prim x m ≡ put_factor y n
+    → OpensSimple (start_of_factor y)
 as_factor x s m y n e = subst OpensSimple (sym (prim_start x m) ∙ ap start e ∙ factor_start y n) (simple_opens x s)
 
-no_factor : (x : Prim) → Simple x → (m : List Tok) → EndsPrim m → (y : Factor) (n : List Tok) → EndsFactor n → (EndsPrim n → ⊥) → put_prim x m ≡ put_factor y n → ⊥
+no_factor : (x : Prim) → Simple x → (m : List Tok) → EndsPrim m → (y : Factor) (n : List Tok) → EndsFactor n
+    → (EndsPrim n → ⊥) → put_prim x m ≡ put_factor y n → ⊥
 no_factor x s m z (integer k p) n w b e = let h = as_factor x s m (integer k p) n e in h
-no_factor x s m z (value a) n w b e = b (subst EndsPrim (sym (simple_behind x s m z) ∙ ap behind_first e ∙ app_behind a n w) z)
-no_factor x s m z (brackets p y q) n w b e = b (subst EndsPrim (sym (simple_behind x s m z) ∙ ap behind_first e ∙ term-passed y outer (sign t.Close q ∷ n)) z)
+no_factor x s m z (value a) n w b e = b (subst EndsPrim (sym (simple_behind x s m z) ∙ ap behind_first e
+    ∙ app_behind a n w) z)
+no_factor x s m z (brackets p y q) n w b e = b (subst EndsPrim (sym (simple_behind x s m z) ∙ ap behind_first e
+    ∙ term-passed y outer (sign t.Close q ∷ n)) z)
 no_factor x s m z (negative p y) n w b e = let h = as_factor x s m (negative p y) n e in h
 no_factor x s m z (count p i vs c f d) n w b e = let h = as_factor x s m (count p i vs c f d) n e in h
-no_factor x s m z (aggregate a p i vs c f d y r) n w b e = let h = as_factor x s m (aggregate a p i vs c f d y r) n e in h
+no_factor x s m z (aggregate a p i vs c f d y r) n w b e = let h =
+    as_factor x s m (aggregate a p i vs c f d y r) n e in h
 
-pub prim_no_compare : (x : Prim) → Simple x → (m : List Tok) (y : Term) (c : Comparison) (p : ℕ) (ts : List Tok) → EndsPrim m → put_prim x m ≡ put_term y (sign (t.Compare c) p ∷ ts) → ⊥
-prim_no_compare x s m (product (factor y)) c p ts z e = no_factor x s m z y (sign (t.Compare c) p ∷ ts) tt (λ (h : ⊥). h) e
-prim_no_compare x s m (product (times y q r)) c p ts z e = no_factor x s m z y (sign t.Times q ∷ put_product r (sign (t.Compare c) p ∷ ts)) tt (λ (h : ⊥). h) e
-prim_no_compare x s m (sum (factor y) k q r) c p ts z e = no_factor x s m z y (sign (t.Add k) q ∷ put_term r (sign (t.Compare c) p ∷ ts)) tt (λ (h : ⊥). h) e
-prim_no_compare x s m (sum (times y i v) k q r) c p ts z e = no_factor x s m z y (sign t.Times i ∷ put_product v (sign (t.Add k) q ∷ put_term r (sign (t.Compare c) p ∷ ts))) tt (λ (h : ⊥). h) e
+pub prim_no_compare : (x : Prim) → Simple x → (m : List Tok) (y : Term) (c : Comparison) (p : ℕ) (ts : List Tok)
+    → EndsPrim m → put_prim x m ≡ put_term y (sign (t.Compare c) p ∷ ts) → ⊥
+prim_no_compare x s m (product (factor y)) c p ts z e = no_factor x s m z y (sign (t.Compare c) p ∷ ts) tt
+    (λ (h : ⊥). h) e
+prim_no_compare x s m (product (times y q r)) c p ts z e = no_factor x s m z y
+    (sign t.Times q ∷ put_product r (sign (t.Compare c) p ∷ ts)) tt (λ (h : ⊥). h) e
+prim_no_compare x s m (sum (factor y) k q r) c p ts z e = no_factor x s m z y
+    (sign (t.Add k) q ∷ put_term r (sign (t.Compare c) p ∷ ts)) tt (λ (h : ⊥). h) e
+prim_no_compare x s m (sum (times y i v) k q r) c p ts z e =
+    no_factor x s m z y (sign t.Times i ∷ put_product v (sign (t.Add k) q ∷ put_term r (sign (t.Compare c) p ∷ ts))) tt
+    (λ (h : ⊥). h) e

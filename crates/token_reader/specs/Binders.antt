@@ -38,7 +38,8 @@ abbrev pub Whole : {A : Type 0} → A → Type 0
 Whole a = Unit {0}
 
 abbrev pub VarRead : List Tok → ℕ → Result (RawVar × Bor (List Item)) ReadError → Type 0
-VarRead ts len (Ok p) = (ts ≡ put_var (var_view p.0) (toks p.1.now)) × ((σ : List Frame) → run (on (vars_first ∷ colon ∷ σ)) ts ≡ run (on (vars_end ∷ colon ∷ σ)) (toks p.1.now))
+VarRead ts len (Ok p) = (ts ≡ put_var (var_view p.0) (toks p.1.now))
+    × ((σ : List Frame) → run (on (vars_first ∷ colon ∷ σ)) ts ≡ run (on (vars_end ∷ colon ∷ σ)) (toks p.1.now))
 VarRead ts len (Err e) = Fails at_vars put_binder Whole ts len e
 
 abbrev pub BinderRead : List Tok → ℕ → Result (RawVars × ℕ × Bor (List Item)) ReadError → Type 0
@@ -56,7 +57,8 @@ abbrev pub FineCounted : Counted → Type 0
 FineCounted (counted n b) = FineNumber n
 
 abbrev pub NumberRead : List Tok → ℕ → Result (RawNumber × Bor (List Item)) ReadError → Type 0
-NumberRead ts len (Ok p) = (ts ≡ put_number (number_view p.0) (toks p.1.now)) × FineNumber (number_view p.0) × ((σ : List Frame) → run (on (number_first ∷ σ)) ts ≡ run (on (vars_first ∷ σ)) (toks p.1.now))
+NumberRead ts len (Ok p) = (ts ≡ put_number (number_view p.0) (toks p.1.now)) × FineNumber (number_view p.0)
+    × ((σ : List Frame) → run (on (number_first ∷ σ)) ts ≡ run (on (vars_first ∷ σ)) (toks p.1.now))
 NumberRead ts len (Err e) = Fails at_number put_counted FineCounted ts len e
 
 -- the comma before a variable, if there is one

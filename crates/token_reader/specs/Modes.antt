@@ -1,9 +1,11 @@
 -- Where the machine stands after a tree.
 use Rattle.std.specs.Prelude.{Bool, true, false}
 use Rattle.fo_syntax.specs.declared.terminal.Arrow.{Arrow}
-use Rattle.fo_syntax.specs.Trees.{Formula, alone, linked, Links, last, link, Or, one, or, And, single, and, Unary, not, every, some, prim, Prim, group, truth, atom, compare}
+use Rattle.fo_syntax.specs.Trees.{Formula, alone, linked, Links, last, link, Or, one, or, And, single, and, Unary, not}
+use Rattle.fo_syntax.specs.Trees.{every, some, prim, Prim, group, truth, atom, compare}
 use Rattle.token_reader.specs.Sorts.{app_formula}
-use Rattle.token_reader.specs.Machine.{Chain, fresh, chained, Mode, in_formula, compared, Sort, formula, term, either, settled}
+use Rattle.token_reader.specs.Machine.{Chain, fresh, chained, Mode, in_formula, compared, Sort, formula, term, either}
+use Rattle.token_reader.specs.Machine.{settled}
 
 abbrev pub term_sort : Bool → Sort
 term_sort true = either

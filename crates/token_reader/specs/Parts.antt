@@ -7,7 +7,8 @@ use Rattle.fo_syntax.specs.declared.terminal.Terminal.TheVariants as t
 use Rattle.fo_syntax.specs.declared.terminal.Arrow.{Arrow}
 use Rattle.fo_syntax.specs.declared.terminal.Adding.TheVariants.{Minus}
 use Rattle.fo_syntax.specs.Terminals.{Tok, tok_at, mark, word, sign, place_of}
-use Rattle.token_reader.specs.Machine.{Frame, need, want, vars_first, number_first, colon, Chain, unsettled, fresh, settled, Mode, in_formula, Sort, term, either, on, stuck, run, goes_on}
+use Rattle.token_reader.specs.Machine.{Frame, need, want, vars_first, number_first, colon, Chain, unsettled, fresh}
+use Rattle.token_reader.specs.Machine.{settled, Mode, in_formula, Sort, term, either, on, stuck, run, goes_on}
 
 -- no arguments come
 abbrev pub EndsFactor : List Tok → Type 0
@@ -205,15 +206,18 @@ abbrev pub at_number : At (Unit {0})
 at_number u σ = number_first ∷ colon ∷ σ
 
 -- Wherever an A stands, its text is stuck at the first of rest; the tokens before it begin an A.
-pub record Broken {I A : Type 0} (stack : I → List Frame → List Frame) (put : A → List Tok → List Tok) (Fine : A → Type 0) (ts rest : List Tok) : Type 0 where
+pub record Broken {I A : Type 0} (stack : I → List Frame → List Frame) (put : A → List Tok → List Tok) (Fine : A
+    → Type 0) (ts rest : List Tok) : Type 0 where
   pub front : List Tok
   pub split : ts ≡ front ++ rest
   pub runs : (i : I) (σ : List Frame) → run (on (stack i σ)) ts ≡ stuck rest
   pub viable : (after : List Tok) → (a : A) × (more : List Tok) × Fine a × (front ++ more ≡ put a after)
 
-abbrev pub Fails : {I A : Type 0} → (I → List Frame → List Frame) → (A → List Tok → List Tok) → (A → Type 0) → List Tok → ℕ → ReadError → Type 0
+abbrev pub Fails : {I A : Type 0} → (I → List Frame → List Frame) → (A → List Tok → List Tok) → (A → Type 0) → List Tok
+    → ℕ → ReadError → Type 0
 Fails stack put Fine ts len Memory = Unit {0}
-Fails stack put Fine ts len (Stuck place) = (rest : List Tok) × Broken stack put Fine ts rest × (place ≡ place_of rest len)
+Fails stack put Fine ts len (Stuck place) = (rest : List Tok) × Broken stack put Fine ts rest
+    × (place ≡ place_of rest len)
 
 -- another token than this, or the end
 abbrev pub Lacks : Terminal → List Tok → ℕ → ReadError → Type 0

@@ -2,7 +2,11 @@
 //! little of the stack.
 ghost use Rattle.std.specs.Prelude.{◌≡◌, ◌∷◌, IfOk, map};
 ghost use Rattle.fo_syntax.specs.Trees as tree;
-ghost use Rattle.fo_syntax.specs.View.{name_view, vars_view, number_view, formula_view, link_view, or_view, or_tail_view, and_view, and_tail_view, unary_view, prim_view, term_view, sum_tail_view, product_view, product_tail_view, factor_view, app_view, terms_view, terms_tail_view, formula_of, or_of, and_of, term_of, product_of, terms_of};
+ghost use Rattle.fo_syntax.specs.View.{name_view, vars_view, number_view, formula_view, link_view, or_view};
+ghost use Rattle.fo_syntax.specs.View.{or_tail_view, and_view, and_tail_view, unary_view, prim_view, term_view};
+ghost use Rattle.fo_syntax.specs.View.{sum_tail_view, product_view, product_tail_view, factor_view, app_view};
+ghost use Rattle.fo_syntax.specs.View.{terms_view, terms_tail_view, formula_of, or_of, and_of, term_of, product_of};
+ghost use Rattle.fo_syntax.specs.View.{terms_of};
 
 use fo_syntax::{
     Adding, Aggregation, Arrow, Comparison, RawAnd, RawAndTail, RawApp, RawFactor, RawFormula,
@@ -34,7 +38,8 @@ pub fn linked(
     next: RawLink,
     more: Items<RawLink>,
 ) -> Result<Boxed<RawFormula>, AllocError>
-    ensures { IfOk result (λ e. formula_view e ≡ formula_of arrow (or_view first) (link_view next ∷ map link_view more)) }
+    ensures { IfOk result (λ e. formula_view e ≡ formula_of arrow (or_view first)
+        (link_view next ∷ map link_view more)) }
 {
     Boxed::new(alloc, RawFormula::Linked(arrow, first, next, more))
 }
@@ -106,7 +111,8 @@ pub fn some(
     colon: usize,
     inner: Boxed<RawFormula>,
 ) -> Result<Boxed<RawUnary>, AllocError>
-    ensures { IfOk result (λ e. unary_view e ≡ tree.some place (number_view number) (vars_view vars) colon (formula_view inner)) }
+    ensures { IfOk result (λ e. unary_view e ≡ tree.some place (number_view number) (vars_view vars) colon
+        (formula_view inner)) }
 {
     Boxed::new(alloc, RawUnary::Some(place, number, vars, colon, inner))
 }
@@ -223,7 +229,8 @@ pub fn count(
     inner: Boxed<RawFormula>,
     close: usize,
 ) -> Result<Boxed<RawFactor>, AllocError>
-    ensures { IfOk result (λ e. factor_view e ≡ tree.count opening.place opening.brace (vars_view opening.vars) opening.colon (formula_view inner) close) }
+    ensures { IfOk result (λ e. factor_view e ≡ tree.count opening.place opening.brace (vars_view opening.vars)
+        opening.colon (formula_view inner) close) }
 {
     Boxed::new(alloc, RawFactor::Count(opening, inner, close))
 }
@@ -237,7 +244,8 @@ pub fn aggregate(
     of: Boxed<RawTermTree>,
     close: usize,
 ) -> Result<Boxed<RawFactor>, AllocError>
-    ensures { IfOk result (λ e. factor_view e ≡ tree.aggregate how opening.place opening.brace (vars_view opening.vars) opening.colon (formula_view inner) colon (term_view of) close) }
+    ensures { IfOk result (λ e. factor_view e ≡ tree.aggregate how opening.place opening.brace (vars_view opening.vars)
+        opening.colon (formula_view inner) colon (term_view of) close) }
 {
     Boxed::new(
         alloc,

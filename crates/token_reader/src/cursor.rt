@@ -1,7 +1,9 @@
 //! The next token, and what follows it.
 ghost use Rattle.std.specs.Prelude.{◌≡◌, ◌∷◌, [], ◌≤◌, ◌<◌, length, IfOk, IfErr, IfSome, IfNone, true, false};
 ghost use Rattle.fo_syntax.specs.Terminals.{tok, toks, sign, place_of};
-ghost use Rattle.token_reader.specs.Parts.{Connects, NoConnective, NoNot, EndsPrim, Lacks, NoAnd, NoOr, NoArrows, NoArrow, NoTimes, NoAdd, NoCompare, NoComma, NoSquare, NoClose, NoMinus, EndsFactor};
+ghost use Rattle.token_reader.specs.Parts.{Connects, NoConnective, NoNot, EndsPrim, Lacks, NoAnd, NoOr, NoArrows};
+ghost use Rattle.token_reader.specs.Parts.{NoArrow, NoTimes, NoAdd, NoCompare, NoComma, NoSquare, NoClose, NoMinus};
+ghost use Rattle.token_reader.specs.Parts.{EndsFactor};
 ghost use Rattle.fo_syntax.specs.declared.terminal.Adding.TheVariants.{Minus};
 ghost use Rattle.token_reader.specs.Parts.{Unsealed};
 ghost use Rattle.fo_syntax.specs.declared.terminal.Terminal.TheVariants as t;

@@ -4,7 +4,8 @@ ghost use Rattle.kb_text.specs.Pieces.{IsPiece, IntText};
 ghost use Rattle.kb_text.specs.Tokens.{IsSpelled, IsSpellingOf, decimal, lexeme_of, lexemes};
 ghost use Rattle.kb_text.specs.declared.token.Kind.TheVariants.{Int};
 ghost use Rattle.fo_syntax.specs.Terminals.{tok, toks};
-ghost use Rattle.fo_syntax.specs.Items.{ItemsOf, longer_terminal, sign_terminal, single_terminal, terminal_of, tok_of, word_terminal};
+ghost use Rattle.fo_syntax.specs.Items.{ItemsOf, longer_terminal, sign_terminal, single_terminal, terminal_of, tok_of};
+ghost use Rattle.fo_syntax.specs.Items.{word_terminal};
 
 use fo_syntax::{Adding, Aggregation, Arrow, Comparison, Item, KbError, Outer, Terminal};
 use kb_text::{Kind, LexError, Token};

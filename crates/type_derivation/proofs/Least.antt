@@ -1,5 +1,6 @@
 -- The types that are seen one by one come to the least of them, where no type is under itself.
-use Rattle.std.proofs.Common.{◌≡◌, ℕ, Bool, true, false, not, ◌||◌, ◌&&◌, IsTrue, List, [], ◌∷◌, ◌++◌, if◌then◌else◌, fold, refl, ap, ◌∙◌, sym, subst, ◌⊎◌, inl, inr, Contains, append-nil, append_assoc}
+use Rattle.std.proofs.Common.{◌≡◌, ℕ, Bool, true, false, not, ◌||◌, ◌&&◌, IsTrue, List, [], ◌∷◌, ◌++◌, if◌then◌else◌}
+use Rattle.std.proofs.Common.{fold, refl, ap, ◌∙◌, sym, subst, ◌⊎◌, inl, inr, Contains, append-nil, append_assoc}
 use Rattle.std.specs.List.{list_any, list_all}
 use Rattle.std.proofs.lemmas.List.Elements.{Contains-append_left, Contains-push, Contains-push_cases}
 use Rattle.kb_logic.specs.declared.vocabularies.TypeDecl.{TypeDecl}
@@ -70,7 +71,8 @@ only : (t u : ℕ) → Contains ([] ++ t ∷ []) u → t ≡ u
 only t u h = elim (Contains-push_cases [] t u h) [ inl none ↦ contains_nothing u none | inr same ↦ same ]
 
 -- one more type, where it is compared with the least so far
-next_least : (ps : Parents) → IsForest ps → (xs : List ℕ) (t s : ℕ) (down up : Bool) → is_below ps t s ≡ down → is_below ps s t ≡ up
+next_least : (ps : Parents) → IsForest ps → (xs : List ℕ) (t s : ℕ) (down up : Bool) → is_below ps t s ≡ down
+    → is_below ps s t ≡ up
     → IsLeastOf ps xs s → Says ps (xs ++ t ∷ []) (if down then found t else (if up then found s else torn))
 next_least ps forest xs t s true up d u h = record {
   member = Contains-push xs t;
@@ -98,14 +100,17 @@ next_least ps forest xs t s false false d u h = (
 )
 
 -- one more type
-next_says : (types : List TypeDecl) → IsForest (type_parents types) → (xs : List ℕ) (t : ℕ) (f : Finding) → Says (type_parents types) xs f
+next_says : (types : List TypeDecl) → IsForest (type_parents types) → (xs : List ℕ) (t : ℕ) (f : Finding)
+    → Says (type_parents types) xs f
     → Says (type_parents types) (xs ++ t ∷ []) (seen types f t)
 next_says types forest xs t nothing h = rw h (record {
   member = Contains-push [] t;
-  below_all = λ p there. subst (λ (q : ℕ). is_below (type_parents types) t q ≡ true) (only t p there) (forest.reflexive t);
+  below_all = λ p there. subst (λ (q : ℕ). is_below (type_parents types) t q ≡ true) (only t p there)
+      (forest.reflexive t);
 })
 next_says types forest xs t (found s) h =
-    next_least (type_parents types) forest xs t s (is_below (type_parents types) t s) (is_below (type_parents types) s t) refl refl h
+    next_least (type_parents types) forest xs t s (is_below (type_parents types) t s)
+    (is_below (type_parents types) s t) refl refl h
 next_says types forest xs t torn (a, b, h) = (
   a,
   b,
@@ -117,13 +122,15 @@ next_says types forest xs t torn (a, b, h) = (
   },
 )
 
-says_from : (types : List TypeDecl) → IsForest (type_parents types) → (xs ys : List ℕ) (f : Finding) → Says (type_parents types) xs f
+says_from : (types : List TypeDecl) → IsForest (type_parents types) → (xs ys : List ℕ) (f : Finding)
+    → Says (type_parents types) xs f
     → Says (type_parents types) (xs ++ ys) (fold (seen types) f ys)
 says_from types forest xs [] f h = rw append-nil h
 says_from types forest xs (y ∷ ys) f h =
     let next : Says (type_parents types) ((xs ++ y ∷ []) ++ ys) (fold (seen types) (seen types f y) ys) =
     says_from types forest (xs ++ y ∷ []) ys (seen types f y) (next_says types forest xs y f h) in
-    subst (λ (zs : List ℕ). Says (type_parents types) zs (fold (seen types) (seen types f y) ys)) (append_assoc xs (y ∷ []) ys) next
+    subst (λ (zs : List ℕ). Says (type_parents types) zs (fold (seen types) (seen types f y) ys))
+    (append_assoc xs (y ∷ []) ys) next
 
 -- ---- the same in the words of the definition
 
@@ -134,19 +141,24 @@ not_either a b (inr e) = rw (or_later a b e) refl
 neither : (a b : Bool) → a ≡ false → b ≡ false → not (a || b) ≡ true
 neither a b e f = rw (e, f) refl
 
-not_split : (types : List TypeDecl) → IsForest (type_parents types) → (ts : List ℕ) (t : ℕ) → IsLeastOf (type_parents types) ts t → is_split types ts ≡ false
+not_split : (types : List TypeDecl) → IsForest (type_parents types) → (ts : List ℕ) (t : ℕ)
+    → IsLeastOf (type_parents types) ts t → is_split types ts ≡ false
 not_split types forest ts t h =
     none_passes _ ts
     (λ a one. none_passes _ ts
-    (λ b other. not_either (is_under types a b) (is_under types b a) (forest.one_way_up t a b (h.below_all a one) (h.below_all b other))))
+    (λ b other. not_either (is_under types a b) (is_under types b a) (forest.one_way_up t a b (h.below_all a one)
+    (h.below_all b other))))
 
-split : (types : List TypeDecl) (ts : List ℕ) (a b : ℕ) → AreApart (type_parents types) ts a b → is_split types ts ≡ true
+split : (types : List TypeDecl) (ts : List ℕ) (a b : ℕ) → AreApart (type_parents types) ts a b
+    → is_split types ts ≡ true
 split types ts a b h =
     any_passes _ ts a h.one
-    (any_passes (λ c. not (is_under types a c || is_under types c a)) ts b h.other (neither (is_under types a b) (is_under types b a) h.not_below h.not_above))
+    (any_passes (λ c. not (is_under types a c || is_under types c a)) ts b h.other
+    (neither (is_under types a b) (is_under types b a) h.not_below h.not_above))
 
 -- the first that passes is t, where t passes and all that pass are t
-first_found : (test : ℕ → Bool) (ts : List ℕ) (t : ℕ) → Contains ts t → test t ≡ true → ((u : ℕ) → Contains ts u → test u ≡ true → u ≡ t)
+first_found : (test : ℕ → Bool) (ts : List ℕ) (t : ℕ) → Contains ts t → test t ≡ true
+    → ((u : ℕ) → Contains ts u → test u ≡ true → u ≡ t)
     → found_first test ts ≡ found t
 first_found test [] t there e all = contains_nothing t there
 first_found test (u ∷ ts) t there e all =
@@ -160,17 +172,22 @@ first_found test (u ∷ ts) t there e all =
     ] is in
     step (test u) refl
 
-least_found : (types : List TypeDecl) → IsForest (type_parents types) → (ts : List ℕ) (t : ℕ) → IsLeastOf (type_parents types) ts t → least_of types ts ≡ found t
+least_found : (types : List TypeDecl) → IsForest (type_parents types) → (ts : List ℕ) (t : ℕ)
+    → IsLeastOf (type_parents types) ts t → least_of types ts ≡ found t
 least_found types forest ts t h =
     first_found _ ts t h.member (all_pass (λ u. is_under types t u) ts h.below_all)
-    (λ u among least. forest.antisymmetric u t (each_passes (λ v. is_under types u v) ts t least h.member) (h.below_all u among))
+    (λ u among least. forest.antisymmetric u t (each_passes (λ v. is_under types u v) ts t least h.member)
+    (h.below_all u among))
 
-said : (types : List TypeDecl) → IsForest (type_parents types) → (ts : List ℕ) (f : Finding) → Says (type_parents types) ts f → f ≡ finding_of types ts
+said : (types : List TypeDecl) → IsForest (type_parents types) → (ts : List ℕ) (f : Finding)
+    → Says (type_parents types) ts f → f ≡ finding_of types ts
 said types forest ts nothing h = rw h refl
 said types forest ts (found t) h = rw (not_split types forest ts t h) (sym (least_found types forest ts t h))
 said types forest ts torn (a, b, h) = rw (split types ts a b h) refl
 
-pub seen_all : (types : List TypeDecl) → HasNoCycle (type_parents types) → (ts : List ℕ) → fold (seen types) nothing ts ≡ finding_of types ts
+pub seen_all : (types : List TypeDecl) → HasNoCycle (type_parents types) → (ts : List ℕ) → fold (seen types) nothing ts
+    ≡ finding_of types ts
 seen_all types none ts =
-    let trees : IsForest (type_parents types) = forest (type_parents types) (ranked (type_parents types) none).0 (ranked (type_parents types) none).1 in
+    let trees : IsForest (type_parents types) = forest (type_parents types) (ranked (type_parents types) none).0
+    (ranked (type_parents types) none).1 in
     said types trees ts (fold (seen types) nothing ts) (says_from types trees [] ts nothing refl)

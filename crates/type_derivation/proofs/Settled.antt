@@ -1,28 +1,35 @@
 -- Parts with what is found of their variables' types.
-use Rattle.std.proofs.Common.{◌≡◌, ◌≤◌, ◌<◌, ℕ, ◌+◌, List, [], ◌∷◌, ◌++◌, length, refl, ap, ◌∙◌, sym, add-one, get_or, take, drop, drop-cons, arith, map, replicate, subst, Option, length-append}
+use Rattle.std.proofs.Common.{◌≡◌, ◌≤◌, ◌<◌, ℕ, ◌+◌, List, [], ◌∷◌, ◌++◌, length, refl, ap, ◌∙◌, sym, add-one, get_or}
+use Rattle.std.proofs.Common.{take, drop, drop-cons, arith, map, replicate, subst, Option, length-append}
 use Rattle.std.proofs.lemmas.Grind.{common_steps}
 use Rattle.std.proofs.lemmas.List.{length-map, take-map}
 use Rattle.kb_logic.specs.declared.vocabularies.TypeDecl.{TypeDecl}
 use Rattle.reading_stages.specs.Below.{HasNoCycle, type_parents}
-use Rattle.reading_stages.specs.Demands.{Finding, nothing, Binding, Part, demand, scope, Parts, no_parts, more_parts, parts_of}
-use Rattle.reading_stages.specs.Typing.{within, settled_bindings, settled_binding, places_at, places_in, sides_at, sides_in, part_by_places, by_places, part_by_sides, by_sides, type_found}
+use Rattle.reading_stages.specs.Demands.{Finding, nothing, Binding, Part, demand, scope, Parts, no_parts, more_parts}
+use Rattle.reading_stages.specs.Demands.{parts_of}
+use Rattle.reading_stages.specs.Typing.{within, settled_bindings, settled_binding, places_at, places_in, sides_at}
+use Rattle.reading_stages.specs.Typing.{sides_in, part_by_places, by_places, part_by_sides, by_sides, type_found}
 use Rattle.type_derivation.specs.Gathering.{after, settled_from, gathered_at, gathered_in, part_by, parts_by}
 use Rattle.type_derivation.specs.PartViews.{part_view, parts_view, finding_view}
 use Rattle.type_derivation.specs.declared.demands.Part.{Part as Kept}
 use Rattle.type_derivation.specs.declared.demands.Finding.{Finding as Found}
 use Rattle.type_derivation.specs.declared.gathering.Source.{Source}
 use Rattle.type_derivation.specs.declared.gathering.Source.TheVariants.{Places, Sides}
-use Rattle.type_derivation.proofs.Seen.{after-append, after-nothing, after-length, IsOpened, opened_before, opened_bindings}
+use Rattle.type_derivation.proofs.Seen.{after-append, after-nothing, after-length, IsOpened, opened_before}
+use Rattle.type_derivation.proofs.Seen.{opened_bindings}
 
 -- ---- a list of variables and what is in its scope
 
 pub opening : (types : List TypeDecl) (P : ℕ → List ℕ) (outer count : ℕ) (fs opened end : List Finding)
-    → outer ≡ length fs → opened ≡ fs ++ replicate count nothing → end ≡ after types P 0 opened → IsOpened types P outer count fs end
+    → outer ≡ length fs → opened ≡ fs ++ replicate count nothing → end ≡ after types P 0 opened
+    → IsOpened types P outer count fs end
 opening types P outer count fs opened end e f g = record { start = e; findings = g ∙ ap (after types P 0) f }
 
-pub scope_settled : (types : List TypeDecl) → HasNoCycle (type_parents types) → (source : Source) (sc inside : List (Option ℕ)) (bs new : List Binding)
+pub scope_settled : (types : List TypeDecl) → HasNoCycle (type_parents types)
+    → (source : Source) (sc inside : List (Option ℕ)) (bs new : List Binding)
     (ps inner : Parts) (fs end : List Finding) (outer count : ℕ)
-    → inside ≡ within sc bs → length sc ≡ outer → count ≡ length bs → IsOpened types (λ n. gathered_in source inside n ps) outer count fs end
+    → inside ≡ within sc bs → length sc ≡ outer → count ≡ length bs
+    → IsOpened types (λ n. gathered_in source inside n ps) outer count fs end
     → new ≡ settled_from bs (drop outer end) → inner ≡ parts_by source types inside ps
     → scope new inner ≡ part_by source types sc (scope bs ps)
 scope_settled types none source sc inside bs new ps inner fs end outer count e o same h n i =
@@ -31,12 +38,15 @@ scope_settled types none source sc inside bs new ps inner fs end outer count e o
     let bindings : new ≡ settled_bindings types (length sc) bs (λ n. gathered_in source inside n ps) =
     n ∙ opened_bindings types none (λ n. gathered_in source inside n ps) fs end outer bs opened
     ∙ ap (λ k. settled_bindings types k bs (λ n. gathered_in source inside n ps)) (sym o) in
-    subst (λ (w : List (Option ℕ)). scope new inner ≡ scope (settled_bindings types (length sc) bs (λ n. gathered_in source w n ps)) (parts_by source types w ps)) e
+    subst (λ (w : List (Option ℕ)). scope new inner ≡ scope (settled_bindings types (length sc) bs
+    (λ n. gathered_in source w n ps)) (parts_by source types w ps)) e
     (rw (bindings, i) refl)
 
-pub scope_findings : (types : List TypeDecl) (source : Source) (sc inside : List (Option ℕ)) (bs : List Binding) (ps : Parts) (fs : List Finding)
+pub scope_findings : (types : List TypeDecl) (source : Source) (sc inside : List (Option ℕ)) (bs : List Binding)
+    (ps : Parts) (fs : List Finding)
     (end left : List Found) (outer count : ℕ)
-    → inside ≡ within sc bs → IsOpened types (λ n. gathered_in source inside n ps) outer count fs (map finding_view end) → left ≡ take outer end
+    → inside ≡ within sc bs → IsOpened types (λ n. gathered_in source inside n ps) outer count fs (map finding_view end)
+    → left ≡ take outer end
     → map finding_view left ≡ after types (λ n. gathered_at source sc n (scope bs ps)) 0 fs
 scope_findings types source sc inside bs ps fs end left outer count e h l =
     ap (map finding_view) l ∙ sym (take-map finding_view outer end)
@@ -49,24 +59,31 @@ pub parts_next : (items : List Kept) (i : ℕ) (x : Kept) → i < length items �
     → parts_view (drop i items) ≡ more_parts (part_view x) (parts_view (drop (i + 1) items))
 parts_next items i x lt e = rw (drop-cons items i x lt, ← e, add-one i) refl
 
-pub findings_next : (types : List TypeDecl) (source : Source) (sc : List (Option ℕ)) (whole : Parts) (p : Part) (ps : Parts) (now new total : List Finding)
-    → whole ≡ more_parts p ps → after types (λ n. gathered_in source sc n whole) 0 now ≡ total → new ≡ after types (λ n. gathered_at source sc n p) 0 now
+pub findings_next : (types : List TypeDecl) (source : Source) (sc : List (Option ℕ)) (whole : Parts) (p : Part)
+    (ps : Parts) (now new total : List Finding)
+    → whole ≡ more_parts p ps → after types (λ n. gathered_in source sc n whole) 0 now ≡ total
+    → new ≡ after types (λ n. gathered_at source sc n p) 0 now
     → after types (λ n. gathered_in source sc n ps) 0 new ≡ total
 findings_next types source sc whole p ps now new total e so_far step =
     ap (after types (λ n. gathered_in source sc n ps) 0) step
     ∙ sym (after-append types (λ n. gathered_at source sc n p) (λ n. gathered_in source sc n ps) 0 now)
     ∙ subst (λ (qs : Parts). after types (λ n. gathered_in source sc n qs) 0 now ≡ total) e so_far
 
-pub findings_done : (types : List TypeDecl) (source : Source) (sc : List (Option ℕ)) (items : List Kept) (i : ℕ) (now total : List Finding)
-    → length items ≤ i → after types (λ n. gathered_in source sc n (parts_view (drop i items))) 0 now ≡ total → now ≡ total
+pub findings_done : (types : List TypeDecl) (source : Source) (sc : List (Option ℕ)) (items : List Kept) (i : ℕ)
+    (now total : List Finding)
+    → length items ≤ i → after types (λ n. gathered_in source sc n (parts_view (drop i items))) 0 now ≡ total
+    → now ≡ total
 findings_done types source sc items i now total le e =
     let none : drop i items ≡ [] = grind (arith, common_steps) in
-    after-nothing types now ∙ subst (λ (xs : List Kept). after types (λ n. gathered_in source sc n (parts_view xs)) 0 now ≡ total) none e
+    after-nothing types now ∙ subst (λ (xs : List Kept). after types (λ n. gathered_in source sc n (parts_view xs)) 0
+    now ≡ total) none e
 
-pub same_length : (types : List TypeDecl) (P : ℕ → List ℕ) (now new : List Found) → map finding_view new ≡ after types P 0 (map finding_view now)
+pub same_length : (types : List TypeDecl) (P : ℕ → List ℕ) (now new : List Found) → map finding_view new
+    ≡ after types P 0 (map finding_view now)
     → length new ≡ length now
 same_length types P now new e =
-    sym (length-map new finding_view) ∙ ap length e ∙ after-length types P 0 (map finding_view now) ∙ length-map now finding_view
+    sym (length-map new finding_view) ∙ ap length e ∙ after-length types P 0 (map finding_view now)
+    ∙ length-map now finding_view
 
 pub parts_by-is : (source : Source) (types : List TypeDecl) (sc : List (Option ℕ)) (ps : List Part)
     → parts_by source types sc (parts_of ps) ≡ parts_of (map (part_by source types sc) ps)
@@ -101,35 +118,43 @@ mutual
   sides-are sc n (more_parts p ps) = rw (side_at-is sc n p, sides-are sc n ps) refl
 
 within-length : (sc : List (Option ℕ)) (bs : List Binding) → length (within sc bs) ≡ length sc + length bs
-within-length sc bs = length-append sc (map (λ (b : Binding). type_found b.finding) bs) ∙ ap (λ k. length sc + k) (length-map bs (λ (b : Binding). type_found b.finding))
+within-length sc bs = length-append sc (map (λ (b : Binding). type_found b.finding) bs)
+    ∙ ap (λ k. length sc + k) (length-map bs (λ (b : Binding). type_found b.finding))
 
 mutual
-  part_by_places-is : (types : List TypeDecl) (sc : List (Option ℕ)) (p : Part) → part_by Places types sc p ≡ part_by_places types (length sc) p
+  part_by_places-is : (types : List TypeDecl) (sc : List (Option ℕ)) (p : Part) → part_by Places types sc p
+      ≡ part_by_places types (length sc) p
   part_by_places-is types sc (demand d) = refl
   part_by_places-is types sc (scope bs ps) =
-      let bindings : settled_bindings types (length sc) bs (λ n. gathered_in Places (within sc bs) n ps) ≡ settled_bindings types (length sc) bs (λ n. places_in n ps) =
+      let bindings : settled_bindings types (length sc) bs (λ n. gathered_in Places (within sc bs) n ps)
+      ≡ settled_bindings types (length sc) bs (λ n. places_in n ps) =
       settled_same types (length sc) bs _ _ (λ m. places-are (within sc bs) m ps) in
       let inner : parts_by Places types (within sc bs) ps ≡ by_places types (length sc + length bs) ps =
       by_places-is types (within sc bs) ps ∙ ap (λ k. by_places types k ps) (within-length sc bs) in
       rw (bindings, inner) refl
 
-  by_places-is : (types : List TypeDecl) (sc : List (Option ℕ)) (ps : Parts) → parts_by Places types sc ps ≡ by_places types (length sc) ps
+  by_places-is : (types : List TypeDecl) (sc : List (Option ℕ)) (ps : Parts) → parts_by Places types sc ps
+      ≡ by_places types (length sc) ps
   by_places-is types sc no_parts = refl
   by_places-is types sc (more_parts p ps) = rw (part_by_places-is types sc p, by_places-is types sc ps) refl
 
 mutual
-  part_by_sides-is : (types : List TypeDecl) (sc : List (Option ℕ)) (p : Part) → part_by Sides types sc p ≡ part_by_sides types sc p
+  part_by_sides-is : (types : List TypeDecl) (sc : List (Option ℕ)) (p : Part) → part_by Sides types sc p
+      ≡ part_by_sides types sc p
   part_by_sides-is types sc (demand d) = refl
   part_by_sides-is types sc (scope bs ps) =
-      let bindings : settled_bindings types (length sc) bs (λ n. gathered_in Sides (within sc bs) n ps) ≡ settled_bindings types (length sc) bs (λ n. sides_in (within sc bs) n ps) =
+      let bindings : settled_bindings types (length sc) bs (λ n. gathered_in Sides (within sc bs) n ps)
+      ≡ settled_bindings types (length sc) bs (λ n. sides_in (within sc bs) n ps) =
       settled_same types (length sc) bs _ _ (λ m. sides-are (within sc bs) m ps) in
       rw (bindings, by_sides-is types (within sc bs) ps) refl
 
-  by_sides-is : (types : List TypeDecl) (sc : List (Option ℕ)) (ps : Parts) → parts_by Sides types sc ps ≡ by_sides types sc ps
+  by_sides-is : (types : List TypeDecl) (sc : List (Option ℕ)) (ps : Parts) → parts_by Sides types sc ps
+      ≡ by_sides types sc ps
   by_sides-is types sc no_parts = refl
   by_sides-is types sc (more_parts p ps) = rw (part_by_sides-is types sc p, by_sides-is types sc ps) refl
 
-pub settled_twice : (types : List TypeDecl) (ps placed settled : Parts) → placed ≡ parts_by Places types [] ps → settled ≡ parts_by Sides types [] placed
+pub settled_twice : (types : List TypeDecl) (ps placed settled : Parts) → placed ≡ parts_by Places types [] ps
+    → settled ≡ parts_by Sides types [] placed
     → settled ≡ by_sides types [] (by_places types 0 ps)
 settled_twice types ps placed settled e f =
     f ∙ by_sides-is types [] placed ∙ ap (by_sides types []) (e ∙ by_places-is types [] ps)

@@ -4,8 +4,10 @@ use Rattle.kb_text.specs.declared.fault.K.TheVariants as k
 use Rattle.kb_text.specs.declared.fault.KbFault.{KbFault}
 use Rattle.reading_stages.specs.Earliest.{IsEarliest, IsRowOf, row}
 use Rattle.reading_stages.specs.Numbering.{NamedFile}
-use Rattle.reading_stages.specs.TypesStage.{place_of_type_use, type_uses_of_file, TypesRefuse, type_clash, no_type, is_type_refused, type_causes, type_noted}
-use Rattle.reading_stages.proofs.EarliestLaws.{contains_head, contains_tail, nothing_noted, earliest_noted, earliest_of_same}
+use Rattle.reading_stages.specs.TypesStage.{place_of_type_use, type_uses_of_file, TypesRefuse, type_clash, no_type}
+use Rattle.reading_stages.specs.TypesStage.{is_type_refused, type_causes, type_noted}
+use Rattle.reading_stages.proofs.EarliestLaws.{contains_head, contains_tail, nothing_noted, earliest_noted}
+use Rattle.reading_stages.proofs.EarliestLaws.{earliest_of_same}
 
 abbrev Row : NamedFile → KbFault → Type 0
 Row f = IsRowOf (is_type_refused f.vocabulary.types) place_of_type_use type_causes (type_uses_of_file f)
@@ -42,11 +44,14 @@ from_rows f _ (type_clash u there holds) = row u k.TypeClash there first holds
 from_rows f _ (no_type u there holds) = row u k.Untyped there second holds
 
 -- where nothing was noted nothing is refused
-pub nothing_refused : (f : NamedFile) → fold (type_noted f.vocabulary.types) None (type_uses_of_file f) ≡ None → (q : KbFault) → TypesRefuse f q → ⊥
-nothing_refused f e q h = nothing_noted (is_type_refused f.vocabulary.types) place_of_type_use type_causes (type_uses_of_file f) e q (from_rows f q h)
+pub nothing_refused : (f : NamedFile) → fold (type_noted f.vocabulary.types) None (type_uses_of_file f) ≡ None
+    → (q : KbFault) → TypesRefuse f q → ⊥
+nothing_refused f e q h = nothing_noted (is_type_refused f.vocabulary.types) place_of_type_use type_causes
+    (type_uses_of_file f) e q (from_rows f q h)
 
 -- what was noted is the earliest refusal
-pub earliest_refused : (f : NamedFile) (r : KbFault) → fold (type_noted f.vocabulary.types) None (type_uses_of_file f) ≡ Some r → IsEarliest (TypesRefuse f) r
+pub earliest_refused : (f : NamedFile) (r : KbFault) → fold (type_noted f.vocabulary.types) None (type_uses_of_file f)
+    ≡ Some r → IsEarliest (TypesRefuse f) r
 earliest_refused f r e =
     earliest_of_same (Row f) (TypesRefuse f) r (to_rows f) (from_rows f)
     (earliest_noted (is_type_refused f.vocabulary.types) place_of_type_use type_causes (type_uses_of_file f) r e)

@@ -1,5 +1,6 @@
 -- The ways up from a type, step by step.
-use Rattle.std.proofs.Common.{◌≡◌, ◌<◌, ◌==◌, ℕ, zero, suc, ◌+◌, ◌-◌, Bool, true, false, List, Option, None, Some, length, slice_get, refl, ap, ◌∙◌, sym, arith}
+use Rattle.std.proofs.Common.{◌≡◌, ◌<◌, ◌==◌, ℕ, zero, suc, ◌+◌, ◌-◌, Bool, true, false, List, Option, None, Some}
+use Rattle.std.proofs.Common.{length, slice_get, refl, ap, ◌∙◌, sym, arith}
 use Rattle.std.specs.Option.{option_map}
 use Rattle.std.proofs.lemmas.List.{length-map}
 use Rattle.std.proofs.lemmas.Option.{slice_get-map}
@@ -18,12 +19,16 @@ apart a b differ =
 
 -- ---- what stands above a type
 
-pub none_above : (types : List TypeDecl) (t : ℕ) → slice_get types t ≡ None → None ≡ above (slice_get (type_parents types) t)
-none_above types t e = sym (ap above (slice_get-map (λ (d : TypeDecl). type_above d.parent) types t ∙ ap (option_map (λ (d : TypeDecl). type_above d.parent)) e))
+pub none_above : (types : List TypeDecl) (t : ℕ) → slice_get types t ≡ None
+    → None ≡ above (slice_get (type_parents types) t)
+none_above types t e = sym (ap above (slice_get-map (λ (d : TypeDecl). type_above d.parent) types t
+    ∙ ap (option_map (λ (d : TypeDecl). type_above d.parent)) e))
 
-pub some_above : (types : List TypeDecl) (t : ℕ) (d : TypeDecl) (o : Option ℕ) → slice_get types t ≡ Some d → type_above d.parent ≡ o → o ≡ above (slice_get (type_parents types) t)
+pub some_above : (types : List TypeDecl) (t : ℕ) (d : TypeDecl) (o : Option ℕ) → slice_get types t ≡ Some d
+    → type_above d.parent ≡ o → o ≡ above (slice_get (type_parents types) t)
 some_above types t d o e is =
-    sym (ap above (slice_get-map (λ (d : TypeDecl). type_above d.parent) types t ∙ ap (option_map (λ (d : TypeDecl). type_above d.parent)) e) ∙ is)
+    sym (ap above (slice_get-map (λ (d : TypeDecl). type_above d.parent) types t
+    ∙ ap (option_map (λ (d : TypeDecl). type_above d.parent)) e) ∙ is)
 
 -- ---- whether one type is under another
 
@@ -45,7 +50,8 @@ no_way : (m : ℕ) (ps : Parents) (t u : ℕ) → (t ≡ u → ⊥) → above (s
 no_way zero ps t u differ e = apart t u differ
 no_way (suc m) ps t u differ e = rw (apart t u differ) (step_none (slice_get ps t) (λ p. reaches m ps p u) e)
 
-one_up : (m : ℕ) (ps : Parents) (t p u : ℕ) → (t ≡ u → ⊥) → above (slice_get ps t) ≡ Some p → reaches (suc m) ps t u ≡ reaches m ps p u
+one_up : (m : ℕ) (ps : Parents) (t p u : ℕ) → (t ≡ u → ⊥) → above (slice_get ps t) ≡ Some p → reaches (suc m) ps t u
+    ≡ reaches m ps p u
 one_up m ps t p u differ e = rw (apart t u differ) (step_some (slice_get ps t) (λ q. reaches m ps q u) p e)
 
 -- the walk, where so many steps are left
@@ -55,15 +61,19 @@ module _ (types : List TypeDecl) (at u i : ℕ) (whole : Bool)
   is_here lt e = sym (here (length types - i) (type_parents types) at u e) ∙ so_far (length types - i) (omega arith)
 
   pub is_nowhere : i < length types → (at ≡ u → ⊥) → None ≡ above (slice_get (type_parents types) at) → false ≡ whole
-  is_nowhere lt differ e = sym (no_way (length types - i) (type_parents types) at u differ (sym e)) ∙ so_far (length types - i) (omega arith)
+  is_nowhere lt differ e = sym (no_way (length types - i) (type_parents types) at u differ (sym e))
+      ∙ so_far (length types - i) (omega arith)
 
-  pub is_further : (p : ℕ) → (at ≡ u → ⊥) → Some p ≡ above (slice_get (type_parents types) at) → (m : ℕ) → m + suc i ≡ length types
+  pub is_further : (p : ℕ) → (at ≡ u → ⊥) → Some p ≡ above (slice_get (type_parents types) at) → (m : ℕ)
+      → m + suc i ≡ length types
       → reaches m (type_parents types) p u ≡ whole
   is_further p differ e m sum = sym (one_up m (type_parents types) at p u differ (sym e)) ∙ so_far (suc m) (omega arith)
 
-pub begins : (types : List TypeDecl) (t u m : ℕ) → m + 0 ≡ length types → reaches m (type_parents types) t u ≡ is_under types t u
+pub begins : (types : List TypeDecl) (t u m : ℕ) → m + 0 ≡ length types → reaches m (type_parents types) t u
+    ≡ is_under types t u
 begins types t u m e =
-    let same : m ≡ length (type_parents types) = (let plain : m ≡ length types = omega arith in plain) ∙ sym (length-map types (λ (d : TypeDecl). type_above d.parent)) in
+    let same : m ≡ length (type_parents types) = (let plain : m ≡ length types = omega arith in plain)
+    ∙ sym (length-map types (λ (d : TypeDecl). type_above d.parent)) in
     ap (λ k. reaches k (type_parents types) t u) same
 
 -- ---- the end of a chain
@@ -89,8 +99,10 @@ module _ (types : List TypeDecl) (at i top : ℕ)
 
   pub is_higher : (p : ℕ) → Some p ≡ above (slice_get (type_parents types) at) → (m : ℕ) → m + suc i ≡ length types
       → climbed m (type_parents types) p ≡ top
-  is_higher p e m sum = sym (climb_some (slice_get (type_parents types) at) at p (climbed m (type_parents types)) (sym e)) ∙ so_far (suc m) (omega arith)
+  is_higher p e m sum = sym (climb_some (slice_get (type_parents types) at) at p (climbed m (type_parents types))
+      (sym e)) ∙ so_far (suc m) (omega arith)
 
-pub begins_to_climb : (types : List TypeDecl) (t m : ℕ) → m + 0 ≡ length types → climbed m (type_parents types) t ≡ top_of types t
+pub begins_to_climb : (types : List TypeDecl) (t m : ℕ) → m + 0 ≡ length types → climbed m (type_parents types) t
+    ≡ top_of types t
 begins_to_climb types t m e =
     ap (λ k. climbed k (type_parents types) t) (let plain : m ≡ length types = omega arith in plain)

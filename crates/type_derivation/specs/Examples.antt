@@ -12,10 +12,13 @@ use Rattle.kb_logic.specs.Trees as typed
 use Rattle.kb_logic.specs.Trees.{TermTree, FormulaTree}
 use Rattle.kb_text.specs.declared.fault.K.TheVariants as k
 use Rattle.kb_text.specs.declared.fault.KbFault.{KbFault}
-use Rattle.reading_stages.specs.Demands.{Finding, nothing, found, torn, Binding, demand, scope, Parts, no_parts, more_parts}
+use Rattle.reading_stages.specs.Demands.{Finding, nothing, found, torn, Binding, demand, scope, Parts, no_parts}
+use Rattle.reading_stages.specs.Demands.{more_parts}
 use Rattle.reading_stages.specs.Earliest.{refusal}
 use Rattle.reading_stages.specs.Kinship.{is_under, is_number_type, are_akin}
-use Rattle.reading_stages.specs.NamedTrees.{NamedVar, NamedTerm, at, variable, integer, application, summation, aggregate, terms_of, summands_of, NamedFormula, truth, atom, comparison, conjunction, universal, existential, formulas_of}
+use Rattle.reading_stages.specs.NamedTrees.{NamedVar, NamedTerm, at, variable, integer, application, summation}
+use Rattle.reading_stages.specs.NamedTrees.{aggregate, terms_of, summands_of, NamedFormula, truth, atom, comparison}
+use Rattle.reading_stages.specs.NamedTrees.{conjunction, universal, existential, formulas_of}
 use Rattle.reading_stages.specs.TermPlaces.{term_begins}
 use Rattle.reading_stages.specs.TypedTrees.{typed_sentence, typed_block_term}
 use Rattle.reading_stages.specs.TypesStage.{sentence_settled, block_settled, uses_among, type_noted}
@@ -204,11 +207,14 @@ pub record TypesAreWorkedOut : Type 0 where
   pub by_no_variable : found_of (each_two (equal x y)) ≡ nothing ∷ nothing ∷ []
   pub sides_give_none : found_of (each_two (both (equal x y) (equal y c))) ≡ nothing ∷ found 3 ∷ []
   -- !x: ?y: Q(y) & x = y
-  pub by_an_inner_variable : tree_of (each (some_y (both (Q y) (equal x y)))) ≡ each_of 1 (some_of 1 (typed_both (typed_Q typed_y) (typed_equal typed_x typed_y)))
+  pub by_an_inner_variable : tree_of (each (some_y (both (Q y) (equal x y)))) ≡ each_of 1
+      (some_of 1 (typed_both (typed_Q typed_y) (typed_equal typed_x typed_y)))
   -- !x: R(x) & ?y: y = x
-  pub by_an_outer_variable : tree_of (each (both (R x) (some_y (equal y x)))) ≡ each_of 2 (typed_both (typed_R typed_x) (some_of 2 (typed_equal typed_y typed_x)))
+  pub by_an_outer_variable : tree_of (each (both (R x) (some_y (equal y x)))) ≡ each_of 2
+      (typed_both (typed_R typed_x) (some_of 2 (typed_equal typed_y typed_x)))
   -- !x: ?y: y = c & x = y, where x has only a variable that has its type by a side, and so the type 0
-  pub by_no_inner_variable : tree_of (each (some_y (both (equal y c) (equal x y)))) ≡ each_of 0 (some_of 3 (typed_both (typed_equal typed_y typed_c) (typed_equal typed_x typed_y)))
+  pub by_no_inner_variable : tree_of (each (some_y (both (equal y c) (equal x y)))) ≡ each_of 0
+      (some_of 3 (typed_both (typed_equal typed_y typed_c) (typed_equal typed_x typed_y)))
   -- !x y: x = y & P(y) & R(y)
   pub torn_gives_none : found_of (each_two (both (equal x y) (both (P y) (R y)))) ≡ nothing ∷ torn ∷ []
   pub torn_refused : refused (each_two (both (equal x y) (both (P y) (R y)))) ≡ Some (refusal k.Untyped 1)
@@ -216,9 +222,11 @@ pub record TypesAreWorkedOut : Type 0 where
   pub whole_argument : found_of (each (P (f x))) ≡ found 0 ∷ []
   pub part_of_argument : found_of (each (P (sum x (number 1)))) ≡ nothing ∷ []
   -- (!x: P(x)) & (!x: R(x)): another variable with the same number
-  pub each_in_its_scope : tree_of (both (each (P x)) (each (R x))) ≡ typed_both (each_of 0 (typed_P typed_x)) (each_of 2 (typed_R typed_x))
+  pub each_in_its_scope : tree_of (both (each (P x)) (each (R x))) ≡ typed_both (each_of 0 (typed_P typed_x))
+      (each_of 2 (typed_R typed_x))
   -- 1 = sum{x : true : f(x)}, and sum{x : Q(x) : f(x)} as a term block's term
-  pub by_a_weight : tree_of (equal (number 1) (total (truth true) (f x))) ≡ typed_equal (typed.integer (pos 1)) (total_of 0 typed.verum (typed_f typed_x))
+  pub by_a_weight : tree_of (equal (number 1) (total (truth true) (f x))) ≡ typed_equal (typed.integer (pos 1))
+      (total_of 0 typed.verum (typed_f typed_x))
   pub in_a_block : typed_block_term vocabulary (total (Q x) (f x)) ≡ total_of 1 (typed_Q typed_x) (typed_f typed_x)
   -- integers as arguments of a function
   pub an_integer : refused_term (f (number 3)) ≡ None

@@ -2,7 +2,8 @@
 use Rattle.std.specs.Prelude.{ℕ, ◌+◌, List, [], ◌∷◌, ◌++◌, length, Option, fold, if◌then◌else◌}
 use Rattle.kb_logic.specs.declared.vocabularies.TypeDecl.{TypeDecl}
 use Rattle.reading_stages.specs.Kinship.{is_under}
-use Rattle.reading_stages.specs.Demands.{Kind, Demand, Finding, nothing, found, torn, Binding, Part, demand, scope, Parts, no_parts, more_parts}
+use Rattle.reading_stages.specs.Demands.{Kind, Demand, Finding, nothing, found, torn, Binding, Part, demand, scope}
+use Rattle.reading_stages.specs.Demands.{Parts, no_parts, more_parts}
 use Rattle.reading_stages.specs.Typing.{is_variable, places_given, sides_given, within, settled, settled_bindings}
 use Rattle.type_derivation.specs.declared.gathering.Source.{Source}
 use Rattle.type_derivation.specs.declared.gathering.Source.TheVariants.{Places, Sides}
@@ -49,7 +50,8 @@ abbrev mutual
   pub part_by : Source → List TypeDecl → List (Option ℕ) → Part → Part
   part_by source types types_in_scope (demand d) = demand d
   part_by source types types_in_scope (scope bs ps) =
-      scope (settled_bindings types (length types_in_scope) bs (λ n. gathered_in source (within types_in_scope bs) n ps))
+      scope (settled_bindings types (length types_in_scope) bs (λ n. gathered_in source
+      (within types_in_scope bs) n ps))
       (parts_by source types (within types_in_scope bs) ps)
 
   pub parts_by : Source → List TypeDecl → List (Option ℕ) → Parts → Parts

@@ -1,4 +1,5 @@
--- The types of all variables in the order in which they are bound in the text, and trees whose variables take theirs from
+-- The types of all variables in the order in which they are bound in the text, and trees whose variables take theirs
+-- from
 -- the start of such a list. Derivation works by these trees; they are the typed ones.
 use Rattle.std.specs.Prelude.{ℕ, ◌≡◌, pos, List, [], ◌∷◌, ◌++◌, map}
 use Rattle.kb_logic.specs.declared.vocabularies.Vocabulary.{Vocabulary}
@@ -6,7 +7,12 @@ use Rattle.kb_logic.specs.declared.vocabularies.Bound.{Bound}
 use Rattle.kb_logic.specs.Trees.{TermTree, TermTrees, SummandTrees, FormulaTree, FormulaTrees}
 use Rattle.kb_logic.specs.Trees as tree
 use Rattle.reading_stages.specs.Demands.{Part, demand, scope, Parts, no_parts, more_parts, later_types}
-use Rattle.reading_stages.specs.NamedTrees.{NamedVar, NamedTerm, at, NamedNode, variable, integer, constructed, application, summation, product, aggregate, NamedTerms, no_terms, more_terms, NamedSummands, no_summands, more_summands, NamedFormula, truth, atom, comparison, negation, conjunction, disjunction, implication, equivalence, universal, existential, numbered, NamedFormulas, no_formulas, more_formulas}
+use Rattle.reading_stages.specs.NamedTrees.{NamedVar, NamedTerm, at, NamedNode, variable, integer, constructed}
+use Rattle.reading_stages.specs.NamedTrees.{application, summation, product, aggregate, NamedTerms, no_terms}
+use Rattle.reading_stages.specs.NamedTrees.{more_terms, NamedSummands, no_summands, more_summands, NamedFormula, truth}
+use Rattle.reading_stages.specs.NamedTrees.{atom, comparison, negation, conjunction, disjunction, implication}
+use Rattle.reading_stages.specs.NamedTrees.{equivalence, universal, existential, numbered, NamedFormulas, no_formulas}
+use Rattle.reading_stages.specs.NamedTrees.{more_formulas}
 use Rattle.reading_stages.specs.TypedTrees.{chosen, integer_of, truth_tree, typed_sentence, typed_block_term}
 use Rattle.reading_stages.specs.TypesStage.{sentence_settled, block_settled}
 
@@ -92,7 +98,8 @@ abbrev mutual
 
   pub listed_formulas : List ℕ → NamedFormulas → FormulaTrees
   listed_formulas ts no_formulas = tree.no_formulas
-  listed_formulas ts (more_formulas f fs) = tree.more_formulas (listed_formula ts f) (listed_formulas (left_formula ts f) fs)
+  listed_formulas ts (more_formulas f fs) = tree.more_formulas (listed_formula ts f)
+      (listed_formulas (left_formula ts f) fs)
 
   pub listed_term : List ℕ → NamedTerm → TermTree
   listed_term ts (at p x) = listed_node ts x
@@ -105,7 +112,8 @@ abbrev mutual
   listed_node ts (summation ss) = tree.summation (listed_summands ts ss)
   listed_node ts (product us) = tree.product (listed_terms ts us)
   listed_node ts (aggregate how xs f w) =
-      tree.aggregate how (listed_vars ts xs) (listed_formula (left_vars ts xs) f) (listed_term (left_formula (left_vars ts xs) f) w)
+      tree.aggregate how (listed_vars ts xs) (listed_formula (left_vars ts xs) f)
+      (listed_term (left_formula (left_vars ts xs) f) w)
 
   pub listed_terms : List ℕ → NamedTerms → TermTrees
   listed_terms ts no_terms = tree.no_terms
@@ -113,9 +121,11 @@ abbrev mutual
 
   pub listed_summands : List ℕ → NamedSummands → SummandTrees
   listed_summands ts no_summands = tree.no_summands
-  listed_summands ts (more_summands m u ss) = tree.more_summands m (listed_term ts u) (listed_summands (left_term ts u) ss)
+  listed_summands ts (more_summands m u ss) = tree.more_summands m (listed_term ts u)
+      (listed_summands (left_term ts u) ss)
 
 -- the variables of a typed tree have, in the order in which they are bound, the types in the settled parts
 pub record TypesAreInOrder : Type 0 where
-  pub sentence : (v : Vocabulary) → (f : NamedFormula) → typed_sentence v f ≡ listed_formula (types_among (sentence_settled v f)) f
+  pub sentence : (v : Vocabulary) → (f : NamedFormula) → typed_sentence v f ≡ listed_formula
+      (types_among (sentence_settled v f)) f
   pub term : (v : Vocabulary) → (t : NamedTerm) → typed_block_term v t ≡ listed_term (types_among (block_settled v t)) t

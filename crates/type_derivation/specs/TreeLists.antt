@@ -1,6 +1,7 @@
 -- Trees before further trees.
 use Rattle.std.specs.Prelude.{Bool, List, [], ◌∷◌}
-use Rattle.kb_logic.specs.Trees.{TermTree, TermTrees, more_terms, SummandTrees, more_summands, FormulaTree, FormulaTrees, more_formulas}
+use Rattle.kb_logic.specs.Trees.{TermTree, TermTrees, more_terms, SummandTrees, more_summands, FormulaTree}
+use Rattle.kb_logic.specs.Trees.{FormulaTrees, more_formulas}
 
 abbrev pub then_formulas : List FormulaTree → FormulaTrees → FormulaTrees
 then_formulas [] rest = rest

@@ -39,7 +39,8 @@ fn types_of(
 ) -> Result<Remaining, Memory>
     requires acyclic { HasNoCycle (type_parents types.now) }
     ensures types { IfOk result (λ r. r ≡ types_among (all_settled types.now (parts_view listed.now))) }
-    ensures noted { OnOk result (earliest.new.first ≡ fold (type_noted types.now) earliest.old.first (stage.uses_among [] (all_settled types.now (parts_view listed.now)))) }
+    ensures noted { OnOk result (earliest.new.first ≡ fold (type_noted types.now) earliest.old.first
+        (stage.uses_among [] (all_settled types.now (parts_view listed.now)))) }
 {
     let parts = settle_all(alloc, types, listed)?;
     let mut scope = Vec::new(alloc);
@@ -58,7 +59,8 @@ fn sentence(
     requires acyclic { HasNoCycle (type_parents vocab.now.types) }
     ensures tree { IfOk result (λ f. view.formula_view f ≡ typed_sentence vocab.now (formula_view named.now)) }
     ensures places { OnOk result (places.new.items ≡ places.old.items ++ terms_begin (formula_view named.now)) }
-    ensures noted { OnOk result (earliest.new.first ≡ fold (type_noted vocab.now.types) earliest.old.first (stage.uses_among [] (stage.sentence_settled vocab.now (formula_view named.now)))) }
+    ensures noted { OnOk result (earliest.new.first ≡ fold (type_noted vocab.now.types) earliest.old.first
+        (stage.uses_among [] (stage.sentence_settled vocab.now (formula_view named.now)))) }
 {
     let mut listed = Vec::new(alloc);
     listing::formula(alloc, vocab.symbols.as_slice(), named, &mut listed)?;
@@ -76,7 +78,8 @@ fn block_term(
     requires acyclic { HasNoCycle (type_parents vocab.now.types) }
     ensures tree { IfOk result (λ t. view.term_view t ≡ typed_block_term vocab.now (term_view named.now)) }
     ensures places { OnOk result (places.new.items ≡ places.old.items ++ term_begins (term_view named.now)) }
-    ensures noted { OnOk result (earliest.new.first ≡ fold (type_noted vocab.now.types) earliest.old.first (stage.uses_among [] (stage.block_settled vocab.now (term_view named.now)))) }
+    ensures noted { OnOk result (earliest.new.first ≡ fold (type_noted vocab.now.types) earliest.old.first
+        (stage.uses_among [] (stage.block_settled vocab.now (term_view named.now)))) }
 {
     let mut listed = Vec::new(alloc);
     demand_number(vocab.symbols.as_slice(), named, &mut listed)?;
@@ -93,9 +96,13 @@ fn theory(
     earliest: &mut Earliest,
 ) -> Result<Named<Theory>, Memory>
     requires acyclic { HasNoCycle (type_parents vocab.now.types) }
-    ensures theory { IfOk result (λ t. named_theory_view t ≡ typed_theory vocab.now (named_view.theory_view named.now)) }
-    ensures terms { OnOk result (terms.new.items ≡ terms.old.items ++ flat_map terms_begin (map formula_view named.now.sentences) ∷ []) }
-    ensures noted { OnOk result (earliest.new.first ≡ fold (type_noted vocab.now.types) earliest.old.first (flat_map (λ f. stage.uses_among [] (stage.sentence_settled vocab.now f)) (map formula_view named.now.sentences))) }
+    ensures theory { IfOk result (λ t. named_theory_view t ≡ typed_theory vocab.now
+        (named_view.theory_view named.now)) }
+    ensures terms { OnOk result (terms.new.items ≡ terms.old.items ++ flat_map terms_begin
+        (map formula_view named.now.sentences) ∷ []) }
+    ensures noted { OnOk result (earliest.new.first ≡ fold (type_noted vocab.now.types) earliest.old.first
+        (flat_map (λ f. stage.uses_among [] (stage.sentence_settled vocab.now f))
+        (map formula_view named.now.sentences))) }
 {
     let mut sentences = Vec::new(alloc);
     let mut places = Vec::new(alloc);
@@ -123,7 +130,8 @@ fn block(
     requires acyclic { HasNoCycle (type_parents vocab.now.types) }
     ensures block { IfOk result (λ t. named_term_view t ≡ typed_block vocab.now (named_view.block_view named.now)) }
     ensures terms { OnOk result (terms.new.items ≡ terms.old.items ++ term_begins (term_view named.now.term) ∷ []) }
-    ensures noted { OnOk result (earliest.new.first ≡ fold (type_noted vocab.now.types) earliest.old.first (stage.uses_among [] (stage.block_settled vocab.now (term_view named.now.term)))) }
+    ensures noted { OnOk result (earliest.new.first ≡ fold (type_noted vocab.now.types) earliest.old.first
+        (stage.uses_among [] (stage.block_settled vocab.now (term_view named.now.term)))) }
 {
     let mut places = Vec::new(alloc);
     let term = block_term(alloc, vocab, &named.term, &mut places, earliest)?;
@@ -142,9 +150,13 @@ fn theories(
     earliest: &mut Earliest,
 ) -> Result<Vec<Named<Theory>>, Memory>
     requires acyclic { HasNoCycle (type_parents vocab.now.types) }
-    ensures theories { IfOk result (λ ts. map named_theory_view ts.items ≡ map (typed_theory vocab.now) (map named_view.theory_view named.now)) }
-    ensures terms { OnOk result (terms.new.items ≡ terms.old.items ++ map (λ t. flat_map terms_begin t.sentences) (map named_view.theory_view named.now)) }
-    ensures noted { OnOk result (earliest.new.first ≡ fold (type_noted vocab.now.types) earliest.old.first (flat_map (λ t. flat_map (λ f. stage.uses_among [] (stage.sentence_settled vocab.now f)) t.sentences) (map named_view.theory_view named.now))) }
+    ensures theories { IfOk result (λ ts. map named_theory_view ts.items ≡ map (typed_theory vocab.now)
+        (map named_view.theory_view named.now)) }
+    ensures terms { OnOk result (terms.new.items ≡ terms.old.items ++ map (λ t. flat_map terms_begin t.sentences)
+        (map named_view.theory_view named.now)) }
+    ensures noted { OnOk result (earliest.new.first ≡ fold (type_noted vocab.now.types) earliest.old.first
+        (flat_map (λ t. flat_map (λ f. stage.uses_among [] (stage.sentence_settled vocab.now f)) t.sentences)
+        (map named_view.theory_view named.now))) }
 {
     let mut theories = Vec::new(alloc);
     for item in named {
@@ -161,9 +173,13 @@ fn blocks(
     earliest: &mut Earliest,
 ) -> Result<Vec<Named<Term>>, Memory>
     requires acyclic { HasNoCycle (type_parents vocab.now.types) }
-    ensures blocks { IfOk result (λ ts. map named_term_view ts.items ≡ map (typed_block vocab.now) (map named_view.block_view named.now)) }
-    ensures terms { OnOk result (terms.new.items ≡ terms.old.items ++ map (λ t. term_begins t.term) (map named_view.block_view named.now)) }
-    ensures noted { OnOk result (earliest.new.first ≡ fold (type_noted vocab.now.types) earliest.old.first (flat_map (λ t. stage.uses_among [] (stage.block_settled vocab.now t.term)) (map named_view.block_view named.now))) }
+    ensures blocks { IfOk result (λ ts. map named_term_view ts.items ≡ map (typed_block vocab.now)
+        (map named_view.block_view named.now)) }
+    ensures terms { OnOk result (terms.new.items ≡ terms.old.items ++ map (λ t. term_begins t.term)
+        (map named_view.block_view named.now)) }
+    ensures noted { OnOk result (earliest.new.first ≡ fold (type_noted vocab.now.types) earliest.old.first
+        (flat_map (λ t. stage.uses_among [] (stage.block_settled vocab.now t.term))
+        (map named_view.block_view named.now))) }
 {
     let mut blocks = Vec::new(alloc);
     for item in named {
@@ -184,7 +200,8 @@ fn first_words(alloc: Global, theories: &[NamedTheory]) -> Result<Items<usize>, 
 
 fn derived(alloc: Global, named: NamedKb, earliest: &mut Earliest) -> Result<TypedKb, Memory>
     ensures tree { IfOk result (λ kb. typed_view kb ≡ typed_file (kb_view named)) }
-    ensures noted { OnOk result (earliest.new.first ≡ fold (type_noted named.vocab.types) earliest.old.first (stage.type_uses_of_file (kb_view named))) }
+    ensures noted { OnOk result (earliest.new.first ≡ fold (type_noted named.vocab.types) earliest.old.first
+        (stage.type_uses_of_file (kb_view named))) }
 {
     let NamedKb {
         vocab,

@@ -28,7 +28,8 @@ fn see(types: &[TypeDecl], before: Finding, ty: u32) -> Finding
 
 /// One more type of the variable that is of this kind.
 pub fn see_at(types: &[TypeDecl], findings: &mut Vec<Finding>, kind: Kind, ty: u32)
-    ensures { map finding_view findings.new.items ≡ after types.now (if_variable (kind_view kind) ty) 0 (map finding_view findings.old.items) }
+    ensures { map finding_view findings.new.items ≡ after types.now (if_variable (kind_view kind) ty) 0
+        (map finding_view findings.old.items) }
 {
     match kind {
         Kind::Variable(n) => {

@@ -3,8 +3,10 @@ ghost use Rattle.std.specs.Prelude.{◌≡◌, ◌+◌, ◌++◌, drop, length, 
 ghost use Rattle.reading_stages.specs.Below.{HasNoCycle, type_parents};
 ghost use Rattle.reading_stages.specs.Demands as said;
 ghost use Rattle.reading_stages.specs.Typing as typing;
-ghost use Rattle.type_derivation.specs.Gathering.{after, gathered_at, gathered_in, given, part_by, parts_by, settled_from};
-ghost use Rattle.type_derivation.specs.PartViews.{binding_view, demand_view, finding_view, kind_view, part_view, parts_view};
+ghost use Rattle.type_derivation.specs.Gathering.{after, gathered_at, gathered_in, given, part_by, parts_by};
+ghost use Rattle.type_derivation.specs.Gathering.{settled_from};
+ghost use Rattle.type_derivation.specs.PartViews.{binding_view, demand_view, finding_view, kind_view, part_view};
+ghost use Rattle.type_derivation.specs.PartViews.{parts_view};
 
 use crate::demands::{Binding, Demand, Finding, Kind, Part, TermType};
 use crate::findings::{see_at, settle, type_found, type_in};
@@ -25,7 +27,8 @@ fn see_side(
     side: Kind,
     other: Kind,
 )
-    ensures { map finding_view findings.new.items ≡ after types.now (λ n. typing.side_given scope.now n (kind_view side) (kind_view other)) 0 (map finding_view findings.old.items) }
+    ensures { map finding_view findings.new.items ≡ after types.now (λ n. typing.side_given scope.now n (kind_view side)
+        (kind_view other)) 0 (map finding_view findings.old.items) }
 {
     match type_in(scope, other) {
         TermType::Declared(ty) => see_at(types, findings, side, ty),
@@ -41,7 +44,8 @@ fn see_demand(
     findings: &mut Vec<Finding>,
     demand: Demand,
 )
-    ensures { map finding_view findings.new.items ≡ after types.now (λ n. given source scope.now n (demand_view demand)) 0 (map finding_view findings.old.items) }
+    ensures { map finding_view findings.new.items ≡ after types.now (λ n. given source scope.now n (demand_view demand))
+        0 (map finding_view findings.old.items) }
 {
     match source {
         Source::Places => match demand {
@@ -68,7 +72,8 @@ fn enter(
     bindings: &[Binding],
 ) -> Result<(), Memory>
     ensures scope { OnOk result (scope.new.items ≡ typing.within scope.old.items (map binding_view bindings.now)) }
-    ensures findings { OnOk result (map finding_view findings.new.items ≡ map finding_view findings.old.items ++ replicate (length bindings.now) said.nothing) }
+    ensures findings { OnOk result (map finding_view findings.new.items ≡ map finding_view findings.old.items
+        ++ replicate (length bindings.now) said.nothing) }
 {
     for binding in bindings {
         scope.push(type_found(binding.finding))?;
@@ -83,7 +88,8 @@ fn settle_each(
     found: &[Finding],
 ) -> Result<Vec<Binding>, Memory>
     requires { length bindings.now ≡ length found.now }
-    ensures { IfOk result (λ bs. map binding_view bs.items ≡ settled_from (map binding_view bindings.now) (map finding_view found.now)) }
+    ensures { IfOk result (λ bs. map binding_view bs.items ≡ settled_from (map binding_view bindings.now)
+        (map finding_view found.now)) }
 {
     let mut settled = Vec::new(alloc);
     for (i, binding) in bindings.iter().enumerate() {
@@ -102,7 +108,8 @@ fn leave(
     requires { length findings.old.items ≡ outer + length bindings.now }
     ensures scope { OnOk result (scope.new.items ≡ take outer scope.old.items) }
     ensures findings { OnOk result (findings.new.items ≡ take outer findings.old.items) }
-    ensures bindings { IfOk result (λ bs. map binding_view bs.items ≡ settled_from (map binding_view bindings.now) (map finding_view (drop outer findings.old.items))) }
+    ensures bindings { IfOk result (λ bs. map binding_view bs.items ≡ settled_from (map binding_view bindings.now)
+        (map finding_view (drop outer findings.old.items))) }
 {
     let (_, found) = findings.split_at(outer);
     let settled = settle_each(alloc, bindings, found)?;
@@ -124,7 +131,8 @@ fn part(
     requires aligned { length scope.old.items ≡ length findings.old.items }
     ensures part { IfOk result (λ p. part_view p ≡ part_by source types.now scope.old.items (part_view listed.now)) }
     ensures scope { OnOk result (scope.new.items ≡ scope.old.items) }
-    ensures findings { OnOk result (map finding_view findings.new.items ≡ after types.now (λ n. gathered_at source scope.old.items n (part_view listed.now)) 0 (map finding_view findings.old.items)) }
+    ensures findings { OnOk result (map finding_view findings.new.items ≡ after types.now
+        (λ n. gathered_at source scope.old.items n (part_view listed.now)) 0 (map finding_view findings.old.items)) }
 {
     match listed {
         Part::Demand(demand) => {
@@ -152,9 +160,11 @@ fn parts(
 ) -> Result<Vec<Part>, Memory>
     requires acyclic { HasNoCycle (type_parents types.now) }
     requires aligned { length scope.old.items ≡ length findings.old.items }
-    ensures parts { IfOk result (λ ps. parts_view ps.items ≡ parts_by source types.now scope.old.items (parts_view listed.now)) }
+    ensures parts { IfOk result (λ ps. parts_view ps.items ≡ parts_by source types.now scope.old.items
+        (parts_view listed.now)) }
     ensures scope { OnOk result (scope.new.items ≡ scope.old.items) }
-    ensures findings { OnOk result (map finding_view findings.new.items ≡ after types.now (λ n. gathered_in source scope.old.items n (parts_view listed.now)) 0 (map finding_view findings.old.items)) }
+    ensures findings { OnOk result (map finding_view findings.new.items ≡ after types.now
+        (λ n. gathered_in source scope.old.items n (parts_view listed.now)) 0 (map finding_view findings.old.items)) }
 {
     let mut gathered = Vec::new(alloc);
     for item in listed {

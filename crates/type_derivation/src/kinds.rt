@@ -102,7 +102,8 @@ pub fn demand_position(
     types: &[u32],
     out: &mut Vec<Part>,
 ) -> Result<(), Memory>
-    ensures { OnOk result (map part_view out.new.items ≡ map part_view out.old.items ++ said.argument_demands symbols.now of_function (term_view term.now) types.now) }
+    ensures { OnOk result (map part_view out.new.items ≡ map part_view out.old.items ++ said.argument_demands
+        symbols.now of_function (term_view term.now) types.now) }
 {
     if let Some(ty) = types.first() {
         out.push(Part::Demand(argument(symbols, of_function, term, *ty)))?;
@@ -122,7 +123,8 @@ pub fn demand_number(
     term: &NamedTerm,
     out: &mut Vec<Part>,
 ) -> Result<(), Memory>
-    ensures { OnOk result (map part_view out.new.items ≡ map part_view out.old.items ++ said.number_demand symbols.now (term_view term.now) ∷ []) }
+    ensures { OnOk result (map part_view out.new.items ≡ map part_view out.old.items ++ said.number_demand symbols.now
+        (term_view term.now) ∷ []) }
 {
     out.push(number(symbols, term))?;
     Ok(())
@@ -148,7 +150,8 @@ fn demand_order(
     right: &NamedTerm,
     out: &mut Vec<Part>,
 ) -> Result<(), Memory>
-    ensures { OnOk result (map part_view out.new.items ≡ map part_view out.old.items ++ said.order_demands symbols.now ordered (term_view left.now) (term_view right.now)) }
+    ensures { OnOk result (map part_view out.new.items ≡ map part_view out.old.items ++ said.order_demands symbols.now
+        ordered (term_view left.now) (term_view right.now)) }
 {
     if ordered {
         out.push(number(symbols, left))?;
@@ -165,7 +168,8 @@ pub fn demand_comparison(
     right: &NamedTerm,
     out: &mut Vec<Part>,
 ) -> Result<(), Memory>
-    ensures { OnOk result (map part_view out.new.items ≡ map part_view out.old.items ++ said.comparison_demands symbols.now cmp (term_view left.now) (term_view right.now)) }
+    ensures { OnOk result (map part_view out.new.items ≡ map part_view out.old.items ++ said.comparison_demands
+        symbols.now cmp (term_view left.now) (term_view right.now)) }
 {
     let sides = Demand::Sides(left.place, kind_of(symbols, left), kind_of(symbols, right));
     out.push(Part::Demand(sides))?;

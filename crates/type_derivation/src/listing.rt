@@ -44,7 +44,8 @@ pub fn formula(
     named: &NamedFormula,
     out: &mut Vec<Part>,
 ) -> Result<(), Memory>
-    ensures { OnOk result (map part_view out.new.items ≡ map part_view out.old.items ++ said.formula_parts symbols.now (formula_view named.now)) }
+    ensures { OnOk result (map part_view out.new.items ≡ map part_view out.old.items ++ said.formula_parts symbols.now
+        (formula_view named.now)) }
 {
     match named {
         NamedFormula::Truth(_) => Ok(()),
@@ -90,7 +91,9 @@ fn scope(
     inner: &NamedFormula,
     out: &mut Vec<Part>,
 ) -> Result<(), Memory>
-    ensures { OnOk result (map part_view out.new.items ≡ map part_view out.old.items ++ said.scope (map said.binding_of (map var_view vars.now)) (said.parts_of (said.formula_parts symbols.now (formula_view inner.now))) ∷ []) }
+    ensures { OnOk result (map part_view out.new.items ≡ map part_view out.old.items ++ said.scope
+        (map said.binding_of (map var_view vars.now)) (said.parts_of
+        (said.formula_parts symbols.now (formula_view inner.now))) ∷ []) }
 {
     let bindings = bindings(alloc, vars)?;
     let mut parts = Vec::new(alloc);
@@ -106,7 +109,8 @@ fn formulas(
     named: &[NamedFormula],
     out: &mut Vec<Part>,
 ) -> Result<(), Memory>
-    ensures { OnOk result (map part_view out.new.items ≡ map part_view out.old.items ++ said.formulas_parts symbols.now (tree.formulas_of (map formula_view named.now))) }
+    ensures { OnOk result (map part_view out.new.items ≡ map part_view out.old.items ++ said.formulas_parts symbols.now
+        (tree.formulas_of (map formula_view named.now))) }
 {
     for operand in named {
         formula(alloc, symbols, operand, out)?;
@@ -122,7 +126,8 @@ pub fn term(
     named: &NamedTerm,
     out: &mut Vec<Part>,
 ) -> Result<(), Memory>
-    ensures { OnOk result (map part_view out.new.items ≡ map part_view out.old.items ++ said.term_parts symbols.now (term_view named.now)) }
+    ensures { OnOk result (map part_view out.new.items ≡ map part_view out.old.items ++ said.term_parts symbols.now
+        (term_view named.now)) }
 {
     match &named.node {
         NamedNode::Var(_) => Ok(()),
@@ -161,7 +166,8 @@ fn arguments(
     args: &[NamedTerm],
     out: &mut Vec<Part>,
 ) -> Result<(), Memory>
-    ensures { OnOk result (map part_view out.new.items ≡ map part_view out.old.items ++ said.arguments_parts symbols.now of_function types.now (tree.terms_of (map term_view args.now))) }
+    ensures { OnOk result (map part_view out.new.items ≡ map part_view out.old.items ++ said.arguments_parts symbols.now
+        of_function types.now (tree.terms_of (map term_view args.now))) }
 {
     let (_, mut types) = types.split_at(0);
     for arg in args {
@@ -179,7 +185,8 @@ fn factors(
     operands: &[NamedTerm],
     out: &mut Vec<Part>,
 ) -> Result<(), Memory>
-    ensures { OnOk result (map part_view out.new.items ≡ map part_view out.old.items ++ said.factors_parts symbols.now (tree.terms_of (map term_view operands.now))) }
+    ensures { OnOk result (map part_view out.new.items ≡ map part_view out.old.items ++ said.factors_parts symbols.now
+        (tree.terms_of (map term_view operands.now))) }
 {
     for operand in operands {
         demand_number(symbols, operand, out)?;
@@ -195,7 +202,8 @@ fn summands(
     operands: &[NamedSigned],
     out: &mut Vec<Part>,
 ) -> Result<(), Memory>
-    ensures { OnOk result (map part_view out.new.items ≡ map part_view out.old.items ++ said.summands_parts symbols.now (tree.summands_of (map signed_view operands.now))) }
+    ensures { OnOk result (map part_view out.new.items ≡ map part_view out.old.items ++ said.summands_parts symbols.now
+        (tree.summands_of (map signed_view operands.now))) }
 {
     for operand in operands {
         demand_number(symbols, &operand.term, out)?;

@@ -5,7 +5,8 @@ ghost use Rattle.reading_stages.specs.TypesStage as stage;
 ghost use Rattle.reading_stages.specs.TypesStage.{type_noted};
 ghost use Rattle.reading_stages.specs.Typing as typing;
 ghost use Rattle.type_derivation.specs.ListedTrees.{types_among, types_at};
-ghost use Rattle.type_derivation.specs.PartViews.{binding_view, demand_view, finding_view, part_view, parts_view, type_view};
+ghost use Rattle.type_derivation.specs.PartViews.{binding_view, demand_view, finding_view, part_view, parts_view};
+ghost use Rattle.type_derivation.specs.PartViews.{type_view};
 
 use crate::demands::{Binding, Demand, Finding, Part, TermType};
 use crate::findings::{type_found, type_in};
@@ -77,7 +78,8 @@ fn place_of(demand: Demand) -> usize
 }
 
 fn note_demand(types: &[TypeDecl], scope: &[Option<u32>], demand: Demand, earliest: &mut Earliest)
-    ensures { earliest.new.first ≡ type_noted types.now earliest.old.first (stage.demanded scope.now (demand_view demand)) }
+    ensures { earliest.new.first ≡ type_noted types.now earliest.old.first
+        (stage.demanded scope.now (demand_view demand)) }
 {
     let unmet = is_unmet(types, scope, demand);
     earliest.note_if(unmet, K::TypeClash, place_of(demand));
@@ -112,8 +114,10 @@ fn enter(
     earliest: &mut Earliest,
 ) -> Result<(), Memory>
     ensures scope { OnOk result (scope.new.items ≡ typing.within scope.old.items (map binding_view bindings.now)) }
-    ensures listed { OnOk result (listed.new.items ≡ listed.old.items ++ map (λ b. chosen b.finding) (map binding_view bindings.now)) }
-    ensures noted { OnOk result (earliest.new.first ≡ fold (type_noted types.now) earliest.old.first (map stage.binding (map binding_view bindings.now))) }
+    ensures listed { OnOk result (listed.new.items ≡ listed.old.items ++ map (λ b. chosen b.finding)
+        (map binding_view bindings.now)) }
+    ensures noted { OnOk result (earliest.new.first ≡ fold (type_noted types.now) earliest.old.first
+        (map stage.binding (map binding_view bindings.now))) }
 {
     for binding in bindings {
         note_binding(types, *binding, earliest);
@@ -133,7 +137,8 @@ fn note_part(
 ) -> Result<(), Memory>
     ensures scope { OnOk result (scope.new.items ≡ scope.old.items) }
     ensures listed { OnOk result (listed.new.items ≡ listed.old.items ++ types_at (part_view part.now)) }
-    ensures noted { OnOk result (earliest.new.first ≡ fold (type_noted types.now) earliest.old.first (stage.uses_at scope.old.items (part_view part.now))) }
+    ensures noted { OnOk result (earliest.new.first ≡ fold (type_noted types.now) earliest.old.first
+        (stage.uses_at scope.old.items (part_view part.now))) }
 {
     match part {
         Part::Demand(demand) => {
@@ -161,7 +166,8 @@ pub fn note_parts(
 ) -> Result<(), Memory>
     ensures scope { OnOk result (scope.new.items ≡ scope.old.items) }
     ensures listed { OnOk result (listed.new.items ≡ listed.old.items ++ types_among (parts_view parts.now)) }
-    ensures noted { OnOk result (earliest.new.first ≡ fold (type_noted types.now) earliest.old.first (stage.uses_among scope.old.items (parts_view parts.now))) }
+    ensures noted { OnOk result (earliest.new.first ≡ fold (type_noted types.now) earliest.old.first
+        (stage.uses_among scope.old.items (parts_view parts.now))) }
 {
     for part in parts {
         note_part(types, scope, part, listed, earliest)?;

@@ -3,7 +3,8 @@ ghost use Rattle.std.specs.Prelude.{◌≡◌, ◌++◌, pos, map, IfOk, OnOk};
 ghost use Rattle.kb_logic.specs.Trees as tree;
 ghost use Rattle.kb_logic.specs.Views as view;
 ghost use Rattle.reading_stages.specs.NamedTrees as named_tree;
-ghost use Rattle.reading_stages.specs.TermPlaces.{each_begins, formulas_begin, summands_begin, term_begins, terms_begin};
+ghost use Rattle.reading_stages.specs.TermPlaces.{each_begins, formulas_begin, summands_begin, term_begins};
+ghost use Rattle.reading_stages.specs.TermPlaces.{terms_begin};
 ghost use Rattle.reading_stages.specs.TypedTrees as typed;
 ghost use Rattle.reading_stages.specs.NamedViews.{formula_view, signed_view, term_view, var_view};
 ghost use Rattle.type_derivation.specs.ListedTrees as listed;
@@ -114,8 +115,10 @@ fn quantified(
     places: &mut Vec<usize>,
 ) -> Result<(Vec<Bound>, Box<Formula>), Memory>
     ensures bounds { IfOk result (λ q. q.0.items ≡ listed.listed_vars types.old (map var_view vars.now)) }
-    ensures tree { IfOk result (λ q. view.formula_view q.1.value ≡ listed.listed_formula (listed.left_vars types.old (map var_view vars.now)) (formula_view inner.now)) }
-    ensures types { OnOk result (types.new ≡ listed.left_formula (listed.left_vars types.old (map var_view vars.now)) (formula_view inner.now)) }
+    ensures tree { IfOk result (λ q. view.formula_view q.1.value ≡ listed.listed_formula
+        (listed.left_vars types.old (map var_view vars.now)) (formula_view inner.now)) }
+    ensures types { OnOk result (types.new ≡ listed.left_formula (listed.left_vars types.old (map var_view vars.now))
+        (formula_view inner.now)) }
     ensures places { OnOk result (places.new.items ≡ places.old.items ++ terms_begin (formula_view inner.now)) }
 {
     let bounds = bound_vars(alloc, types, vars)?;
@@ -130,9 +133,12 @@ fn formulas(
     named: &[NamedFormula],
     places: &mut Vec<usize>,
 ) -> Result<Vec<Formula>, Memory>
-    ensures trees { IfOk result (λ fs. tree.formulas_of (map view.formula_view fs.items) ≡ listed.listed_formulas types.old (named_tree.formulas_of (map formula_view named.now))) }
-    ensures types { OnOk result (types.new ≡ listed.left_formulas types.old (named_tree.formulas_of (map formula_view named.now))) }
-    ensures places { OnOk result (places.new.items ≡ places.old.items ++ formulas_begin (named_tree.formulas_of (map formula_view named.now))) }
+    ensures trees { IfOk result (λ fs. tree.formulas_of (map view.formula_view fs.items)
+        ≡ listed.listed_formulas types.old (named_tree.formulas_of (map formula_view named.now))) }
+    ensures types { OnOk result (types.new ≡ listed.left_formulas types.old
+        (named_tree.formulas_of (map formula_view named.now))) }
+    ensures places { OnOk result (places.new.items ≡ places.old.items ++ formulas_begin
+        (named_tree.formulas_of (map formula_view named.now))) }
 {
     let mut operands = Vec::new(alloc);
     for operand in named {
@@ -182,9 +188,12 @@ fn terms(
     named: &[NamedTerm],
     places: &mut Vec<usize>,
 ) -> Result<Vec<Term>, Memory>
-    ensures trees { IfOk result (λ ts. tree.terms_of (map view.term_view ts.items) ≡ listed.listed_terms types.old (named_tree.terms_of (map term_view named.now))) }
-    ensures types { OnOk result (types.new ≡ listed.left_terms types.old (named_tree.terms_of (map term_view named.now))) }
-    ensures places { OnOk result (places.new.items ≡ places.old.items ++ each_begins (named_tree.terms_of (map term_view named.now))) }
+    ensures trees { IfOk result (λ ts. tree.terms_of (map view.term_view ts.items) ≡ listed.listed_terms types.old
+        (named_tree.terms_of (map term_view named.now))) }
+    ensures types { OnOk result (types.new ≡ listed.left_terms types.old
+        (named_tree.terms_of (map term_view named.now))) }
+    ensures places { OnOk result (places.new.items ≡ places.old.items ++ each_begins
+        (named_tree.terms_of (map term_view named.now))) }
 {
     let mut operands = Vec::new(alloc);
     for operand in named {
@@ -200,9 +209,12 @@ fn summands(
     named: &[NamedSigned],
     places: &mut Vec<usize>,
 ) -> Result<Vec<Signed>, Memory>
-    ensures trees { IfOk result (λ ss. tree.summands_of (map view.signed_view ss.items) ≡ listed.listed_summands types.old (named_tree.summands_of (map signed_view named.now))) }
-    ensures types { OnOk result (types.new ≡ listed.left_summands types.old (named_tree.summands_of (map signed_view named.now))) }
-    ensures places { OnOk result (places.new.items ≡ places.old.items ++ summands_begin (named_tree.summands_of (map signed_view named.now))) }
+    ensures trees { IfOk result (λ ss. tree.summands_of (map view.signed_view ss.items)
+        ≡ listed.listed_summands types.old (named_tree.summands_of (map signed_view named.now))) }
+    ensures types { OnOk result (types.new ≡ listed.left_summands types.old
+        (named_tree.summands_of (map signed_view named.now))) }
+    ensures places { OnOk result (places.new.items ≡ places.old.items ++ summands_begin
+        (named_tree.summands_of (map signed_view named.now))) }
 {
     let mut operands = Vec::new(alloc);
     for operand in named {

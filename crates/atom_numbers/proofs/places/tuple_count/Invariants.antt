@@ -3,4 +3,5 @@ use Rattle.kb_logic.specs.Structures.{tuples_of}
 use Rattle.atom_numbers.proofs.places.tuple_count.Given as goal
 
 abbrev pub invariant-loop-ty : goal.invariant-loop-ty
-invariant-loop-ty l = l.count * length (tuples_of l.domains (drop l.ty-index l.types)) ≡ length (tuples_of l.domains l.types)
+invariant-loop-ty l = l.count * length (tuples_of l.domains (drop l.ty-index l.types))
+    ≡ length (tuples_of l.domains l.types)

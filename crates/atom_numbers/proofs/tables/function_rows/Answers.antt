@@ -1,4 +1,5 @@
-use Rattle.std.proofs.Common.{◌≡◌, ℕ, ◌+◌, ◌*◌, ◌++◌, ◌∷◌, [], List, map, take, length, get_or, sym, ap, ◌∙◌, subst, arith}
+use Rattle.std.proofs.Common.{◌≡◌, ℕ, ◌+◌, ◌*◌, ◌++◌, ◌∷◌, [], List, map, take, length, get_or, sym, ap, ◌∙◌, subst}
+use Rattle.std.proofs.Common.{arith}
 use Rattle.lit_core.specs.Literals.{valuation}
 use Rattle.kb_logic.specs.declared.elements.Elem.{Elem}
 use Rattle.atom_numbers.proofs.TableFacts.{one-function-row}
@@ -6,4 +7,7 @@ use Rattle.atom_numbers.proofs.tables.function_rows.Goals as goal
 
 pub loop-tuple-preserved : goal.loop-tuple-preserved
 loop-tuple-preserved c =
-    one-function-row (valuation c.args.values.now) c.args.first c.loop-tuple.var c.loop-tuple.tuple-index c.args.domain.now c.args.tuples.now c.tuple-item.result c.loop-tuple.rows.items c.push_valued.new.rows.items c.loop-tuple-test.true c.tuple-item.is c.loop-tuple.invariant.0 c.loop-tuple.invariant.1 c.in_ok-push_valued.ensures
+    one-function-row (valuation c.args.values.now) c.args.first c.loop-tuple.var c.loop-tuple.tuple-index
+    c.args.domain.now c.args.tuples.now c.tuple-item.result c.loop-tuple.rows.items c.push_valued.new.rows.items
+    c.loop-tuple-test.true c.tuple-item.is c.loop-tuple.invariant.0 c.loop-tuple.invariant.1
+    c.in_ok-push_valued.ensures

@@ -9,8 +9,11 @@ use Rattle.atom_numbers.proofs.tables.predicate_rows.Goals as goal
 pub loop-row-preserved : goal.loop-row-preserved
 loop-row-preserved c =
     let at : c.loop-row.var ≡ c.args.first + length c.loop-row.yielded = c.loop-row.invariant.1 in
-    let more : length (c.loop-row.yielded ++ c.in-Some.row ∷ []) ≡ length c.loop-row.yielded + 1 = length_push c.loop-row.yielded c.in-Some.row in (
-      c.in_ok-push_if.ensures ∙ ap (λ (rs : List (List Elem)). rs ++ one_if c.is_true.result c.in-Some.row) c.loop-row.invariant.0
-          ∙ sym (true-rows-push (valuation c.args.values.now) c.args.first c.loop-row.var c.loop-row.yielded c.in-Some.row c.is_true.result at (sym c.is_true.ensures)),
+    let more : length (c.loop-row.yielded ++ c.in-Some.row ∷ []) ≡ length c.loop-row.yielded + 1 =
+    length_push c.loop-row.yielded c.in-Some.row in (
+      c.in_ok-push_if.ensures ∙ ap (λ (rs : List (List Elem)). rs ++ one_if c.is_true.result c.in-Some.row)
+          c.loop-row.invariant.0
+          ∙ sym (true-rows-push (valuation c.args.values.now) c.args.first c.loop-row.var c.loop-row.yielded
+          c.in-Some.row c.is_true.result at (sym c.is_true.ensures)),
       omega (arith, at, more),
     )

@@ -5,8 +5,10 @@ use Rattle.block_choice.proofs.first_places.is_again.Goals as goal
 
 pub returns-in-Some : goal.returns-in-Some
 returns-in-Some c names are =
-    ap (λ o. is_before o c.args.name.now.place) (rw c.as_slice.ensures at c.in-Some.ensures.value) ∙ are (name_view c.args.name.now)
+    ap (λ o. is_before o c.args.name.now.place) (rw c.as_slice.ensures at c.in-Some.ensures.value)
+    ∙ are (name_view c.args.name.now)
 
 pub returns-in-None : goal.returns-in-None
 returns-in-None c names are =
-    ap (λ o. is_before o c.args.name.now.place) (rw c.as_slice.ensures at c.in-None.ensures.value) ∙ are (name_view c.args.name.now)
+    ap (λ o. is_before o c.args.name.now.place) (rw c.as_slice.ensures at c.in-None.ensures.value)
+    ∙ are (name_view c.args.name.now)

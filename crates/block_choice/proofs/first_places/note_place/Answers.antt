@@ -6,7 +6,8 @@ use Rattle.block_choice.proofs.first_places.note_place.Goals as goal
 
 pub returns : goal.returns
 returns c names are =
-    place_noted c.args.first.now.places.entries _ c.as_slice-text.result c.lesser-least.result names (name_view c.args.name.now)
+    place_noted c.args.first.now.places.entries _ c.as_slice-text.result c.lesser-least.result names
+    (name_view c.args.name.now)
     c.in_ok-insert.ensures.entries c.as_slice-text.ensures
     (λ later. c.lesser-least.ensures later
     ∙ ap (λ o. is_before o later || nat_lt c.args.name.now.place later) (c.copied.ensures ∙ c.get.ensures.value)) are

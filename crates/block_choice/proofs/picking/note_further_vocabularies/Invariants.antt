@@ -5,5 +5,6 @@ use Rattle.block_choice.proofs.picking.note_further_vocabularies.Given as goal
 
 abbrev pub invariant-loop-i : goal.invariant-loop-i
 invariant-loop-i l =
-    fold block_noted l.earliest.first (one_of_each l.i (map (λ v. v.place) (map vocabulary_in (drop l.i l.vocabularies))))
+    fold block_noted l.earliest.first (one_of_each l.i (map (λ v. v.place)
+    (map vocabulary_in (drop l.i l.vocabularies))))
     ≡ fold block_noted l.initial.earliest.first (one_of_each 0 (map (λ v. v.place) (map vocabulary_in l.vocabularies)))

@@ -6,4 +6,5 @@ use Rattle.block_choice.proofs.picking.note_headers.Given as goal
 
 abbrev pub invariant-loop-block : goal.invariant-loop-block
 invariant-loop-block g l =
-    l.earliest.first ≡ fold block_noted l.initial.earliest.first (flat_map (uses_of_header (file_in l.raw)) (map g.B.Headed.header_of (take l.block-index l.blocks)))
+    l.earliest.first ≡ fold block_noted l.initial.earliest.first (flat_map (uses_of_header (file_in l.raw))
+    (map g.B.Headed.header_of (take l.block-index l.blocks)))

@@ -7,14 +7,18 @@ use Rattle.block_reader.proofs.structure.arrow.Goals as goal
 pub returns-in_err-row_ends-clause-reads : goal.returns-in_err-row_ends-clause-reads
 returns-in_err-row_ends-clause-reads c =
     let p = err_from_is_err_and c.from_residual.result c.from_residual.ensures.1 in
-    rw (p.1, p.2) (arrow_none (toks c.args.items.now) c.args.end c.in_err-row_ends.field-0.0 c.in_default.ensures.none c.in_err-row_ends.ensures)
+    rw (p.1, p.2) (arrow_none (toks c.args.items.now) c.args.end c.in_err-row_ends.field-0.0 c.in_default.ensures.none
+    c.in_err-row_ends.ensures)
 
 pub returns-in_err-element-clause-reads : goal.returns-in_err-element-clause-reads
 returns-in_err-element-clause-reads c =
     let p = err_from_is_err_and c.from_residual-in_err-element.result c.from_residual-in_err-element.ensures.1 in
-    rw (p.1, p.2) (in_arrow c.in-Some.place (toks c.args.items.now) (toks c.in-Some.behind.now) c.args.end c.in_err-element.field-0.0 c.in-Some.ensures.some c.in_err-element.ensures.reads)
+    rw (p.1, p.2) (in_arrow c.in-Some.place (toks c.args.items.now) (toks c.in-Some.behind.now) c.args.end
+    c.in_err-element.field-0.0 c.in-Some.ensures.some c.in_err-element.ensures.reads)
 
 pub returns-in_err-row_ends-2-clause-reads : goal.returns-in_err-row_ends-2-clause-reads
 returns-in_err-row_ends-2-clause-reads c =
     let p = err_from_is_err_and c.from_residual-in_err-row_ends-2.result c.from_residual-in_err-row_ends-2.ensures.1 in
-    rw (p.1, p.2) (behind_arrow c.in-Some.place (element_view c.in_ok-element.element) (toks c.args.items.now) (toks c.in-Some.behind.now) (toks c.in_ok-element.last.now) c.args.end c.in_err-row_ends-2.field-0.0 c.in-Some.ensures.some c.in_ok-element.ensures.reads.0 c.in_err-row_ends-2.ensures)
+    rw (p.1, p.2) (behind_arrow c.in-Some.place (element_view c.in_ok-element.element) (toks c.args.items.now)
+    (toks c.in-Some.behind.now) (toks c.in_ok-element.last.now) c.args.end c.in_err-row_ends-2.field-0.0
+    c.in-Some.ensures.some c.in_ok-element.ensures.reads.0 c.in_err-row_ends-2.ensures)

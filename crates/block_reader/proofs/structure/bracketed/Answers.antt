@@ -7,14 +7,20 @@ use Rattle.block_reader.proofs.structure.bracketed.Goals as goal
 pub returns-in_err-found-clause-reads : goal.returns-in_err-found-clause-reads
 returns-in_err-found-clause-reads c =
     let p = err_from_is_err_and c.from_residual.result c.from_residual.ensures.1 in
-    rw (p.1, p.2) (bracketed_items c.args.begin (toks c.args.items.now) c.args.end c.in_err-found.field-0.0 c.in_err-found.ensures.reads)
+    rw (p.1, p.2) (bracketed_items c.args.begin (toks c.args.items.now) c.args.end c.in_err-found.field-0.0
+    c.in_err-found.ensures.reads)
 
 pub returns-in_err-close-clause-reads : goal.returns-in_err-close-clause-reads
 returns-in_err-close-clause-reads c =
     let p = err_from_is_err_and c.from_residual-in_err-close.result c.from_residual-in_err-close.ensures.1 in
-    rw (p.1, p.2) (bracketed_close c.args.begin (items_view c.in_ok-found.found) (toks c.args.items.now) (toks c.in_ok-found.rest.now) c.args.end c.in_err-close.field-0.0 c.in_ok-found.ensures.reads.0 c.in_ok-found.ensures.reads.2 c.in_err-close.ensures.reads)
+    rw (p.1, p.2) (bracketed_close c.args.begin (items_view c.in_ok-found.found) (toks c.args.items.now)
+    (toks c.in_ok-found.rest.now) c.args.end c.in_err-close.field-0.0 c.in_ok-found.ensures.reads.0
+    c.in_ok-found.ensures.reads.2 c.in_err-close.ensures.reads)
 
 pub returns-in_err-to-clause-reads : goal.returns-in_err-to-clause-reads
 returns-in_err-to-clause-reads c =
     let p = err_from_is_err_and c.from_residual-in_err-to.result c.from_residual-in_err-to.ensures.1 in
-    rw (p.1, p.2) (bracketed_arrow c.args.begin (items_view c.in_ok-found.found) c.in_ok-close.close (toks c.args.items.now) (toks c.in_ok-found.rest.now) (toks c.in_ok-close.rest.now) c.args.end c.in_err-to.field-0.0 c.in_ok-found.ensures.reads.0 c.in_ok-found.ensures.reads.2 c.in_ok-close.ensures.reads c.in_err-to.ensures.reads)
+    rw (p.1, p.2) (bracketed_arrow c.args.begin (items_view c.in_ok-found.found) c.in_ok-close.close
+    (toks c.args.items.now) (toks c.in_ok-found.rest.now) (toks c.in_ok-close.rest.now) c.args.end
+    c.in_err-to.field-0.0 c.in_ok-found.ensures.reads.0 c.in_ok-found.ensures.reads.2 c.in_ok-close.ensures.reads
+    c.in_err-to.ensures.reads)

@@ -6,4 +6,5 @@ use Rattle.block_reader.proofs.structure.equal.Goals as goal
 pub returns-in_err-place-clause-reads : goal.returns-in_err-place-clause-reads
 returns-in_err-place-clause-reads c =
     let p = err_from_is_err_and c.from_residual.result c.from_residual.ensures.1 in
-    rw (p.1, p.2) (no_equal (toks c.args.items.now) c.args.end c.in_err-place.field-0.0 c.in_default.ensures.none c.in_err-place.ensures.reads)
+    rw (p.1, p.2) (no_equal (toks c.args.items.now) c.args.end c.in_err-place.field-0.0 c.in_default.ensures.none
+    c.in_err-place.ensures.reads)

@@ -12,4 +12,6 @@ returns-in_err-first-clause-reads c =
 pub returns-in_err-more-clause-reads : goal.returns-in_err-more-clause-reads
 returns-in_err-more-clause-reads c =
     let p = err_from_is_err_and c.from_residual-in_err-more.result c.from_residual-in_err-more.ensures.1 in
-    rw (p.1, p.2) (items_more (item_view c.in_ok-first.first) (toks c.args.items.now) (toks c.in_ok-first.rest.now) c.args.end c.in_err-more.field-0.0 c.in_ok-first.ensures.reads.0 c.in_ok-first.ensures.reads.2 c.in_err-more.ensures.reads)
+    rw (p.1, p.2) (items_more (item_view c.in_ok-first.first) (toks c.args.items.now) (toks c.in_ok-first.rest.now)
+    c.args.end c.in_err-more.field-0.0 c.in_ok-first.ensures.reads.0 c.in_ok-first.ensures.reads.2
+    c.in_err-more.ensures.reads)

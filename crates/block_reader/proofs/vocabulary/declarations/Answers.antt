@@ -11,13 +11,16 @@ pub returns-in_err-next-clause-reads : goal.returns-in_err-next-clause-reads
 returns-in_err-next-clause-reads c =
     let p = err_from_is_err_and c.from_residual.result c.from_residual.ensures.1 in
     let l = c.declarations.invariant in
-    rw (p.1, p.2) (in_declarations _ (toks c.args.items.now) (toks c.declarations.rest.now) c.args.end c.in_err-next.field-0.0 l.so_far l.started (c.closes.ensures.no c.declarations-test.true) c.in_err-next.ensures.reads)
+    rw (p.1, p.2) (in_declarations _ (toks c.args.items.now) (toks c.declarations.rest.now) c.args.end
+    c.in_err-next.field-0.0 l.so_far l.started (c.closes.ensures.no c.declarations-test.true)
+    c.in_err-next.ensures.reads)
 
 pub declarations-preserved : goal.declarations-preserved
 declarations-preserved c =
     let l = c.declarations.invariant in
     record {
       shorter = omega (arith, c.in_ok-next.ensures.shorter, l.shorter);
-      so_far = rw (c.in_ok-push.ensures.ok, map_push) (each_step declaration_format _ _ _ _ _ l.so_far c.in_ok-next.ensures.reads.0);
+      so_far = rw (c.in_ok-push.ensures.ok, map_push) (each_step declaration_format _ _ _ _ _ l.so_far
+          c.in_ok-next.ensures.reads.0);
       started = inr c.in_ok-next.ensures.reads.2;
     }

@@ -21,7 +21,8 @@ use Rattle.certain_truth.proofs.certainty.+certain.Given as goal
 abbrev pub invariant-sum-loop-i : goal.invariant-sum-loop-i
 invariant-sum-loop-i l =
     let left = summands_of (map signed_view (drop l.i l.parts)) in
-    (option_map (sum_with l.total) (known_sum (known_in l.s) left (env_view l.env)) ≡ known_sum (known_in l.s) (summands_of (map signed_view l.parts)) (env_view l.env))
+    (option_map (sum_with l.total) (known_sum (known_in l.s) left (env_view l.env)) ≡ known_sum (known_in l.s)
+    (summands_of (map signed_view l.parts)) (env_view l.env))
     × OperandsFit (known_in l.s) left (env_view l.env)
     × IfSome l.total (λ z. neg_ℤ (pos (2 ^ 63 * l.i)) ≤ℤ z)
     × IfSome l.total (λ z. z ≤ℤ pos (2 ^ 63 * l.i))
@@ -29,38 +30,45 @@ invariant-sum-loop-i l =
 abbrev pub invariant-product-loop-factor : goal.invariant-product-loop-factor
 invariant-product-loop-factor l =
     let left = terms_of (map term_view (drop l.factor-index l.factors)) in
-    (option_map (product_with l.total) (known_values (known_in l.s) left (env_view l.env)) ≡ option_map (product_from (pos 1)) (known_values (known_in l.s) (terms_of (map term_view l.factors)) (env_view l.env)))
+    (option_map (product_with l.total) (known_values (known_in l.s) left (env_view l.env)) ≡ option_map
+    (product_from (pos 1)) (known_values (known_in l.s) (terms_of (map term_view l.factors)) (env_view l.env)))
     × IfSome l.total (λ z. ProductFits z (known_front (known_in l.s) left (env_view l.env)))
     × ValuesFit (known_in l.s) left (env_view l.env)
 
 abbrev pub invariant-place-loop-arg : goal.invariant-place-loop-arg
 invariant-place-loop-arg l =
     let left = terms_of (map term_view (drop l.arg-index l.args)) in
-    (option_map (fold (stepped l.s) (place_view l.place)) (known_values (known_in l.s) left (env_view l.env)) ≡ option_map (spot_of l.s l.symbol) (known_values (known_in l.s) (terms_of (map term_view l.args)) (env_view l.env)))
+    (option_map (fold (stepped l.s) (place_view l.place)) (known_values (known_in l.s) left (env_view l.env))
+    ≡ option_map (spot_of l.s l.symbol) (known_values (known_in l.s) (terms_of (map term_view l.args))
+    (env_view l.env)))
     × ValuesFit (known_in l.s) left (env_view l.env)
 
 abbrev pub invariant-parts-loop-formula : goal.invariant-parts-loop-formula
 invariant-parts-loop-formula l =
     let left = formulas_of (map formula_view (drop l.formula-index l.formulas)) in
-    (joined l.all l.so_far (parts_of l.all (known_in l.s) left (env_view l.env)) ≡ parts_of l.all (known_in l.s) (formulas_of (map formula_view l.formulas)) (env_view l.env))
+    (joined l.all l.so_far (parts_of l.all (known_in l.s) left (env_view l.env)) ≡ parts_of l.all (known_in l.s)
+    (formulas_of (map formula_view l.formulas)) (env_view l.env))
     × PartsFit (known_in l.s) left (env_view l.env)
 
 abbrev pub invariant-quantified-loop-number : goal.invariant-quantified-loop-number
 invariant-quantified-loop-number l =
-    let F = after_front (λ t a. joined l.all t (certain_truth (known_in l.s) (formula_view l.formula) (env_view l.env ++ a))) (choices l.s.domains.now l.others) in
+    let F = after_front (λ t a. joined l.all t (certain_truth (known_in l.s) (formula_view l.formula)
+    (env_view l.env ++ a))) (choices l.s.domains.now l.others) in
     let cs = choices l.s.domains.now l.block.bounds.now in
     fold F l.so_far (drop l.number cs) ≡ fold F l.fn.before cs
 
 abbrev pub invariant-count-loop-number : goal.invariant-count-loop-number
 invariant-count-loop-number l =
-    let F = after_front (λ n a. tallied n (certain_truth (known_in l.s) (formula_view l.formula) (env_view l.env ++ a))) (choices l.s.domains.now l.others) in
+    let F = after_front (λ n a. tallied n (certain_truth (known_in l.s) (formula_view l.formula) (env_view l.env ++ a)))
+    (choices l.s.domains.now l.others) in
     let cs = choices l.s.domains.now l.block.bounds.now in
     fold F l.total (drop l.number cs) ≡ fold F l.fn.before cs
 
 abbrev pub invariant-aggregate-loop-number : goal.invariant-aggregate-loop-number
 invariant-aggregate-loop-number l =
     let P = λ (a : List Elem). certain_truth (known_in l.s) (formula_view l.formula) (env_view l.env ++ a) in
-    let V = λ (a : List Elem). option_map as_number (known_value (known_in l.s) (term_view l.weight) (env_view l.env ++ a)) in
+    let V = λ (a : List Elem). option_map as_number (known_value (known_in l.s) (term_view l.weight)
+    (env_view l.env ++ a)) in
     let F = after_front (λ d a. gathered l.kind d (P a) (V a)) (choices l.s.domains.now l.others) in
     let cs = choices l.s.domains.now l.block.bounds.now in
     (fold F (total_of l.total) (drop l.number cs) ≡ fold F (total_of l.fn.before) cs)

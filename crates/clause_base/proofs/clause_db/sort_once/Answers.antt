@@ -26,7 +26,8 @@ same-is x y e =
     signs false false h = refl
 
 same-itself : (x : Lit) → same x x ≡ true
-same-itself x = and_from (eqb x.var.0 x.var.0) (beq x.positive x.positive) (eq-eqb x.var.0 x.var.0 refl) (signs x.positive)
+same-itself x = and_from (eqb x.var.0 x.var.0) (beq x.positive x.positive) (eq-eqb x.var.0 x.var.0 refl)
+    (signs x.positive)
   where
     signs : (p : Bool) → beq p p ≡ true
     signs true = refl
@@ -36,7 +37,8 @@ pub returns-clause-once : goal.returns-clause-once
 returns-clause-once c =
     let a = c.args.buffer.now in
     let n : List Lit = c.sort_unstable.new.self in
-    let moved : IsPermutation a.items n = subst (λ (x : List Lit). IsPermutation x n) c.deref_mut.ensures.value c.sort_unstable.ensures.permutation in
+    let moved : IsPermutation a.items n = subst (λ (x : List Lit). IsPermutation x n) c.deref_mut.ensures.value
+    c.sort_unstable.ensures.permutation in
     let each = each-once-of same same-is same-itself a.items n moved c.sort_unstable.ensures.sorted in
     let size : length n ≡ length a.items = c.sort_unstable.ensures.len ∙ ap length c.deref_mut.ensures.value in
     let refilled : refill (length a.items) a.items n ≡ n = items-with_items a n size in

@@ -12,4 +12,5 @@ returns-clause-links c =
 pub returns-clause-labels : goal.returns-clause-labels
 returns-clause-labels c =
     let x : Node = record { next = c.args.next; label = c.index.result.now.label } in
-    map-set_same (λ (n : Node). n.label) c.args.nodes.now.items c.args.node x c.index.result.now (ap (λ (n : Node). n.label) c.index.ensures)
+    map-set_same (λ (n : Node). n.label) c.args.nodes.now.items c.args.node x c.index.result.now
+    (ap (λ (n : Node). n.label) c.index.ensures)

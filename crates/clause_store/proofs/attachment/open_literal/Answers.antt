@@ -8,9 +8,12 @@ use Rattle.clause_store.proofs.attachment.open_literal.Goals as goal
 pub loop-lit-preserved : goal.loop-lit-preserved
 loop-lit-preserved c =
     let d : Lit = record { var = record { 0 = 0 }; positive = false } in
-    All-more (λ m. value_in c.args.assignment.now m ≡ Some false) c.args.lits.now c.loop-lit.lit-index d c.loop-lit-test.true c.loop-lit.invariant (sym c.value.ensures ∙ c.in-Some-false.is ∙ ap Some c.in-Some-false.field-0-test)
+    All-more (λ m. value_in c.args.assignment.now m ≡ Some false) c.args.lits.now c.loop-lit.lit-index d
+    c.loop-lit-test.true c.loop-lit.invariant (sym c.value.ensures ∙ c.in-Some-false.is
+    ∙ ap Some c.in-Some-false.field-0-test)
 
 pub returns : goal.returns
 returns c =
-    let h : All (λ m. value_in c.args.assignment.now m ≡ Some false) (take c.loop-lit.lit-index c.args.lits.now) = c.loop-lit.invariant in
+    let h : All (λ m. value_in c.args.assignment.now m ≡ Some false) (take c.loop-lit.lit-index c.args.lits.now) =
+    c.loop-lit.invariant in
     rw (take_all c.loop-lit.lit-index c.args.lits.now c.loop-lit-test.false) at h

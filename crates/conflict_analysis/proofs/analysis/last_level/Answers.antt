@@ -14,4 +14,12 @@ pub returns-in-Some : goal.returns-in-Some
 returns-in-Some c =
     let ks : List ℕ = c.args.places.now.keys in
     let p : ℕ = c.in-Some.place.now in
-    inr (p, c.step.result, number-at ks (length ks - 1) p c.in-Some.ensures.last, c.step.ensures.step, refl, λ k has. ge_from_not_lt p k (All-contains (λ (q : ℕ). is_lt (nat_cmp p q) ≡ false) ks k c.in-Some.ensures.all_up_to has))
+    inr (
+      p,
+      c.step.result,
+      number-at ks (length ks - 1) p c.in-Some.ensures.last,
+      c.step.ensures.step,
+      refl,
+      λ k has. ge_from_not_lt p k (All-contains (λ (q : ℕ). is_lt (nat_cmp p q) ≡ false) ks k
+          c.in-Some.ensures.all_up_to has),
+    )

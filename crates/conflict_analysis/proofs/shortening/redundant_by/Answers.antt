@@ -1,4 +1,5 @@
-use Rattle.std.proofs.Common.{◌≡◌, ◌⊎◌, ℕ, false, Some, List, [], ◌∷◌, ◌++◌, Contains, get_or, slice_get, take, ap, sym, ◌∙◌, subst, inl, inr, ⊎_elim, rules}
+use Rattle.std.proofs.Common.{◌≡◌, ◌⊎◌, ℕ, false, Some, List, [], ◌∷◌, ◌++◌, Contains, get_or, slice_get, take, ap, sym}
+use Rattle.std.proofs.Common.{◌∙◌, subst, inl, inr, ⊎_elim, rules}
 use Rattle.std.proofs.lemmas.List.{take_all, take_more}
 use Rattle.std.proofs.lemmas.List.Elements.{Contains-get_or, Contains-push_cases}
 use Rattle.lit_core.specs.declared.literals.Lit.{Lit}
@@ -7,14 +8,16 @@ use Rattle.clause_store.specs.StoreState.{StoreState}
 use Rattle.conflict_analysis.proofs.Places.{assigned-of, same-step}
 use Rattle.conflict_analysis.proofs.Shortened.{reason-others, reason-placed}
 use Rattle.conflict_analysis.proofs.shortening.redundant_by.Goals as goal
-use Rattle.conflict_analysis.proofs.shortening.redundant_by.Goals.{else-other-place-via-then-other-place+else-not-is_left, else-other-place-via-else-other-place}
+use Rattle.conflict_analysis.proofs.shortening.redundant_by.Goals.{else-other-place-via-then-other-place+else-not-is_left}
+use Rattle.conflict_analysis.proofs.shortening.redundant_by.Goals.{else-other-place-via-else-other-place}
 
 abbrev some_literal : Lit
 some_literal = record { var = record { 0 = 0 }; positive = false }
 
 pub lend-lits-requires : goal.lend-lits-requires
 lend-lits-requires c =
-    let r = c.requires.laws.reasons c.args.place c.step-step.result c.in_ok-reason.reason c.step-step.ensures.step c.in_ok-reason.was in
+    let r = c.requires.laws.reasons c.args.place c.step-step.result c.in_ok-reason.reason c.step-step.ensures.step
+    c.in_ok-reason.was in
     (r.0, r.1)
 
 pub place_of-other-requires-clause-assigned : goal.place_of-other-requires-clause-assigned
@@ -23,7 +26,9 @@ place_of-other-requires-clause-assigned c =
     let xs : List Lit = c.lend-lits.result.now in
     let i : ℕ = c.loop-lit.lit-index in
     let m : Lit = get_or xs i some_literal in
-    let w = reason-placed s c.requires.laws c.args.place c.in_ok-reason.reason c.step-step.result xs c.step-step.ensures.step c.in_ok-reason.was c.lend-lits.ensures.held m (Contains-get_or xs i some_literal c.loop-lit-test.true) in
+    let w = reason-placed s c.requires.laws c.args.place c.in_ok-reason.reason c.step-step.result xs
+    c.step-step.ensures.step c.in_ok-reason.was c.lend-lits.ensures.held m
+    (Contains-get_or xs i some_literal c.loop-lit-test.true) in
     assigned-of s.trail.values s.trail.steps c.requires.laws.trail.coherent m w.0 w.1 w.2 w.3
 
 pub loop-lit-preserved : goal.loop-lit-preserved
@@ -33,17 +38,22 @@ loop-lit-preserved c = λ t at m has.
     let i : ℕ = c.loop-lit.lit-index in
     let x : Lit = get_or xs i some_literal in
     let here : Contains xs x = Contains-get_or xs i some_literal c.loop-lit-test.true in
-    let one : c.step-step.result ≡ t = same-step s.trail.steps c.args.place c.step-step.result t c.step-step.ensures.step at in
+    let one : c.step-step.result ≡ t = same-step s.trail.steps c.args.place c.step-step.result t
+    c.step-step.ensures.step at in
     let is : t.reason ≡ Some c.in_ok-reason.reason = sym (ap (λ (u : Step). u.reason) one) ∙ c.in_ok-reason.was in
     let u = c.place_of-other.ensures.step in
-    let way : (c.place_of-other.result ≡ c.args.place) ⊎ Contains c.args.lower.now.keys c.place_of-other.result = elim c.else-other-place.branch [
+    let way : (c.place_of-other.result ≡ c.args.place) ⊎ Contains c.args.lower.now.keys c.place_of-other.result =
+    elim c.else-other-place.branch [
       | else-other-place-via-then-other-place+else-not-is_left w ↦ inr (search rules)
       | else-other-place-via-else-other-place w ↦ inl (search rules)
     ] in
     ⊎_elim
     (λ old. c.loop-lit.invariant t at m old)
-    (λ (new : x ≡ m). reason-others s c.requires.laws c.args.place c.in_ok-reason.reason c.place_of-other.result t u.0 xs c.args.lower.now.keys at is c.lend-lits.ensures.held m (subst (Contains xs) new here) u.1 (ap (λ v. v.0) u.2 ∙ ap (λ (l : Lit). l.var.0) new) way)
-    (Contains-push_cases (take i xs) x m (subst (λ (ls : List Lit). Contains ls m) (take_more xs i some_literal c.loop-lit-test.true) has))
+    (λ (new : x ≡ m). reason-others s c.requires.laws c.args.place c.in_ok-reason.reason c.place_of-other.result t u.0
+    xs c.args.lower.now.keys at is c.lend-lits.ensures.held m (subst (Contains xs) new here) u.1 (ap (λ v. v.0) u.2
+    ∙ ap (λ (l : Lit). l.var.0) new) way)
+    (Contains-push_cases (take i xs) x m (subst (λ (ls : List Lit). Contains ls m)
+    (take_more xs i some_literal c.loop-lit-test.true) has))
 
 pub returns : goal.returns
 returns c =
@@ -55,5 +65,6 @@ returns c =
       reason = c.in_ok-reason.was;
       clause = xs;
       held = c.lend-lits.ensures.held;
-      others = λ m has. c.loop-lit.invariant c.step-step.result c.step-step.ensures.step m (subst (λ (ls : List Lit). Contains ls m) (sym all) has);
+      others = λ m has. c.loop-lit.invariant c.step-step.result c.step-step.ensures.step m
+          (subst (λ (ls : List Lit). Contains ls m) (sym all) has);
     }

@@ -3,7 +3,8 @@ use Rattle.data_clashes.proofs.Shares.{shared, share_next, share_short, share_en
 use Rattle.data_clashes.proofs.clashes.all_share.Goals as goal
 
 pub returns-then-i-b : goal.returns-then-i-b
-returns-then-i-b c = share_short c.args.a.now c.args.b.now c.loop-i.i c.loop-i-test.true c.if-i-b.true ∙ c.loop-i.invariant
+returns-then-i-b c = share_short c.args.a.now c.args.b.now c.loop-i.i c.loop-i-test.true c.if-i-b.true
+    ∙ c.loop-i.invariant
 
 pub returns-then-not-do_share : goal.returns-then-not-do_share
 returns-then-not-do_share c =

@@ -6,4 +6,5 @@ use Rattle.data_notes.specs.Labels.{tuple_view}
 use Rattle.data_clashes.proofs.tables.labels_of.Given as goal
 
 abbrev pub invariant-loop-cell : goal.invariant-loop-cell
-invariant-loop-cell l = map cell_view l.cells ≡ map (λ (x : Elem). one x) (tuple_view l.labels.items) ++ map cell_view (drop l.cell-index l.cells)
+invariant-loop-cell l = map cell_view l.cells ≡ map (λ (x : Elem). one x) (tuple_view l.labels.items) ++ map cell_view
+    (drop l.cell-index l.cells)

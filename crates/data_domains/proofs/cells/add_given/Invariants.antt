@@ -7,5 +7,6 @@ use Rattle.data_entries.specs.SaidViews.{said_view}
 use Rattle.data_domains.proofs.cells.add_given.Given as goal
 
 abbrev pub invariant-loop-spot : goal.invariant-loop-spot
-invariant-loop-spot l = map cell_view l.cells.items ++ filter_map (λ (s : Spot). s.cell) (map spot_view (drop l.spot-index l.entry.spots.items))
+invariant-loop-spot l = map cell_view l.cells.items ++ filter_map (λ (s : Spot). s.cell)
+    (map spot_view (drop l.spot-index l.entry.spots.items))
     ≡ map cell_view l.fn.cells.items ++ cells_given (said_view l.entry)

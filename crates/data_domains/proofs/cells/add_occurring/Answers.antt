@@ -9,4 +9,5 @@ pub returns-then-not-has_position : goal.returns-then-not-has_position
 returns-then-not-has_position c =
     let e = c.args.entry.now in
     let none : c.has_position.result ≡ false = search rules in
-    nothing_occurs c.args.types.now c.args.ty (subject_view e.subject) (map row_view e.rows.items) (map cell_view c.args.cells.now.items) (sym c.has_position.ensures ∙ none)
+    nothing_occurs c.args.types.now c.args.ty (subject_view e.subject) (map row_view e.rows.items)
+    (map cell_view c.args.cells.now.items) (sym c.has_position.ensures ∙ none)

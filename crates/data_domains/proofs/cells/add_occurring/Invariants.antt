@@ -7,5 +7,7 @@ use Rattle.data_entries.specs.SaidViews.{said_view}
 use Rattle.data_domains.proofs.cells.add_occurring.Given as goal
 
 abbrev pub invariant-loop-spot : goal.invariant-loop-spot
-invariant-loop-spot l = map cell_view l.cells.items ++ filter_map (λ (s : Spot). s.cell) (filter (occurs_at l.types l.ty) (map spot_view (drop l.spot-index l.entry.spots.items)))
-    ≡ map cell_view l.fn.cells.items ++ filter_map (λ (s : Spot). s.cell) (filter (occurs_at l.types l.ty) (spots_of (said_view l.entry)))
+invariant-loop-spot l = map cell_view l.cells.items ++ filter_map (λ (s : Spot). s.cell)
+    (filter (occurs_at l.types l.ty) (map spot_view (drop l.spot-index l.entry.spots.items)))
+    ≡ map cell_view l.fn.cells.items ++ filter_map (λ (s : Spot). s.cell)
+    (filter (occurs_at l.types l.ty) (spots_of (said_view l.entry)))

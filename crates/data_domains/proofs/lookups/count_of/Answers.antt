@@ -6,7 +6,9 @@ use Rattle.data_domains.proofs.Looked.{set_at, no_cells}
 use Rattle.data_domains.proofs.lookups.count_of.Goals as goal
 
 pub returns-in-Some : goal.returns-in-Some
-returns-in-Some c = λ all es h. c.count.ensures (cells_of all es c.args.ty) (set_at all es c.args.types.now c.args.ty c.in-Some.data.now h (sym c.in-Some.ensures))
+returns-in-Some c = λ all es h. c.count.ensures (cells_of all es c.args.ty)
+    (set_at all es c.args.types.now c.args.ty c.in-Some.data.now h (sym c.in-Some.ensures))
 
 pub returns-in-None : goal.returns-in-None
-returns-in-None c = λ all es h. sym (ap (λ cs. capped (set.count_of cs)) (no_cells all es c.args.types.now c.args.ty h (sym c.in-None.ensures)))
+returns-in-None c = λ all es h. sym (ap (λ cs. capped (set.count_of cs)) (no_cells all es c.args.types.now c.args.ty h
+    (sym c.in-None.ensures)))

@@ -14,7 +14,10 @@ invariant-loop-ty l =
     let es = map said_view l.entries in
     record {
       count : length l.all.items ≡ l.ty;
-      traits : (t : ℕ) (d : TypeDecl) (x : TypeData) → slice_get l.types t ≡ Some d → slice_get l.all.items t ≡ Some x → AreTraitsOf l.types es t d x.traits;
-      cells : (t : ℕ) (d : TypeDecl) (x : TypeData) → slice_get l.types t ≡ Some d → slice_get l.all.items t ≡ Some x → map cell_view x.cells.items ≡ cells_by l.types es t d;
-      elements : (t : ℕ) (d : TypeDecl) (x : TypeData) → slice_get l.types t ≡ Some d → slice_get l.all.items t ≡ Some x → IsSetOf (cells_by l.types es t d) x.elements;
+      traits : (t : ℕ) (d : TypeDecl) (x : TypeData) → slice_get l.types t ≡ Some d → slice_get l.all.items t ≡ Some x
+          → AreTraitsOf l.types es t d x.traits;
+      cells : (t : ℕ) (d : TypeDecl) (x : TypeData) → slice_get l.types t ≡ Some d → slice_get l.all.items t ≡ Some x
+          → map cell_view x.cells.items ≡ cells_by l.types es t d;
+      elements : (t : ℕ) (d : TypeDecl) (x : TypeData) → slice_get l.types t ≡ Some d → slice_get l.all.items t ≡ Some x
+          → IsSetOf (cells_by l.types es t d) x.elements;
     }

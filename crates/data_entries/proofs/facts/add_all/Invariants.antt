@@ -8,5 +8,7 @@ use Rattle.data_entries.proofs.facts.add_all.Given as goal
 abbrev pub invariant-loop-row : goal.invariant-loop-row
 invariant-loop-row l =
     let x = subject_view l.entry.subject in
-    map fact_view l.facts.items ++ filter_map (fact_of l.holds x) (filter (fits_in x) (map row_view (drop l.row-index l.entry.rows.items)))
-    ≡ map fact_view l.fn.facts.items ++ filter_map (fact_of l.holds x) (filter (fits_in x) (map row_view l.entry.rows.items))
+    map fact_view l.facts.items ++ filter_map (fact_of l.holds x)
+    (filter (fits_in x) (map row_view (drop l.row-index l.entry.rows.items)))
+    ≡ map fact_view l.fn.facts.items ++ filter_map (fact_of l.holds x)
+    (filter (fits_in x) (map row_view l.entry.rows.items))

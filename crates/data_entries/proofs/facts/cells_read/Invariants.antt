@@ -10,5 +10,6 @@ use Rattle.data_entries.proofs.facts.cells_read.Given as goal
 
 abbrev pub invariant-loop-item : goal.invariant-loop-item
 invariant-loop-item l =
-    option_map (λ (cs : List Cell). map cell_view l.cells.items ++ cs) (cells_read l.in_plain_list (map (λ (i : Bor RawItem). item_view i.now) (drop l.item-index l.items)))
+    option_map (λ (cs : List Cell). map cell_view l.cells.items ++ cs)
+    (cells_read l.in_plain_list (map (λ (i : Bor RawItem). item_view i.now) (drop l.item-index l.items)))
     ≡ cells_read l.in_plain_list (map (λ (i : Bor RawItem). item_view i.now) l.items)

@@ -6,5 +6,6 @@ use Rattle.data_entries.specs.EntryViews.{row_view}
 use Rattle.data_entries.proofs.rows.add_each.Given as goal
 
 abbrev pub invariant-loop-tail : goal.invariant-loop-tail
-invariant-loop-tail l = map row_view l.rows.items ++ map row_of_item (map (λ (x : ℕ × raw.RowItem). x.1) (map item_tail_view (drop l.tail-index l.raw.more)))
+invariant-loop-tail l = map row_view l.rows.items ++ map row_of_item
+    (map (λ (x : ℕ × raw.RowItem). x.1) (map item_tail_view (drop l.tail-index l.raw.more)))
     ≡ map row_view l.fn.rows.items ++ map row_of_item (items_in (items_view l.raw))

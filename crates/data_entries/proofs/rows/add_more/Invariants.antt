@@ -7,5 +7,7 @@ use Rattle.data_entries.specs.EntryViews.{row_view}
 use Rattle.data_entries.proofs.rows.add_more.Given as goal
 
 abbrev pub invariant-loop-tail : goal.invariant-loop-tail
-invariant-loop-tail l = map row_view l.rows.items ++ flat_map (rows_between l.by_commas) (map (λ (x : ℕ × raw.Row). x.1) (map raw_view.row_tail_view (drop l.tail-index l.more)))
-    ≡ map row_view l.fn.rows.items ++ flat_map (rows_between l.by_commas) (map (λ (x : ℕ × raw.Row). x.1) (map raw_view.row_tail_view l.more))
+invariant-loop-tail l = map row_view l.rows.items ++ flat_map (rows_between l.by_commas)
+    (map (λ (x : ℕ × raw.Row). x.1) (map raw_view.row_tail_view (drop l.tail-index l.more)))
+    ≡ map row_view l.fn.rows.items ++ flat_map (rows_between l.by_commas)
+    (map (λ (x : ℕ × raw.Row). x.1) (map raw_view.row_tail_view l.more))

@@ -8,5 +8,6 @@ use Rattle.fo_syntax.specs.BlockTrees as raw
 use Rattle.data_entries.proofs.rows.items_in.Given as goal
 
 abbrev pub invariant-loop-tail : goal.invariant-loop-tail
-invariant-loop-tail l = map (λ (i : Bor RawItem). item_view i.now) l.items.items ++ map (λ (x : ℕ × raw.RowItem). x.1) (map item_tail_view (drop l.tail-index l.raw.more))
+invariant-loop-tail l = map (λ (i : Bor RawItem). item_view i.now) l.items.items ++ map (λ (x : ℕ × raw.RowItem). x.1)
+    (map item_tail_view (drop l.tail-index l.raw.more))
     ≡ items_in (items_view l.raw)

@@ -9,5 +9,9 @@ use Rattle.data_notes.proofs.arguments.note_blocks.Given as goal
 
 abbrev pub invariant-loop-i : goal.invariant-loop-i
 invariant-loop-i l = (all : List TypeDecl) (es : List Said) → AreTypesOf all es l.types
-    → fold (stage.data_noted all es) l.earliest.first (map stage.argument (flat_map (stage.arguments_of_block l.kb.vocab.symbols) (zip (map named_term_view (drop l.i l.kb.terms)) (drop l.i l.kb.places.block_terms))))
-    ≡ fold (stage.data_noted all es) l.fn.earliest.first (map stage.argument (flat_map (stage.arguments_of_block l.kb.vocab.symbols) (zip (map named_term_view l.kb.terms) l.kb.places.block_terms)))
+    → fold (stage.data_noted all es) l.earliest.first (map stage.argument
+    (flat_map (stage.arguments_of_block l.kb.vocab.symbols) (zip (map named_term_view (drop l.i l.kb.terms))
+    (drop l.i l.kb.places.block_terms))))
+    ≡ fold (stage.data_noted all es) l.fn.earliest.first (map stage.argument
+    (flat_map (stage.arguments_of_block l.kb.vocab.symbols) (zip (map named_term_view l.kb.terms)
+    l.kb.places.block_terms)))

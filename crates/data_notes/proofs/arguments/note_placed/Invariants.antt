@@ -9,5 +9,7 @@ use Rattle.data_notes.proofs.arguments.note_placed.Given as goal
 
 abbrev pub invariant-loop-i : goal.invariant-loop-i
 invariant-loop-i l = (all : List TypeDecl) (es : List Said) → AreTypesOf all es l.types
-    → fold (stage.data_noted all es) l.earliest.first (map stage.argument (arguments_at (drop l.i l.places) (placed_views (drop l.i l.found))))
-    ≡ fold (stage.data_noted all es) l.fn.earliest.first (map stage.argument (arguments_at l.places (placed_views l.found)))
+    → fold (stage.data_noted all es) l.earliest.first (map stage.argument
+    (arguments_at (drop l.i l.places) (placed_views (drop l.i l.found))))
+    ≡ fold (stage.data_noted all es) l.fn.earliest.first (map stage.argument
+    (arguments_at l.places (placed_views l.found)))

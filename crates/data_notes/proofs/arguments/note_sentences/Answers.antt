@@ -10,6 +10,8 @@ use Rattle.data_notes.proofs.arguments.note_sentences.Goals as goal
 pub returns : goal.returns
 returns c = λ all es h.
     let symbols = c.args.symbols.now in
-    let read = ap placed_views c.deref.ensures.value ∙ c.in_ok-found.ensures ∙ ap (λ fs. flat_map (formula_integers symbols) (map formula_view fs)) c.as_slice.ensures
+    let read = ap placed_views c.deref.ensures.value ∙ c.in_ok-found.ensures
+    ∙ ap (λ fs. flat_map (formula_integers symbols) (map formula_view fs)) c.as_slice.ensures
     ∙ integers_of_sentences symbols (map formula_view c.args.theory.now.value.sentences) in
-    c.note_placed.ensures all es h ∙ ap (λ xs. fold (stage.data_noted all es) c.args.earliest.now.first (map stage.argument (arguments_at c.args.places.now xs))) read
+    c.note_placed.ensures all es h ∙ ap (λ xs. fold (stage.data_noted all es) c.args.earliest.now.first
+    (map stage.argument (arguments_at c.args.places.now xs))) read

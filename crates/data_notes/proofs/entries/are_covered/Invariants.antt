@@ -7,4 +7,5 @@ use Rattle.data_notes.proofs.entries.are_covered.Given as goal
 
 abbrev pub invariant-loop-cell : goal.invariant-loop-cell
 invariant-loop-cell l = (others : List set.Cell) → IsSetOf others l.elements
-    → list_all (set.is_covered others) (map cell_view (drop l.cell-index l.cells)) ≡ list_all (set.is_covered others) (map cell_view l.cells)
+    → list_all (set.is_covered others) (map cell_view (drop l.cell-index l.cells)) ≡ list_all (set.is_covered others)
+    (map cell_view l.cells)

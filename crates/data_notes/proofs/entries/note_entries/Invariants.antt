@@ -8,5 +8,6 @@ use Rattle.data_notes.proofs.entries.note_entries.Given as goal
 
 abbrev pub invariant-loop-i : goal.invariant-loop-i
 invariant-loop-i l = (all : List TypeDecl) (es : List Said) → AreTypesOf all es l.types
-    → fold (stage.data_noted all es) l.earliest.first (stage.uses_of_entries (map said_view (take l.i l.entries)) (map said_view (drop l.i l.entries)))
+    → fold (stage.data_noted all es) l.earliest.first (stage.uses_of_entries (map said_view (take l.i l.entries))
+    (map said_view (drop l.i l.entries)))
     ≡ fold (stage.data_noted all es) l.fn.earliest.first (stage.uses_of_entries [] (map said_view l.entries))

@@ -7,5 +7,7 @@ use Rattle.data_notes.proofs.entries.note_rows.Given as goal
 
 abbrev pub invariant-loop-row : goal.invariant-loop-row
 invariant-loop-row l = (all : List TypeDecl) (es : List Said)
-    → fold (stage.data_noted all es) l.earliest.first (map (stage.row (subject_view l.subject)) (map row_view (drop l.row-index l.rows)))
-    ≡ fold (stage.data_noted all es) l.fn.earliest.first (map (stage.row (subject_view l.subject)) (map row_view l.rows))
+    → fold (stage.data_noted all es) l.earliest.first (map (stage.row (subject_view l.subject))
+    (map row_view (drop l.row-index l.rows)))
+    ≡ fold (stage.data_noted all es) l.fn.earliest.first (map (stage.row (subject_view l.subject))
+    (map row_view l.rows))

@@ -10,8 +10,12 @@ pub returns : goal.returns
 returns c = λ all es h.
     let note = stage.data_noted all es in
     let e = said_view c.args.entry.now in
-    four_parts note (stage.entry (map said_view c.args.before.now) e) (stage.mark_uses e.subject e.mark) (map (stage.row e.subject) e.rows) (map stage.spot (spots_of e))
-    c.args.earliest.now.first c.note_entry.new.earliest.first c.note_mark.new.earliest.first c.note_rows.new.earliest.first _
+    four_parts note (stage.entry (map said_view c.args.before.now) e) (stage.mark_uses e.subject e.mark)
+    (map (stage.row e.subject) e.rows) (map stage.spot (spots_of e))
+    c.args.earliest.now.first c.note_entry.new.earliest.first c.note_mark.new.earliest.first
+    c.note_rows.new.earliest.first _
     (c.in_ok-note_entry.ensures all es h) (c.note_mark.ensures all es)
-    (c.note_rows.ensures all es ∙ ap (λ rs. fold note c.note_mark.new.earliest.first (map (stage.row e.subject) (map row_view rs))) c.deref.ensures.value)
-    (c.note_spots.ensures all es h ∙ ap (λ ss. fold note c.note_rows.new.earliest.first (map stage.spot ss)) (ap (map spot_view) c.deref-2.ensures.value ∙ c.args.entry.now.in_rows))
+    (c.note_rows.ensures all es ∙ ap (λ rs. fold note c.note_mark.new.earliest.first
+    (map (stage.row e.subject) (map row_view rs))) c.deref.ensures.value)
+    (c.note_spots.ensures all es h ∙ ap (λ ss. fold note c.note_rows.new.earliest.first (map stage.spot ss))
+    (ap (map spot_view) c.deref-2.ensures.value ∙ c.args.entry.now.in_rows))

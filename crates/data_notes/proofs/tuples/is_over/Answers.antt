@@ -3,7 +3,8 @@ use Rattle.data_notes.proofs.Noting.{over, over_next, over_short, over_end}
 use Rattle.data_notes.proofs.tuples.is_over.Goals as goal
 
 pub returns-then-i-elements : goal.returns-then-i-elements
-returns-then-i-elements c = λ all es h. over_short all es c.args.args.now c.args.elements.now c.loop-i.i 0 c.loop-i-test.true c.if-i-elements.true ∙ c.loop-i.invariant all es h
+returns-then-i-elements c = λ all es h. over_short all es c.args.args.now c.args.elements.now c.loop-i.i 0
+    c.loop-i-test.true c.if-i-elements.true ∙ c.loop-i.invariant all es h
 
 pub returns-then-not-has_element : goal.returns-then-not-has_element
 returns-then-not-has_element c = λ all es h.
@@ -22,4 +23,5 @@ loop-i-preserved c = λ all es h.
     ∙ c.loop-i.invariant all es h
 
 pub returns : goal.returns
-returns c = λ all es h. over_end all es c.args.args.now c.args.elements.now c.loop-i.i (omega arith) ∙ c.loop-i.invariant all es h
+returns c = λ all es h. over_end all es c.args.args.now c.args.elements.now c.loop-i.i (omega arith)
+    ∙ c.loop-i.invariant all es h

@@ -8,4 +8,5 @@ use Rattle.data_notes.proofs.tuples.is_over.Given as goal
 
 abbrev pub invariant-loop-i : goal.invariant-loop-i
 invariant-loop-i l = (all : List TypeDecl) (es : List Said) → AreTypesOf all es l.types
-    → is_over all es (drop l.i l.args) (map elem_view (drop l.i l.elements)) ≡ is_over all es l.args (map elem_view l.elements)
+    → is_over all es (drop l.i l.args) (map elem_view (drop l.i l.elements)) ≡ is_over all es l.args
+    (map elem_view l.elements)

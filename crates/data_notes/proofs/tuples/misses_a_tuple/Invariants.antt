@@ -14,6 +14,8 @@ use Rattle.data_notes.proofs.tuples.misses_a_tuple.Given as goal
 
 abbrev pub invariant-loop-row : goal.invariant-loop-row
 invariant-loop-row l = (all : List TypeDecl) (es : List Said) → AreTypesOf all es l.types
-    → (ts : List (List Elem)) × AreSameTuples (map (λ (k : Vec Label Global). tuple_view k.items) l.tuples.table.keys) ts
-    × (fold with_tuple ts (filter (is_over all es l.args) (filter_map (λ (r : WrittenRow). single_elements r.items) (filter (fits_in (subject_view l.entry.subject)) (map row_view (drop l.row-index l.entry.rows.items)))))
+    → (ts : List (List Elem)) × AreSameTuples (map (λ (k : Vec Label Global). tuple_view k.items) l.tuples.table.keys)
+    ts
+    × (fold with_tuple ts (filter (is_over all es l.args) (filter_map (λ (r : WrittenRow). single_elements r.items)
+    (filter (fits_in (subject_view l.entry.subject)) (map row_view (drop l.row-index l.entry.rows.items)))))
     ≡ tuples_given all es l.args (said_view l.entry))

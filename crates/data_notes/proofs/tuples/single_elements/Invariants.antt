@@ -9,5 +9,6 @@ use Rattle.data_notes.proofs.tuples.single_elements.Given as goal
 
 abbrev pub invariant-loop-item : goal.invariant-loop-item
 invariant-loop-item l =
-    option_map (λ (xs : List Elem). map elem_view l.elements.items ++ xs) (single_elements (map (λ (i : Bor RawItem). item_view i.now) (drop l.item-index l.items)))
+    option_map (λ (xs : List Elem). map elem_view l.elements.items ++ xs)
+    (single_elements (map (λ (i : Bor RawItem). item_view i.now) (drop l.item-index l.items)))
     ≡ single_elements (map (λ (i : Bor RawItem). item_view i.now) l.items)

@@ -10,4 +10,5 @@ use Rattle.data_notes.proofs.tuples.tuple_count.Given as goal
 
 abbrev pub invariant-loop-ty : goal.invariant-loop-ty
 invariant-loop-ty l = (all : List TypeDecl) (es : List Said) → AreTypesOf all es l.types
-    → (n : ℕ) × (l.count ≡ capped n) × (fold (λ (m t : ℕ). m * count_of (cells_of all es t)) n (drop l.ty-index l.args) ≡ tuple_count all es l.args)
+    → (n : ℕ) × (l.count ≡ capped n) × (fold (λ (m t : ℕ). m * count_of (cells_of all es t)) n (drop l.ty-index l.args)
+    ≡ tuple_count all es l.args)

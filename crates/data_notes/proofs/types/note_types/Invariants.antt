@@ -8,5 +8,6 @@ use Rattle.data_notes.proofs.types.note_types.Given as goal
 
 abbrev pub invariant-loop-t : goal.invariant-loop-t
 invariant-loop-t l = (es : List Said) → AreTypesOf l.decls es l.types
-    → fold (stage.data_noted l.decls es) l.earliest.first (map stage.type_use (zip (enumerate_from l.t (drop l.t l.decls)) (drop l.t l.places)))
+    → fold (stage.data_noted l.decls es) l.earliest.first (map stage.type_use
+    (zip (enumerate_from l.t (drop l.t l.decls)) (drop l.t l.places)))
     ≡ fold (stage.data_noted l.decls es) l.fn.earliest.first (stage.uses_of_types l.decls l.places)

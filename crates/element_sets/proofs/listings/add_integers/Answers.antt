@@ -4,4 +4,5 @@ use Rattle.element_sets.proofs.KeyTests.{next_key}
 use Rattle.element_sets.proofs.listings.add_integers.Goals as goal
 
 pub loop-k-preserved : goal.loop-k-preserved
-loop-k-preserved c = next_key _ _ _ _ c.loop-k.k c.args.count _ c.loop-k-test.true (omega (arith, ints)) c.in_ok-add_key.ensures c.loop-k.invariant
+loop-k-preserved c = next_key _ _ _ _ c.loop-k.k c.args.count _ c.loop-k-test.true (omega (arith, ints))
+    c.in_ok-add_key.ensures c.loop-k.invariant

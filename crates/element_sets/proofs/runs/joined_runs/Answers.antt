@@ -3,7 +3,8 @@ use Rattle.std.proofs.lemmas.List.{drop_more}
 use Rattle.data_entries.specs.WholeViews.{whole_view}
 use Rattle.structure_laws.proofs.Bounded.{not_lower}
 use Rattle.element_sets.specs.Sets.{interval_view}
-use Rattle.element_sets.proofs.Sorting.{ended, ended_same, gap_from, longer_follows, longer_full, longer_rising, longer_same, risen, views}
+use Rattle.element_sets.proofs.Sorting.{ended, ended_same, gap_from, longer_follows, longer_full, longer_rising}
+use Rattle.element_sets.proofs.Sorting.{longer_same, risen, views}
 use Rattle.element_sets.proofs.runs.joined_runs.Goals as goal
 
 pub loop-one-preserved-then-reaches : goal.loop-one-preserved-then-reaches
@@ -16,10 +17,12 @@ loop-one-preserved-then-reaches c =
     let reaches : c.reaches.result ≡ true = search rules in
     let touches = not_lower (whole_view last.high +ℤ pos 1) _ (sym c.reaches.ensures ∙ reaches) in
     record {
-      apart = longer_follows rest i _ last next inv.rising inv.full c.joined-last.result c.joined-last.ensures c.loop-one.runs.items inv.apart;
+      apart = longer_follows rest i _ last next inv.rising inv.full c.joined-last.result c.joined-last.ensures
+          c.loop-one.runs.items inv.apart;
       full = longer_full rest i _ last next inv.rising inv.full c.joined-last.result c.joined-last.ensures;
       rising = longer_rising rest i _ last next inv.rising inv.full c.joined-last.result c.joined-last.ensures;
-      same = longer_same rest i _ last next inv.rising inv.full c.joined-last.result c.joined-last.ensures c.loop-one.runs.items (map interval_view c.args.rising.now) touches inv.same;
+      same = longer_same rest i _ last next inv.rising inv.full c.joined-last.result c.joined-last.ensures
+          c.loop-one.runs.items (map interval_view c.args.rising.now) touches inv.same;
     }
 
 pub loop-one-preserved : goal.loop-one-preserved
@@ -32,8 +35,11 @@ loop-one-preserved c =
     let apart : c.reaches.result ≡ false = search rules in
     let up = risen rest i _ last next inv.rising inv.full in
     record {
-      apart = ended rest i _ last next inv.rising inv.full c.loop-one.runs.items c.push.new.self.items c.in_ok-push.ensures.items (gap_from (whole_view last.high +ℤ pos 1) _ (sym c.reaches.ensures ∙ apart)) inv.apart;
+      apart = ended rest i _ last next inv.rising inv.full c.loop-one.runs.items c.push.new.self.items
+          c.in_ok-push.ensures.items (gap_from (whole_view last.high +ℤ pos 1) _ (sym c.reaches.ensures
+          ∙ apart)) inv.apart;
       full = up.1;
       rising = up.2;
-      same = ended_same rest i _ last next inv.rising inv.full c.loop-one.runs.items c.push.new.self.items (map interval_view c.args.rising.now) c.in_ok-push.ensures.items inv.same;
+      same = ended_same rest i _ last next inv.rising inv.full c.loop-one.runs.items c.push.new.self.items
+          (map interval_view c.args.rising.now) c.in_ok-push.ensures.items inv.same;
     }

@@ -11,5 +11,6 @@ returns c = λ a.
     let n = whole_view c.args.n in
     let xs = c.args.runs.now in
     let at = c.partition_point-at.result in
-    let point = IsPartitionPoint-from_clause (λ (i : Interval). int_lt (whole_view i.high) n) xs at c.partition_point-at.ensures.partitioned (parted a.start n xs a.from) (λ b r q k. search rules) in
+    let point = IsPartitionPoint-from_clause (λ (i : Interval). int_lt (whole_view i.high) n) xs at
+    c.partition_point-at.ensures.partitioned (parted a.start n xs a.from) (λ b r q k. search rules) in
     ap (option_map interval_view) c.interval_at.ensures ∙ found_at n xs at point

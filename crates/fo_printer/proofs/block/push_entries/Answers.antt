@@ -7,5 +7,6 @@ use Rattle.fo_printer.proofs.block.push_entries.Goals as goal
 pub returns : goal.returns
 returns c =
     all_written c.push_symbols.result c.args.out.now.items c.push_types.new.out.items c.push_symbols.new.out.items
-    (type_entries c.args.s.now.domains) (symbol_entries c.args.s.now) (enumerate_from 0 c.args.v.now.types) (enumerate_from 0 c.args.s.now.symbols)
+    (type_entries c.args.s.now.domains) (symbol_entries c.args.s.now) (enumerate_from 0 c.args.v.now.types)
+    (enumerate_from 0 c.args.s.now.symbols)
     (search rules) c.push_symbols.ensures

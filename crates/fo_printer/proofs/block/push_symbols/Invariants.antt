@@ -6,5 +6,6 @@ use Rattle.fo_printer.proofs.block.push_symbols.Given as goal
 
 abbrev pub invariant-loop-number : goal.invariant-loop-number
 invariant-loop-number l =
-    l.out.items ++ flat_map (λ x. entries_text (symbol_entries l.s x)) (enumerate_from l.number (drop l.number l.symbols))
+    l.out.items ++ flat_map (λ x. entries_text (symbol_entries l.s x))
+    (enumerate_from l.number (drop l.number l.symbols))
     ≡ l.initial.out.items ++ flat_map (λ x. entries_text (symbol_entries l.s x)) (enumerate_from 0 l.symbols)

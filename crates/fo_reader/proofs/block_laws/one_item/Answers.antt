@@ -4,4 +4,11 @@ use Rattle.fo_reader.proofs.TheoryFormats.{block_law, theory_item_law, rule_law}
 use Rattle.fo_reader.proofs.block_laws.one_item.Goals as goal
 
 pub returns : goal.returns
-returns c = record { blocks = block_law.only; declarations = declaration_law.law.only; theory_items = theory_item_law.only; rules = rule_law.only; entries = entry_law.law.only }
+returns c = record {
+  blocks = block_law.only;
+  declarations = declaration_law.law.only;
+  theory_items =
+      theory_item_law.only;
+  rules = rule_law.only;
+  entries = entry_law.law.only;
+}

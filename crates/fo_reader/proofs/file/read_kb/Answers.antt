@@ -12,4 +12,5 @@ returns-in-Ok c =
     file_answered c.args.src.now _ c.file.result (omega (arith, c.if-src-gt-LONGEST.false)) c.in-Ok.ensures p
 
 pub returns-in-Err : goal.returns-in-Err
-returns-in-Err c = file_refused_early c.args.src.now c.in-Err.e (omega (arith, c.if-src-gt-LONGEST.false)) c.in-Err.ensures
+returns-in-Err c = file_refused_early c.args.src.now c.in-Err.e (omega (arith, c.if-src-gt-LONGEST.false))
+    c.in-Err.ensures

@@ -12,4 +12,6 @@ returns-in_err-found-clause-reads c =
 pub returns-in_err-tail-clause-reads : goal.returns-in_err-tail-clause-reads
 returns-in_err-tail-clause-reads c =
     let p = err_from_is_err_and c.from_residual-in_err-tail.result c.from_residual-in_err-tail.ensures.1 in
-    rw (p.1, p.2) (clause_end (head_view c.in_ok-found.found) (toks c.args.items.now) (toks c.in_ok-found.rest.now) c.args.end c.in_err-tail.field-0.0 c.in_ok-found.ensures.reads.1 c.in_ok-found.ensures.reads.0 c.in_ok-found.ensures.reads.2 c.in_err-tail.ensures.reads)
+    rw (p.1, p.2) (clause_end (head_view c.in_ok-found.found) (toks c.args.items.now) (toks c.in_ok-found.rest.now)
+    c.args.end c.in_err-tail.field-0.0 c.in_ok-found.ensures.reads.1 c.in_ok-found.ensures.reads.0
+    c.in_ok-found.ensures.reads.2 c.in_err-tail.ensures.reads)

@@ -15,4 +15,6 @@ returns-in_err-found-clause-reads c =
 pub returns-in_err-dot-clause-reads : goal.returns-in_err-dot-clause-reads
 returns-in_err-dot-clause-reads c =
     let p = err_from_is_err_and c.from_residual-in_err-dot.result c.from_residual-in_err-dot.ensures.1 in
-    rw (p.1, p.2) (comes_there put_ended FineEnded Anything (t.Outer o.Dot) (toks c.args.items.now) (toks c.in_ok-found.rest.now) c.args.end c.in_err-dot.field-0.0 c.in_ok-found.ensures.reads.2 c.in_err-dot.ensures.reads)
+    rw (p.1, p.2) (comes_there put_ended FineEnded Anything (t.Outer o.Dot) (toks c.args.items.now)
+    (toks c.in_ok-found.rest.now) c.args.end c.in_err-dot.field-0.0 c.in_ok-found.ensures.reads.2
+    c.in_err-dot.ensures.reads)

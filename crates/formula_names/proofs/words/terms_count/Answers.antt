@@ -7,5 +7,6 @@ use Rattle.formula_names.proofs.words.terms_count.Goals as goal
 
 pub returns : goal.returns
 returns c =
-    let seen : terms_view c.args.terms.now ≡ terms_of (term_view (out-RawTerms c.args.terms.now).first) (map terms_tail_view (out-RawTerms c.args.terms.now).more) = search (rules, the_lemmas) in
+    let seen : terms_view c.args.terms.now ≡ terms_of (term_view (out-RawTerms c.args.terms.now).first)
+    (map terms_tail_view (out-RawTerms c.args.terms.now).more) = search (rules, the_lemmas) in
     rw (seen, terms_counted) (grind (arith, common_steps))

@@ -8,5 +8,6 @@ pub loop-place-preserved : goal.loop-place-preserved
 loop-place-preserved c =
     let l = c.loop-place.invariant in
     record {
-      same = rw c.in_ok-found.ensures (sym (negated_push _ _ _) ∙ ap (λ (ps : List ℕ). nots ps (unary_view c.loop-place.found)) (sym c.in-Some.ensures) ∙ l.same);
+      same = rw c.in_ok-found.ensures (sym (negated_push _ _ _)
+          ∙ ap (λ (ps : List ℕ). nots ps (unary_view c.loop-place.found)) (sym c.in-Some.ensures) ∙ l.same);
     }

@@ -12,5 +12,6 @@ loop-place-preserved c =
     let l = c.loop-place.invariant in
     record {
       shorter = omega (arith, c.in-Some.ensures.shorter, l.shorter);
-      so_far = rw c.in_ok-push.ensures.ok (l.so_far ∙ ap (λ (v : List Tok). put_nots c.loop-place.signs v) c.in-Some.ensures.some ∙ sym (nots_push c.loop-place.signs c.in-Some.place (toks c.in-Some.after.now)));
+      so_far = rw c.in_ok-push.ensures.ok (l.so_far ∙ ap (λ (v : List Tok). put_nots c.loop-place.signs v)
+          c.in-Some.ensures.some ∙ sym (nots_push c.loop-place.signs c.in-Some.place (toks c.in-Some.after.now)));
     }

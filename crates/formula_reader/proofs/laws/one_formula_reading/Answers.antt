@@ -7,4 +7,5 @@ use Rattle.formula_reader.proofs.OneReading.{one_reading}
 use Rattle.formula_reader.proofs.laws.one_formula_reading.Goals as goal
 
 pub returns : goal.returns
-returns c = λ src r s h k. one_reading put_formula FineFormula (λ f g x y e. (only_formula f g [] [] x y (all_stop_formula f [] tt) (all_stop_formula g [] tt) e).0) src r s h k
+returns c = λ src r s h k. one_reading put_formula FineFormula
+    (λ f g x y e. (only_formula f g [] [] x y (all_stop_formula f [] tt) (all_stop_formula g [] tt) e).0) src r s h k

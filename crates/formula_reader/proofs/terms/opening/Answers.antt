@@ -12,4 +12,5 @@ returns-in_err-brace-clause-reads c =
 pub returns-in_err-vars-clause-reads : goal.returns-in_err-vars-clause-reads
 returns-in_err-vars-clause-reads c =
     let p = err_from_is_err_and c.from_residual-in_err-vars.result c.from_residual-in_err-vars.ensures.1 in
-    rw (p.1, p.2) (fails_in c.args.end c.in_err-vars.field-0.0 (in_opening (toks c.args.items.now) _ c.in_ok-brace.brace c.in_ok-brace.ensures.ok) c.in_err-vars.ensures.reads)
+    rw (p.1, p.2) (fails_in c.args.end c.in_err-vars.field-0.0 (in_opening (toks c.args.items.now) _ c.in_ok-brace.brace
+    c.in_ok-brace.ensures.ok) c.in_err-vars.ensures.reads)

@@ -8,5 +8,6 @@ pub loop-place-preserved : goal.loop-place-preserved
 loop-place-preserved c =
     let l = c.loop-place.invariant in
     record {
-      same = rw c.in_ok-found.ensures (sym (negatives_push _ _ _) ∙ ap (λ (ps : List ℕ). negatives ps (factor_view c.loop-place.found)) (sym c.in-Some.ensures) ∙ l.same);
+      same = rw c.in_ok-found.ensures (sym (negatives_push _ _ _)
+          ∙ ap (λ (ps : List ℕ). negatives ps (factor_view c.loop-place.found)) (sym c.in-Some.ensures) ∙ l.same);
     }

@@ -9,12 +9,18 @@ use Rattle.formula_reader.proofs.whole.only_formula.Goals as goal
 pub returns-in_err-found : goal.returns-in_err-found
 returns-in_err-found c =
     let p = err_from_is_err_and c.from_residual.result c.from_residual.ensures.1 in
-    rw (p.1, p.2) (formula_fails formula_view (toks c.args.items.now) c.args.end c.in_err-found.field-0.0 c.in_err-found.ensures.reads)
+    rw (p.1, p.2) (formula_fails formula_view (toks c.args.items.now) c.args.end c.in_err-found.field-0.0
+    c.in_err-found.ensures.reads)
 
 pub returns-in_default : goal.returns-in_default
 returns-in_default c =
     let read = c.in_ok-found.ensures.reads in
-    rw c.into_inner.ensures (read.spelled ∙ ap (λ (v : List Tok). put_formula (formula_view c.in_ok-found.found) v) c.in_default.ensures.none, read.fine)
+    rw c.into_inner.ensures (
+      read.spelled ∙ ap (λ (v : List Tok). put_formula (formula_view c.in_ok-found.found) v)
+          c.in_default.ensures.none,
+      read.fine,
+    )
 
 pub returns : goal.returns
-returns c = rw c.from.ensures (formula_over (toks c.args.items.now) (formula_view c.in_ok-found.found) _ _ _ (toks c.in_ok-found.rest.now) c.args.end _ c.in_ok-found.ensures.reads c.in-Some.ensures.some refl)
+returns c = rw c.from.ensures (formula_over (toks c.args.items.now) (formula_view c.in_ok-found.found) _ _ _
+    (toks c.in_ok-found.rest.now) c.args.end _ c.in_ok-found.ensures.reads c.in-Some.ensures.some refl)

@@ -1,4 +1,5 @@
-use Rattle.std.proofs.Common.{◌≡◌, ◌<◌, ◌≤◌, ◌++◌, List, [], true, false, length, get_or, fold, IfOk, sym, ap, subst, ◌∙◌, arith}
+use Rattle.std.proofs.Common.{◌≡◌, ◌<◌, ◌≤◌, ◌++◌, List, [], true, false, length, get_or, fold, IfOk, sym, ap, subst}
+use Rattle.std.proofs.Common.{◌∙◌, arith}
 use Rattle.kb_logic.specs.declared.elements.Elem.{Elem}
 use Rattle.plain_evaluation.specs.Environments.{env_view}
 use Rattle.kb_logic.specs.Structures.{choices}

@@ -1,4 +1,5 @@
-use Rattle.std.proofs.Common.{◌≡◌, ◌+◌, ◌<◌, ◌≤◌, ◌++◌, ◌∷◌, List, [], map, drop, take, false, length, get_or, fold, OnOk, sym, ap, subst, ◌∙◌, arith}
+use Rattle.std.proofs.Common.{◌≡◌, ◌+◌, ◌<◌, ◌≤◌, ◌++◌, ◌∷◌, List, [], map, drop, take, false, length, get_or, fold}
+use Rattle.std.proofs.Common.{OnOk, sym, ap, subst, ◌∙◌, arith}
 use Rattle.kb_logic.specs.declared.elements.Elem.{Elem}
 use Rattle.plain_evaluation.specs.Environments.{env_view}
 use Rattle.kb_logic.specs.Structures.{choices}
@@ -12,7 +13,9 @@ use Rattle.def_ground.proofs.Growing.{lits-more}
 use Rattle.plain_evaluation.proofs.Folds.{after_front, each_after, fold_by_front, fold_done, fold_next, inner_fold}
 use Rattle.ground_walk.specs.Groundable.{IsGroundable}
 use Rattle.ground_walk.specs.Steps.{MakesParts, assert_step}
-use Rattle.ground_walk.proofs.SentenceSteps.{Begins, all-asserted, some-asserted, begins-itself, disjuncts-begin, front-begins, front-of, any-next, unless-stops, unless-goes-on, groundable-next}
+use Rattle.ground_walk.proofs.SentenceSteps.{Begins, all-asserted, some-asserted, begins-itself, disjuncts-begin}
+use Rattle.ground_walk.proofs.SentenceSteps.{front-begins, front-of, any-next, unless-stops, unless-goes-on}
+use Rattle.ground_walk.proofs.SentenceSteps.{groundable-next}
 use Rattle.ground_walk.proofs.sentences.+sentence.Goals as goal
 
 pub push_any-returns-then-branch-clause-made : goal.push_any-returns-then-branch-clause-made

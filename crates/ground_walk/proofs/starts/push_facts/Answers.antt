@@ -1,4 +1,5 @@
-use Rattle.std.proofs.Common.{◌≡◌, ◌<◌, ◌+◌, suc, ℕ, Bool, Option, None, length, take, slice_get, unwrap_or, ◌++◌, sym, ap, ◌∙◌, arith}
+use Rattle.std.proofs.Common.{◌≡◌, ◌<◌, ◌+◌, suc, ℕ, Bool, Option, None, length, take, slice_get, unwrap_or, ◌++◌, sym}
+use Rattle.std.proofs.Common.{ap, ◌∙◌, arith}
 use Rattle.ground_core.specs.Problems.{ProblemState}
 use Rattle.term_values.specs.GroundBases.{known_of}
 use Rattle.def_ground.specs.Cases.{with_clauses}

@@ -1,4 +1,5 @@
-use Rattle.idp_cli.proofs.Elimination.{usage_law, command_law, refusal_law, taking_law, length_law, short_law, done_law, checked_law}
+use Rattle.idp_cli.proofs.Elimination.{usage_law, command_law, refusal_law, taking_law, length_law, short_law, done_law}
+use Rattle.idp_cli.proofs.Elimination.{checked_law}
 use Rattle.idp_cli.proofs.laws.statuses_come_where_they_should.Goals as goal
 
 pub returns : goal.returns

@@ -7,12 +7,14 @@ use Rattle.integer_arguments.proofs.walks.+walk.Given as goal
 
 abbrev pub invariant-terms-loop-i : goal.invariant-terms-loop-i
 invariant-terms-loop-i l =
-    placed_views l.found.items ++ said.argument_integers l.symbols (drop l.i l.types) (terms_of (map term_view (drop l.i l.all)))
+    placed_views l.found.items ++ said.argument_integers l.symbols (drop l.i l.types)
+    (terms_of (map term_view (drop l.i l.all)))
     ≡ placed_views l.fn.found.items ++ said.argument_integers l.symbols l.types (terms_of (map term_view l.all))
 
 abbrev pub invariant-summands-loop-part : goal.invariant-summands-loop-part
 invariant-summands-loop-part l =
-    placed_views l.found.items ++ said.summand_integers l.symbols (summands_of (map signed_view (drop l.part-index l.parts)))
+    placed_views l.found.items ++ said.summand_integers l.symbols
+    (summands_of (map signed_view (drop l.part-index l.parts)))
     ≡ placed_views l.fn.found.items ++ said.summand_integers l.symbols (summands_of (map signed_view l.parts))
 
 abbrev pub invariant-formulas-loop-one : goal.invariant-formulas-loop-one

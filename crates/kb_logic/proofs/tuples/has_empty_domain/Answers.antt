@@ -6,5 +6,7 @@ use Rattle.kb_logic.proofs.tuples.has_empty_domain.Goals as goal
 
 pub returns-then-is_empty : goal.returns-then-is_empty
 returns-then-is_empty c = λ _.
-    let none : length c.domain_in.result.now ≡ 0 = eqb-true (length c.domain_in.result.now) 0 (sym c.is_empty.ensures ∙ c.if-is_empty.true) in
-    empty_product c.args.domains.now c.args.types.now c.loop-ty.ty-index c.loop-ty-test.true (ap (λ (d : List Elem). length d) (sym c.domain_in.ensures) ∙ none)
+    let none : length c.domain_in.result.now ≡ 0 = eqb-true (length c.domain_in.result.now) 0 (sym c.is_empty.ensures
+    ∙ c.if-is_empty.true) in
+    empty_product c.args.domains.now c.args.types.now c.loop-ty.ty-index c.loop-ty-test.true
+    (ap (λ (d : List Elem). length d) (sym c.domain_in.ensures) ∙ none)

@@ -10,6 +10,8 @@ abbrev pub invariant-loop-i : goal.invariant-loop-i
 invariant-loop-i l = record {
   names : with_names (names_in l.table) (made_names l.ty (l.i + 1) (map element_name (drop l.i l.more)))
       ≡ with_names (names_in l.initial.table) (made_names l.ty 1 (map element_name l.more));
-  noted : (names : Names) → fold (name_noted names) l.earliest.first (declared_uses (names_in l.table) (made_names l.ty (l.i + 1) (map element_name (drop l.i l.more))))
-      ≡ fold (name_noted names) l.initial.earliest.first (declared_uses (names_in l.initial.table) (made_names l.ty 1 (map element_name l.more)));
+  noted : (names : Names) → fold (name_noted names) l.earliest.first
+      (declared_uses (names_in l.table) (made_names l.ty (l.i + 1) (map element_name (drop l.i l.more))))
+      ≡ fold (name_noted names) l.initial.earliest.first (declared_uses (names_in l.initial.table)
+      (made_names l.ty 1 (map element_name l.more)));
 }

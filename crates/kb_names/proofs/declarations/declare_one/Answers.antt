@@ -13,13 +13,18 @@ returns-in-Type-clause-noted c = rw c.in-Type.is c.declare_name.ensures.noted
 pub returns-in-Symbol-clause-noted : goal.returns-in-Symbol-clause-noted
 returns-in-Symbol-clause-noted c = rw c.in-Symbol.is c.declare_name-in-Symbol.ensures.noted
 
-pub returns-in_ok-declare_name-in-Constructed-2-clause-noted : goal.returns-in_ok-declare_name-in-Constructed-2-clause-noted
+pub returns-in_ok-declare_name-in-Constructed-2-clause-noted
+    : goal.returns-in_ok-declare_name-in-Constructed-2-clause-noted
 returns-in_ok-declare_name-in-Constructed-2-clause-noted c =
     rw c.in-Constructed.is
     (on_ok_map c.declare_more.result _ _ c.declare_more.ensures.noted
-    (λ noted names. constructed_noted (name_noted names) c.args.earliest.now.first c.declare_name-in-Constructed.new.earliest.first c.declare_name-in-Constructed-2.new.earliest.first c.declare_more.new.earliest.first
-    c.args.types c.args.symbols (names_in c.args.table.now) (names_in c.declare_name-in-Constructed.new.table) (names_in c.declare_name-in-Constructed-2.new.table)
-    (name_view c.in-Constructed.raw.name) (name_view c.in-Constructed.raw.first) (map element_name c.in-Constructed.raw.more)
+    (λ noted names. constructed_noted (name_noted names) c.args.earliest.now.first
+    c.declare_name-in-Constructed.new.earliest.first c.declare_name-in-Constructed-2.new.earliest.first
+    c.declare_more.new.earliest.first
+    c.args.types c.args.symbols (names_in c.args.table.now) (names_in c.declare_name-in-Constructed.new.table)
+    (names_in c.declare_name-in-Constructed-2.new.table)
+    (name_view c.in-Constructed.raw.name) (name_view c.in-Constructed.raw.first)
+    (map element_name c.in-Constructed.raw.more)
     (c.in_ok-declare_name-in-Constructed.ensures.noted names) c.in_ok-declare_name-in-Constructed.ensures.names
     (c.in_ok-declare_name-in-Constructed-2.ensures.noted names) c.in_ok-declare_name-in-Constructed-2.ensures.names
     (rw (← c.as_slice.ensures) (noted names))))

@@ -12,5 +12,6 @@ returns-clause-noted c =
     let same : map place_of_name (type_names (map declaration_in c.args.declarations.now)) ≡ c.as_slice-2.result.now =
     type_places-is (map declaration_in c.args.declarations.now) ∙ sym (c.as_slice-2.ensures ∙ c.in_ok-places.ensures) in
     c.note_cycles.ensures (names_in c.args.table.now) (type_names (map declaration_in c.args.declarations.now)) same
-    ∙ ap (λ (ps : List (Option ℕ)). fold (name_noted (names_in c.args.table.now)) c.args.earliest.now.first (climbing_uses ps 0 (type_names (map declaration_in c.args.declarations.now))))
+    ∙ ap (λ (ps : List (Option ℕ)). fold (name_noted (names_in c.args.table.now)) c.args.earliest.now.first
+    (climbing_uses ps 0 (type_names (map declaration_in c.args.declarations.now))))
     (c.as_slice.ensures ∙ c.in_ok-parents.ensures)

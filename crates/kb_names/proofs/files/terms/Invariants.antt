@@ -11,5 +11,6 @@ use Rattle.kb_names.proofs.files.terms.Given as goal
 abbrev pub invariant-loop-raw : goal.invariant-loop-raw
 invariant-loop-raw l = record {
   named : map block_view l.named.items ≡ map (named_block (names_in l.table)) (map term_in (take l.raw-index l.blocks));
-  noted : l.earliest.first ≡ fold (name_noted (names_in l.table)) l.initial.earliest.first (flat_map uses_in_block (map term_in (take l.raw-index l.blocks)));
+  noted : l.earliest.first ≡ fold (name_noted (names_in l.table)) l.initial.earliest.first
+      (flat_map uses_in_block (map term_in (take l.raw-index l.blocks)));
 }

@@ -10,6 +10,8 @@ use Rattle.kb_names.proofs.files.theories.Given as goal
 
 abbrev pub invariant-loop-raw : goal.invariant-loop-raw
 invariant-loop-raw l = record {
-  named : map theory_view l.named.items ≡ map (named_theory (names_in l.table)) (map theory_in (take l.raw-index l.blocks));
-  noted : l.earliest.first ≡ fold (name_noted (names_in l.table)) l.initial.earliest.first (flat_map uses_in_theory (map theory_in (take l.raw-index l.blocks)));
+  named : map theory_view l.named.items ≡ map (named_theory (names_in l.table))
+      (map theory_in (take l.raw-index l.blocks));
+  noted : l.earliest.first ≡ fold (name_noted (names_in l.table)) l.initial.earliest.first
+      (flat_map uses_in_theory (map theory_in (take l.raw-index l.blocks)));
 }

@@ -6,4 +6,5 @@ use Rattle.kb_names.proofs.places.parents_in.Given as goal
 
 abbrev pub invariant-loop-raw : goal.invariant-loop-raw
 invariant-loop-raw l =
-    l.parents ++ parents_in (names_in l.table) (map declaration_in (drop l.raw-index l.declarations)) ≡ parents_in (names_in l.table) (map declaration_in l.declarations)
+    l.parents ++ parents_in (names_in l.table) (map declaration_in (drop l.raw-index l.declarations)) ≡ parents_in
+    (names_in l.table) (map declaration_in l.declarations)

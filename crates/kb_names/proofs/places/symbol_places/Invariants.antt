@@ -5,4 +5,5 @@ use Rattle.kb_names.proofs.places.symbol_places.Given as goal
 
 abbrev pub invariant-loop-raw : goal.invariant-loop-raw
 invariant-loop-raw l =
-    l.places ++ symbol_places (map declaration_in (drop l.raw-index l.declarations)) ≡ symbol_places (map declaration_in l.declarations)
+    l.places ++ symbol_places (map declaration_in (drop l.raw-index l.declarations)) ≡ symbol_places
+    (map declaration_in l.declarations)

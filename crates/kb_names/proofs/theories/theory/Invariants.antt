@@ -10,6 +10,8 @@ use Rattle.kb_names.proofs.theories.theory.Given as goal
 
 abbrev pub invariant-loop-raw : goal.invariant-loop-raw
 invariant-loop-raw l = record {
-  sentences : map formula_view l.sentences.items ≡ flat_map (sentences_in (names_in l.table)) (map part_in (take l.raw-index l.items));
-  noted : l.earliest.first ≡ fold (name_noted (names_in l.table)) l.initial.earliest.first (flat_map uses_in_part (map part_in (take l.raw-index l.items)));
+  sentences : map formula_view l.sentences.items ≡ flat_map (sentences_in (names_in l.table))
+      (map part_in (take l.raw-index l.items));
+  noted : l.earliest.first ≡ fold (name_noted (names_in l.table)) l.initial.earliest.first
+      (flat_map uses_in_part (map part_in (take l.raw-index l.items)));
 }

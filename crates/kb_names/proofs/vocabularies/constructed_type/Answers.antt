@@ -10,13 +10,19 @@ use Rattle.kb_names.proofs.vocabularies.constructed_type.Goals as goal
 
 pub returns-clause-noted : goal.returns-clause-noted
 returns-clause-noted c =
-    let elements : length c.as_slice.result.now + 1 ≡ length (name_view c.args.raw.now.first ∷ map element_name c.args.raw.now.more) = grind (arith, common_steps) in
+    let elements : length c.as_slice.result.now + 1 ≡ length (name_view c.args.raw.now.first ∷ map element_name
+    c.args.raw.now.more) = grind (arith, common_steps) in
     always_on_ok c.push.result _
     (λ names.
-    let first : c.note_next.new.earliest.first ≡ name_noted names c.args.earliest.now.first (counted 256 (length c.args.types.now + 1) (name_view c.args.raw.now.name)) =
+    let first : c.note_next.new.earliest.first ≡ name_noted names c.args.earliest.now.first
+    (counted 256 (length c.args.types.now + 1) (name_view c.args.raw.now.name)) =
     rw c.len.ensures at (c.note_next.ensures names) in
-    let second : c.note_next-2.new.earliest.first ≡ name_noted names c.note_next.new.earliest.first (counted 65536 (length (name_view c.args.raw.now.first ∷ map element_name c.args.raw.now.more)) (name_view c.args.raw.now.name)) =
+    let second : c.note_next-2.new.earliest.first ≡ name_noted names c.note_next.new.earliest.first
+    (counted 65536 (length (name_view c.args.raw.now.first ∷ map element_name c.args.raw.now.more))
+    (name_view c.args.raw.now.name)) =
     rw elements at (c.note_next-2.ensures names) in
-    type_noted (name_noted names) c.args.earliest.now.first c.note_next.new.earliest.first c.note_next-2.new.earliest.first
+    type_noted (name_noted names) c.args.earliest.now.first c.note_next.new.earliest.first
+    c.note_next-2.new.earliest.first
     (counted 256 (length c.args.types.now + 1) (name_view c.args.raw.now.name))
-    (counted 65536 (length (name_view c.args.raw.now.first ∷ map element_name c.args.raw.now.more)) (name_view c.args.raw.now.name) ∷ []) first second)
+    (counted 65536 (length (name_view c.args.raw.now.first ∷ map element_name c.args.raw.now.more))
+    (name_view c.args.raw.now.name) ∷ []) first second)

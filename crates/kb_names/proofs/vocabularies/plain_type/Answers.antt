@@ -11,8 +11,11 @@ use Rattle.kb_names.proofs.vocabularies.plain_type.Goals as goal
 
 pub returns-clause-noted : goal.returns-clause-noted
 returns-clause-noted c =
-    let first : c.note_next.new.earliest.first ≡ name_noted (names_in c.args.table.now) c.args.earliest.now.first (counted 256 (length c.args.types.now + 1) (name_view c.args.raw.now.name)) =
+    let first : c.note_next.new.earliest.first ≡ name_noted (names_in c.args.table.now) c.args.earliest.now.first
+    (counted 256 (length c.args.types.now + 1) (name_view c.args.raw.now.name)) =
     rw c.len.ensures at (c.note_next.ensures (names_in c.args.table.now)) in
     always_on_ok c.push.result _
-    (type_noted (name_noted (names_in c.args.table.now)) c.args.earliest.now.first c.note_next.new.earliest.first c.parent_named-parent.new.earliest.first
-    (counted 256 (length c.args.types.now + 1) (name_view c.args.raw.now.name)) (parent_uses (option_map isa_name c.args.raw.now.isa)) first c.parent_named-parent.ensures.noted)
+    (type_noted (name_noted (names_in c.args.table.now)) c.args.earliest.now.first c.note_next.new.earliest.first
+    c.parent_named-parent.new.earliest.first
+    (counted 256 (length c.args.types.now + 1) (name_view c.args.raw.now.name))
+    (parent_uses (option_map isa_name c.args.raw.now.isa)) first c.parent_named-parent.ensures.noted)

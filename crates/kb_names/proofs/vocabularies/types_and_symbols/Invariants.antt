@@ -12,6 +12,8 @@ invariant-loop-raw l = record {
       ≡ types_in (names_in l.table) (map declaration_in l.declarations);
   symbols : l.declared.symbols ++ symbols_in (names_in l.table) (map declaration_in (drop l.raw-index l.declarations))
       ≡ symbols_in (names_in l.table) (map declaration_in l.declarations);
-  noted : fold (name_noted (names_in l.table)) l.earliest.first (uses_in_declarations (length l.declared.types) (length l.declared.symbols) (map declaration_in (drop l.raw-index l.declarations)))
-      ≡ fold (name_noted (names_in l.table)) l.initial.earliest.first (uses_in_declarations 0 0 (map declaration_in l.declarations));
+  noted : fold (name_noted (names_in l.table)) l.earliest.first (uses_in_declarations (length l.declared.types)
+      (length l.declared.symbols) (map declaration_in (drop l.raw-index l.declarations)))
+      ≡ fold (name_noted (names_in l.table)) l.initial.earliest.first
+      (uses_in_declarations 0 0 (map declaration_in l.declarations));
 }

@@ -15,8 +15,11 @@ in_summands-loop-part-preserved t c =
     let i = c.loop-part.part-index in
     let part = c.part-item.result in
     let next = ap (summands_count v d) (summands_at parts i part c.loop-part-test.true c.part-item.is) in (
-      factor_next c.loop-part.count c.times-count.result c.in_term.result (application_count v d (term_view part.term)) (summands_count v d (summands_of (map signed_view (drop (i + 1) parts)))) (summands_count v d (summands_of (map signed_view parts)))
-          c.times-count.ensures c.in_term.ensures (ap (λ n. capped (c.loop-part.count * n)) (sym next) ∙ c.loop-part.invariant.0),
+      factor_next c.loop-part.count c.times-count.result c.in_term.result (application_count v d (term_view part.term))
+          (summands_count v d (summands_of (map signed_view (drop (i + 1) parts))))
+          (summands_count v d (summands_of (map signed_view parts)))
+          c.times-count.ensures c.in_term.ensures (ap (λ n. capped (c.loop-part.count * n)) (sym next)
+          ∙ c.loop-part.invariant.0),
       stays c.times-count.result (c.loop-part.count * c.in_term.result) c.times-count.ensures,
     )
 
@@ -28,7 +31,10 @@ in_terms-loop-term-preserved t c =
     let i = c.loop-term.term-index in
     let term = c.term-item.result in
     let next = ap (applications_count v d) (terms_at terms i term c.loop-term-test.true c.term-item.is) in (
-      factor_next c.loop-term.count c.times-count.result c.in_term.result (application_count v d (term_view term)) (applications_count v d (terms_of (map term_view (drop (i + 1) terms)))) (applications_count v d (terms_of (map term_view terms)))
-          c.times-count.ensures c.in_term.ensures (ap (λ n. capped (c.loop-term.count * n)) (sym next) ∙ c.loop-term.invariant.0),
+      factor_next c.loop-term.count c.times-count.result c.in_term.result (application_count v d (term_view term))
+          (applications_count v d (terms_of (map term_view (drop (i + 1) terms))))
+          (applications_count v d (terms_of (map term_view terms)))
+          c.times-count.ensures c.in_term.ensures (ap (λ n. capped (c.loop-term.count * n)) (sym next)
+          ∙ c.loop-term.invariant.0),
       stays c.times-count.result (c.loop-term.count * c.in_term.result) c.times-count.ensures,
     )

@@ -4,7 +4,8 @@ use Rattle.kb_logic.specs.Structures.{choices}
 use Rattle.kb_logic.specs.Trees.{summands_of, terms_of}
 use Rattle.kb_logic.specs.Views.{formula_view, signed_view, term_view}
 use Rattle.kb_logic.proofs.ViewsOf.{term_view-Agg}
-use Rattle.reading_stages.specs.ClampedBounds.{clamp_interval, clamped_bounds, clamped_factors, clamped_summands, clamping_product, clamping_sum}
+use Rattle.reading_stages.specs.ClampedBounds.{clamp_interval, clamped_bounds, clamped_factors, clamped_summands}
+use Rattle.reading_stages.specs.ClampedBounds.{clamping_product, clamping_sum}
 use Rattle.reading_stages.specs.SizesStage.{capped}
 use Rattle.reading_stages.specs.Sizes.{formula_bounds, summands_bounds, term_bounds, terms_bounds}
 use Rattle.kb_logic.specs.Bounds.{signed_interval}
@@ -26,7 +27,9 @@ node-returns-in_ok-range-in-Agg-clause-range t c =
     let count = c.assignments.ensures ∙ ap (λ xs. capped (length (choices d xs))) same in
     rw (c.in-Agg.is, term_view-Agg, ← c.deref-in-Agg.ensures.value, ← c.deref-in-Agg-3.ensures)
     (c.single-in-Agg.ensures.range
-    ∙ aggregate_of c.in-Agg.kind c.assignments.result (length (choices d bs)) (range_view c.in_ok-range-in-Agg.range) (clamped_bounds v d w (c.args.scope.now.items ++ types_of bs)) (range_view c.aggregated.result) count weight c.aggregated.ensures)
+    ∙ aggregate_of c.in-Agg.kind c.assignments.result (length (choices d bs)) (range_view c.in_ok-range-in-Agg.range)
+    (clamped_bounds v d w (c.args.scope.now.items ++ types_of bs)) (range_view c.aggregated.result) count weight
+    c.aggregated.ensures)
 
 pub node-returns-in_ok-range-in-Agg-clause-own : goal.node-returns-in_ok-range-in-Agg-clause-own
 node-returns-in_ok-range-in-Agg-clause-own t c =
@@ -41,7 +44,9 @@ node-returns-in_ok-range-in-Agg-clause-own t c =
     rw (c.in-Agg.is, term_view-Agg, ← c.deref-in-Agg.ensures.value, ← c.deref-in-Agg-3.ensures)
     (c.single-in-Agg.ensures.wide
     ∙ ap (λ i. is_wide (i ∷ []))
-    (aggregate_of c.in-Agg.kind c.assignments.result (length (choices d bs)) (range_view c.in_ok-range-in-Agg.range) (clamped_bounds v d w (c.args.scope.now.items ++ types_of bs)) (range_view c.aggregated.result) count weight c.aggregated.ensures))
+    (aggregate_of c.in-Agg.kind c.assignments.result (length (choices d bs)) (range_view c.in_ok-range-in-Agg.range)
+    (clamped_bounds v d w (c.args.scope.now.items ++ types_of bs)) (range_view c.aggregated.result) count weight
+    c.aggregated.ensures))
 
 pub node-returns-in_ok-range-in-Agg-clause-wide : goal.node-returns-in_ok-range-in-Agg-clause-wide
 node-returns-in_ok-range-in-Agg-clause-wide t c =
@@ -53,14 +58,24 @@ node-returns-in_ok-range-in-Agg-clause-wide t c =
     let scope = c.args.scope.now.items ++ types_of bs in
     let entered = c.in_ok-enter-in-Agg.ensures in
     let inner = c.in_ok-formula-in-Agg.ensures.scope ∙ entered in
-    let first = c.in_ok-formula-in-Agg.ensures.wide ∙ ap (λ xs. c.args.wide.now.items ++ wide_at (formula_bounds v d f xs)) entered in
-    let second = c.in_ok-range-in-Agg.ensures.wide ∙ ap (λ xs. c.formula.new.wide.items ++ wide_at (term_bounds v d w xs)) inner in
-    rw (c.in-Agg.is, term_view-Agg, ← c.deref-in-Agg.ensures.value, ← c.deref-in-Agg-2.ensures, ← c.deref-in-Agg-3.ensures)
-    (parts_after c.args.wide.now.items c.formula.new.wide.items c.term.new.wide.items (formula_bounds v d f scope) (term_bounds v d w scope) first second)
+    let first = c.in_ok-formula-in-Agg.ensures.wide ∙ ap (λ xs. c.args.wide.now.items ++ wide_at
+    (formula_bounds v d f xs)) entered in
+    let second = c.in_ok-range-in-Agg.ensures.wide ∙ ap (λ xs. c.formula.new.wide.items ++ wide_at
+    (term_bounds v d w xs)) inner in
+    rw (
+      c.in-Agg.is,
+      term_view-Agg,
+      ← c.deref-in-Agg.ensures.value,
+      ← c.deref-in-Agg-2.ensures,
+      ← c.deref-in-Agg-3.ensures,
+    )
+    (parts_after c.args.wide.now.items c.formula.new.wide.items c.term.new.wide.items (formula_bounds v d f scope)
+    (term_bounds v d w scope) first second)
 
 pub term-returns-clause-wide : goal.term-returns-clause-wide
 term-returns-clause-wide t c =
-    term_set c.args.vocab.now c.args.domains.now (term_view c.args.of.now) c.args.scope.now.items c.args.wide.now.items c.push.new.self.items c.node.new.wide.items c.len-at.result c.in_ok-found.found.wide
+    term_set c.args.vocab.now c.args.domains.now (term_view c.args.of.now) c.args.scope.now.items c.args.wide.now.items
+    c.push.new.self.items c.node.new.wide.items c.len-at.result c.in_ok-found.found.wide
     (c.len-at.ensures ∙ search rules) c.in_ok-push.ensures.items c.in_ok-found.ensures.wide c.in_ok-found.ensures.own
 
 pub sum-loop-part-preserved : goal.sum-loop-part-preserved
@@ -78,14 +93,24 @@ sum-loop-part-preserved t c =
     let range = c.in_ok-next.ensures.range ∙ ap (clamped_bounds v d (term_view part.term)) inv.0 in
     let signed = c.signed.ensures ∙ ap (λ x. clamp_interval (signed_interval part.minus x)) range in
     let total = c.plus-range.ensures ∙ ap (clamping_sum (range_view c.loop-part.range)) signed in
-    let wide = c.in_ok-next.ensures.wide ∙ ap (λ xs. c.loop-part.wide.items ++ wide_at (term_bounds v d (term_view part.term) xs)) inv.0 in (
+    let wide = c.in_ok-next.ensures.wide ∙ ap (λ xs. c.loop-part.wide.items ++ wide_at
+    (term_bounds v d (term_view part.term) xs)) inv.0 in (
       c.in_ok-next.ensures.scope ∙ inv.0,
-      wide_next c.loop-part.wide.items c.term.new.wide.items (c.args.wide.now.items ++ wide_at (summands_bounds v d (summands_of (map signed_view parts)) scope)) (term_bounds v d (term_view part.term) scope) (summands_bounds v d rest scope) wide
+      wide_next c.loop-part.wide.items c.term.new.wide.items (c.args.wide.now.items ++ wide_at
+          (summands_bounds v d (summands_of (map signed_view parts)) scope))
+          (term_bounds v d (term_view part.term) scope) (summands_bounds v d rest scope) wide
           (ap (λ ss. c.loop-part.wide.items ++ wide_at (summands_bounds v d ss scope)) (sym next) ∙ inv.1),
-      chain_range clamping_sum (range_view c.loop-part.range) (range_view c.plus-range.result) (clamp_interval own) (clamped_summands v d rest scope) (fold clamping_sum (exactly (pos 0)) (clamped_summands v d (summands_of (map signed_view parts)) scope)) total
-          (ap (λ ss. fold clamping_sum (range_view c.loop-part.range) (clamped_summands v d ss scope)) (sym next) ∙ inv.2),
-      chain_wide clamping_sum (range_view c.loop-part.range) (range_view c.plus-range.result) (clamp_interval own) (clamped_summands v d rest scope) c.loop-part.any c.or_wide-any.result (is_wide (front_bounds clamping_sum (exactly (pos 0)) (clamped_summands v d (summands_of (map signed_view parts)) scope))) total c.or_wide-any.ensures
-          (ap (λ ss. c.loop-part.any || is_wide (front_bounds clamping_sum (range_view c.loop-part.range) (clamped_summands v d ss scope))) (sym next) ∙ inv.3),
+      chain_range clamping_sum (range_view c.loop-part.range) (range_view c.plus-range.result) (clamp_interval own)
+          (clamped_summands v d rest scope) (fold clamping_sum (exactly (pos 0))
+          (clamped_summands v d (summands_of (map signed_view parts)) scope)) total
+          (ap (λ ss. fold clamping_sum (range_view c.loop-part.range) (clamped_summands v d ss scope))
+          (sym next) ∙ inv.2),
+      chain_wide clamping_sum (range_view c.loop-part.range) (range_view c.plus-range.result) (clamp_interval own)
+          (clamped_summands v d rest scope) c.loop-part.any c.or_wide-any.result
+          (is_wide (front_bounds clamping_sum (exactly (pos 0)) (clamped_summands v d
+          (summands_of (map signed_view parts)) scope))) total c.or_wide-any.ensures
+          (ap (λ ss. c.loop-part.any || is_wide (front_bounds clamping_sum (range_view c.loop-part.range)
+          (clamped_summands v d ss scope))) (sym next) ∙ inv.3),
     )
 
 pub product-loop-factor-preserved : goal.product-loop-factor-preserved
@@ -102,12 +127,22 @@ product-loop-factor-preserved t c =
     let own = clamped_bounds v d (term_view factor) scope in
     let range = c.in_ok-next.ensures.range ∙ ap (clamped_bounds v d (term_view factor)) inv.0 in
     let total = c.times-range.ensures ∙ ap (clamping_product (range_view c.loop-factor.range)) range in
-    let wide = c.in_ok-next.ensures.wide ∙ ap (λ xs. c.loop-factor.wide.items ++ wide_at (term_bounds v d (term_view factor) xs)) inv.0 in (
+    let wide = c.in_ok-next.ensures.wide ∙ ap (λ xs. c.loop-factor.wide.items ++ wide_at
+    (term_bounds v d (term_view factor) xs)) inv.0 in (
       c.in_ok-next.ensures.scope ∙ inv.0,
-      wide_next c.loop-factor.wide.items c.term.new.wide.items (c.args.wide.now.items ++ wide_at (terms_bounds v d (terms_of (map term_view factors)) scope)) (term_bounds v d (term_view factor) scope) (terms_bounds v d rest scope) wide
+      wide_next c.loop-factor.wide.items c.term.new.wide.items (c.args.wide.now.items ++ wide_at
+          (terms_bounds v d (terms_of (map term_view factors)) scope)) (term_bounds v d (term_view factor) scope)
+          (terms_bounds v d rest scope) wide
           (ap (λ ss. c.loop-factor.wide.items ++ wide_at (terms_bounds v d ss scope)) (sym next) ∙ inv.1),
-      chain_range clamping_product (range_view c.loop-factor.range) (range_view c.times-range.result) own (clamped_factors v d rest scope) (fold clamping_product (exactly (pos 1)) (clamped_factors v d (terms_of (map term_view factors)) scope)) total
-          (ap (λ ss. fold clamping_product (range_view c.loop-factor.range) (clamped_factors v d ss scope)) (sym next) ∙ inv.2),
-      chain_wide clamping_product (range_view c.loop-factor.range) (range_view c.times-range.result) own (clamped_factors v d rest scope) c.loop-factor.any c.or_wide-any.result (is_wide (front_bounds clamping_product (exactly (pos 1)) (clamped_factors v d (terms_of (map term_view factors)) scope))) total c.or_wide-any.ensures
-          (ap (λ ss. c.loop-factor.any || is_wide (front_bounds clamping_product (range_view c.loop-factor.range) (clamped_factors v d ss scope))) (sym next) ∙ inv.3),
+      chain_range clamping_product (range_view c.loop-factor.range) (range_view c.times-range.result) own
+          (clamped_factors v d rest scope) (fold clamping_product (exactly (pos 1))
+          (clamped_factors v d (terms_of (map term_view factors)) scope)) total
+          (ap (λ ss. fold clamping_product (range_view c.loop-factor.range) (clamped_factors v d ss scope))
+          (sym next) ∙ inv.2),
+      chain_wide clamping_product (range_view c.loop-factor.range) (range_view c.times-range.result) own
+          (clamped_factors v d rest scope) c.loop-factor.any c.or_wide-any.result
+          (is_wide (front_bounds clamping_product (exactly (pos 1))
+          (clamped_factors v d (terms_of (map term_view factors)) scope))) total c.or_wide-any.ensures
+          (ap (λ ss. c.loop-factor.any || is_wide (front_bounds clamping_product (range_view c.loop-factor.range)
+          (clamped_factors v d ss scope))) (sym next) ∙ inv.3),
     )

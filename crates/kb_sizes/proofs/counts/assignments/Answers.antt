@@ -12,7 +12,9 @@ loop-bound-preserved c =
     let i = c.loop-bound.bound-index in
     let b = c.bound-item.result in
     let next = choices_at d bs i b c.loop-bound-test.true c.bound-item.is in (
-      exact_factor c.loop-bound.count c.times-count.result c.elements.result (length (domain_at d b.ty)) (length (choices d (drop (i + 1) bs))) (length (choices d bs))
-          c.times-count.ensures c.elements.ensures (ap (λ n. capped (c.loop-bound.count * n)) (sym next) ∙ c.loop-bound.invariant.0),
+      exact_factor c.loop-bound.count c.times-count.result c.elements.result (length (domain_at d b.ty))
+          (length (choices d (drop (i + 1) bs))) (length (choices d bs))
+          c.times-count.ensures c.elements.ensures (ap (λ n. capped (c.loop-bound.count * n)) (sym next)
+          ∙ c.loop-bound.invariant.0),
       stays c.times-count.result (c.loop-bound.count * c.elements.result) c.times-count.ensures,
     )

@@ -6,4 +6,5 @@ use Rattle.kb_sizes.proofs.counts.assignments.Given as goal
 
 abbrev pub invariant-loop-bound : goal.invariant-loop-bound
 invariant-loop-bound l =
-    Same (l.count * length (choices l.domains (drop l.bound-index l.bounds))) (length (choices l.domains l.bounds)) × (l.count ≡ capped l.count)
+    Same (l.count * length (choices l.domains (drop l.bound-index l.bounds))) (length (choices l.domains l.bounds))
+    × (l.count ≡ capped l.count)

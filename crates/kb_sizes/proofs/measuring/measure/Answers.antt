@@ -7,7 +7,8 @@ use Rattle.kb_sizes.proofs.measuring.measure.Goals as goal
 pub returns-in-None-clause-ok : goal.returns-in-None-clause-ok
 returns-in-None-clause-ok c =
     let us = size_uses (typed_view c.args.kb.now) c.args.theory c.args.domains.now in
-    let noted : c.note_all.new.earliest.first ≡ fold size_noted None us = rw c.new-earliest.ensures at c.in-Ok.ensures in
+    let noted : c.note_all.new.earliest.first ≡ fold size_noted None us =
+    rw c.new-earliest.ensures at c.in-Ok.ensures in
     record {
       accepted = nothing_noted is_size_refused place_of_size_use size_causes us (sym noted ∙ c.in-None.is);
       atoms = c.atoms.ensures;
@@ -17,5 +18,6 @@ returns-in-None-clause-ok c =
 pub returns-in-Some-clause-err : goal.returns-in-Some-clause-err
 returns-in-Some-clause-err c =
     let us = size_uses (typed_view c.args.kb.now) c.args.theory c.args.domains.now in
-    let noted : c.note_all.new.earliest.first ≡ fold size_noted None us = rw c.new-earliest.ensures at c.in-Ok.ensures in
+    let noted : c.note_all.new.earliest.first ≡ fold size_noted None us =
+    rw c.new-earliest.ensures at c.in-Ok.ensures in
     earliest_noted is_size_refused place_of_size_use size_causes us c.in-Some.fault (sym noted ∙ c.in-Some.is)

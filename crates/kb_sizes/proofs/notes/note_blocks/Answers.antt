@@ -10,5 +10,6 @@ returns-then-i-places c =
     let kb = c.args.kb.now in
     let i = c.loop-i.i in
     let past : length kb.places.block_terms ≤ i = rw (← c.as_slice-places.ensures) c.if-i-places.true in
-    ap (λ zs. fold size_noted c.loop-i.earliest.first (flat_map (uses_of_block kb.vocab c.args.domains.now) zs)) (sym (nothing_right (map named_term_view (drop i kb.terms)) kb.places.block_terms i past))
+    ap (λ zs. fold size_noted c.loop-i.earliest.first (flat_map (uses_of_block kb.vocab c.args.domains.now) zs))
+    (sym (nothing_right (map named_term_view (drop i kb.terms)) kb.places.block_terms i past))
     ∙ c.loop-i.invariant

@@ -6,5 +6,7 @@ use Rattle.kb_sizes.proofs.notes.note_blocks.Given as goal
 
 abbrev pub invariant-loop-i : goal.invariant-loop-i
 invariant-loop-i l =
-    fold size_noted l.earliest.first (flat_map (uses_of_block l.kb.vocab l.domains) (zip (map named_term_view (drop l.i l.kb.terms)) (drop l.i l.kb.places.block_terms)))
-    ≡ fold size_noted l.fn.earliest.first (flat_map (uses_of_block l.kb.vocab l.domains) (zip (map named_term_view l.kb.terms) l.kb.places.block_terms))
+    fold size_noted l.earliest.first (flat_map (uses_of_block l.kb.vocab l.domains)
+    (zip (map named_term_view (drop l.i l.kb.terms)) (drop l.i l.kb.places.block_terms)))
+    ≡ fold size_noted l.fn.earliest.first (flat_map (uses_of_block l.kb.vocab l.domains)
+    (zip (map named_term_view l.kb.terms) l.kb.places.block_terms))

@@ -18,5 +18,7 @@ returns c =
     let o = c.args.earliest.now.first in
     let bounds = flat_map (item_bounds v d) (items_of (named_theory_view t).theory) in
     let read = ap (λ fs. wide_at (sentence_bounds v d (map formula_view fs))) c.as_slice-sentences.ensures in
-    let wide = c.deref.ensures.value ∙ c.in_ok-wide.ensures ∙ read ∙ ap wide_at (bounds_of_items v d (map formula_view t.value.sentences) (map definition_view t.value.definitions)) in
+    let wide = c.deref.ensures.value ∙ c.in_ok-wide.ensures ∙ read
+    ∙ ap wide_at (bounds_of_items v d (map formula_view t.value.sentences)
+    (map definition_view t.value.definitions)) in
     c.note_terms.ensures ∙ ap (λ ws. fold wide_noted o (zip ps ws)) wide ∙ terms_noted o ps bounds

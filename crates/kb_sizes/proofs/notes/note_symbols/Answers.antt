@@ -12,7 +12,8 @@ returns c =
     let symbols = c.args.symbols.now in
     let i = c.loop-i.i in
     let inv = c.loop-i.invariant in
-    ap (λ zs. fold size_noted c.loop-i.earliest.first (uses_of_symbols d inv.0 zs)) (sym (nothing_right (drop i places) symbols i c.loop-i-test.false)) ∙ inv.2
+    ap (λ zs. fold size_noted c.loop-i.earliest.first (uses_of_symbols d inv.0 zs))
+    (sym (nothing_right (drop i places) symbols i c.loop-i-test.false)) ∙ inv.2
 
 pub loop-i-preserved : goal.loop-i-preserved
 loop-i-preserved c =
@@ -27,6 +28,7 @@ loop-i-preserved c =
     let step = zip_step places symbols i 0 s c.if-i-places.false c.loop-i-test.true c.index-symbols-i.is in
     let before = ap (λ zs. fold size_noted c.loop-i.earliest.first (uses_of_symbols d inv.0 zs)) (sym step) ∙ inv.2 in
     let next =
-    symbol_next d c.loop-i.earliest.first c.note_if.new.self.first 0 c.atoms_of.result c.plus-after.result c.loop-i.before c.passes_limit.result _ inv.0 s rest all
+    symbol_next d c.loop-i.earliest.first c.note_if.new.self.first 0 c.atoms_of.result c.plus-after.result
+    c.loop-i.before c.passes_limit.result _ inv.0 s rest all
     inv.1 c.atoms_of.ensures c.plus-after.ensures c.passes_limit.ensures c.note_if.ensures before in
     (inv.0 + symbol_atoms d s, next.0, next.1)

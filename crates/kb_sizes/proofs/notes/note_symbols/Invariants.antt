@@ -6,4 +6,6 @@ use Rattle.kb_sizes.proofs.notes.note_symbols.Given as goal
 abbrev pub invariant-loop-i : goal.invariant-loop-i
 invariant-loop-i l =
     (before : ℕ) × (l.before ≡ capped before)
-    × (fold size_noted l.earliest.first (uses_of_symbols l.domains before (zip (drop l.i l.places) (drop l.i l.symbols))) ≡ fold size_noted l.fn.earliest.first (uses_of_symbols l.domains 0 (zip l.places l.symbols)))
+    × (fold size_noted l.earliest.first (uses_of_symbols l.domains before
+    (zip (drop l.i l.places) (drop l.i l.symbols))) ≡ fold size_noted l.fn.earliest.first
+    (uses_of_symbols l.domains 0 (zip l.places l.symbols)))

@@ -8,12 +8,14 @@ use Rattle.kb_sizes.proofs.notes.note_theory.Goals as goal
 pub returns-in_default : goal.returns-in_default
 returns-in_default c =
     let kb = c.args.kb.now in
-    no_first named_theory_view (uses_of_theory kb.vocab c.args.domains.now) kb.theories kb.places.theory_terms c.args.theory c.args.earliest.now.first (sym c.in_default.ensures.value)
+    no_first named_theory_view (uses_of_theory kb.vocab c.args.domains.now) kb.theories kb.places.theory_terms
+    c.args.theory c.args.earliest.now.first (sym c.in_default.ensures.value)
 
 pub returns-in_default-get : goal.returns-in_default-get
 returns-in_default-get c =
     let kb = c.args.kb.now in
-    no_second named_theory_view (uses_of_theory kb.vocab c.args.domains.now) kb.theories kb.places.theory_terms c.args.theory c.args.earliest.now.first (sym c.in_default-get.ensures.value)
+    no_second named_theory_view (uses_of_theory kb.vocab c.args.domains.now) kb.theories kb.places.theory_terms
+    c.args.theory c.args.earliest.now.first (sym c.in_default-get.ensures.value)
 
 pub returns : goal.returns
 returns c =
@@ -21,5 +23,7 @@ returns c =
     let o = c.args.earliest.now.first in
     let uses = uses_of_theory kb.vocab c.args.domains.now in
     let named = c.in-Some.named.now in
-    let chosen = one_chosen named_theory_view uses kb.theories kb.places.theory_terms c.args.theory o named c.in-Some-get.places.now (sym c.in-Some.ensures.value) (sym c.in-Some-get.ensures.value) in
-    on_ok_weaker c.note_sentences.result (λ h. h ∙ ap (λ ps. fold size_noted o (uses (named_theory_view named, ps))) c.as_slice.ensures ∙ chosen) c.note_sentences.ensures
+    let chosen = one_chosen named_theory_view uses kb.theories kb.places.theory_terms c.args.theory o named
+    c.in-Some-get.places.now (sym c.in-Some.ensures.value) (sym c.in-Some-get.ensures.value) in
+    on_ok_weaker c.note_sentences.result (λ h. h ∙ ap (λ ps. fold size_noted o (uses (named_theory_view named, ps)))
+    c.as_slice.ensures ∙ chosen) c.note_sentences.ensures

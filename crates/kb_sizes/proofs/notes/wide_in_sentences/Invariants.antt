@@ -7,4 +7,6 @@ use Rattle.kb_sizes.proofs.notes.wide_in_sentences.Given as goal
 abbrev pub invariant-loop-sentence : goal.invariant-loop-sentence
 invariant-loop-sentence l =
     (l.scope.items ≡ [])
-    × (l.wide.items ++ wide_at (sentence_bounds l.vocab l.domains (map formula_view (drop l.sentence-index l.sentences))) ≡ wide_at (sentence_bounds l.vocab l.domains (map formula_view l.sentences)))
+    × (l.wide.items ++ wide_at (sentence_bounds l.vocab l.domains
+    (map formula_view (drop l.sentence-index l.sentences))) ≡ wide_at
+    (sentence_bounds l.vocab l.domains (map formula_view l.sentences)))

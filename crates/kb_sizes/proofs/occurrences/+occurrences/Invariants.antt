@@ -8,15 +8,18 @@ use Rattle.kb_sizes.proofs.occurrences.+occurrences.Given as goal
 
 abbrev pub invariant-formulas-loop-one : goal.invariant-formulas-loop-one
 invariant-formulas-loop-one l =
-    Same (l.count + all_occurrences l.vocab l.domains (formulas_of (map formula_view (drop l.one-index l.all))) l.n) (all_occurrences l.vocab l.domains (formulas_of (map formula_view l.all)) l.n)
+    Same (l.count + all_occurrences l.vocab l.domains (formulas_of (map formula_view (drop l.one-index l.all))) l.n)
+    (all_occurrences l.vocab l.domains (formulas_of (map formula_view l.all)) l.n)
     × (l.count ≡ capped l.count)
 
 abbrev pub invariant-summands-loop-part : goal.invariant-summands-loop-part
 invariant-summands-loop-part l =
-    Same (l.count + summands_occurrences l.vocab l.domains (summands_of (map signed_view (drop l.part-index l.parts))) l.n) (summands_occurrences l.vocab l.domains (summands_of (map signed_view l.parts)) l.n)
+    Same (l.count + summands_occurrences l.vocab l.domains (summands_of (map signed_view (drop l.part-index l.parts)))
+    l.n) (summands_occurrences l.vocab l.domains (summands_of (map signed_view l.parts)) l.n)
     × (l.count ≡ capped l.count)
 
 abbrev pub invariant-terms-loop-one : goal.invariant-terms-loop-one
 invariant-terms-loop-one l =
-    Same (l.count + terms_occurrences l.vocab l.domains (terms_of (map term_view (drop l.one-index l.all))) l.n) (terms_occurrences l.vocab l.domains (terms_of (map term_view l.all)) l.n)
+    Same (l.count + terms_occurrences l.vocab l.domains (terms_of (map term_view (drop l.one-index l.all))) l.n)
+    (terms_occurrences l.vocab l.domains (terms_of (map term_view l.all)) l.n)
     × (l.count ≡ capped l.count)

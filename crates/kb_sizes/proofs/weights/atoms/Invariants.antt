@@ -8,5 +8,7 @@ use Rattle.kb_sizes.proofs.weights.atoms.Given as goal
 
 abbrev pub invariant-loop-symbol : goal.invariant-loop-symbol
 invariant-loop-symbol l =
-    Same (l.count + sum_by (λ s. length (tuples_of l.domains s.args) * value_count l.domains s.value) (drop l.symbol-index l.vocab.symbols)) (sum_by (λ s. length (tuples_of l.domains s.args) * value_count l.domains s.value) l.vocab.symbols)
+    Same (l.count + sum_by (λ s. length (tuples_of l.domains s.args) * value_count l.domains s.value)
+    (drop l.symbol-index l.vocab.symbols)) (sum_by (λ s. length (tuples_of l.domains s.args) * value_count l.domains
+    s.value) l.vocab.symbols)
     × (l.count ≡ capped l.count)

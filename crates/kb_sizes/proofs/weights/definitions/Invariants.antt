@@ -7,4 +7,6 @@ use Rattle.kb_sizes.proofs.Capping.{Same}
 use Rattle.kb_sizes.proofs.weights.definitions.Given as goal
 
 abbrev pub invariant-loop-one : goal.invariant-loop-one
-invariant-loop-one l = Same (l.count + sum_by (definition_occurrences l.vocab l.domains) (map definition_view (drop l.one-index l.all))) (sum_by (definition_occurrences l.vocab l.domains) (map definition_view l.all)) × (l.count ≡ capped l.count)
+invariant-loop-one l = Same (l.count + sum_by (definition_occurrences l.vocab l.domains)
+    (map definition_view (drop l.one-index l.all))) (sum_by (definition_occurrences l.vocab l.domains)
+    (map definition_view l.all)) × (l.count ≡ capped l.count)

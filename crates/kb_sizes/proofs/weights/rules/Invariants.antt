@@ -7,4 +7,6 @@ use Rattle.kb_sizes.proofs.Capping.{Same}
 use Rattle.kb_sizes.proofs.weights.rules.Given as goal
 
 abbrev pub invariant-loop-one : goal.invariant-loop-one
-invariant-loop-one l = Same (l.count + sum_by (rule_occurrences l.vocab l.domains) (map rule_view (drop l.one-index l.all))) (sum_by (rule_occurrences l.vocab l.domains) (map rule_view l.all)) × (l.count ≡ capped l.count)
+invariant-loop-one l = Same (l.count + sum_by (rule_occurrences l.vocab l.domains)
+    (map rule_view (drop l.one-index l.all))) (sum_by (rule_occurrences l.vocab l.domains) (map rule_view l.all))
+    × (l.count ≡ capped l.count)

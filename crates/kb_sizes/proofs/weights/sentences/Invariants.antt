@@ -7,4 +7,6 @@ use Rattle.kb_sizes.proofs.Capping.{Same}
 use Rattle.kb_sizes.proofs.weights.sentences.Given as goal
 
 abbrev pub invariant-loop-one : goal.invariant-loop-one
-invariant-loop-one l = Same (l.count + sum_by (λ f. occurrences l.vocab l.domains f 1) (map formula_view (drop l.one-index l.all))) (sum_by (λ f. occurrences l.vocab l.domains f 1) (map formula_view l.all)) × (l.count ≡ capped l.count)
+invariant-loop-one l = Same (l.count + sum_by (λ f. occurrences l.vocab l.domains f 1)
+    (map formula_view (drop l.one-index l.all))) (sum_by (λ f. occurrences l.vocab l.domains f 1)
+    (map formula_view l.all)) × (l.count ≡ capped l.count)

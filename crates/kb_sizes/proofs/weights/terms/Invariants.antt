@@ -8,5 +8,7 @@ use Rattle.kb_sizes.proofs.weights.terms.Given as goal
 
 abbrev pub invariant-loop-one : goal.invariant-loop-one
 invariant-loop-one l =
-    Same (l.count + sum_by (asked_occurrences l.vocab l.domains) (map (λ t. t.term) (map named_term_view (drop l.one-index l.all)))) (sum_by (asked_occurrences l.vocab l.domains) (map (λ t. t.term) (map named_term_view l.all)))
+    Same (l.count + sum_by (asked_occurrences l.vocab l.domains)
+    (map (λ t. t.term) (map named_term_view (drop l.one-index l.all))))
+    (sum_by (asked_occurrences l.vocab l.domains) (map (λ t. t.term) (map named_term_view l.all)))
     × (l.count ≡ capped l.count)

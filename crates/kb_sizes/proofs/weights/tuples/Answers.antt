@@ -12,7 +12,9 @@ loop-ty-preserved c =
     let i = c.loop-ty.ty-index in
     let ty = get_or types i 0 in
     let next = tuples_at d types i c.loop-ty-test.true in (
-      exact_factor c.loop-ty.count c.times-count.result c.type_size.result (length (domain_at d ty)) (length (tuples_of d (drop (i + 1) types))) (length (tuples_of d types))
-          c.times-count.ensures c.type_size.ensures (ap (λ n. capped (c.loop-ty.count * n)) (sym next) ∙ c.loop-ty.invariant.0),
+      exact_factor c.loop-ty.count c.times-count.result c.type_size.result (length (domain_at d ty))
+          (length (tuples_of d (drop (i + 1) types))) (length (tuples_of d types))
+          c.times-count.ensures c.type_size.ensures (ap (λ n. capped (c.loop-ty.count * n)) (sym next)
+          ∙ c.loop-ty.invariant.0),
       stays c.times-count.result (c.loop-ty.count * c.type_size.result) c.times-count.ensures,
     )

@@ -5,4 +5,5 @@ use Rattle.kb_sizes.proofs.Capping.{Same}
 use Rattle.kb_sizes.proofs.weights.tuples.Given as goal
 
 abbrev pub invariant-loop-ty : goal.invariant-loop-ty
-invariant-loop-ty l = Same (l.count * length (tuples_of l.domains (drop l.ty-index l.types))) (length (tuples_of l.domains l.types)) × (l.count ≡ capped l.count)
+invariant-loop-ty l = Same (l.count * length (tuples_of l.domains (drop l.ty-index l.types)))
+    (length (tuples_of l.domains l.types)) × (l.count ≡ capped l.count)

@@ -7,7 +7,8 @@ pub returns-in-Space : goal.returns-in-Space
 returns-in-Space c = (Blank, tt, blank_found c.args.bytes.now c.requires (sym c.class_of.ensures ∙ c.in-Space.is))
 
 pub returns-in-Digit : goal.returns-in-Digit
-returns-in-Digit c = rw c.digits_len.ensures (digits_found c.args.bytes.now c.requires (sym c.class_of.ensures ∙ c.in-Digit.is))
+returns-in-Digit c = rw c.digits_len.ensures (digits_found c.args.bytes.now c.requires (sym c.class_of.ensures
+    ∙ c.in-Digit.is))
 
 pub returns-in-Refused : goal.returns-in-Refused
 returns-in-Refused c = inl (refused_found c.args.bytes.now c.requires (sym c.class_of.ensures ∙ c.in-Refused.is))

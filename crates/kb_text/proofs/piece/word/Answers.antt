@@ -5,7 +5,8 @@ use Rattle.kb_text.proofs.Pieces.{word_opened}
 use Rattle.kb_text.proofs.piece.word.Goals as goal
 
 pub split_at-requires : goal.split_at-requires
-split_at-requires c = let short = prefix_len-le-length is_word_byte c.args.bytes.now in omega (arith, c.word_len-n.ensures)
+split_at-requires c = let short = prefix_len-le-length is_word_byte c.args.bytes.now in
+    omega (arith, c.word_len-n.ensures)
 
 pub returns-else-is_procedure_word : goal.returns-else-is_procedure_word
 returns-else-is_procedure_word c =

@@ -13,21 +13,33 @@ loop-start-preserved-in-Gap c =
     over_gap c.loop-start.invariant found.0 c.in-Gap.n found.1 found.2
 
 pub split_at-requires-in-Token : goal.split_at-requires-in-Token
-split_at-requires-in-Token c = token_within c.in_braces.result c.split_at.result.1.now c.in-Token.kind c.in-Token.n c.in-Token.ensures
+split_at-requires-in-Token c = token_within c.in_braces.result c.split_at.result.1.now c.in-Token.kind c.in-Token.n
+    c.in-Token.ensures
 
 pub returns-in-Some-clause-outcome : goal.returns-in-Some-clause-outcome
 returns-in-Some-clause-outcome c =
     let is_token = rw (c.in_braces.ensures, c.split_at.ensures.back) at c.in-Token.ensures in
-    let why : refusal_of (around_of c.loop-start.nesting) c.in-Token.kind (take c.in-Token.n (drop c.loop-start.start c.args.src.now)) (drop c.in-Token.n (drop c.loop-start.start c.args.src.now)) ≡ Some c.in-Some.cause = rw (c.split_at-in-Token.ensures.front, c.split_at-in-Token.ensures.back, c.split_at.ensures.back) at (sym c.refusal.ensures.value ∙ c.in-Some.is) in
+    let why : refusal_of (around_of c.loop-start.nesting) c.in-Token.kind
+    (take c.in-Token.n (drop c.loop-start.start c.args.src.now))
+    (drop c.in-Token.n (drop c.loop-start.start c.args.src.now)) ≡ Some c.in-Some.cause =
+    rw (c.split_at-in-Token.ensures.front, c.split_at-in-Token.ensures.back, c.split_at.ensures.back) at
+    (sym c.refusal.ensures.value ∙ c.in-Some.is) in
     rw c.refused.ensures (at_refused c.loop-start.invariant c.in-Token.kind c.in-Token.n is_token c.in-Some.cause why)
 
 pub loop-start-preserved : goal.loop-start-preserved
 loop-start-preserved c =
     let is_token = rw (c.in_braces.ensures, c.split_at.ensures.back) at c.in-Token.ensures in
-    let fits : refusal_of (around_of c.loop-start.nesting) c.in-Token.kind (take c.in-Token.n (drop c.loop-start.start c.args.src.now)) (drop c.in-Token.n (drop c.loop-start.start c.args.src.now)) ≡ None = rw (c.split_at-in-Token.ensures.front, c.split_at-in-Token.ensures.back, c.split_at.ensures.back) at (sym c.refusal.ensures.value ∙ c.in_default.is) in
+    let fits : refusal_of (around_of c.loop-start.nesting) c.in-Token.kind
+    (take c.in-Token.n (drop c.loop-start.start c.args.src.now))
+    (drop c.in-Token.n (drop c.loop-start.start c.args.src.now)) ≡ None =
+    rw (c.split_at-in-Token.ensures.front, c.split_at-in-Token.ensures.back, c.split_at.ensures.back) at
+    (sym c.refusal.ensures.value ∙ c.in_default.is) in
     let text = c.split_at-in-Token.ensures.front ∙ ap (take c.in-Token.n) c.split_at.ensures.back in
-    let pushed : lexemes c.push.new.self.items ≡ lexemes c.loop-start.out.items ++ lexeme (drop c.loop-start.start c.args.src.now) c.loop-start.start c.in-Token.kind c.in-Token.n ∷ [] = rw (c.in_ok-push-in-Token.ensures.items, map_push, text) refl in
-    let passed : around_of c.pass.new.self ≡ after_token (around_of c.loop-start.nesting) c.in-Token.kind (take c.in-Token.n (drop c.loop-start.start c.args.src.now)) = rw text at c.in_ok-pass-in-Token.ensures in
+    let pushed : lexemes c.push.new.self.items ≡ lexemes c.loop-start.out.items ++ lexeme
+    (drop c.loop-start.start c.args.src.now) c.loop-start.start c.in-Token.kind c.in-Token.n ∷ [] =
+    rw (c.in_ok-push-in-Token.ensures.items, map_push, text) refl in
+    let passed : around_of c.pass.new.self ≡ after_token (around_of c.loop-start.nesting) c.in-Token.kind
+    (take c.in-Token.n (drop c.loop-start.start c.args.src.now)) = rw text at c.in_ok-pass-in-Token.ensures in
     rw (pushed, passed) (over_token c.loop-start.invariant c.in-Token.kind c.in-Token.n is_token fits)
 
 pub returns-in-Nothing-clause-outcome : goal.returns-in-Nothing-clause-outcome

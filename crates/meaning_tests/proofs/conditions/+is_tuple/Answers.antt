@@ -12,4 +12,6 @@ returns-then-stands_in t c =
     on_weaker c.is_tuple.result _ _ (λ d.
     rw (c.in-Some.ensures.cases.0, c.in-Some-split_first.ensures.cases.0)
     (longer_tuple c.args.domains.now ty c.in-Some.types.now arg c.in-Some-split_first.args.now
-    (stands arg (domain_at c.args.domains.now ty) (sym (c.stands_in.ensures ∙ ap (list_any (λ y. same_value (denotation_of y) (denotation_of arg))) c.domain_in.ensures) ∙ c.if-stands_in.true)) d)) c.is_tuple.ensures
+    (stands arg (domain_at c.args.domains.now ty) (sym (c.stands_in.ensures
+    ∙ ap (list_any (λ y. same_value (denotation_of y) (denotation_of arg))) c.domain_in.ensures)
+    ∙ c.if-stands_in.true)) d)) c.is_tuple.ensures

@@ -10,4 +10,6 @@ pub returns-in-Some-Some : goal.returns-in-Some-Some
 returns-in-Some-Some c =
     OnTrue_from c.stands_in.result _ (λ h.
     rw (c.in-Some-Some.is-0, c.in-Some-Some.is-1)
-    (stands c.in-Some-Some.value (domain_at c.args.domains.now c.in-Some-Some.ty) (sym (c.stands_in.ensures ∙ ap (list_any (λ y. same_value (denotation_of y) (denotation_of c.in-Some-Some.value))) c.domain_in.ensures) ∙ h)))
+    (stands c.in-Some-Some.value (domain_at c.args.domains.now c.in-Some-Some.ty)
+    (sym (c.stands_in.ensures ∙ ap (list_any (λ y. same_value (denotation_of y)
+    (denotation_of c.in-Some-Some.value))) c.domain_in.ensures) ∙ h)))

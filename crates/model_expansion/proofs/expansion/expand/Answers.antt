@@ -8,15 +8,20 @@ pub returns-in-Ok-Unsat-clause-expands : goal.returns-in-Ok-Unsat-clause-expands
 returns-in-Ok-Unsat-clause-expands g c =
     let before : SolveState = g.S.Solve.state c.args.s.now in
     let after : SolveState = g.S.Solve.state c.solve.new.self in
-    let answers = subst (λ (w : Verdict). Answers before.problem c.args.assume.now w) c.in-Ok-Unsat.field-0-is c.in-Ok-Unsat.ensures.verdict in
-    let keeps = subst (λ (w : Verdict). KeepsCores before.cores (Ok w) after.cores) c.in-Ok-Unsat.field-0-is c.in-Ok-Unsat.ensures.cores in
+    let answers = subst (λ (w : Verdict). Answers before.problem c.args.assume.now w) c.in-Ok-Unsat.field-0-is
+    c.in-Ok-Unsat.ensures.verdict in
+    let keeps = subst (λ (w : Verdict). KeepsCores before.cores (Ok w) after.cores) c.in-Ok-Unsat.field-0-is
+    c.in-Ok-Unsat.ensures.cores in
     shows before.problem before.cores after.cores c.in-Ok-Unsat.core c.args.assume.now answers keeps
 
 pub returns-in-Ok-Sat-clause-costs : goal.returns-in-Ok-Sat-clause-costs
-returns-in-Ok-Sat-clause-costs g c = cost-of-one (g.S.Solve.state c.args.s.now) (g.S.Solve.state c.solve.new.self) c.args.budget.now c.solve.new.budget c.solve.ensures.searches c.solve.ensures.spends
+returns-in-Ok-Sat-clause-costs g c = cost-of-one (g.S.Solve.state c.args.s.now) (g.S.Solve.state c.solve.new.self)
+    c.args.budget.now c.solve.new.budget c.solve.ensures.searches c.solve.ensures.spends
 
 pub returns-in-Ok-Unsat-clause-costs : goal.returns-in-Ok-Unsat-clause-costs
-returns-in-Ok-Unsat-clause-costs g c = cost-of-one (g.S.Solve.state c.args.s.now) (g.S.Solve.state c.solve.new.self) c.args.budget.now c.solve.new.budget c.solve.ensures.searches c.solve.ensures.spends
+returns-in-Ok-Unsat-clause-costs g c = cost-of-one (g.S.Solve.state c.args.s.now) (g.S.Solve.state c.solve.new.self)
+    c.args.budget.now c.solve.new.budget c.solve.ensures.searches c.solve.ensures.spends
 
 pub returns-in-Err-clause-costs : goal.returns-in-Err-clause-costs
-returns-in-Err-clause-costs g c = cost-of-one (g.S.Solve.state c.args.s.now) (g.S.Solve.state c.solve.new.self) c.args.budget.now c.solve.new.budget c.solve.ensures.searches c.solve.ensures.spends
+returns-in-Err-clause-costs g c = cost-of-one (g.S.Solve.state c.args.s.now) (g.S.Solve.state c.solve.new.self)
+    c.args.budget.now c.solve.new.budget c.solve.ensures.searches c.solve.ensures.spends

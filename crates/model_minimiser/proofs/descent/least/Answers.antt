@@ -19,15 +19,20 @@ returns-in-Ok-clause-keeps g c =
     let r : SolveState = g.S.Solve.state c.args.s.now in
     let s : SolveState = g.S.Solve.state c.search.new.s in
     let t : SolveState = g.S.Solve.state c.descend.new.s in
-    keeps-twice r s t c.args.budget.now c.search.new.budget c.descend.new.budget c.search.ensures.keeps c.descend.ensures.keeps
+    keeps-twice r s t c.args.budget.now c.search.new.budget c.descend.new.budget c.search.ensures.keeps
+    c.descend.ensures.keeps
 
 pub returns-in-Ok-clause-costs : goal.returns-in-Ok-clause-costs
 returns-in-Ok-clause-costs g c = λ n spans.
     let r : SolveState = g.S.Solve.state c.args.s.now in
     let s : SolveState = g.S.Solve.state c.search.new.s in
     let t : SolveState = g.S.Solve.state c.descend.new.s in
-    let both : Keeps r t c.args.budget.now c.descend.new.budget = keeps-twice r s t c.args.budget.now c.search.new.budget c.descend.new.budget c.search.ensures.keeps c.descend.ensures.keeps in
-    cost-after n r s t c.args.budget.now c.search.new.budget c.descend.new.budget c.search.ensures.stays.free c.search.ensures.counts (c.descend.ensures.counts n (subst (λ (p : ProblemState). Spans p c.args.term n) (sym c.search.ensures.stays.problem) spans)) both.rises
+    let both : Keeps r t c.args.budget.now c.descend.new.budget =
+    keeps-twice r s t c.args.budget.now c.search.new.budget c.descend.new.budget c.search.ensures.keeps
+    c.descend.ensures.keeps in
+    cost-after n r s t c.args.budget.now c.search.new.budget c.descend.new.budget c.search.ensures.stays.free
+    c.search.ensures.counts (c.descend.ensures.counts n (subst (λ (p : ProblemState). Spans p c.args.term n)
+    (sym c.search.ensures.stays.problem) spans)) both.rises
 
 pub returns-in-Err-descend-clause-adds : goal.returns-in-Err-descend-clause-adds
 returns-in-Err-descend-clause-adds g c =
@@ -41,15 +46,20 @@ returns-in-Err-descend-clause-keeps g c =
     let r : SolveState = g.S.Solve.state c.args.s.now in
     let s : SolveState = g.S.Solve.state c.search.new.s in
     let t : SolveState = g.S.Solve.state c.descend.new.s in
-    keeps-twice r s t c.args.budget.now c.search.new.budget c.descend.new.budget c.search.ensures.keeps c.descend.ensures.keeps
+    keeps-twice r s t c.args.budget.now c.search.new.budget c.descend.new.budget c.search.ensures.keeps
+    c.descend.ensures.keeps
 
 pub returns-in-Err-descend-clause-costs : goal.returns-in-Err-descend-clause-costs
 returns-in-Err-descend-clause-costs g c = λ n spans.
     let r : SolveState = g.S.Solve.state c.args.s.now in
     let s : SolveState = g.S.Solve.state c.search.new.s in
     let t : SolveState = g.S.Solve.state c.descend.new.s in
-    let both : Keeps r t c.args.budget.now c.descend.new.budget = keeps-twice r s t c.args.budget.now c.search.new.budget c.descend.new.budget c.search.ensures.keeps c.descend.ensures.keeps in
-    cost-after n r s t c.args.budget.now c.search.new.budget c.descend.new.budget c.search.ensures.stays.free c.search.ensures.counts (c.descend.ensures.counts n (subst (λ (p : ProblemState). Spans p c.args.term n) (sym c.search.ensures.stays.problem) spans)) both.rises
+    let both : Keeps r t c.args.budget.now c.descend.new.budget =
+    keeps-twice r s t c.args.budget.now c.search.new.budget c.descend.new.budget c.search.ensures.keeps
+    c.descend.ensures.keeps in
+    cost-after n r s t c.args.budget.now c.search.new.budget c.descend.new.budget c.search.ensures.stays.free
+    c.search.ensures.counts (c.descend.ensures.counts n (subst (λ (p : ProblemState). Spans p c.args.term n)
+    (sym c.search.ensures.stays.problem) spans)) both.rises
 
 pub returns-in-Ok-None-clause-costs : goal.returns-in-Ok-None-clause-costs
 returns-in-Ok-None-clause-costs g c = λ n spans.

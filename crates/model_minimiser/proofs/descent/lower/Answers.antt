@@ -11,7 +11,8 @@ use Rattle.model_minimiser.proofs.descent.lower.Goals as goal
 pub returns-in_default-clause-counts : goal.returns-in_default-clause-counts
 returns-in_default-clause-counts g c =
     let s : SolveState = g.S.Solve.state c.args.s.now in
-    subst (λ (t : SolveState). CountsUpTo (s.free + 1) 1 s t c.args.budget.now c.args.budget.now) (sym c.in_default.ensures.err) (none-counted (s.free + 1) 1 s c.args.budget.now c.requires.kept.counted)
+    subst (λ (t : SolveState). CountsUpTo (s.free + 1) 1 s t c.args.budget.now c.args.budget.now)
+    (sym c.in_default.ensures.err) (none-counted (s.free + 1) 1 s c.args.budget.now c.requires.kept.counted)
 
 pub search_under-found-requires-clause-unretired : goal.search_under-found-requires-clause-unretired
 search_under-found-requires-clause-unretired g c =
@@ -20,7 +21,8 @@ search_under-found-requires-clause-unretired g c =
     let ls : List Lit = c.args.assume.now in
     subst (λ (l : Lit). AreUnretired t.problem (ls ++ l ∷ [])) (sym c.in-Ok.ensures.ok.0)
     (subst (λ (u : SolveState). AreUnretired u.problem (ls ++ next_lit s.problem ∷ [])) (sym c.in-Ok.ensures.ok.1)
-    (unretired s.problem c.args.term c.args.below ls c.requires.kept.problem c.requires.term c.requires.literals c.requires.unretired))
+    (unretired s.problem c.args.term c.args.below ls c.requires.kept.problem c.requires.term c.requires.literals
+    c.requires.unretired))
 
 pub retire-requires : goal.retire-requires
 retire-requires g c = record {
@@ -29,7 +31,8 @@ retire-requires g c = record {
       let t : SolveState = g.S.Solve.state c.bound.new.self in
       let u : SolveState = g.S.Solve.state c.search_under-found.new.s in
       subst (λ (l : Lit). IsSelector u.problem l) (sym c.in-Ok.ensures.ok.0)
-      (selects s t u u c.args.term c.args.below c.requires.kept.problem c.in-Ok.ensures.ok.1 c.search_under-found.ensures.stays);
+      (selects s t u u c.args.term c.args.below c.requires.kept.problem c.in-Ok.ensures.ok.1
+      c.search_under-found.ensures.stays);
 }
 
 pub returns-in-Ok-Some-clause-finds : goal.returns-in-Ok-Some-clause-finds
@@ -38,7 +41,10 @@ returns-in-Ok-Some-clause-finds g c =
     let s1 : SolveState = g.S.Solve.state c.bound.new.self in
     let s2 : SolveState = g.S.Solve.state c.search_under-found.new.s in
     let s3 : SolveState = g.S.Solve.state c.retire.new.self in
-    turn-found s0 s1 s2 s3 c.args.term c.args.below c.args.assume.now c.in-Ok.selector c.requires.kept.problem c.requires.term c.requires.literals c.in-Ok.ensures.ok c.search_under-found.ensures.stays c.retire.ensures.retired c.in-Ok-Some.field-0 c.in-Ok-Some.found c.in-Ok-Some.field-0-is c.in-Ok-Some.ensures.finds
+    turn-found s0 s1 s2 s3 c.args.term c.args.below c.args.assume.now c.in-Ok.selector c.requires.kept.problem
+    c.requires.term c.requires.literals c.in-Ok.ensures.ok c.search_under-found.ensures.stays
+    c.retire.ensures.retired c.in-Ok-Some.field-0 c.in-Ok-Some.found c.in-Ok-Some.field-0-is
+    c.in-Ok-Some.ensures.finds
 
 pub returns-in-Ok-Some-clause-adds : goal.returns-in-Ok-Some-clause-adds
 returns-in-Ok-Some-clause-adds g c =
@@ -46,7 +52,9 @@ returns-in-Ok-Some-clause-adds g c =
     let s1 : SolveState = g.S.Solve.state c.bound.new.self in
     let s2 : SolveState = g.S.Solve.state c.search_under-found.new.s in
     let s3 : SolveState = g.S.Solve.state c.retire.new.self in
-    turn-adds s0 s1 s2 s3 c.args.term c.args.below c.args.assume.now c.in-Ok.selector c.requires.kept.problem c.requires.term c.requires.literals c.in-Ok.ensures.ok c.search_under-found.ensures.stays c.retire.ensures.retired
+    turn-adds s0 s1 s2 s3 c.args.term c.args.below c.args.assume.now c.in-Ok.selector c.requires.kept.problem
+    c.requires.term c.requires.literals c.in-Ok.ensures.ok c.search_under-found.ensures.stays
+    c.retire.ensures.retired
 
 pub returns-in-Ok-None-clause-finds : goal.returns-in-Ok-None-clause-finds
 returns-in-Ok-None-clause-finds g c =
@@ -54,7 +62,9 @@ returns-in-Ok-None-clause-finds g c =
     let s1 : SolveState = g.S.Solve.state c.bound.new.self in
     let s2 : SolveState = g.S.Solve.state c.search_under-found.new.s in
     let s3 : SolveState = g.S.Solve.state c.retire.new.self in
-    turn-nothing s0 s1 s2 s3 c.args.term c.args.below c.args.assume.now c.in-Ok.selector c.requires.kept.problem c.requires.term c.requires.literals c.in-Ok.ensures.ok c.search_under-found.ensures.stays c.retire.ensures.retired c.in-Ok-None.field-0 c.in-Ok-None.field-0-is c.in-Ok-None.ensures.finds
+    turn-nothing s0 s1 s2 s3 c.args.term c.args.below c.args.assume.now c.in-Ok.selector c.requires.kept.problem
+    c.requires.term c.requires.literals c.in-Ok.ensures.ok c.search_under-found.ensures.stays
+    c.retire.ensures.retired c.in-Ok-None.field-0 c.in-Ok-None.field-0-is c.in-Ok-None.ensures.finds
 
 pub returns-in-Ok-None-clause-adds : goal.returns-in-Ok-None-clause-adds
 returns-in-Ok-None-clause-adds g c =
@@ -62,7 +72,9 @@ returns-in-Ok-None-clause-adds g c =
     let s1 : SolveState = g.S.Solve.state c.bound.new.self in
     let s2 : SolveState = g.S.Solve.state c.search_under-found.new.s in
     let s3 : SolveState = g.S.Solve.state c.retire.new.self in
-    turn-adds s0 s1 s2 s3 c.args.term c.args.below c.args.assume.now c.in-Ok.selector c.requires.kept.problem c.requires.term c.requires.literals c.in-Ok.ensures.ok c.search_under-found.ensures.stays c.retire.ensures.retired
+    turn-adds s0 s1 s2 s3 c.args.term c.args.below c.args.assume.now c.in-Ok.selector c.requires.kept.problem
+    c.requires.term c.requires.literals c.in-Ok.ensures.ok c.search_under-found.ensures.stays
+    c.retire.ensures.retired
 
 pub returns-in-Err-clause-adds : goal.returns-in-Err-clause-adds
 returns-in-Err-clause-adds g c =
@@ -70,4 +82,6 @@ returns-in-Err-clause-adds g c =
     let s1 : SolveState = g.S.Solve.state c.bound.new.self in
     let s2 : SolveState = g.S.Solve.state c.search_under-found.new.s in
     let s3 : SolveState = g.S.Solve.state c.retire.new.self in
-    turn-adds s0 s1 s2 s3 c.args.term c.args.below c.args.assume.now c.in-Ok.selector c.requires.kept.problem c.requires.term c.requires.literals c.in-Ok.ensures.ok c.search_under-found.ensures.stays c.retire.ensures.retired
+    turn-adds s0 s1 s2 s3 c.args.term c.args.below c.args.assume.now c.in-Ok.selector c.requires.kept.problem
+    c.requires.term c.requires.literals c.in-Ok.ensures.ok c.search_under-found.ensures.stays
+    c.retire.ensures.retired

@@ -9,6 +9,8 @@ returns-in-Ok-Unsat-clause-finds g c =
     let before : SolveState = g.S.Solve.state c.args.s.now in
     let after : SolveState = g.S.Solve.state c.solve.new.self in
     let core = c.in-Ok-Unsat.field-0-0 in
-    let answers = subst (λ (w : Verdict). Answers before.problem c.args.assume.now w) c.in-Ok-Unsat.field-0-is c.in-Ok-Unsat.ensures.verdict in
-    let keeps = subst (λ (w : Verdict). KeepsCores before.cores (Ok w) after.cores) c.in-Ok-Unsat.field-0-is c.in-Ok-Unsat.ensures.cores in
+    let answers = subst (λ (w : Verdict). Answers before.problem c.args.assume.now w) c.in-Ok-Unsat.field-0-is
+    c.in-Ok-Unsat.ensures.verdict in
+    let keeps = subst (λ (w : Verdict). KeepsCores before.cores (Ok w) after.cores) c.in-Ok-Unsat.field-0-is
+    c.in-Ok-Unsat.ensures.cores in
     refused before.problem before.cores after.cores core c.args.assume.now answers keeps

@@ -7,13 +7,16 @@ use Rattle.model_search.proofs.searching.model_of.Goals as goal
 pub returns-in-Ok-Sat-clause-finds : goal.returns-in-Ok-Sat-clause-finds
 returns-in-Ok-Sat-clause-finds g c =
     let before : SolveState = g.S.Solve.state c.args.s.now in
-    let h = subst (λ (w : Verdict). Answers before.problem c.args.lits.now w) c.in-Ok-Sat.field-0-is c.in-Ok-Sat.ensures.verdict in
+    let h = subst (λ (w : Verdict). Answers before.problem c.args.lits.now w) c.in-Ok-Sat.field-0-is
+    c.in-Ok-Sat.ensures.verdict in
     (omega (arith, h.0), h.1, h.2)
 
 pub returns-in-Ok-Unsat-clause-finds : goal.returns-in-Ok-Unsat-clause-finds
 returns-in-Ok-Unsat-clause-finds g c =
     let before : SolveState = g.S.Solve.state c.args.s.now in
     let after : SolveState = g.S.Solve.state c.solve.new.self in
-    let answers = subst (λ (w : Verdict). Answers before.problem c.args.lits.now w) c.in-Ok-Unsat.field-0-is c.in-Ok-Unsat.ensures.verdict in
-    let keeps = subst (λ (w : Verdict). KeepsCores before.cores (Ok w) after.cores) c.in-Ok-Unsat.field-0-is c.in-Ok-Unsat.ensures.cores in
+    let answers = subst (λ (w : Verdict). Answers before.problem c.args.lits.now w) c.in-Ok-Unsat.field-0-is
+    c.in-Ok-Unsat.ensures.verdict in
+    let keeps = subst (λ (w : Verdict). KeepsCores before.cores (Ok w) after.cores) c.in-Ok-Unsat.field-0-is
+    c.in-Ok-Unsat.ensures.cores in
     refused before.problem before.cores after.cores c.in-Ok-Unsat.field-0-0 c.args.lits.now answers keeps

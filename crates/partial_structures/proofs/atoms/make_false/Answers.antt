@@ -9,11 +9,14 @@ use Rattle.partial_structures.proofs.atoms.make_false.Goals as goal
 pub set_mark-requires : goal.set_mark-requires
 set_mark-requires c =
     let rows = c.reach_atom.new.rows in
-    node_within (words_in rows.words) rows.nodes.entries c.args.atom.now.symbol (row_of c.args.atom.now.args c.args.atom.now.value) c.in_ok-node.node c.in_ok-node.ensures.node
+    node_within (words_in rows.words) rows.nodes.entries c.args.atom.now.symbol
+    (row_of c.args.atom.now.args c.args.atom.now.value) c.in_ok-node.node c.in_ok-node.ensures.node
 
 pub returns-clause-ok : goal.returns-clause-ok
 returns-clause-ok c =
     let row = row_of c.args.atom.now.args c.args.atom.now.value in
-    set_after (words_in c.args.rows.now.words) (words_in c.reach_atom.new.rows.words) c.args.rows.now.nodes.entries c.reach_atom.new.rows.nodes.entries c.set_mark.new.self.nodes.entries
+    set_after (words_in c.args.rows.now.words) (words_in c.reach_atom.new.rows.words) c.args.rows.now.nodes.entries
+    c.reach_atom.new.rows.nodes.entries c.set_mark.new.self.nodes.entries
     c.args.atom.now.symbol row row c.in_ok-node.node c.mark-mark.result (λ m. record m { known = No })
-    (ap words_in c.in_ok-node.ensures.words) c.in_ok-node.ensures.grows c.in_ok-node.ensures.node refl c.mark-mark.ensures c.set_mark.ensures.nodes
+    (ap words_in c.in_ok-node.ensures.words) c.in_ok-node.ensures.grows c.in_ok-node.ensures.node refl
+    c.mark-mark.ensures c.set_mark.ensures.nodes

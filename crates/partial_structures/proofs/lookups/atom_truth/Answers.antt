@@ -11,19 +11,23 @@ use Rattle.partial_structures.proofs.lookups.atom_truth.Goals as goal
 pub returns-then-not-is_complete : goal.returns-then-not-is_complete
 returns-then-not-is_complete c = λ vs h.
     let a = c.args in
-    let typed : arguments_typed (known_in a.s) (slice_get a.s.symbols.now a.symbol) vs ≡ false = sym (whole_is a.s a.symbol vs) ∙ sym (ap is_whole h) ∙ sym c.is_complete.ensures ∙ c.if-not-is_complete.true in
+    let typed : arguments_typed (known_in a.s) (slice_get a.s.symbols.now a.symbol) vs ≡ false =
+    sym (whole_is a.s a.symbol vs) ∙ sym (ap is_whole h) ∙ sym c.is_complete.ensures ∙ c.if-not-is_complete.true in
     sym (ap (λ b. if b then value_of_row (known_in a.s) a.symbol vs None else No) typed)
 
 pub returns-then-is_function : goal.returns-then-is_function
 returns-then-is_function c = λ vs h.
     let a = c.args in
-    let typed : arguments_typed (known_in a.s) (slice_get a.s.symbols.now a.symbol) vs ≡ true = sym (whole_is a.s a.symbol vs) ∙ sym (ap is_whole h) ∙ sym c.is_complete.ensures ∙ c.if-not-is_complete.false in
-    sym (ap (λ b. if b then value_of_row (known_in a.s) a.symbol vs None else No) typed ∙ function_row a.s a.symbol vs (sym c.is_function.ensures ∙ c.if-is_function.true))
+    let typed : arguments_typed (known_in a.s) (slice_get a.s.symbols.now a.symbol) vs ≡ true =
+    sym (whole_is a.s a.symbol vs) ∙ sym (ap is_whole h) ∙ sym c.is_complete.ensures ∙ c.if-not-is_complete.false in
+    sym (ap (λ b. if b then value_of_row (known_in a.s) a.symbol vs None else No) typed
+    ∙ function_row a.s a.symbol vs (sym c.is_function.ensures ∙ c.if-is_function.true))
 
 pub returns : goal.returns
 returns c = λ vs h.
     let a = c.args in
-    let typed : arguments_typed (known_in a.s) (slice_get a.s.symbols.now a.symbol) vs ≡ true = sym (whole_is a.s a.symbol vs) ∙ sym (ap is_whole h) ∙ sym c.is_complete.ensures ∙ c.if-not-is_complete.false in
+    let typed : arguments_typed (known_in a.s) (slice_get a.s.symbols.now a.symbol) vs ≡ true =
+    sym (whole_is a.s a.symbol vs) ∙ sym (ap is_whole h) ∙ sym c.is_complete.ensures ∙ c.if-not-is_complete.false in
     let row = predicate_row a.s a.symbol vs typed (sym c.is_function.ensures ∙ c.if-is_function.false) in
     let node : a.place.node ≡ (spot_of a.s a.symbol vs).node = ap (λ (p : Spot). p.node) h in
     rw (c.flag.ensures, c.mark.ensures) at c.if_closed.ensures

@@ -5,4 +5,5 @@ use Rattle.partial_structures.proofs.lookups.is_element.Goals as goal
 
 pub returns : goal.returns
 returns c =
-    c.contains.ensures ∙ ap (has_label_of c.args.s.elements.now.table.keys c.args.ty) c.value_label.ensures ∙ c.args.s.hashed c.args.ty (value_view c.args.value)
+    c.contains.ensures ∙ ap (has_label_of c.args.s.elements.now.table.keys c.args.ty) c.value_label.ensures
+    ∙ c.args.s.hashed c.args.ty (value_view c.args.value)

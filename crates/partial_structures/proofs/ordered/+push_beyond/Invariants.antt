@@ -10,7 +10,8 @@ invariant-loop-elem l =
     let ws = words_in l.s.rows.now.words in
     let es = l.s.rows.now.nodes.entries in
     l.out.items
-    ≡ l.initial.out.items ++ flat_map (λ x. beyond ws es l.closed l.s.domains.now (child_by es l.node (label_of ws x)) l.rest l.value) (take l.elem-index l.elem-items)
+    ≡ l.initial.out.items ++ flat_map (λ x. beyond ws es l.closed l.s.domains.now (child_by es l.node (label_of ws x))
+    l.rest l.value) (take l.elem-index l.elem-items)
 
 abbrev pub decreases-push_beyond : goal.decreases-push_beyond
 decreases-push_beyond l = length l.types.now

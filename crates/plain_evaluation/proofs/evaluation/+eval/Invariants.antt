@@ -2,7 +2,8 @@ use Rattle.kb_logic.specs.Arithmetic.{AllFit, FoldFits, ProductFits, SummandsFit
 use Rattle.kb_logic.specs.Denotations.{as_number}
 use Rattle.plain_evaluation.specs.Environments.{env_view}
 use Rattle.kb_logic.specs.Values.{total_view}
-use Rattle.kb_logic.specs.Meaning.{assignments, all_true, any_true, applied, behind, has_row, product_from, sum_of, truth_of, value_of, values_of}
+use Rattle.kb_logic.specs.Meaning.{assignments, all_true, any_true, applied, behind, has_row, product_from, sum_of}
+use Rattle.kb_logic.specs.Meaning.{truth_of, value_of, values_of}
 use Rattle.kb_logic.specs.Trees.{formulas_of, summands_of, terms_of}
 use Rattle.kb_logic.specs.Views.{formula_view, signed_view, term_view}
 use Rattle.std.proofs.Common.{◌≡◌, ◌+◌, ◌*◌, ◌^◌, ◌-◌, min, max, map, drop, take, length, ◌++◌, pos, neg_ℤ, ◌+ℤ◌, ◌≤ℤ◌}
@@ -15,7 +16,8 @@ use Rattle.plain_evaluation.proofs.evaluation.+eval.Given as goal
 abbrev pub invariant-strip-loop-arg : goal.invariant-strip-loop-arg
 invariant-strip-loop-arg l =
     let left = terms_of (map term_view (drop l.arg-index l.args)) in
-    (behind l.rest (values_of l.m left (env_view l.env)) ≡ behind l.row (values_of l.m (terms_of (map term_view l.args)) (env_view l.env)))
+    (behind l.rest (values_of l.m left (env_view l.env)) ≡ behind l.row (values_of l.m (terms_of (map term_view l.args))
+    (env_view l.env)))
     × TermsFit l.m left (env_view l.env)
 
 abbrev pub invariant-application-loop-row : goal.invariant-application-loop-row
@@ -26,7 +28,8 @@ invariant-application-loop-row l =
 abbrev pub invariant-sum-loop-part : goal.invariant-sum-loop-part
 invariant-sum-loop-part l =
     let left = summands_of (map signed_view (drop l.part-index l.parts)) in
-    (option_map (λ z. l.total +ℤ z) (sum_of l.m left (env_view l.env)) ≡ sum_of l.m (summands_of (map signed_view l.parts)) (env_view l.env))
+    (option_map (λ z. l.total +ℤ z) (sum_of l.m left (env_view l.env)) ≡ sum_of l.m
+    (summands_of (map signed_view l.parts)) (env_view l.env))
     × SummandsFit l.m left (env_view l.env)
     × (neg_ℤ (pos (2 ^ 63 * l.part-index)) ≤ℤ l.total)
     × (l.total ≤ℤ pos (2 ^ 63 * l.part-index))
@@ -63,9 +66,11 @@ invariant-is_in-loop-row l =
 
 abbrev pub invariant-aggregate-loop-number : goal.invariant-aggregate-loop-number
 invariant-aggregate-loop-number l =
-    let V = values_after l.m l.others (λ a. truth_of l.m (formula_view l.formula) (env_view l.env ++ a)) (λ a. as_number (value_of l.m (term_view l.weight) (env_view l.env ++ a))) in
+    let V = values_after l.m l.others (λ a. truth_of l.m (formula_view l.formula) (env_view l.env ++ a))
+    (λ a. as_number (value_of l.m (term_view l.weight) (env_view l.env ++ a))) in
     let all = assignments l.m l.block.bounds.now in
-    (fold (combined l.kind) (total_view l.total) (flat_map V (drop l.number all)) ≡ fold (combined l.kind) (total_view l.fn.before) (flat_map V all))
+    (fold (combined l.kind) (total_view l.total) (flat_map V (drop l.number all)) ≡ fold (combined l.kind)
+    (total_view l.fn.before) (flat_map V all))
     × FoldFits l.kind (total_view l.total) (flat_map V (drop l.number all))
 
 abbrev pub decreases-aggregate : goal.decreases-aggregate
@@ -100,12 +105,14 @@ decreases-product l = 2 ^ 65 * goal.size-product l + 1
 abbrev pub invariant-is_true-or : goal.invariant-is_true-or
 invariant-is_true-or l =
     let left = formulas_of (map formula_view (drop l.disjunct-index l.disjunct-items)) in
-    (any_true l.m left (env_view l.env) ≡ any_true l.m (formulas_of (map formula_view l.disjunct-items)) (env_view l.env))
+    (any_true l.m left (env_view l.env) ≡ any_true l.m (formulas_of (map formula_view l.disjunct-items))
+    (env_view l.env))
     × AllFit l.m left (env_view l.env)
 
 abbrev pub invariant-product-loop-factor : goal.invariant-product-loop-factor
 invariant-product-loop-factor l =
     let left = values_of l.m (terms_of (map term_view (drop l.factor-index l.factors))) (env_view l.env) in
-    (product_from l.total left ≡ product_from (pos 1) (values_of l.m (terms_of (map term_view l.factors)) (env_view l.env)))
+    (product_from l.total left ≡ product_from (pos 1) (values_of l.m (terms_of (map term_view l.factors))
+    (env_view l.env)))
     × ProductFits l.total left
     × TermsFit l.m (terms_of (map term_view (drop l.factor-index l.factors))) (env_view l.env)

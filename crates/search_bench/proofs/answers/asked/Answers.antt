@@ -9,9 +9,11 @@ use Rattle.search_bench.proofs.answers.asked.Goals as goal
 pub returns-in-Model : goal.returns-in-Model
 returns-in-Model g c =
     let p : ProblemState = (g.S.Solve.state c.args.solver.now).problem in
-    subst (λ (q : Question). IfOk c.verdict.result (λ out. IsAnswerTo p q out.items)) (sym c.in-Model.is) c.verdict.ensures
+    subst (λ (q : Question). IfOk c.verdict.result (λ out. IsAnswerTo p q out.items)) (sym c.in-Model.is)
+    c.verdict.ensures
 
 pub returns-in-Forced : goal.returns-in-Forced
 returns-in-Forced g c =
     let p : ProblemState = (g.S.Solve.state c.args.solver.now).problem in
-    subst (λ (q : Question). IfOk c.forced_of.result (λ out. IsAnswerTo p q out.items)) (sym c.in-Forced.is) c.forced_of.ensures
+    subst (λ (q : Question). IfOk c.forced_of.result (λ out. IsAnswerTo p q out.items)) (sym c.in-Forced.is)
+    c.forced_of.ensures

@@ -8,8 +8,11 @@ pub loop-number-preserved : goal.loop-number-preserved
 loop-number-preserved c =
     let n : ℕ = c.loop-number.number in
     let old : List Lit = c.loop-number.lits.items in
-    let items : c.push-in-loop-number.new.self.items ≡ (old ++ lit_with (n + 1) true ∷ []) ++ lit_with (n + 1) false ∷ [] = c.in_ok-push-2.ensures.items ∙ ap (λ (xs : List Lit). xs ++ lit_with (n + 1) false ∷ []) c.in_ok-push.ensures.items in
+    let items : c.push-in-loop-number.new.self.items ≡ (old ++ lit_with (n + 1) true ∷ []) ++ lit_with (n + 1) false ∷
+    [] = c.in_ok-push-2.ensures.items ∙ ap (λ (xs : List Lit). xs ++ lit_with (n + 1) false ∷ [])
+    c.in_ok-push.ensures.items in
     record {
       over = subst (AreLitsOf (n + 1)) (sym items) (literals-over n old c.loop-number.invariant.over);
-      all = λ m h. subst (λ (xs : List Lit). Contains xs m) (sym items) (literals-all n old c.loop-number.invariant.all m h);
+      all = λ m h. subst (λ (xs : List Lit). Contains xs m) (sym items)
+          (literals-all n old c.loop-number.invariant.all m h);
     }

@@ -5,4 +5,5 @@ use Rattle.search_bench.proofs.forcing.text_of.Given as goal
 
 -- with the literals that are left, all literals
 abbrev pub invariant-loop-one : goal.invariant-loop-one
-invariant-loop-one l = l.text.items ++ lits_text (map (λ (k : Kept). k.lit) (drop l.one-index l.kept)) ≡ codes "s SATISFIABLE\nb" ++ lits_text (map (λ (k : Kept). k.lit) l.kept)
+invariant-loop-one l = l.text.items ++ lits_text (map (λ (k : Kept). k.lit) (drop l.one-index l.kept))
+    ≡ codes "s SATISFIABLE\nb" ++ lits_text (map (λ (k : Kept). k.lit) l.kept)

@@ -5,4 +5,5 @@ use Rattle.search_bench.specs.Dimacs.{IsNumber, number_of}
 use Rattle.search_bench.proofs.lines.lits_of.Given as goal
 
 abbrev pub invariant-loop-word : goal.invariant-loop-word
-invariant-loop-word l = AreLitsOf l.vars l.clause × AllZip IsNumber (map (λ w. w.now) (take l.word-index l.words)) (map number_of l.clause)
+invariant-loop-word l = AreLitsOf l.vars l.clause × AllZip IsNumber (map (λ w. w.now) (take l.word-index l.words))
+    (map number_of l.clause)

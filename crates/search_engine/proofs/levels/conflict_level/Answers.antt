@@ -17,13 +17,18 @@ loop-lit-preserved c =
     let f : w.0.level ≡ c.level_of.result = w.2 in
     let is-max : c.max-level.result ≡ max c.loop-lit.level w.0.level = omega (arith, e, f) in
     record {
-      upto = upto-more c.args.store.now c.requires.laws c.args.conflict c.lend-lits.result.now c.lend-lits.ensures.held c.requires.conflict c.loop-lit.lit-index c.loop-lit.level c.max-level.result first lt w.0 w.1 is-max c.loop-lit.invariant.upto;
-      here = here-more c.args.store.now c.requires.laws c.args.conflict c.lend-lits.result.now c.lend-lits.ensures.held c.requires.conflict c.loop-lit.lit-index c.loop-lit.level c.max-level.result first lt w.0 w.1 is-max c.loop-lit.invariant.here;
+      upto = upto-more c.args.store.now c.requires.laws c.args.conflict c.lend-lits.result.now c.lend-lits.ensures.held
+          c.requires.conflict c.loop-lit.lit-index c.loop-lit.level c.max-level.result first lt w.0 w.1 is-max
+          c.loop-lit.invariant.upto;
+      here = here-more c.args.store.now c.requires.laws c.args.conflict c.lend-lits.result.now c.lend-lits.ensures.held
+          c.requires.conflict c.loop-lit.lit-index c.loop-lit.level c.max-level.result first lt w.0 w.1 is-max
+          c.loop-lit.invariant.here;
     }
 
 pub returns : goal.returns
 returns c =
-    let whole : take c.loop-lit.lit-index c.lend-lits.result.now ≡ c.lend-lits.result.now = take_all c.loop-lit.lit-index c.lend-lits.result.now (let t = c.loop-lit-test.false in omega arith) in
+    let whole : take c.loop-lit.lit-index c.lend-lits.result.now ≡ c.lend-lits.result.now =
+    take_all c.loop-lit.lit-index c.lend-lits.result.now (let t = c.loop-lit-test.false in omega arith) in
     record {
       clause = c.lend-lits.result.now;
       held = c.lend-lits.ensures.held;

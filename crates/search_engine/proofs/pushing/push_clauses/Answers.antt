@@ -12,9 +12,12 @@ loop-clause-preserved c =
     let mid : List (Option (List Lit)) = c.loop-clause.store.clauses in
     let clauses : c.push_clause.new.self.clauses ≡ mid ++ Some w.1.0 ∷ [] = ap (λ (s : StoreState). s.clauses) w.1.2 in
     let front : List (List Lit) = take c.loop-clause.clause-index c.args.clauses.now in
-    let next = take-read c.args.clauses.now c.loop-clause.clause-index c.clause-item.result (search rules) c.clause-item.is in
-    let once : IsEachOnceOf c.clause-item.result w.1.0 = subst (λ (lits : List Lit). IsEachOnceOf lits w.1.0) c.as_slice.ensures w.1.1 in
-    let pushed : Pushes old (mid ++ Some w.1.0 ∷ []) (front ++ c.clause-item.result ∷ []) = pushes-one old mid front c.clause-item.result w.1.0 c.loop-clause.invariant.pushed once in
+    let next = take-read c.args.clauses.now c.loop-clause.clause-index c.clause-item.result
+    (search rules) c.clause-item.is in
+    let once : IsEachOnceOf c.clause-item.result w.1.0 = subst (λ (lits : List Lit). IsEachOnceOf lits w.1.0)
+    c.as_slice.ensures w.1.1 in
+    let pushed : Pushes old (mid ++ Some w.1.0 ∷ []) (front ++ c.clause-item.result ∷ []) =
+    pushes-one old mid front c.clause-item.result w.1.0 c.loop-clause.invariant.pushed once in
     record {
       trail = ap (λ (s : StoreState). s.trail) w.1.2 ∙ c.loop-clause.invariant.trail;
       pushed = rw (clauses, next) pushed;

@@ -20,12 +20,20 @@ pub push_gates-requires-clause-in_range : goal.push_gates-requires-clause-in_ran
 push_gates-requires-clause-in_range c =
     let n : ℕ = c.args.more.now.vars in
     let all : All (AreLitsOf n) (clauses_of c.args.more.now) = clauses-within c.args.more.now c.gates.ensures.laws in
-    let front : All (AreLitsOf n) (flat_map gate_clauses c.args.more.now.gates) = All-front (AreLitsOf n) (flat_map gate_clauses c.args.more.now.gates) c.args.more.now.clauses all in
-    rw c.gates.ensures.value (all-below n (length c.args.store.now.trail.values) c.requires.in_range (flat_map gate_clauses c.args.more.now.gates) front)
+    let front : All (AreLitsOf n) (flat_map gate_clauses c.args.more.now.gates) =
+    All-front (AreLitsOf n) (flat_map gate_clauses c.args.more.now.gates) c.args.more.now.clauses all in
+    rw c.gates.ensures.value (all-below n (length c.args.store.now.trail.values) c.requires.in_range
+    (flat_map gate_clauses c.args.more.now.gates) front)
 
 pub returns-clause-ok : goal.returns-clause-ok
 returns-clause-ok c =
-    let first : Pushes c.args.store.now.clauses c.push_gates.new.store.clauses (flat_map gate_clauses c.args.more.now.gates) = subst (λ gs. Pushes c.args.store.now.clauses c.push_gates.new.store.clauses (flat_map gate_clauses gs)) c.gates.ensures.value c.in_ok-push_gates.ensures.ok in
+    let first : Pushes c.args.store.now.clauses c.push_gates.new.store.clauses
+    (flat_map gate_clauses c.args.more.now.gates) = subst (λ gs. Pushes c.args.store.now.clauses
+    c.push_gates.new.store.clauses (flat_map gate_clauses gs)) c.gates.ensures.value
+    c.in_ok-push_gates.ensures.ok in
     let lent : c.as_slice.result.now ≡ c.args.more.now.clauses = cc (c.as_slice.ensures, c.clauses.ensures.value) in
-    let whole = λ (h : Pushes c.push_gates.new.store.clauses c.push_clauses.new.store.clauses c.as_slice.result.now). pushes-append c.args.store.now.clauses c.push_gates.new.store.clauses c.push_clauses.new.store.clauses (flat_map gate_clauses c.args.more.now.gates) c.args.more.now.clauses first (subst (Pushes c.push_gates.new.store.clauses c.push_clauses.new.store.clauses) lent h) in
+    let whole = λ (h : Pushes c.push_gates.new.store.clauses c.push_clauses.new.store.clauses c.as_slice.result.now).
+    pushes-append c.args.store.now.clauses c.push_gates.new.store.clauses c.push_clauses.new.store.clauses
+    (flat_map gate_clauses c.args.more.now.gates) c.args.more.now.clauses first
+    (subst (Pushes c.push_gates.new.store.clauses c.push_clauses.new.store.clauses) lent h) in
     on_ok_weaker c.push_clauses.result whole c.push_clauses.ensures.ok

@@ -18,4 +18,7 @@ retire-requires g c =
     let lt : 0 < length q.terms = omega (arith, one) in
     let law = say-no-more q q 0 n c.known.ensures.kept.problem (nothing-added q).conserves lt in
     let problem = c.finds-under.ensures.problem ∙ ap (λ (s : SolveState). s.problem) c.in-Ok.ensures.ok.1 in
-    record { selector = subst (λ (p : ProblemState). IsSelector p c.in-Ok.selector) (sym problem) (subst (IsSelector (with_bound q 0 n)) (sym c.in-Ok.ensures.ok.0) law.selector) }
+    record {
+      selector = subst (λ (p : ProblemState). IsSelector p c.in-Ok.selector) (sym problem)
+          (subst (IsSelector (with_bound q 0 n)) (sym c.in-Ok.ensures.ok.0) law.selector);
+    }

@@ -12,5 +12,6 @@ lend-requires c =
     let s : StoreState = c.args.store.now in
     let ok = c.in_ok-id.ensures.ok in
     let d : List Lit = ok.1.0 in
-    let here : IsHeld (with_clause s d) c.in_ok-id.id d = ap (slice_get (s.clauses ++ Some d ∷ [])) ok.0 ∙ slice_get-push_new s.clauses (Some d) in
+    let here : IsHeld (with_clause s d) c.in_ok-id.id d = ap (slice_get (s.clauses ++ Some d ∷ [])) ok.0
+    ∙ slice_get-push_new s.clauses (Some d) in
     (d, subst (λ (x : StoreState). IsHeld x c.in_ok-id.id d) (sym ok.1.2) here)

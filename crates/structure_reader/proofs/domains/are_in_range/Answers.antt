@@ -12,4 +12,5 @@ tested r b e t = sym e ∙ t
 pub loop-cell-preserved : goal.loop-cell-preserved
 loop-cell-preserved c =
     let f : c.is_in_range.result ≡ true = search rules in
-    next_all (λ (x : Cell). IsTrue (domain.is_in_range (cell_view x))) c.args.cells.now c.loop-cell.cell-index _ c.loop-cell-test.true (tested _ _ c.is_in_range.ensures f) c.loop-cell.invariant
+    next_all (λ (x : Cell). IsTrue (domain.is_in_range (cell_view x))) c.args.cells.now c.loop-cell.cell-index _
+    c.loop-cell-test.true (tested _ _ c.is_in_range.ensures f) c.loop-cell.invariant

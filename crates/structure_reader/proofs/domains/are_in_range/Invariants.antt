@@ -6,4 +6,5 @@ use Rattle.data_entries.specs.declared.elements.Cell.{Cell}
 use Rattle.structure_reader.proofs.domains.are_in_range.Given as goal
 
 abbrev pub invariant-loop-cell : goal.invariant-loop-cell
-invariant-loop-cell l = AllByRecursion (λ (c : Cell). IsTrue (domain.is_in_range (cell_view c))) (drop l.cell-index l.cells) → AllByRecursion (λ (c : Cell). IsTrue (domain.is_in_range (cell_view c))) l.cells
+invariant-loop-cell l = AllByRecursion (λ (c : Cell). IsTrue (domain.is_in_range (cell_view c)))
+    (drop l.cell-index l.cells) → AllByRecursion (λ (c : Cell). IsTrue (domain.is_in_range (cell_view c))) l.cells

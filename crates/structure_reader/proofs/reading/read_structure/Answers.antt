@@ -18,8 +18,10 @@ returns-in-Some-clause-err c =
     let us = data_uses f c.args.theory es in
     let said = ap (map said_view) c.deref-3.ensures.value ∙ c.in-Ok.ensures in
     let noted : c.note_all.new.earliest.first ≡ fold (data_noted kb.vocab.types es) None us =
-    rw c.new-earliest.ensures at c.in-Ok-note_all.ensures ∙ ap (λ xs. fold (data_noted kb.vocab.types xs) None (data_uses f c.args.theory xs)) said in
-    earliest_noted (is_data_refused kb.vocab.types es) place_of_data_use data_causes us c.in-Some.fault (sym noted ∙ c.in-Some.is)
+    rw c.new-earliest.ensures at c.in-Ok-note_all.ensures ∙ ap (λ xs. fold (data_noted kb.vocab.types xs) None
+    (data_uses f c.args.theory xs)) said in
+    earliest_noted (is_data_refused kb.vocab.types es) place_of_data_use data_causes us c.in-Some.fault (sym noted
+    ∙ c.in-Some.is)
 
 pub fill-requires-clause-accepted : goal.fill-requires-clause-accepted
 fill-requires-clause-accepted c =
@@ -30,12 +32,14 @@ fill-requires-clause-accepted c =
     let us = data_uses f c.args.theory es in
     let said = ap (map said_view) c.deref-3.ensures.value ∙ c.in-Ok.ensures in
     let noted : c.note_all.new.earliest.first ≡ fold (data_noted kb.vocab.types es) None us =
-    rw c.new-earliest.ensures at c.in-Ok-note_all.ensures ∙ ap (λ xs. fold (data_noted kb.vocab.types xs) None (data_uses f c.args.theory xs)) said in
+    rw c.new-earliest.ensures at c.in-Ok-note_all.ensures ∙ ap (λ xs. fold (data_noted kb.vocab.types xs) None
+    (data_uses f c.args.theory xs)) said in
     record {
       structure = s;
       places = kb.places.types;
       said = ap (map said_view) c.deref-5.ensures.value ∙ c.in-Ok.ensures;
-      accepted = λ q r. nothing_noted (is_data_refused kb.vocab.types es) place_of_data_use data_causes us (sym noted ∙ c.in_default-first.is) q ((refusals_are_parted f c.args.theory s q).1 (inl r));
+      accepted = λ q r. nothing_noted (is_data_refused kb.vocab.types es) place_of_data_use data_causes us (sym noted
+          ∙ c.in_default-first.is) q ((refusals_are_parted f c.args.theory s q).1 (inl r));
     }
 
 pub returns-clause-ok : goal.returns-clause-ok
@@ -46,8 +50,11 @@ returns-clause-ok c =
     let us = data_uses f c.args.theory es in
     let said = ap (map said_view) c.deref-3.ensures.value ∙ c.in-Ok.ensures in
     let noted : c.note_all.new.earliest.first ≡ fold (data_noted kb.vocab.types es) None us =
-    rw c.new-earliest.ensures at c.in-Ok-note_all.ensures ∙ ap (λ xs. fold (data_noted kb.vocab.types xs) None (data_uses f c.args.theory xs)) said in
+    rw c.new-earliest.ensures at c.in-Ok-note_all.ensures ∙ ap (λ xs. fold (data_noted kb.vocab.types xs) None
+    (data_uses f c.args.theory xs)) said in
     record {
-      accepted = nothing_noted (is_data_refused kb.vocab.types es) place_of_data_use data_causes us (sym noted ∙ c.in_default-first.is);
-      given = c.in-Ok-fill.ensures ∙ ap (given_by kb.vocab) (ap (map said_view) c.deref-5.ensures.value ∙ c.in-Ok.ensures);
+      accepted = nothing_noted (is_data_refused kb.vocab.types es) place_of_data_use data_causes us (sym noted
+          ∙ c.in_default-first.is);
+      given = c.in-Ok-fill.ensures ∙ ap (given_by kb.vocab) (ap (map said_view) c.deref-5.ensures.value
+          ∙ c.in-Ok.ensures);
     }

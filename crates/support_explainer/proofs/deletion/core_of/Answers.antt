@@ -10,6 +10,16 @@ pub returns-in-Ok-Unsat-clause-finds : goal.returns-in-Ok-Unsat-clause-finds
 returns-in-Ok-Unsat-clause-finds g c =
     let before : SolveState = g.S.Solve.state c.args.s.now in
     let after : SolveState = g.S.Solve.state c.solve.new.self in
-    let answers : Answers before.problem c.args.lits.now (Unsat c.in-Ok-Unsat.core) = subst (λ (w : Verdict). Answers before.problem c.args.lits.now w) c.in-Ok-Unsat.field-0-is c.in-Ok-Unsat.ensures.verdict in
-    let keeps : KeepsCores before.cores (Ok (Unsat c.in-Ok-Unsat.core)) after.cores = subst (λ (w : Verdict). KeepsCores before.cores (Ok w) after.cores) c.in-Ok-Unsat.field-0-is c.in-Ok-Unsat.ensures.cores in
-    (answers.0, (answers.1, refusal-kept before.cores after.cores c.in-Ok-Unsat.core c.in-Ok-Unsat.core (sublist-refl c.in-Ok-Unsat.core) keeps))
+    let answers : Answers before.problem c.args.lits.now (Unsat c.in-Ok-Unsat.core) =
+    subst (λ (w : Verdict). Answers before.problem c.args.lits.now w) c.in-Ok-Unsat.field-0-is
+    c.in-Ok-Unsat.ensures.verdict in
+    let keeps : KeepsCores before.cores (Ok (Unsat c.in-Ok-Unsat.core)) after.cores =
+    subst (λ (w : Verdict). KeepsCores before.cores (Ok w) after.cores) c.in-Ok-Unsat.field-0-is
+    c.in-Ok-Unsat.ensures.cores in (
+      answers.0,
+      (
+        answers.1,
+        refusal-kept before.cores after.cores c.in-Ok-Unsat.core c.in-Ok-Unsat.core
+            (sublist-refl c.in-Ok-Unsat.core) keeps,
+      ),
+    )

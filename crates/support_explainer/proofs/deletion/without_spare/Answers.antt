@@ -15,8 +15,10 @@ model_of-requires-clause-literals g c =
     let items : List Lit = c.args.items.now in
     let last : List Lit = c.args.last.now in
     let fewer : List Lit = without_item items c.args.at in
-    let whole = c.as_slice-2.ensures.value ∙ c.in-Ok-joined.ensures ∙ ap (λ (l : List Lit). l ++ last) (c.as_slice.ensures.value ∙ c.in-Ok.ensures) in
-    subst (AreLitsOf s.problem.vars) (sym whole) (lits-fewer s.problem.vars (fewer ++ last) (items ++ last) (sublist-append fewer items last (without-sublist items c.args.at)) c.requires.literals)
+    let whole = c.as_slice-2.ensures.value ∙ c.in-Ok-joined.ensures ∙ ap (λ (l : List Lit). l ++ last)
+    (c.as_slice.ensures.value ∙ c.in-Ok.ensures) in
+    subst (AreLitsOf s.problem.vars) (sym whole) (lits-fewer s.problem.vars (fewer ++ last) (items ++ last)
+    (sublist-append fewer items last (without-sublist items c.args.at)) c.requires.literals)
 
 pub model_of-requires-clause-unretired : goal.model_of-requires-clause-unretired
 model_of-requires-clause-unretired g c =
@@ -24,17 +26,22 @@ model_of-requires-clause-unretired g c =
     let items : List Lit = c.args.items.now in
     let last : List Lit = c.args.last.now in
     let fewer : List Lit = without_item items c.args.at in
-    let whole = c.as_slice-2.ensures.value ∙ c.in-Ok-joined.ensures ∙ ap (λ (l : List Lit). l ++ last) (c.as_slice.ensures.value ∙ c.in-Ok.ensures) in
-    subst (AreUnretired s.problem) (sym whole) (unretired-fewer s.problem (fewer ++ last) (items ++ last) (sublist-append fewer items last (without-sublist items c.args.at)) c.requires.unretired)
+    let whole = c.as_slice-2.ensures.value ∙ c.in-Ok-joined.ensures ∙ ap (λ (l : List Lit). l ++ last)
+    (c.as_slice.ensures.value ∙ c.in-Ok.ensures) in
+    subst (AreUnretired s.problem) (sym whole) (unretired-fewer s.problem (fewer ++ last) (items ++ last)
+    (sublist-append fewer items last (without-sublist items c.args.at)) c.requires.unretired)
 
 pub returns-in-Ok-None-clause-tells : goal.returns-in-Ok-None-clause-tells
 returns-in-Ok-None-clause-tells g c =
     let s : SolveState = g.S.Solve.state c.args.s.now in
     let t : SolveState = g.S.Solve.state c.model_of.new.s in
     let last : List Lit = c.args.last.now in
-    let whole = c.as_slice-2.ensures.value ∙ c.in-Ok-joined.ensures ∙ ap (λ (l : List Lit). l ++ last) (c.as_slice.ensures.value ∙ c.in-Ok.ensures) in
+    let whole = c.as_slice-2.ensures.value ∙ c.in-Ok-joined.ensures ∙ ap (λ (l : List Lit). l ++ last)
+    (c.as_slice.ensures.value ∙ c.in-Ok.ensures) in
     let is = c.from_vec.ensures ∙ c.in-Ok.ensures in
-    let told : IsRefuted s.problem t.cores c.as_slice-2.result.now = subst (λ (o : Option (List Bool)). FindsModel s.problem c.as_slice-2.result.now t.cores o) c.in-Ok-None.field-0-is c.in-Ok-None.ensures.finds in
+    let told : IsRefuted s.problem t.cores c.as_slice-2.result.now =
+    subst (λ (o : Option (List Bool)). FindsModel s.problem c.as_slice-2.result.now t.cores o)
+    c.in-Ok-None.field-0-is c.in-Ok-None.ensures.finds in
     (is, subst (IsRefuted s.problem t.cores) (whole ∙ sym (ap (λ (l : List Lit). l ++ last) is)) told)
 
 pub returns-in-Ok-Some-clause-tells : goal.returns-in-Ok-Some-clause-tells
@@ -42,6 +49,8 @@ returns-in-Ok-Some-clause-tells g c =
     let s : SolveState = g.S.Solve.state c.args.s.now in
     let t : SolveState = g.S.Solve.state c.model_of.new.s in
     let last : List Lit = c.args.last.now in
-    let whole = c.as_slice-2.ensures.value ∙ c.in-Ok-joined.ensures ∙ ap (λ (l : List Lit). l ++ last) (c.as_slice.ensures.value ∙ c.in-Ok.ensures) in
-    let h = subst (λ (o : Option (List Bool)). FindsModel s.problem c.as_slice-2.result.now t.cores o) c.in-Ok-Some.field-0-is c.in-Ok-Some.ensures.finds in
+    let whole = c.as_slice-2.ensures.value ∙ c.in-Ok-joined.ensures ∙ ap (λ (l : List Lit). l ++ last)
+    (c.as_slice.ensures.value ∙ c.in-Ok.ensures) in
+    let h = subst (λ (o : Option (List Bool)). FindsModel s.problem c.as_slice-2.result.now t.cores o)
+    c.in-Ok-Some.field-0-is c.in-Ok-Some.ensures.finds in
     subst (IsConsistent s.problem) whole (valuation c.in-Ok-Some.field-0-0, h.1, h.2)

@@ -1,4 +1,5 @@
-use Rattle.std.proofs.Common.{◌≡◌, ℕ, ◌+◌, ◌-◌, ◌<◌, ◌≤◌, Bool, Some, None, All, drop, length, sym, ap, ◌∙◌, subst, arith}
+use Rattle.std.proofs.Common.{◌≡◌, ℕ, ◌+◌, ◌-◌, ◌<◌, ◌≤◌, Bool, Some, None, All, drop, length, sym, ap, ◌∙◌, subst}
+use Rattle.std.proofs.Common.{arith}
 use Rattle.std.specs.Prelude.{IfNone, IfSome}
 use Rattle.std.proofs.lemmas.Option.{slice_get-get_or}
 use Rattle.ground_core.specs.declared.parts.Part.{Part}
@@ -16,7 +17,9 @@ returns-in-Some-clause-broken c =
     let i : ℕ = c.loop-left.left - 1 in
     let lt : i < length bounds = omega (arith, c.loop-left.invariant.0, c.loop-left-test.true) in
     let here = rw c.in-Some.is at c.in_ok-clause.ensures.broken in
-    broken-one terms bounds a i _ _ (slice_get-get_or bounds i _ lt) (slice_get-get_or terms _ c.index-terms-bound.result (c.requires.terms i _ lt) ∙ ap Some (sym c.index-terms-bound.is)) c.in-Some.clause.items here
+    broken-one terms bounds a i _ _ (slice_get-get_or bounds i _ lt)
+    (slice_get-get_or terms _ c.index-terms-bound.result (c.requires.terms i _ lt)
+    ∙ ap Some (sym c.index-terms-bound.is)) c.in-Some.clause.items here
 
 pub loop-left-preserved : goal.loop-left-preserved
 loop-left-preserved c =
@@ -28,5 +31,10 @@ loop-left-preserved c =
     let within : c.loop-left.left ≤ length bounds = c.loop-left.invariant.0 in
     let lt : i < length bounds = omega (arith, within, some) in
     let next : c.loop-left.left ≡ i + 1 = omega (arith, some) in
-    let here = rw c.in-None.is at c.in_ok-clause.ensures.holds in
-    (omega (arith, within), λ v decided. hold-here terms bounds a i _ _ (slice_get-get_or bounds i _ lt) (slice_get-get_or terms _ c.index-terms-bound.result (c.requires.terms i _ lt) ∙ ap Some (sym c.index-terms-bound.is)) v decided here (subst (λ (n : ℕ). All (BoundHolds v terms) (drop n bounds)) next (c.loop-left.invariant.1 v decided)))
+    let here = rw c.in-None.is at c.in_ok-clause.ensures.holds in (
+      omega (arith, within),
+      λ v decided. hold-here terms bounds a i _ _ (slice_get-get_or bounds i _ lt)
+          (slice_get-get_or terms _ c.index-terms-bound.result (c.requires.terms i _ lt)
+          ∙ ap Some (sym c.index-terms-bound.is)) v decided here (subst
+          (λ (n : ℕ). All (BoundHolds v terms) (drop n bounds)) next (c.loop-left.invariant.1 v decided)),
+    )

@@ -6,7 +6,9 @@ use Rattle.term_bounds.proofs.breaking.broken.Given as goal
 
 -- the bounds from this place on hold where all has values
 abbrev pub invariant-loop-left : goal.invariant-loop-left
-invariant-loop-left l = (l.left ≤ length l.fn.bounds) × ((v : ℕ → Bool) → HasLits (IsDecidedAs l.fn.assignment v) l.fn.terms l.fn.bounds → All (BoundHolds v l.fn.terms) (drop l.left l.fn.bounds))
+invariant-loop-left l = (l.left ≤ length l.fn.bounds) × ((v : ℕ → Bool)
+    → HasLits (IsDecidedAs l.fn.assignment v) l.fn.terms l.fn.bounds → All (BoundHolds v l.fn.terms)
+    (drop l.left l.fn.bounds))
 
 abbrev pub decreases-loop-left : goal.decreases-loop-left
 decreases-loop-left l = l.left

@@ -7,4 +7,6 @@ use Rattle.term_bounds.proofs.term_values.extreme_of.Given as goal
 
 -- what was found gives with the rest what all give
 abbrev pub invariant-loop-part : goal.invariant-loop-part
-invariant-loop-part l = fold (further_of l.fn.greatest) (value_of_bound (amount_of l.found)) (weights_of (valuation l.fn.values) (drop l.part-index l.fn.parts)) ≡ extreme_value l.fn.greatest (valuation l.fn.values) l.fn.parts
+invariant-loop-part l = fold (further_of l.fn.greatest) (value_of_bound (amount_of l.found))
+    (weights_of (valuation l.fn.values) (drop l.part-index l.fn.parts)) ≡ extreme_value l.fn.greatest
+    (valuation l.fn.values) l.fn.parts

@@ -9,7 +9,8 @@ abbrev pub invariant-loop-comma : goal.invariant-loop-comma
 invariant-loop-comma l = record {
   shorter : length l.rest ≤ length l.items;
   so_far : toks l.items ≡ front_vars (var_view l.first) (map var_tail_view l.more) (toks l.rest);
-  runs : (σ : List Frame) → run (on (vars_first ∷ colon ∷ σ)) (toks l.items) ≡ run (on (vars_end ∷ colon ∷ σ)) (toks l.rest);
+  runs : (σ : List Frame) → run (on (vars_first ∷ colon ∷ σ)) (toks l.items) ≡ run (on (vars_end ∷ colon ∷ σ))
+      (toks l.rest);
 }
 
 abbrev pub decreases-loop-comma : goal.decreases-loop-comma

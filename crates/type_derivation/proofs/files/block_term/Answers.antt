@@ -9,6 +9,8 @@ use Rattle.type_derivation.proofs.files.block_term.Goals as goal
 
 pub returns-clause-tree : goal.returns-clause-tree
 returns-clause-tree c =
-    let listed : IfOk c.term-2.result (λ t. view.term_view t ≡ listed_term (types_among (block_settled c.args.vocab.now (term_view c.args.named.now))) (term_view c.args.named.now)) =
+    let listed : IfOk c.term-2.result (λ t. view.term_view t ≡ listed_term
+    (types_among (block_settled c.args.vocab.now (term_view c.args.named.now))) (term_view c.args.named.now)) =
     search rules in
-    IfOk-weaker c.term-2.result _ _ (λ t e. e ∙ sym (types_are_in_order.term c.args.vocab.now (term_view c.args.named.now))) listed
+    IfOk-weaker c.term-2.result _ _ (λ t e. e ∙ sym (types_are_in_order.term c.args.vocab.now
+    (term_view c.args.named.now))) listed

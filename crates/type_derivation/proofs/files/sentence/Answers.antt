@@ -9,6 +9,9 @@ use Rattle.type_derivation.proofs.files.sentence.Goals as goal
 
 pub returns-clause-tree : goal.returns-clause-tree
 returns-clause-tree c =
-    let listed : IfOk c.formula-2.result (λ f. view.formula_view f ≡ listed_formula (types_among (sentence_settled c.args.vocab.now (formula_view c.args.named.now))) (formula_view c.args.named.now)) =
+    let listed : IfOk c.formula-2.result (λ f. view.formula_view f ≡ listed_formula
+    (types_among (sentence_settled c.args.vocab.now (formula_view c.args.named.now)))
+    (formula_view c.args.named.now)) =
     search rules in
-    IfOk-weaker c.formula-2.result _ _ (λ f e. e ∙ sym (types_are_in_order.sentence c.args.vocab.now (formula_view c.args.named.now))) listed
+    IfOk-weaker c.formula-2.result _ _ (λ f e. e ∙ sym (types_are_in_order.sentence c.args.vocab.now
+    (formula_view c.args.named.now))) listed

@@ -13,13 +13,22 @@ use Rattle.type_derivation.proofs.files.theories.Goals as goal
 
 pub loop-item-preserved : goal.loop-item-preserved
 loop-item-preserved c =
-    let pushed : map named_theory_view c.push.new.self.items ≡ map named_theory_view c.loop-item.theories.items ++ named_theory_view c.in_ok-theory.field-0 ∷ [] = grind (arith, common_steps) in
+    let pushed : map named_theory_view c.push.new.self.items ≡ map named_theory_view c.loop-item.theories.items
+    ++ named_theory_view c.in_ok-theory.field-0 ∷ [] = grind (arith, common_steps) in
     record {
-      theories = made_next named_view.theory_view c.args.named.now c.loop-item.item-index c.item-item.result c.loop-item-test.true c.item-item.is (typed_theory c.args.vocab.now)
-          (map named_theory_view c.loop-item.theories.items) (map named_theory_view c.push.new.self.items) (named_theory_view c.in_ok-theory.field-0) c.loop-item.invariant.theories c.in_ok-theory.ensures.theory pushed;
-      terms = listed_next named_view.theory_view c.args.named.now c.loop-item.item-index c.item-item.result c.loop-item-test.true c.item-item.is (λ (t : NamedTheoryTree). flat_map terms_begin t.sentences)
-          c.args.terms.now.items c.loop-item.terms.items c.theory.new.terms.items c.loop-item.invariant.terms c.in_ok-theory.ensures.terms;
-      noted = noted_next named_view.theory_view c.args.named.now c.loop-item.item-index c.item-item.result c.loop-item-test.true c.item-item.is (type_noted c.args.vocab.now.types)
-          (λ (t : NamedTheoryTree). flat_map (λ f. stage.uses_among [] (stage.sentence_settled c.args.vocab.now f)) t.sentences)
-          c.args.earliest.now.first c.loop-item.earliest.first c.theory.new.earliest.first c.loop-item.invariant.noted c.in_ok-theory.ensures.noted;
+      theories = made_next named_view.theory_view c.args.named.now c.loop-item.item-index c.item-item.result
+          c.loop-item-test.true c.item-item.is (typed_theory c.args.vocab.now)
+          (map named_theory_view c.loop-item.theories.items) (map named_theory_view c.push.new.self.items)
+          (named_theory_view c.in_ok-theory.field-0) c.loop-item.invariant.theories
+          c.in_ok-theory.ensures.theory pushed;
+      terms = listed_next named_view.theory_view c.args.named.now c.loop-item.item-index c.item-item.result
+          c.loop-item-test.true c.item-item.is (λ (t : NamedTheoryTree). flat_map terms_begin t.sentences)
+          c.args.terms.now.items c.loop-item.terms.items c.theory.new.terms.items c.loop-item.invariant.terms
+          c.in_ok-theory.ensures.terms;
+      noted = noted_next named_view.theory_view c.args.named.now c.loop-item.item-index c.item-item.result
+          c.loop-item-test.true c.item-item.is (type_noted c.args.vocab.now.types)
+          (λ (t : NamedTheoryTree). flat_map (λ f. stage.uses_among [] (stage.sentence_settled c.args.vocab.now f))
+          t.sentences)
+          c.args.earliest.now.first c.loop-item.earliest.first c.theory.new.earliest.first c.loop-item.invariant.noted
+          c.in_ok-theory.ensures.noted;
     }

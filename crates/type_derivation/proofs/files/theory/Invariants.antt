@@ -10,7 +10,10 @@ use Rattle.type_derivation.proofs.files.theory.Given as goal
 
 abbrev pub invariant-loop-item : goal.invariant-loop-item
 invariant-loop-item l = record {
-  sentences : map view.formula_view l.sentences.items ≡ map (typed_sentence l.vocab) (map formula_view (take l.item-index l.listed));
+  sentences : map view.formula_view l.sentences.items ≡ map (typed_sentence l.vocab)
+      (map formula_view (take l.item-index l.listed));
   places : l.places.items ≡ flat_map terms_begin (map formula_view (take l.item-index l.listed));
-  noted : l.earliest.first ≡ fold (type_noted l.vocab.types) l.initial.earliest.first (flat_map (λ f. stage.uses_among [] (stage.sentence_settled l.vocab f)) (map formula_view (take l.item-index l.listed)));
+  noted : l.earliest.first ≡ fold (type_noted l.vocab.types) l.initial.earliest.first
+      (flat_map (λ f. stage.uses_among [] (stage.sentence_settled l.vocab f))
+      (map formula_view (take l.item-index l.listed)));
 }

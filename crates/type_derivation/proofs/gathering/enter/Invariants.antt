@@ -7,5 +7,6 @@ use Rattle.type_derivation.proofs.gathering.enter.Given as goal
 abbrev pub invariant-loop-binding : goal.invariant-loop-binding
 invariant-loop-binding l = record {
   scope : l.scope.items ≡ typing.within l.initial.scope.items (map binding_view (take l.binding-index l.bindings));
-  findings : map finding_view l.findings.items ≡ map finding_view l.initial.findings.items ++ replicate l.binding-index said.nothing;
+  findings : map finding_view l.findings.items ≡ map finding_view l.initial.findings.items ++ replicate l.binding-index
+      said.nothing;
 }

@@ -24,5 +24,8 @@ pub returns-in-Sides-demand-2 : goal.returns-in-Sides-demand-2
 returns-in-Sides-demand-2 c =
     rw (c.in-Sides.is, c.in-Sides-demand-2.is)
     (c.see_side-in-Sides-demand-2.ensures
-    ∙ ap (after c.args.types.now (λ n. side_given c.args.scope.now n (kind_view c.in-Sides-demand-2.right) (kind_view c.in-Sides-demand-2.left)) 0) c.see_side.ensures
-    ∙ sym (after-append c.args.types.now (λ n. side_given c.args.scope.now n (kind_view c.in-Sides-demand-2.left) (kind_view c.in-Sides-demand-2.right)) (λ n. side_given c.args.scope.now n (kind_view c.in-Sides-demand-2.right) (kind_view c.in-Sides-demand-2.left)) 0 _))
+    ∙ ap (after c.args.types.now (λ n. side_given c.args.scope.now n (kind_view c.in-Sides-demand-2.right)
+    (kind_view c.in-Sides-demand-2.left)) 0) c.see_side.ensures
+    ∙ sym (after-append c.args.types.now (λ n. side_given c.args.scope.now n (kind_view c.in-Sides-demand-2.left)
+    (kind_view c.in-Sides-demand-2.right)) (λ n. side_given c.args.scope.now n (kind_view c.in-Sides-demand-2.right)
+    (kind_view c.in-Sides-demand-2.left)) 0 _))

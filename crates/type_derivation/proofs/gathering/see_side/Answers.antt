@@ -6,8 +6,10 @@ use Rattle.type_derivation.proofs.gathering.see_side.Goals as goal
 
 pub returns-in-Whole : goal.returns-in-Whole
 returns-in-Whole c =
-    no_side c.args.types.now c.args.scope.now (kind_view c.args.side) (kind_view c.args.other) (map finding_view c.args.findings.now.items) (ap types_known (sym c.in-Whole.ensures))
+    no_side c.args.types.now c.args.scope.now (kind_view c.args.side) (kind_view c.args.other)
+    (map finding_view c.args.findings.now.items) (ap types_known (sym c.in-Whole.ensures))
 
 pub returns-in-Untyped : goal.returns-in-Untyped
 returns-in-Untyped c =
-    no_side c.args.types.now c.args.scope.now (kind_view c.args.side) (kind_view c.args.other) (map finding_view c.args.findings.now.items) (ap types_known (sym c.in-Untyped.ensures))
+    no_side c.args.types.now c.args.scope.now (kind_view c.args.side) (kind_view c.args.other)
+    (map finding_view c.args.findings.now.items) (ap types_known (sym c.in-Untyped.ensures))

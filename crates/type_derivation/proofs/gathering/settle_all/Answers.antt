@@ -8,7 +8,10 @@ use Rattle.type_derivation.proofs.gathering.settle_all.Goals as goal
 
 pub returns : goal.returns
 returns c =
-    settled_twice c.args.types.now (parts_view c.args.listed.now) (parts_view c.in_ok-placed.placed.items) (parts_view c.in_ok-settled.settled.items)
-    (c.in_ok-placed.ensures.parts ∙ ap (λ (sc : List (Option ℕ)). parts_by Places c.args.types.now sc (parts_view c.args.listed.now)) c.new-scope.ensures.items)
-    (c.in_ok-settled.ensures.parts ∙ ap (λ (sc : List (Option ℕ)). parts_by Sides c.args.types.now sc (parts_view c.deref.result.now)) c.new-scope-2.ensures.items
+    settled_twice c.args.types.now (parts_view c.args.listed.now) (parts_view c.in_ok-placed.placed.items)
+    (parts_view c.in_ok-settled.settled.items)
+    (c.in_ok-placed.ensures.parts ∙ ap (λ (sc : List (Option ℕ)). parts_by Places c.args.types.now sc
+    (parts_view c.args.listed.now)) c.new-scope.ensures.items)
+    (c.in_ok-settled.ensures.parts ∙ ap (λ (sc : List (Option ℕ)). parts_by Sides c.args.types.now sc
+    (parts_view c.deref.result.now)) c.new-scope-2.ensures.items
     ∙ ap (λ (ps : List Part). parts_by Sides c.args.types.now [] (parts_view ps)) c.deref.ensures.value)

@@ -5,5 +5,6 @@ use Rattle.type_derivation.proofs.gathering.settle_each.Given as goal
 
 abbrev pub invariant-loop-i : goal.invariant-loop-i
 invariant-loop-i l =
-    map binding_view l.settled.items ++ settled_from (map binding_view (drop l.i l.bindings)) (map finding_view (drop l.i l.found))
+    map binding_view l.settled.items ++ settled_from (map binding_view (drop l.i l.bindings))
+    (map finding_view (drop l.i l.found))
     ≡ settled_from (map binding_view l.bindings) (map finding_view l.found)

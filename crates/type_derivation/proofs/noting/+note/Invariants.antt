@@ -8,7 +8,10 @@ use Rattle.type_derivation.proofs.noting.+note.Given as goal
 abbrev pub invariant-note_parts-loop-part : goal.invariant-note_parts-loop-part
 invariant-note_parts-loop-part l = record {
   scope : l.scope.items ≡ l.initial.scope.items;
-  listed : l.listed.items ++ types_among (parts_view (drop l.part-index l.parts)) ≡ l.initial.listed.items ++ types_among (parts_view l.parts);
-  noted : fold (type_noted l.types) l.earliest.first (stage.uses_among l.initial.scope.items (parts_view (drop l.part-index l.parts)))
-      ≡ fold (type_noted l.types) l.initial.earliest.first (stage.uses_among l.initial.scope.items (parts_view l.parts));
+  listed : l.listed.items ++ types_among (parts_view (drop l.part-index l.parts)) ≡ l.initial.listed.items
+      ++ types_among (parts_view l.parts);
+  noted : fold (type_noted l.types) l.earliest.first (stage.uses_among l.initial.scope.items
+      (parts_view (drop l.part-index l.parts)))
+      ≡ fold (type_noted l.types) l.initial.earliest.first (stage.uses_among l.initial.scope.items
+      (parts_view l.parts));
 }

@@ -9,6 +9,8 @@ use Rattle.type_derivation.proofs.noting.enter.Given as goal
 abbrev pub invariant-loop-binding : goal.invariant-loop-binding
 invariant-loop-binding l = record {
   scope : l.scope.items ≡ typing.within l.initial.scope.items (map binding_view (take l.binding-index l.bindings));
-  listed : l.listed.items ≡ l.initial.listed.items ++ map (λ b. chosen b.finding) (map binding_view (take l.binding-index l.bindings));
-  noted : l.earliest.first ≡ fold (type_noted l.types) l.initial.earliest.first (map stage.binding (map binding_view (take l.binding-index l.bindings)));
+  listed : l.listed.items ≡ l.initial.listed.items ++ map (λ b. chosen b.finding)
+      (map binding_view (take l.binding-index l.bindings));
+  noted : l.earliest.first ≡ fold (type_noted l.types) l.initial.earliest.first
+      (map stage.binding (map binding_view (take l.binding-index l.bindings)));
 }

@@ -4,53 +4,112 @@ use Rattle.kb_logic.specs.Views as view
 use Rattle.reading_stages.specs.NamedTrees as named_tree
 use Rattle.reading_stages.specs.NamedViews.{formula_view, signed_view, term_view}
 use Rattle.reading_stages.specs.declared.named.NamedFormula.{the_lemmas}
-use Rattle.type_derivation.proofs.TreeSteps.{next_item, no_item, formulas_next, formulas_left, formulas_begun, formulas_done, terms_next, terms_left, terms_begun, terms_done, summands_next, summands_left, summands_begun, summands_done}
+use Rattle.type_derivation.proofs.TreeSteps.{next_item, no_item, formulas_next, formulas_left, formulas_begun}
+use Rattle.type_derivation.proofs.TreeSteps.{formulas_done, terms_next, terms_left, terms_begun, terms_done}
+use Rattle.type_derivation.proofs.TreeSteps.{summands_next, summands_left, summands_begun, summands_done}
 use Rattle.type_derivation.proofs.trees.+trees.Goals as goal
 
 pub formulas-loop-operand-preserved : goal.formulas-loop-operand-preserved
 formulas-loop-operand-preserved t c =
-    let next = next_item formula_view c.args.named.now c.loop-operand.operand-index c.operand-item.result c.loop-operand-test.true c.operand-item.is in
-    let pushed : map view.formula_view c.push.new.self.items ≡ map view.formula_view c.loop-operand.operands.items ++ view.formula_view c.in_ok-formula.field-0 ∷ [] = grind (arith, common_steps) in
+    let next = next_item formula_view c.args.named.now c.loop-operand.operand-index c.operand-item.result
+    c.loop-operand-test.true c.operand-item.is in
+    let pushed : map view.formula_view c.push.new.self.items ≡ map view.formula_view c.loop-operand.operands.items
+    ++ view.formula_view c.in_ok-formula.field-0 ∷ [] = grind (arith, common_steps) in
     record {
-      trees = formulas_next c.loop-operand.types c.formula.new.types (map formula_view (drop c.loop-operand.operand-index c.args.named.now)) (formula_view c.operand-item.result) (map formula_view (drop (c.loop-operand.operand-index + 1) c.args.named.now)) (map view.formula_view c.loop-operand.operands.items) (map view.formula_view c.push.new.self.items) (view.formula_view c.in_ok-formula.field-0) _ next c.loop-operand.invariant.trees c.in_ok-formula.ensures.tree c.in_ok-formula.ensures.types pushed;
-      types = formulas_left c.loop-operand.types c.formula.new.types (map formula_view (drop c.loop-operand.operand-index c.args.named.now)) (formula_view c.operand-item.result) (map formula_view (drop (c.loop-operand.operand-index + 1) c.args.named.now)) _ next c.loop-operand.invariant.types c.in_ok-formula.ensures.types;
-      places = formulas_begun c.loop-operand.places.items c.formula.new.places.items (map formula_view (drop c.loop-operand.operand-index c.args.named.now)) (formula_view c.operand-item.result) (map formula_view (drop (c.loop-operand.operand-index + 1) c.args.named.now)) _ next c.loop-operand.invariant.places c.in_ok-formula.ensures.places;
+      trees = formulas_next c.loop-operand.types c.formula.new.types
+          (map formula_view (drop c.loop-operand.operand-index c.args.named.now)) (formula_view c.operand-item.result)
+          (map formula_view (drop (c.loop-operand.operand-index + 1) c.args.named.now))
+          (map view.formula_view c.loop-operand.operands.items) (map view.formula_view c.push.new.self.items)
+          (view.formula_view c.in_ok-formula.field-0) _ next c.loop-operand.invariant.trees c.in_ok-formula.ensures.tree
+          c.in_ok-formula.ensures.types pushed;
+      types = formulas_left c.loop-operand.types c.formula.new.types
+          (map formula_view (drop c.loop-operand.operand-index c.args.named.now)) (formula_view c.operand-item.result)
+          (map formula_view (drop (c.loop-operand.operand-index + 1) c.args.named.now)) _ next
+          c.loop-operand.invariant.types c.in_ok-formula.ensures.types;
+      places = formulas_begun c.loop-operand.places.items c.formula.new.places.items
+          (map formula_view (drop c.loop-operand.operand-index c.args.named.now)) (formula_view c.operand-item.result)
+          (map formula_view (drop (c.loop-operand.operand-index + 1) c.args.named.now)) _ next
+          c.loop-operand.invariant.places c.in_ok-formula.ensures.places;
     }
 
 pub formulas-returns-clause-trees : goal.formulas-returns-clause-trees
 formulas-returns-clause-trees t c =
-    formulas_done c.loop-operand.types (map formula_view (drop c.loop-operand.operand-index c.args.named.now)) (map view.formula_view c.loop-operand.operands.items) _
-    (ap (map formula_view) (no_item c.args.named.now c.loop-operand.operand-index c.loop-operand-test.false)) c.loop-operand.invariant.trees
+    formulas_done c.loop-operand.types (map formula_view (drop c.loop-operand.operand-index c.args.named.now))
+    (map view.formula_view c.loop-operand.operands.items) _
+    (ap (map formula_view) (no_item c.args.named.now c.loop-operand.operand-index c.loop-operand-test.false))
+    c.loop-operand.invariant.trees
 
 pub terms-loop-operand-preserved : goal.terms-loop-operand-preserved
 terms-loop-operand-preserved t c =
-    let next = next_item term_view c.args.named.now c.loop-operand.operand-index c.operand-item.result c.loop-operand-test.true c.operand-item.is in
-    let pushed : map view.term_view c.push.new.self.items ≡ map view.term_view c.loop-operand.operands.items ++ view.term_view c.in_ok-term.field-0 ∷ [] = grind (arith, common_steps) in
+    let next = next_item term_view c.args.named.now c.loop-operand.operand-index c.operand-item.result
+    c.loop-operand-test.true c.operand-item.is in
+    let pushed : map view.term_view c.push.new.self.items ≡ map view.term_view c.loop-operand.operands.items
+    ++ view.term_view c.in_ok-term.field-0 ∷ [] = grind (arith, common_steps) in
     record {
-      trees = terms_next c.loop-operand.types c.term.new.types (map term_view (drop c.loop-operand.operand-index c.args.named.now)) (term_view c.operand-item.result) (map term_view (drop (c.loop-operand.operand-index + 1) c.args.named.now)) (map view.term_view c.loop-operand.operands.items) (map view.term_view c.push.new.self.items) (view.term_view c.in_ok-term.field-0) _ next c.loop-operand.invariant.trees c.in_ok-term.ensures.tree c.in_ok-term.ensures.types pushed;
-      types = terms_left c.loop-operand.types c.term.new.types (map term_view (drop c.loop-operand.operand-index c.args.named.now)) (term_view c.operand-item.result) (map term_view (drop (c.loop-operand.operand-index + 1) c.args.named.now)) _ next c.loop-operand.invariant.types c.in_ok-term.ensures.types;
-      places = terms_begun c.loop-operand.places.items c.term.new.places.items (map term_view (drop c.loop-operand.operand-index c.args.named.now)) (term_view c.operand-item.result) (map term_view (drop (c.loop-operand.operand-index + 1) c.args.named.now)) _ next c.loop-operand.invariant.places c.in_ok-term.ensures.places;
+      trees = terms_next c.loop-operand.types c.term.new.types (map term_view
+          (drop c.loop-operand.operand-index c.args.named.now)) (term_view c.operand-item.result)
+          (map term_view (drop (c.loop-operand.operand-index + 1) c.args.named.now))
+          (map view.term_view c.loop-operand.operands.items) (map view.term_view c.push.new.self.items)
+          (view.term_view c.in_ok-term.field-0) _ next c.loop-operand.invariant.trees c.in_ok-term.ensures.tree
+          c.in_ok-term.ensures.types pushed;
+      types = terms_left c.loop-operand.types c.term.new.types (map term_view
+          (drop c.loop-operand.operand-index c.args.named.now)) (term_view c.operand-item.result)
+          (map term_view (drop (c.loop-operand.operand-index + 1) c.args.named.now)) _ next
+          c.loop-operand.invariant.types c.in_ok-term.ensures.types;
+      places = terms_begun c.loop-operand.places.items c.term.new.places.items
+          (map term_view (drop c.loop-operand.operand-index c.args.named.now)) (term_view c.operand-item.result)
+          (map term_view (drop (c.loop-operand.operand-index + 1) c.args.named.now)) _ next
+          c.loop-operand.invariant.places c.in_ok-term.ensures.places;
     }
 
 pub terms-returns-clause-trees : goal.terms-returns-clause-trees
 terms-returns-clause-trees t c =
-    terms_done c.loop-operand.types (map term_view (drop c.loop-operand.operand-index c.args.named.now)) (map view.term_view c.loop-operand.operands.items) _
-    (ap (map term_view) (no_item c.args.named.now c.loop-operand.operand-index c.loop-operand-test.false)) c.loop-operand.invariant.trees
+    terms_done c.loop-operand.types (map term_view (drop c.loop-operand.operand-index c.args.named.now))
+    (map view.term_view c.loop-operand.operands.items) _
+    (ap (map term_view) (no_item c.args.named.now c.loop-operand.operand-index c.loop-operand-test.false))
+    c.loop-operand.invariant.trees
 
 pub summands-loop-operand-preserved : goal.summands-loop-operand-preserved
 summands-loop-operand-preserved t c =
-    let seen : signed_view c.operand-item.result ≡ (c.operand-item.result.minus, term_view c.operand-item.result.term) = search (rules, the_lemmas) in
-    let next : map signed_view (drop c.loop-operand.operand-index c.args.named.now) ≡ (c.operand-item.result.minus, term_view c.operand-item.result.term) ∷ map signed_view (drop (c.loop-operand.operand-index + 1) c.args.named.now) =
-    next_item signed_view c.args.named.now c.loop-operand.operand-index c.operand-item.result c.loop-operand-test.true c.operand-item.is
-    ∙ ap (λ (s : Bool × named_tree.NamedTerm). s ∷ map signed_view (drop (c.loop-operand.operand-index + 1) c.args.named.now)) seen in
-    let pushed : map view.signed_view c.push.new.self.items ≡ map view.signed_view c.loop-operand.operands.items ++ (c.operand-item.result.minus, view.term_view c.in_ok-term.term) ∷ [] = grind (arith, common_steps) in
+    let seen : signed_view c.operand-item.result ≡ (c.operand-item.result.minus, term_view c.operand-item.result.term) =
+    search (rules, the_lemmas) in
+    let next : map signed_view (drop c.loop-operand.operand-index c.args.named.now) ≡ (
+      c.operand-item.result.minus,
+      term_view c.operand-item.result.term,
+    ) ∷ map signed_view (drop (c.loop-operand.operand-index + 1)
+    c.args.named.now) =
+    next_item signed_view c.args.named.now c.loop-operand.operand-index c.operand-item.result c.loop-operand-test.true
+    c.operand-item.is
+    ∙ ap (λ (s : Bool × named_tree.NamedTerm). s ∷ map signed_view
+    (drop (c.loop-operand.operand-index + 1) c.args.named.now)) seen in
+    let pushed : map view.signed_view c.push.new.self.items ≡ map view.signed_view c.loop-operand.operands.items ++
+    (c.operand-item.result.minus, view.term_view c.in_ok-term.term) ∷ [] = grind (arith, common_steps) in
     record {
-      trees = summands_next c.loop-operand.types c.term.new.types (map signed_view (drop c.loop-operand.operand-index c.args.named.now)) (c.operand-item.result.minus, term_view c.operand-item.result.term) (map signed_view (drop (c.loop-operand.operand-index + 1) c.args.named.now)) (map view.signed_view c.loop-operand.operands.items) (map view.signed_view c.push.new.self.items) (view.term_view c.in_ok-term.term) _ next c.loop-operand.invariant.trees c.in_ok-term.ensures.tree c.in_ok-term.ensures.types pushed;
-      types = summands_left c.loop-operand.types c.term.new.types (map signed_view (drop c.loop-operand.operand-index c.args.named.now)) (c.operand-item.result.minus, term_view c.operand-item.result.term) (map signed_view (drop (c.loop-operand.operand-index + 1) c.args.named.now)) _ next c.loop-operand.invariant.types c.in_ok-term.ensures.types;
-      places = summands_begun c.loop-operand.places.items c.term.new.places.items (map signed_view (drop c.loop-operand.operand-index c.args.named.now)) (c.operand-item.result.minus, term_view c.operand-item.result.term) (map signed_view (drop (c.loop-operand.operand-index + 1) c.args.named.now)) _ next c.loop-operand.invariant.places c.in_ok-term.ensures.places;
+      trees = summands_next c.loop-operand.types c.term.new.types
+          (map signed_view (drop c.loop-operand.operand-index c.args.named.now)) (
+            c.operand-item.result.minus,
+            term_view c.operand-item.result.term,
+          ) (map signed_view (drop (c.loop-operand.operand-index + 1)
+          c.args.named.now)) (map view.signed_view c.loop-operand.operands.items)
+          (map view.signed_view c.push.new.self.items) (view.term_view c.in_ok-term.term) _ next
+          c.loop-operand.invariant.trees c.in_ok-term.ensures.tree c.in_ok-term.ensures.types pushed;
+      types = summands_left c.loop-operand.types c.term.new.types
+          (map signed_view (drop c.loop-operand.operand-index c.args.named.now)) (
+            c.operand-item.result.minus,
+            term_view c.operand-item.result.term,
+          ) (map signed_view (drop (c.loop-operand.operand-index + 1)
+          c.args.named.now)) _ next c.loop-operand.invariant.types c.in_ok-term.ensures.types;
+      places = summands_begun c.loop-operand.places.items c.term.new.places.items
+          (map signed_view (drop c.loop-operand.operand-index c.args.named.now)) (
+            c.operand-item.result.minus,
+            term_view c.operand-item.result.term,
+          ) (map signed_view (drop (c.loop-operand.operand-index + 1)
+          c.args.named.now)) _ next c.loop-operand.invariant.places c.in_ok-term.ensures.places;
     }
 
 pub summands-returns-clause-trees : goal.summands-returns-clause-trees
 summands-returns-clause-trees t c =
-    summands_done c.loop-operand.types (map signed_view (drop c.loop-operand.operand-index c.args.named.now)) (map view.signed_view c.loop-operand.operands.items) _
-    (ap (map signed_view) (no_item c.args.named.now c.loop-operand.operand-index c.loop-operand-test.false)) c.loop-operand.invariant.trees
+    summands_done c.loop-operand.types (map signed_view (drop c.loop-operand.operand-index c.args.named.now))
+    (map view.signed_view c.loop-operand.operands.items) _
+    (ap (map signed_view) (no_item c.args.named.now c.loop-operand.operand-index c.loop-operand-test.false))
+    c.loop-operand.invariant.trees

@@ -9,7 +9,8 @@ use Rattle.type_derivation.proofs.trees.+trees.Given as goal
 
 abbrev pub invariant-formulas-loop-operand : goal.invariant-formulas-loop-operand
 invariant-formulas-loop-operand l = record {
-  trees : then_formulas (map view.formula_view l.operands.items) (listed.listed_formulas l.types (named_tree.formulas_of (map formula_view (drop l.operand-index l.named))))
+  trees : then_formulas (map view.formula_view l.operands.items)
+      (listed.listed_formulas l.types (named_tree.formulas_of (map formula_view (drop l.operand-index l.named))))
       ≡ listed.listed_formulas l.initial.types (named_tree.formulas_of (map formula_view l.named));
   types : listed.left_formulas l.types (named_tree.formulas_of (map formula_view (drop l.operand-index l.named)))
       ≡ listed.left_formulas l.initial.types (named_tree.formulas_of (map formula_view l.named));
@@ -19,7 +20,8 @@ invariant-formulas-loop-operand l = record {
 
 abbrev pub invariant-terms-loop-operand : goal.invariant-terms-loop-operand
 invariant-terms-loop-operand l = record {
-  trees : then_terms (map view.term_view l.operands.items) (listed.listed_terms l.types (named_tree.terms_of (map term_view (drop l.operand-index l.named))))
+  trees : then_terms (map view.term_view l.operands.items) (listed.listed_terms l.types
+      (named_tree.terms_of (map term_view (drop l.operand-index l.named))))
       ≡ listed.listed_terms l.initial.types (named_tree.terms_of (map term_view l.named));
   types : listed.left_terms l.types (named_tree.terms_of (map term_view (drop l.operand-index l.named)))
       ≡ listed.left_terms l.initial.types (named_tree.terms_of (map term_view l.named));
@@ -29,7 +31,8 @@ invariant-terms-loop-operand l = record {
 
 abbrev pub invariant-summands-loop-operand : goal.invariant-summands-loop-operand
 invariant-summands-loop-operand l = record {
-  trees : then_summands (map view.signed_view l.operands.items) (listed.listed_summands l.types (named_tree.summands_of (map signed_view (drop l.operand-index l.named))))
+  trees : then_summands (map view.signed_view l.operands.items)
+      (listed.listed_summands l.types (named_tree.summands_of (map signed_view (drop l.operand-index l.named))))
       ≡ listed.listed_summands l.initial.types (named_tree.summands_of (map signed_view l.named));
   types : listed.left_summands l.types (named_tree.summands_of (map signed_view (drop l.operand-index l.named)))
       ≡ listed.left_summands l.initial.types (named_tree.summands_of (map signed_view l.named));

@@ -1,4 +1,5 @@
-use Rattle.std.proofs.Common.{◌≡◌, ℕ, suc, ◌≤◌, Some, None, List, Option, length, map, set, refl, sym, ap, ◌∙◌, arith, slice_get, subst}
+use Rattle.std.proofs.Common.{◌≡◌, ℕ, suc, ◌≤◌, Some, None, List, Option, length, map, set, refl, sym, ap, ◌∙◌, arith}
+use Rattle.std.proofs.Common.{slice_get, subst}
 use Rattle.std.specs.Vec.{with_item}
 use Rattle.std.proofs.lemmas.Option.{slice_get_read}
 use Rattle.std.proofs.lemmas.List.{length-map, map-set}
@@ -25,20 +26,26 @@ module _ (c : goal.After-truncate) where
 
   at : slice_get a.entries.items c.args.id ≡ Some e
   at =
-      let len : length a.entries.items ≡ length c.args.self.now.clauses = sym (length-map a.entries.items (clause_of a.lits.items)) ∙ ap (λ (s : ClauseDbState). length s.clauses) c.self.view_is in
-      slice_get_read a.entries.items (length a.entries.items) c.args.id e refl (omega (arith, c.requires)) c.index-entry.ensures
+      let len : length a.entries.items ≡ length c.args.self.now.clauses =
+      sym (length-map a.entries.items (clause_of a.lits.items))
+      ∙ ap (λ (s : ClauseDbState). length s.clauses) c.self.view_is in
+      slice_get_read a.entries.items (length a.entries.items) c.args.id e refl (omega (arith, c.requires))
+      c.index-entry.ensures
 
   narrow : Narrows e f
   narrow = record { start = refl; size = λ n is. absurd (let z : 0 ≡ suc n = is in omega arith) }
 
   live : c.live_of-self-inside.result ≤ length now
-  live = subst (λ (xs : List Entry). c.live_of-self-inside.result ≤ length xs) c.as_slice.ensures.value c.live_of-self-inside.ensures.within
+  live = subst (λ (xs : List Entry). c.live_of-self-inside.result ≤ length xs) c.as_slice.ensures.value
+      c.live_of-self-inside.ensures.within
 
   removed : AreRemoved now c.live_of-self-inside.result
-  removed = subst (λ (xs : List Entry). AreRemoved xs c.live_of-self-inside.result) c.as_slice.ensures.value c.live_of-self-inside.ensures.removed
+  removed = subst (λ (xs : List Entry). AreRemoved xs c.live_of-self-inside.result) c.as_slice.ensures.value
+      c.live_of-self-inside.ensures.removed
 
   end : EndsAt now c.live_of-self-inside.result c.end_of-end.result
-  end = subst (λ (xs : List Entry). EndsAt xs c.live_of-self-inside.result c.end_of-end.result) c.as_slice-2.ensures.value c.end_of-end.ensures
+  end = subst (λ (xs : List Entry). EndsAt xs c.live_of-self-inside.result c.end_of-end.result)
+      c.as_slice-2.ensures.value c.end_of-end.ensures
 
   ordered : IsOrdered now
   ordered = narrows-ordered a.entries.items c.args.id e f at narrow c.self.invariant.ordered
@@ -48,9 +55,17 @@ module _ (c : goal.After-truncate) where
 
 pub invariant_of-self : goal.invariant_of-self
 invariant_of-self c =
-    let b : Inside = record { lits = c.truncate.new.self; entries = with_item c.self.inside.entries c.args.id (f c); buffer = c.self.inside.buffer; spare = c.self.inside.spare; live = c.live_of-self-inside.result } in
-    kept-set c.self.inside b c.args.id c.end_of-end.result (e c) (f c) c.self.invariant (at c) (narrow c) c.truncate.ensures.items refl (live c) (removed c) (ends c) c.self.invariant.empty
-    (λ n is. let r = c.self.invariant.room n is in room-less c.self.inside b n r refl refl refl (omega (arith, c.truncate.ensures.len)) c.truncate.ensures.capacity)
+    let b : Inside = record {
+      lits = c.truncate.new.self;
+      entries = with_item c.self.inside.entries c.args.id (f c);
+      buffer = c.self.inside.buffer;
+      spare = c.self.inside.spare;
+      live = c.live_of-self-inside.result;
+    } in
+    kept-set c.self.inside b c.args.id c.end_of-end.result (e c) (f c) c.self.invariant (at c)
+    (narrow c) c.truncate.ensures.items refl (live c) (removed c) (ends c) c.self.invariant.empty
+    (λ n is. let r = c.self.invariant.room n is in room-less c.self.inside b n r refl refl refl
+    (omega (arith, c.truncate.ensures.len)) c.truncate.ensures.capacity)
 
 pub returns : goal.returns
 returns c =

@@ -15,16 +15,19 @@ zero_level a s is zero = ap (λ (x : TrailState). x.level) is ∙ zero
 pub add-requires-clause-laws : goal.add-requires-clause-laws
 add-requires-clause-laws c =
     let s = c.args.self.now in
-    let h = trail-fix s c.args.lit (laws c.self.inside s c.self.view_is c.self.invariant) c.requires.level c.requires.in_range c.requires.unassigned in
+    let h = trail-fix s c.args.lit (laws c.self.inside s c.self.view_is c.self.invariant) c.requires.level
+    c.requires.in_range c.requires.unassigned in
     let e = zero_level c.self.inside s c.self.view_is c.requires.level in
     subst (λ n. IsTrail (with_step s (record { lit = c.args.lit; level = n; reason = None }))) (sym e) h
 
 pub returns-clause-laws : goal.returns-clause-laws
 returns-clause-laws c =
     let s = c.args.self.now in
-    let h = trail-fix s c.args.lit (laws c.self.inside s c.self.view_is c.self.invariant) c.requires.level c.requires.in_range c.requires.unassigned in
+    let h = trail-fix s c.args.lit (laws c.self.inside s c.self.view_is c.self.invariant) c.requires.level
+    c.requires.in_range c.requires.unassigned in
     let e = zero_level c.self.inside s c.self.view_is c.requires.level in
-    subst IsTrail (sym c.add.ensures) (subst (λ n. IsTrail (with_step s (record { lit = c.args.lit; level = n; reason = None }))) (sym e) h)
+    subst IsTrail (sym c.add.ensures) (subst (λ n. IsTrail (with_step s
+    (record { lit = c.args.lit; level = n; reason = None }))) (sym e) h)
 
 pub returns-clause-step : goal.returns-clause-step
 returns-clause-step c =

@@ -10,7 +10,8 @@ module _ (c : goal.After-add_zeros) where
   b = record { heads = c.add_zeros.new.numbers; nodes = c.self.inside.nodes }
 
   longer : IsLinkage (linkage_of b) × ((j : ℕ) → listed_at (linkage_of b) j ≡ listed_at (linkage_of c.self.inside) j)
-  longer = kept-longer (linkage_of c.self.inside) (linkage_of b) c.self.invariant.linkage (omega arith) (λ k. refl) c.add_zeros.ensures.same
+  longer = kept-longer (linkage_of c.self.inside) (linkage_of b) c.self.invariant.linkage (omega arith)
+      (λ k. refl) c.add_zeros.ensures.same
 
   kept : IsKept b
   kept = record { linkage = longer.0; small = c.self.invariant.small }

@@ -15,7 +15,8 @@ module _ (c : goal.After-add_unlinked) where
       let before = links-length a in
       let after = links-length b in
       let more : length a.nodes.items ≤ length b.nodes.items = c.add_unlinked.ensures.longer in
-      kept-longer (linkage_of a) (linkage_of b) c.self.invariant.linkage (omega arith) c.add_unlinked.ensures.links (λ k. refl)
+      kept-longer (linkage_of a) (linkage_of b) c.self.invariant.linkage
+      (omega arith) c.add_unlinked.ensures.links (λ k. refl)
 
   kept : IsKept b
   kept = record { linkage = longer.0; small = c.add_unlinked.ensures.small c.self.invariant.small }

@@ -8,7 +8,8 @@ use Rattle.clause_learning.proofs.core_index.CoreIndex.find_ending.Given as goal
 abbrev pub invariant-loop-at : goal.invariant-loop-at
 invariant-loop-at l = record {
   ends : (j : ℕ) → l.at ≡ j + 1 → EndsWith l.self j l.fn.lit;
-  rest : (j : ℕ) (c : List Lit) → slice_get l.self.cores.items j ≡ Some c → EndsWith l.self j l.fn.lit → All (HasLit l.set) c → j < l.at;
+  rest : (j : ℕ) (c : List Lit) → slice_get l.self.cores.items j ≡ Some c → EndsWith l.self j l.fn.lit
+      → All (HasLit l.set) c → j < l.at;
 }
 
 abbrev pub decreases-loop-at : goal.decreases-loop-at

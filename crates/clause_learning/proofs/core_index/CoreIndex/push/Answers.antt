@@ -6,13 +6,27 @@ use Rattle.clause_learning.proofs.core_index.CoreIndex.push.Goals as goal
 pub returns-in_err-reserve-clause-indexed : goal.returns-in_err-reserve-clause-indexed
 returns-in_err-reserve-clause-indexed c =
     let k : CoreIndex = c.args.self.now in
-    let m : CoreIndex = record { cores = c.reserve.new.self; positive = k.positive; negative = k.negative; older = k.older; refuted = k.refuted } in
+    let m : CoreIndex = record {
+      cores = c.reserve.new.self;
+      positive = k.positive;
+      negative = k.negative;
+      older =
+          k.older;
+      refuted = k.refuted;
+    } in
     same-index k m c.in_err-reserve.ensures.items refl (λ l. refl) refl c.requires.indexed
 
 pub returns-in_err-reserve-2-clause-indexed : goal.returns-in_err-reserve-2-clause-indexed
 returns-in_err-reserve-2-clause-indexed c =
     let k : CoreIndex = c.args.self.now in
-    let m : CoreIndex = record { cores = c.reserve.new.self; positive = k.positive; negative = k.negative; older = c.reserve-2.new.self; refuted = k.refuted } in
+    let m : CoreIndex = record {
+      cores = c.reserve.new.self;
+      positive = k.positive;
+      negative = k.negative;
+      older =
+          c.reserve-2.new.self;
+      refuted = k.refuted;
+    } in
     same-index k m c.in_ok-reserve.ensures.items c.in_err-reserve-2.ensures.items (λ l. refl) refl c.requires.indexed
 
 pub returns-in_err-was-clause-indexed : goal.returns-in_err-was-clause-indexed
@@ -26,9 +40,23 @@ pub returns-clause-indexed : goal.returns-clause-indexed
 returns-clause-indexed c =
     let k : CoreIndex = c.args.self.now in
     let n : CoreIndex = c.make_newest.new.self in
-    let m : CoreIndex = record { cores = c.push_reserved-2.new.self; positive = n.positive; negative = n.negative; older = c.push_reserved.new.self; refuted = n.refuted } in
-    let len : c.len-number.result ≡ length k.cores.items = omega (arith, c.len-number.ensures, ap length c.in_ok-reserve.ensures.items, c.reserve.new.self.ok.0) in
+    let m : CoreIndex = record {
+      cores = c.push_reserved-2.new.self;
+      positive = n.positive;
+      negative = n.negative;
+      older = c.push_reserved.new.self;
+      refuted = n.refuted;
+    } in
+    let len : c.len-number.result ≡ length k.cores.items = omega (
+      arith,
+      c.len-number.ensures,
+      ap length c.in_ok-reserve.ensures.items,
+      c.reserve.new.self.ok.0,
+    ) in
     indexed-push k m c.args.core c.in_ok-was.was' c.requires.indexed
-    (c.push_reserved-2.ensures.items ∙ ap (λ cs. cs ++ c.args.core ∷ []) (ap (λ v. v.items) c.make_newest.ensures.cores ∙ c.in_ok-reserve.ensures.items))
-    (c.push_reserved.ensures.items ∙ ap (λ xs. xs ++ c.in_ok-was.was' ∷ []) (ap (λ v. v.items) c.make_newest.ensures.older ∙ c.in_ok-reserve-2.ensures.items))
-    c.args.lit c.requires.last c.in_ok-was.ensures.was (c.in_ok-was.ensures.here ∙ ap (λ (i : ℕ). i + 1) len) c.in_ok-was.ensures.others c.make_newest.ensures.refuted
+    (c.push_reserved-2.ensures.items ∙ ap (λ cs. cs ++ c.args.core ∷ []) (ap (λ v. v.items) c.make_newest.ensures.cores
+    ∙ c.in_ok-reserve.ensures.items))
+    (c.push_reserved.ensures.items ∙ ap (λ xs. xs ++ c.in_ok-was.was' ∷ [])
+    (ap (λ v. v.items) c.make_newest.ensures.older ∙ c.in_ok-reserve-2.ensures.items))
+    c.args.lit c.requires.last c.in_ok-was.ensures.was (c.in_ok-was.ensures.here ∙ ap (λ (i : ℕ). i + 1) len)
+    c.in_ok-was.ensures.others c.make_newest.ensures.refuted

@@ -19,8 +19,10 @@ returns-clause-keeper c =
     record {
       resting = c.bound.ensures.resting;
       terms = subst HasTermsInRange (sym made.problem) (range-more p q refl less h.terms);
-      few = subst (λ (r : ProblemState). length r.retired ≤ r.vars) (sym made.problem) (let more : length p.retired ≤ p.vars + 1 = omega (arith, few) in more);
+      few = subst (λ (r : ProblemState). length r.retired ≤ r.vars) (sym made.problem) (let more : length p.retired
+          ≤ p.vars + 1 = omega (arith, few) in more);
       indexed = h.indexed;
-      refuted = subst (λ (r : ProblemState). All (RefutesAll r) a.index.cores.items) (sym made.problem) (refuted-more p q less a.index.cores.items h.refuted);
+      refuted = subst (λ (r : ProblemState). All (RefutesAll r) a.index.cores.items) (sym made.problem)
+          (refuted-more p q less a.index.cores.items h.refuted);
       counted = rw made.same.searches h.counted;
     }

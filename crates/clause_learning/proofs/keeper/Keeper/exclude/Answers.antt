@@ -16,9 +16,13 @@ returns-clause-keeper c =
     let few : length p.retired ≤ p.vars = h.few in
     record {
       resting = c.exclude.ensures.resting;
-      terms = subst HasTermsInRange (sym made.problem) (range-more p (with_exclusion p c.args.values.now) refl (exclusion-restricts p c.args.values.now) h.terms);
-      few = subst (λ (r : ProblemState). length r.retired ≤ r.vars) (sym made.problem) (let more : length p.retired ≤ p.vars + 1 = omega (arith, few) in more);
+      terms = subst HasTermsInRange (sym made.problem) (range-more p (with_exclusion p c.args.values.now) refl
+          (exclusion-restricts p c.args.values.now) h.terms);
+      few = subst (λ (r : ProblemState). length r.retired ≤ r.vars) (sym made.problem) (let more : length p.retired
+          ≤ p.vars + 1 = omega (arith, few) in more);
       indexed = h.indexed;
-      refuted = subst (λ (r : ProblemState). All (RefutesAll r) a.index.cores.items) (sym made.problem) (refuted-more p (with_exclusion p c.args.values.now) (exclusion-restricts p c.args.values.now) a.index.cores.items h.refuted);
+      refuted = subst (λ (r : ProblemState). All (RefutesAll r) a.index.cores.items) (sym made.problem)
+          (refuted-more p (with_exclusion p c.args.values.now) (exclusion-restricts p c.args.values.now)
+          a.index.cores.items h.refuted);
       counted = rw made.same.searches h.counted;
     }

@@ -10,12 +10,14 @@ pub returns-in-Ok-clause-keeper : goal.returns-in-Ok-clause-keeper
 returns-in-Ok-clause-keeper c =
     let a : Keeper = c.args.self.now in
     let new = subst (IsNewRefusal a) c.in-Unsat.is c.requires.new in
-    let cores : c.keep.new.self.cores.items ≡ a.index.cores.items ++ c.in-Unsat.core ∷ [] = c.in-Ok.ensures.ok ∙ ap (λ (ls : List Lit). a.index.cores.items ++ ls ∷ []) c.as_slice.ensures in
+    let cores : c.keep.new.self.cores.items ≡ a.index.cores.items ++ c.in-Unsat.core ∷ [] = c.in-Ok.ensures.ok
+    ∙ ap (λ (ls : List Lit). a.index.cores.items ++ ls ∷ []) c.as_slice.ensures in
     record {
       resting = c.requires.keeper.resting;
       terms = c.requires.keeper.terms;
       few = c.requires.keeper.few;
       indexed = c.keep.ensures.indexed;
-      refuted = subst (λ (cs : List (List Lit)). All (RefutesAll a.engine.problem) cs) (sym cores) (All-push (RefutesAll a.engine.problem) a.index.cores.items c.in-Unsat.core c.requires.keeper.refuted new.0);
+      refuted = subst (λ (cs : List (List Lit)). All (RefutesAll a.engine.problem) cs) (sym cores)
+          (All-push (RefutesAll a.engine.problem) a.index.cores.items c.in-Unsat.core c.requires.keeper.refuted new.0);
       counted = c.requires.keeper.counted;
     }

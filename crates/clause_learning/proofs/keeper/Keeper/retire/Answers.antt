@@ -18,13 +18,17 @@ returns-clause-keeper c =
       resting = c.retire.ensures.resting;
       terms = ⊎_elim
           (λ has. subst HasTermsInRange (sym (c.retire.ensures.already has)) h.terms)
-          (λ not. subst HasTermsInRange (sym (c.retire.ensures.retired not)) (range-more p (with_retired p c.args.selector) refl (retired-first p c.args.selector) h.terms))
+          (λ not. subst HasTermsInRange (sym (c.retire.ensures.retired not))
+          (range-more p (with_retired p c.args.selector) refl (retired-first p c.args.selector) h.terms))
           (decide_member p.retired c.args.selector);
       few = c.retire.ensures.few;
       indexed = h.indexed;
       refuted = ⊎_elim
-          (λ has. subst (λ (r : ProblemState). All (RefutesAll r) a.index.cores.items) (sym (c.retire.ensures.already has)) h.refuted)
-          (λ not. subst (λ (r : ProblemState). All (RefutesAll r) a.index.cores.items) (sym (c.retire.ensures.retired not)) (refuted-more p (with_retired p c.args.selector) (retired-first p c.args.selector) a.index.cores.items h.refuted))
+          (λ has. subst (λ (r : ProblemState). All (RefutesAll r) a.index.cores.items)
+          (sym (c.retire.ensures.already has)) h.refuted)
+          (λ not. subst (λ (r : ProblemState). All (RefutesAll r) a.index.cores.items)
+          (sym (c.retire.ensures.retired not)) (refuted-more p (with_retired p c.args.selector)
+          (retired-first p c.args.selector) a.index.cores.items h.refuted))
           (decide_member p.retired c.args.selector);
       counted = rw c.retire.ensures.same.searches h.counted;
     }

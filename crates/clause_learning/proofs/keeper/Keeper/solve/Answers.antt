@@ -7,7 +7,8 @@ use Rattle.clause_learning.proofs.keeper.Keeper.solve.Goals as goal
 pub keep-requires-clause-new : goal.keep-requires-clause-new
 keep-requires-clause-new g c =
     let none = rw c.in-Ok-None.field-0-is at c.in-Ok-None.ensures in
-    new-refusal c.args.self.now c.search.new.self c.args.assume.now c.in-Ok.verdict c.search.ensures.index c.search.ensures.problem c.in-Ok.ensures.verdict none
+    new-refusal c.args.self.now c.search.new.self c.args.assume.now c.in-Ok.verdict c.search.ensures.index
+    c.search.ensures.problem c.in-Ok.ensures.verdict none
 
 pub returns-in-Ok-Some-clause-verdict : goal.returns-in-Ok-Some-clause-verdict
 returns-in-Ok-Some-clause-verdict g c =
@@ -18,4 +19,5 @@ returns-in-Ok-Some-clause-verdict g c =
 pub returns-in-Err-clause-spends : goal.returns-in-Err-clause-spends
 returns-in-Err-clause-spends g c =
     let a : Keeper = c.args.self.now in
-    spends-none (kept_of a) _ c.args.budget.now c.count_search-in-Err.ensures.learnt (ap (λ v. v.items) c.count_search-in-Err.ensures.moments) c.requires.budget
+    spends-none (kept_of a) _ c.args.budget.now c.count_search-in-Err.ensures.learnt
+    (ap (λ v. v.items) c.count_search-in-Err.ensures.moments) c.requires.budget

@@ -12,7 +12,9 @@ use Rattle.clause_learning.proofs.KeeperFacts.{either, keeper-joined, keeper-sta
 use Rattle.clause_learning.proofs.SolverFacts.{solver-laws}
 use Rattle.clause_learning.proofs.solver.Solver.add_problem.Goals as goal
 
-added : (a : Keeper) (f : Engine) (q : ProblemState) (s : SolverState) → state_of a ≡ s → IsKeeper a → IsResting f → CanJoin s.kept.problem q → q.bounds ≡ [] → HasTermsInRange q → Grows a.engine q f ⊎ Stays a.engine f → IsKeeper (record { alloc = a.alloc; engine = f; index = a.index; additions = a.additions })
+added : (a : Keeper) (f : Engine) (q : ProblemState) (s : SolverState) → state_of a ≡ s → IsKeeper a → IsResting f
+    → CanJoin s.kept.problem q → q.bounds ≡ [] → HasTermsInRange q → Grows a.engine q f ⊎ Stays a.engine f
+    → IsKeeper (record { alloc = a.alloc; engine = f; index = a.index; additions = a.additions })
 added a f q s view h resting joins bounds terms way =
     let can : CanJoin a.engine.problem q = subst (λ (x : SolverState). CanJoin x.kept.problem q) (sym view) joins in
     ⊎_elim
@@ -24,10 +26,15 @@ pub invariant_of-self : goal.invariant_of-self
 invariant_of-self g c =
     let a : Keeper = c.self.inside.keeper in
     let f : Engine = c.add_problem.new.self in
-    added a f c.args.more.now _ c.self.view_is c.self.invariant c.add_problem.ensures.resting c.requires.can c.requires.bounds c.requires.range (either (Grows a.engine c.args.more.now f) (Stays a.engine f) c.add_problem.result c.add_problem.ensures.ok c.add_problem.ensures.err)
+    added a f c.args.more.now _ c.self.view_is c.self.invariant c.add_problem.ensures.resting c.requires.can
+    c.requires.bounds c.requires.range (either (Grows a.engine c.args.more.now f) (Stays a.engine f)
+    c.add_problem.result c.add_problem.ensures.ok c.add_problem.ensures.err)
 
 pub returns-clause-laws : goal.returns-clause-laws
 returns-clause-laws g c =
     let a : Keeper = c.self.inside.keeper in
     let f : Engine = c.add_problem.new.self in
-    solver-laws (record { alloc = a.alloc; engine = f; index = a.index; additions = a.additions }) (added a f c.args.more.now _ c.self.view_is c.self.invariant c.add_problem.ensures.resting c.requires.can c.requires.bounds c.requires.range (either (Grows a.engine c.args.more.now f) (Stays a.engine f) c.add_problem.result c.add_problem.ensures.ok c.add_problem.ensures.err))
+    solver-laws (record { alloc = a.alloc; engine = f; index = a.index; additions = a.additions })
+    (added a f c.args.more.now _ c.self.view_is c.self.invariant c.add_problem.ensures.resting c.requires.can
+    c.requires.bounds c.requires.range (either (Grows a.engine c.args.more.now f) (Stays a.engine f)
+    c.add_problem.result c.add_problem.ensures.ok c.add_problem.ensures.err))

@@ -7,11 +7,18 @@ use Rattle.clause_learning.proofs.SolverFacts.{solver-laws}
 use Rattle.clause_learning.proofs.solver.Solver.forget.Goals as goal
 
 pub returns-clause-laws : goal.returns-clause-laws
-returns-clause-laws g c = solver-laws (record { alloc = c.self.inside.keeper.alloc; engine = c.forget.new.self; index = c.clear.new.self; additions = c.self.inside.keeper.additions }) (record {
+returns-clause-laws g c = solver-laws (record {
+  alloc = c.self.inside.keeper.alloc;
+  engine = c.forget.new.self;
+  index =
+      c.clear.new.self;
+  additions = c.self.inside.keeper.additions;
+}) (record {
   resting = c.forget.ensures.resting;
   terms = subst HasTermsInRange (sym c.forget.ensures.problem) c.self.invariant.terms;
   few = subst (λ (p : ProblemState). length p.retired ≤ p.vars) (sym c.forget.ensures.problem) c.self.invariant.few;
   indexed = c.clear.ensures.indexed;
-  refuted = subst (λ (cs : List (List Lit)). All (RefutesAll c.forget.new.self.problem) cs) (sym c.clear.ensures.empty) (All-nil (RefutesAll c.forget.new.self.problem));
+  refuted = subst (λ (cs : List (List Lit)). All (RefutesAll c.forget.new.self.problem) cs) (sym c.clear.ensures.empty)
+      (All-nil (RefutesAll c.forget.new.self.problem));
   counted = rw c.forget.ensures.searches c.self.invariant.counted;
 })

@@ -11,7 +11,8 @@ use Rattle.clause_learning.proofs.solver.SolverGrow.retire.Goals as goal
 pub returns-clause-already : goal.returns-clause-already
 returns-clause-already g c = λ has.
     subst (λ (x : SolverState). kept_of c.retire.new.self ≡ x.kept) c.self.view_is
-    (c.retire.ensures.already (subst (λ (x : SolverState). Contains x.kept.problem.retired c.args.selector) (sym c.self.view_is) has))
+    (c.retire.ensures.already (subst (λ (x : SolverState). Contains x.kept.problem.retired c.args.selector)
+    (sym c.self.view_is) has))
 
 pub returns-clause-later : goal.returns-clause-later
 returns-clause-later g c =
@@ -20,7 +21,13 @@ returns-clause-later g c =
     let t : SolveState = kept_of c.retire.new.self in
     let goes : GoesOn s t = ⊎_elim
     (λ has. subst (GoesOn s) (sym (c.retire.ensures.already has)) (goes-itself s))
-    (λ not. subst (GoesOn s) (sym (c.retire.ensures.retired not)) (record { learnt = prefix-itself s.learnt; moments = prefix-itself s.moments; cores = prefix-itself s.cores; additions = prefix-itself s.additions }))
+    (λ not. subst (GoesOn s) (sym (c.retire.ensures.retired not)) (record {
+      learnt = prefix-itself s.learnt;
+      moments =
+          prefix-itself s.moments;
+      cores = prefix-itself s.cores;
+      additions = prefix-itself s.additions;
+    }))
     (decide_member s.problem.retired c.args.selector) in
     subst (λ (x : SolverState). GoesOn x.kept t) c.self.view_is goes
 

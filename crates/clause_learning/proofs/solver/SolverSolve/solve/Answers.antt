@@ -23,8 +23,10 @@ returns-clause-later g c =
 pub returns-clause-decided : goal.returns-clause-decided
 returns-clause-decided g c has =
     let a : Keeper = c.self.inside.keeper in
-    let known = c.solve.ensures.decided (subst (λ (s : SolverState). HasCoreWithin s.kept.cores c.args.assume.now) (sym c.self.view_is) has) in
-    subst (λ (s : SolverState). IsKnown s.kept.learnt c.solve.new.self.engine.learnt c.args.budget.now c.solve.new.budget c.solve.result) c.self.view_is known
+    let known = c.solve.ensures.decided (subst (λ (s : SolverState). HasCoreWithin s.kept.cores c.args.assume.now)
+    (sym c.self.view_is) has) in
+    subst (λ (s : SolverState). IsKnown s.kept.learnt c.solve.new.self.engine.learnt c.args.budget.now
+    c.solve.new.budget c.solve.result) c.self.view_is known
 
 pub returns-clause-laws : goal.returns-clause-laws
 returns-clause-laws g c = solver-laws c.solve.new.self c.solve.ensures.keeper

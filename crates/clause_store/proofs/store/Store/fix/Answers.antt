@@ -5,4 +5,5 @@ use Rattle.clause_base.specs.StoreState.{StoreState, IsHeld}
 use Rattle.clause_store.proofs.store.Store.fix.Goals as goal
 
 pub fix-requires-clause-unopposed : goal.fix-requires-clause-unopposed
-fix-requires-clause-unopposed c = subst (λ (s : StoreState). (id : ℕ) (d : List Lit) → IsHeld s id d → Contains d (negated c.args.lit) → ⊥) (sym c.self.view_is) c.requires.unopposed
+fix-requires-clause-unopposed c = subst (λ (s : StoreState). (id : ℕ) (d : List Lit) → IsHeld s id d
+    → Contains d (negated c.args.lit) → ⊥) (sym c.self.view_is) c.requires.unopposed

@@ -5,4 +5,5 @@ use Rattle.clause_base.specs.TrailLaws.{IsFixed}
 use Rattle.clause_store.proofs.store.Store.push_clause.Goals as goal
 
 pub push_clause-requires-clause-unopposed : goal.push_clause-requires-clause-unopposed
-push_clause-requires-clause-unopposed c = subst (λ (s : StoreState). All (λ l. IsFixed s.trail (negated l) → ⊥) c.args.lits.now) (sym c.self.view_is) c.requires.unopposed
+push_clause-requires-clause-unopposed c = subst (λ (s : StoreState). All (λ l. IsFixed s.trail (negated l)
+    → ⊥) c.args.lits.now) (sym c.self.view_is) c.requires.unopposed

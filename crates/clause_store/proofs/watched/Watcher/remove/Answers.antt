@@ -10,7 +10,14 @@ use Rattle.clause_base.proofs.StoreFacts.{store-removed}
 use Rattle.clause_store.proofs.watched.Watcher.remove.Goals as goal
 
 with_held : Watcher → ClauseDbState → Watcher
-with_held e x = record { held = x; lists = e.lists; trail = e.trail; queue = e.queue; checked = e.checked; stale = e.stale }
+with_held e x = record {
+  held = x;
+  lists = e.lists;
+  trail = e.trail;
+  queue = e.queue;
+  checked = e.checked;
+  stale = e.stale;
+}
 
 pub returns-clause-watcher : goal.returns-clause-watcher
 unfolding with_held
@@ -19,11 +26,13 @@ returns-clause-watcher c =
     let h = c.requires.watcher in
     let none : Option (List Lit) = None in
     let left : ClauseDbState = record { clauses = set e.held.clauses c.args.id none; spare = e.held.spare } in
-    let size : length (set e.held.clauses c.args.id none) ≡ length e.held.clauses = length-set e.held.clauses c.args.id none in
+    let size : length (set e.held.clauses c.args.id none) ≡ length e.held.clauses =
+    length-set e.held.clauses c.args.id none in
     let a : e.checked ≤ length e.held.clauses = h.checked in
     let n : 2 * length e.held.clauses ≤ length e.lists.labels = h.nodes in
     subst (λ (x : ClauseDbState). IsWatcher (with_held e x)) (sym c.remove.ensures)
-    (watcher-held e (with_held e left) h (store-removed (store_of e) c.args.id h.store c.requires.unassigned) refl refl refl refl
+    (watcher-held e (with_held e left) h (store-removed (store_of e) c.args.id h.store c.requires.unassigned) refl
+    refl refl refl
     (omega arith) (omega arith)
     (λ pos. let r : 2 * length e.held.clauses + 2 ≤ length e.lists.labels = h.room pos in omega arith)
     (λ id d lt held. slice_get-set_cases e.held.clauses c.args.id none id (Some d) held (λ x. cc))

@@ -10,7 +10,15 @@ pub returns-in_err-add_nodes-clause-watcher : goal.returns-in_err-add_nodes-clau
 returns-in_err-add_nodes-clause-watcher c =
     let e : Watcher = c.args.self.now in
     let h = c.requires.watcher in
-    let b : Watcher = record { held = e.held; lists = c.add_nodes.new.self; trail = e.trail; queue = e.queue; checked = e.checked; stale = e.stale } in
+    let b : Watcher = record {
+      held = e.held;
+      lists = c.add_nodes.new.self;
+      trail = e.trail;
+      queue = e.queue;
+      checked =
+          e.checked;
+      stale = e.stale;
+    } in
     let more : length e.lists.labels ≤ length c.add_nodes.new.self.labels = c.add_nodes.ensures.longer in
     let count : length c.add_nodes.new.self.lists ≡ length e.lists.lists = c.add_nodes.ensures.count in
     let n : 2 * length e.held.clauses ≤ length e.lists.labels = h.nodes in
@@ -22,13 +30,23 @@ pub returns-clause-watcher : goal.returns-clause-watcher
 returns-clause-watcher c =
     let e : Watcher = c.args.self.now in
     let h = c.requires.watcher in
-    let b : Watcher = record { held = c.reserve.new.self; lists = c.add_nodes.new.self; trail = e.trail; queue = e.queue; checked = e.checked; stale = e.stale } in
+    let b : Watcher = record {
+      held = c.reserve.new.self;
+      lists = c.add_nodes.new.self;
+      trail = e.trail;
+      queue =
+          e.queue;
+      checked = e.checked;
+      stale = e.stale;
+    } in
     let same : c.reserve.new.self.clauses ≡ e.held.clauses = c.reserve.ensures.clauses in
     let size : length c.reserve.new.self.clauses ≡ length e.held.clauses = ap length same in
     let len : c.len-count.result ≡ length e.held.clauses = c.len-count.ensures in
     let nodes : 2 * (c.len-count.result + 1) ≤ length c.add_nodes.new.self.labels = c.in_ok-add_nodes.ensures.enough in
     let count : length c.add_nodes.new.self.lists ≡ length e.lists.lists = c.add_nodes.ensures.count in
     let a : e.checked ≤ length e.held.clauses = h.checked in
-    watcher-held e b h (store-same (store_of e) (store_of b) same refl h.store) refl refl refl refl (omega arith) (omega arith)
+    watcher-held e b h (store-same (store_of e) (store_of b) same refl h.store) refl refl refl refl (omega arith)
+    (omega arith)
     (λ pos. omega arith)
-    (λ id d lt held. subst (λ (xs : List (Option (List Lit))). slice_get xs id ≡ Some (Some d)) same held) c.add_nodes.ensures.kept c.add_nodes.ensures.laws (omega arith) c.add_nodes.ensures.lists
+    (λ id d lt held. subst (λ (xs : List (Option (List Lit))). slice_get xs id ≡ Some (Some d)) same held)
+    c.add_nodes.ensures.kept c.add_nodes.ensures.laws (omega arith) c.add_nodes.ensures.lists

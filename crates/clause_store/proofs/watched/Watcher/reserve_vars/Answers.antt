@@ -10,7 +10,8 @@ returns-in_err-add_lists-clause-watcher c =
     let l = c.add_lists.ensures in
     let longer : length e.lists.lists ≤ length c.add_lists.new.self.lists = l.longer in
     let all : 2 * length e.trail.values ≤ length e.lists.lists = h.count in
-    watcher-longer e c.add_lists.new.self e.trail h refl refl (omega arith) h.store.trail l.laws l.labels (omega arith) h.small l.lists
+    watcher-longer e c.add_lists.new.self e.trail h refl refl (omega arith) h.store.trail l.laws l.labels
+    (omega arith) h.small l.lists
 
 pub returns-clause-watcher : goal.returns-clause-watcher
 returns-clause-watcher c =
@@ -23,4 +24,5 @@ returns-clause-watcher c =
     let most : length c.grow.new.self.values ≤ max (length e.trail.values) c.args.n = g.bounded in
     let enough : 2 * c.args.n ≤ length c.add_lists.new.self.lists = c.in_ok-add_lists.ensures.enough in
     let small : length e.trail.values ≤ 2 ^ 31 = h.small in
-    watcher-longer e c.add_lists.new.self c.grow.new.self h g.steps g.level g.longer g.laws l.laws l.labels (omega arith) (omega (arith, c.if-n-gt2147483648.false)) l.lists
+    watcher-longer e c.add_lists.new.self c.grow.new.self h g.steps g.level g.longer g.laws l.laws l.labels
+    (omega arith) (omega (arith, c.if-n-gt2147483648.false)) l.lists

@@ -11,7 +11,8 @@ use Rattle.clause_store.proofs.watched.Watcher.visit.Goals as goal
 pub look-requires-clause-listed : goal.look-requires-clause-listed
 look-requires-clause-listed c =
     let w = c.requires.at in
-    subst (λ (xs : List ℕ). Contains xs c.args.node) (sym w.2) (Contains-append_right w.0 (c.args.node ∷ w.1) c.args.node (Contains-head c.args.node w.1))
+    subst (λ (xs : List ℕ). Contains xs c.args.node) (sym w.2)
+    (Contains-append_right w.0 (c.args.node ∷ w.1) c.args.node (Contains-head c.args.node w.1))
 
 pub seek-requires-clause-id : goal.seek-requires-clause-id
 seek-requires-clause-id c =
@@ -61,7 +62,11 @@ pub returns-in-Satisfied-clause-same : goal.returns-in-Satisfied-clause-same
 returns-in-Satisfied-clause-same c = propagates-refl (store_of c.args.self.now)
 
 pub returns-in-Satisfied-clause-visit : goal.returns-in-Satisfied-clause-visit
-returns-in-Satisfied-clause-visit c = (passes-node c.args.self.now c.args.self.now c.args.node c.args.falsified c.args.before refl, c.in-Satisfied.ensures)
+returns-in-Satisfied-clause-visit c = (
+  passes-node c.args.self.now c.args.self.now c.args.node c.args.falsified
+      c.args.before refl,
+  c.in-Satisfied.ensures,
+)
 
 pub returns-in-Deleted-clause-same : goal.returns-in-Deleted-clause-same
 returns-in-Deleted-clause-same c = propagates-refl (store_of c.args.self.now)
@@ -69,7 +74,8 @@ returns-in-Deleted-clause-same c = propagates-refl (store_of c.args.self.now)
 pub returns-in-Deleted-clause-visit : goal.returns-in-Deleted-clause-visit
 returns-in-Deleted-clause-visit c = (
   passes-node c.args.self.now c.args.self.now c.args.node c.args.falsified c.args.before refl,
-  λ id d of held. absurd (c.in-Deleted.ensures d (subst (λ (n : ℕ). IsHeld (store_of c.args.self.now) n d) (same-node c.args.node id c.clause_of.result of c.clause_of.ensures) held)),
+  λ id d of held. absurd (c.in-Deleted.ensures d (subst (λ (n : ℕ). IsHeld (store_of c.args.self.now) n d)
+      (same-node c.args.node id c.clause_of.result of c.clause_of.ensures) held)),
 )
 
 pub returns-in-Conflict-clause-same : goal.returns-in-Conflict-clause-same
@@ -79,5 +85,8 @@ pub returns-in-Conflict-clause-visit : goal.returns-in-Conflict-clause-visit
 returns-in-Conflict-clause-visit c id of =
     let l = c.in-Unsatisfied.ensures.1 c.clause_of.result c.clause_of.ensures in
     let f = c.in-Conflict.ensures in
-    let same : c.clause_of.result ≡ id = same-node c.args.node c.clause_of.result id c.clause_of.ensures of in
-    (f.0, subst (λ (n : ℕ). IsHeld (store_of c.args.self.now) n f.0) same f.1, ⊎_elim (λ t. absurd ((l.1 f.0 f.1).untrue t)) (λ x. x) f.2)
+    let same : c.clause_of.result ≡ id = same-node c.args.node c.clause_of.result id c.clause_of.ensures of in (
+      f.0,
+      subst (λ (n : ℕ). IsHeld (store_of c.args.self.now) n f.0) same f.1,
+      ⊎_elim (λ t. absurd ((l.1 f.0 f.1).untrue t)) (λ x. x) f.2,
+    )

@@ -18,25 +18,32 @@ mark-requires-clause-made c =
     let s : StoreState = c.args.store.now in
     let xs : List Lit = c.lend-lits.result.now in
     let i : ℕ = c.loop-lit.lit-index in
-    let same : xs ≡ c.requires.clause.0 = same-held s c.args.clause xs c.requires.clause.0 c.lend-lits.ensures.held c.requires.clause.1 in
+    let same : xs ≡ c.requires.clause.0 = same-held s c.args.clause xs c.requires.clause.0 c.lend-lits.ensures.held
+    c.requires.clause.1 in
     let has : Contains xs (get_or xs i some_literal) = Contains-get_or xs i some_literal c.loop-lit-test.true in
-    subst (λ (top : ℕ). IsMadeBefore s.trail.steps top (negated (get_or xs i some_literal)) ⊎ IsMadeAt s.trail.steps top (get_or xs i some_literal)) (sym c.loop-lit.invariant.0.top)
-    (c.requires.clause.2 (get_or xs i some_literal) (subst (λ (ls : List Lit). Contains ls (get_or xs i some_literal)) same has))
+    subst (λ (top : ℕ). IsMadeBefore s.trail.steps top (negated (get_or xs i some_literal)) ⊎ IsMadeAt s.trail.steps top
+    (get_or xs i some_literal)) (sym c.loop-lit.invariant.0.top)
+    (c.requires.clause.2 (get_or xs i some_literal) (subst (λ (ls : List Lit).
+    Contains ls (get_or xs i some_literal)) same has))
 
 pub mark-requires-clause-unfixed : goal.mark-requires-clause-unfixed
 mark-requires-clause-unfixed c =
     let xs : List Lit = c.lend-lits.result.now in
     let i : ℕ = c.loop-lit.lit-index in
-    unfixed-of c.args.store.now c.args.clause xs (get_or xs i some_literal) c.lend-lits.ensures.laws c.lend-lits.ensures.held (Contains-get_or xs i some_literal c.loop-lit-test.true)
+    unfixed-of c.args.store.now c.args.clause xs (get_or xs i some_literal) c.lend-lits.ensures.laws
+    c.lend-lits.ensures.held (Contains-get_or xs i some_literal c.loop-lit-test.true)
 
 pub loop-lit-preserved : goal.loop-lit-preserved
 loop-lit-preserved c =
     let xs : List Lit = c.lend-lits.result.now in
     let i : ℕ = c.loop-lit.lit-index in
-    let more : take (i + 1) xs ≡ take i xs ++ get_or xs i some_literal ∷ [] = take_more xs i some_literal c.loop-lit-test.true in
+    let more : take (i + 1) xs ≡ take i xs ++ get_or xs i some_literal ∷ [] =
+    take_more xs i some_literal c.loop-lit-test.true in
     let e = c.in_ok-mark.ensures in (
-      subst (λ (ls : List Lit). Gathers c.args.store.now.trail.steps c.args.self.now (Contains ls) c.mark.new.self) (sym more)
-          (gathers-more c.args.store.now.trail.steps c.args.self.now c.loop-lit.self c.mark.new.self (take i xs) (get_or xs i some_literal) c.loop-lit.invariant.0 e.ok),
+      subst (λ (ls : List Lit). Gathers c.args.store.now.trail.steps c.args.self.now (Contains ls) c.mark.new.self)
+          (sym more)
+          (gathers-more c.args.store.now.trail.steps c.args.self.now c.loop-lit.self c.mark.new.self (take i xs)
+          (get_or xs i some_literal) c.loop-lit.invariant.0 e.ok),
       e.hints ∙ c.loop-lit.invariant.1,
     )
 
@@ -44,7 +51,9 @@ pub returns : goal.returns
 returns c =
     let xs : List Lit = c.lend-lits.result.now in
     let all : take c.loop-lit.lit-index xs ≡ xs = take_all c.loop-lit.lit-index xs c.loop-lit-test.false in
-    let g : Gathers c.args.store.now.trail.steps c.args.self.now (Contains xs) c.loop-lit.self = subst (λ (ls : List Lit). Gathers c.args.store.now.trail.steps c.args.self.now (Contains ls) c.loop-lit.self) all c.loop-lit.invariant.0 in
+    let g : Gathers c.args.store.now.trail.steps c.args.self.now (Contains xs) c.loop-lit.self =
+    subst (λ (ls : List Lit). Gathers c.args.store.now.trail.steps c.args.self.now (Contains ls) c.loop-lit.self)
+    all c.loop-lit.invariant.0 in
     record {
       ok = record {
         clause = xs;

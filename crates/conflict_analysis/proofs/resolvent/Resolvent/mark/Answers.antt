@@ -29,18 +29,36 @@ returns-then-step-self-clause-ok c =
     let s : StoreState = c.args.store.now in
     let w = c.place_of-place.ensures.step in
     let at : slice_get s.trail.steps c.place_of-place.result ≡ Some c.step.result = c.step.ensures.step in
-    let same : c.step.result.lit.var ≡ c.args.lit.var = ap (λ (x : Step). x.lit.var) (same-step s.trail.steps c.place_of-place.result c.step.result w.0 at w.1) ∙ w.2 in
+    let same : c.step.result.lit.var ≡ c.args.lit.var = ap (λ (x : Step). x.lit.var)
+    (same-step s.trail.steps c.place_of-place.result c.step.result w.0 at w.1) ∙ w.2 in
     let lt : c.step.result.level < c.args.self.now.floor = omega arith in
-    let new : Resolvent = record { floor = c.args.self.now.floor; top = c.args.self.now.top; upper = c.args.self.now.upper; lower = c.insert.new.self; hints = c.args.self.now.hints } in
-    gathers-lower s.trail c.requires.laws.trail c.args.self.now new c.args.lit c.requires.made c.place_of-place.result c.step.result at same refl refl refl c.in_ok-insert.ensures.keys lt (omega arith)
+    let new : Resolvent = record {
+      floor = c.args.self.now.floor;
+      top = c.args.self.now.top;
+      upper =
+          c.args.self.now.upper;
+      lower = c.insert.new.self;
+      hints = c.args.self.now.hints;
+    } in
+    gathers-lower s.trail c.requires.laws.trail c.args.self.now new c.args.lit c.requires.made c.place_of-place.result
+    c.step.result at same refl refl refl c.in_ok-insert.ensures.keys lt (omega arith)
 
 pub returns-clause-ok : goal.returns-clause-ok
 returns-clause-ok c =
     let s : StoreState = c.args.store.now in
     let w = c.place_of-place.ensures.step in
     let at : slice_get s.trail.steps c.place_of-place.result ≡ Some c.step.result = c.step.ensures.step in
-    let same : c.step.result.lit.var ≡ c.args.lit.var = ap (λ (x : Step). x.lit.var) (same-step s.trail.steps c.place_of-place.result c.step.result w.0 at w.1) ∙ w.2 in
+    let same : c.step.result.lit.var ≡ c.args.lit.var = ap (λ (x : Step). x.lit.var)
+    (same-step s.trail.steps c.place_of-place.result c.step.result w.0 at w.1) ∙ w.2 in
     let le : c.args.self.now.floor ≤ c.step.result.level = omega arith in
     let lt : c.place_of-place.result < c.args.self.now.top = omega arith in
-    let new : Resolvent = record { floor = c.args.self.now.floor; top = c.args.self.now.top; upper = c.insert-2.new.self; lower = c.args.self.now.lower; hints = c.args.self.now.hints } in
-    gathers-upper s.trail c.requires.laws.trail c.args.self.now new c.args.lit c.requires.made c.place_of-place.result c.step.result at same refl refl refl c.in_ok-insert-2.ensures.keys le lt c.requires.unfixed
+    let new : Resolvent = record {
+      floor = c.args.self.now.floor;
+      top = c.args.self.now.top;
+      upper =
+          c.insert-2.new.self;
+      lower = c.args.self.now.lower;
+      hints = c.args.self.now.hints;
+    } in
+    gathers-upper s.trail c.requires.laws.trail c.args.self.now new c.args.lit c.requires.made c.place_of-place.result
+    c.step.result at same refl refl refl c.in_ok-insert-2.ensures.keys le lt c.requires.unfixed

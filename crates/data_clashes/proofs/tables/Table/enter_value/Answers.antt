@@ -12,7 +12,8 @@ returns-clause-kept c = λ f k.
     let es = c.args.self.now.values.entries in
     let row = c.args.row in
     let e : c.insert.new.self.entries ≡ es ++ (row, c.args.value) ∷ [] =
-    c.in_ok-insert.ensures.entries ∙ insert_entry-new key_equality.eq c.args.self.now.values row c.args.value (none_views _ (looked_up es row c.requires.none ∙ c.requires.absent)) in
+    c.in_ok-insert.ensures.entries ∙ insert_entry-new key_equality.eq c.args.self.now.values row c.args.value
+    (none_views _ (looked_up es row c.requires.none ∙ c.requires.absent)) in
     still_kept c.args.self.now _ (record {
       wide = λ s h. h;
       values = λ s xs v h. ap (λ zs. value_in zs s xs) e ∙ still_in es ((row, c.args.value) ∷ []) s xs v h;
@@ -25,5 +26,7 @@ returns-clause-own c =
     let row = c.args.row in
     let xs = tuple_view row.args.items in
     let e : c.insert.new.self.entries ≡ es ++ (row, c.args.value) ∷ [] =
-    c.in_ok-insert.ensures.entries ∙ insert_entry-new key_equality.eq c.args.self.now.values row c.args.value (none_views _ (looked_up es row c.requires.none ∙ c.requires.absent)) in
-    ap (λ zs. value_in zs row.symbol xs) e ∙ now_in es row c.args.value row.symbol xs c.requires.absent (own_row row c.requires.none)
+    c.in_ok-insert.ensures.entries ∙ insert_entry-new key_equality.eq c.args.self.now.values row c.args.value
+    (none_views _ (looked_up es row c.requires.none ∙ c.requires.absent)) in
+    ap (λ zs. value_in zs row.symbol xs) e ∙ now_in es row c.args.value row.symbol xs c.requires.absent
+    (own_row row c.requires.none)

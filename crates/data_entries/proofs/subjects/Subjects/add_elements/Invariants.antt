@@ -7,5 +7,6 @@ use Rattle.data_entries.specs.EntryViews.{found_in, subjects_in}
 use Rattle.data_entries.proofs.subjects.Subjects.add_elements.Given as goal
 
 abbrev pub invariant-loop-decl : goal.invariant-loop-decl
-invariant-loop-decl l = (w : Text) → found_in w (subjects_in l.self) (named_in_elements w (flat_map (λ (d : TypeDecl). d.made) (drop l.decl-index l.types)))
+invariant-loop-decl l = (w : Text) → found_in w (subjects_in l.self)
+    (named_in_elements w (flat_map (λ (d : TypeDecl). d.made) (drop l.decl-index l.types)))
     ≡ found_in w (subjects_in l.fn.self) (named_in_elements w (flat_map (λ (d : TypeDecl). d.made) l.types))

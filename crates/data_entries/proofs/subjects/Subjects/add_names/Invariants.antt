@@ -5,5 +5,6 @@ use Rattle.data_entries.specs.EntryViews.{found_in, subjects_in}
 use Rattle.data_entries.proofs.subjects.Subjects.add_names.Given as goal
 
 abbrev pub invariant-loop-name : goal.invariant-loop-name
-invariant-loop-name l = (w : Text) (more : List Text) → found_in w (subjects_in l.self) (named_in_elements w (drop l.name-index l.names ++ more))
+invariant-loop-name l = (w : Text) (more : List Text) → found_in w (subjects_in l.self)
+    (named_in_elements w (drop l.name-index l.names ++ more))
     ≡ found_in w (subjects_in l.fn.self) (named_in_elements w (l.names ++ more))

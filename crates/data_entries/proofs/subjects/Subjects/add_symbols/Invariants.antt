@@ -6,5 +6,6 @@ use Rattle.data_entries.specs.EntryViews.{found_in, subjects_in}
 use Rattle.data_entries.proofs.subjects.Subjects.add_symbols.Given as goal
 
 abbrev pub invariant-loop-s : goal.invariant-loop-s
-invariant-loop-s l = (w : Text) (other : Subject) → found_in w (subjects_in l.self) (named_in_symbols w (enumerate_from l.s (drop l.s l.symbols)) other)
+invariant-loop-s l = (w : Text) (other : Subject) → found_in w (subjects_in l.self)
+    (named_in_symbols w (enumerate_from l.s (drop l.s l.symbols)) other)
     ≡ found_in w (subjects_in l.fn.self) (named_in_symbols w (enumerate_from 0 l.symbols) other)

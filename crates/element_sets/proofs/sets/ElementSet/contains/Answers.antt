@@ -8,7 +8,8 @@ pub returns-in-Word : goal.returns-in-Word
 returns-in-Word c = λ cells s.
     let w = c.in-Word.word.now in
     rw c.in-Word.is
-    (c.contains.ensures ∙ sym (list_any-map (λ (k : Bor (List ℕ)). k.now) (bytes_eq w) (λ k. bytes_eq w k.now) (λ k. refl) c.args.self.now.words.keys)
+    (c.contains.ensures ∙ sym (list_any-map (λ (k : Bor (List ℕ)). k.now) (bytes_eq w) (λ k. bytes_eq w k.now)
+    (λ k. refl) c.args.self.now.words.keys)
     ∙ s.words.among w ∙ words_among w cells)
 
 pub returns-in-Number : goal.returns-in-Number

@@ -19,8 +19,10 @@ returns-in-Some c = λ cells s.
     let is = runs_in c.args.self.now in
     let f : c.is_empty.result ≡ false = search rules in
     let order = in_order a b (sym c.is_empty.ensures ∙ f) in
-    let found = found_by c.deref.result.now c.args.self.now.intervals.items c.deref.ensures.value a c.reaching.result (Some c.in-Some.interval) c.reaching.ensures s.apart c.in-Some.is in
-    c.includes.ensures ∙ sym (ap (holds cells is s.apart.start s.integers s.apart.from a b) found) ∙ covered_by cells is s.apart.start s.integers s.apart.from a b order
+    let found = found_by c.deref.result.now c.args.self.now.intervals.items c.deref.ensures.value a c.reaching.result
+    (Some c.in-Some.interval) c.reaching.ensures s.apart c.in-Some.is in
+    c.includes.ensures ∙ sym (ap (holds cells is s.apart.start s.integers s.apart.from a b) found)
+    ∙ covered_by cells is s.apart.start s.integers s.apart.from a b order
 
 pub returns-in-None : goal.returns-in-None
 returns-in-None c = λ cells s.
@@ -29,5 +31,7 @@ returns-in-None c = λ cells s.
     let is = runs_in c.args.self.now in
     let f : c.is_empty.result ≡ false = search rules in
     let order = in_order a b (sym c.is_empty.ensures ∙ f) in
-    let found = found_by c.deref.result.now c.args.self.now.intervals.items c.deref.ensures.value a c.reaching.result None c.reaching.ensures s.apart c.in-None.is in
-    sym (ap (holds cells is s.apart.start s.integers s.apart.from a b) found) ∙ covered_by cells is s.apart.start s.integers s.apart.from a b order
+    let found = found_by c.deref.result.now c.args.self.now.intervals.items c.deref.ensures.value a c.reaching.result
+    None c.reaching.ensures s.apart c.in-None.is in
+    sym (ap (holds cells is s.apart.start s.integers s.apart.from a b) found)
+    ∙ covered_by cells is s.apart.start s.integers s.apart.from a b order

@@ -11,8 +11,10 @@ use Rattle.element_sets.proofs.sets.ElementSet.of.Given as goal
 abbrev pub invariant-loop-cell : goal.invariant-loop-cell
 invariant-loop-cell l = record {
   words : (ws : List Text) × AreSameWords (map (λ w. w.now) l.words.keys) ws
-      × (fold set.with_word ws (flat_map set.words_in (map cell_view (drop l.cell-index l.cells))) ≡ set.words_of (map cell_view l.cells));
+      × (fold set.with_word ws (flat_map set.words_in (map cell_view (drop l.cell-index l.cells))) ≡ set.words_of
+      (map cell_view l.cells));
   full : list_any is_hollow (map interval_view l.intervals.items) ≡ false;
-  inside : (z : ℤ) → (is_inside (map interval_view l.intervals.items) z || set.is_among (map cell_view (drop l.cell-index l.cells)) (Num z))
+  inside : (z : ℤ) → (is_inside (map interval_view l.intervals.items) z || set.is_among
+      (map cell_view (drop l.cell-index l.cells)) (Num z))
       ≡ set.is_among (map cell_view l.cells) (Num z);
 }

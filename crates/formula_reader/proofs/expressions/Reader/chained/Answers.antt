@@ -11,7 +11,8 @@ pub returns-in_err-operand-clause-reads : goal.returns-in_err-operand-clause-rea
 returns-in_err-operand-clause-reads g c =
     let p = err_from_is_err_and c.from_residual.result c.from_residual.ensures.1 in
     rw (p.1, p.2) (λ ts first. fails_in c.args.self.now.end c.in_err-operand.field-0.0
-    (in_links ts c.args.arrow (or_view c.args.first) [] true (sign (t.Arrow c.args.arrow) c.args.place ∷ toks c.args.items.now) c.args.place
+    (in_links ts c.args.arrow (or_view c.args.first) [] true (sign (t.Arrow c.args.arrow) c.args.place
+    ∷ toks c.args.items.now) c.args.place
     (toks c.args.items.now) (links_first ts c.args.arrow (or_view c.args.first) true _ first) refl refl)
     c.in_err-operand.ensures.reads)
 
@@ -25,7 +26,8 @@ returns-in_err-last-clause-reads g c =
 
 pub returns-clause-reads : goal.returns-clause-reads
 returns-clause-reads g c =
-    rw (c.in_ok-chain.ensures, c.into_inner.ensures) (λ ts first. c.in_ok-last.ensures.reads ts (or_view c.args.first) (link_view c.link-next.result)
+    rw (c.in_ok-chain.ensures, c.into_inner.ensures) (λ ts first. c.in_ok-last.ensures.reads ts (or_view c.args.first)
+    (link_view c.link-next.result)
     (rw (c.new-more.ensures, c.link-next.ensures)
     (links_more ts c.args.arrow (or_view c.args.first) [] true _ c.args.place _ _ _ _
     (links_first ts c.args.arrow (or_view c.args.first) true _ first) refl refl c.in_ok-operand.ensures.reads)))

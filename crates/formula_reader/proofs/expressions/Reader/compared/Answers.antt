@@ -14,8 +14,15 @@ returns-in_default-clause-reads g c =
 pub returns-in_err-right-clause-reads : goal.returns-in_err-right-clause-reads
 returns-in_err-right-clause-reads g c =
     let p = err_from_is_err_and c.from_residual.result c.from_residual.ensures.1 in
-    rw (p.1, p.2) (λ alone. fails_in c.args.self.now.end c.in_err-right.field-0.0 (in_right (term_view c.args.term) c.in-Some.sign c.in-Some.place (toks c.args.items.now) (toks c.in-Some.rest.now) c.in-Some.ensures.some c.requires.fine) c.in_err-right.ensures.reads)
+    rw (p.1, p.2) (λ alone. fails_in c.args.self.now.end c.in_err-right.field-0.0
+    (in_right (term_view c.args.term) c.in-Some.sign c.in-Some.place (toks c.args.items.now)
+    (toks c.in-Some.rest.now) c.in-Some.ensures.some c.requires.fine) c.in_err-right.ensures.reads)
 
 pub returns-clause-reads : goal.returns-clause-reads
 returns-clause-reads g c =
-    rw (c.in_ok-found.ensures, c.compare.ensures) (λ alone. (comparison_is (term_view c.args.term) c.in-Some.sign c.in-Some.place (term_view c.in_ok-right.right) (toks c.args.items.now) (toks c.in-Some.rest.now) (toks c.in_ok-right.last.now) c.in-Some.ensures.some c.requires.fine c.in_ok-right.ensures.reads, refl))
+    rw (c.in_ok-found.ensures, c.compare.ensures) (λ alone. (
+      comparison_is (term_view c.args.term) c.in-Some.sign
+          c.in-Some.place (term_view c.in_ok-right.right) (toks c.args.items.now) (toks c.in-Some.rest.now)
+          (toks c.in_ok-right.last.now) c.in-Some.ensures.some c.requires.fine c.in_ok-right.ensures.reads,
+      refl,
+    ))

@@ -18,7 +18,13 @@ returns-in_ok-found-in-Formula-clause-reads g c =
     let read = c.in_ok-inner.ensures.reads in
     let content = read.1 in
     let found = rw c.in-Formula.is at content in
-    rw (c.in_ok-found-in-Formula.ensures, c.group.ensures) (group_is c.args.begin c.in_ok-inner.place (formula_view c.in-Formula.formula) (toks c.args.items.now) read.0 (toks c.in_ok-inner.last.now) found.0 found.1 read.2 read.3, found.1)
+    rw (c.in_ok-found-in-Formula.ensures, c.group.ensures) (
+      group_is c.args.begin c.in_ok-inner.place
+          (formula_view c.in-Formula.formula) (toks c.args.items.now) read.0 (toks c.in_ok-inner.last.now)
+          found.0 found.1
+          read.2 read.3,
+      found.1,
+    )
 
 pub returns-in_ok-first-in-Term-clause-reads : goal.returns-in_ok-first-in-Term-clause-reads
 returns-in_ok-first-in-Term-clause-reads g c =
@@ -26,8 +32,11 @@ returns-in_ok-first-in-Term-clause-reads g c =
     let content = read.1 in
     let found = rw c.in-Term.is at content in
     let after = c.begun.ensures.reads (rw c.in_ok-first-in-Term.ensures (λ h. found.2)) in
-    operand_from (sign t.Open c.args.begin ∷ toks c.args.items.now) (put_factor (brackets c.args.begin (term_view c.in-Term.term) c.in_ok-inner.place) (toks c.in_ok-inner.last.now)) c.args.self.now.end c.begun.result
-    (brackets_put c.args.begin c.in_ok-inner.place (term_view c.in-Term.term) (toks c.args.items.now) read.0 (toks c.in_ok-inner.last.now) found.0.spelled read.2) (rw c.in_ok-first-in-Term.ensures at after)
+    operand_from (sign t.Open c.args.begin ∷ toks c.args.items.now)
+    (put_factor (brackets c.args.begin (term_view c.in-Term.term) c.in_ok-inner.place)
+    (toks c.in_ok-inner.last.now)) c.args.self.now.end c.begun.result
+    (brackets_put c.args.begin c.in_ok-inner.place (term_view c.in-Term.term) (toks c.args.items.now) read.0
+    (toks c.in_ok-inner.last.now) found.0.spelled read.2) (rw c.in_ok-first-in-Term.ensures at after)
 
 pub returns-in_ok-push-in-Either-clause-reads : goal.returns-in_ok-push-in-Either-clause-reads
 returns-in_ok-push-in-Either-clause-reads g c =
@@ -36,4 +45,6 @@ returns-in_ok-push-in-Either-clause-reads g c =
     let found = rw c.in-Either.is at content in
     let after = c.applied.ensures.reads in
     operand_from (sign t.Open c.args.begin ∷ toks c.args.items.now) _ c.args.self.now.end c.applied.result
-    (wraps_put (record { start = c.args.begin; close = c.in_ok-inner.place }) c.in-Either.pairs (app_view c.in-Either.app) (toks c.args.items.now) read.0 (toks c.in_ok-inner.last.now) found.0.spelled read.2) (rw c.in_ok-push-in-Either.ensures.ok at after)
+    (wraps_put (record { start = c.args.begin; close = c.in_ok-inner.place }) c.in-Either.pairs
+    (app_view c.in-Either.app) (toks c.args.items.now) read.0 (toks c.in_ok-inner.last.now) found.0.spelled read.2)
+    (rw c.in_ok-push-in-Either.ensures.ok at after)

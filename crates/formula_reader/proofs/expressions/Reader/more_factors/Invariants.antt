@@ -10,7 +10,8 @@ use Rattle.formula_reader.proofs.expressions.Reader.more_factors.Given as goal
 abbrev pub invariant-loop-place : goal.invariant-loop-place
 invariant-loop-place g l = record {
   shorter : length l.rest ≤ length l.items;
-  so_far : (ts : List Tok) (x : Factor) → ts ≡ put_product (product_of x (map product_tail_view l.initial.more)) (toks l.items)
+  so_far : (ts : List Tok) (x : Factor) → ts ≡ put_product (product_of x (map product_tail_view l.initial.more))
+      (toks l.items)
       → ts ≡ put_product (product_of x (map product_tail_view l.more)) (toks l.rest);
   fine : (x : Factor) → FineProduct (product_of x (map product_tail_view l.initial.more))
       → FineProduct (product_of x (map product_tail_view l.more));

@@ -8,7 +8,8 @@ use Rattle.formula_reader.proofs.expressions.Reader.more_links.Given as goal
 abbrev pub invariant-loop-place : goal.invariant-loop-place
 invariant-loop-place g l = record {
   shorter : length l.rest ≤ length l.items;
-  so_far : (ts : List Tok) (o : Or) (x : ℕ × Or) → LinksAre ts (formula_of l.arrow o (x ∷ map link_view l.initial.more)) l.ends (toks l.items)
+  so_far : (ts : List Tok) (o : Or) (x : ℕ × Or) → LinksAre ts (formula_of l.arrow o (x ∷ map link_view l.initial.more))
+      l.ends (toks l.items)
       → LinksAre ts (formula_of l.arrow o (x ∷ map link_view l.more)) l.closed (toks l.rest);
 }
 

@@ -14,8 +14,10 @@ pub returns-in_err-operand-clause-reads : goal.returns-in_err-operand-clause-rea
 returns-in_err-operand-clause-reads g c =
     let p = err_from_is_err_and c.from_residual.result c.from_residual.ensures.1 in
     rw (p.1, p.2) (λ ts a h. fails_in c.args.self.now.end c.in_err-operand.field-0.0
-    (in_ors ts (or_of a (map or_tail_view c.loop-place.more)) c.loop-place.closed (toks c.loop-place.rest.now) c.in-Some.place (toks c.in-Some.after.now)
-    (c.loop-place.invariant.so_far ts a h) c.in-Some.ensures.closed c.in-Some.ensures.some) c.in_err-operand.ensures.reads)
+    (in_ors ts (or_of a (map or_tail_view c.loop-place.more)) c.loop-place.closed (toks c.loop-place.rest.now)
+    c.in-Some.place (toks c.in-Some.after.now)
+    (c.loop-place.invariant.so_far ts a h) c.in-Some.ensures.closed c.in-Some.ensures.some)
+    c.in_err-operand.ensures.reads)
 
 pub loop-place-preserved : goal.loop-place-preserved
 loop-place-preserved g c =
@@ -23,7 +25,8 @@ loop-place-preserved g c =
     record {
       shorter = omega (arith, c.in_ok-operand.ensures.shorter, c.in-Some.ensures.shorter, l.shorter);
       so_far = rw (c.in_ok-push.ensures.ok, map_push, c.or_tail.ensures)
-          (λ ts a h. ors_more _ _ _ _ _ _ _ _ _ _ (l.so_far ts a h) c.in-Some.ensures.closed c.in-Some.ensures.some c.in_ok-operand.ensures.reads);
+          (λ ts a h. ors_more _ _ _ _ _ _ _ _ _ _ (l.so_far ts a h) c.in-Some.ensures.closed c.in-Some.ensures.some
+          c.in_ok-operand.ensures.reads);
     }
 
 pub returns-clause-reads : goal.returns-clause-reads

@@ -10,15 +10,24 @@ use Rattle.formula_reader.proofs.expressions.Reader.more_products.Goals as goal
 
 pub loop-sign-init : goal.loop-sign-init
 loop-sign-init g c = rw c.start-count.ensures.same
-    (record { shorter = omega arith; so_far = λ ts x h. h; fine = λ x h. h; ends = c.requires.ends; no_times = c.requires.no_times })
+    (record {
+      shorter = omega arith;
+      so_far = λ ts x h. h;
+      fine = λ x h. h;
+      ends = c.requires.ends;
+      no_times =
+          c.requires.no_times;
+    })
 
 pub returns-in_err-factor-clause-reads : goal.returns-in_err-factor-clause-reads
 returns-in_err-factor-clause-reads g c =
     let p = err_from_is_err_and c.from_residual.result c.from_residual.ensures.1 in
     let l = c.loop-sign.invariant in
     rw (p.1, p.2) (λ ts x h f. fails_in c.args.self.now.end c.in_err-factor.field-0.0
-    (in_sum (term_of x (map sum_tail_view c.loop-sign.more)) c.in-Some.sign c.in-Some.place ts (toks c.in-Some.after.now)
-    (l.so_far ts x h ∙ ap (λ (v : List Tok). put_term (term_of x (map sum_tail_view c.loop-sign.more)) v) c.in-Some.ensures.some) (l.fine x f))
+    (in_sum (term_of x (map sum_tail_view c.loop-sign.more)) c.in-Some.sign c.in-Some.place ts
+    (toks c.in-Some.after.now)
+    (l.so_far ts x h ∙ ap (λ (v : List Tok). put_term (term_of x (map sum_tail_view c.loop-sign.more)) v)
+    c.in-Some.ensures.some) (l.fine x f))
     c.in_err-factor.ensures.reads)
 
 pub returns-in_err-operand-clause-reads : goal.returns-in_err-operand-clause-reads
@@ -26,9 +35,11 @@ returns-in_err-operand-clause-reads g c =
     let p = err_from_is_err_and c.from_residual-in_err-operand.result c.from_residual-in_err-operand.ensures.1 in
     let l = c.loop-sign.invariant in
     rw (p.1, p.2) (λ ts x h f. fails_in c.args.self.now.end c.in_err-operand.field-0.0
-    (in_summand (term_of x (map sum_tail_view c.loop-sign.more)) c.in-Some.sign c.in-Some.place (factor_view c.in_ok-factor.factor) ts
+    (in_summand (term_of x (map sum_tail_view c.loop-sign.more)) c.in-Some.sign c.in-Some.place
+    (factor_view c.in_ok-factor.factor) ts
     (toks c.in-Some.after.now) (toks c.in_ok-factor.after.now)
-    (l.so_far ts x h ∙ ap (λ (v : List Tok). put_term (term_of x (map sum_tail_view c.loop-sign.more)) v) c.in-Some.ensures.some)
+    (l.so_far ts x h ∙ ap (λ (v : List Tok). put_term (term_of x (map sum_tail_view c.loop-sign.more)) v)
+    c.in-Some.ensures.some)
     c.in_ok-factor.ensures.reads.spelled (l.fine x f)) c.in_err-operand.ensures.reads)
 
 pub loop-sign-preserved : goal.loop-sign-preserved
@@ -36,10 +47,18 @@ loop-sign-preserved g c =
     let l = c.loop-sign.invariant in
     let inner = c.in_ok-operand.ensures.reads in
     record {
-      shorter = omega (arith, c.in_ok-operand.ensures.shorter, c.in_ok-factor.ensures.shorter, c.in-Some.ensures.shorter, l.shorter);
+      shorter = omega (
+        arith,
+        c.in_ok-operand.ensures.shorter,
+        c.in_ok-factor.ensures.shorter,
+        c.in-Some.ensures.shorter,
+        l.shorter,
+      );
       so_far = rw (c.in_ok-push.ensures.ok, map_push, c.sum_tail.ensures)
-          (λ ts x h. term_step _ _ _ _ _ _ _ _ _ _ _ (l.so_far ts x h) c.in-Some.ensures.some c.in_ok-factor.ensures.reads.spelled inner.spelled);
-      fine = rw (c.in_ok-push.ensures.ok, map_push, c.sum_tail.ensures) (λ x f. term_push_fine _ _ _ _ _ (l.fine x f) inner.fine);
+          (λ ts x h. term_step _ _ _ _ _ _ _ _ _ _ _ (l.so_far ts x h) c.in-Some.ensures.some
+          c.in_ok-factor.ensures.reads.spelled inner.spelled);
+      fine = rw (c.in_ok-push.ensures.ok, map_push, c.sum_tail.ensures)
+          (λ x f. term_push_fine _ _ _ _ _ (l.fine x f) inner.fine);
       ends = inner.ends;
       no_times = inner.no_times;
     }
@@ -47,4 +66,9 @@ loop-sign-preserved g c =
 pub returns-clause-reads : goal.returns-clause-reads
 returns-clause-reads g c =
     let l = c.loop-sign.invariant in
-    λ ts x h f. record { spelled = l.so_far ts x h; fine = l.fine x f; ends = sum_ends (toks c.loop-sign.rest.now) l.ends l.no_times c.in_default.ensures.none }
+    λ ts x h f. record {
+      spelled = l.so_far ts x h;
+      fine = l.fine x f;
+      ends =
+          sum_ends (toks c.loop-sign.rest.now) l.ends l.no_times c.in_default.ensures.none;
+    }

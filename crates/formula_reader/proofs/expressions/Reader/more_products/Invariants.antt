@@ -12,7 +12,8 @@ invariant-loop-sign g l = record {
   shorter : length l.rest ≤ length l.items;
   so_far : (ts : List Tok) (x : Product) → ts ≡ put_term (term_of x (map sum_tail_view l.initial.more)) (toks l.items)
       → ts ≡ put_term (term_of x (map sum_tail_view l.more)) (toks l.rest);
-  fine : (x : Product) → FineTerm (term_of x (map sum_tail_view l.initial.more)) → FineTerm (term_of x (map sum_tail_view l.more));
+  fine : (x : Product) → FineTerm (term_of x (map sum_tail_view l.initial.more))
+      → FineTerm (term_of x (map sum_tail_view l.more));
   ends : EndsFactor (toks l.rest);
   no_times : NoTimes (toks l.rest);
 }

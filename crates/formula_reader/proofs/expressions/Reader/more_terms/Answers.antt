@@ -10,7 +10,13 @@ use Rattle.formula_reader.proofs.InTerms.{in_further, closed_arguments, terms_st
 use Rattle.formula_reader.proofs.expressions.Reader.more_terms.Goals as goal
 
 pub loop-place-init : goal.loop-place-init
-loop-place-init g c = rw c.start-count.ensures.same (record { shorter = omega arith; so_far = λ ts s x h. h; fine = λ x h. h; ends = c.requires.ends })
+loop-place-init g c = rw c.start-count.ensures.same (record {
+  shorter = omega arith;
+  so_far = λ ts s x h. h;
+  fine =
+      λ x h. h;
+  ends = c.requires.ends;
+})
 
 pub returns-in_err-operand-clause-reads : goal.returns-in_err-operand-clause-reads
 returns-in_err-operand-clause-reads g c =
@@ -18,7 +24,8 @@ returns-in_err-operand-clause-reads g c =
     let l = c.loop-place.invariant in
     rw (p.1, p.2) (λ n ts s x h f. fails_in c.args.self.now.end c.in_err-operand.field-0.0
     (in_further n s (terms_of x (map terms_tail_view c.loop-place.more)) c.in-Some.place ts (toks c.in-Some.after.now)
-    (l.so_far ts s x h ∙ ap (λ (v : List Tok). sign t.Open s ∷ put_terms (terms_of x (map terms_tail_view c.loop-place.more)) v) c.in-Some.ensures.some) (l.fine x f))
+    (l.so_far ts s x h ∙ ap (λ (v : List Tok). sign t.Open s ∷ put_terms
+    (terms_of x (map terms_tail_view c.loop-place.more)) v) c.in-Some.ensures.some) (l.fine x f))
     c.in_err-operand.ensures.reads)
 
 pub loop-place-preserved : goal.loop-place-preserved
@@ -29,12 +36,14 @@ loop-place-preserved g c =
       shorter = omega (arith, c.in_ok-operand.ensures.shorter, c.in-Some.ensures.shorter, l.shorter);
       so_far = rw (c.in_ok-push.ensures.ok, map_push, c.terms_tail.ensures)
           (λ ts s x h. terms_step _ _ _ _ _ _ _ _ _ (l.so_far ts s x h) c.in-Some.ensures.some inner.spelled);
-      fine = rw (c.in_ok-push.ensures.ok, map_push, c.terms_tail.ensures) (λ x f. terms_push_fine _ _ _ _ (l.fine x f) inner.fine);
+      fine = rw (c.in_ok-push.ensures.ok, map_push, c.terms_tail.ensures)
+          (λ x f. terms_push_fine _ _ _ _ (l.fine x f) inner.fine);
       ends = inner.ends;
     }
 
 pub returns-clause-reads : goal.returns-clause-reads
 returns-clause-reads g c =
     let l = c.loop-place.invariant in
-    λ n ts s x h f. closed_arguments n s x (map terms_tail_view c.loop-place.more) ts (toks c.loop-place.rest.now) c.args.self.now.end c.close.result
+    λ n ts s x h f. closed_arguments n s x (map terms_tail_view c.loop-place.more) ts (toks c.loop-place.rest.now)
+    c.args.self.now.end c.close.result
     (l.so_far ts s x h) (l.fine x f) l.ends c.in_default.ensures.none c.close.ensures.ok c.close.ensures.err

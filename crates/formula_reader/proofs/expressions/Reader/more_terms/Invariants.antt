@@ -11,9 +11,11 @@ use Rattle.formula_reader.proofs.expressions.Reader.more_terms.Given as goal
 abbrev pub invariant-loop-place : goal.invariant-loop-place
 invariant-loop-place g l = record {
   shorter : length l.rest ≤ length l.items;
-  so_far : (ts : List Tok) (start : ℕ) (x : Term) → ts ≡ sign t.Open start ∷ put_terms (terms_of x (map terms_tail_view l.initial.more)) (toks l.items)
+  so_far : (ts : List Tok) (start : ℕ) (x : Term) → ts ≡ sign t.Open start ∷ put_terms
+      (terms_of x (map terms_tail_view l.initial.more)) (toks l.items)
       → ts ≡ sign t.Open start ∷ put_terms (terms_of x (map terms_tail_view l.more)) (toks l.rest);
-  fine : (x : Term) → FineTerms (terms_of x (map terms_tail_view l.initial.more)) → FineTerms (terms_of x (map terms_tail_view l.more));
+  fine : (x : Term) → FineTerms (terms_of x (map terms_tail_view l.initial.more))
+      → FineTerms (terms_of x (map terms_tail_view l.more));
   ends : EndsTerm (toks l.rest);
 }
 

@@ -9,21 +9,32 @@ use Rattle.formula_reader.proofs.expressions.Reader.some.Goals as goal
 pub returns-in_err-count-clause-reads : goal.returns-in_err-count-clause-reads
 returns-in_err-count-clause-reads g c =
     let p = err_from_is_err_and c.from_residual.result c.from_residual.ensures.1 in
-    rw (p.1, p.2) (fails_in c.args.self.now.end c.in_err-count.field-0.0 (in_some_number c.args.place (toks c.args.items.now)) c.in_err-count.ensures.reads)
+    rw (p.1, p.2) (fails_in c.args.self.now.end c.in_err-count.field-0.0
+    (in_some_number c.args.place (toks c.args.items.now)) c.in_err-count.ensures.reads)
 
 pub returns-in_err-vars-clause-reads : goal.returns-in_err-vars-clause-reads
 returns-in_err-vars-clause-reads g c =
     let p = err_from_is_err_and c.from_residual-in_err-vars.result c.from_residual-in_err-vars.ensures.1 in
-    rw (p.1, p.2) (fails_in c.args.self.now.end c.in_err-vars.field-0.0 (in_some_vars c.args.place (number_view c.in_ok-count.count) (toks c.args.items.now) (toks c.in_ok-count.rest.now) c.in_ok-count.ensures.reads.0 c.in_ok-count.ensures.reads.1 c.in_ok-count.ensures.reads.2) c.in_err-vars.ensures.reads)
+    rw (p.1, p.2) (fails_in c.args.self.now.end c.in_err-vars.field-0.0
+    (in_some_vars c.args.place (number_view c.in_ok-count.count) (toks c.args.items.now)
+    (toks c.in_ok-count.rest.now) c.in_ok-count.ensures.reads.0 c.in_ok-count.ensures.reads.1
+    c.in_ok-count.ensures.reads.2) c.in_err-vars.ensures.reads)
 
 pub returns-in_err-inner-clause-reads : goal.returns-in_err-inner-clause-reads
 returns-in_err-inner-clause-reads g c =
     let p = err_from_is_err_and c.from_residual-in_err-inner.result c.from_residual-in_err-inner.ensures.1 in
-    rw (p.1, p.2) (fails_in c.args.self.now.end c.in_err-inner.field-0.0 (in_some_formula c.args.place (number_view c.in_ok-count.count) (vars_view c.in_ok-vars.vars) c.in_ok-vars.colon (toks c.args.items.now) (toks c.in_ok-count.rest.now) (toks c.in_ok-vars.rest.now) c.in_ok-count.ensures.reads.0 c.in_ok-count.ensures.reads.1 c.in_ok-count.ensures.reads.2 c.in_ok-vars.ensures.reads) c.in_err-inner.ensures.reads)
+    rw (p.1, p.2) (fails_in c.args.self.now.end c.in_err-inner.field-0.0
+    (in_some_formula c.args.place (number_view c.in_ok-count.count) (vars_view c.in_ok-vars.vars) c.in_ok-vars.colon
+    (toks c.args.items.now) (toks c.in_ok-count.rest.now) (toks c.in_ok-vars.rest.now) c.in_ok-count.ensures.reads.0
+    c.in_ok-count.ensures.reads.1 c.in_ok-count.ensures.reads.2 c.in_ok-vars.ensures.reads)
+    c.in_err-inner.ensures.reads)
 
 pub returns-clause-reads : goal.returns-clause-reads
 returns-clause-reads g c = rw c.in_ok-found.ensures (
-  some_is c.args.place (number_view c.in_ok-count.count) (vars_view c.in_ok-vars.vars) c.in_ok-vars.colon (formula_view c.in_ok-inner.inner) (toks c.args.items.now) (toks c.in_ok-count.rest.now) (toks c.in_ok-vars.rest.now) (toks c.in_ok-inner.last.now)
-      c.in_ok-count.ensures.reads.0 c.in_ok-count.ensures.reads.1 c.in_ok-vars.ensures.reads c.in_ok-inner.ensures.reads,
+  some_is c.args.place (number_view c.in_ok-count.count) (vars_view c.in_ok-vars.vars) c.in_ok-vars.colon
+      (formula_view c.in_ok-inner.inner) (toks c.args.items.now) (toks c.in_ok-count.rest.now)
+      (toks c.in_ok-vars.rest.now) (toks c.in_ok-inner.last.now)
+      c.in_ok-count.ensures.reads.0 c.in_ok-count.ensures.reads.1 c.in_ok-vars.ensures.reads
+      c.in_ok-inner.ensures.reads,
   refl,
 )

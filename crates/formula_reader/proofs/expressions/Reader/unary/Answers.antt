@@ -7,7 +7,8 @@ use Rattle.formula_reader.proofs.expressions.Reader.unary.Goals as goal
 pub returns-in_err-found-clause-reads : goal.returns-in_err-found-clause-reads
 returns-in_err-found-clause-reads g c =
     let p = err_from_is_err_and c.from_residual.result c.from_residual.ensures.1 in
-    rw (p.1, p.2) (fails_in c.args.self.now.end c.in_err-found.field-0.0 (to_unary (toks c.args.items.now)) c.in_err-found.ensures.reads)
+    rw (p.1, p.2) (fails_in c.args.self.now.end c.in_err-found.field-0.0 (to_unary (toks c.args.items.now))
+    c.in_err-found.ensures.reads)
 
 pub returns-in_err-inner-clause-reads : goal.returns-in_err-inner-clause-reads
 returns-in_err-inner-clause-reads g c =

@@ -8,7 +8,10 @@ use Rattle.formula_reader.proofs.expressions.Reader.whole_term.Goals as goal
 pub returns-in_err-first-clause-reads : goal.returns-in_err-first-clause-reads
 returns-in_err-first-clause-reads g c =
     let p = err_from_is_err_and c.from_residual.result c.from_residual.ensures.1 in
-    rw (p.1, p.2) (fails_in c.args.self.now.end c.in_err-first.field-0.0 (first_factor (toks c.args.items.now)) c.in_err-first.ensures.reads)
+    rw (p.1, p.2) (fails_in c.args.self.now.end c.in_err-first.field-0.0 (first_factor (toks c.args.items.now))
+    c.in_err-first.ensures.reads)
 
 pub returns-clause-reads : goal.returns-clause-reads
-returns-clause-reads g c = summed_read (factor_view c.in_ok-first.first) (toks c.args.items.now) (toks c.in_ok-first.rest.now) c.args.self.now.end c.summed.result c.in_ok-first.ensures.reads.spelled c.summed.ensures.reads
+returns-clause-reads g c = summed_read (factor_view c.in_ok-first.first) (toks c.args.items.now)
+    (toks c.in_ok-first.rest.now) c.args.self.now.end c.summed.result c.in_ok-first.ensures.reads.spelled
+    c.summed.ensures.reads

@@ -8,4 +8,5 @@ pub returns-clause-adds : goal.returns-clause-adds
 returns-clause-adds c =
     let p : ProblemState = state_of c.self.inside in
     let within = subst (λ (q : ProblemState). AreLitsOf q.vars c.args.parts) (sym c.self.view_is) c.requires in
-    rw (c.in_ok-push.ensures.ok, c.in_ok-out.ensures, ← c.self.view_is) (gate-added p c.args.all c.args.parts c.self.invariant within)
+    rw (c.in_ok-push.ensures.ok, c.in_ok-out.ensures, ← c.self.view_is)
+    (gate-added p c.args.all c.args.parts c.self.invariant within)

@@ -1,7 +1,8 @@
 use Rattle.std.proofs.Common.{◌∙◌, refl, sym, subst}
 use Rattle.kb_io.specs.Buffer.{IsUnderWay}
 use Rattle.std.proofs.lemmas.Result.{err_from_is_err_and}
-use Rattle.kb_io.proofs.Answering.{reads_none, reads_on, reads_more, no_line_ahead, answers_cut, answers_err, answers_end, is_nothing}
+use Rattle.kb_io.proofs.Answering.{reads_none, reads_on, reads_more, no_line_ahead, answers_cut, answers_err}
+use Rattle.kb_io.proofs.Answering.{answers_end, is_nothing}
 use Rattle.kb_io.proofs.line_buffer.Buffer.next.Goals as goal
 
 pub loop-next-init : goal.loop-next-init

@@ -28,15 +28,21 @@ returns c =
     let low_high : c.multiplied-low_high.result ≡ i.low *ℤ j.high = simp to_z-of_z at c.multiplied-low_high.ensures in
     let high_low : c.multiplied-high_low.result ≡ i.high *ℤ j.low = simp to_z-of_z at c.multiplied-high_low.ensures in
     let highs : c.multiplied-highs.result ≡ i.high *ℤ j.high = simp to_z-of_z at c.multiplied-highs.ensures in
-    let p : c.lesser.result ≡ int_min c.multiplied-lows.result c.multiplied-low_high.result = simp to_z-of_z at c.lesser.ensures in
-    let q : c.lesser-2.result ≡ int_min c.multiplied-high_low.result c.multiplied-highs.result = simp to_z-of_z at c.lesser-2.ensures in
+    let p : c.lesser.result ≡ int_min c.multiplied-lows.result c.multiplied-low_high.result =
+    simp to_z-of_z at c.lesser.ensures in
+    let q : c.lesser-2.result ≡ int_min c.multiplied-high_low.result c.multiplied-highs.result =
+    simp to_z-of_z at c.lesser-2.ensures in
     let l : c.lesser-3.result ≡ int_min c.lesser.result c.lesser-2.result = simp to_z-of_z at c.lesser-3.ensures in
-    let u : c.greater.result ≡ int_max c.multiplied-lows.result c.multiplied-low_high.result = simp to_z-of_z at c.greater.ensures in
-    let w : c.greater-2.result ≡ int_max c.multiplied-high_low.result c.multiplied-highs.result = simp to_z-of_z at c.greater-2.ensures in
+    let u : c.greater.result ≡ int_max c.multiplied-lows.result c.multiplied-low_high.result =
+    simp to_z-of_z at c.greater.ensures in
+    let w : c.greater-2.result ≡ int_max c.multiplied-high_low.result c.multiplied-highs.result =
+    simp to_z-of_z at c.greater-2.ensures in
     let h : c.greater-3.result ≡ int_max c.greater.result c.greater-2.result = simp to_z-of_z at c.greater-3.ensures in
-    let ends : range_view c.between.result ≡ clamp_interval (interval c.lesser-3.result c.greater-3.result) = simp to_z-of_z at c.between.ensures in
+    let ends : range_view c.between.result ≡ clamp_interval (interval c.lesser-3.result c.greater-3.result) =
+    simp to_z-of_z at c.between.ensures in
     ends
     ∙ ap clamp_interval
-    (product_of (range_view i) (range_view j) c.multiplied-lows.result c.multiplied-low_high.result c.multiplied-high_low.result c.multiplied-highs.result
+    (product_of (range_view i) (range_view j) c.multiplied-lows.result c.multiplied-low_high.result
+    c.multiplied-high_low.result c.multiplied-highs.result
     c.lesser.result c.lesser-2.result c.lesser-3.result c.greater.result c.greater-2.result c.greater-3.result
     lows low_high high_low highs p q l u w h)

@@ -11,14 +11,36 @@ invariant_of-self-2 c =
     let old : ProblemState = state_of c.self.inside in
     let more : ProblemState = c.args.more.now in
     let can : CanJoin old more = subst (λ (p : ProblemState). CanJoin p more) (sym c.self.view_is) c.requires.can in
-    let laws : IsProblem (joined_problem old more) = joined-laws old more refl c.requires.sums c.requires.bounds c.self.invariant.laws c.atoms.ensures.laws can in
-    let atoms : c.append_reserved.new.to.items ≡ old.atoms ++ more.atoms = cc (c.append_reserved.ensures, c.in_ok-reserve.ensures.items, c.in_ok-atoms.ensures, c.atoms.ensures.value) in
-    let gates : c.append_reserved-2.new.to.items ≡ old.gates ++ more.gates = cc (c.append_reserved-2.ensures, c.in_ok-reserve-2.ensures.items, c.in_ok-gates.ensures, c.gates.ensures.value) in
-    let clauses : c.append_reserved-3.new.to.items ≡ old.clauses ++ more.clauses = cc (c.append_reserved-3.ensures, c.in_ok-reserve-3.ensures.items, c.in_ok-clauses.ensures, c.as_slice.ensures, c.clauses.ensures.value) in
-    let terms : c.append_reserved-4.new.to.items ≡ old.terms ++ more.terms = cc (c.append_reserved-4.ensures, c.in_ok-reserve-4.ensures.items, c.in_ok-terms.ensures, c.terms.ensures.value) in
+    let laws : IsProblem (joined_problem old more) = joined-laws old more refl c.requires.sums c.requires.bounds
+    c.self.invariant.laws c.atoms.ensures.laws can in
+    let atoms : c.append_reserved.new.to.items ≡ old.atoms ++ more.atoms =
+    cc (c.append_reserved.ensures, c.in_ok-reserve.ensures.items, c.in_ok-atoms.ensures, c.atoms.ensures.value) in
+    let gates : c.append_reserved-2.new.to.items ≡ old.gates ++ more.gates =
+    cc (
+      c.append_reserved-2.ensures,
+      c.in_ok-reserve-2.ensures.items,
+      c.in_ok-gates.ensures,
+      c.gates.ensures.value,
+    ) in
+    let clauses : c.append_reserved-3.new.to.items ≡ old.clauses ++ more.clauses =
+    cc (
+      c.append_reserved-3.ensures,
+      c.in_ok-reserve-3.ensures.items,
+      c.in_ok-clauses.ensures,
+      c.as_slice.ensures,
+      c.clauses.ensures.value,
+    ) in
+    let terms : c.append_reserved-4.new.to.items ≡ old.terms ++ more.terms =
+    cc (
+      c.append_reserved-4.ensures,
+      c.in_ok-reserve-4.ensures.items,
+      c.in_ok-terms.ensures,
+      c.terms.ensures.value,
+    ) in
     let e : c.reserve-5.new.self.items ≡ old.retired = c.in_ok-reserve-5.ensures.items in
     record {
-      laws = rw (atoms, gates, clauses, terms, e, c.vars-self-inside.ensures.value) (subst IsProblem (same-both old more c.requires.sums c.requires.bounds) laws);
+      laws = rw (atoms, gates, clauses, terms, e, c.vars-self-inside.ensures.value)
+          (subst IsProblem (same-both old more c.requires.sums c.requires.bounds) laws);
       retired = subst AreSelectors (sym e) c.self.invariant.retired;
       room = omega (arith, c.vars-self-inside.ensures.value, c.vars.ensures.value, c.in_ok-reserve-5.ensures.ok);
     }

@@ -11,7 +11,14 @@ no-selectors = record { once = distinct-nil; positive = All-nil (λ (l : Lit). l
 
 pub invariant_of-result : goal.invariant_of-result
 invariant_of-result c = record {
-  laws = rw (c.new.ensures.items, c.new-2.ensures.items, c.new-3.ensures.items, c.new-4.ensures.items, c.new-5.ensures.items, c.new-6.ensures.items) (record {
+  laws = rw (
+    c.new.ensures.items,
+    c.new-2.ensures.items,
+    c.new-3.ensures.items,
+    c.new-4.ensures.items,
+    c.new-5.ensures.items,
+    c.new-6.ensures.items,
+  ) (record {
     atoms = omega arith;
     gates = All-nil (IsGateOf 0);
     clauses = All-nil (AreLitsOf 0);

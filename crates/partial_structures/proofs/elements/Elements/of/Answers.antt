@@ -16,9 +16,11 @@ loop-elem-preserved c = λ t k.
     let front = take c.loop-elem.elem-index c.as_slice-elem-items.result.now in
     c.in_ok-add.ensures t k
     ∙ ap (λ b. b || (here && same_optional_label k c.label.result)) (c.loop-elem.invariant t k)
-    ∙ ap (λ o. (before || (here && list_any (stands_for ws k) front)) || (here && same_optional_label k o)) c.label.ensures
+    ∙ ap (λ o. (before || (here && list_any (stands_for ws k) front)) || (here && same_optional_label k o))
+    c.label.ensures
     ∙ one_more before here (list_any (stands_for ws k) front) (stands_for ws k c.elem-item.result)
-    ∙ ap (λ b. before || (here && b)) (any_more (stands_for ws k) c.as_slice-elem-items.result.now c.loop-elem.elem-index c.elem-item.result c.loop-elem-test.true c.elem-item.is)
+    ∙ ap (λ b. before || (here && b)) (any_more (stands_for ws k) c.as_slice-elem-items.result.now
+    c.loop-elem.elem-index c.elem-item.result c.loop-elem-test.true c.elem-item.is)
 
 pub loop-ty-preserved : goal.loop-ty-preserved
 loop-ty-preserved c = λ t k.
@@ -30,4 +32,5 @@ loop-ty-preserved c = λ t k.
     ∙ ap (λ b. b || (here && list_any p (take c.loop-elem.elem-index items))) (c.loop-ty.invariant t k)
     ∙ ap (λ xs. before || (here && list_any p xs)) (take_all c.loop-elem.elem-index items c.loop-elem-test.false)
     ∙ ap (λ xs. before || (here && list_any p xs)) c.as_slice-elem-items.ensures
-    ∙ domain_more p c.args.domains.now c.loop-ty.ty t c.index-domains-ty.result c.loop-ty-test.true c.index-domains-ty.is
+    ∙ domain_more p c.args.domains.now c.loop-ty.ty t c.index-domains-ty.result c.loop-ty-test.true
+    c.index-domains-ty.is

@@ -10,7 +10,8 @@ pub returns : goal.returns
 returns c =
     let p = c.self.inside in
     let same : length p.symbols ≡ length c.args.self.now.symbols = ap (λ k. length k.symbols) c.self.view_is in
-    closed_after p (record p { closed = with_item p.closed c.args.symbol true }) c.args.self.now c.args.symbol c.self.view_is refl refl refl refl (omega (arith, same, c.self.invariant.flags, c.requires))
+    closed_after p (record p { closed = with_item p.closed c.args.symbol true }) c.args.self.now c.args.symbol
+    c.self.view_is refl refl refl refl (omega (arith, same, c.self.invariant.flags, c.requires))
 
 pub invariant_of-self : goal.invariant_of-self
 invariant_of-self c =
@@ -23,5 +24,6 @@ invariant_of-self c =
       words = c.self.invariant.words;
       elements = c.self.invariant.elements;
       counted = same_count p q (with_closed (known_atoms p) c.args.symbol) c.self.invariant.counted
-          (closed_after p q (known_atoms p) c.args.symbol refl refl refl refl refl (omega (arith, same, c.self.invariant.flags, c.requires))) refl;
+          (closed_after p q (known_atoms p) c.args.symbol refl refl refl refl refl
+          (omega (arith, same, c.self.invariant.flags, c.requires))) refl;
     }

@@ -10,6 +10,9 @@ pub returns : goal.returns
 returns c =
     let p = c.self.inside in
     let x = c.args.elem.now in
-    let tells = tells_membership (words_in p.rows.words) p.domains p.elements.table.keys c.self.invariant.words c.self.invariant.elements c.args.ty x in
-    subst (λ k. MatchBool c.contains.result (Contains (domain_at k.domains c.args.ty) x) (Contains (domain_at k.domains c.args.ty) x → ⊥)) c.self.view_is
-    (subst (λ b. MatchBool b (Contains (domain_at p.domains c.args.ty) x) (Contains (domain_at p.domains c.args.ty) x → ⊥)) (sym (c.contains.ensures ∙ ap (has_label_of p.elements.table.keys c.args.ty) c.label.ensures)) tells)
+    let tells = tells_membership (words_in p.rows.words) p.domains p.elements.table.keys c.self.invariant.words
+    c.self.invariant.elements c.args.ty x in
+    subst (λ k. MatchBool c.contains.result (Contains (domain_at k.domains c.args.ty) x)
+    (Contains (domain_at k.domains c.args.ty) x → ⊥)) c.self.view_is
+    (subst (λ b. MatchBool b (Contains (domain_at p.domains c.args.ty) x) (Contains (domain_at p.domains c.args.ty) x
+    → ⊥)) (sym (c.contains.ensures ∙ ap (has_label_of p.elements.table.keys c.args.ty) c.label.ensures)) tells)

@@ -13,7 +13,8 @@ returns-then-not-are_same_domains c =
       λ e. absurd (true≢false (sym e)),
       λ h.
           let same : m.domains ≡ p.domains = h.domains ∙ sym (ap (λ k. k.domains) c.self.view_is) in
-          sym c.if-not-are_same_domains.true ∙ c.are_same_domains.ensures.1 (c.as_slice.ensures ∙ same ∙ sym c.as_slice-2.ensures),
+          sym c.if-not-are_same_domains.true ∙ c.are_same_domains.ensures.1 (c.as_slice.ensures ∙ same
+          ∙ sym c.as_slice-2.ensures),
     )
 
 pub returns-in-None : goal.returns-in-None
@@ -24,10 +25,13 @@ returns-in-None c =
       λ e. absurd (true≢false (sym e)),
       λ h.
           let same : m.domains ≡ p.domains = h.domains ∙ sym (ap (λ k. k.domains) c.self.view_is) in
-          let none : tables_left (words_in p.rows.words) p.rows.nodes.entries p.closed.items false m.relations p.count ≡ None =
+          let none : tables_left (words_in p.rows.words) p.rows.nodes.entries p.closed.items false m.relations
+          p.count ≡ None =
           rw c.deref.ensures.value at (rw c.as_slice-relations.ensures at (sym c.left_over.ensures ∙ c.in-None.is)) in
-          let e : None ≡ Some 0 = sym (left_none p m c.requires.0 c.requires.2 symbols same c.self.invariant.distinct c.self.invariant.counted none)
-          ∙ extends_left p m c.requires.0 c.requires.2 symbols same c.self.invariant.distinct c.self.invariant.counted (subst (ExtendsData m) (sym c.self.view_is) h) in
+          let e : None ≡ Some 0 = sym (left_none p m c.requires.0 c.requires.2 symbols same c.self.invariant.distinct
+          c.self.invariant.counted none)
+          ∙ extends_left p m c.requires.0 c.requires.2 symbols same c.self.invariant.distinct c.self.invariant.counted
+          (subst (ExtendsData m) (sym c.self.view_is) h) in
           cc e,
     )
 
@@ -36,13 +40,20 @@ returns-in-Some c =
     let p = c.self.inside in
     let m = c.args.m.now in
     let symbols : c.requires.0.symbols ≡ p.symbols = c.requires.1 ∙ sym (ap (λ k. k.symbols) c.self.view_is) in
-    let same : m.domains ≡ p.domains = sym c.as_slice.ensures ∙ c.are_same_domains.ensures.0 c.if-not-are_same_domains.false ∙ c.as_slice-2.ensures in
-    let some : tables_left (words_in p.rows.words) p.rows.nodes.entries p.closed.items false m.relations p.count ≡ Some c.in-Some.left =
+    let same : m.domains ≡ p.domains = sym c.as_slice.ensures ∙ c.are_same_domains.ensures.0
+    c.if-not-are_same_domains.false ∙ c.as_slice-2.ensures in
+    let some : tables_left (words_in p.rows.words) p.rows.nodes.entries p.closed.items false m.relations p.count
+    ≡ Some c.in-Some.left =
     rw c.deref.ensures.value at (rw c.as_slice-relations.ensures at (sym c.left_over.ensures ∙ c.in-Some.is)) in
-    let rest : c.left_over-in-Some.result ≡ tables_left (words_in p.rows.words) p.rows.nodes.entries p.closed.items true m.functions c.in-Some.left =
+    let rest : c.left_over-in-Some.result ≡ tables_left (words_in p.rows.words) p.rows.nodes.entries p.closed.items true
+    m.functions c.in-Some.left =
     rw c.deref-in-Some.ensures.value at (rw c.as_slice-functions.ensures at c.left_over-in-Some.ensures) in
-    let both = left_both p m c.requires.0 c.requires.2 symbols same c.self.invariant.distinct c.self.invariant.counted c.in-Some.left some in (
-      λ e. subst (ExtendsData m) c.self.view_is (left_extends p m c.requires.0 c.requires.2 symbols same c.self.invariant.distinct c.self.invariant.counted (both ∙ sym rest ∙ is_zero c.left_over-in-Some.result (sym c.eq.ensures ∙ e))),
+    let both = left_both p m c.requires.0 c.requires.2 symbols same c.self.invariant.distinct c.self.invariant.counted
+    c.in-Some.left some in (
+      λ e. subst (ExtendsData m) c.self.view_is (left_extends p m c.requires.0 c.requires.2 symbols same
+          c.self.invariant.distinct c.self.invariant.counted (both ∙ sym rest ∙ is_zero c.left_over-in-Some.result
+          (sym c.eq.ensures ∙ e))),
       λ h. c.eq.ensures ∙ zero_is c.left_over-in-Some.result (rest ∙ sym both
-          ∙ extends_left p m c.requires.0 c.requires.2 symbols same c.self.invariant.distinct c.self.invariant.counted (subst (ExtendsData m) (sym c.self.view_is) h)),
+          ∙ extends_left p m c.requires.0 c.requires.2 symbols same c.self.invariant.distinct c.self.invariant.counted
+          (subst (ExtendsData m) (sym c.self.view_is) h)),
     )

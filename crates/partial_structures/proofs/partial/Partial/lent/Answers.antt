@@ -9,4 +9,7 @@ invariant_of-result c =
     let p = c.self.inside in
     let ws = words_in p.rows.words in
     let table = p.elements.table.keys in
-    record { hashed = subst (λ ds. TellsElements ws ds table) (sym c.as_slice-2.ensures) (tells_elements ws p.domains table c.self.invariant.words c.self.invariant.elements) }
+    record {
+      hashed = subst (λ ds. TellsElements ws ds table) (sym c.as_slice-2.ensures)
+          (tells_elements ws p.domains table c.self.invariant.words c.self.invariant.elements);
+    }

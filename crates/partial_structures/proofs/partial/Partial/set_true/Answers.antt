@@ -12,16 +12,22 @@ use Rattle.partial_structures.proofs.partial.Partial.set_true.Goals as goal
 pub make_true-requires : goal.make_true-requires
 make_true-requires c =
     let p = c.self.inside in
-    let over : IsAtomOver p.symbols p.domains (atom_of c.args.atom.now) = subst (λ k. IsAtomOver k.symbols k.domains (atom_of c.args.atom.now)) (sym c.self.view_is) c.requires in
-    subst (λ ws. All (λ x. IsTrue (has_label ws x)) c.args.atom.now.args) (sym c.self.invariant.words) (args_labelled p.symbols p.domains (atom_of c.args.atom.now) over)
+    let over : IsAtomOver p.symbols p.domains (atom_of c.args.atom.now) =
+    subst (λ k. IsAtomOver k.symbols k.domains (atom_of c.args.atom.now)) (sym c.self.view_is) c.requires in
+    subst (λ ws. All (λ x. IsTrue (has_label ws x)) c.args.atom.now.args) (sym c.self.invariant.words)
+    (args_labelled p.symbols p.domains (atom_of c.args.atom.now) over)
 
 pub returns-in-No-clause-clash : goal.returns-in-No-clause-clash
 returns-in-No-clause-clash c =
     let p = c.self.inside in
     let a = c.args.atom.now in
     let is : c.status.result ≡ status p (atom_of a) =
-    c.status.ensures ∙ ap (λ f. status_of (words_in p.rows.words) p.rows.nodes.entries f a.symbol a.args a.value) (c.flag.ensures ∙ ap (λ l. is_closed l a.symbol) c.deref.ensures.value) in
-    (λ e. sym (value_from p c.args.self.now (atom_of a) c.status.result c.self.view_is c.requires is) ∙ c.in-No.is, λ e. refl)
+    c.status.ensures ∙ ap (λ f. status_of (words_in p.rows.words) p.rows.nodes.entries f a.symbol a.args a.value)
+    (c.flag.ensures ∙ ap (λ l. is_closed l a.symbol) c.deref.ensures.value) in (
+      λ e. sym (value_from p c.args.self.now (atom_of a) c.status.result c.self.view_is c.requires is)
+          ∙ c.in-No.is,
+      λ e. refl,
+    )
 
 pub invariant_of-self : goal.invariant_of-self
 invariant_of-self c =
@@ -29,28 +35,46 @@ invariant_of-self c =
     let a = c.args.atom.now in
     let q = record p { rows = c.make_true.new.rows; count = c.in-Some.count } in
     let is : c.status.result ≡ status p (atom_of a) =
-    c.status.ensures ∙ ap (λ f. status_of (words_in p.rows.words) p.rows.nodes.entries f a.symbol a.args a.value) (c.flag.ensures ∙ ap (λ l. is_closed l a.symbol) c.deref.ensures.value) in
-    let over : IsAtomOver p.symbols p.domains (atom_of a) = subst (λ k. IsAtomOver k.symbols k.domains (atom_of a)) (sym c.self.view_is) c.requires in
+    c.status.ensures ∙ ap (λ f. status_of (words_in p.rows.words) p.rows.nodes.entries f a.symbol a.args a.value)
+    (c.flag.ensures ∙ ap (λ l. is_closed l a.symbol) c.deref.ensures.value) in
+    let over : IsAtomOver p.symbols p.domains (atom_of a) = subst (λ k. IsAtomOver k.symbols k.domains (atom_of a))
+    (sym c.self.view_is) c.requires in
     let clash = not_no (status p (atom_of a)) c.status.result is c.in_default.not-No in
-    let after = set_true_after p q (known_atoms p) refl (record { symbols = refl; domains = refl; closed = refl; words = c.make_true.ensures.words }) (atom_of a) c.self.invariant.words over clash c.in-Ok.ensures.ok in
+    let after = set_true_after p q (known_atoms p) refl (record {
+      symbols = refl;
+      domains = refl;
+      closed = refl;
+      words =
+          c.make_true.ensures.words;
+    }) (atom_of a) c.self.invariant.words over clash c.in-Ok.ensures.ok in
     record {
       distinct = c.self.invariant.distinct;
       flags = c.self.invariant.flags;
       words = ap words_in c.make_true.ensures.words ∙ c.self.invariant.words;
-      elements = subst (λ ws. HasElements ws p.domains p.elements.table.keys) (sym (ap words_in c.make_true.ensures.words)) c.self.invariant.elements;
-      counted = true_count p q (atom_of a) c.status.result c.in-Some.count c.self.invariant.distinct c.self.invariant.counted over after is (not_no c.status.result c.status.result refl c.in_default.not-No) c.in-Some.ensures;
+      elements = subst (λ ws. HasElements ws p.domains p.elements.table.keys)
+          (sym (ap words_in c.make_true.ensures.words)) c.self.invariant.elements;
+      counted = true_count p q (atom_of a) c.status.result c.in-Some.count c.self.invariant.distinct
+          c.self.invariant.counted over after is (not_no c.status.result c.status.result refl c.in_default.not-No)
+          c.in-Some.ensures;
     }
 
 pub invariant_of-self-in-Err : goal.invariant_of-self-in-Err
 invariant_of-self-in-Err c =
     let p = c.self.inside in
     let q = record p { rows = c.make_true.new.rows } in
-    let after = kept_all p q (known_atoms p) refl (record { symbols = refl; domains = refl; closed = refl; words = c.make_true.ensures.words }) c.in-Err.ensures.err in
+    let after = kept_all p q (known_atoms p) refl (record {
+      symbols = refl;
+      domains = refl;
+      closed = refl;
+      words =
+          c.make_true.ensures.words;
+    }) c.in-Err.ensures.err in
     record {
       distinct = c.self.invariant.distinct;
       flags = c.self.invariant.flags;
       words = ap words_in c.make_true.ensures.words ∙ c.self.invariant.words;
-      elements = subst (λ ws. HasElements ws p.domains p.elements.table.keys) (sym (ap words_in c.make_true.ensures.words)) c.self.invariant.elements;
+      elements = subst (λ ws. HasElements ws p.domains p.elements.table.keys)
+          (sym (ap words_in c.make_true.ensures.words)) c.self.invariant.elements;
       counted = same_count p q (known_atoms p) c.self.invariant.counted after refl;
     }
 
@@ -59,8 +83,10 @@ returns-in-None-clause-clash c =
     let p = c.self.inside in
     let a = c.args.atom.now in
     let is : c.status.result ≡ status p (atom_of a) =
-    c.status.ensures ∙ ap (λ f. status_of (words_in p.rows.words) p.rows.nodes.entries f a.symbol a.args a.value) (c.flag.ensures ∙ ap (λ l. is_closed l a.symbol) c.deref.ensures.value) in
-    let said : c.status.result ≡ value_at c.args.self.now (atom_of a) = value_from p c.args.self.now (atom_of a) c.status.result c.self.view_is c.requires is in
+    c.status.ensures ∙ ap (λ f. status_of (words_in p.rows.words) p.rows.nodes.entries f a.symbol a.args a.value)
+    (c.flag.ensures ∙ ap (λ l. is_closed l a.symbol) c.deref.ensures.value) in
+    let said : c.status.result ≡ value_at c.args.self.now (atom_of a) =
+    value_from p c.args.self.now (atom_of a) c.status.result c.self.view_is c.requires is in
     (λ e. absurd (let n : ⊥ = cc in n), λ v. absurd (c.in_default.not-No (said ∙ v)))
 
 pub returns-in-Ok : goal.returns-in-Ok
@@ -69,11 +95,17 @@ returns-in-Ok c =
     let a = c.args.atom.now in
     let q = record p { rows = c.make_true.new.rows; count = c.in-Some.count } in
     let is : c.status.result ≡ status p (atom_of a) =
-    c.status.ensures ∙ ap (λ f. status_of (words_in p.rows.words) p.rows.nodes.entries f a.symbol a.args a.value) (c.flag.ensures ∙ ap (λ l. is_closed l a.symbol) c.deref.ensures.value) in
+    c.status.ensures ∙ ap (λ f. status_of (words_in p.rows.words) p.rows.nodes.entries f a.symbol a.args a.value)
+    (c.flag.ensures ∙ ap (λ l. is_closed l a.symbol) c.deref.ensures.value) in
     let said = value_from p c.args.self.now (atom_of a) c.status.result c.self.view_is c.requires is in
     let clash = not_no (status p (atom_of a)) c.status.result is c.in_default.not-No in
     record {
-      ok = set_true_after p q c.args.self.now c.self.view_is (record { symbols = refl; domains = refl; closed = refl; words = c.make_true.ensures.words }) (atom_of a) c.self.invariant.words c.requires clash c.in-Ok.ensures.ok;
+      ok = set_true_after p q c.args.self.now c.self.view_is (record {
+        symbols = refl;
+        domains = refl;
+        closed = refl;
+        words = c.make_true.ensures.words;
+      }) (atom_of a) c.self.invariant.words c.requires clash c.in-Ok.ensures.ok;
       clash = (λ e. absurd (let n : ⊥ = cc in n), λ v. absurd (c.in_default.not-No (said ∙ v)));
       err = tt;
     }
@@ -84,10 +116,17 @@ returns-in-Err c =
     let a = c.args.atom.now in
     let q = record p { rows = c.make_true.new.rows } in
     let is : c.status.result ≡ status p (atom_of a) =
-    c.status.ensures ∙ ap (λ f. status_of (words_in p.rows.words) p.rows.nodes.entries f a.symbol a.args a.value) (c.flag.ensures ∙ ap (λ l. is_closed l a.symbol) c.deref.ensures.value) in
+    c.status.ensures ∙ ap (λ f. status_of (words_in p.rows.words) p.rows.nodes.entries f a.symbol a.args a.value)
+    (c.flag.ensures ∙ ap (λ l. is_closed l a.symbol) c.deref.ensures.value) in
     let said = value_from p c.args.self.now (atom_of a) c.status.result c.self.view_is c.requires is in
     record {
       ok = tt;
       clash = (λ e. absurd (let n : ⊥ = cc in n), λ v. absurd (c.in_default.not-No (said ∙ v)));
-      err = kept_all p q c.args.self.now c.self.view_is (record { symbols = refl; domains = refl; closed = refl; words = c.make_true.ensures.words }) c.in-Err.ensures.err;
+      err = kept_all p q c.args.self.now c.self.view_is (record {
+        symbols = refl;
+        domains = refl;
+        closed = refl;
+        words =
+            c.make_true.ensures.words;
+      }) c.in-Err.ensures.err;
     }

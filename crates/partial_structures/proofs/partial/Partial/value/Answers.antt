@@ -11,4 +11,5 @@ returns c =
     let p = c.self.inside in
     let a = c.args.atom.now in
     value_from p c.args.self.now (atom_of a) c.status.result c.self.view_is c.requires
-    (c.status.ensures ∙ ap (λ f. status_of (words_in p.rows.words) p.rows.nodes.entries f a.symbol a.args a.value) (c.flag.ensures ∙ ap (λ l. is_closed l a.symbol) c.deref.ensures.value))
+    (c.status.ensures ∙ ap (λ f. status_of (words_in p.rows.words) p.rows.nodes.entries f a.symbol a.args a.value)
+    (c.flag.ensures ∙ ap (λ l. is_closed l a.symbol) c.deref.ensures.value))

@@ -1,4 +1,5 @@
-use Rattle.std.proofs.Common.{◌≡◌, ℕ, ◌+◌, ◌≤◌, ◌<◌, [], length, List, Bool, Option, sym, ap, ◌∙◌, subst, refl, ⊎_elim, arith}
+use Rattle.std.proofs.Common.{◌≡◌, ℕ, ◌+◌, ◌≤◌, ◌<◌, [], length, List, Bool, Option, sym, ap, ◌∙◌, subst, refl, ⊎_elim}
+use Rattle.std.proofs.Common.{arith}
 use Rattle.search_decisions.specs.Scores.{AreListed, AreListedFirst}
 use Rattle.search_decisions.specs.declared.scores.Scores.{Scores}
 use Rattle.search_decisions.proofs.ScoreFacts.{first-values}
@@ -8,6 +9,7 @@ pub returns-then-is_empty : goal.returns-then-is_empty
 returns-then-is_empty g c =
     let s : Scores = c.list.new.self.scores in
     record {
-      found = first-values c.args.self.now.scores.scores.items c.args.assignment.now c.args.first c.args.end s c.in_ok-list.ensures.lists (c.is_empty.ensures.0 c.if-is_empty.true);
+      found = first-values c.args.self.now.scores.scores.items c.args.assignment.now c.args.first c.args.end s
+          c.in_ok-list.ensures.lists (c.is_empty.ensures.0 c.if-is_empty.true);
       phases = c.list.ensures.phases;
     }

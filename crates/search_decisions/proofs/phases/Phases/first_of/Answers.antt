@@ -1,4 +1,5 @@
-use Rattle.std.proofs.Common.{◌≡◌, ℕ, ◌≤◌, ◌<◌, false, All, Any, inr, ⊎_elim, get_or, length, refl, subst, sym, take, arith, rules}
+use Rattle.std.proofs.Common.{◌≡◌, ℕ, ◌≤◌, ◌<◌, false, All, Any, inr, ⊎_elim, get_or, length, refl, subst, sym, take}
+use Rattle.std.proofs.Common.{arith, rules}
 use Rattle.std.proofs.lemmas.List.{get_or_default, take_all}
 use Rattle.std.proofs.lemmas.List.Elements.{All-more}
 use Rattle.lit_core.specs.declared.literals.Lit.{Lit}
@@ -14,28 +15,36 @@ loop-lit-preserved c =
     let lt : i < length c.args.clause.now = search rules in
     let d : Lit = record { var = record { 0 = 0 }; positive = false } in
     let x : Lit = get_or c.args.clause.now i d in
-    let NoLess : ℕ → Lit → Type 0 = λ v m. IsOpen c.args.assignment.now m.var.0 → times_seen s v ≤ times_seen s m.var.0 in
+    let NoLess : ℕ → Lit → Type 0 = λ v m. IsOpen c.args.assignment.now m.var.0
+    → times_seen s v ≤ times_seen s m.var.0 in
     elim c.if-is_better.branch [
       | then-is_better w ↦
-          let better : IsOpen c.args.assignment.now x.var.0 × (times_seen s x.var.0 ≤ times_seen s c.loop-lit.first.0) = c.is_better.ensures.better w.if-is_better.true in
+          let better : IsOpen c.args.assignment.now x.var.0 × (times_seen s x.var.0 ≤ times_seen s c.loop-lit.first.0) =
+          c.is_better.ensures.better w.if-is_better.true in
           let less : times_seen s x.var.0 ≤ times_seen s c.loop-lit.first.0 = better.1 in
           rw w.first-is (record {
             among = inr (i, x, lt, sym (get_or_default c.args.clause.now i d x lt), refl);
-            least = All-more (NoLess x.var.0) c.args.clause.now i d lt (λ k e below is. let more = c.loop-lit.invariant.least k e below is in omega (arith, less, more)) (λ _. omega arith);
+            least = All-more (NoLess x.var.0) c.args.clause.now i d lt (λ k e below is. let more =
+                c.loop-lit.invariant.least k e below is in omega (arith, less, more)) (λ _. omega arith);
             open_or = inr better.0;
           })
       | else-is_better w ↦
           rw w.first-is (record {
             among = c.loop-lit.invariant.among;
-            least = All-more (NoLess c.loop-lit.first.0) c.args.clause.now i d lt c.loop-lit.invariant.least (c.is_better.ensures.not w.if-is_better.false);
+            least = All-more (NoLess c.loop-lit.first.0) c.args.clause.now i d lt c.loop-lit.invariant.least
+                (c.is_better.ensures.not w.if-is_better.false);
             open_or = c.loop-lit.invariant.open_or;
           })
     ]
 
 pub returns-clause-least : goal.returns-clause-least
 returns-clause-least c = λ has.
-    let whole : take c.loop-lit.lit-index c.args.clause.now ≡ c.args.clause.now = take_all c.loop-lit.lit-index c.args.clause.now (search rules) in
+    let whole : take c.loop-lit.lit-index c.args.clause.now ≡ c.args.clause.now =
+    take_all c.loop-lit.lit-index c.args.clause.now (search rules) in
     record {
-      among = ⊎_elim (λ same. subst (λ (v : Var). Any (λ l. l.var.0 ≡ v.0) c.args.clause.now) (sym same) has) (λ among. among) c.loop-lit.invariant.among;
-      least = subst (λ ls. All (λ m. IsOpen c.args.assignment.now m.var.0 → times_seen c.args.self.now c.loop-lit.first.0 ≤ times_seen c.args.self.now m.var.0) ls) whole c.loop-lit.invariant.least;
+      among = ⊎_elim (λ same. subst (λ (v : Var). Any (λ l. l.var.0 ≡ v.0) c.args.clause.now) (sym same) has)
+          (λ among. among) c.loop-lit.invariant.among;
+      least = subst (λ ls. All (λ m. IsOpen c.args.assignment.now m.var.0
+          → times_seen c.args.self.now c.loop-lit.first.0 ≤ times_seen c.args.self.now m.var.0) ls) whole
+          c.loop-lit.invariant.least;
     }

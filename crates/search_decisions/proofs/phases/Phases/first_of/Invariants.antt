@@ -6,6 +6,7 @@ use Rattle.search_decisions.proofs.phases.Phases.first_of.Given as goal
 abbrev pub invariant-loop-lit : goal.invariant-loop-lit
 invariant-loop-lit l = record {
   among : (l.first ≡ l.fn.var) ⊎ Any (λ m. m.var.0 ≡ l.first.0) l.clause;
-  least : All (λ m. IsOpen l.assignment m.var.0 → times_seen l.self l.first.0 ≤ times_seen l.self m.var.0) (take l.lit-index l.clause);
+  least : All (λ m. IsOpen l.assignment m.var.0 → times_seen l.self l.first.0 ≤ times_seen l.self m.var.0)
+      (take l.lit-index l.clause);
   open_or : (l.first ≡ l.fn.var) ⊎ IsOpen l.assignment l.first.0;
 }

@@ -11,7 +11,8 @@ loop-lit-preserved c =
     let d : Lit = record { var = record { 0 = 0 }; positive = false } in
     let x : Lit = get_or c.args.clause.now c.loop-lit.lit-index d in
     let front : List Lit = take c.loop-lit.lit-index c.args.clause.now in
-    let next : take (c.loop-lit.lit-index + 1) c.args.clause.now ≡ front ++ x ∷ [] = take_more c.args.clause.now c.loop-lit.lit-index d lt in
+    let next : take (c.loop-lit.lit-index + 1) c.args.clause.now ≡ front ++ x ∷ [] =
+    take_more c.args.clause.now c.loop-lit.lit-index d lt in
     record {
       same = search rules;
       notes = rw next (notes-literal c.args.place front x c.loop-lit.invariant.notes c.note_place.ensures.notes);
@@ -19,5 +20,7 @@ loop-lit-preserved c =
 
 pub returns-clause-notes : goal.returns-clause-notes
 returns-clause-notes c =
-    let whole : take c.loop-lit.lit-index c.args.clause.now ≡ c.args.clause.now = take_all c.loop-lit.lit-index c.args.clause.now (search rules) in
-    subst (λ ls. Notes (λ v k. Any (λ m. m.var.0 ≡ v) ls × (k ≡ c.args.place)) c.args.self.now c.loop-lit.self) whole c.loop-lit.invariant.notes
+    let whole : take c.loop-lit.lit-index c.args.clause.now ≡ c.args.clause.now =
+    take_all c.loop-lit.lit-index c.args.clause.now (search rules) in
+    subst (λ ls. Notes (λ v k. Any (λ m. m.var.0 ≡ v) ls × (k ≡ c.args.place)) c.args.self.now c.loop-lit.self) whole
+    c.loop-lit.invariant.notes

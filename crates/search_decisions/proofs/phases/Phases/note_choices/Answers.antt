@@ -12,10 +12,21 @@ loop-place-preserved c =
     let stands : place < length p.clauses = search rules in
     elim c.if-is_choice.branch [
       | then-is_choice w ↦
-          let atoms : All (λ l. (l.positive ≡ true) × (l.var.0 ≤ length p.atoms)) (get_or p.clauses place []) = search rules in
-          let noted = subst (λ ls. Notes (λ v k. Any (λ l. l.var.0 ≡ v) ls × (k ≡ place)) c.loop-place.self w.note_choice.new.self) c.clause-clause.ensures w.note_choice.ensures.notes in
-          rw w.self-is (record { same = search rules; notes = notes-choice p c.args.from place later stands atoms c.loop-place.invariant.notes noted })
+          let atoms : All (λ l. (l.positive ≡ true) × (l.var.0 ≤ length p.atoms)) (get_or p.clauses place []) =
+          search rules in
+          let noted = subst (λ ls. Notes (λ v k. Any (λ l. l.var.0 ≡ v) ls × (k ≡ place)) c.loop-place.self
+          w.note_choice.new.self) c.clause-clause.ensures w.note_choice.ensures.notes in
+          rw w.self-is (record {
+            same = search rules;
+            notes = notes-choice p c.args.from place later stands atoms
+                c.loop-place.invariant.notes noted;
+          })
       | else-is_choice w ↦
-          let none : All (λ l. (l.positive ≡ true) × (l.var.0 ≤ length p.atoms)) (get_or p.clauses place []) → ⊥ = search rules in
-          rw w.self-is (record { same = search rules; notes = notes-no_choice p c.args.from place none c.loop-place.invariant.notes })
+          let none : All (λ l. (l.positive ≡ true) × (l.var.0 ≤ length p.atoms)) (get_or p.clauses place []) → ⊥ =
+          search rules in
+          rw w.self-is (record {
+            same = search rules;
+            notes = notes-no_choice p c.args.from place none
+                c.loop-place.invariant.notes;
+          })
     ]

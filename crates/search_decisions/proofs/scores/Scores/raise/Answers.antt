@@ -10,6 +10,8 @@ loop-lit-preserved c =
     let lt : c.loop-lit.lit-index < length c.args.lits.now = search rules in
     let d : Lit = record { var = record { 0 = 0 }; positive = false } in
     let a : Lit = get_or c.args.lits.now c.loop-lit.lit-index d in
-    let next : take (c.loop-lit.lit-index + 1) c.args.lits.now ≡ take c.loop-lit.lit-index c.args.lits.now ++ a ∷ [] = take_more c.args.lits.now c.loop-lit.lit-index d lt in
+    let next : take (c.loop-lit.lit-index + 1) c.args.lits.now ≡ take c.loop-lit.lit-index c.args.lits.now ++ a ∷ [] =
+    take_more c.args.lits.now c.loop-lit.lit-index d lt in
     subst (λ (xs : List Lit). Raises xs c.args.self.now.scores.items c.raise_one.new.self.scores.items) (sym next)
-    (raises-more (take c.loop-lit.lit-index c.args.lits.now) a c.args.self.now.scores.items c.loop-lit.self.scores.items c.raise_one.new.self.scores.items c.loop-lit.invariant (c.raise_one.ensures.raises a refl))
+    (raises-more (take c.loop-lit.lit-index c.args.lits.now) a c.args.self.now.scores.items c.loop-lit.self.scores.items
+    c.raise_one.new.self.scores.items c.loop-lit.invariant (c.raise_one.ensures.raises a refl))

@@ -1,4 +1,5 @@
-use Rattle.std.proofs.Common.{◌≡◌, ◌<◌, Bool, None, Option, List, [], length, take, replicate, refl, ap, ◌∙◌, subst, arith}
+use Rattle.std.proofs.Common.{◌≡◌, ◌<◌, Bool, None, Option, List, [], length, take, replicate, refl, ap, ◌∙◌, subst}
+use Rattle.std.proofs.Common.{arith}
 use Rattle.std.proofs.lemmas.List.{length-replicate}
 use Rattle.lit_core.specs.declared.literals.Lit.{Lit}
 use Rattle.clause_store.specs.TrailState.{TrailState}
@@ -7,19 +8,27 @@ use Rattle.search_engine.specs.declared.engine.Engine.{Engine}
 use Rattle.search_engine.specs.Knowledge.{RemovesFrom}
 use Rattle.search_engine.specs.Resting.{held_of}
 use Rattle.search_engine.proofs.DecideFacts.{with_store}
-use Rattle.search_engine.proofs.GrowFacts.{orderly-none, removed-held, resting-back, resting-moves, same-itself, same-twice}
+use Rattle.search_engine.proofs.GrowFacts.{orderly-none, removed-held, resting-back, resting-moves, same-itself}
+use Rattle.search_engine.proofs.GrowFacts.{same-twice}
 use Rattle.search_engine.proofs.engine.Engine.add_problem.Goals as goal
 
-cleared-size : (mid : Engine) (clear : StoreState) → clear.trail.values ≡ replicate (length mid.store.trail.values) None → length clear.trail.values ≡ length mid.store.trail.values
+cleared-size : (mid : Engine) (clear : StoreState) → clear.trail.values ≡ replicate (length mid.store.trail.values) None
+    → length clear.trail.values ≡ length mid.store.trail.values
 cleared-size mid clear is = ap length is ∙ length-replicate {A = Option Bool} (length mid.store.trail.values) None
 
 pub hold-requires-clause-resting : goal.hold-requires-clause-resting
 hold-requires-clause-resting c =
     let mid : Engine = c.make_room.new.self in
     let s : StoreState = c.clear.new.self in
-    let size : length s.trail.values ≡ length mid.store.trail.values = cleared-size mid s (ap (λ (s : StoreState). s.trail.values) c.clear.ensures.cleared) in
+    let size : length s.trail.values ≡ length mid.store.trail.values =
+    cleared-size mid s (ap (λ (s : StoreState). s.trail.values) c.clear.ensures.cleared) in
     let sized : mid.problem.vars < length mid.store.trail.values = c.make_room.ensures.resting.engine.sized in
-    resting-moves mid (with_store mid s) c.make_room.ensures.resting (record { same = same-itself mid (with_store mid s) refl refl refl refl refl; ids = refl; closed = refl }) refl (ap (λ (s : StoreState). s.clauses) c.clear.ensures.cleared) (orderly-none mid.problem.vars s.trail.steps (ap (λ (s : StoreState). s.trail.steps) c.clear.ensures.cleared)) (ap (λ (s : StoreState). s.trail.level) c.clear.ensures.cleared) c.clear.ensures.laws (omega (arith, size, sized))
+    resting-moves mid (with_store mid s) c.make_room.ensures.resting
+    (record { same = same-itself mid (with_store mid s) refl refl refl refl refl; ids = refl; closed = refl }) refl
+    (ap (λ (s : StoreState). s.clauses) c.clear.ensures.cleared) (orderly-none mid.problem.vars s.trail.steps
+    (ap (λ (s : StoreState). s.trail.steps) c.clear.ensures.cleared))
+    (ap (λ (s : StoreState). s.trail.level) c.clear.ensures.cleared) c.clear.ensures.laws
+    (omega (arith, size, sized))
 
 module _ (c : goal.After-remove_from) where
   -- the engine with room for the variables
@@ -37,10 +46,12 @@ module _ (c : goal.After-remove_from) where
   same-clauses = ap (λ (s : StoreState). s.clauses) c.clear.ensures.cleared
 
   front : mid.store.clauses ≡ take (length mid.store.clauses) half.store.clauses
-  front = subst (λ (xs : List (Option (List Lit))). xs ≡ take (length xs) half.store.clauses) same-clauses c.in-Err.ensures.err.front
+  front = subst (λ (xs : List (Option (List Lit))). xs ≡ take (length xs) half.store.clauses) same-clauses
+      c.in-Err.ensures.err.front
 
   removed : RemovesFrom (length mid.store.clauses) half.store.clauses c.remove_from.new.store.clauses
-  removed = subst (λ n. RemovesFrom n half.store.clauses c.remove_from.new.store.clauses) (c.len-first.ensures ∙ ap length same-clauses) c.remove_from.ensures.removed
+  removed = subst (λ n. RemovesFrom n half.store.clauses c.remove_from.new.store.clauses) (c.len-first.ensures
+      ∙ ap length same-clauses) c.remove_from.ensures.removed
 
   trail : c.remove_from.new.store.trail ≡ clear.trail
   trail = c.remove_from.ensures.trail ∙ c.in-Err.ensures.err.trail
@@ -54,8 +65,10 @@ module _ (c : goal.After-remove_from) where
   sized : mid.problem.vars < length c.remove_from.new.store.trail.values
   sized =
       let was : mid.problem.vars < length mid.store.trail.values = c.make_room.ensures.resting.engine.sized in
-      let same : length c.remove_from.new.store.trail.values ≡ length clear.trail.values = ap (λ (t : TrailState). length t.values) trail in
-      let size : length clear.trail.values ≡ length mid.store.trail.values = cleared-size mid clear (ap (λ (s : StoreState). s.trail.values) c.clear.ensures.cleared) in
+      let same : length c.remove_from.new.store.trail.values ≡ length clear.trail.values =
+      ap (λ (t : TrailState). length t.values) trail in
+      let size : length clear.trail.values ≡ length mid.store.trail.values =
+      cleared-size mid clear (ap (λ (s : StoreState). s.trail.values) c.clear.ensures.cleared) in
       omega (arith, was, same, size)
 
   abbrev done : Engine
@@ -64,7 +77,9 @@ module _ (c : goal.After-remove_from) where
 pub returns-in-Err-clause-resting : goal.returns-in-Err-clause-resting
 returns-in-Err-clause-resting c =
     let h = c.in-Err.ensures.err in
-    resting-back (mid c) (done c) (half c).store.clauses c.make_room.ensures.resting (front c) (removed c) (steps c) (level c) c.remove_from.ensures.laws (sized c) h.problem h.same.learnt h.ids h.closed h.same.moments h.same.conflicts h.same.root_conflicts
+    resting-back (mid c) (done c) (half c).store.clauses c.make_room.ensures.resting (front c) (removed c) (steps c)
+    (level c) c.remove_from.ensures.laws (sized c) h.problem h.same.learnt h.ids h.closed h.same.moments
+    h.same.conflicts h.same.root_conflicts
 
 pub returns-in-Err-clause-err : goal.returns-in-Err-clause-err
 returns-in-Err-clause-err c =
@@ -72,6 +87,9 @@ returns-in-Err-clause-err c =
     let r = c.make_room.ensures.reserves in
     record {
       problem = h.problem ∙ r.problem;
-      held = removed-held (mid c).store.clauses (half c).store.clauses c.remove_from.new.store.clauses (front c) (removed c) ∙ ap held_of r.clauses;
-      same = same-twice c.args.self.now (mid c) (done c) r.lists.same (same-itself (mid c) (done c) h.same.learnt h.same.moments h.same.searches h.same.conflicts h.same.root_conflicts);
+      held = removed-held (mid c).store.clauses (half c).store.clauses c.remove_from.new.store.clauses (front c)
+          (removed c) ∙ ap held_of r.clauses;
+      same = same-twice c.args.self.now (mid c) (done c) r.lists.same
+          (same-itself (mid c) (done c) h.same.learnt h.same.moments h.same.searches h.same.conflicts
+          h.same.root_conflicts);
     }

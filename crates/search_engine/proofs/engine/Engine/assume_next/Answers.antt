@@ -19,17 +19,31 @@ module _ (c : goal.After-assign) where
   within = All-contains (IsLitOf old.problem.vars) c.args.assume.now c.args.lit c.requires.literals c.requires.assumed
 
 pub returns-then-is_none-clause-search : goal.returns-then-is_none-clause-search
-returns-then-is_none-clause-search c = decide-search (old c) (with_store (old c) c.assign.new.self) (same-but (old c) c.assign.new.self) c.requires.search (step c) c.assign.ensures.step c.assign.ensures.laws (within c) refl (omega arith)
+returns-then-is_none-clause-search c = decide-search (old c) (with_store (old c) c.assign.new.self)
+    (same-but (old c) c.assign.new.self) c.requires.search (step c) c.assign.ensures.step c.assign.ensures.laws
+    (within c) refl (omega arith)
 
 pub returns-then-is_none-clause-turn : goal.returns-then-is_none-clause-turn
-returns-then-is_none-clause-turn c = decide-turn (old c) (with_store (old c) c.assign.new.self) (same-but (old c) c.assign.new.self) c.requires.search (step c) c.assign.ensures.step c.assign.ensures.laws (within c) refl (omega arith) c.args.assume.now c.requires.turn (inl c.requires.assumed)
+returns-then-is_none-clause-turn c = decide-turn (old c) (with_store (old c) c.assign.new.self)
+    (same-but (old c) c.assign.new.self) c.requires.search (step c) c.assign.ensures.step c.assign.ensures.laws
+    (within c) refl (omega arith) c.args.assume.now c.requires.turn (inl c.requires.assumed)
 
 pub returns-then-is_none-clause-answer : goal.returns-then-is_none-clause-answer
-returns-then-is_none-clause-answer c = (c.requires.unrefuted, λ goal-of a. decide-goes (old c) (with_store (old c) c.assign.new.self) (same-but (old c) c.assign.new.self) c.requires.search (step c) c.assign.ensures.step c.assign.ensures.laws (within c) refl (omega arith) goal-of a)
+returns-then-is_none-clause-answer c = (
+  c.requires.unrefuted,
+  λ goal-of a. decide-goes (old c)
+      (with_store (old c) c.assign.new.self) (same-but (old c) c.assign.new.self) c.requires.search
+      (step c) c.assign.ensures.step c.assign.ensures.laws (within c) refl (omega arith) goal-of a,
+)
 
 pub returns-clause-answer : goal.returns-clause-answer
 returns-clause-answer c =
     let e : Engine = c.args.self.now in
     let r = c.in_ok-refuted.refuted in
-    let covers = λ (l : Lit) (has : Contains c.args.assume.now l) (why : (l ≡ c.args.lit) ⊎ Contains r.lits.items l). c.in_ok-core.ensures.covers l has (subst (λ (xs : List Lit). (l ≡ c.args.lit) ⊎ Contains xs l) (sym c.deref.ensures.value) why) in
-    (c.in_ok-core.ensures.sublist, core-refuted e c.requires.search c.args.assume.now c.requires.turn.decisions c.args.lit c.requires.assumed c.requires.untrue r c.in_ok-refuted.ensures c.in_ok-core.core covers)
+    let covers = λ (l : Lit) (has : Contains c.args.assume.now l) (why : (l ≡ c.args.lit) ⊎ Contains r.lits.items l).
+    c.in_ok-core.ensures.covers l has (subst (λ (xs : List Lit). (l ≡ c.args.lit) ⊎ Contains xs l)
+    (sym c.deref.ensures.value) why) in (
+      c.in_ok-core.ensures.sublist,
+      core-refuted e c.requires.search c.args.assume.now c.requires.turn.decisions
+          c.args.lit c.requires.assumed c.requires.untrue r c.in_ok-refuted.ensures c.in_ok-core.core covers,
+    )

@@ -24,5 +24,8 @@ returns-clause-resting c =
       closed = e.closed;
       base = e.base;
     } in
-    let joined = λ (is : c.join.new.self ≡ joined_problem e.problem c.args.more.now). resting-joined e f c.args.more.now c.requires.resting c.requires.cleared c.requires.can c.requires.sums c.requires.bounds c.requires.laws c.in_ok-push_problem.ensures.ok c.push_problem.ensures.trail c.push_problem.ensures.laws c.requires.sized refl refl refl refl refl refl is in
+    let joined = λ (is : c.join.new.self ≡ joined_problem e.problem c.args.more.now). resting-joined e f c.args.more.now
+    c.requires.resting c.requires.cleared c.requires.can c.requires.sums c.requires.bounds c.requires.laws
+    c.in_ok-push_problem.ensures.ok c.push_problem.ensures.trail c.push_problem.ensures.laws c.requires.sized refl
+    refl refl refl refl refl is in
     on_ok_weaker c.join.result joined c.join.ensures.ok

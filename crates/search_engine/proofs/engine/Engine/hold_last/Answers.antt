@@ -11,18 +11,33 @@ use Rattle.search_engine.proofs.engine.Engine.hold_last.Goals as goal
 pub returns-in_err-add_selected-clause-resting : goal.returns-in_err-add_selected-clause-resting
 returns-in_err-add_selected-clause-resting c =
     let e : Engine = c.args.self.now in
-    resting-same e _ c.requires.resting (record { same = same-itself e _ refl refl refl refl refl; ids = refl; closed = refl }) c.in_err-add_selected.ensures.err (ap (λ (s : StoreState). s.clauses) c.in_ok-reserve_clause.ensures.ok) (ap (λ (s : StoreState). s.trail) c.in_ok-reserve_clause.ensures.ok) c.reserve_clause.ensures.laws
+    resting-same e _ c.requires.resting (record {
+      same = same-itself e _ refl refl refl refl refl;
+      ids = refl;
+      closed =
+          refl;
+    }) c.in_err-add_selected.ensures.err (ap (λ (s : StoreState). s.clauses) c.in_ok-reserve_clause.ensures.ok)
+    (ap (λ (s : StoreState). s.trail) c.in_ok-reserve_clause.ensures.ok) c.reserve_clause.ensures.laws
 
 pub returns-clause-resting : goal.returns-clause-resting
 returns-clause-resting c =
     let e : Engine = c.args.self.now in
     let w = c.in-Ok.ensures.ok in
     let cs : List (List Lit) = e.problem.clauses in
-    let all : c.add_selected.new.self.clauses ≡ cs ++ c.args.clause ∷ [] = ap (λ (p : ProblemState). p.clauses) c.in_ok-add_selected.ensures.ok in
-    let at : get_or (cs ++ c.args.clause ∷ []) (length cs) [] ≡ c.args.clause = get_or_from_slice_get (cs ++ c.args.clause ∷ []) (length cs) c.args.clause [] (slice_get-push_new cs c.args.clause) in
-    let lent : c.clause-2.result.now ≡ c.args.clause = c.clause-2.ensures ∙ (ap (λ (xs : List (List Lit)). get_or xs c.clause_count-place.result []) all ∙ (ap (λ n. get_or (cs ++ c.args.clause ∷ []) n []) c.clause_count-place.ensures ∙ at)) in
+    let all : c.add_selected.new.self.clauses ≡ cs ++ c.args.clause ∷ [] =
+    ap (λ (p : ProblemState). p.clauses) c.in_ok-add_selected.ensures.ok in
+    let at : get_or (cs ++ c.args.clause ∷ []) (length cs) [] ≡ c.args.clause =
+    get_or_from_slice_get (cs ++ c.args.clause ∷ []) (length cs) c.args.clause []
+    (slice_get-push_new cs c.args.clause) in
+    let lent : c.clause-2.result.now ≡ c.args.clause = c.clause-2.ensures
+    ∙ (ap (λ (xs : List (List Lit)). get_or xs c.clause_count-place.result []) all
+    ∙ (ap (λ n. get_or (cs ++ c.args.clause ∷ []) n []) c.clause_count-place.ensures ∙ at)) in
     let once : IsEachOnceOf c.args.clause w.1.0 = subst (λ (lits : List Lit). IsEachOnceOf lits w.1.0) lent w.1.1 in
     let spare = c.in_ok-reserve_clause.ensures.ok in
-    let clauses : c.push_clause.new.self.clauses ≡ e.store.clauses ++ Some w.1.0 ∷ [] = ap (λ (s : StoreState). s.clauses) w.1.2 ∙ ap (λ (s : StoreState). s.clauses ++ Some w.1.0 ∷ []) spare in
-    let trail : c.push_clause.new.self.trail ≡ e.store.trail = ap (λ (s : StoreState). s.trail) w.1.2 ∙ ap (λ (s : StoreState). s.trail) spare in
-    resting-selected e _ c.args.clause w.1.0 c.requires.resting (record { same = same-itself e _ refl refl refl refl refl; ids = refl; closed = refl }) c.requires.lits once clauses trail c.push_clause.ensures.laws c.requires.sized c.in_ok-add_selected.ensures.ok
+    let clauses : c.push_clause.new.self.clauses ≡ e.store.clauses ++ Some w.1.0 ∷ [] =
+    ap (λ (s : StoreState). s.clauses) w.1.2 ∙ ap (λ (s : StoreState). s.clauses ++ Some w.1.0 ∷ []) spare in
+    let trail : c.push_clause.new.self.trail ≡ e.store.trail = ap (λ (s : StoreState). s.trail) w.1.2
+    ∙ ap (λ (s : StoreState). s.trail) spare in
+    resting-selected e _ c.args.clause w.1.0 c.requires.resting
+    (record { same = same-itself e _ refl refl refl refl refl; ids = refl; closed = refl }) c.requires.lits once
+    clauses trail c.push_clause.ensures.laws c.requires.sized c.in_ok-add_selected.ensures.ok

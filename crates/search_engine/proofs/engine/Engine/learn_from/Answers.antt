@@ -2,19 +2,26 @@ use Rattle.std.proofs.Common.{◌≡◌, ℕ, ◌+◌, ◌-◌, ◌^◌, min, le
 use Rattle.search_engine.specs.Searching.{IsLevelOf}
 use Rattle.search_engine.specs.declared.engine.Engine.{Engine}
 use Rattle.search_engine.proofs.TrailChange.{cut-assumed, cut-orderly}
-use Rattle.search_engine.proofs.SearchFacts.{Moves, search-moves, root-gives, conflict-still, current-still, lesson-search, lesson-assumed, lesson-gives}
+use Rattle.search_engine.proofs.SearchFacts.{Moves, search-moves, root-gives, conflict-still, current-still}
+use Rattle.search_engine.proofs.SearchFacts.{lesson-search, lesson-assumed, lesson-gives}
 use Rattle.search_engine.proofs.engine.Engine.learn_from.Goals as goal
 
 pub returns-then-level-eq0-clause-lesson : goal.returns-then-level-eq0-clause-lesson
 returns-then-level-eq0-clause-lesson c =
-    let at : IsLevelOf c.args.self.now.store c.args.conflict 0 = subst (λ (n : ℕ). IsLevelOf c.args.self.now.store c.args.conflict n) c.if-level-eq0.true c.conflict_level-level.ensures in
+    let at : IsLevelOf c.args.self.now.store c.args.conflict 0 =
+    subst (λ (n : ℕ). IsLevelOf c.args.self.now.store c.args.conflict n) c.if-level-eq0.true
+    c.conflict_level-level.ensures in
     (let u = c.requires.unrefuted in omega arith, root-gives c.args.self.now c.args.conflict c.requires.search at, refl)
 
 pub analyse-requires-clause-conflict : goal.analyse-requires-clause-conflict
-analyse-requires-clause-conflict c = conflict-still c.args.self.now.store c.back_to.new.self c.args.conflict c.conflict_level-level.result c.back_to.ensures.trail c.back_to.ensures.clauses c.back_to.ensures.laws c.conflict_level-level.ensures
+analyse-requires-clause-conflict c = conflict-still c.args.self.now.store c.back_to.new.self c.args.conflict
+    c.conflict_level-level.result c.back_to.ensures.trail c.back_to.ensures.clauses c.back_to.ensures.laws
+    c.conflict_level-level.ensures
 
 pub analyse-requires-clause-current : goal.analyse-requires-clause-current
-analyse-requires-clause-current c = current-still c.args.self.now.store c.back_to.new.self c.args.conflict c.conflict_level-level.result c.back_to.ensures.trail c.back_to.ensures.clauses c.back_to.ensures.laws c.conflict_level-level.ensures c.if-level-eq0.false
+analyse-requires-clause-current c = current-still c.args.self.now.store c.back_to.new.self c.args.conflict
+    c.conflict_level-level.result c.back_to.ensures.trail c.back_to.ensures.clauses c.back_to.ensures.laws
+    c.conflict_level-level.ensures c.if-level-eq0.false
 
 pub returns-in_err-analysis-clause-search : goal.returns-in_err-analysis-clause-search
 returns-in_err-analysis-clause-search c =
@@ -35,11 +42,26 @@ returns-in_err-analysis-clause-search c =
       closed = e.closed;
       base = e.base;
     } in
-    let moves : Moves e f = record { problem = refl; learnt = refl; ids = refl; moments = refl; known = refl; searches = refl; closed = refl; base = refl; clauses = c.back_to.ensures.clauses; size = c.back_to.ensures.trail.size } in
-    search-moves e f moves c.back_to.ensures.laws (cut-orderly c.conflict_level-level.result e.store.trail c.back_to.new.self.trail c.back_to.ensures.trail e.problem.vars c.requires.search.orderly) (omega arith) c.requires.search.fewer c.requires.search.once c.requires.search
+    let moves : Moves e f = record {
+      problem = refl;
+      learnt = refl;
+      ids = refl;
+      moments = refl;
+      known = refl;
+      searches =
+          refl;
+      closed = refl;
+      base = refl;
+      clauses = c.back_to.ensures.clauses;
+      size = c.back_to.ensures.trail.size;
+    } in
+    search-moves e f moves c.back_to.ensures.laws (cut-orderly c.conflict_level-level.result e.store.trail
+    c.back_to.new.self.trail c.back_to.ensures.trail e.problem.vars c.requires.search.orderly)
+    (omega arith) c.requires.search.fewer c.requires.search.once c.requires.search
 
 pub returns-in_err-analysis-clause-decisions : goal.returns-in_err-analysis-clause-decisions
-returns-in_err-analysis-clause-decisions c = cut-assumed c.conflict_level-level.result c.args.self.now.store.trail c.back_to.new.self.trail c.back_to.ensures.trail
+returns-in_err-analysis-clause-decisions c = cut-assumed c.conflict_level-level.result c.args.self.now.store.trail
+    c.back_to.new.self.trail c.back_to.ensures.trail
 
 module _ (c : goal.After-drop-analysis) where
   abbrev done : Engine
@@ -64,16 +86,38 @@ module _ (c : goal.After-drop-analysis) where
   size = c.back_to-2.ensures.trail.size ∙ c.back_to.ensures.trail.size
 
   moves : Moves c.args.self.now done
-  moves = record { problem = refl; learnt = refl; ids = refl; moments = refl; known = refl; searches = refl; closed = refl; base = refl; clauses = c.back_to-2.ensures.clauses ∙ c.back_to.ensures.clauses; size = size }
+  moves = record {
+    problem = refl;
+    learnt = refl;
+    ids = refl;
+    moments = refl;
+    known = refl;
+    searches = refl;
+    closed =
+        refl;
+    base = refl;
+    clauses = c.back_to-2.ensures.clauses ∙ c.back_to.ensures.clauses;
+    size = size;
+  }
 
   counts : c.saturating_add-self.result ≡ min (c.args.self.now.conflicts + 1) (2 ^ 64 - 1)
   counts = c.saturating_add-self.ensures
 
 pub returns-clause-search : goal.returns-clause-search
-returns-clause-search c = lesson-search c.args.self.now (done c) (moves c) c.requires.search c.back_to.new.self c.conflict_level-level.result c.args.conflict c.conflict_level-level.ensures c.if-level-eq0.false c.back_to.ensures.trail c.back_to.ensures.clauses c.back_to.ensures.laws c.in_ok-analysis.analysis c.in_ok-analysis.ensures c.back_to-2.ensures.trail c.back_to-2.ensures.laws (counts c) c.requires.unrefuted c.requires.stands (let f = c.fits-self in omega arith)
+returns-clause-search c = lesson-search c.args.self.now (done c) (moves c) c.requires.search c.back_to.new.self
+    c.conflict_level-level.result c.args.conflict c.conflict_level-level.ensures c.if-level-eq0.false
+    c.back_to.ensures.trail c.back_to.ensures.clauses c.back_to.ensures.laws c.in_ok-analysis.analysis
+    c.in_ok-analysis.ensures c.back_to-2.ensures.trail c.back_to-2.ensures.laws (counts c) c.requires.unrefuted
+    c.requires.stands (let f = c.fits-self in omega arith)
 
 pub returns-clause-decisions : goal.returns-clause-decisions
-returns-clause-decisions c = lesson-assumed c.args.self.now (done c) (moves c) c.requires.search c.back_to.new.self c.conflict_level-level.result c.args.conflict c.conflict_level-level.ensures c.if-level-eq0.false c.back_to.ensures.trail c.back_to.ensures.clauses c.back_to.ensures.laws c.in_ok-analysis.analysis c.in_ok-analysis.ensures c.back_to-2.ensures.trail c.back_to-2.ensures.laws (counts c) c.requires.unrefuted
+returns-clause-decisions c = lesson-assumed c.args.self.now (done c) (moves c) c.requires.search c.back_to.new.self
+    c.conflict_level-level.result c.args.conflict c.conflict_level-level.ensures c.if-level-eq0.false
+    c.back_to.ensures.trail c.back_to.ensures.clauses c.back_to.ensures.laws c.in_ok-analysis.analysis
+    c.in_ok-analysis.ensures c.back_to-2.ensures.trail c.back_to-2.ensures.laws (counts c) c.requires.unrefuted
 
 pub returns-clause-lesson : goal.returns-clause-lesson
-returns-clause-lesson c = lesson-gives c.args.self.now (done c) (moves c) c.requires.search c.back_to.new.self c.conflict_level-level.result c.args.conflict c.conflict_level-level.ensures c.if-level-eq0.false c.back_to.ensures.trail c.back_to.ensures.clauses c.back_to.ensures.laws c.in_ok-analysis.analysis c.in_ok-analysis.ensures c.back_to-2.ensures.trail c.back_to-2.ensures.laws (counts c) c.requires.unrefuted
+returns-clause-lesson c = lesson-gives c.args.self.now (done c) (moves c) c.requires.search c.back_to.new.self
+    c.conflict_level-level.result c.args.conflict c.conflict_level-level.ensures c.if-level-eq0.false
+    c.back_to.ensures.trail c.back_to.ensures.clauses c.back_to.ensures.laws c.in_ok-analysis.analysis
+    c.in_ok-analysis.ensures c.back_to-2.ensures.trail c.back_to-2.ensures.laws (counts c) c.requires.unrefuted

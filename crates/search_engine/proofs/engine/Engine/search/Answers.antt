@@ -13,13 +13,18 @@ loop-verdict-smaller g c =
     let f : Engine = c.step.new.self in
     let gives : AdvanceGives c.args.assume.now e f None = rw c.in-None.is at c.in_ok-verdict.ensures.answer in
     let p : ℕ = progress e.problem.vars (implied_of e.store.trail.steps) in
-    further-smaller e.problem.vars f.problem.vars (implied_of e.store.trail.steps) (implied_of f.store.trail.steps) (paid_of f) (ap (λ (q : ProblemState). q.vars) c.step.ensures.same.problem) (gives.1 p (goal-itself e.problem.vars (implied_of e.store.trail.steps) (paid_of e) c.loop-verdict.invariant.ahead))
+    further-smaller e.problem.vars f.problem.vars (implied_of e.store.trail.steps) (implied_of f.store.trail.steps)
+    (paid_of f) (ap (λ (q : ProblemState). q.vars) c.step.ensures.same.problem)
+    (gives.1 p (goal-itself e.problem.vars (implied_of e.store.trail.steps)
+    (paid_of e) c.loop-verdict.invariant.ahead))
 
 pub returns-in_err-verdict-clause-same : goal.returns-in_err-verdict-clause-same
-returns-in_err-verdict-clause-same g c = continues-trans c.args.self.now c.loop-verdict.self c.step.new.self c.loop-verdict.invariant.same c.step.ensures.same
+returns-in_err-verdict-clause-same g c = continues-trans c.args.self.now c.loop-verdict.self c.step.new.self
+    c.loop-verdict.invariant.same c.step.ensures.same
 
 pub returns-in-Some-clause-same : goal.returns-in-Some-clause-same
-returns-in-Some-clause-same g c = continues-trans c.args.self.now c.loop-verdict.self c.step.new.self c.loop-verdict.invariant.same c.step.ensures.same
+returns-in-Some-clause-same g c = continues-trans c.args.self.now c.loop-verdict.self c.step.new.self
+    c.loop-verdict.invariant.same c.step.ensures.same
 
 pub loop-verdict-preserved : goal.loop-verdict-preserved
 loop-verdict-preserved g c =
@@ -30,7 +35,8 @@ loop-verdict-preserved g c =
       search = c.step.ensures.search;
       same = continues-trans c.args.self.now e f c.loop-verdict.invariant.same c.step.ensures.same;
       unrefuted = gives.0;
-      ahead = lower-ahead f.problem.vars (implied_of f.store.trail.steps) (paid_of f) 0 (0 + 1) (omega arith) (gives.1 0 c.loop-verdict.invariant.ahead);
+      ahead = lower-ahead f.problem.vars (implied_of f.store.trail.steps) (paid_of f) 0 (0 + 1) (omega arith)
+          (gives.1 0 c.loop-verdict.invariant.ahead);
       turn = c.step.ensures.turn;
       room = c.step.ensures.room;
     }

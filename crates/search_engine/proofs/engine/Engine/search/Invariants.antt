@@ -15,4 +15,5 @@ invariant-loop-verdict g l = record {
 }
 
 abbrev pub decreases-loop-verdict : goal.decreases-loop-verdict
-decreases-loop-verdict g l = 3 ^ l.self.problem.vars - progress l.self.problem.vars (implied_of l.self.store.trail.steps)
+decreases-loop-verdict g l = 3 ^ l.self.problem.vars - progress l.self.problem.vars
+    (implied_of l.self.store.trail.steps)

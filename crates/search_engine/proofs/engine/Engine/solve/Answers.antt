@@ -12,7 +12,8 @@ pub search-verdict-requires-clause-search : goal.search-verdict-requires-clause-
 search-verdict-requires-clause-search g c =
     let e : Engine = c.begin-2.new.self in
     let b : IsBegun e true = subst (IsBegun e) c.in-Ok-true.field-0-test c.in-Ok-true.ensures.begun in
-    search-begun e c.begin-2.ensures.resting b.1 c.begin-2.ensures.same.same.conflicts b.2 (omega (arith, ap length c.begin-2.ensures.same.same.learnt, c.begin-2.ensures.same.known, c.len-self.ensures))
+    search-begun e c.begin-2.ensures.resting b.1 c.begin-2.ensures.same.same.conflicts b.2
+    (omega (arith, ap length c.begin-2.ensures.same.same.learnt, c.begin-2.ensures.same.known, c.len-self.ensures))
 
 pub search-verdict-requires-clause-ahead : goal.search-verdict-requires-clause-ahead
 search-verdict-requires-clause-ahead g c =
@@ -25,14 +26,30 @@ returns-in-Ok-true-clause-resting g c =
     let e : Engine = c.begin-2.new.self in
     let b : IsBegun e true = subst (IsBegun e) c.in-Ok-true.field-0-test c.in-Ok-true.ensures.begun in
     let s : Engine = c.search-verdict.new.self in
-    let moves : Moves s (with_store s c.back_to.new.self) = record { problem = refl; learnt = refl; ids = refl; moments = refl; known = refl; searches = refl; closed = refl; base = refl; clauses = c.back_to.ensures.clauses; size = c.back_to.ensures.trail.size } in
-    let few : s.conflicts < 2 ^ (e.problem.vars - length e.problem.retired) = few-conflicts e s c.begin-2.ensures.resting b.1 b.3 c.search-verdict.ensures.same.problem c.search-verdict.ensures.same.base c.search-verdict.ensures.search.fewer in
-    let up : 2 ^ (e.problem.vars - length e.problem.retired) ≤ 2 ^ e.problem.vars = pow-le (e.problem.vars - length e.problem.retired) e.problem.vars (omega arith) in
+    let moves : Moves s (with_store s c.back_to.new.self) = record {
+      problem = refl;
+      learnt = refl;
+      ids = refl;
+      moments = refl;
+      known = refl;
+      searches = refl;
+      closed = refl;
+      base = refl;
+      clauses = c.back_to.ensures.clauses;
+      size = c.back_to.ensures.trail.size;
+    } in
+    let few : s.conflicts < 2 ^ (e.problem.vars - length e.problem.retired) =
+    few-conflicts e s c.begin-2.ensures.resting b.1 b.3 c.search-verdict.ensures.same.problem
+    c.search-verdict.ensures.same.base c.search-verdict.ensures.search.fewer in
+    let up : 2 ^ (e.problem.vars - length e.problem.retired) ≤ 2 ^ e.problem.vars =
+    pow-le (e.problem.vars - length e.problem.retired) e.problem.vars (omega arith) in
     let fewer : s.conflicts < 2 ^ e.problem.vars = omega (arith, few, up) in
     record {
-      engine = engine-moves s (with_store s c.back_to.new.self) moves c.back_to.ensures.laws c.search-verdict.ensures.search.engine;
+      engine = engine-moves s (with_store s c.back_to.new.self) moves c.back_to.ensures.laws
+          c.search-verdict.ensures.search.engine;
       level = c.back_to.ensures.trail.level_is;
-      orderly = cut-orderly 0 s.store.trail c.back_to.new.self.trail c.back_to.ensures.trail s.problem.vars c.search-verdict.ensures.search.orderly;
+      orderly = cut-orderly 0 s.store.trail c.back_to.new.self.trail c.back_to.ensures.trail s.problem.vars
+          c.search-verdict.ensures.search.orderly;
       fewer = rw c.search-verdict.ensures.same.problem fewer;
       once = c.search-verdict.ensures.search.once;
     }
@@ -42,4 +59,5 @@ returns-in-Ok-true-clause-fewer g c =
     let e : Engine = c.begin-2.new.self in
     let b : IsBegun e true = subst (IsBegun e) c.in-Ok-true.field-0-test c.in-Ok-true.ensures.begun in
     let s : Engine = c.search-verdict.new.self in
-    rw (← c.begin-2.ensures.same.problem) (few-conflicts e s c.begin-2.ensures.resting b.1 b.3 c.search-verdict.ensures.same.problem c.search-verdict.ensures.same.base c.search-verdict.ensures.search.fewer)
+    rw (← c.begin-2.ensures.same.problem) (few-conflicts e s c.begin-2.ensures.resting b.1 b.3
+    c.search-verdict.ensures.same.problem c.search-verdict.ensures.same.base c.search-verdict.ensures.search.fewer)

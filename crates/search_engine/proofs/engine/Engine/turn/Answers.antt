@@ -9,32 +9,48 @@ use Rattle.search_engine.proofs.TurnFacts.{turn-from, settled-from, prop-ahead, 
 use Rattle.search_engine.proofs.engine.Engine.turn.Goals as goal
 
 pub advance-requires-clause-search : goal.advance-requires-clause-search
-advance-requires-clause-search c = let e : Engine = c.args.self.now in prop-search e (with_store e c.propagate.new.self) (same-but e c.propagate.new.self) c.requires.search c.propagate.ensures.same c.propagate.ensures.laws
+advance-requires-clause-search c = let e : Engine = c.args.self.now in prop-search e (with_store e c.propagate.new.self)
+    (same-but e c.propagate.new.self) c.requires.search c.propagate.ensures.same c.propagate.ensures.laws
 
 pub advance-requires-clause-turn : goal.advance-requires-clause-turn
-advance-requires-clause-turn c = let e : Engine = c.args.self.now in prop-turn e (with_store e c.propagate.new.self) (same-but e c.propagate.new.self) c.requires.search c.propagate.ensures.same c.propagate.ensures.laws c.args.assume.now c.requires.turn
+advance-requires-clause-turn c = let e : Engine = c.args.self.now in prop-turn e (with_store e c.propagate.new.self)
+    (same-but e c.propagate.new.self) c.requires.search c.propagate.ensures.same c.propagate.ensures.laws
+    c.args.assume.now c.requires.turn
 
 pub settle_within-requires-clause-search : goal.settle_within-requires-clause-search
-settle_within-requires-clause-search c = let e : Engine = c.args.self.now in prop-search e (with_store e c.propagate.new.self) (same-but e c.propagate.new.self) c.requires.search c.propagate.ensures.same c.propagate.ensures.laws
+settle_within-requires-clause-search c = let e : Engine = c.args.self.now in
+    prop-search e (with_store e c.propagate.new.self) (same-but e c.propagate.new.self) c.requires.search
+    c.propagate.ensures.same c.propagate.ensures.laws
 
 pub settle_within-requires-clause-stands : goal.settle_within-requires-clause-stands
-settle_within-requires-clause-stands c = let e : Engine = c.args.self.now in prop-stands e (with_store e c.propagate.new.self) (same-but e c.propagate.new.self) c.requires.search c.propagate.ensures.same c.propagate.ensures.laws 0 (inl c.requires.ahead)
+settle_within-requires-clause-stands c = let e : Engine = c.args.self.now in
+    prop-stands e (with_store e c.propagate.new.self) (same-but e c.propagate.new.self) c.requires.search
+    c.propagate.ensures.same c.propagate.ensures.laws 0 (inl c.requires.ahead)
 
 pub returns-in-None-clause-answer : goal.returns-in-None-clause-answer
 returns-in-None-clause-answer c =
     let e : Engine = c.args.self.now in
     let m : Engine = with_store e c.propagate.new.self in
     let f : Engine = c.advance.new.self in
-    let from = λ (x : Outcome) (h : OutcomeGives c.args.assume.now m f x). turn-from c.args.assume.now c.args.most e m f x refl (λ goal-of a. prop-ahead e m (same-but e c.propagate.new.self) c.requires.search c.propagate.ensures.same c.propagate.ensures.laws goal-of a) h in
-    IfOk-weaker c.advance.result (OutcomeGives c.args.assume.now m f) (TurnEnds c.args.assume.now c.args.most e f) from c.advance.ensures.answer
+    let from = λ (x : Outcome) (h : OutcomeGives c.args.assume.now m f x). turn-from c.args.assume.now c.args.most e m f
+    x refl (λ goal-of a. prop-ahead e m (same-but e c.propagate.new.self) c.requires.search c.propagate.ensures.same
+    c.propagate.ensures.laws goal-of a) h in
+    IfOk-weaker c.advance.result (OutcomeGives c.args.assume.now m f) (TurnEnds c.args.assume.now c.args.most e f) from
+    c.advance.ensures.answer
 
 pub returns-in-Some-clause-turn : goal.returns-in-Some-clause-turn
-returns-in-Some-clause-turn c = let e : Engine = c.args.self.now in c.settle_within.ensures.turn c.args.assume.now (prop-turn e (with_store e c.propagate.new.self) (same-but e c.propagate.new.self) c.requires.search c.propagate.ensures.same c.propagate.ensures.laws c.args.assume.now c.requires.turn)
+returns-in-Some-clause-turn c = let e : Engine = c.args.self.now in c.settle_within.ensures.turn c.args.assume.now
+    (prop-turn e (with_store e c.propagate.new.self) (same-but e c.propagate.new.self) c.requires.search
+    c.propagate.ensures.same c.propagate.ensures.laws c.args.assume.now c.requires.turn)
 
 pub returns-in-Some-clause-answer : goal.returns-in-Some-clause-answer
 returns-in-Some-clause-answer c =
     let e : Engine = c.args.self.now in
     let m : Engine = with_store e c.propagate.new.self in
     let f : Engine = c.settle_within.new.self in
-    let from = λ (x : Outcome) (h : (assume : List Lit) → TurnEnds assume c.args.most m f x). settled-from c.args.assume.now c.args.most e m f x refl (λ goal-of a. prop-ahead e m (same-but e c.propagate.new.self) c.requires.search c.propagate.ensures.same c.propagate.ensures.laws goal-of a) (h c.args.assume.now) in
-    IfOk-weaker c.settle_within.result (λ x. (assume : List Lit) → TurnEnds assume c.args.most m f x) (TurnEnds c.args.assume.now c.args.most e f) from c.settle_within.ensures.answer
+    let from = λ (x : Outcome) (h : (assume : List Lit) → TurnEnds assume c.args.most m f x).
+    settled-from c.args.assume.now c.args.most e m f x refl (λ goal-of a. prop-ahead e m
+    (same-but e c.propagate.new.self) c.requires.search c.propagate.ensures.same c.propagate.ensures.laws goal-of a)
+    (h c.args.assume.now) in
+    IfOk-weaker c.settle_within.result (λ x. (assume : List Lit) → TurnEnds assume c.args.most m f x)
+    (TurnEnds c.args.assume.now c.args.most e f) from c.settle_within.ensures.answer

@@ -1,6 +1,7 @@
 use Rattle.std.proofs.Common.{◌≤◌, sym, ap, ◌∙◌, ◌++◌, subst, length, refl}
 use Rattle.term_values.specs.FlatRows.{origin, rows_between, AreEnds}
-use Rattle.term_values.proofs.FlatLemmas.{last_read, last_within, ends_kept, ends_pushed, rows_pushed, rows_stay, front_put, on_err}
+use Rattle.term_values.proofs.FlatLemmas.{last_read, last_within, ends_kept, ends_pushed, rows_pushed, rows_stay}
+use Rattle.term_values.proofs.FlatLemmas.{front_put, on_err}
 use Rattle.term_values.proofs.rows.TupleRows.push.Goals as goal
 
 pub put_guards-requires : goal.put_guards-requires
