@@ -75,9 +75,9 @@ fn append_formula(
     Ok(())
 }
 
-/// Words behind which a `[` is read otherwise, so that a space stands before it.
+/// Words after which a `[` is read otherwise, so that a space stands before it.
 const CHAIN_WORDS: [&[u8]; 3] = [b"MIN", b"MAX", b"SUCC"];
-/// Words behind which a `(` is read otherwise.
+/// Words after which a `(` is read otherwise.
 const CALL_WORDS: [&[u8]; 1] = [b"abs"];
 
 fn is_any_of(text: &[u8], words: &[&[u8]]) -> bool
@@ -499,7 +499,7 @@ fn push_first(
     push_term(out, scope, vocab, &part.term)
 }
 
-/// Appends variables and the colon behind them, and brings their names into scope; returns how many there were before.
+/// Appends variables and the colon after them, and brings their names into scope; returns how many there were before.
 fn push_scope(
     out: &mut Vec<u8>,
     scope: &mut Vec<Name>,

@@ -236,7 +236,7 @@ fn push_constant(
 }
 
 /// The right part of an implication, under the literals of the left one, unless these settle the whole. The literals
-/// behind the first `before` are cut off.
+/// after the first `before` are cut off.
 #[cycle(sentence)]
 fn push_under<'a>(
     alloc: Global,
