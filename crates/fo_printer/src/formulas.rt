@@ -35,8 +35,7 @@ use literal_printer::pieces::push_bytes;
 use std::alloc::Global;
 
 /// Appends a closed formula. Each formula but `true`, `false` and an atom stands in parentheses, and so does each sum
-/// and
-/// product; a bound variable is written with its type, as `x[T]`. Where memory runs out, nothing is appended.
+/// and product; a bound variable is written with its type, as `x[T]`. Where memory runs out, nothing is appended.
 ///
 /// Where each number's word means that number among the names, and no token lies too deep, the text is that of one
 /// formula, which by these names is this formula. Depth alone refuses the text.

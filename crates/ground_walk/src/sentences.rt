@@ -76,8 +76,7 @@ fn push_some<'a>(
 }
 
 /// Says that one of the literals is true, or the formula is, or where the sign is false is not. The formula is asked
-/// for
-/// as one answer.
+/// for as one answer.
 fn push_leaf<'a>(
     alloc: Global,
     base: &'a GroundData<'a>,
@@ -102,8 +101,7 @@ fn push_leaf<'a>(
 }
 
 /// Says that one of the literals is true, or that two formulas have one truth, or where the sign is false that they
-/// have
-/// not.
+/// have not.
 fn push_iff<'a>(
     alloc: Global,
     base: &'a GroundData<'a>,
