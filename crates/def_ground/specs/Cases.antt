@@ -12,8 +12,7 @@ use Rattle.def_ground.specs.declared.answers.Answer.TheVariants.{Constant, Liter
 use Rattle.def_ground.specs.Answers.{GroundResult}
 
 -- under the guards the whole is true where `yes` is, and false where `no` is; a side is a list of literals, one of
--- which
--- is true, or nothing, which is true in any case
+-- which is true, or nothing, which is true in any case
 pub record Case : Type 0 where
   pub guards : List Lit
   pub yes : Option (List Lit)

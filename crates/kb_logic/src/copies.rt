@@ -61,6 +61,7 @@ impl Rule {
             symbol: self.symbol,
             args: self.args.copy(alloc)?,
             value: copy_value(alloc, &self.value)?,
+            has_body: self.has_body,
             body: self.body.copy(alloc)?,
         })
     }

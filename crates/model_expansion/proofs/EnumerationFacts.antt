@@ -374,7 +374,7 @@ module _ (assumed : List Lit) (n : ℕ) (r s t : SolveState) (ls sels : List Lit
         spent-fewer x y zero kp m f g some nothing = let z : kp ≡ 0 = nothing refl in omega (arith, f, z, some)
         spent-fewer x y (suc k) kp m f g some nothing = omega (arith, f, g, some)
 
--- the same, of what the whole call told
+-- the same, of what the whole call stated
 pub empty-halted : (halt : Halt) → IsAll (Err halt) → IsEmpty (Err halt)
 empty-halted Spent h = h
 empty-halted Memory h = tt

@@ -43,12 +43,12 @@ IsEmpty (Ok m) = (m.found ≡ []) × (m.complete ≡ true)
 IsEmpty (Err Spent) = ⊥
 IsEmpty (Err Memory) = Unit {0}
 
--- that there is no model, which a kept core shows, is told at once
+-- that there is no model, which a kept core shows, is returned at once
 pub record IsEmptyAtOnce (old new : SolveState) (result : Result Several Halt) : Type 0 where
   pub answer : IsEmpty result
   pub learnt : new.learnt ≡ old.learnt
 
--- these models were found, and exclusions of them are in force under selectors that stand behind what is assumed
+-- these models were found, and exclusions of them are in force under selectors that stand after what is assumed
 pub record Gathers (assumed : List Lit) (n : ℕ) (old new : SolveState) (ls : List Lit) (vs : List (List Bool))
     : Type 0 where
   pub problem : new.problem ≡ with_exclusions old.problem vs
@@ -71,7 +71,7 @@ IsAll (Ok complete) = complete ≡ true
 IsAll (Err Spent) = ⊥
 IsAll (Err Memory) = Unit {0}
 
--- that there is none is told at once
+-- that there is none is returned at once
 pub record IsAllAtOnce (old new : SolveState) (vs : List (List Bool)) (result : Result Bool Halt) : Type 0 where
   pub none : vs ≡ []
   pub answer : IsAll result

@@ -81,7 +81,7 @@ fn end_of(ends: &[RowEnd]) -> RowEnd
     }
 }
 
-/// Keeps the first `len` literals, and puts more behind them.
+/// Keeps the first `len` literals, and puts more after them.
 fn put_guards(
     guards: &mut SmallVec<Lit, 4>,
     len: usize,
@@ -99,7 +99,7 @@ fn put_guards(
     Ok(())
 }
 
-/// Keeps the first `len` values, and puts more behind them.
+/// Keeps the first `len` values, and puts more after them.
 fn put_values<'a>(
     values: &mut SmallVec<RowValue<'a>, 4>,
     len: usize,
