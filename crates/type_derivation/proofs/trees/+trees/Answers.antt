@@ -5,8 +5,8 @@ use Rattle.reading_stages.specs.NamedTrees as named_tree
 use Rattle.reading_stages.specs.NamedViews.{formula_view, signed_view, term_view}
 use Rattle.reading_stages.specs.declared.named.NamedFormula.{the_lemmas}
 use Rattle.type_derivation.proofs.TreeSteps.{next_item, no_item, formulas_next, formulas_left, formulas_begun}
-use Rattle.type_derivation.proofs.TreeSteps.{formulas_done, terms_next, terms_left, terms_begun, terms_done}
-use Rattle.type_derivation.proofs.TreeSteps.{summands_next, summands_left, summands_begun, summands_done}
+use Rattle.type_derivation.proofs.TreeSteps.{formulas_built, terms_next, terms_left, terms_begun, terms_built}
+use Rattle.type_derivation.proofs.TreeSteps.{summands_next, summands_left, summands_begun, summands_built}
 use Rattle.type_derivation.proofs.trees.+trees.Goals as goal
 
 pub formulas-loop-operand-preserved : goal.formulas-loop-operand-preserved
@@ -32,12 +32,13 @@ formulas-loop-operand-preserved t c =
           c.loop-operand.invariant.places c.in_ok-formula.ensures.places;
     }
 
-pub formulas-returns-clause-trees : goal.formulas-returns-clause-trees
-formulas-returns-clause-trees t c =
-    formulas_done c.loop-operand.types (map formula_view (drop c.loop-operand.operand-index c.args.named.now))
-    (map view.formula_view c.loop-operand.operands.items) _
+pub formulas-returns : goal.formulas-returns
+formulas-returns t c =
+    formulas_built c.loop-operand.types c.loop-operand.places.items
+    (map formula_view (drop c.loop-operand.operand-index c.args.named.now))
+    (map view.formula_view c.loop-operand.operands.items) _ _ _
     (ap (map formula_view) (no_item c.args.named.now c.loop-operand.operand-index c.loop-operand-test.false))
-    c.loop-operand.invariant.trees
+    c.loop-operand.invariant.trees c.loop-operand.invariant.types c.loop-operand.invariant.places
 
 pub terms-loop-operand-preserved : goal.terms-loop-operand-preserved
 terms-loop-operand-preserved t c =
@@ -62,12 +63,13 @@ terms-loop-operand-preserved t c =
           c.loop-operand.invariant.places c.in_ok-term.ensures.places;
     }
 
-pub terms-returns-clause-trees : goal.terms-returns-clause-trees
-terms-returns-clause-trees t c =
-    terms_done c.loop-operand.types (map term_view (drop c.loop-operand.operand-index c.args.named.now))
-    (map view.term_view c.loop-operand.operands.items) _
+pub terms-returns : goal.terms-returns
+terms-returns t c =
+    terms_built c.loop-operand.types c.loop-operand.places.items
+    (map term_view (drop c.loop-operand.operand-index c.args.named.now))
+    (map view.term_view c.loop-operand.operands.items) _ _ _
     (ap (map term_view) (no_item c.args.named.now c.loop-operand.operand-index c.loop-operand-test.false))
-    c.loop-operand.invariant.trees
+    c.loop-operand.invariant.trees c.loop-operand.invariant.types c.loop-operand.invariant.places
 
 pub summands-loop-operand-preserved : goal.summands-loop-operand-preserved
 summands-loop-operand-preserved t c =
@@ -107,9 +109,10 @@ summands-loop-operand-preserved t c =
           c.args.named.now)) _ next c.loop-operand.invariant.places c.in_ok-term.ensures.places;
     }
 
-pub summands-returns-clause-trees : goal.summands-returns-clause-trees
-summands-returns-clause-trees t c =
-    summands_done c.loop-operand.types (map signed_view (drop c.loop-operand.operand-index c.args.named.now))
-    (map view.signed_view c.loop-operand.operands.items) _
+pub summands-returns : goal.summands-returns
+summands-returns t c =
+    summands_built c.loop-operand.types c.loop-operand.places.items
+    (map signed_view (drop c.loop-operand.operand-index c.args.named.now))
+    (map view.signed_view c.loop-operand.operands.items) _ _ _
     (ap (map signed_view) (no_item c.args.named.now c.loop-operand.operand-index c.loop-operand-test.false))
-    c.loop-operand.invariant.trees
+    c.loop-operand.invariant.trees c.loop-operand.invariant.types c.loop-operand.invariant.places
