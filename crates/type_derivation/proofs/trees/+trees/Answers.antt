@@ -1,9 +1,10 @@
-use Rattle.std.proofs.Common.{◌≡◌, ◌∙◌, ◌++◌, ◌∷◌, [], ◌+◌, arith, rules, ap, map, drop, Bool}
+use Rattle.std.proofs.Common.{◌≡◌, ◌∙◌, ◌++◌, ◌∷◌, [], ◌+◌, arith, rules, ap, append_assoc, map, drop, Bool}
 use Rattle.std.proofs.lemmas.Grind.{common_steps}
 use Rattle.kb_logic.specs.Views as view
 use Rattle.reading_stages.specs.NamedTrees as named_tree
 use Rattle.reading_stages.specs.NamedViews.{formula_view, signed_view, term_view}
 use Rattle.reading_stages.specs.declared.named.NamedFormula.{the_lemmas}
+use Rattle.kb_logic.specs.declared.syntax.Formula.{the_lemmas as tree_lemmas}
 use Rattle.type_derivation.proofs.TreeSteps.{next_item, no_item, formulas_next, formulas_left, formulas_begun}
 use Rattle.type_derivation.proofs.TreeSteps.{formulas_built, terms_next, terms_left, terms_begun, terms_built}
 use Rattle.type_derivation.proofs.TreeSteps.{summands_next, summands_left, summands_begun, summands_built}
@@ -116,3 +117,36 @@ summands-returns t c =
     (map view.signed_view c.loop-operand.operands.items) _ _ _
     (ap (map signed_view) (no_item c.args.named.now c.loop-operand.operand-index c.loop-operand-test.false))
     c.loop-operand.invariant.trees c.loop-operand.invariant.types c.loop-operand.invariant.places
+
+pub formula-returns-in-Truth : goal.formula-returns-in-Truth
+formula-returns-in-Truth t c = search (rules, the_lemmas, tree_lemmas)
+
+pub formula-returns-in_ok-bounds-in-All : goal.formula-returns-in_ok-bounds-in-All
+formula-returns-in_ok-bounds-in-All t c = search (rules, the_lemmas, tree_lemmas)
+
+pub formula-returns-in_ok-bounds-in-Any : goal.formula-returns-in_ok-bounds-in-Any
+formula-returns-in_ok-bounds-in-Any t c = search (rules, the_lemmas, tree_lemmas)
+
+pub formula-returns-in_ok-bounds-in-Number : goal.formula-returns-in_ok-bounds-in-Number
+formula-returns-in_ok-bounds-in-Number t c = search (rules, the_lemmas, tree_lemmas)
+
+pub formula-returns-in_ok-boxed-in-Iff : goal.formula-returns-in_ok-boxed-in-Iff
+formula-returns-in_ok-boxed-in-Iff t c = search (rules, the_lemmas, tree_lemmas, append_assoc)
+
+pub formula-returns-in_ok-boxed-in-Implies : goal.formula-returns-in_ok-boxed-in-Implies
+formula-returns-in_ok-boxed-in-Implies t c = search (rules, the_lemmas, tree_lemmas, append_assoc)
+
+pub formula-returns-in_ok-boxed-in-Not : goal.formula-returns-in_ok-boxed-in-Not
+formula-returns-in_ok-boxed-in-Not t c = search (rules, the_lemmas, tree_lemmas)
+
+pub formula-returns-in_ok-formulas-in-And : goal.formula-returns-in_ok-formulas-in-And
+formula-returns-in_ok-formulas-in-And t c = search (rules, the_lemmas, tree_lemmas)
+
+pub formula-returns-in_ok-formulas-in-Or : goal.formula-returns-in_ok-formulas-in-Or
+formula-returns-in_ok-formulas-in-Or t c = search (rules, the_lemmas, tree_lemmas)
+
+pub formula-returns-in_ok-right-in-Compare : goal.formula-returns-in_ok-right-in-Compare
+formula-returns-in_ok-right-in-Compare t c = search (rules, the_lemmas, tree_lemmas, append_assoc)
+
+pub formula-returns-in_ok-terms-in-Atom : goal.formula-returns-in_ok-terms-in-Atom
+formula-returns-in_ok-terms-in-Atom t c = search (rules, the_lemmas, tree_lemmas)
