@@ -177,7 +177,7 @@ impl<'a> TupleRows<'a> {
     }
 
     /// No row, with room for so many of one guard and one value each.
-    fn with_room(alloc: Global, rows: usize) -> Result<TupleRows<'a>, Memory>
+    pub(crate) fn with_room(alloc: Global, rows: usize) -> Result<TupleRows<'a>, Memory>
         ensures { IfOk result (λ r. r ≡ []) }
     {
         let mut guards = SmallVec::new(alloc);

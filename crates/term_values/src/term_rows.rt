@@ -176,7 +176,7 @@ fn put_before<'a>(
 {
     let mut rows = Rows::new(alloc);
     push_term(alloc, base, term, env, &mut rows)?;
-    let mut longer = TupleRows::new(alloc);
+    let mut longer = TupleRows::with_room(alloc, rows.len().saturating_mul(out.len()))?;
     push_pairs(&rows, out, &mut longer)?;
     *out = longer;
     Ok(())
