@@ -1,6 +1,6 @@
 use Rattle.ground_core.specs.Problems.{AreLitsOf}
-use Rattle.def_ground.proofs.CaseSentenceLaws.{shown-clause-in}
-use Rattle.def_ground.proofs.asserted_cases.push_shown.Goals as goal
+use Rattle.def_ground.proofs.ShownCases.{shown-clause-in}
+use Rattle.def_ground.proofs.shown_cases.push_shown.Goals as goal
 
 pub add_clause-requires : goal.add_clause-requires
 add_clause-requires c =

@@ -1,6 +1,6 @@
 use Rattle.std.proofs.Common.{◌≡◌, ◌++◌, map, take}
 use Rattle.lit_core.specs.Literals.{negated}
-use Rattle.def_ground.proofs.asserted_cases.guarded_clause.Given as goal
+use Rattle.def_ground.proofs.shown_cases.guarded_clause.Given as goal
 
 -- the literals, and the guards so far
 abbrev pub invariant-loop-guard : goal.invariant-loop-guard

@@ -2,10 +2,10 @@ use Rattle.std.proofs.Common.{◌≡◌, map, drop}
 use Rattle.std.specs.List.{AllByRecursion}
 use Rattle.ground_core.specs.Problems.{AreLitsOf}
 use Rattle.def_ground.specs.Cases.{with_clauses}
-use Rattle.def_ground.specs.CaseSentences.{clauses_saying}
+use Rattle.def_ground.specs.Cases.{clauses_saying}
 use Rattle.def_ground.specs.CaseViews.{case_view}
 use Rattle.def_ground.specs.Meanings.{IsCaseOf}
-use Rattle.def_ground.proofs.asserted_cases.push_each_case.Given as goal
+use Rattle.def_ground.proofs.shown_cases.push_each_case.Given as goal
 
 -- with the clauses of the rest come all
 abbrev pub invariant-loop-case : goal.invariant-loop-case
