@@ -1,9 +1,7 @@
-use Rattle.std.proofs.Common.{◌≡◌, All, List}
-use Rattle.lit_core.specs.declared.literals.Lit.{Lit}
 use Rattle.ground_core.specs.Solving.{SolveState}
-use Rattle.model_expansion.specs.Exclusions.{retired_all}
-use Rattle.model_expansion.proofs.EnumerationFacts.{same-in-the-end, others-new, others-fit, first-fits}
-use Rattle.model_expansion.proofs.enumeration.retire_each.Goals as goal
+use Rattle.model_search.specs.Retirements.{retired_all}
+use Rattle.model_search.proofs.RetirementFacts.{same-in-the-end, others-new, others-fit, first-fits}
+use Rattle.model_search.proofs.retiring.retire_each.Goals as goal
 
 pub retire-requires : goal.retire-requires
 retire-requires g c = record {

@@ -1,8 +1,8 @@
 use Rattle.std.proofs.Common.{◌≡◌, All, length}
 use Rattle.ground_core.specs.Growing.{IsSelector}
-use Rattle.ground_core.specs.Solving.{SolveState, IsKept}
-use Rattle.model_expansion.specs.Exclusions.{AreNew, retired_all}
-use Rattle.model_expansion.proofs.enumeration.retire_each.Given as goal
+use Rattle.ground_core.specs.Solving.{IsKept}
+use Rattle.model_search.specs.Retirements.{AreNew, retired_all}
+use Rattle.model_search.proofs.retiring.retire_each.Given as goal
 
 abbrev pub invariant-loop-selector : goal.invariant-loop-selector
 invariant-loop-selector g l =
