@@ -14,7 +14,7 @@ invariant_of-result c = record {
   laws = rw (
     c.new.ensures.items,
     c.new-2.ensures.items,
-    c.new-3.ensures.items,
+    c.new-3.ensures,
     c.new-4.ensures.items,
     c.new-5.ensures.items,
     c.new-6.ensures.items,
