@@ -1,6 +1,6 @@
 //! The clause database: the literals of all clauses stand in one arena, one clause after another.
 //!
-//! A clause is told by an entry of sixteen bytes, so that four of them fill a cache line, and its literals stand
+//! A clause is described by an entry of sixteen bytes, so that four of them fill a cache line, and its literals stand
 //! side by side, in 32 bits each. A push sorts its literals in a buffer, which keeps its memory from push to push.
 ghost use Rattle.std.specs.Prelude.{◌≡◌, ℕ, ◌<◌, ◌≤◌, ◌+◌, ◌*◌, ◌^◌, ◌++◌, ◌∷◌, [], length, max, Some, None, Option};
 ghost use Rattle.std.specs.Prelude.{List, IfSome, IsOk, IsTrue, OnOk, OnErr, MatchOption, ◌↔◌, slice_get, slice_set};

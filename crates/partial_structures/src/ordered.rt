@@ -30,8 +30,7 @@ fn push_each(
 }
 
 /// Pushes what is known of the atoms whose arguments lead to the node: of one, or of a function's with each value of
-/// this
-/// type.
+/// this type.
 fn push_ending(
     s: Known<'_>,
     closed: bool,

@@ -19,7 +19,7 @@ use std::env::{self, Env};
 use std::io::{Read, Write};
 use std::process::ExitCode;
 
-/// The question that the words behind the program's name ask.
+/// The question that the words after the program's name ask.
 fn asked<R: Env + AllocGlobal>(rt: &R) -> Option<Question> {
     let mut words = Vec::new(rt.alloc());
     let Ok(args) = env::args(rt) else {

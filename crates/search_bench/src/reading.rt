@@ -75,7 +75,7 @@ fn add_lines(alloc: Global, lines: &[&[u8]], problem: &mut Problem) -> Result<Op
     Ok(None)
 }
 
-/// Adds the clauses of the lines behind the header, and answers the number of the line that is refused.
+/// Adds the clauses of the lines after the header, and answers the number of the line that is refused.
 fn add_clauses(
     alloc: Global,
     lines: &[&[u8]],
@@ -100,7 +100,7 @@ fn add_clauses(
     }
 }
 
-/// The problem that the lines behind the header write, or the number of the one that is refused.
+/// The problem that the lines after the header write, or the number of the one that is refused.
 fn read_behind(
     alloc: Global,
     header: Header,

@@ -300,8 +300,7 @@ impl Phases {
     }
 
     /// Whether the variable was true in fewer than half of the answers. Where it was in half of them the salt decides,
-    /// so
-    /// that later answers are not all the same but for a few variables, which their exclusions would have to tell
+    /// so that later answers are not all the same but for a few variables, which their exclusions would have to tell
     /// apart.
     fn is_due(&self, var: Var, salt: u64) -> bool
         ensures due { result ≡ true → times_seen self.now var.0 + times_seen self.now var.0 ≤ self.now.answers }

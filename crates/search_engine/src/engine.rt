@@ -132,7 +132,7 @@ impl Engine {
         }
     }
 
-    /// Learns from a conflict, and makes true what follows after the step back.
+    /// Learns from a conflict, and makes true what follows after the backtrack.
     ///
     /// The learnt clause is fresh where its first literal is still unassigned once the others
     /// were propagated without it.
