@@ -1,6 +1,6 @@
 //! The problem that a solver keeps.
 ghost use Rattle.std.specs.Prelude.{◌≡◌, ◌≤◌, ◌<◌, ◌+◌, ◌++◌, ◌↔◌, [], length, slice_get, slice_index_or, Contains};
-ghost use Rattle.std.specs.Prelude.{IsTrue, IfOk, OnOk, OnErr, vec_len, vec_capacity};
+ghost use Rattle.std.specs.Prelude.{◌⊎◌, IsTrue, IfOk, OnOk, OnErr, vec_len, vec_capacity};
 ghost use Rattle.ground_core.specs.Problems.{AreLitsOf, IsProblem};
 ghost use Rattle.ground_core.specs.Moments.{moment_of};
 ghost use Rattle.ground_core.specs.Growth.{empty_problem, next_lit, with_bound};
@@ -9,7 +9,7 @@ ghost use Rattle.kept_problem.specs.Joining.{CanJoin, joined_problem, with_selec
 ghost use Rattle.kept_problem.specs.Selectors.{AreSelectors};
 
 use ground_core::{AtomTable, Gate, GroundTerm, Memory, Moment, Problem, TermBound};
-use kb_logic::{ExtInt, ListOf, Literal};
+use kb_logic::{ExtInt, ListOf, LiteralList};
 use lit_core::{ClauseList, Lit, PackedLit, Var};
 use std::alloc::Global;
 use std::marker::Model;
@@ -18,7 +18,7 @@ use std::marker::Model;
 /// good.
 #[derive(Drop)]
 pub struct KeptProblem {
-    atoms: Vec<Literal>,
+    atoms: AtomTable,
     vars: u64,
     gates: Vec<Gate>,
     clauses: ClauseList,
@@ -47,17 +47,16 @@ fn is_among(lits: &[Lit], lit: Lit) -> bool
     lits.iter().any(|other| *other == lit)
 }
 
-fn copied_atoms(alloc: Global, table: &AtomTable) -> Result<Vec<Literal>, Memory>
-    ensures { IfOk result (λ atoms. atoms.items ≡ table.now) }
+/// The atoms of two problems of which one has none.
+fn joined_atoms(alloc: Global, old: &AtomTable, more: &AtomTable) -> Result<AtomTable, Memory>
+    requires { (old.now ≡ []) ⊎ (more.now ≡ []) }
+    ensures { IfOk result (λ atoms. atoms ≡ old.now ++ more.now) }
 {
-    let mut atoms = Vec::new(alloc);
-    for place in 0..table.len() {
-        match table.get(place) {
-            Some(atom) => atoms.push(atom.copy(alloc)?)?,
-            None => unreachable!(),
-        }
+    if more.len() == 0 {
+        old.copy(alloc)
+    } else {
+        more.copy(alloc)
     }
-    Ok(atoms)
 }
 
 fn copied_gate(alloc: Global, gate: &Gate) -> Result<Gate, Memory>
@@ -119,7 +118,7 @@ impl KeptProblem {
         ensures { result ≡ empty_problem [] }
     {
         KeptProblem {
-            atoms: Vec::new(alloc),
+            atoms: AtomTable::from_list(LiteralList::new(alloc)),
             vars: 0,
             gates: Vec::new(alloc),
             clauses: ClauseList::new(alloc),
@@ -262,15 +261,14 @@ impl KeptProblem {
         ensures ok { OnOk result (self.new ≡ joined_problem self.old more.now) }
         ensures err { OnErr result (self.new ≡ self.old) }
     {
-        let atoms = copied_atoms(alloc, more.atoms())?;
+        let atoms = joined_atoms(alloc, &self.atoms, more.atoms())?;
         let gates = copied_gates(alloc, more.gates())?;
         let terms = copied_terms(alloc, more.terms())?;
-        self.atoms.reserve(atoms.len())?;
         self.gates.reserve(gates.len())?;
         self.terms.reserve(terms.len())?;
         self.retired.reserve(more.vars() as usize)?;
         self.clauses.append(more.clauses())?;
-        append_reserved(&mut self.atoms, atoms);
+        self.atoms = atoms;
         append_reserved(&mut self.gates, gates);
         append_reserved(&mut self.terms, terms);
         self.vars = more.vars();

@@ -217,14 +217,16 @@ fn digits_of(atom: &Literal) -> i64 {
 }
 
 /// Whether these are the atoms, as digits.
-fn are_atoms(table: &AtomTable, digits: &[i64]) -> bool {
+fn are_atoms(atoms: &[Literal], digits: &[i64]) -> bool {
+    if atoms.len() != digits.len() {
+        return false;
+    }
     for place in 0..digits.len() {
-        match table.get(place) {
-            Some(atom) if digits_of(atom) == digits[place] => {}
-            _ => return false,
+        if digits_of(&atoms[place]) != digits[place] {
+            return false;
         }
     }
-    table.len() == digits.len()
+    true
 }
 
 fn pair(alloc: Global, first: i64) -> Result<ElemList, Memory> {
@@ -252,6 +254,8 @@ fn table_of_two(alloc: Global) -> Result<AtomTable, Memory> {
 #[test]
 fn atoms_stand_in_domain_order(rt: HostRuntime) -> Result<(), Fail> {
     let table = table_of_two(rt.alloc())?;
-    assert!(rt; are_atoms(&table, &[17, 18, 27, 28, 117, 118, 127, 128]));
+    assert!(rt; table.len() == 8);
+    let atoms = table.copy(rt.alloc())?.list(rt.alloc())?;
+    assert!(rt; are_atoms(atoms.as_slice(), &[17, 18, 27, 28, 117, 118, 127, 128]));
     Ok(())
 }
