@@ -118,7 +118,7 @@ impl Problem {
         ensures ok { OnOk result (self.new ≡ with_clause self.old clause) }
         ensures err { OnErr result (self.new ≡ self.old) }
     {
-        self.clauses.push(clause)?;
+        self.clauses.push(clause.as_slice())?;
         Ok(())
     }
 
@@ -198,7 +198,7 @@ impl Problem {
     {
         let out = self.next()?;
         let before = self.clauses.len();
-        match push_same(alloc, &mut self.clauses, out, a, b) {
+        match push_same(&mut self.clauses, out, a, b) {
             Ok(()) => {
                 self.vars = out.var.0;
                 Ok(out)
@@ -219,7 +219,7 @@ impl Problem {
     {
         let out = self.next()?;
         let clause = exclusion(alloc, out, values, self.atoms.len())?;
-        self.clauses.push(clause)?;
+        self.clauses.push(clause.as_slice())?;
         self.vars = out.var.0;
         Ok(out)
     }
@@ -254,27 +254,21 @@ fn falsified(values: &Values, var: u64) -> Lit
 }
 
 /// Adds the clause of three literals.
-fn push_three(alloc: Global, clauses: &mut ClauseList, a: Lit, b: Lit, c: Lit) -> Result<(), Memory>
+fn push_three(clauses: &mut ClauseList, a: Lit, b: Lit, c: Lit) -> Result<(), Memory>
     ensures ok { OnOk result (clauses.new ≡ clauses.old ++ (a ∷ b ∷ c ∷ []) ∷ []) }
     ensures err { OnErr result (clauses.new ≡ clauses.old) }
 {
-    clauses.push(Clause::from_slice(alloc, &[a, b, c])?)?;
+    clauses.push(&[a, b, c])?;
     Ok(())
 }
 
 /// Adds the clauses that say that a literal is true exactly where two others have one value.
-fn push_same(
-    alloc: Global,
-    clauses: &mut ClauseList,
-    out: Lit,
-    a: Lit,
-    b: Lit,
-) -> Result<(), Memory>
+fn push_same(clauses: &mut ClauseList, out: Lit, a: Lit, b: Lit) -> Result<(), Memory>
     ensures ok { OnOk result (clauses.new ≡ clauses.old ++ clauses_of_same out a b) }
     ensures front { take (length clauses.old) clauses.new ≡ clauses.old }
 {
-    push_three(alloc, clauses, out.negated(), a.negated(), b)?;
-    push_three(alloc, clauses, out.negated(), a, b.negated())?;
-    push_three(alloc, clauses, out, a, b)?;
-    push_three(alloc, clauses, out, a.negated(), b.negated())
+    push_three(clauses, out.negated(), a.negated(), b)?;
+    push_three(clauses, out.negated(), a, b.negated())?;
+    push_three(clauses, out, a, b)?;
+    push_three(clauses, out, a.negated(), b.negated())
 }

@@ -10,7 +10,7 @@ ghost use Rattle.kept_problem.specs.Selectors.{AreSelectors};
 
 use ground_core::{AtomTable, Gate, GroundTerm, Memory, Moment, Problem, TermBound};
 use kb_logic::{ExtInt, ListOf, LiteralList};
-use lit_core::{Clause, Lit, Var};
+use lit_core::{ClauseList, Lit, PackedLit, Var};
 use std::alloc::Global;
 use std::marker::Model;
 
@@ -21,7 +21,7 @@ pub struct KeptProblem {
     atoms: AtomTable,
     vars: u64,
     gates: Vec<Gate>,
-    clauses: Vec<Clause>,
+    clauses: ClauseList,
     terms: Vec<GroundTerm>,
     bounds: Vec<TermBound>,
     /// Selectors that are retired, with room for every variable, so that retiring takes no memory.
@@ -79,16 +79,6 @@ fn copied_gates(alloc: Global, gates: &[Gate]) -> Result<Vec<Gate>, Memory>
     Ok(copies)
 }
 
-fn copied_clauses(alloc: Global, clauses: &[Clause]) -> Result<Vec<Clause>, Memory>
-    ensures { IfOk result (λ copies. copies.items ≡ clauses.now) }
-{
-    let mut copies = Vec::new(alloc);
-    for clause in clauses {
-        copies.push(clause.copy(alloc)?)?;
-    }
-    Ok(copies)
-}
-
 fn copied_term(alloc: Global, term: &GroundTerm) -> Result<GroundTerm, Memory>
     ensures { IfOk result (λ copy. copy ≡ term.now) }
 {
@@ -131,7 +121,7 @@ impl KeptProblem {
             atoms: AtomTable::from_list(LiteralList::new(alloc)),
             vars: 0,
             gates: Vec::new(alloc),
-            clauses: Vec::new(alloc),
+            clauses: ClauseList::new(alloc),
             terms: Vec::new(alloc),
             bounds: Vec::new(alloc),
             retired: Vec::new(alloc),
@@ -177,11 +167,11 @@ impl KeptProblem {
     }
 
     /// The clause at a place, and no literals past the end.
-    pub fn clause(&self, place: usize) -> &[Lit]
+    pub fn clause(&self, place: usize) -> &[PackedLit]
         ensures { result.now ≡ slice_index_or self.now.clauses place [] }
     {
         match self.clauses.get(place) {
-            Some(clause) => clause.as_slice(),
+            Some(lits) => lits,
             None => &[],
         }
     }
@@ -218,9 +208,9 @@ impl KeptProblem {
     }
 
     /// Says one more clause, which may have one more variable, and makes the room to retire it.
-    pub fn add_selected(&mut self, clause: Clause) -> Result<(), Memory>
-        requires { AreLitsOf (self.old.vars + 1) clause }
-        ensures ok { OnOk result (self.new ≡ with_selected self.old clause) }
+    pub fn add_selected(&mut self, clause: &[Lit]) -> Result<(), Memory>
+        requires { AreLitsOf (self.old.vars + 1) clause.now }
+        ensures ok { OnOk result (self.new ≡ with_selected self.old clause.now) }
         ensures err { OnErr result (self.new ≡ self.old) }
     {
         let Some(vars) = self.vars.checked_add(1) else {
@@ -273,15 +263,13 @@ impl KeptProblem {
     {
         let atoms = joined_atoms(alloc, &self.atoms, more.atoms())?;
         let gates = copied_gates(alloc, more.gates())?;
-        let clauses = copied_clauses(alloc, more.clauses().as_slice())?;
         let terms = copied_terms(alloc, more.terms())?;
         self.gates.reserve(gates.len())?;
-        self.clauses.reserve(clauses.len())?;
         self.terms.reserve(terms.len())?;
         self.retired.reserve(more.vars() as usize)?;
+        self.clauses.append(more.clauses())?;
         self.atoms = atoms;
         append_reserved(&mut self.gates, gates);
-        append_reserved(&mut self.clauses, clauses);
         append_reserved(&mut self.terms, terms);
         self.vars = more.vars();
         Ok(())

@@ -15,7 +15,7 @@ invariant_of-result c = record {
     c.from_list.ensures,
     c.new.ensures,
     c.new-2.ensures.items,
-    c.new-3.ensures.items,
+    c.new-3.ensures,
     c.new-4.ensures.items,
     c.new-5.ensures.items,
     c.new-6.ensures.items,
