@@ -48,7 +48,7 @@ fn cells_read<'a>(
     ensures { IfOk result (λ read. option_map (λ cells. map cell_view cells.items) read
         ≡ stated.cells_read in_plain_list (map (λ i. item_view i.now) items.now)) }
 {
-    let mut cells = Vec::new(alloc);
+    let mut cells = Vec::with_capacity(alloc, items.len())?;
     for item in items {
         match cell_of(in_plain_list, item) {
             None => return Ok(None),

@@ -69,7 +69,7 @@ fn row_at<'a>(
 fn single_row<'a>(alloc: Global, item: &'a RawItem) -> Result<Row<'a>, Memory>
     ensures { IfOk result (λ r. row_view r ≡ said.row_of_item (item_view item.now)) }
 {
-    let mut items = Vec::new(alloc);
+    let mut items = Vec::with_capacity(alloc, 1)?;
     items.push(item)?;
     Ok(Row {
         place: place_of_item(item),

@@ -6,3 +6,4 @@ mod RangeFacts
 mod FactsOver
 mod Turns
 mod Unopposed
+mod TogetherFacts

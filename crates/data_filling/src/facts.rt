@@ -14,6 +14,7 @@ ghost use Rattle.data_entries.specs.WholeViews.{whole_view};
 ghost use Rattle.data_filling.specs.Filling.{Adds, IsFactOver, IsOpenTo, atom_with, fact_with};
 
 use crate::elements::{elems_of, number, value_of};
+use crate::together::add_together;
 use data_entries::elements::Cell;
 use data_entries::facts::{Fact, add_facts};
 use data_entries::wholes::Whole;
@@ -172,7 +173,11 @@ fn add_fact(alloc: Global, fact: &Fact<'_>, partial: &mut Partial) -> Result<(),
 }
 
 /// What some facts say.
-fn add_each(alloc: Global, facts: &[Fact<'_>], partial: &mut Partial) -> Result<(), Memory>
+pub(crate) fn add_each(
+    alloc: Global,
+    facts: &[Fact<'_>],
+    partial: &mut Partial,
+) -> Result<(), Memory>
     requires over { AllByRecursion (IsFactOver partial.old.symbols partial.old.domains) (map fact_view facts.now) }
     requires open_to { IsOpenTo partial.old (map fact_view facts.now) }
     ensures { OnOk result (Adds partial.old partial.new (map fact_view facts.now)) }
@@ -192,7 +197,7 @@ fn add_entry(alloc: Global, entry: &Entry<'_>, partial: &mut Partial) -> Result<
 {
     let mut facts = Vec::new(alloc);
     add_facts(alloc, entry, &mut facts)?;
-    add_each(alloc, &facts, partial)
+    add_together(alloc, &facts, partial)
 }
 
 /// What entries say of atoms.

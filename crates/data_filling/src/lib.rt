@@ -5,5 +5,6 @@ mod closing;
 mod elements;
 mod facts;
 mod filling;
+mod together;
 
 pub use filling::fill;

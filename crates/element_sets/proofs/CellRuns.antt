@@ -11,17 +11,15 @@ use Rattle.kb_logic.specs.declared.elements.Elem.TheVariants.{Num}
 use Rattle.kb_logic.specs.Bounds.{Interval}
 use Rattle.reading_stages.specs.Elements.{Cell, span, as_interval, do_share, integers_from, intervals_in, intervals_of}
 use Rattle.reading_stages.specs.Elements.{is_among, is_covered, is_in, one_more, size_of}
-use Rattle.structure_laws.specs.CellLaws.{CoveredIsEach, SharedIsSome}
 use Rattle.structure_laws.proofs.Bounded.{not_lower}
 use Rattle.structure_laws.proofs.Counting.{same_sizes}
 use Rattle.structure_laws.proofs.Covered.{all_kept, among_apart, covered_is_each}
-use Rattle.structure_laws.proofs.Covering.{lies_in}
 use Rattle.structure_laws.proofs.Listing.{lower_not, one_more_is, same_tests}
 use Rattle.structure_laws.proofs.Sharing.{shared_is_some}
 use Rattle.element_sets.specs.Runs.{first_reaching, is_inside, AreApart, AreApartFrom}
 use Rattle.element_sets.specs.Sets.{interval_view}
 use Rattle.element_sets.specs.declared.intervals.Interval.{Interval as RunInterval}
-use Rattle.element_sets.proofs.RunFacts.{ends, found_from, gap_after, inside_reached, kept_apart, kept_inside, reached}
+use Rattle.element_sets.proofs.RunFacts.{found_from, gap_after, inside_reached, kept_apart, kept_inside, reached}
 use Rattle.element_sets.proofs.RunFacts.{reached_later, within}
 
 -- ---- integers from one on

@@ -1,5 +1,6 @@
 pub mod Keys
-pub mod KeyTests
+pub mod Aheads
+pub mod HullFacts
 pub mod WordSets
 pub mod RunFacts
 pub mod Sorting

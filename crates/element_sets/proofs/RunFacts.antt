@@ -1,13 +1,12 @@
 -- Intervals that rise, with a gap before each next one.
-use Rattle.std.proofs.Common.{◌≡◌, ℤ, pos, ◌+ℤ◌, ◌-ℤ◌, ◌≤ℤ◌, ◌<ℤ◌, Bool, true, false, not, ◌&&◌, ◌||◌, int_lt, List, []}
+use Rattle.std.proofs.Common.{◌≡◌, ℤ, pos, ◌+ℤ◌, ◌≤ℤ◌, ◌<ℤ◌, Bool, true, false, not, ◌&&◌, ◌||◌, int_lt, List, []}
 use Rattle.std.proofs.Common.{◌∷◌, ◌++◌, Option, None, Some, if◌then◌else◌, refl, sym, ap, ◌∙◌, subst, arith, inl, inr}
-use Rattle.std.specs.Int.{int_min, int_max}
 use Rattle.std.specs.List.{list_any}
 use Rattle.std.proofs.lemmas.Bool.{true≢false, and_from, and_parts, or_cases, false_from_ne_true}
 use Rattle.std.proofs.lemmas.Int.{ints, clamps, by_lt_z}
 use Rattle.std.proofs.lemmas.List.Folds.{list_any-append}
 use Rattle.kb_logic.specs.Bounds.{Interval}
-use Rattle.reading_stages.specs.Elements.{do_meet, is_between, joined}
+use Rattle.reading_stages.specs.Elements.{do_meet, joined}
 use Rattle.structure_laws.proofs.Bounded.{not_lower}
 use Rattle.structure_laws.proofs.Listing.{lower_not, same_tests}
 use Rattle.structure_laws.proofs.Covering.{lies_in, met, KeptApart}

@@ -1,6 +1,6 @@
 -- Intervals in memory that were sorted by their least integers, and searched by halving.
-use Rattle.std.proofs.Common.{◌≡◌, ◌+◌, ◌<◌, ◌≤◌, ℕ, zero, suc, ℤ, pos, ◌≤ℤ◌, Bool, true, false, not, ◌||◌, int_lt}
-use Rattle.std.proofs.Common.{List, [], ◌∷◌, ◌++◌, Option, None, Some, option_map, cond, get_or, length, map, drop}
+use Rattle.std.proofs.Common.{◌≡◌, ◌+◌, ◌<◌, ℕ, zero, suc, ℤ, pos, ◌≤ℤ◌, Bool, true, false, not, ◌||◌, int_lt}
+use Rattle.std.proofs.Common.{List, [], ◌∷◌, ◌++◌, Some, option_map, cond, get_or, length, map, drop}
 use Rattle.std.proofs.Common.{slice_get, if◌then◌else◌, append_assoc, refl, sym, ap, ◌∙◌, subst, ◌+ℤ◌, ◌<ℤ◌, arith, inl}
 use Rattle.std.proofs.Common.{inr, Less, Equal, Greater}
 use Rattle.std.specs.List.{list_any}

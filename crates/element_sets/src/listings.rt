@@ -1,104 +1,75 @@
 //! The elements of cells one by one.
-ghost use Rattle.std.specs.Prelude.{◌≡◌, ◌<◌, ◌≤ℤ◌, ◌+ℤ◌, pos, negsuc, IsTrue, fold, map, IfOk, OnOk};
+ghost use Rattle.std.specs.Prelude.{◌≡◌, ◌+ℤ◌, ◌-ℤ◌, ◌≤ℤ◌, ◌<ℤ◌, pos, negsuc, fold, length, map, IfOk, OnOk};
 ghost use Rattle.std.specs.List.{AllByRecursion};
 ghost use Rattle.kb_logic.specs.declared.elements.Elem.TheVariants as elem;
 ghost use Rattle.reading_stages.specs.Elements as set;
 ghost use Rattle.reading_stages.specs.DataDomains.{is_in_range};
+ghost use Rattle.std.specs.Prelude.{IsTrue};
 ghost use Rattle.data_entries.specs.WholeViews.{whole_view};
 ghost use Rattle.data_entries.specs.EntryViews.{cell_view};
-ghost use Rattle.element_sets.specs.Listings.{key_view, keys_view};
-ghost use Rattle.element_sets.specs.Sets.{interval_view};
+ghost use Rattle.element_sets.specs.Listings.{HasPlaces, IsListing};
 
-use crate::intervals::Interval;
+use crate::hulls::hull_of;
+use crate::listing::Listing;
 use data_entries::elements::{Cell, Element};
 use data_entries::wholes::Whole;
-use indexmap::IndexSet;
-use kb_logic::{Elem, ElemList, Memory, Name};
+use kb_logic::{ElemList, Memory};
 use std::alloc::Global;
 
-/// An element as a key of a table.
-#[derive(Clone, Copy, PartialEq, Eq, Hash)]
-pub enum Key<'a> {
-    Word(&'a [u8]),
-    Number(i64),
-}
-
-/// An integer of a domain.
-fn small(n: Whole) -> i64
-    requires low { negsuc 999999 ≤ℤ whole_view n }
+/// The place of an integer.
+fn place_of(listing: &Listing<'_>, n: Whole) -> usize
+    requires low { listing.now.base ≤ℤ whole_view n }
     requires high { whole_view n ≤ℤ pos 1000000 }
-    ensures { result ≡ whole_view n }
+    requires base { negsuc 999999 ≤ℤ listing.now.base }
+    ensures { (listing.now.base +ℤ pos result) ≡ whole_view n }
 {
-    n.value() as i64
+    (n.value() - i128::from(listing.base)) as usize
 }
 
-fn add_key<'a>(keys: &mut IndexSet<Key<'a>>, key: Key<'a>) -> Result<(), Memory>
-    ensures { OnOk result (keys_view keys.new.keys ≡ set.with_element (keys_view keys.old.keys) (key_view key.entry)) }
-{
-    keys.insert_full(key)?;
-    Ok(())
-}
-
-/// So many integers from this one on.
-fn add_integers(keys: &mut IndexSet<Key<'_>>, first: i64, count: usize) -> Result<(), Memory>
-    requires low { negsuc 999999 ≤ℤ first }
-    requires high { (first +ℤ pos count) ≤ℤ pos 1000001 }
-    ensures { OnOk result (keys_view keys.new.keys ≡ fold set.with_element (keys_view keys.old.keys)
-        (set.integers_from first count)) }
-{
-    for k in 0..count {
-        add_key(keys, Key::Number(first + k as i64))?;
-    }
-    Ok(())
-}
-
-fn add_span(keys: &mut IndexSet<Key<'_>>, low: Whole, high: Whole) -> Result<(), Memory>
-    requires { IsTrue (is_in_range (set.span (whole_view low) (whole_view high))) }
-    ensures { OnOk result (keys_view keys.new.keys ≡ fold set.with_element (keys_view keys.old.keys)
+/// The integers of a range that is not empty.
+fn add_span(listing: &mut Listing<'_>, low: Whole, high: Whole) -> Result<(), Memory>
+    requires listing { IsListing listing.old }
+    requires range { (listing.old.base +ℤ pos (length listing.old.ahead.items)) ≤ℤ pos 1000001 }
+    requires base { negsuc 999999 ≤ℤ listing.old.base }
+    requires order { whole_view low ≤ℤ whole_view high }
+    requires first { listing.old.base ≤ℤ whole_view low }
+    requires last { whole_view high <ℤ (listing.old.base +ℤ pos (length listing.old.ahead.items)) }
+    ensures listing { OnOk result (IsListing listing.new) }
+    ensures elems { OnOk result (listing.new.elems ≡ fold set.with_element listing.old.elems
         (set.members (set.span (whole_view low) (whole_view high)))) }
+    ensures base { OnOk result (listing.new.base ≡ listing.old.base) }
+    ensures count { OnOk result (length listing.new.ahead.items ≡ length listing.old.ahead.items) }
 {
-    let size = Interval { low, high }.size();
-    if size > 0 {
-        add_integers(keys, small(low), size as usize)
-    } else {
-        Ok(())
-    }
+    let from = place_of(listing, low);
+    let last = place_of(listing, high);
+    listing.add_integers(from, last + 1)
 }
 
-fn add_cell<'a>(keys: &mut IndexSet<Key<'a>>, cell: Cell<'a>) -> Result<(), Memory>
-    requires { IsTrue (is_in_range (cell_view cell)) }
-    ensures { OnOk result (keys_view keys.new.keys ≡ fold set.with_element (keys_view keys.old.keys)
+/// The elements of a cell whose integers have places.
+fn add_cell<'a>(alloc: Global, listing: &mut Listing<'a>, cell: Cell<'a>) -> Result<(), Memory>
+    requires listing { IsListing listing.old }
+    requires range { (listing.old.base +ℤ pos (length listing.old.ahead.items)) ≤ℤ pos 1000001 }
+    requires base { negsuc 999999 ≤ℤ listing.old.base }
+    requires places { HasPlaces listing.old.base (length listing.old.ahead.items) (cell_view cell) }
+    ensures listing { OnOk result (IsListing listing.new) }
+    ensures elems { OnOk result (listing.new.elems ≡ fold set.with_element listing.old.elems
         (set.members (cell_view cell.entry))) }
+    ensures base { OnOk result (listing.new.base ≡ listing.old.base) }
+    ensures count { OnOk result (length listing.new.ahead.items ≡ length listing.old.ahead.items) }
 {
     match cell {
         Cell::One(x) => match x {
-            Element::Word(word) => add_key(keys, Key::Word(word)),
-            Element::Number(n) => add_key(keys, Key::Number(small(n))),
+            Element::Word(word) => listing.add_word(alloc, word),
+            Element::Number(n) => add_span(listing, n, n),
         },
-        Cell::Span(low, high) => add_span(keys, low, high),
+        Cell::Span(low, high) => {
+            if high.is_below(low) {
+                Ok(())
+            } else {
+                add_span(listing, low, high)
+            }
+        }
     }
-}
-
-fn elem_of(alloc: Global, key: Key<'_>) -> Result<Elem, Memory>
-    ensures { IfOk result (λ x. x ≡ key_view key.entry) }
-{
-    match key {
-        Key::Word(word) => Ok(Elem::Named(Name::new(alloc, word)?)),
-        Key::Number(n) => Ok(Elem::Num(n)),
-    }
-}
-
-fn elems_of(alloc: Global, keys: &IndexSet<Key<'_>>) -> Result<ElemList, Memory>
-    ensures { IfOk result (λ xs. xs ≡ keys_view keys.now.keys) }
-{
-    let mut elems = ElemList::new(alloc);
-    for i in 0..keys.len() {
-        let Some(key) = keys.get_index(i) else {
-            return Ok(elems);
-        };
-        elems.push(elem_of(alloc, *key)?)?;
-    }
-    Ok(elems)
 }
 
 /// The elements of some cells, each once, in the order in which they first occur.
@@ -106,9 +77,9 @@ pub fn listed(alloc: Global, cells: &[Cell<'_>]) -> Result<ElemList, Memory>
     requires { AllByRecursion (λ c. IsTrue (is_in_range (cell_view c))) cells.now }
     ensures { IfOk result (λ xs. xs ≡ set.listed (map cell_view cells.now)) }
 {
-    let mut keys = IndexSet::new(alloc);
+    let mut listing = Listing::new(alloc, hull_of(cells))?;
     for cell in cells {
-        add_cell(&mut keys, *cell)?;
+        add_cell(alloc, &mut listing, *cell)?;
     }
-    elems_of(alloc, &keys)
+    Ok(listing.elems)
 }

@@ -1,5 +1,5 @@
 -- Several models, no two of which have the same ground atoms.
-use Rattle.std.specs.Prelude.{◌≡◌, ℕ, ◌+◌, ◌≤◌, Bool, true, false, List, [], ◌∷◌, ◌++◌, map, length, All, Any, Result}
+use Rattle.std.specs.Prelude.{◌≡◌, ℕ, ◌+◌, ◌≤◌, Bool, true, false, List, [], ◌++◌, map, length, All, Any, Result}
 use Rattle.std.specs.Prelude.{Ok, Err}
 use Rattle.lit_core.specs.declared.literals.Lit.{Lit}
 use Rattle.lit_core.specs.Literals.{valuation}
@@ -13,7 +13,7 @@ use Rattle.ground_core.specs.Laws.{Differs}
 use Rattle.ground_core.specs.Growing.{IsSelector}
 use Rattle.ground_core.specs.Solving.{SolveState, HasCoreWithin}
 use Rattle.model_expansion.specs.declared.found.Several.{Several}
-use Rattle.model_expansion.specs.Exclusions.{with_exclusions, exclusion_selectors, Excludes, AreModels, AreNew}
+use Rattle.model_expansion.specs.Exclusions.{with_exclusions, exclusion_selectors, Excludes, AreModels}
 
 -- each valuation that is left has the ground atoms of one of these; or there are n of these, and another one is left
 abbrev pub EndsAt : ProblemState → List Lit → ℕ → List (List Bool) → Bool → Type 0

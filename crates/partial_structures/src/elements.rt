@@ -21,13 +21,22 @@ pub(crate) struct Elements {
     pub table: IndexSet<Typed>,
 }
 
+/// How many elements the domains have; the table is made for so many at once.
+fn element_count(domains: &[ElemList]) -> usize {
+    let mut count = 0usize;
+    for domain in domains {
+        count = count.saturating_add(domain.len());
+    }
+    count
+}
+
 impl Elements {
     /// The elements of these domains, whose labels the rows have.
     pub fn of(alloc: Global, rows: &Rows, domains: &[ElemList]) -> Result<Elements, Memory>
         ensures { IfOk result (λ s. HasElements (words_in rows.now.words) domains.now s.table.keys) }
     {
         let mut elements = Elements {
-            table: IndexSet::new(alloc),
+            table: IndexSet::with_capacity(alloc, element_count(domains))?,
         };
         for ty in 0..domains.len() {
             for elem in domains[ty].as_slice() {

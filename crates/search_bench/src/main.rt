@@ -41,7 +41,7 @@ fn main(rt: HostRuntime) -> ExitCode {
     if rt.stdin().read_to_end(&mut text).is_err() {
         return ExitCode::from(2);
     }
-    let (written, status) = match answer(rt.alloc(), question, &text) {
+    let (written, status) = match answer(rt.alloc(), question, text) {
         Ok(out) => (rt.stdout().write_all(&out), 0),
         Err(error) => (println!(rt; "{error}"), 1),
     };

@@ -132,10 +132,10 @@ fn read_lines(alloc: Global, lines: &[&[u8]]) -> Result<Problem, ReadError>
     }
 }
 
-/// The problem that the text writes.
-pub fn read_problem(alloc: Global, text: &[u8]) -> Result<Problem, ReadError>
-    ensures { IsReadAs text.now result }
+/// The problem that the text writes. The text is given up, so that its memory is free for the search.
+pub fn read_problem(alloc: Global, text: Vec<u8>) -> Result<Problem, ReadError>
+    ensures { IsReadAs text.items result }
 {
-    let lines = pieces(alloc, text, b'\n')?;
+    let lines = pieces(alloc, text.as_slice(), b'\n')?;
     read_lines(alloc, lines.as_slice())
 }

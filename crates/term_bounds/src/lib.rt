@@ -10,6 +10,7 @@ mod reasons;
 mod shares;
 mod term_values;
 
+pub use amounts::is_at_most;
 pub use breaking::broken;
 pub use laws::{bounds_by_totals, least_is_least};
 pub use term_values::value_of;

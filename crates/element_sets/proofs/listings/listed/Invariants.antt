@@ -1,11 +1,17 @@
-use Rattle.std.proofs.Common.{◌≡◌, drop, fold, map}
-use Rattle.std.specs.List.{flat_map}
+use Rattle.std.proofs.Common.{◌≡◌, ◌+ℤ◌, ◌≤ℤ◌, pos, negsuc, drop, fold, map, length}
+use Rattle.std.specs.List.{flat_map, AllByRecursion}
 use Rattle.reading_stages.specs.Elements as set
 use Rattle.data_entries.specs.EntryViews.{cell_view}
-use Rattle.element_sets.specs.Listings.{keys_view}
+use Rattle.element_sets.specs.Listings.{HasPlaces, IsListing}
 use Rattle.element_sets.proofs.listings.listed.Given as goal
 
 abbrev pub invariant-loop-cell : goal.invariant-loop-cell
-invariant-loop-cell l =
-    fold set.with_element (keys_view l.keys.keys) (flat_map set.members (map cell_view (drop l.cell-index l.cells)))
-    ≡ set.listed (map cell_view l.cells)
+invariant-loop-cell l = record {
+  listing : IsListing l.listing;
+  range : (l.listing.base +ℤ pos (length l.listing.ahead.items)) ≤ℤ pos 1000001;
+  low : negsuc 999999 ≤ℤ l.listing.base;
+  places : AllByRecursion (HasPlaces l.listing.base (length l.listing.ahead.items))
+      (map cell_view (drop l.cell-index l.cells));
+  elems : fold set.with_element l.listing.elems (flat_map set.members (map cell_view (drop l.cell-index l.cells)))
+      ≡ set.listed (map cell_view l.cells);
+}

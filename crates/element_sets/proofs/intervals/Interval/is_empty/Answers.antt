@@ -1,4 +1,4 @@
-use Rattle.std.proofs.Common.{◌≡◌, ◌==◌, ◌∙◌, ℕ, not, nat_lt, arith, rules}
+use Rattle.std.proofs.Common.{◌≡◌, ◌==◌, ℕ, not, nat_lt, arith, rules}
 use Rattle.std.proofs.lemmas.Bool.Decides.{nat_tests}
 use Rattle.reading_stages.specs.Elements.{size_of}
 use Rattle.element_sets.specs.Sets.{interval_view}

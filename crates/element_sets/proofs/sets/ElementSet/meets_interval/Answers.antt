@@ -1,5 +1,4 @@
-use Rattle.std.proofs.Common.{◌≡◌, ◌==◌, ◌∙◌, false, true, None, Some, not, sym, ap, rules}
-use Rattle.reading_stages.specs.Elements.{as_interval, size_of}
+use Rattle.std.proofs.Common.{◌≡◌, ◌∙◌, false, true, None, Some, not, sym, ap, rules}
 use Rattle.data_entries.specs.WholeViews.{whole_view}
 use Rattle.element_sets.specs.Sets.{runs_in}
 use Rattle.element_sets.proofs.CellRuns.{found_by, in_order, none_shared, shared_by, touches}

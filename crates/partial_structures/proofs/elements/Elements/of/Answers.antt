@@ -34,3 +34,9 @@ loop-ty-preserved c = λ t k.
     ∙ ap (λ xs. before || (here && list_any p xs)) c.as_slice-elem-items.ensures
     ∙ domain_more p c.args.domains.now c.loop-ty.ty t c.index-domains-ty.result c.loop-ty-test.true
     c.index-domains-ty.is
+
+pub returns : goal.returns
+returns c = λ t k.
+    c.loop-ty.invariant t k
+    ∙ ap (λ ds. list_any (stands_for (words_in c.args.rows.now.words) k) (domain_at ds t))
+    (take_all c.loop-ty.ty c.args.domains.now c.loop-ty-test.false)
