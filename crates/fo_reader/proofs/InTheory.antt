@@ -19,8 +19,7 @@ use Rattle.fo_syntax.specs.BlockSpelling.{put_option, put_each, put_sign, put_he
 use Rattle.fo_syntax.specs.BlockSpelling.{put_rule, put_theory_item, put_theory, put_term_block}
 use Rattle.fo_syntax.specs.BlockFine.{FineEach, FineHead, FineBody, FineRule, FineTheoryItem, FineTheory, FineTermBlock}
 use Rattle.block_reader.specs.BlockParts.{Anything, StuckAt}
-use Rattle.token_reader.specs.Signs.{AWord}
-use Rattle.token_reader.specs.Signs.{next, No, Is, Absent}
+use Rattle.token_reader.specs.Signs.{next, No, Is, AWord, Absent}
 use Rattle.fo_reader.specs.TheoryReads.{EndsApp, EndsSum, put_ended, FineEnded, put_clause, FineClause}
 use Rattle.block_reader.specs.BlockParts.{EndsHead}
 use Rattle.block_reader.proofs.Formats.{Format, Law, Into, at_same, not_first, sign_law, then_first, then_second}

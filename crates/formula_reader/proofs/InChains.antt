@@ -37,7 +37,8 @@ use Rattle.token_reader.proofs.Inside.{Context, fails_in}
 
 -- ---- what may follow a chain
 
-tight_ands : (closed : Bool) (m : Mode) (k : Sort) (ts : List Tok) → Tight unaries m k ts → (closed ≡ true → No t.And (next ts))
+tight_ands : (closed : Bool) (m : Mode) (k : Sort) (ts : List Tok) → Tight unaries m k ts
+    → (closed ≡ true → No t.And (next ts))
     → (closed ≡ false → Halts m k ts) → Tight ands m k ts
 tight_ands closed m k [] h n l = tt
 tight_ands closed m k (tok_at (mark (t.Arrow a)) p ∷ ts) h n l = tt
@@ -46,7 +47,8 @@ tight_ands true m k (tok_at (mark t.And) p ∷ ts) h n l = absurd (n refl refl)
 tight_ands false m k (tok_at (mark t.And) p ∷ ts) h n l = l refl
 tight_ands closed m k (tok_at s p ∷ ts) h n l = h
 
-tight_ors : (closed : Bool) (m : Mode) (k : Sort) (ts : List Tok) → Tight ands m k ts → (closed ≡ true → No t.Or (next ts))
+tight_ors : (closed : Bool) (m : Mode) (k : Sort) (ts : List Tok) → Tight ands m k ts
+    → (closed ≡ true → No t.Or (next ts))
     → (closed ≡ false → Halts m k ts) → Tight ors m k ts
 tight_ors closed m k [] h n l = tt
 tight_ors closed m k (tok_at (mark (t.Arrow a)) p ∷ ts) h n l = tt

@@ -145,7 +145,8 @@ factor_ends ps x ts us last is found h = record {
 -- ---- no factor begins
 
 factor_first : (s : Terminal) (p : ℕ) (ts : List Tok) → ((n : ℕ) → s ≡ t.Integer n → ⊥) → (s ≡ t.Word → ⊥)
-    → (s ≡ t.Open → ⊥) → (s ≡ t.Count → ⊥) → ((a : Aggregation) → s ≡ t.Aggregate a → ⊥) → No (t.Add Minus) (next (sign s p ∷ ts))
+    → (s ≡ t.Open → ⊥) → (s ≡ t.Count → ⊥) → ((a : Aggregation) → s ≡ t.Aggregate a → ⊥)
+    → No (t.Add Minus) (next (sign s p ∷ ts))
     → (m : Mode) (σ : List Frame) → run (on (want m ∷ σ)) (sign s p ∷ ts) ≡ stuck (sign s p ∷ ts)
 factor_first (t.Integer n) p ts a b c d e u m σ = absurd (a n refl)
 factor_first t.Open p ts a b c d e u m σ = absurd (c refl)
@@ -169,7 +170,8 @@ factor_none ts len h = no_factor ts len len (λ m σ. rw h refl) (rw h refl)
 pub factor_other : (ts : List Tok) (len : ℕ) (i : Item) (us : List Tok) → ts ≡ tok i ∷ us
     → ((n : ℕ) → i.terminal ≡ t.Integer n → ⊥) → (i.terminal ≡ t.Word → ⊥) → (i.terminal ≡ t.Open → ⊥)
     → (i.terminal ≡ t.Count → ⊥)
-    → ((a : Aggregation) → i.terminal ≡ t.Aggregate a → ⊥) → No (t.Add Minus) (next ts) → Fails at_factor put_factor FineFactor ts len
+    → ((a : Aggregation) → i.terminal ≡ t.Aggregate a → ⊥) → No (t.Add Minus) (next ts)
+    → Fails at_factor put_factor FineFactor ts len
     (Stuck i.place)
 factor_other ts len i us h a b c d e u =
     let is : ts ≡ sign i.terminal i.place ∷ us = h ∙ ap (λ (x : Symbol). tok_at x i.place ∷ us)

@@ -226,7 +226,8 @@ unclosed_arguments n start xs items us len e is fine z none h = lacks_fails at_e
 -- the closing bracket, or what stands in its place
 pub closed_arguments : (n : Name) (start : ℕ) (x : Term) (xs : List (ℕ × Term)) (items us : List Tok) (len : ℕ)
     (r : Result (ℕ × Bor (List Item)) ReadError)
-    → items ≡ sign t.Open start ∷ put_terms (terms_of x xs) us → FineTerms (terms_of x xs) → EndsTerm us → No t.Comma (next us)
+    → items ≡ sign t.Open start ∷ put_terms (terms_of x xs) us → FineTerms (terms_of x xs) → EndsTerm us
+    → No t.Comma (next us)
     → SignRead t.Close us len r → MoreTerms n items start x xs len r
 closed_arguments n start x xs items us len (Ok p) is fine z none read =
     (is ∙ ap (λ (v : List Tok). sign t.Open start ∷ put_terms (terms_of x xs) v) read, fine)

@@ -52,7 +52,8 @@ colon_stuck σ (tok_at (mark t.Comma) p ∷ ts) h k = elim h [ ]
 colon_stuck σ (tok_at (mark t.Colon) p ∷ ts) h k = absurd (k p ts refl)
 colon_stuck σ (tok_at s p ∷ ts) h k = refl
 
-word_ahead : (τ : List Frame) (ts : List Tok) → AWord (next ts) → run (on (vars_end ∷ τ)) ts ≡ run (on (vars_first ∷ τ)) ts
+word_ahead : (τ : List Frame) (ts : List Tok) → AWord (next ts) → run (on (vars_end ∷ τ)) ts
+    ≡ run (on (vars_first ∷ τ)) ts
 word_ahead τ [] h = elim h [ ]
 word_ahead τ (tok_at (word w) p ∷ ts) h = refl
 word_ahead τ (tok_at (mark s) p ∷ ts) h = elim h [ ]

@@ -430,7 +430,8 @@ mutual
       let s0 = only_name n0 n02 (sign t.Open p ∷ put_terms xs (sign t.Close q ∷ m))
       (sign t.Open p2 ∷ put_terms xs2 (sign t.Close q2 ∷ n)) e in let l0 = s0.0 in let r0 = s0.1 in
       let t1 : put_terms xs (sign t.Close q ∷ m) ≡ put_terms xs2 (sign t.Close q2 ∷ n) = cc in
-      let s1 = only_terms xs xs2 (sign t.Close q ∷ m) (sign t.Close q2 ∷ n) h k (tt, λ f. cc) (tt, λ f. cc) t1 in let l1 =
+      let s1 = only_terms xs xs2 (sign t.Close q ∷ m) (sign t.Close q2 ∷ n) h k (tt, λ f. cc)
+      (tt, λ f. cc) t1 in let l1 =
       s1.0 in let r1 = s1.1 in
       (cc, cc)
 

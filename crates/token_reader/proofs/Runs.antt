@@ -79,7 +79,8 @@ named_done o k (f ∷ σ) [] z = refl
 named_done o k σ (tok_at (mark t.Open) p ∷ ts) z = elim z [ ]
 named_done o k σ (tok_at s p ∷ ts) z = refl
 
-pub args_want : (o : Mode) (k : Sort) (σ : List Frame) (ts : List Tok) → No t.Close (next ts) → run (on (args_first o k ∷ σ)) ts
+pub args_want : (o : Mode) (k : Sort) (σ : List Frame) (ts : List Tok) → No t.Close (next ts)
+    → run (on (args_first o k ∷ σ)) ts
     ≡ run (on (want in_term ∷ args o k ∷ σ)) ts
 args_want o k σ [] z = refl
 args_want o k σ (tok_at (mark t.Close) p ∷ ts) z = absurd (z refl)
