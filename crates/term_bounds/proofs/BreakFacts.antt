@@ -174,7 +174,8 @@ module _ (terms : List GroundTerm) (bounds : List TermBound) (a : List (Option B
       subst (λ (k : ℕ). IfSome (slice_get terms k) (λ u. is_under tight.below (term_value v u) ≡ true)) follows.0
       (held on) in
       let here : BoundHolds v terms b = λ _. lower (slice_get terms b.term) below in
-      subst (All (BoundHolds v terms)) (sym split-here) (All-cons (BoundHolds v terms) b (drop (i + 1) bounds) here rest)
+      subst (All (BoundHolds v terms)) (sym split-here) (All-cons (BoundHolds v terms) b
+      (drop (i + 1) bounds) here rest)
     where
       lower : (o : Option GroundTerm) → IfSome o (λ u. is_under tight.below (term_value v u) ≡ true)
           → IfSome o (λ u. is_under b.below (term_value v u) ≡ true)

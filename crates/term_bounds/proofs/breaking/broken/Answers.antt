@@ -1,4 +1,5 @@
-use Rattle.std.proofs.Common.{◌≡◌, ℕ, get_or, slice_get, refl, ◌+◌, ◌-◌, ◌<◌, ◌≤◌, Some, All, drop, length, sym, ap, ◌∙◌, subst}
+use Rattle.std.proofs.Common.{◌≡◌, ℕ, get_or, slice_get, refl, ◌+◌, ◌-◌, ◌<◌, ◌≤◌, Some, All, drop, length, sym, ap}
+use Rattle.std.proofs.Common.{◌∙◌, subst}
 use Rattle.std.proofs.Common.{arith}
 use Rattle.std.proofs.lemmas.Option.{slice_get-get_or}
 use Rattle.ground_core.specs.Meaning.{BoundHolds}
@@ -34,7 +35,8 @@ loop-left-preserved c =
           ∙ ap Some (sym c.index-terms-bound.is)) v decided here (subst
           (λ (n : ℕ). All (BoundHolds v terms) (drop n bounds)) next (c.loop-left.invariant.1 v decided)),
       noted-here terms bounds a i _ (slice_get-get_or bounds i _ lt) c.loop-left.tight c.in_force-tight.result
-          (subst (λ (n : ℕ). IsNoted bounds a n c.loop-left.tight) next c.loop-left.invariant.2) c.in_force-tight.ensures,
+          (subst (λ (n : ℕ). IsNoted bounds a n c.loop-left.tight) next c.loop-left.invariant.2)
+          c.in_force-tight.ensures,
     )
 
 pub loop-left-preserved-then-follows_from : goal.loop-left-preserved-then-follows_from
@@ -51,7 +53,8 @@ loop-left-preserved-then-follows_from c =
     let noted : IsNoted bounds a (i + 1) c.loop-left.tight =
     subst (λ (n : ℕ). IsNoted bounds a n c.loop-left.tight) next c.loop-left.invariant.2 in (
       omega (arith, within),
-      λ v decided. hold-followed terms bounds a i _ at c.loop-left.tight (c.if-follows_from.ensures refl) noted v decided
+      λ v decided. hold-followed terms bounds a i _ at c.loop-left.tight (c.if-follows_from.ensures refl)
+          noted v decided
           (subst (λ (n : ℕ). All (BoundHolds v terms) (drop n bounds)) next (c.loop-left.invariant.1 v decided)),
       noted-later terms bounds a i _ at c.loop-left.tight noted,
     )

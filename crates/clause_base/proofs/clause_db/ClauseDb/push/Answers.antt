@@ -16,7 +16,8 @@ append-requires-clause-fits c = λ k d lt.
     let l : Lit = get_or c.as_slice.result.now k d in
     let sorted = subst (λ (ls : List Lit). Contains ls l) c.as_slice.ensures (All-contains_itself c.as_slice.result.now
     k d lt) in
-    let given = subst (λ (ls : List Lit). Contains ls l) c.fill.ensures.items (c.sort_once.ensures.once.from l sorted) in
+    let given = subst (λ (ls : List Lit). Contains ls l) c.fill.ensures.items
+    (c.sort_once.ensures.once.from l sorted) in
     All-contains Fits c.args.lits.now l c.requires.fits given
 
 pub invariant_of-self : goal.invariant_of-self

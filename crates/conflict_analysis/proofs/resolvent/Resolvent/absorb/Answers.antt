@@ -19,7 +19,8 @@ mark-requires-clause-made c =
     let is : m ≡ get_or xs i c.lit-item.result = c.lit.ensures.value ∙ c.lit-item.is in
     let same : xs ≡ c.requires.clause.0 = same-held s c.args.clause xs c.requires.clause.0 c.lend-lits.ensures.held
     c.requires.clause.1 in
-    let has : Contains xs m = subst (Contains xs) (sym is) (Contains-get_or xs i c.lit-item.result c.loop-lit-test.true) in
+    let has : Contains xs m = subst (Contains xs) (sym is) (Contains-get_or xs i c.lit-item.result c.loop-lit-test.true)
+    in
     subst (λ (top : ℕ). IsMadeBefore s.trail.steps top (negated m) ⊎ IsMadeAt s.trail.steps top m)
     (sym c.loop-lit.invariant.0.top) (c.requires.clause.2 m (subst (λ (ls : List Lit). Contains ls m) same has))
 
@@ -29,7 +30,8 @@ mark-requires-clause-unfixed c =
     let i : ℕ = c.loop-lit.lit-index in
     let m : Lit = c.lit.result in
     let is : m ≡ get_or xs i c.lit-item.result = c.lit.ensures.value ∙ c.lit-item.is in
-    let has : Contains xs m = subst (Contains xs) (sym is) (Contains-get_or xs i c.lit-item.result c.loop-lit-test.true) in
+    let has : Contains xs m = subst (Contains xs) (sym is) (Contains-get_or xs i c.lit-item.result c.loop-lit-test.true)
+    in
     unfixed-of c.args.store.now c.args.clause xs m c.lend-lits.ensures.laws c.lend-lits.ensures.held has
 
 pub loop-lit-preserved : goal.loop-lit-preserved

@@ -23,8 +23,10 @@ invariant_of-self-2 c =
     let atoms : c.in_ok-atoms.atoms ≡ old.atoms ++ more.atoms = cc (c.in_ok-atoms.ensures, c.atoms.ensures.value) in
     let gates : c.append_reserved.new.to.items ≡ old.gates ++ more.gates =
     cc (c.append_reserved.ensures, c.in_ok-reserve.ensures.items, c.in_ok-gates.ensures, c.gates.ensures.value) in
-    let clauses : c.append.new.self ≡ old.clauses ++ more.clauses = cc (c.in_ok-append.ensures.ok,
-    c.clauses.ensures.value) in
+    let clauses : c.append.new.self ≡ old.clauses ++ more.clauses = cc (
+      c.in_ok-append.ensures.ok,
+      c.clauses.ensures.value,
+    ) in
     let terms : c.append_reserved-2.new.to.items ≡ old.terms ++ more.terms =
     cc (c.append_reserved-2.ensures, c.in_ok-reserve-2.ensures.items, c.in_ok-terms.ensures, c.terms.ensures.value) in
     let e : c.reserve-3.new.self.items ≡ old.retired = c.in_ok-reserve-3.ensures.items in

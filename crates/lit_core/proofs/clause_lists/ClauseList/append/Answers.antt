@@ -1,4 +1,5 @@
-use Rattle.std.proofs.Common.{◌≡◌, ◌+◌, ◌≤◌, ◌<◌, ◌^◌, ◌++◌, ℕ, List, All, length, map, refl, sym, ap, ◌∙◌, arith, subst}
+use Rattle.std.proofs.Common.{◌≡◌, ◌+◌, ◌≤◌, ◌<◌, ◌^◌, ◌++◌, ℕ, List, All, length, map, refl, sym, ap, ◌∙◌, arith}
+use Rattle.std.proofs.Common.{subst}
 use Rattle.lit_core.specs.declared.literals.Lit.{Lit}
 use Rattle.lit_core.specs.declared.clause_lists.ClauseList.TheInside.{Inside}
 use Rattle.lit_core.specs.ClauseListFields.{clauses_from}
@@ -11,8 +12,17 @@ add_ends-requires-clause-small c =
     let within : All (λ e. e ≤ length a.lits.items) c.deref.result.now =
     subst (All (λ e. e ≤ length a.lits.items)) (sym c.deref.ensures.value) (all-within 0 a.ends.items
     (length a.lits.items) c.more.invariant) in
-    λ k d lt. omega (arith, within k d lt, c.if-len.false, c.if-before-len.false, c.len.ensures, c.len-else-len.ensures,
-    c.len-2.ensures, c.len-before.ensures, a.lits.ok.0)
+    λ k d lt. omega (
+      arith,
+      within k d lt,
+      c.if-len.false,
+      c.if-before-len.false,
+      c.len.ensures,
+      c.len-else-len.ensures,
+      c.len-2.ensures,
+      c.len-before.ensures,
+      a.lits.ok.0,
+    )
 
 module _ (c : goal.After-add_ends) where
   abbrev a : Inside

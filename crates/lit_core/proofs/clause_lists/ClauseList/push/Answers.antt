@@ -22,7 +22,8 @@ invariant_of-self-in-Ok c =
     let a : Inside = c.self.inside in
     let more : List Lit = c.args.lits.now in
     let end : ℕ = c.len-before.result + length more in
-    kept-same c.add_lits.new.arena.items (a.lits.items ++ more) c.push_reserved.new.self.items (a.ends.items ++ end ∷ [])
+    kept-same c.add_lits.new.arena.items (a.lits.items ++ more) c.push_reserved.new.self.items
+    (a.ends.items ++ end ∷ [])
     (lits c) (ends c) (ascends-push a.lits.items more a.ends.items end c.self.invariant (size c))
 
 pub returns-in-Ok-clause-ok : goal.returns-in-Ok-clause-ok

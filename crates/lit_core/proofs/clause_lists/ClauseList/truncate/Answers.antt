@@ -39,4 +39,10 @@ pub returns-else-len : goal.returns-else-len
 returns-else-len c =
     let size : length c.args.self.now ≡ length c.self.inside.ends.items = sym (ap length c.self.view_is)
     ∙ length-clauses c.self.inside.lits.items 0 c.self.inside.ends.items in
-    sym (take_all c.args.len c.args.self.now (omega (arith, c.if-len.false, c.len.ensures, c.self.inside.ends.ok.0, size)))
+    sym (take_all c.args.len c.args.self.now (omega (
+      arith,
+      c.if-len.false,
+      c.len.ensures,
+      c.self.inside.ends.ok.0,
+      size,
+    )))

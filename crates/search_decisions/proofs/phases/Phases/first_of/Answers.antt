@@ -26,7 +26,8 @@ loop-lit-preserved c =
           rw w.first-is (record {
             among = inr (i, x, lt, sym (get_or_default c.args.clause.now i d x lt) ∙ same, refl);
             least = All-more (NoLess x.var.0) c.args.clause.now i d lt (λ k e below is. let more =
-                c.loop-lit.invariant.least k e below is in omega (arith, less, more)) (subst (NoLess x.var.0) (sym same) (λ _. omega arith));
+                c.loop-lit.invariant.least k e below is in omega (arith, less, more))
+                (subst (NoLess x.var.0) (sym same) (λ _. omega arith));
             open_or = inr better.0;
           })
       | else-is_better w ↦
