@@ -115,7 +115,7 @@ fn item<'a>(alloc: Global, items: &'a [Item<'a>], end: usize) -> Found<'a, RawIt
 }
 
 // The commas that come in a row, counted as far as eight. A list that grows by itself takes room for four items at its
-// first one: where a structure has a hundred thousand rows of two items, that is most of the memory that is touched.
+// first one: where a structure has a hundred thousand rows of two items, that is half of the memory that is touched.
 fn commas(items: &[Item<'_>]) -> usize
     ensures { result ≤ 8 }
 {

@@ -4,3 +4,4 @@ pub mod Kept
 pub mod KeyLemmas
 pub mod OpposingFacts
 pub mod RunFacts
+pub mod Opposable

@@ -1,4 +1,5 @@
 pub mod Tables
+pub mod Signs
 pub mod Opposing
 pub mod RunViews
 pub mod SinglesViews

@@ -6,5 +6,6 @@ pub mod facts;
 pub mod keys;
 pub mod notes;
 pub mod runs;
+pub mod signs;
 pub mod singles;
 pub mod tables;

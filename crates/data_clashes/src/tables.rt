@@ -1,5 +1,5 @@
 //! Facts by hash, so that most are seen to clash with none before them without a look at these.
-ghost use Rattle.std.specs.Prelude.{◌≡◌, None, Some, List, IsTrue, IfSome, false, map, IfOk, OnOk};
+ghost use Rattle.std.specs.Prelude.{◌≡◌, ℕ, None, Option, Some, List, IsTrue, IfSome, false, map, IfOk, OnOk};
 ghost use Rattle.std.specs.Option.{option_map};
 ghost use Rattle.kb_logic.specs.declared.elements.Elem.{Elem as AnElem};
 ghost use Rattle.reading_stages.specs.Elements.{one, same_element};
@@ -98,8 +98,12 @@ fn is_clear(
 }
 
 impl<'a> Table<'a> {
-    /// A table without facts.
-    pub fn new(alloc: Global) -> Table<'a> {
+    /// A table without facts: no value stands in it, no atom is denied, and each symbol's facts are found by hash.
+    pub fn new(alloc: Global) -> Table<'a>
+        ensures values { (s : ℕ) (xs : List AnElem) → value_in result.values.entries s xs ≡ None }
+        ensures denied { (s : ℕ) (xs : List AnElem) (v : Option AnElem) → is_denied result.denied.keys s xs v ≡ false }
+        ensures wide { (s : ℕ) → is_wide result.wide.keys s ≡ false }
+    {
         Table {
             values: IndexMap::new(alloc),
             denied: IndexSet::new(alloc),

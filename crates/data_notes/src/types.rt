@@ -18,14 +18,14 @@ use reading_stages::Earliest;
 pub const ELEMENT_LIMIT: u64 = 65_536;
 
 /// Notes a type that has no list and wants one, or too many elements that occur.
-fn note_type(earliest: &mut Earliest, decl: &TypeDecl, data: &TypeData<'_>, place: usize)
-    ensures { (all : List AType) (es : List said.Said) (t : ℕ) → AreTraitsOf all es t decl.now data.now.traits
-        → IsSetOf (domain.cells_by all es t decl.now) data.now.elements → earliest.new.first
+fn note_type(earliest: &mut Earliest, decl: &TypeDecl, known: &TypeData<'_>, place: usize)
+    ensures { (all : List AType) (es : List said.Said) (t : ℕ) → AreTraitsOf all es t decl.now known.now.traits
+        → IsSetOf (domain.cells_by all es t decl.now) known.now.elements → earliest.new.first
         ≡ stage.data_noted all es earliest.old.first (stage.declared t decl.now place) }
 {
-    let is_missing = type_above(decl.parent).is_some() && !data.traits.listed;
+    let is_missing = type_above(decl.parent).is_some() && !known.traits.listed;
     earliest.note_if(is_missing, K::TypeNotGiven, place);
-    let is_large = data.traits.occurs && ELEMENT_LIMIT < data.elements.count();
+    let is_large = known.traits.occurs && ELEMENT_LIMIT < known.elements.count();
     earliest.note_if(is_large, K::TooLarge, place);
 }
 

@@ -1,23 +1,24 @@
--- The table of the elements of the types.
-use Rattle.std.proofs.Common.{◌≡◌, ℕ, zero, suc, ◌+◌, ◌<◌, List, [], ◌∷◌, ◌++◌, length, take, Bool, true, false, ◌&&◌}
-use Rattle.std.proofs.Common.{◌||◌, ◌==◌, if◌then◌else◌, Option, None, Some, is_some, refl, sym, ap, ◌∙◌, subst, get_or}
+-- The tables of the elements of the types.
+use Rattle.std.proofs.Common.{◌≡◌, ℕ, zero, suc, ◌+◌, ◌<◌, List, [], ◌∷◌, ◌++◌, length, take, Bool, true, false}
+use Rattle.std.proofs.Common.{◌||◌, if◌then◌else◌, Option, None, Some, is_some, map, slice_get, refl, sym, ap, ◌∙◌}
+use Rattle.std.proofs.Common.{subst, get_or}
 use Rattle.std.proofs.Common.{inl, inr, arith, Contains, MatchBool}
+use Rattle.std.specs.Prelude.{⊤}
 use Rattle.std.specs.List.{list_any}
-use Rattle.std.proofs.lemmas.Bool.{cases_Bool, true≢false, false_from_ne_true, and_parts, eqb-true}
-use Rattle.std.proofs.lemmas.Bool.Decides.{nat_tests}
+use Rattle.std.proofs.lemmas.Bool.{cases_Bool, true≢false, false_from_ne_true}
 use Rattle.indexmap.specs.IndexSet.{insert_key}
 use Rattle.kb_logic.specs.declared.elements.Elem.{Elem}
 use Rattle.kb_logic.specs.Structures.{domain_at}
 use Rattle.kb_logic.specs.Denotations.{Denotation, denotation_of}
 use Rattle.kb_logic.proofs.Members.{some_one, one_is_some}
 use Rattle.partial_structures.specs.Applications.{stands_in}
-use Rattle.partial_structures.specs.Elements.{is_typed, stands_for, HasElements, has_label_of, TellsElements, HasMore}
+use Rattle.partial_structures.specs.Elements.{AreLabelsOf, HasElements, TellsElements, has_label_of, labels_at}
+use Rattle.partial_structures.specs.Elements.{stands_for}
 use Rattle.partial_structures.specs.Rows.{same_label, same_optional_label, label_of, has_label}
 use Rattle.partial_structures.specs.Values.{value_label}
 use Rattle.partial_structures.specs.Words.{words_of}
-use Rattle.partial_structures.specs.declared.elements.Typed.{Typed}
 use Rattle.partial_structures.specs.declared.rows.Label.{Label}
-use Rattle.partial_structures.specs.contracts.elements.TypedPartialEq.TheImpl.{ghosts as typed_equality}
+use Rattle.partial_structures.specs.contracts.rows.LabelPartialEq.TheImpl.{ghosts as label_equality}
 use Rattle.partial_structures.proofs.Growth.{same_label_refl}
 use Rattle.partial_structures.proofs.Labelled.{typed_labelled}
 use Rattle.partial_structures.proofs.Labels.{label_test}
@@ -26,24 +27,11 @@ use Rattle.kb_logic.proofs.Has.{has_from}
 use Rattle.partial_structures.proofs.Nodes.{same_label_is}
 use Rattle.partial_structures.proofs.Walks.{stands, stands_is, value_injective, label_same}
 
-pub typed_test : (a b : Typed) → typed_equality.eq a b ≡ is_typed a.ty a.label b
-typed_test a b = ap (λ t. (a.ty == b.ty) && t) (label_test a.label b.label)
-
 -- ---- tests
 
 or_false : (a : Bool) → (a || false) ≡ a
 or_false true = refl
 or_false false = refl
-
-pub none_more : (a b : Bool) → a ≡ (a || (b && false))
-none_more true b = refl
-none_more false true = refl
-none_more false false = refl
-
-pub one_more : (a b c d : Bool) → ((a || (b && c)) || (b && d)) ≡ (a || (b && (c || d)))
-one_more true b c d = refl
-one_more false true c d = refl
-one_more false false c d = refl
 
 pub list_any-append : {X : Type 0} (p : X → Bool) (xs ys : List X) → list_any p (xs ++ ys)
     ≡ (list_any p xs || list_any p ys)
@@ -72,75 +60,88 @@ any_more p xs i x h e =
     let next : suc i ≡ i + 1 = omega arith in
     any_more_at p xs i x h e ∙ ap (λ n. list_any p (take n xs)) next
 
--- ---- one key more
+-- ---- one label more
 
--- a key that is there already adds nothing
-there_already : (t : ℕ) (l : Label) (k : Typed) (ks : List Typed) → list_any (typed_equality.eq k) ks ≡ true
-    → is_typed t l k ≡ true → list_any (is_typed t l) ks ≡ true
-there_already t l k ks h i =
-    let r = some_one (typed_equality.eq k) ks h in
-    let same = and_parts (k.ty == r.0.ty) (same_label k.label r.0.label) (sym (typed_test k r.0) ∙ r.2) in
-    let ty : k.ty ≡ r.0.ty = eqb-true k.ty r.0.ty same.0 in
-    let label : k.label ≡ r.0.label = same_label_is k.label r.0.label same.1 in
-    one_is_some (is_typed t l) ks r.0 r.1 (subst (λ n. ((t == n) && same_label l r.0.label) ≡ true) ty
-    (subst (λ m. ((t == k.ty) && same_label l m) ≡ true) label i))
+-- a label that is there already adds nothing
+there_already : (l k : Label) (ks : List Label) → list_any (label_equality.eq k) ks ≡ true → same_label l k ≡ true
+    → list_any (same_label l) ks ≡ true
+there_already l k ks h i =
+    let r = some_one (label_equality.eq k) ks h in
+    let same : k ≡ r.0 = same_label_is k r.0 (sym (label_test k r.0) ∙ r.2) in
+    one_is_some (same_label l) ks r.0 r.1 (subst (λ m. same_label l m ≡ true) same i)
 
-by_presence : (t : ℕ) (l : Label) (k : Typed) (ks : List Typed) (b : Bool) → list_any (typed_equality.eq k) ks ≡ b
-    → list_any (is_typed t l) (if b then ks else ks ++ k ∷ []) ≡ (list_any (is_typed t l) ks || is_typed t l k)
-by_presence t l k ks false h = list_any-append (is_typed t l) ks (k ∷ []) ∙ ap (λ b. list_any (is_typed t l) ks || b)
-    (or_false (is_typed t l k))
-by_presence t l k ks true h = by (is_typed t l k) refl
+by_presence : (l k : Label) (ks : List Label) (b : Bool) → list_any (label_equality.eq k) ks ≡ b
+    → list_any (same_label l) (if b then ks else ks ++ k ∷ []) ≡ (list_any (same_label l) ks || same_label l k)
+by_presence l k ks false h = list_any-append (same_label l) ks (k ∷ []) ∙ ap (λ b. list_any (same_label l) ks || b)
+    (or_false (same_label l k))
+by_presence l k ks true h = by (same_label l k) refl
   where
-    by : (b : Bool) → is_typed t l k ≡ b → list_any (is_typed t l) ks ≡ (list_any (is_typed t l) ks || b)
-    by true e = there_already t l k ks h e ∙ ap (λ c. c || true) (sym (there_already t l k ks h e))
-    by false e = sym (or_false (list_any (is_typed t l) ks))
+    by : (b : Bool) → same_label l k ≡ b → list_any (same_label l) ks ≡ (list_any (same_label l) ks || b)
+    by true e = there_already l k ks h e ∙ ap (λ c. c || true) (sym (there_already l k ks h e))
+    by false e = sym (or_false (list_any (same_label l) ks))
 
-pub added_element : (ks new : List Typed) (ty : ℕ) (label : Label) → new ≡ insert_key typed_equality.eq ks
-    (record { ty = ty; label = label }) → HasMore ks new ty (Some label)
-added_element ks new ty label e = λ t l.
-    ap (list_any (is_typed t l)) e
-    ∙ by_presence t l (record { ty = ty; label = label }) ks (list_any
-    (typed_equality.eq (record { ty = ty; label = label })) ks) refl
+pub added_label : (ks new : List Label) (k : Label) → new ≡ insert_key label_equality.eq ks k → (l : Label)
+    → list_any (same_label l) new ≡ (list_any (same_label l) ks || same_optional_label l (Some k))
+added_label ks new k e l = ap (list_any (same_label l)) e
+    ∙ by_presence l k ks (list_any (label_equality.eq k) ks) refl
 
-pub nothing_added : (ks : List Typed) (ty : ℕ) → HasMore ks ks ty None
-nothing_added ks ty = λ t l. none_more (list_any (is_typed t l) ks) (t == ty)
+pub nothing_added : (ks : List Label) (l : Label) → list_any (same_label l) ks
+    ≡ (list_any (same_label l) ks || same_optional_label l None)
+nothing_added ks l = sym (or_false (list_any (same_label l) ks))
 
--- ---- domain by domain
+pub next_label : (ws : List (List ℕ)) (xs : List Elem) (i : ℕ) (x : Elem) (old new : List Label) (label : Option Label)
+    → i < length xs → x ≡ get_or xs i x → label ≡ label_of ws x
+    → ((l : Label) → list_any (same_label l) new ≡ (list_any (same_label l) old || same_optional_label l label))
+    → AreLabelsOf ws (take i xs) old → AreLabelsOf ws (take (i + 1) xs) new
+next_label ws xs i x old new label lt is at added inv = λ l.
+    added l ∙ ap (λ b. b || same_optional_label l label) (inv l)
+    ∙ ap (λ o. list_any (stands_for ws l) (take i xs) || same_optional_label l o) at
+    ∙ any_more (stands_for ws l) xs i x lt is
 
-suc_zero : (t : ℕ) → (suc t == 0) ≡ false
-suc_zero t = grind (arith, nat_tests)
+-- ---- type by type
 
-zero_suc : (i : ℕ) → (0 == suc i) ≡ false
-zero_suc i = grind (arith, nat_tests)
+-- each table has the labels of its domain
+abbrev pub EachLabels : List (List ℕ) → List (List Elem) → List (List Label) → Type 0
+EachLabels ws [] [] = ⊤
+EachLabels ws [] (ls ∷ tables) = ⊥
+EachLabels ws (d ∷ ds) [] = ⊥
+EachLabels ws (d ∷ ds) (ls ∷ tables) = AreLabelsOf ws d ls × EachLabels ws ds tables
 
-eq_suc : (t i : ℕ) → (suc t == suc i) ≡ (t == i)
-eq_suc t i = grind (arith, nat_tests)
+pub one_table_more : (ws : List (List ℕ)) (ds : List (List Elem)) (tables : List (List Label)) (d : List Elem)
+    (ls : List Label) → EachLabels ws ds tables → AreLabelsOf ws d ls → EachLabels ws (ds ++ d ∷ []) (tables ++ ls ∷ [])
+one_table_more ws [] [] d ls h k = (k, tt)
+one_table_more ws [] (us ∷ tables) d ls h k = absurd h
+one_table_more ws (e ∷ ds) [] d ls h k = absurd h
+one_table_more ws (e ∷ ds) (us ∷ tables) d ls h k = (h.0, one_table_more ws ds tables d ls h.1 k)
 
-domain_more_at : (p : Elem → Bool) (domains : List (List Elem)) (i t : ℕ) → i < length domains
-    → (list_any p (domain_at (take i domains) t) || ((t == i) && list_any p (domain_at domains i))) ≡ list_any p
-    (domain_at (take (suc i) domains) t)
-domain_more_at p [] i t h = absurd (omega (arith, h))
-domain_more_at p (d ∷ ds) zero zero h = refl
-domain_more_at p (d ∷ ds) zero (suc t) h = ap (λ b. b && list_any p d) (suc_zero t)
-domain_more_at p (d ∷ ds) (suc i) zero h = ap (λ b. list_any p d || (b && list_any p (domain_at ds i))) (zero_suc i)
-    ∙ or_false (list_any p d)
-domain_more_at p (d ∷ ds) (suc i) (suc t) h =
-    ap (λ b. list_any p (domain_at (take i ds) t) || (b && list_any p (domain_at ds i))) (eq_suc t i)
-    ∙ domain_more_at p ds i t (omega (arith, h))
-
-pub domain_more : (p : Elem → Bool) (domains : List (List Elem)) (i t : ℕ) (d : List Elem) → i < length domains
-    → d ≡ get_or domains i d
-    → (list_any p (domain_at (take i domains) t) || ((t == i) && list_any p d)) ≡ list_any p
-    (domain_at (take (i + 1) domains) t)
-domain_more p domains i t d h e =
-    let next : suc i ≡ i + 1 = omega arith in
-    ap (λ x. list_any p (domain_at (take i domains) t) || ((t == i) && list_any p x)) (domain_is domains i d h e)
-    ∙ domain_more_at p domains i t h ∙ ap (λ n. list_any p (domain_at (take n domains) t)) next
+pub each_type : (ws : List (List ℕ)) (ds : List (List Elem)) (tables : List (List Label)) → EachLabels ws ds tables
+    → HasElements ws ds tables
+each_type ws [] [] h = λ ty l. refl
+each_type ws [] (ls ∷ tables) h = absurd h
+each_type ws (d ∷ ds) [] h = absurd h
+each_type ws (d ∷ ds) (ls ∷ tables) h = λ ty. by ty (each_type ws ds tables h.1)
   where
-    domain_is : (ds : List (List Elem)) (n : ℕ) (x : List Elem) → n < length ds → x ≡ get_or ds n x → x ≡ domain_at ds n
-    domain_is [] n x g f = absurd (omega (arith, g))
-    domain_is (y ∷ ds) zero x g f = f
-    domain_is (y ∷ ds) (suc n) x g f = domain_is ds n x (omega (arith, g)) f
+    by : (ty : ℕ) → HasElements ws ds tables
+        → AreLabelsOf ws (domain_at (d ∷ ds) ty) (labels_at (ls ∷ tables) ty)
+    by zero rest = h.0
+    by (suc ty) rest = rest ty
+
+pub labels_of_some : {X : Type 0} (labels : X → List Label) (ts : List X) (ty : ℕ) (t : X) → Some t ≡ slice_get ts ty
+    → labels_at (map labels ts) ty ≡ labels t
+labels_of_some labels [] ty t h = absurd (cc)
+labels_of_some labels (s ∷ ts) zero t h = let is : s ≡ t = cc in ap labels is
+labels_of_some labels (s ∷ ts) (suc ty) t h = labels_of_some labels ts ty t h
+
+pub labels_of_none : {X : Type 0} (labels : X → List Label) (ts : List X) (ty : ℕ) → None ≡ slice_get ts ty
+    → labels_at (map labels ts) ty ≡ []
+labels_of_none labels [] ty h = refl
+labels_of_none labels (s ∷ ts) zero h = absurd (cc)
+labels_of_none labels (s ∷ ts) (suc ty) h = labels_of_none labels ts ty h
+
+pub label_found : (k : Label) (ks : List Label) → list_any (label_equality.eq k) ks ≡ list_any (same_label k) ks
+label_found k [] = refl
+label_found k (d ∷ ks) = ap (λ b. b || list_any (label_equality.eq k) ks) (label_test k d)
+    ∙ ap (λ b. same_label k d || b) (label_found k ks)
 
 -- ---- what the table tells
 
@@ -164,7 +165,8 @@ label_stands ws d v l e = elim (cases_Bool (stands_in d v)) [
       true≢false (sym (ap (stands_in d) (sym same) ∙ stands_is d r.0 (has_from d r.0 r.1)) ∙ h)) ∙ sym h
 ]
 
-pub tells_elements : (ws : List (List ℕ)) (domains : List (List Elem)) (table : List Typed) → ws ≡ words_of domains
+pub tells_elements : (ws : List (List ℕ)) (domains : List (List Elem)) (table : List (List Label))
+    → ws ≡ words_of domains
     → HasElements ws domains table → TellsElements ws domains table
 tells_elements ws domains table words has = λ ty v. by ty v (value_label ws v) refl
   where
@@ -179,7 +181,8 @@ tells_elements ws domains table words has = λ ty v. by ty v (value_label ws v) 
         true≢false (sym some ∙ ap is_some none)))
 
 -- so it tells of each element whether it is one of a type's
-pub tells_membership : (ws : List (List ℕ)) (domains : List (List Elem)) (table : List Typed) → ws ≡ words_of domains
+pub tells_membership : (ws : List (List ℕ)) (domains : List (List Elem)) (table : List (List Label))
+    → ws ≡ words_of domains
     → HasElements ws domains table
     → (ty : ℕ) (x : Elem) → MatchBool (has_label_of table ty (label_of ws x)) (Contains (domain_at domains ty) x)
     (Contains (domain_at domains ty) x → ⊥)

@@ -1,5 +1,5 @@
--- A table of the elements of the types.
-use Rattle.std.specs.Prelude.{◌≡◌, ℕ, List, Bool, false, ◌==◌, ◌&&◌, ◌||◌, Option, None, Some}
+-- Tables of the elements of the types.
+use Rattle.std.specs.Prelude.{◌≡◌, ℕ, zero, suc, List, [], ◌∷◌, map, Bool, false, Option, None, Some}
 use Rattle.std.specs.List.{list_any}
 use Rattle.kb_logic.specs.declared.elements.Elem.{Elem}
 use Rattle.kb_logic.specs.Structures.{domain_at}
@@ -8,32 +8,36 @@ use Rattle.partial_structures.specs.Applications.{stands_in}
 use Rattle.partial_structures.specs.Rows.{same_label, same_optional_label, label_of}
 use Rattle.partial_structures.specs.Values.{value_label}
 use Rattle.partial_structures.specs.declared.rows.Label.{Label}
-use Rattle.partial_structures.specs.declared.elements.Typed.{Typed}
+use Rattle.partial_structures.specs.declared.elements.Elements.{Elements}
 
--- this is the element of type ty for which the label stands
-abbrev pub is_typed : ℕ → Label → Typed → Bool
-is_typed ty l k = (ty == k.ty) && same_label l k.label
+-- the labels of a type; there are none past the last type
+abbrev pub labels_at : List (List Label) → ℕ → List Label
+labels_at [] ty = []
+labels_at (ls ∷ tables) zero = ls
+labels_at (ls ∷ tables) (suc ty) = labels_at tables ty
 
 -- the label stands for the element
 abbrev pub stands_for : List (List ℕ) → Label → Elem → Bool
 stands_for ws l x = same_optional_label l (label_of ws x)
 
--- the table has the labels of the elements of each type
-abbrev pub HasElements : List (List ℕ) → List (List Elem) → List Typed → Type 0
-HasElements ws domains table = (ty : ℕ) (l : Label) → list_any (is_typed ty l) table ≡ list_any (stands_for ws l)
-    (domain_at domains ty)
+-- the labels are those of the elements
+abbrev pub AreLabelsOf : List (List ℕ) → List Elem → List Label → Type 0
+AreLabelsOf ws xs ls = (l : Label) → list_any (same_label l) ls ≡ list_any (stands_for ws l) xs
+
+-- the tables have the labels of the elements of each type
+abbrev pub HasElements : List (List ℕ) → List (List Elem) → List (List Label) → Type 0
+HasElements ws domains tables = (ty : ℕ) → AreLabelsOf ws (domain_at domains ty) (labels_at tables ty)
 
 -- the type has an element with the label
-abbrev pub has_label_of : List Typed → ℕ → Option Label → Bool
-has_label_of table ty None = false
-has_label_of table ty (Some l) = list_any (is_typed ty l) table
+abbrev pub has_label_of : List (List Label) → ℕ → Option Label → Bool
+has_label_of tables ty None = false
+has_label_of tables ty (Some l) = list_any (same_label l) (labels_at tables ty)
 
--- the table tells of each value whether it is an element of a type
-abbrev pub TellsElements : List (List ℕ) → List (List Elem) → List Typed → Type 0
-TellsElements ws domains table = (ty : ℕ) (v : Denotation) → has_label_of table ty (value_label ws v) ≡ stands_in
+-- the tables tell of each value whether it is an element of a type
+abbrev pub TellsElements : List (List ℕ) → List (List Elem) → List (List Label) → Type 0
+TellsElements ws domains tables = (ty : ℕ) (v : Denotation) → has_label_of tables ty (value_label ws v) ≡ stands_in
     (domain_at domains ty) v
 
--- the table has one more element of a type, where it has a label
-abbrev pub HasMore : List Typed → List Typed → ℕ → Option Label → Type 0
-HasMore old new ty label = (t : ℕ) (l : Label) → list_any (is_typed t l) new
-    ≡ (list_any (is_typed t l) old || ((t == ty) && same_optional_label l label))
+-- the labels that are kept, type by type
+abbrev pub labels_in : Elements → List (List Label)
+labels_in e = map (λ t. t.keys) e.tables.items

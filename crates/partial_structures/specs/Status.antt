@@ -7,7 +7,7 @@ use Rattle.std.specs.List.{AllByRecursion}
 use Rattle.kb_logic.specs.Structures.{IsDistinct}
 use Rattle.partial_structures.specs.Rows.{status_of}
 use Rattle.partial_structures.specs.Flags.{is_closed}
-use Rattle.partial_structures.specs.Elements.{HasElements}
+use Rattle.partial_structures.specs.Elements.{labels_in, HasElements}
 use Rattle.partial_structures.specs.declared.truths.Truth.{Truth}
 use Rattle.partial_structures.specs.declared.truths.Truth.TheVariants as truth
 use Rattle.partial_structures.specs.declared.partial.Partial.TheInside.{Inside}
@@ -41,5 +41,5 @@ pub record IsSound (p : Inside) : Type 0 where
   pub distinct : AllByRecursion IsDistinct p.domains
   pub flags : length p.closed.items ≡ length p.symbols
   pub words : words_in p.rows.words ≡ words_of p.domains
-  pub elements : HasElements (words_in p.rows.words) p.domains p.elements.table.keys
+  pub elements : HasElements (words_in p.rows.words) p.domains (labels_in p.elements)
   pub counted : p.count ≡ length (filter (λ a. is_yes (status p a)) (atoms_over p.symbols p.domains))

@@ -1,5 +1,5 @@
 //! What is known, as it is lent to an evaluator.
-ghost use Rattle.partial_structures.specs.Elements.{TellsElements};
+ghost use Rattle.partial_structures.specs.Elements.{labels_in, TellsElements};
 ghost use Rattle.partial_structures.specs.Words.{words_in};
 
 use crate::elements::Elements;
@@ -14,5 +14,5 @@ pub struct Known<'a> {
     pub(crate) closed: &'a [bool],
     pub(crate) rows: &'a Rows,
     pub(crate) elements: &'a Elements,
-    ghost hashed: { TellsElements (words_in rows.now.words) domains.now elements.now.table.keys },
+    ghost hashed: { TellsElements (words_in rows.now.words) domains.now (labels_in elements.now) },
 }

@@ -60,8 +60,8 @@ pub(crate) fn push_beyond(
     out: &mut Vec<Truth>,
 ) -> Result<(), Memory>
     ensures { OnOk result (out.new.items ≡ out.old.items ++
-        beyond (words_in s.entry.rows.now.words) s.entry.rows.now.nodes.entries closed s.entry.domains.now node types.now
-        value) }
+        beyond (words_in s.entry.rows.now.words) s.entry.rows.now.nodes.entries closed s.entry.domains.now node
+        types.now value) }
 {
     match types.split_first() {
         None => push_ending(s, closed, node, value, out),

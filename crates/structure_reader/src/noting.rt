@@ -5,7 +5,7 @@ ghost use Rattle.data_entries.specs.SaidViews.{said_view};
 ghost use Rattle.data_domains.specs.TypeSets.{AreTypesOf};
 ghost use Rattle.type_derivation.specs.TypedViews.{typed_view};
 
-use data_clashes::facts::facts_in;
+use data_clashes::facts::clashing_facts;
 use data_clashes::notes::note_clashes;
 use data_domains::types::TypeData;
 use data_entries::written::Entry;
@@ -33,7 +33,7 @@ pub fn note_all<'a>(
     let decls = kb.vocab.types.as_slice();
     note_types(earliest, decls, types, kb.places.types.as_slice());
     note_entries(alloc, earliest, types, entries)?;
-    let facts = facts_in(alloc, entries)?;
+    let facts = clashing_facts(alloc, entries)?;
     note_clashes(alloc, earliest, &facts)?;
     note_arguments(alloc, earliest, types, kb, theory)?;
     Ok(())

@@ -189,3 +189,9 @@ module _ (terms : List GroundTerm) (bounds : List TermBound) (a : List (Option B
   hold-followed None h noted v decided rest = let no : false ≡ true = h.1 in cc
   hold-followed (Some t) h noted v decided rest = hold-implied t h.0 noted.0 noted.1 v
       decided rest
+
+-- a term is below a number exactly where the sum of its parts is below the bound on it
+pub below-by-total : (t : GroundTerm) (below : ExtInt) (k : AggKind) (bound : ExtInt) (ps : List Part) (v : ℕ → Bool)
+    → k ≡ t.kind → bound ≡ lessened t.base below → ps ≡ t.parts → is_under (total_bound k bound)
+    (number (total v k bound ps)) ≡ is_under below (term_value v t)
+below-by-total t below k bound ps v kind is parts = rw (kind, is, parts) (sym (bounds-by-totals v t below))

@@ -1,4 +1,4 @@
-use Rattle.std.proofs.Common.{◌∙◌, drop, fold, map, sym, ap, subst, take, Contains, List}
+use Rattle.std.proofs.Common.{◌∙◌, fold, sym, ap, subst, take, Contains, List}
 use Rattle.std.proofs.lemmas.List.{drop_all}
 use Rattle.reading_stages.specs.DataFacts as stated
 use Rattle.reading_stages.specs.DataStage as stage

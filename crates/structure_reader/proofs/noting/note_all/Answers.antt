@@ -21,7 +21,8 @@ returns c =
     c.as_slice-decls.ensures
     ∙ ap (λ ps. fold note old (stage.uses_of_types types ps)) c.as_slice.ensures in
     let clashing = c.in_ok-note_clashes.ensures types es ∙ ap (λ fs. fold note c.note_entries.new.earliest.first
-    (stage.uses_of_facts [] fs)) (ap (map fact_view) c.deref.ensures.value ∙ c.in_ok-facts.ensures) in
+    (stage.uses_of_facts [] fs)) (ap (map fact_view) c.deref.ensures.value)
+    ∙ c.in_ok-facts.ensures types es c.note_entries.new.earliest.first in
     four_lists note (stage.uses_of_types types kb.places.types) (stage.uses_of_entries [] es)
     (stage.uses_of_facts [] (facts_in es)) (stage.argument_uses (typed_view kb) c.args.theory)
     old c.note_types.new.earliest.first c.note_entries.new.earliest.first c.note_clashes.new.earliest.first _

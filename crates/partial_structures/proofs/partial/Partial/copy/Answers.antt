@@ -1,7 +1,7 @@
 use Rattle.std.proofs.Common.{◌≡◌, ◌∙◌, length, subst, sym, ap, rules, refl}
 use Rattle.std.specs.List.{AllByRecursion}
 use Rattle.kb_logic.specs.Structures.{IsDistinct}
-use Rattle.partial_structures.specs.Elements.{HasElements}
+use Rattle.partial_structures.specs.Elements.{labels_in, HasElements}
 use Rattle.partial_structures.specs.Words.{words_in, words_of}
 use Rattle.partial_structures.specs.Status.{known_atoms}
 use Rattle.partial_structures.proofs.Views.{copied, same_count}
@@ -26,7 +26,7 @@ invariant_of-result c =
       distinct = subst (AllByRecursion IsDistinct) (sym domains) c.self.invariant.distinct;
       flags = ap length closed ∙ c.self.invariant.flags ∙ ap length (sym c.in_ok-copy.ensures);
       words = words ∙ c.self.invariant.words ∙ ap words_of (sym domains);
-      elements = subst (λ ds. HasElements (words_in c.in_ok-rows.rows.words) ds c.in_ok-elements.elements.table.keys)
+      elements = subst (λ ds. HasElements (words_in c.in_ok-rows.rows.words) ds (labels_in c.in_ok-elements.elements))
           (c.as_slice.ensures ∙ sym c.domains.view_is) c.in_ok-elements.ensures;
       counted = same_count p q (known_atoms p) c.self.invariant.counted
           (copied p q (known_atoms p) refl c.in_ok-copy.ensures domains closed words c.in_ok-rows.ensures.nodes) refl;

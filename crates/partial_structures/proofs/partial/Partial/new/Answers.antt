@@ -1,6 +1,6 @@
 use Rattle.std.proofs.Common.{◌≡◌, ◌∙◌, length, sym, ap, subst, rules}
 use Rattle.partial_structures.specs.KnownAtoms.{KnownAtoms, nothing_known}
-use Rattle.partial_structures.specs.Elements.{HasElements}
+use Rattle.partial_structures.specs.Elements.{labels_in, HasElements}
 use Rattle.partial_structures.specs.Words.{words_in}
 use Rattle.partial_structures.proofs.Views.{nothing, all_down}
 use Rattle.partial_structures.proofs.partial.Partial.new.Goals as goal
@@ -23,7 +23,7 @@ invariant_of-result c =
       distinct = c.requires.distinct;
       flags = flags;
       words = ap words_in c.new-rows.ensures.words ∙ c.in_ok-words.ensures;
-      elements = subst (λ ds. HasElements (words_in c.new-rows.result.words) ds c.in_ok-elements.elements.table.keys)
+      elements = subst (λ ds. HasElements (words_in c.new-rows.result.words) ds (labels_in c.in_ok-elements.elements))
           c.as_slice.ensures c.in_ok-elements.ensures;
       counted = sym (ap (λ (k : KnownAtoms). length k.true_atoms) none);
     }

@@ -1,6 +1,6 @@
 use Rattle.std.proofs.Common.{length, ◌≡◌, ◌∙◌, IfSome, refl, sym, ap, subst, All, IsTrue}
 use Rattle.partial_structures.specs.KnownAtoms.{IsAtomOver, atom_of, with_false}
-use Rattle.partial_structures.specs.Elements.{HasElements}
+use Rattle.partial_structures.specs.Elements.{labels_in, HasElements}
 use Rattle.partial_structures.specs.Words.{words_in}
 use Rattle.partial_structures.specs.Flags.{is_closed}
 use Rattle.partial_structures.specs.Rows.{has_label, status_of}
@@ -100,7 +100,7 @@ invariant_of-self c =
       distinct = c.self.invariant.distinct;
       flags = c.self.invariant.flags;
       words = ap words_in c.make_false.ensures.words ∙ c.self.invariant.words;
-      elements = subst (λ ws. HasElements ws p.domains p.elements.table.keys)
+      elements = subst (λ ws. HasElements ws p.domains (labels_in p.elements))
           (sym (ap words_in c.make_false.ensures.words)) c.self.invariant.elements;
       counted = n;
     }

@@ -1,6 +1,6 @@
 use Rattle.std.proofs.Common.{◌≡◌, ◌∙◌, refl, sym, ap, subst, All, IsTrue}
 use Rattle.partial_structures.specs.KnownAtoms.{IsAtomOver, atom_of, value_at}
-use Rattle.partial_structures.specs.Elements.{HasElements}
+use Rattle.partial_structures.specs.Elements.{labels_in, HasElements}
 use Rattle.partial_structures.specs.Words.{words_in}
 use Rattle.partial_structures.specs.Flags.{is_closed}
 use Rattle.partial_structures.specs.Rows.{has_label, status_of}
@@ -51,7 +51,7 @@ invariant_of-self c =
       distinct = c.self.invariant.distinct;
       flags = c.self.invariant.flags;
       words = ap words_in c.make_true.ensures.words ∙ c.self.invariant.words;
-      elements = subst (λ ws. HasElements ws p.domains p.elements.table.keys)
+      elements = subst (λ ws. HasElements ws p.domains (labels_in p.elements))
           (sym (ap words_in c.make_true.ensures.words)) c.self.invariant.elements;
       counted = true_count p q (atom_of a) c.status.result c.in-Some.count c.self.invariant.distinct
           c.self.invariant.counted over after is (not_no c.status.result c.status.result refl c.in_default.not-No)
@@ -73,7 +73,7 @@ invariant_of-self-in-Err c =
       distinct = c.self.invariant.distinct;
       flags = c.self.invariant.flags;
       words = ap words_in c.make_true.ensures.words ∙ c.self.invariant.words;
-      elements = subst (λ ws. HasElements ws p.domains p.elements.table.keys)
+      elements = subst (λ ws. HasElements ws p.domains (labels_in p.elements))
           (sym (ap words_in c.make_true.ensures.words)) c.self.invariant.elements;
       counted = same_count p q (known_atoms p) c.self.invariant.counted after refl;
     }

@@ -1,9 +1,0 @@
-use Rattle.std.proofs.Common.{◌≡◌, ◌++◌, drop, map}
-use Rattle.reading_stages.specs.DataFacts.{facts_in}
-use Rattle.data_entries.specs.EntryViews.{fact_view}
-use Rattle.data_entries.specs.SaidViews.{said_view}
-use Rattle.data_clashes.proofs.facts.facts_in.Given as goal
-
-abbrev pub invariant-loop-entry : goal.invariant-loop-entry
-invariant-loop-entry l = map fact_view l.facts.items ++ facts_in (map said_view (drop l.entry-index l.entries))
-    ≡ facts_in (map said_view l.entries)
