@@ -87,7 +87,7 @@ tuple-length domains types args among = at types args (has_from (tuples_of domai
         let b = map_has (λ t. a.0 ∷ t) (tuples_of domains tys) xs a.2 in
         sym (ap length b.2) ∙ ap suc (at tys b.0 b.1)
 
--- the item and what is behind it
+-- the item and what is after it
 split-at : {X : Type 0} (xs ys : List X) (k : ℕ) (y d : X) → drop k xs ≡ y ∷ ys → (k < length xs) × (get_or xs k d ≡ y)
     × (drop (k + 1) xs ≡ ys)
 split-at {X = X} xs ys k y d e =

@@ -43,8 +43,7 @@ pub record Meaning : Type 0 where
   pub known : KnownAtoms
 
 -- the stages of the text and of blocks accept: the bytes are these blocks, and of them the theory and the structure
--- with
--- these numbers are chosen
+-- with these numbers are chosen
 pub record HasBlocks (c : Choice) (bytes : List ℕ) (blocks : List Block) (theory structure : ℕ) : Type 0 where
   pub read : KbReads bytes (Ok blocks)
   pub picked : IsPicked (file_of blocks (length bytes)) c.theory c.structure theory structure

@@ -11,7 +11,8 @@ use Rattle.fo_syntax.specs.BlockTrees.{Names, names, Positions, positions, Decla
 use Rattle.fo_syntax.specs.BlockTrees.{Vocabulary, vocabulary}
 use Rattle.fo_syntax.specs.BlockSpelling.{put_names, put_positions, from, put_separated, put_declaration}
 use Rattle.fo_syntax.specs.BlockSpelling.{put_vocabulary}
-use Rattle.block_reader.specs.BlockParts.{next, Anything, No, Is, AWord, EndsDeclaration, EndsArguments}
+use Rattle.block_reader.specs.BlockParts.{Anything, EndsDeclaration, EndsArguments}
+use Rattle.token_reader.specs.Signs.{next, No, Is, AWord}
 use Rattle.block_reader.proofs.Formats.{Format, Into, Apart, sign_format, name_format}
 use Rattle.block_reader.proofs.Plain.{Law, sign_law, name_law, then, then_law, option, Optional, option_law, each}
 use Rattle.block_reader.proofs.Plain.{Several, each_law, either, Alternatives, either_law, Same, same_law, behind}

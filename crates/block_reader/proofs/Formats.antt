@@ -10,7 +10,8 @@ use Rattle.fo_syntax.specs.Spelling.{put_name}
 use Rattle.fo_syntax.specs.Texts.{SameHead}
 use Rattle.fo_syntax.specs.BlockSpelling.{put_option, put_each, put_sign}
 use Rattle.fo_syntax.specs.BlockFine.{FineEach}
-use Rattle.block_reader.specs.BlockParts.{next, Anything, No, AWord, StuckIn, StuckAt}
+use Rattle.block_reader.specs.BlockParts.{Anything, StuckIn, StuckAt}
+use Rattle.token_reader.specs.Signs.{next, No, AWord}
 
 pub record Format (A : Type 0) : Type 1 where
   pub put : A → List Tok → List Tok

@@ -12,12 +12,12 @@ use Rattle.fo_syntax.specs.Trees.{Name, name}
 use Rattle.fo_syntax.specs.Texts.{SameHead}
 use Rattle.token_reader.specs.Binders.{Whole}
 use Rattle.fo_syntax.specs.Spelling.{put_name}
-use Rattle.token_reader.specs.Parts.{NoInteger, NoMinus}
+use Rattle.token_reader.specs.Parts.{NoInteger}
 use Rattle.fo_syntax.specs.BlockTrees.{Header, Element, named, number, below_zero, RowItem, RowItems, Row, Mark, Entry}
 use Rattle.fo_syntax.specs.BlockSpelling.{put_option, put_each, put_behind, put_header, put_element, put_item}
 use Rattle.fo_syntax.specs.BlockSpelling.{put_items, put_to, put_row, put_value, put_entry, put_structure}
-use Rattle.block_reader.specs.BlockParts.{next, No, Is, AWord, Anything, NoTruth, EndsItem, EndsItems, EndsRow, StuckAt}
-use Rattle.block_reader.specs.BlockParts.{Absent}
+use Rattle.block_reader.specs.BlockParts.{Anything, NoTruth, EndsItem, EndsItems, EndsRow, StuckAt}
+use Rattle.token_reader.specs.Signs.{next, No, Is, AWord, Absent}
 use Rattle.block_reader.specs.BlockReads.{put_marked, put_row_tails}
 use Rattle.block_reader.proofs.Formats.{Here, at_same, same_next, comes_too, each_cut, each_next, push_put, whole_each}
 use Rattle.block_reader.proofs.Plain.{fully, not_first, sign_law, name_law, then_first, then_second, option_law}
@@ -84,14 +84,16 @@ no_header_brace w place n q m us vs ws xs len e is colon read h =
 
 -- ---- elements
 
-no_element_here : (ts : List Tok) → NoMinus ts → NoInteger ts → (AWord (next ts) → ⊥) → BeginsElement (next ts) → ⊥
+no_element_here : (ts : List Tok) → No (t.Add Minus) (next ts) → NoInteger ts → (AWord (next ts) → ⊥)
+    → BeginsElement (next ts) → ⊥
 no_element_here [] m i w h = h
 no_element_here (tok_at (word x) p ∷ ts) m i w h = w tt
 no_element_here (tok_at (mark (t.Integer n)) p ∷ ts) m i w h = i
-no_element_here (tok_at (mark (t.Add Minus)) p ∷ ts) m i w h = m
+no_element_here (tok_at (mark (t.Add Minus)) p ∷ ts) m i w h = m refl
 no_element_here (tok_at (mark s) p ∷ ts) m i w h = h
 
-pub no_element : (ts : List Tok) (len : ℕ) (e : ReadError) → NoMinus ts → NoInteger ts → Absent AWord ts len e
+pub no_element : (ts : List Tok) (len : ℕ) (e : ReadError) → No (t.Add Minus) (next ts) → NoInteger ts
+    → Absent AWord ts len e
     → StuckAt put_element Whole Anything ts len e
 no_element ts len e m i h = absent_at AWord element_format ts ts len e
     (λ none. not_first element_law ts (no_element_here ts m i none)) h

@@ -14,8 +14,9 @@ use Rattle.fo_syntax.specs.Spelling.{put_name}
 use Rattle.fo_syntax.specs.BlockTrees.{names, Positions, Declaration}
 use Rattle.fo_syntax.specs.BlockSpelling.{put_option, put_each, put_behind, put_positions, from, separator}
 use Rattle.fo_syntax.specs.BlockSpelling.{put_separated, put_declaration, put_vocabulary}
-use Rattle.block_reader.specs.BlockParts.{next, No, Is, AWord, Anything, NoSeparator, EndsDeclaration, EndsArguments}
-use Rattle.block_reader.specs.BlockParts.{StuckAt, Absent}
+use Rattle.block_reader.specs.BlockParts.{Anything, NoSeparator, EndsDeclaration, EndsArguments}
+use Rattle.token_reader.specs.Signs.{next, No, Is, AWord, Absent}
+use Rattle.block_reader.specs.BlockParts.{StuckAt}
 use Rattle.block_reader.specs.BlockReads.{IsFrom}
 use Rattle.block_reader.proofs.Formats.{Here, at_same, name_format, narrowed, same_next}
 use Rattle.block_reader.proofs.Plain.{not_first, sign_law, name_law, then_first, then_second, option_law, option_in}

@@ -3,7 +3,7 @@ use Rattle.std.proofs.Common.{◌≡◌, ℕ, List, Option, Some, None, ◌⊎�
 use Rattle.fo_syntax.specs.declared.terminal.Terminal.{Terminal}
 use Rattle.fo_syntax.specs.Terminals.{Symbol, Tok, mark}
 use Rattle.fo_syntax.specs.BlockSpelling.{put_each, put_sign}
-use Rattle.block_reader.specs.BlockParts.{next, No}
+use Rattle.token_reader.specs.Signs.{next, No}
 use Rattle.block_reader.proofs.Formats as f
 use Rattle.block_reader.proofs.Formats.{Format, Into, Apart, Here, sign_format, name_format}
 

@@ -15,7 +15,8 @@ use Rattle.fo_syntax.specs.BlockTrees.{structure}
 use Rattle.fo_syntax.specs.BlockSpelling.{put_option, put_each, put_sign, put_header, put_element, put_item, put_items}
 use Rattle.fo_syntax.specs.BlockSpelling.{put_row, put_rows, put_value, put_equal, put_entry, put_structure}
 use Rattle.block_reader.specs.BlockReads.{put_row_tails}
-use Rattle.block_reader.specs.BlockParts.{next, Anything, No, Is, AWord, EndsRow, EndsItems, EndsItem}
+use Rattle.block_reader.specs.BlockParts.{Anything, EndsRow, EndsItems, EndsItem}
+use Rattle.token_reader.specs.Signs.{next, No, Is, AWord}
 use Rattle.block_reader.proofs.Formats.{Format, Into, Apart, sign_format, name_format, narrowed}
 use Rattle.block_reader.proofs.Plain.{Law, sign_law, name_law, then, then_law, option, Optional, option_law, each}
 use Rattle.block_reader.proofs.Plain.{Several, each_law, either, Alternatives, either_law, Same, same_law, narrowed_law}

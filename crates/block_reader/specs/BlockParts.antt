@@ -1,49 +1,18 @@
 -- What a reader of a part of a block returns.
-use Rattle.std.specs.Prelude.{◌≡◌, ℕ, List, [], ◌∷◌, ◌++◌, Option, Some, None, ◌⊎◌, Result, Ok, Err}
+use Rattle.std.specs.Prelude.{◌≡◌, ℕ, List, ◌++◌, Option, Some, ◌⊎◌, Result, Ok, Err}
 use Rattle.std.specs.Borrow.{Bor}
 use Rattle.fo_syntax.specs.declared.stops.ReadError.{ReadError}
 use Rattle.fo_syntax.specs.declared.stops.ReadError.TheVariants.{Memory, Stuck}
-use Rattle.fo_syntax.specs.declared.terminal.Terminal.{Terminal}
 use Rattle.fo_syntax.specs.declared.terminal.Terminal.TheVariants as t
 use Rattle.fo_syntax.specs.declared.terminal.Outer.TheVariants as o
 use Rattle.fo_syntax.specs.declared.terminal.Item.{Item}
-use Rattle.fo_syntax.specs.Terminals.{Symbol, Tok, tok_at, mark, word, toks, place_of}
+use Rattle.fo_syntax.specs.Terminals.{Symbol, Tok, mark, toks, place_of}
 use Rattle.fo_syntax.specs.Texts.{SameHead}
-
--- the next token without its place, if one comes
-abbrev pub next : List Tok → Option Symbol
-next [] = None
-next (tok_at s p ∷ ts) = Some s
+use Rattle.token_reader.specs.Signs.{next, No, Is, AWord, Absent}
 
 -- anything may come
 abbrev pub Anything : Option Symbol → Type 0
 Anything s = Unit {0}
-
--- this sign does not come
-abbrev pub No : Terminal → Option Symbol → Type 0
-No t s = s ≡ Some (mark t) → ⊥
-
--- this sign comes
-abbrev pub Is : Terminal → Option Symbol → Type 0
-Is t s = s ≡ Some (mark t)
-
--- a sign that blocks have outside their formulas and terms
-abbrev pub IsSign : Terminal → Type 0
-IsSign t.Comma = Unit {0}
-IsSign t.Colon = Unit {0}
-IsSign t.Open = Unit {0}
-IsSign t.Close = Unit {0}
-IsSign t.OpenBrace = Unit {0}
-IsSign t.CloseBrace = Unit {0}
-IsSign t.Every = Unit {0}
-IsSign (t.Compare c) = Unit {0}
-IsSign (t.Outer w) = Unit {0}
-IsSign _ = ⊥
-
--- a word comes
-abbrev pub AWord : Option Symbol → Type 0
-AWord (Some (word w)) = Unit {0}
-AWord _ = ⊥
 
 -- what may follow a declaration: another one, or the closing brace
 abbrev pub EndsDeclaration : Option Symbol → Type 0
@@ -105,18 +74,7 @@ PartRead view put Fine Next ts len (Ok p) = (ts ≡ put (view p.0) (toks p.1.now
     × Next (next (toks p.1.now))
 PartRead view put Fine Next ts len (Err e) = StuckAt put Fine Next ts len e
 
--- refused, since what comes is not as P says
-abbrev pub Absent : (Option Symbol → Type 0) → List Tok → ℕ → ReadError → Type 0
-Absent P ts len Memory = Unit {0}
-Absent P ts len (Stuck place) = (P (next ts) → ⊥) × (place ≡ place_of ts len)
-
 -- what comes is as P says, or it is refused
 abbrev pub EndsAs : (Option Symbol → Type 0) → List Tok → ℕ → Result (Unit {0}) ReadError → Type 0
 EndsAs P ts len (Ok u) = P (next ts)
 EndsAs P ts len (Err e) = Absent P ts len e
-
--- a token that P allows, and those after it; or it is refused
-abbrev pub TokenRead : {R A : Type 0} → (R → A) → (A → List Tok → List Tok) → (Option Symbol → Type 0) → List Tok → ℕ
-    → Result (R × Bor (List Item)) ReadError → Type 0
-TokenRead view put P ts len (Ok p) = ts ≡ put (view p.0) (toks p.1.now)
-TokenRead view put P ts len (Err e) = Absent P ts len e

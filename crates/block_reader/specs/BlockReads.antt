@@ -43,18 +43,9 @@ use Rattle.fo_syntax.specs.BlockView.{name_tail_view, positions_view, element_ta
 use Rattle.fo_syntax.specs.BlockView.{vocabulary_view, header_view, element_view, item_view, item_tail_view, items_view}
 use Rattle.fo_syntax.specs.BlockView.{to_view, row_view, row_tail_view, rows_view, mark_view, value_view, entry_view}
 use Rattle.fo_syntax.specs.BlockView.{structure_view}
-use Rattle.block_reader.specs.BlockParts.{PartRead, TokenRead, Anything, No, Is, AWord, EndsDeclaration, EndsArguments}
+use Rattle.block_reader.specs.BlockParts.{PartRead, Anything, EndsDeclaration, EndsArguments}
+use Rattle.token_reader.specs.Signs.{TokenRead, No, Is, itself}
 use Rattle.block_reader.specs.BlockParts.{EndsItem, EndsItems, EndsRow}
-
--- a place, or what it stands for
-abbrev pub itself : {A : Type 0} → A → A
-itself a = a
-
-abbrev pub SignRead : Terminal → List Tok → ℕ → Result (ℕ × Bor (List Item)) ReadError → Type 0
-SignRead t = TokenRead itself (put_sign t) (Is t)
-
-abbrev pub WordRead : List Tok → ℕ → Result (RawName × Bor (List Item)) ReadError → Type 0
-WordRead = TokenRead name_view put_name AWord
 
 -- ---- vocabularies
 

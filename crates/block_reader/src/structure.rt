@@ -6,7 +6,8 @@ ghost use Rattle.fo_syntax.specs.View.{name_view};
 ghost use Rattle.fo_syntax.specs.BlockView.{mark_of, mark_view, rows_view};
 ghost use Rattle.fo_syntax.specs.Terminals.{toks};
 ghost use Rattle.fo_syntax.specs.Terminals as terminals;
-ghost use Rattle.block_reader.specs.BlockParts.{next, Is, EndsItem, EndsRow, NoTruth};
+ghost use Rattle.block_reader.specs.BlockParts.{EndsItem, EndsRow, NoTruth};
+ghost use Rattle.token_reader.specs.Signs.{next, Is};
 ghost use Rattle.block_reader.specs.BlockReads.{HeaderRead, ElementRead, ItemRead, ItemTailsRead, ItemsRead, ArrowRead};
 ghost use Rattle.block_reader.specs.BlockReads.{RowRead, RowTailsRead, RowsRead, ValueRead, EqualRead, EntryRead};
 ghost use Rattle.block_reader.specs.BlockReads.{EntriesRead, StructureRead, table_of};
@@ -16,15 +17,16 @@ ghost use Rattle.token_reader.specs.Parts.{NoInteger};
 ghost use Rattle.fo_syntax.specs.declared.terminal.Adding.TheVariants.{Minus};
 ghost use Rattle.fo_syntax.specs.declared.terminal.Comparison.TheVariants as cmp;
 
-use crate::block_cursor::{closes, item_ends, name, row_ends, sign, skip};
+use crate::block_ends::{closes, item_ends, row_ends};
 use fo_syntax::{
-    Comparison, Item, Outer, RawElement, RawEntry, RawHeader, RawInteger, RawItem, RawItemTail,
-    RawItems, RawMark, RawName, RawRange, RawRow, RawRowTail, RawRows, RawStructure, RawTable,
-    RawTo, RawValue, ReadError, Terminal,
+    Adding, Comparison, Item, Outer, RawElement, RawEntry, RawHeader, RawInteger, RawItem,
+    RawItemTail, RawItems, RawMark, RawName, RawRange, RawRow, RawRowTail, RawRows, RawStructure,
+    RawTable, RawTo, RawValue, ReadError, Terminal,
 };
 use sqlite_items::Items;
 use std::alloc::Global;
-use token_reader::cursor::{Found, after_minus, place_at, split, start};
+use token_reader::binders::word;
+use token_reader::cursor::{Found, place_at, sign, skip, split, start};
 
 /// How a theory, a structure or a term begins, after its word.
 pub fn header<'a>(
@@ -37,9 +39,9 @@ pub fn header<'a>(
     ensures reads { HeaderRead with (terminals.sign (t.Outer with) place ∷ toks items.now) end result }
     ensures shorter { IfOk result (λ p. length p.1.now ≤ length items.now) }
 {
-    let (called, rest) = name(alloc, items, end)?;
+    let (called, rest) = word(alloc, items, end)?;
     let (colon, rest) = sign(Terminal::Colon, rest, end)?;
-    let (of, rest) = name(alloc, rest, end)?;
+    let (of, rest) = word(alloc, rest, end)?;
     let (open, last) = sign(Terminal::OpenBrace, rest, end)?;
     let found = RawHeader {
         place,
@@ -86,13 +88,13 @@ fn element<'a>(alloc: Global, items: &'a [Item<'a>], end: usize) -> Found<'a, Ra
     ensures reads { ElementRead (toks items.now) end result }
     ensures shorter { IfOk result (λ p. length p.1.now < length items.now) }
 {
-    if let Some((place, behind)) = after_minus(items) {
+    if let Some((place, behind)) = skip(Terminal::Add(Adding::Minus), items) {
         return negative(place, behind, end);
     }
     if let Some((found, last)) = integer(items) {
         return Ok((RawElement::Integer(found), last));
     }
-    let (found, last) = name(alloc, items, end)?;
+    let (found, last) = word(alloc, items, end)?;
     Ok((RawElement::Name(found), last))
 }
 
@@ -112,6 +114,27 @@ fn item<'a>(alloc: Global, items: &'a [Item<'a>], end: usize) -> Found<'a, RawIt
     Ok((RawItem { first, to }, behind))
 }
 
+// The commas that come in a row, counted as far as eight. A list that grows by itself takes room for four items at its
+// first one: where a structure has a hundred thousand rows of two items, that is half of the memory that is touched.
+fn commas(items: &[Item<'_>]) -> usize
+    ensures { result ≤ 8 }
+{
+    let mut count = 0;
+    for item in items {
+        match item.terminal {
+            Terminal::Comma => {
+                count += 1;
+                if count == 8 {
+                    break;
+                }
+            }
+            Terminal::Word | Terminal::Integer(_) | Terminal::Add(_) => {}
+            _ => break,
+        }
+    }
+    count
+}
+
 // The commas that come, with an item after each.
 fn item_tails<'a>(alloc: Global, items: &'a [Item<'a>], end: usize) -> Found<'a, Items<RawItemTail>>
     requires { EndsItem (next (toks items.now)) }
@@ -119,7 +142,7 @@ fn item_tails<'a>(alloc: Global, items: &'a [Item<'a>], end: usize) -> Found<'a,
     ensures shorter { IfOk result (λ p. length p.1.now ≤ length items.now) }
 {
     let (_count, mut rest) = start(items);
-    let mut more = Items::new(alloc);
+    let mut more = Items::from_vec(Vec::with_capacity(alloc, commas(items))?);
     while let Some((place, behind)) = skip(Terminal::Comma, rest) {
         let (item, last) = item(alloc, behind, end)?;
         more.push(RawItemTail { place, item })?;
@@ -293,7 +316,7 @@ fn mark<'a>(
     ensures reads { EqualRead (terminals.sign (t.Compare cmp.Less) begin ∷ toks items.now) end result }
     ensures shorter { IfOk result (λ p. length p.1.now ≤ length items.now) }
 {
-    let (found, rest) = name(alloc, items, end)?;
+    let (found, rest) = word(alloc, items, end)?;
     if let Some((place, last)) = skip(Terminal::Compare(Comparison::AtLeast), rest) {
         return Ok(((Some(marked(begin, found, None)), place), last));
     }
@@ -333,7 +356,7 @@ fn entry<'a>(alloc: Global, items: &'a [Item<'a>], end: usize) -> Found<'a, RawE
     ensures reads { EntryRead (toks items.now) end result }
     ensures shorter { IfOk result (λ p. length p.1.now < length items.now) }
 {
-    let (name, rest) = name(alloc, items, end)?;
+    let (name, rest) = word(alloc, items, end)?;
     let (given, rest) = equal(alloc, rest, end)?;
     let (mark, equal) = given;
     let (value, last) = value(alloc, rest, end)?;

@@ -8,14 +8,15 @@ ghost use Rattle.fo_syntax.specs.View.{name_view};
 ghost use Rattle.fo_syntax.specs.BlockTrees as tree;
 ghost use Rattle.fo_syntax.specs.BlockView.{positions_view, declaration_view};
 ghost use Rattle.fo_syntax.specs.BlockSpelling.{separator};
-ghost use Rattle.block_reader.specs.BlockParts.{next, Is, IsSign, EndsDeclaration, NoSeparator};
+ghost use Rattle.block_reader.specs.BlockParts.{EndsDeclaration, NoSeparator};
+ghost use Rattle.token_reader.specs.Signs.{next, Is, IsSign};
 ghost use Rattle.block_reader.specs.BlockReads.{NameTailsRead, PositionsRead, ArgumentsOf, NamedRead, ElementTailsRead};
 ghost use Rattle.block_reader.specs.BlockReads.{DeclarationRead, DeclarationsRead, VocabularyRead, FromRead};
 ghost use Rattle.block_reader.specs.BlockReads.{placed_name};
 ghost use Rattle.fo_syntax.specs.declared.terminal.Terminal.TheVariants as t;
 ghost use Rattle.fo_syntax.specs.declared.terminal.Outer.TheVariants as o;
 
-use crate::block_cursor::{arguments_end, closes, declaration_ends, name, sign, skip};
+use crate::block_ends::{arguments_end, closes, declaration_ends};
 use fo_syntax::{
     Item, Outer, RawConstructed, RawDeclaration, RawElementTail, RawIsa, RawName, RawNameTail,
     RawNames, RawPositions, RawResult, RawSymbol, RawType, RawVocabulary, ReadError, Separator,
@@ -23,7 +24,8 @@ use fo_syntax::{
 };
 use sqlite_items::Items;
 use std::alloc::Global;
-use token_reader::cursor::{Found, split, start};
+use token_reader::binders::word;
+use token_reader::cursor::{Found, sign, skip, split, start};
 
 // The commas that come, with a name after each.
 fn name_tails<'a>(alloc: Global, items: &'a [Item<'a>], end: usize) -> Found<'a, Items<RawNameTail>>
@@ -33,7 +35,7 @@ fn name_tails<'a>(alloc: Global, items: &'a [Item<'a>], end: usize) -> Found<'a,
     let (_count, mut rest) = start(items);
     let mut more = Items::new(alloc);
     while let Some((place, behind)) = skip(Terminal::Comma, rest) {
-        let (name, last) = name(alloc, behind, end)?;
+        let (name, last) = word(alloc, behind, end)?;
         more.push(RawNameTail { place, name })?;
         rest = last;
     }
@@ -63,7 +65,7 @@ fn positions<'a>(
     if let Some((close, last)) = skip(Terminal::Close, items) {
         return Ok((empty(begin, close), last));
     }
-    let (first, rest) = name(alloc, items, end)?;
+    let (first, rest) = word(alloc, items, end)?;
     let (more, rest) = name_tails(alloc, rest, end)?;
     let (close, last) = sign(Terminal::Close, rest, end)?;
     let found = RawPositions {
@@ -109,7 +111,7 @@ fn named<'a>(
         declaration_ends(items, end)?;
         return Ok((None, items));
     };
-    let (found, rest) = name(alloc, behind, end)?;
+    let (found, rest) = word(alloc, behind, end)?;
     declaration_ends(rest, end)?;
     Ok((Some((place, found)), rest))
 }
@@ -140,7 +142,7 @@ fn element_tails<'a>(
     let (_count, mut rest) = start(items);
     let mut more = Items::new(alloc);
     while let Some((sign, place, behind)) = separated(rest) {
-        let (name, last) = name(alloc, behind, end)?;
+        let (name, last) = word(alloc, behind, end)?;
         more.push(RawElementTail { sign, place, name })?;
         rest = last;
     }
@@ -183,7 +185,7 @@ fn construction<'a>(
 {
     let (from, rest) = from_word(items, end)?;
     let (open, rest) = sign(Terminal::OpenBrace, rest, end)?;
-    let (first, rest) = name(alloc, rest, end)?;
+    let (first, rest) = word(alloc, rest, end)?;
     let (more, rest) = element_tails(alloc, rest, end)?;
     let (close, last) = sign(Terminal::CloseBrace, rest, end)?;
     declaration_ends(last, end)?;
@@ -210,7 +212,7 @@ fn type_declaration<'a>(
     ensures reads { DeclarationRead (terminals.sign (t.Outer o.Type) place ∷ toks items.now) end result }
     ensures shorter { IfOk result (λ p. length p.1.now ≤ length items.now) }
 {
-    let (name, rest) = name(alloc, items, end)?;
+    let (name, rest) = word(alloc, items, end)?;
     if let Some((constructed, behind)) = skip(Terminal::Outer(Outer::Constructed), rest) {
         return construction(alloc, place, name, constructed, behind, end);
     }
@@ -252,7 +254,7 @@ fn symbol<'a>(alloc: Global, items: &'a [Item<'a>], end: usize) -> Found<'a, Raw
     ensures reads { (Is (t.Outer o.Type) (next (toks items.now)) → ⊥) → DeclarationRead (toks items.now) end result }
     ensures shorter { IfOk result (λ p. length p.1.now < length items.now) }
 {
-    let (name, rest) = name(alloc, items, end)?;
+    let (name, rest) = word(alloc, items, end)?;
     let (arguments, rest) = arguments(alloc, rest, end)?;
     let (given, last) = named(alloc, Terminal::Colon, rest, end)?;
     Ok((symbol_of(name, arguments, given), last))
@@ -298,7 +300,7 @@ pub fn vocabulary<'a>(
     ensures reads { VocabularyRead (terminals.sign (t.Outer o.Vocabulary) place ∷ toks items.now) end result }
     ensures shorter { IfOk result (λ p. length p.1.now ≤ length items.now) }
 {
-    let (name, rest) = name(alloc, items, end)?;
+    let (name, rest) = word(alloc, items, end)?;
     let (open, rest) = sign(Terminal::OpenBrace, rest, end)?;
     let (declarations, rest) = declarations(alloc, rest, end)?;
     let (close, last) = sign(Terminal::CloseBrace, rest, end)?;

@@ -22,7 +22,7 @@ use Rattle.block_texts.specs.Parts.{sign, space, write_each, write_elem, write_n
 use Rattle.block_texts.specs.Parts.{write_next_row, write_rows, write_value, write_mark, write_entry, write_block}
 use Rattle.block_texts.specs.Names.{IsName, IsElem, IsOption, IsRow, IsValue, IsEntry, IsBlock}
 
--- a byte that may come behind a word or an integer of any kind: it goes on with neither, and opens no bracket that is
+-- a byte that may come after a word or an integer of any kind: it goes on with neither, and opens no bracket that is
 -- read otherwise
 abbrev goes_on_with : ℕ → Bool
 goes_on_with b = is_word_byte b || ((40 == b) || (91 == b))
@@ -95,7 +95,7 @@ integer_stands n behind lt e =
     and_from (is_number (decimal n)) _ ((written n (omega arith)).number)
     (and_from (not (goes_on is_digit_byte behind)) _ (not_false _ (ends_number behind e)) (not_false _ (in_range n lt)))
 
--- ---- behind a sign that may grow
+-- ---- after a sign that may grow
 
 and_none : (x : Bool) → (x && false) ≡ false
 and_none true = refl
@@ -148,7 +148,7 @@ before_number a (b ∷ bs) behind e = not_false _ (no_pair a b
 
 -- ---- part by part
 
--- what is written is apart from what comes behind, where this does not go on with a word
+-- what is written is apart from what comes after, where this does not go on with a word
 abbrev pub Parted : {X : Type 0} → (X → List Part → List Part) → (X → Type 0) → Type 0
 Parted {X = X} write Is = (x : X) → Is x → (rest : List Part) (behind : List ℕ) → Closes (text_with rest behind)
     → are_apart rest behind ≡ true → are_apart (write x rest) behind ≡ true

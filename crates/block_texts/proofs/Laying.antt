@@ -31,7 +31,7 @@ use Rattle.block_texts.specs.Saying.{SaysRow, IsAlone, SaysValue, SaysEntry, Say
 abbrev pub toks_at : ℕ → List Part → List Tok
 toks_at p xs = map tok_of (lexemes_at p xs)
 
--- written at this place, whatever comes behind: a tree that says it, and where it ends
+-- written at this place, whatever comes after: a tree that says it, and where it ends
 pub record Laid {X A : Type 0} (write : X → List Part → List Part) (put : A → List Tok → List Tok) (Says : X → A
     → Type 0) (x : X) (p : ℕ) : Type 0 where
   pub tree : A
@@ -87,7 +87,7 @@ lay_item x h p = let e = lay_elem x h p in record {
   says = ap Some e.says;
 }
 
--- many, one behind the other
+-- many, one after the other
 module _ {X A : Type 0} (write : X → List Part → List Part) (put : A → List Tok → List Tok) (Says : X → A → Type 0)
     (Is : X → Type 0) (lay : (x : X) → Is x → (p : ℕ) → Laid write put Says x p) where
   lay_each : (xs : List X) → AllByRecursion Is xs → (p : ℕ) → Laid (write_each write) (put_each put)
@@ -302,7 +302,7 @@ lay_value (table rs) h p =
 
 -- ---- entries and the block
 
--- a mark, the = behind it, and the spaces round this
+-- a mark, the = after it, and the spaces round this
 record LaidMark (m : Option (List ℕ)) (p : ℕ) : Type 0 where
   tree : Option raw.Mark
   place : ℕ

@@ -2,7 +2,7 @@
 ghost use Rattle.std.specs.Prelude.{◌≡◌, ◌+◌, ◌<◌, [], length, IsTrue, IfOk, true, false};
 ghost use Rattle.lit_core.specs.Literals.{valuation};
 ghost use Rattle.ground_core.specs.Problems.{AreLitsOf};
-ghost use Rattle.ground_core.specs.Meaning.{Satisfies, MakesTrue};
+ghost use Rattle.ground_core.specs.Meaning.{HasTermsInRange, Satisfies, MakesTrue};
 ghost use Rattle.brute_force.specs.Trials.{KeepsBelow, NoneFrom};
 
 use crate::cores::has_core_within;
@@ -14,7 +14,7 @@ use lit_core::{Lit, Values};
 use std::alloc::Global;
 use std::marker::Model;
 
-/// Tries all valuations of a problem of gates and clauses. It learns nothing, and takes time
+/// Tries all valuations of a problem of gates, clauses and terms. It learns nothing, and takes time
 /// exponential in the number of variables.
 #[derive(Drop)]
 pub struct BruteForce {
@@ -38,11 +38,11 @@ impl Model for BruteForce {
 }
 
 impl BruteForce {
-    /// A solver of this problem.
+    /// A solver of this problem, whose terms stay in range.
     pub fn new(alloc: Global, problem: Problem) -> Result<BruteForce, Memory>
         requires sums { problem.sums ≡ [] }
         requires bounds { problem.bounds ≡ [] }
-        requires terms { problem.terms ≡ [] }
+        requires range { HasTermsInRange problem }
         requires retired { problem.retired ≡ [] }
         ensures { IfOk result (λ s. s ≡ record { problem = problem; cores = []; searches = 0; additions = [] }) }
     {
@@ -116,14 +116,16 @@ impl Solve for BruteForce {
 }
 
 impl Grow for BruteForce {
-    fn value(&self, _term: u32, _values: &Values) -> ExtInt {
-        let _vars = self.kept.vars();
-        ExtInt::PosInf
+    fn value(&self, term: u32, values: &Values) -> ExtInt {
+        self.kept.value(term, values)
     }
 
-    fn bound(&mut self, _term: u32, _below: ExtInt) -> Result<Lit, Memory> {
+    fn bound(&mut self, term: u32, below: ExtInt) -> Result<Lit, Memory> {
         let _vars = self.kept.vars();
-        Err(Memory)
+        self.additions.reserve(1)?;
+        let out = self.kept.bound(term, below)?;
+        self.additions.push_reserved(Addition::Bound(term, below));
+        Ok(out)
     }
 
     fn exclude(&mut self, values: &Values) -> Result<Lit, Memory> {

@@ -38,10 +38,8 @@ abbrev holds : ℕ → List Elem → Option Elem → GroundAtom
 holds s args value = record { symbol = s; args = args; value = value }
 
 -- the types are area = {b; f}, color = {red; green}, nothing = {} and number = {1; 2}. Of the predicate border it is
--- known
--- that (b,f) is in it and (f,b) is not, of the function color that it is red at b and not red at f, of the function
--- size
--- that it is 2 at b; the proposition p is true, and of the constant home nothing is known
+-- known that (b,f) is in it and (f,b) is not, of the function color that it is red at b and not red at f, of the
+-- function size that it is 2 at b; the proposition p is true, and of the constant home nothing is known
 abbrev sample : KnownAtoms
 sample = record {
   symbols = symbol (0 ∷ 0 ∷ []) None ∷ symbol (0 ∷ []) (Some 1) ∷ symbol [] None ∷ symbol (0 ∷ []) (Some 3) ∷ symbol []

@@ -92,8 +92,7 @@ ExtendsIsKnowsMore =
     → ExtendsData m k ↔ KnowsMore k (known_of v.symbols m)
 
 -- over domains as the vocabulary asks for them, what is well typed applies each function within its types, and a term
--- of
--- a type has an element of the type as its value
+-- of a type has an element of the type as its value
 abbrev pub TypedIsWellApplied : Type 0
 TypedIsWellApplied =
     (v : Vocabulary) (m : Structure) → IsStructure v m → AreDomainsOf v m.domains

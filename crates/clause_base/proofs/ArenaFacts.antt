@@ -225,7 +225,7 @@ all-end entries live end ordered within removed ends i g at n is = ⊎_elim
         (λ last. let k : l.0 + 1 ≡ live = l.2 in ends.ends i g (omega arith) at n is)
         (cases_lt i l.0)
 
--- an arena that is cut behind every clause has the same clauses
+-- an arena that is cut after every clause has the same clauses
 part-cut : (lits : List Lit) (end start size : ℕ) → ((n : ℕ) → size ≡ suc n → start + n ≤ end)
     → part_of (take end lits) start size ≡ part_of lits start size
 part-cut lits end start zero within = refl

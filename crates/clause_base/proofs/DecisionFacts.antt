@@ -24,7 +24,7 @@ first-is-decision s h k t e pos before =
     order)
     (cases_order k w.0)
 
--- the first step that a step back takes off is a decision
+-- the first step that backtracking takes off is a decision
 pub cut-at-decision : (old new : TrailState) (level : ℕ) → IsTrail old → CutsAt level old new → (t : Step)
     → slice_get old.steps (length new.steps) ≡ Some t → t.reason ≡ None
 cut-at-decision old new level h cut t e =

@@ -102,7 +102,7 @@ slice_get-set_other (x ∷ xs) zero (suc k) y h = refl
 slice_get-set_other (x ∷ xs) (suc i) zero y h = refl
 slice_get-set_other (x ∷ xs) (suc i) (suc k) y h = slice_get-set_other xs i k y (λ e. h (ap suc e))
 
--- a list that is a front of another, one element shorter
+-- a list that is a prefix of another, one element shorter
 pub take-front : {X : Type 0} (all xs : List X) (x : X) → xs ++ x ∷ [] ≡ take (length (xs ++ x ∷ [])) all
     → (xs ≡ take (length xs) all) × (slice_get all (length xs) ≡ Some x)
 take-front [] [] x h = absurd (let e = ap length h in omega arith)
@@ -120,7 +120,7 @@ last-of [] k x e = absurd (cc)
 last-of (y ∷ []) k x e = (0, y, refl, refl)
 last-of (y ∷ z ∷ xs) k x e = let r = last-of (z ∷ xs) 0 z refl in (suc r.0, r.1, r.2, omega (arith, r.3))
 
--- an element of a front
+-- an element of a prefix
 pub slice_get-take : {X : Type 0} (n : ℕ) (xs : List X) (k : ℕ) (x : X) → slice_get (take n xs) k ≡ Some x
     → (slice_get xs k ≡ Some x) × (k < n)
 slice_get-take zero xs k x h = absurd (cc)

@@ -114,14 +114,14 @@ module _ (a : Linkage) (j : ℕ) (new : List ℕ) where
     pub sees-other : (i : ℕ) → (i ≡ j → ⊥) → listed_at b i ≡ listed_at a i
     sees-other i ne = sees b replaced linked all-once i ∙ replaced-other i ne ∙ sym (seen a i)
 
--- links and heads that are told by their lists
+-- links and heads that their lists determine
 with-fields : (b : Linkage) (links heads : List ℕ) → b.links ≡ links → b.heads ≡ heads → (i : ℕ) (xs : List ℕ)
     → IsLinked links (get_or heads i 0) xs → IsLinked b.links (get_or b.heads i 0) xs
 with-fields b links heads le he i xs h =
     subst (λ (m : List ℕ). IsLinked m (get_or b.heads i 0) xs) (sym le)
     (subst (λ (m : List ℕ). IsLinked links (get_or m i 0) xs) (sym he) h)
 
--- a node is listed in front of a list
+-- a node is listed at the head of a list
 module _ (a b : Linkage) (h : IsLinkage a) (j n : ℕ) (list : j < length a.heads) (node : n < length a.links)
     (free : (i : ℕ) → Contains (listed_at a i) n → ⊥) (links : b.links ≡ set a.links n (get_or a.heads j 0))
     (heads : b.heads ≡ set a.heads j (n + 1)) where

@@ -12,7 +12,7 @@ use Rattle.clause_base.specs.TrailLaws.{with_step}
 use Rattle.clause_base.specs.StoreState.{StoreState, IsStore, Propagates, with_trail}
 use Rattle.clause_base.proofs.ListFacts.{slice_get-push_cases, slice_get-take-below}
 
--- a front is no longer than the list
+-- a prefix is no longer than the list
 pub front-le : {X : Type 0} (xs ys : List X) → xs ≡ take (length xs) ys → length xs ≤ length ys
 front-le xs ys h = let e : length xs ≡ min (length xs) (length ys) = ap length h
     ∙ length-take (length xs) ys in omega arith

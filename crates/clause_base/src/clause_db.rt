@@ -1,15 +1,16 @@
 //! The clause database: the literals of all clauses stand in one arena, one clause after another.
 //!
-//! A clause is told by an entry of sixteen bytes, so that four of them fill a cache line, and its literals stand
-//! side by side. A push sorts its literals in a buffer, which keeps its memory from push to push.
+//! A clause is described by an entry of sixteen bytes, so that four of them fill a cache line, and its literals stand
+//! side by side, in 32 bits each. A push sorts its literals in a buffer, which keeps its memory from push to push.
 ghost use Rattle.std.specs.Prelude.{◌≡◌, ℕ, ◌<◌, ◌≤◌, ◌+◌, ◌*◌, ◌^◌, ◌++◌, ◌∷◌, [], length, max, Some, None, Option};
 ghost use Rattle.std.specs.Prelude.{List, IfSome, IsOk, IsTrue, OnOk, OnErr, MatchOption, ◌↔◌, slice_get, slice_set};
-ghost use Rattle.std.specs.Prelude.{vec_capacity};
+ghost use Rattle.std.specs.Prelude.{All, vec_capacity};
 ghost use Rattle.lit_core.specs.declared.literals.Lit.{Lit};
+ghost use Rattle.lit_core.specs.Packing.{Fits};
 ghost use Rattle.clause_base.specs.ClauseDbFields.{AreRemoved, EndsAt};
 ghost use Rattle.clause_base.specs.StoreState.{IsEachOnceOf};
 
-use lit_core::{Lit, Memory};
+use lit_core::{Lit, Memory, PackedLit};
 use smallvec::SmallVec;
 use std::alloc::Global;
 use std::marker::Model;
@@ -29,7 +30,7 @@ struct Entry {
 #[derive(Debug, Drop)]
 pub struct ClauseDb {
     /// The literals of the clauses.
-    lits: Vec<Lit>,
+    lits: Vec<PackedLit>,
     entries: Vec<Entry>,
     /// Room in which the literals of the next clause are sorted.
     buffer: SmallVec<Lit, 3>,
@@ -74,13 +75,14 @@ fn sort_once(buffer: &mut SmallVec<Lit, 3>)
 }
 
 /// Adds the literals at the end of the arena, which has room for them.
-fn append(arena: &mut Vec<Lit>, lits: &[Lit])
+fn append(arena: &mut Vec<PackedLit>, lits: &[Lit])
+    requires fits { All Fits lits.now }
     requires room { length arena.old.items + length lits.now ≤ vec_capacity arena.old }
     ensures items { arena.new.items ≡ arena.old.items ++ lits.now }
     ensures capacity { vec_capacity arena.new ≡ vec_capacity arena.old }
 {
     for lit in lits {
-        arena.push_reserved(*lit);
+        arena.push_reserved(PackedLit::new(*lit));
     }
 }
 
@@ -194,7 +196,8 @@ impl ClauseDb {
 
     /// Adds the clause of these literals, for which there is room.
     pub fn push(&mut self, lits: &[Lit])
-        requires { length lits.now < self.old.spare }
+        requires room { length lits.now < self.old.spare }
+        requires fits { All Fits lits.now }
         ensures { (c : List Lit) × IsEachOnceOf lits.now c × (self.new ≡ record {
           clauses =
               self.old.clauses ++ Some c ∷ [];
@@ -218,7 +221,7 @@ impl ClauseDb {
     }
 
     /// The literals of a held clause, or None where it was removed.
-    pub fn get(&self, id: usize) -> Option<&[Lit]>
+    pub fn get(&self, id: usize) -> Option<&[PackedLit]>
         requires { id < length self.now.clauses }
         ensures clause { MatchOption result (slice_get self.now.clauses id ≡ Some None)
             (λ c. slice_get self.now.clauses id ≡ Some (Some c.now)) }
@@ -234,7 +237,7 @@ impl ClauseDb {
     }
 
     /// The literals of a held clause.
-    pub fn lend(&self, id: u64) -> &[Lit]
+    pub fn lend(&self, id: u64) -> &[PackedLit]
         requires { (c : List Lit) × (slice_get self.now.clauses id ≡ Some (Some c)) }
         ensures { slice_get self.now.clauses id ≡ Some (Some result.now) }
     {

@@ -173,7 +173,7 @@ impl LinkedLists {
         self.nodes[node] = Node { next, label };
     }
 
-    /// Puts a node that is in no list in front of a list.
+    /// Puts a node that is in no list at the head of a list.
     pub fn link(&mut self, list: usize, node: usize)
         requires list { list < length self.old.lists }
         requires node { node < length self.old.labels }

@@ -27,7 +27,10 @@ use Rattle.search_engine.proofs.Joined.{joined-first, joined-second}
 use Rattle.search_engine.specs.declared.engine.Engine.{Engine}
 use Rattle.search_engine.specs.Resting.{IsResting, Grows}
 use Rattle.clause_learning.specs.declared.keeper.Keeper.{Keeper}
-use Rattle.clause_learning.specs.Keeping.{IsKeeper, IsMost, IsNewRefusal}
+use Rattle.clause_learning.specs.Keeping.{AnswersWidened, IsKeeper, IsMost, IsNewRefusal, IsWidened}
+use Rattle.clause_learning.specs.LiveBounds.{IsLive, IsOutputOfWider}
+use Rattle.ground_core.specs.declared.parts.TermBound.{TermBound}
+use Rattle.std.specs.Global.{Vec}
 use Rattle.clause_learning.specs.declared.core_index.CoreIndex.{CoreIndex}
 
 pub prefix-from : {X : Type 0} (xs ys : List X) → xs ≡ take (length xs) ys → IsPrefix xs ys
@@ -130,9 +133,10 @@ pub either : {T E : Type 0} (A B : Type 0) (r : Result T E) → OnOk r A → OnE
 either A B (Ok x) a b = inl a
 either A B (Err e) a b = inr b
 
-module _ (a : Keeper) (f : Engine) (h : IsKeeper a) (resting : IsResting f) where
+module _ (a : Keeper) (f : Engine) (bs : Vec TermBound) (h : IsKeeper a) (resting : IsResting f)
+    (none : bs.items ≡ []) where
   abbrev with_engine : Keeper
-  with_engine = record { alloc = a.alloc; engine = f; index = a.index; additions = a.additions }
+  with_engine = record { alloc = a.alloc; engine = f; index = a.index; additions = a.additions; live = bs }
 
   -- another problem was joined
   pub keeper-joined : (q : ProblemState) → CanJoin a.engine.problem q → q.bounds ≡ [] → HasTermsInRange q
@@ -148,6 +152,7 @@ module _ (a : Keeper) (f : Engine) (h : IsKeeper a) (resting : IsResting f) wher
     refuted = subst (λ (p : ProblemState). All (RefutesAll p) a.index.cores.items) (sym g.problem)
         (joined-refuted a.engine.problem q h.resting.engine.problem bounds can a.index.cores.items h.refuted);
     counted = rw g.same.searches h.counted;
+    live = subst (All (IsLive f.problem)) (sym none) (All-nil (IsLive f.problem));
   }
 
   -- the problem stays
@@ -159,6 +164,7 @@ module _ (a : Keeper) (f : Engine) (h : IsKeeper a) (resting : IsResting f) wher
     indexed = h.indexed;
     refuted = subst (λ (p : ProblemState). All (RefutesAll p) a.index.cores.items) (sym problem) h.refuted;
     counted = counted;
+    live = subst (All (IsLive f.problem)) (sym none) (All-nil (IsLive f.problem));
   }
 
 -- a problem that says more refutes what was refuted
@@ -205,4 +211,15 @@ new-refusal a b assume (Unsat core) index problem h none = (
   subst (λ (p : ProblemState). RefutesAll p core) (sym problem) h.1,
   subst (λ (k : CoreIndex). HasCoreWithin k.cores.items core → ⊥) (sym index)
       (none-within a.index.cores.items core assume h.0 none),
+)
+
+-- an answer on more than what is assumed, where problem and live bounds stay
+pub widened-later : (a b : Keeper) (assumed lits : List Lit) (v : Verdict) → b.live ≡ a.live
+    → b.engine.problem ≡ a.engine.problem → IsWidened a assumed lits → Answers a.engine.problem lits v
+    → AnswersWidened b assumed v
+widened-later a b assumed lits v live problem wide answers = (
+  lits,
+  subst (λ (bs : Vec TermBound). (more : List Lit) × (lits ≡ assumed ++ more) × All (IsOutputOfWider bs.items assumed)
+      more) (sym live) wide,
+  subst (λ (p : ProblemState). Answers p lits v) (sym problem) answers,
 )

@@ -1,4 +1,4 @@
--- A solver that gives up nothing of what it told.
+-- A solver that gives up nothing of what it stated.
 use Rattle.std.specs.Prelude.{◌≡◌, List, [], ◌++◌}
 use Rattle.std.proofs.Common.{sym, ap, ◌∙◌}
 use Rattle.std.proofs.lemmas.List.{append-nil, append_assoc}

@@ -1,13 +1,16 @@
 -- An engine with the cores of its answers.
-use Rattle.std.specs.Prelude.{◌≡◌, ℕ, ◌+◌, ◌-◌, ◌<◌, ◌≤◌, ◌^◌, Option, Some, None, [], length, All, IfSome}
+use Rattle.std.specs.Prelude.{◌≡◌, ℕ, ◌+◌, ◌-◌, ◌<◌, ◌≤◌, ◌^◌, Option, Some, None, List, [], ◌++◌, length, All}
+use Rattle.std.specs.Prelude.{IfSome}
+use Rattle.lit_core.specs.declared.literals.Lit.{Lit}
 use Rattle.ground_core.specs.declared.solving.Budget.{Budget}
 use Rattle.ground_core.specs.declared.solving.Verdict.{Verdict}
 use Rattle.ground_core.specs.declared.solving.Verdict.TheVariants.{Sat, Unsat}
 use Rattle.ground_core.specs.Meaning.{HasTermsInRange, RefutesAll}
-use Rattle.ground_core.specs.Solving.{SolveState, HasCoreWithin}
+use Rattle.ground_core.specs.Solving.{Answers, SolveState, HasCoreWithin}
 use Rattle.search_engine.specs.Resting.{IsNew, IsResting, held_of}
 use Rattle.clause_learning.specs.declared.keeper.Keeper.{Keeper}
 use Rattle.clause_learning.specs.CoreIndexes.{IsIndexed}
+use Rattle.clause_learning.specs.LiveBounds.{IsLive, IsOutputOfWider}
 
 -- what contracts see of it
 abbrev pub kept_of : Keeper → SolveState
@@ -29,6 +32,7 @@ pub record IsKeeper (a : Keeper) : Type 0 where
   pub indexed : IsIndexed a.index
   pub refuted : All (RefutesAll a.engine.problem) a.index.cores.items
   pub counted : a.engine.searches < 2 ^ 64
+  pub live : All (IsLive a.engine.problem) a.live.items
 
 -- of no variables, for which nothing is said
 pub record IsNewKeeper (a : Keeper) : Type 0 where
@@ -45,6 +49,15 @@ IsMost known b None = IfSome b.limit (λ limit. 2 ^ 64 + b.spent ≤ known + lim
 abbrev pub IsNewRefusal : Keeper → Verdict → Type 0
 IsNewRefusal a (Sat values) = Unit {0}
 IsNewRefusal a (Unsat core) = RefutesAll a.engine.problem core × (HasCoreWithin a.index.cores.items core → ⊥)
+
+-- what is assumed, and the outputs of bounds that follow from it
+abbrev pub IsWidened : Keeper → List Lit → List Lit → Type 0
+IsWidened a assumed lits = (more : List Lit) × (lits ≡ assumed ++ more)
+    × All (IsOutputOfWider a.live.items assumed) more
+
+-- the answer is one on more than what is assumed
+abbrev pub AnswersWidened : Keeper → List Lit → Verdict → Type 0
+AnswersWidened a assumed v = (lits : List Lit) × IsWidened a assumed lits × Answers a.engine.problem lits v
 
 -- what the last search met stays
 pub record SameCounts (old new : Keeper) : Type 0 where

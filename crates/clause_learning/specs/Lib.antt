@@ -1,4 +1,5 @@
 pub mod CoreIndexes
+pub mod LiveBounds
 pub mod Keeping
 pub mod SolverState
 pub mod SolverFields

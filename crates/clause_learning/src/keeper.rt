@@ -8,12 +8,14 @@ ghost use Rattle.ground_core.specs.Growth.{next_lit};
 ghost use Rattle.ground_core.specs.Growing.{HasValue, IsSelector, bounded, excluded, retired};
 ghost use Rattle.ground_core.specs.Meaning.{Satisfies};
 ghost use Rattle.lit_core.specs.Literals.{valuation};
-ghost use Rattle.clause_learning.specs.Keeping.{IsKeeper, IsMost, IsNewRefusal, IsNewKeeper, SameCounts, SameKeeping};
+ghost use Rattle.clause_learning.specs.Keeping.{AnswersWidened, IsKeeper, IsMost, IsNewRefusal, IsNewKeeper, IsWidened};
+ghost use Rattle.clause_learning.specs.Keeping.{SameCounts, SameKeeping};
 ghost use Rattle.clause_learning.specs.Keeping.{kept_of};
 
 use crate::core_index::CoreIndex;
+use crate::live_bounds::{give_up, narrowed, outputs_of_wider};
 use chooser::Choose;
-use ground_core::{Addition, Budget, Halt, Memory, Verdict};
+use ground_core::{Addition, Budget, Halt, Memory, TermBound, Verdict};
 use kb_logic::ExtInt;
 use lit_core::{Lit, Values};
 use search_engine::Engine;
@@ -28,6 +30,8 @@ pub struct Keeper {
     pub index: CoreIndex,
     /// What was added under selectors, in order.
     pub additions: Vec<Addition>,
+    /// Bounds whose outputs stand nowhere else, and are not retired.
+    pub live: Vec<TermBound>,
 }
 
 /// How long the learnt list may become, which has so many clauses now; None where no number of 64
@@ -53,11 +57,70 @@ impl Keeper {
             engine: Engine::new(alloc)?,
             index: CoreIndex::new(alloc),
             additions: Vec::new(alloc),
+            live: Vec::new(alloc),
         })
     }
 
     /// Searches within the budget.
     fn search<C: Choose>(
+        &mut self,
+        rule: &C,
+        assume: &[Lit],
+        budget: &mut Budget,
+    ) -> Result<Verdict, Halt>
+        requires keeper { IsKeeper self.old }
+        requires literals { AreLitsOf self.old.engine.problem.vars assume.now }
+        requires budget { IsBudgetOf self.old.engine.learnt budget.old }
+        ensures keeper { IsKeeper self.new }
+        ensures index { self.new.index ≡ self.old.index }
+        ensures additions { self.new.additions ≡ self.old.additions }
+        ensures live { self.new.live ≡ self.old.live }
+        ensures verdict { IfOk result (Answers self.old.engine.problem assume.now) }
+        ensures halt { IfErr result (HaltedAt budget.new) }
+        ensures problem { self.new.engine.problem ≡ self.old.engine.problem }
+        ensures searches { self.new.engine.searches ≡ counted (self.old.engine.searches + 1) }
+        ensures spends { Spends (kept_of self.old) (kept_of self.new) budget.old budget.new }
+        ensures counted { length self.new.engine.learnt ≤ length self.old.engine.learnt + self.new.engine.conflicts }
+    {
+        let before = self.engine.learnt.len();
+        let verdict = self.engine.solve(rule, assume, most_of(before, budget));
+        let after = self.engine.learnt.len();
+        budget.spent += (after - before) as u64;
+        verdict
+    }
+
+    /// What is assumed, and the outputs of bounds that follow from it.
+    fn widened(&self, assume: &[Lit]) -> Result<Vec<Lit>, Memory>
+        requires keeper { IsKeeper self.now }
+        requires literals { AreLitsOf self.now.engine.problem.vars assume.now }
+        ensures widened { IfOk result (λ list. IsWidened self.now assume.now list.items) }
+        ensures literals { IfOk result (λ list. AreLitsOf self.now.engine.problem.vars list.items) }
+    {
+        let more = outputs_of_wider(self.alloc, self.live.as_slice(), assume)?;
+        let mut list = Vec::from_slice(self.alloc, assume)?;
+        list.extend_from_slice(more.as_slice())?;
+        Ok(list)
+    }
+
+    /// The answer on what is assumed, from that on more.
+    fn narrow(&self, assume: &[Lit], verdict: Verdict) -> Result<Verdict, Memory>
+        requires keeper { IsKeeper self.now }
+        requires answers { AnswersWidened self.now assume.now verdict }
+        ensures { IfOk result (Answers self.now.engine.problem assume.now) }
+    {
+        match verdict {
+            Verdict::Sat(values) => Ok(Verdict::Sat(values)),
+            Verdict::Unsat(core) => Ok(Verdict::Unsat(narrowed(
+                self.alloc,
+                self.live.as_slice(),
+                assume,
+                core.as_slice(),
+            )?)),
+        }
+    }
+
+    /// Searches within the budget, where bounds that follow from what is assumed are assumed, too.
+    fn search_widened<C: Choose>(
         &mut self,
         rule: &C,
         assume: &[Lit],
@@ -76,11 +139,19 @@ impl Keeper {
         ensures spends { Spends (kept_of self.old) (kept_of self.new) budget.old budget.new }
         ensures counted { length self.new.engine.learnt ≤ length self.old.engine.learnt + self.new.engine.conflicts }
     {
-        let before = self.engine.learnt.len();
-        let verdict = self.engine.solve(rule, assume, most_of(before, budget));
-        let after = self.engine.learnt.len();
-        budget.spent += (after - before) as u64;
-        verdict
+        let Ok(list) = self.widened(assume) else {
+            self.engine.count_search();
+            return Err(Halt::Memory);
+        };
+        match self.search(rule, list.as_slice(), budget) {
+            Ok(verdict) => {
+                let Ok(answer) = self.narrow(assume, verdict) else {
+                    return Err(Halt::Memory);
+                };
+                Ok(answer)
+            }
+            Err(halt) => Err(halt),
+        }
     }
 
     /// Keeps the core of an answer.
@@ -126,7 +197,7 @@ impl Keeper {
         ensures counted { length self.new.engine.learnt ≤ length self.old.engine.learnt + self.new.engine.conflicts }
     {
         match self.index.contained(self.alloc, assume) {
-            Ok(None) => match self.search(rule, assume, budget) {
+            Ok(None) => match self.search_widened(rule, assume, budget) {
                 Ok(verdict) => self.keep(verdict),
                 Err(halt) => Err(halt),
             },
@@ -180,8 +251,10 @@ impl Keeper {
         ensures counts { SameCounts self.old self.new }
     {
         self.additions.reserve(1)?;
+        self.live.reserve(1)?;
         let out = self.engine.bound(term, below)?;
         self.additions.push_reserved(Addition::Bound(term, below));
+        self.live.push_reserved(TermBound { out, term, below });
         Ok(out)
     }
 
@@ -196,5 +269,6 @@ impl Keeper {
         ensures counts { SameCounts self.old self.new }
     {
         self.engine.retire(selector);
+        give_up(&mut self.live, selector);
     }
 }

@@ -4,6 +4,7 @@
 
 mod core_index;
 mod keeper;
+mod live_bounds;
 mod solver;
 
 pub use solver::Solver;

@@ -70,6 +70,8 @@ impl<C: Choose + Drop> Solver<C> {
         ensures err { OnErr result (self.new ≡ self.old) }
         ensures laws { IsSolver self.new }
     {
+        // What is added may name their outputs.
+        self.keeper.live.clear();
         self.keeper.engine.add_problem(more)
     }
 

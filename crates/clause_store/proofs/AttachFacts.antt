@@ -26,7 +26,7 @@ next-free e h n of j has =
     let lt : w.id < e.checked = w.checked in
     omega arith
 
--- a node was listed in front of a list
+-- a node was listed at the head of a list
 pub record Enlists (old new : ListsState) (to node : ℕ) : Type 0 where
   pub there : Contains (nodes_of new to) node
   pub kept : (j m : ℕ) → Contains (nodes_of old j) m → Contains (nodes_of new j) m

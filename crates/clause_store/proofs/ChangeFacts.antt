@@ -1,4 +1,4 @@
--- The watcher after an assignment, a step back, and other calls.
+-- The watcher after an assignment, a backtrack, and other calls.
 use Rattle.std.proofs.Common.{◌≡◌, ℕ, ◌<◌, ◌≤◌, ◌+◌, ◌*◌, ◌^◌, min, Bool, true, false, Option, Some, None, List, []}
 use Rattle.std.proofs.Common.{◌∷◌, ◌++◌, length, refl, sym, ap, ◌∙◌, inl, inr, ⊎_elim, arith, slice_get, subst}
 use Rattle.std.proofs.Common.{Contains}
@@ -209,7 +209,7 @@ watcher-cleared e lists t h is laws nodes count empty =
     (ap (λ (x : TrailState). length x.values) is ∙ length-replicate (length e.trail.values) None)
     laws nodes count empty (λ n. ap (λ (x : TrailState). x.level) is)
 
--- a step back, where no level was passed over
+-- a backtrack, where no level was passed over
 module _ (e : Watcher) (level : ℕ) (t : TrailState) (h : IsWatcher e) (fresh : e.stale ≡ false)
     (le : level ≤ e.trail.level) (cut : CutsAt level e.trail t) (laws : IsTrail t) where
   -- a step of a kept level is kept

@@ -10,7 +10,7 @@ ghost use Rattle.clause_store.specs.Watching.{store_of, IsWatcher};
 
 use crate::propagation::find_replacement;
 use crate::watched::{Watch, Watcher, label_of, list_of};
-use lit_core::{Assignment, Lit};
+use lit_core::{Assignment, Lit, PackedLit};
 
 /// Which literals of a clause are not false.
 #[derive(Clone, Copy)]
@@ -26,14 +26,15 @@ pub enum WatchChoice {
 }
 
 /// The first literal that is not false.
-fn open_literal(assignment: &Assignment, lits: &[Lit]) -> Option<Lit>
+fn open_literal(assignment: &Assignment, lits: &[PackedLit]) -> Option<Lit>
     requires { All (λ l. l.var.0 < length assignment.now) lits.now }
     ensures { OpensAt assignment.now lits.now result }
 {
     for lit in lits {
-        match assignment.value(*lit) {
+        let lit = lit.lit();
+        match assignment.value(lit) {
             Some(false) => {}
-            _ => return Some(*lit),
+            _ => return Some(lit),
         }
     }
     None
@@ -98,7 +99,7 @@ impl Watcher {
             Some(first) => match find_replacement(self.trail.assignment(), lits, 0, first) {
                 Some(place) => WatchChoice::Two(Watch {
                     first,
-                    second: lits[place],
+                    second: lits[place].lit(),
                 }),
                 None => WatchChoice::One(first),
             },
@@ -169,11 +170,12 @@ impl Watcher {
         let level = self.level_of(lit.var);
         let lits = self.held.get(self.checked)?;
         for other in lits {
-            if *other != lit
-                && self.trail.assignment().value(*other) == Some(false)
+            let other = other.lit();
+            if other != lit
+                && self.trail.assignment().value(other) == Some(false)
                 && self.level_of(other.var) >= level
             {
-                return Some(*other);
+                return Some(other);
             }
         }
         None

@@ -9,7 +9,7 @@ ghost use Rattle.clause_store.specs.Visits.{OneGives, ReplacesAt, VisitGives};
 ghost use Rattle.clause_store.specs.Watching.{code_of, store_of, IsWatcher, IsNodeOf};
 
 use crate::watched::{Watcher, label_of, list_of, literal_of};
-use lit_core::{Assignment, Lit};
+use lit_core::{Assignment, Lit, PackedLit};
 
 /// What became of a clause of which a watched literal became false.
 #[derive(Clone, Copy)]
@@ -59,12 +59,12 @@ fn partner_of(node: usize) -> usize
 }
 
 /// The place of a literal that is not false and is not the other watched one.
-fn find_in(assignment: &Assignment, lits: &[Lit], other: Lit) -> Option<usize>
+fn find_in(assignment: &Assignment, lits: &[PackedLit], other: Lit) -> Option<usize>
     requires { All (λ l. l.var.0 < length assignment.now) lits.now }
     ensures { ReplacesAt assignment.now lits.now other result }
 {
     for place in 0..lits.len() {
-        let lit = lits[place];
+        let lit = lits[place].lit();
         if lit != other && assignment.value(lit) != Some(false) {
             return Some(place);
         }
@@ -80,7 +80,7 @@ fn find_in(assignment: &Assignment, lits: &[Lit], other: Lit) -> Option<usize>
 /// which one literal after another becomes false, as one that excludes a model, would take the square of its length.
 pub fn find_replacement(
     assignment: &Assignment,
-    lits: &[Lit],
+    lits: &[PackedLit],
     from: usize,
     other: Lit,
 ) -> Option<usize>
@@ -126,7 +126,7 @@ impl Watcher {
             return Replacement::Deleted;
         };
         match find_replacement(self.trail.assignment(), lits, from, other) {
-            Some(place) => Replacement::Literal(lits[place], place),
+            Some(place) => Replacement::Literal(lits[place].lit(), place),
             None => match self.trail.assignment().value(other) {
                 Some(_) => Replacement::Conflict,
                 None => Replacement::Unit,

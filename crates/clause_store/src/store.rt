@@ -13,7 +13,7 @@ ghost use Rattle.clause_base.specs.TrailLaws.{IsFixed, IsStepOf, CutsAt, cleared
 
 use crate::watched::Watcher;
 use clause_base::Step;
-use lit_core::{Assignment, Lit, Memory, Var};
+use lit_core::{Assignment, Lit, Memory, PackedLit, Var};
 use std::alloc::Global;
 use std::marker::Model;
 
@@ -99,7 +99,7 @@ impl Store {
     }
 
     /// The literals of a held clause, each once.
-    pub fn lend(&self, id: u64) -> &[Lit]
+    pub fn lend(&self, id: u64) -> &[PackedLit]
         requires { (c : List Lit) × IsHeld self.now id c }
         ensures held { IsHeld self.now id result.now }
         ensures laws { IsStore self.now }

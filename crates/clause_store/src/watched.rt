@@ -5,17 +5,17 @@
 //! false. The lists of watches are linked through the clauses' nodes, so that a watch moves without memory.
 //!
 //! What holds of the two literals over the propagated part of the trail: where one is false, the other is true, and
-//! became so at no higher level. So a step back that keeps the false one keeps the true one, and touches no watch. A
+//! became so at no higher level. So a backtrack that keeps the false one keeps the true one, and touches no watch. A
 //! clause with a literal that is true at level 0 may watch anything.
 //!
 //! Clauses are attached late. `push_clause` touches neither trail nor lists, so that it may come under any trail,
 //! and `propagate` begins with the clauses that were pushed since. A clause whose literals are false but for one is
 //! watched by that one and by a literal that became false at the same level or later. A learnt clause that is pushed
-//! after the step back has such a literal, so that the search pays nothing for it.
+//! after the backtrack has such a literal, so that the search pays nothing for it.
 //!
 //! Where a decision was made before all was propagated, or a pushed clause has no such literal, a literal may become
 //! true at a higher level than the one at which its clause forced it, and what holds of the levels is lost. `stale`
-//! says so: levels are compared no more, and the next step back empties the lists, after which each clause is
+//! says so: levels are compared no more, and the next backtrack empties the lists, after which each clause is
 //! watched anew. A search that propagates before each decision never pays for that.
 ghost use Rattle.std.specs.Prelude.{◌≡◌, ◌≢◌, ℕ, ◌+◌, ◌*◌, ◌^◌, ◌<◌, ◌≤◌, [], length, max, List, Option, Some, None};
 ghost use Rattle.std.specs.Prelude.{true, All, Contains, IsOk, IfOk, OnOk, OnErr, ◌⊎◌, slice_get, slice_index_or};

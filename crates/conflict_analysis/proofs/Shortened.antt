@@ -22,7 +22,7 @@ use Rattle.conflict_analysis.proofs.Below.{held-more, prepend}
 use Rattle.conflict_analysis.proofs.Keys.{inserted-cases, inserted-new, inserted-old}
 use Rattle.conflict_analysis.proofs.Places.{lower-place, of-reason, same-step, step-of, variable-of}
 
--- the same places, told otherwise
+-- the same places, said in another way
 pub short-same : (s : StoreState) (place : ℕ) (A B : ℕ → Type 0) (hints : List ℕ) → ((k : ℕ) → A k → B k)
     → ((k : ℕ) → B k → A k) → IsShort s place A hints → IsShort s place B hints
 short-same s place A B hints to back h = record {

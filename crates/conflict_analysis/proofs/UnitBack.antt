@@ -1,4 +1,4 @@
--- The learnt clause after the step back.
+-- The learnt clause after the backtrack.
 use Rattle.std.proofs.Common.{◌≡◌, ℕ, ◌<◌, ◌≤◌, Bool, true, false, Option, Some, None, List, length, refl, sym, ap, ◌∙◌}
 use Rattle.std.proofs.Common.{inl, inr, ⊎_elim, arith, slice_get, get_or}
 use Rattle.std.proofs.lemmas.Bool.{cases_lt}

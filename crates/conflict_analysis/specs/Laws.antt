@@ -1,4 +1,4 @@
--- What holds after the step back to an analysis's level.
+-- What holds after the backtrack to an analysis's level.
 use Rattle.std.specs.Prelude.{◌≡◌, ℕ, Some, List, slice_get}
 use Rattle.lit_core.specs.declared.literals.Lit.{Lit}
 use Rattle.lit_core.specs.Truth.{IsUnitAt}

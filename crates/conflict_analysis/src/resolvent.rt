@@ -77,7 +77,7 @@ impl Resolvent {
     {
         let lits = store.lend(clause);
         for lit in lits {
-            self.mark(store, *lit)?;
+            self.mark(store, lit.lit())?;
         }
         self.hints.push(clause)?;
         Ok(())

@@ -34,7 +34,7 @@ fn redundant_by(store: &Store, place: usize, lower: &BTreeSet<usize>) -> Option<
     let reason = step.reason?;
     let lits = store.lend(reason);
     for lit in lits {
-        let other = store.place_of(lit.var);
+        let other = store.place_of(lit.lit().var);
         if other != place && !is_left(lower, other) {
             return None;
         }

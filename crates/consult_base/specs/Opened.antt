@@ -26,8 +26,7 @@ abbrev pub base_of : Opened → Base
 base_of k = base_of_file (typed_view k.typed) k.theory k.known
 
 -- the theory is one of the file's; theory and data are well typed; its terms are bounded, and no size is refused; and
--- there
--- are few symbols
+-- there are few symbols
 pub record IsKnowledgeBase (k : Opened) : Type 0 where
   pub theory : k.theory < length k.typed.theories
   pub ground : IsGroundTheory (base_of k)

@@ -12,8 +12,7 @@ abbrev pub kb : List ℕ
 kb = codes "kb"
 
 -- A run by these words, over a shelf whose file `kb` has these bytes, and with these commands, ended in this status
--- and left
--- this text in an output that held nothing.
+-- and left this text in an output that held nothing.
 pub record Leaves (words : Words) (file script : List ℕ) (status : Status) (text : List ℕ) : Type 0 where
   pub before : Outside
   pub now : Outside

@@ -111,7 +111,7 @@ line_end r = 10 ∷ r
 pub line_stops : (r : List ℕ) → Stopped (line_end r)
 line_stops r = stop_at 10 r (λ b i. i.line)
 
--- what may stand behind the arguments of an atom: its first byte is in no name, and opens no bracket
+-- what may stand after the arguments of an atom: its first byte is in no name, and opens no bracket
 abbrev Ends : List ℕ → Type 0
 Ends r = Stopped r × ((t : List ℕ) → r ≢ 40 ∷ t)
 
@@ -139,7 +139,7 @@ args_texts_same (x ∷ xs) (y ∷ ys) r s all all' end end' q =
     (λ t e. byte_above 44 41 (omega arith) (sym e)) tails in
     (cut.0, rest_same cut.1)
 
--- an atom's text, and what stands behind it
+-- an atom's text, and what stands after it
 atom_same : (name other : List ℕ) (xs ys : List Elem) (r s : List ℕ) → IsPiece WordText name → IsPiece WordText other
     → AllByRecursion CanBeWritten xs → AllByRecursion CanBeWritten ys → Ends r → Ends s
     → (name ++ args_text xs) ++ r ≡ (other ++ args_text ys) ++ s → (name ≡ other) × (xs ≡ ys) × (r ≡ s)
@@ -183,7 +183,7 @@ signed_same false false name other xs ys r s word word' all all' q =
     let e = atom_same name other xs ys (line_end r) (line_end s) word word' all all' (ends_line r) (ends_line s)
     (rest_same q) in (refl, e.0, e.1, rest_same e.2)
 
--- a value behind its sign, up to the end of the line
+-- a value after its sign, up to the end of the line
 equation_same : (p p' : Bool) (x y : Elem) (r s : List ℕ) → CanBeWritten x → CanBeWritten y
     → (equality_text p ++ elem_text x) ++ line_end r ≡ (equality_text p' ++ elem_text y) ++ line_end s
     → (p ≡ p') × (x ≡ y) × (r ≡ s)
@@ -204,7 +204,7 @@ ends_equation : (p : Bool) (x : Elem) (r : List ℕ) → Ends ((equality_text p 
 ends_equation true x r = ends_blank _
 ends_equation false x r = ends_blank _
 
--- the literal's text behind the word `choice`
+-- the literal's text after the word `choice`
 abbrev shown : Literal → List ℕ → Option Elem → List ℕ
 shown l name None = negation_text l.positive ++ (name ++ args_text l.args)
 shown l name (Some x) = (name ++ args_text l.args) ++ (equality_text l.positive ++ elem_text x)

@@ -28,7 +28,7 @@ all_has P [] all x h = absurd h
 all_has P (y ∷ xs) all x (inl e) = subst P e all.0
 all_has P (y ∷ xs) all x (inr h) = all_has P xs all.1 x h
 
--- the rows of a table that can be told from its text
+-- the rows of a table that its text determines
 abbrev pub IsReadable : List ℕ → List (List Elem) → Type 0
 IsReadable [] rows = (rows ≡ []) ⊎ (rows ≡ [] ∷ [])
 IsReadable (ty ∷ types) rows = AllByRecursion IsSomeRow rows
@@ -58,7 +58,7 @@ value_same (ty ∷ types) rows rows' r s h k q =
 
 -- ---- functions
 
--- the rest of a function's row behind its first element
+-- the rest of a function's row after its first element
 mapping_args : (x : Elem) (t : List Elem) (y : Elem)
     → further_text (t ++ y ∷ []) ≡ flat_map (λ z. codes "," ++ elem_text z) t ++ (codes "->" ++ elem_text y)
 mapping_args x [] y = ap (λ (l : List ℕ). codes "->" ++ l) (append-nil (elem_text y))
@@ -86,7 +86,7 @@ mapping_is (x ∷ t) y =
     ∙ sym (append_assoc (elem_text x) others (codes "->" ++ elem_text y))
     ∙ sym (append_assoc (elem_text x ++ others) (codes "->") (elem_text y))
 
--- two values for the same arguments, with what stands behind them
+-- two values for the same arguments, with what stands after them
 mapping_same : (values t row row' : List Elem) (r s : List ℕ) → AllByRecursion CanBeWritten values
     → IsRowFor values t row → IsRowFor values t row' → Stopped r → Stopped s
     → mapping_text row ++ r ≡ mapping_text row' ++ s → (row ≡ row') × (r ≡ s)

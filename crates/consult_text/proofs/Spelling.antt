@@ -30,7 +30,7 @@ elem_same (integer false text) (named text') r r' q = absurd (cc)
 elem_same (integer false text) (integer true text') r r' q = absurd (cc)
 elem_same (integer false text) (integer false text') r r' q = (cc, cc)
 
--- the first token that is behind some elements is that of a longer list or the parenthesis
+-- the first token that is after some elements is that of a longer list or the parenthesis
 pub further_front : (es es' : List WrittenElem) (cur r : List Tok) → AllByRecursion HasName es'
     → put_further es cur ≡ put_further es' (close r) → (more : List WrittenElem) × AllByRecursion HasName more
     × (cur ≡ put_further more (close r))

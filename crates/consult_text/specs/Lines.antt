@@ -49,8 +49,7 @@ StandsFor kb w l =
     × (l ≡ literal_of number w) × IsLiteralOver kb l
 
 -- the written literal is refused, for the first of its causes: its symbol is not declared, is of another form, or an
--- element
--- is not in its position's type
+-- element is not in its position's type
 abbrev pub IsRefusedFor : Base → WrittenLiteral → F → Type 0
 IsRefusedFor kb w refusal.UnknownSymbol = (s : Symbol) → Contains kb.vocabulary.symbols s → s.name ≢ name_of w
 IsRefusedFor kb w refusal.WrongArity = (number : ℕ) × (s : Symbol)

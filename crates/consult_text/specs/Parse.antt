@@ -79,7 +79,7 @@ ParsesFurther before now ts (Some rest) =
 abbrev pub IsClosed : List Tok → Type 0
 IsClosed ts = (rest : List Tok) → ts ≢ sign (codes "(") ∷ rest
 
--- arguments, and what is behind them wherever no opening parenthesis is
+-- arguments, and what is after them wherever no opening parenthesis is
 abbrev pub ParsesArgs : List Tok → List WrittenElem → List Tok → Type 0
 ParsesArgs ts es rest =
     (ts ≡ put_args es rest) × AllByRecursion HasName es × ((es' : List WrittenElem) (rest' : List Tok) → IsClosed rest'
@@ -89,7 +89,7 @@ abbrev pub HasNoArgs : List Tok → Type 0
 HasNoArgs ts = (es : List WrittenElem) (rest : List Tok) → AllByRecursion HasName es → IsClosed rest
     → ts ≢ put_args es rest
 
--- a name with arguments, and what is behind them wherever no opening parenthesis is
+-- a name with arguments, and what is after them wherever no opening parenthesis is
 abbrev pub ParsesHead : List Tok → List ℕ → List WrittenElem → List Tok → Type 0
 ParsesHead ts name es rest =
     (ts ≡ word name ∷ put_args es rest) × IsName name × AllByRecursion HasName es
@@ -113,7 +113,7 @@ abbrev pub ParsesEquality : List Tok → Option (Bool × Bor (List Token)) → T
 ParsesEquality ts None = (positive : Bool) (rest : List Tok) → ts ≢ sign (equals positive) ∷ rest
 ParsesEquality ts (Some p) = ts ≡ sign (equals p.0) ∷ toks p.1.now
 
--- the tokens behind the sign of an atom that is false
+-- the tokens after the sign of an atom that is false
 abbrev pub ParsesNegated : List Tok → Option LiteralText → Type 0
 ParsesNegated ts None = (name : List ℕ) (es : List WrittenElem) → IsName name → AllByRecursion HasName es
     → ts ≢ word name ∷ put_args es dot
@@ -132,7 +132,7 @@ abbrev pub ParsesLiteral : List Tok → Option LiteralText → Type 0
 ParsesLiteral ts None = (l : WrittenLiteral) → HasNames l → ts ≢ put_literal l dot
 ParsesLiteral ts (Some l) = (ts ≡ put_literal (literal_view l) dot) × HasNames (literal_view l)
 
--- the tokens behind the word `budget`
+-- the tokens after the word `budget`
 abbrev pub ParsesBudget : List Tok → Option CommandText → Type 0
 ParsesBudget ts None = ((text : List ℕ) → IsBudget text → ts ≢ digits text ∷ dot)
     × (ts ≢ word (codes "unlimited") ∷ dot)

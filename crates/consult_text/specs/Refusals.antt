@@ -5,7 +5,7 @@ use Rattle.consult_text.specs.declared.refusals.F.{F}
 use Rattle.consult_text.specs.declared.refusals.F.TheVariants.{Syntax, UnknownSymbol, WrongArity, NotAnElement}
 use Rattle.consult_text.specs.declared.refusals.F.TheVariants.{AlreadyChosen, NotChosen, GivenByData, LineTooLong}
 
--- the number behind the letter F
+-- the number after the letter F
 abbrev pub number_of : F → ℕ
 number_of Syntax = 1
 number_of UnknownSymbol = 2

@@ -231,7 +231,7 @@ fn make_literal<'a>(positive: bool, head: Head<'a>, value: Option<ElemText<'a>>)
     }
 }
 
-/// An atom behind its `~`.
+/// An atom after its `~`.
 fn parse_negated<'a>(alloc: Global, tokens: &[Token<'a>]) -> Result<Option<LiteralText<'a>>, Memory>
     ensures { IfOk result (λ found. ParsesNegated (toks tokens.now) found) }
 {
@@ -314,7 +314,7 @@ pub fn parse_command<'a>(
     }
 }
 
-/// The budget behind its word.
+/// The budget after its word.
 fn parse_budget<'a>(tokens: &[Token<'a>]) -> Option<CommandText<'a>>
     ensures { ParsesBudget (toks tokens.now) result }
 {

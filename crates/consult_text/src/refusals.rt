@@ -26,7 +26,7 @@ pub enum F {
 }
 
 impl F {
-    /// The number that is printed behind the letter F.
+    /// The number that is printed after the letter F.
     pub fn number(self) -> u8
         ensures { result ≡ number_of self }
     {
@@ -42,7 +42,7 @@ impl F {
         }
     }
 
-    /// The name that is printed behind the number.
+    /// The name that is printed after the number.
     pub fn name(self) -> &'static str
         ensures { result.now ≡ name_of self }
     {

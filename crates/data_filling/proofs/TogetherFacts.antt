@@ -1,5 +1,6 @@
 -- Facts that differ in their only argument alone say what the facts of the set of their arguments say.
-use Rattle.std.proofs.Common.{◌≡◌, ◌==◌, ◌<◌, ℕ, ℤ, Bool, true, false, ◌&&◌, ◌||◌, List, [], ◌∷◌, ◌++◌, map, length, None}
+use Rattle.std.proofs.Common.{◌≡◌, ◌==◌, ◌<◌, ℕ, ℤ, Bool, true, false, ◌&&◌, ◌||◌, List, [], ◌∷◌, ◌++◌, map, length}
+use Rattle.std.proofs.Common.{None}
 use Rattle.std.proofs.Common.{Some, Bor, slice_get, refl, sym, ap, subst, ◌∙◌, arith, Contains, inl, inr}
 use Rattle.std.specs.List.{list_any, AllByRecursion}
 use Rattle.std.proofs.lemmas.Bool.{true≢false, or_cases, or_left, or_right}
@@ -46,7 +47,8 @@ none_of (x ∷ xs) = none_of xs
 abbrev are_among : List Cell → List Elem → Bool
 are_among cells xs = list_any (λ c. are_in xs (c ∷ [])) cells
 
-among_as : (cells : List Cell) (x : Elem) (xs : List Elem) → are_among cells (x ∷ xs) ≡ (is_among cells x && are_in xs [])
+among_as : (cells : List Cell) (x : Elem) (xs : List Elem) → are_among cells (x ∷ xs)
+    ≡ (is_among cells x && are_in xs [])
 among_as cells x xs = any_and (is_in x) (are_in xs []) cells
 
 module _ (symbol : ℕ) (holds : Bool) (cs ds : List Cell) (same : (x : Elem) → is_among cs x ≡ is_among ds x) where

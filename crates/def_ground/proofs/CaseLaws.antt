@@ -2,8 +2,8 @@
 use Rattle.std.proofs.Common.{◌≡◌, ℕ, ◌+◌, ◌≤◌, Bool, true, false, not, ◌&&◌, ◌||◌, List, [], ◌∷◌, ◌++◌, map, All}
 use Rattle.std.proofs.Common.{if◌then◌else◌, Option, Some, None, refl, sym, ap, ◌∙◌, subst, arith, filter, option_map}
 use Rattle.std.specs.List.{list_all, list_any, AllByRecursion}
-use Rattle.std.proofs.lemmas.List.Elements.{All-append, All-cons, All-nil, All-map}
-use Rattle.std.proofs.lemmas.List.Folds.{list_all-append, list_any-append}
+use Rattle.std.proofs.lemmas.List.Elements.{All-append, All-cons, All-nil}
+use Rattle.std.proofs.lemmas.List.Folds.{list_all-append}
 use Rattle.std.proofs.lemmas.Bool.{and_parts}
 use Rattle.lit_core.specs.declared.literals.Lit.{Lit}
 use Rattle.lit_core.specs.Literals.{literal_value, negated, by_sign}
@@ -19,85 +19,20 @@ use Rattle.ground_core.proofs.Mores.{added}
 use Rattle.def_ground.specs.declared.answers.Answer.{Answer}
 use Rattle.def_ground.specs.declared.answers.Answer.TheVariants.{Constant, Literal}
 use Rattle.def_ground.specs.Answers.{GroundResult, answer_value, AnswerWithin}
-use Rattle.def_ground.specs.Cases.{certain_answer, answer_or_cases, Case, side_value, side_clauses, clauses_of_cases}
+use Rattle.def_ground.specs.Cases.{certain_answer, answer_or_cases, Case, side_value, clauses_saying, clauses_of_cases}
 use Rattle.def_ground.specs.Cases.{with_cases, is_always, unguarded_answer, plain_answer, single_answer, only_literal}
 use Rattle.def_ground.specs.Cases.{only_guard, is_certain, cases_of}
 use Rattle.def_ground.specs.Meanings.{Means, IsCaseOf, CasesSay, selected_cases, SideWithin}
 use Rattle.def_ground.specs.Laws.{CasesAreRight}
 use Rattle.def_ground.proofs.Growing.{more-refl, lits-more, problem-grown}
-
-not-and : (a b : Bool) → (not a || not b) ≡ not (a && b)
-not-and true b = refl
-not-and false b = refl
-
-pub any-negated : (v : ℕ → Bool) (ls : List Lit)
-    → list_any (literal_value v) (map negated ls) ≡ not (list_all (literal_value v) ls)
-any-negated v [] = refl
-any-negated v (l ∷ ls) =
-    let here = value-negated v l in
-    let rest = any-negated v ls in
-    let turn = not-and (literal_value v l) (list_all (literal_value v) ls) in cc
-
-or-true : (a : Bool) → true ≡ (a || true)
-or-true true = refl
-or-true false = refl
-
-or-or-true : (a b : Bool) → true ≡ (a || (b || true))
-or-or-true true b = refl
-or-or-true false b = or-true b
+use Rattle.def_ground.proofs.ShownCases.{cases-shown, clauses-in}
 
 one-clause : (a : Bool) → (a && true) ≡ a
 one-clause true = refl
 one-clause false = refl
 
-with-side : (v : ℕ → Bool) (l : Lit) (g : List Lit) (o : Option (List Lit))
-    → list_all (clause_value v) (side_clauses l g o) ≡
-    (literal_value v l || (not (list_all (literal_value v) g) || side_value v o))
-with-side v l g None = or-or-true (literal_value v l) (not (list_all (literal_value v) g))
-with-side v l g (Some ls) =
-    one-clause (clause_value v (l ∷ map negated g ++ ls))
-    ∙ ap (λ c. literal_value v l || c)
-    (list_any-append (literal_value v) (map negated g) ls
-    ∙ ap (λ c. c || list_any (literal_value v) ls) (any-negated v g))
-
--- what the clauses of one case say
-abbrev said : Bool → Bool → Bool → Bool → Bool
-said o g y n = (not o || (not g || y)) && (o || (not g || n))
-
-case-said : (v : ℕ → Bool) (out : Lit) (c : Case)
-    → list_all (clause_value v) (side_clauses (negated out) c.guards c.yes ++ side_clauses out c.guards c.no) ≡ said
-    (literal_value v out) (list_all (literal_value v) c.guards) (side_value v c.yes) (side_value v c.no)
-case-said v out c =
-    list_all-append (clause_value v) (side_clauses (negated out) c.guards c.yes) (side_clauses out c.guards c.no)
-    ∙ ap (λ x. x && list_all (clause_value v) (side_clauses out c.guards c.no))
-    (with-side v (negated out) c.guards c.yes
-    ∙ ap (λ x. x || (not (list_all (literal_value v) c.guards) || side_value v c.yes)) (value-negated v out))
-    ∙ ap (λ x. (not (literal_value v out) || (not (list_all (literal_value v) c.guards) || side_value v c.yes)) && x)
-    (with-side v out c.guards c.no)
-
-abbrev open-said : Bool → (ℕ → Bool) → Case → Bool
-open-said o v c = (not o || side_value v c.yes) && (o || side_value v c.no)
-
-said-step : (o g y n : Bool) (v : ℕ → Bool) (c : Case) (cs : List Case) (rest : Bool) → y ≡ side_value v c.yes
-    → n ≡ side_value v c.no → rest ≡ list_all (open-said o v) cs
-    → (said o g y n && rest) ≡ list_all (open-said o v) (if g then c ∷ cs else cs)
-said-step o true y n v c cs rest ey en e = cc
-said-step true false y n v c cs rest ey en e = e
-said-step false false y n v c cs rest ey en e = e
-
-cases-said : (v : ℕ → Bool) (out : Lit) (cs : List Case)
-    → list_all (clause_value v) (clauses_of_cases out cs) ≡ list_all (open-said (literal_value v out) v)
-    (selected_cases v cs)
-cases-said v out [] = refl
-cases-said v out (c ∷ cs) =
-    list_all-append (clause_value v) (side_clauses (negated out) c.guards c.yes ++ side_clauses out c.guards c.no)
-    (clauses_of_cases out cs)
-    ∙ ap (λ x. x && list_all (clause_value v) (clauses_of_cases out cs)) (case-said v out c)
-    ∙ said-step (literal_value v out) (list_all (literal_value v) c.guards) (side_value v c.yes)
-    (side_value v c.no) v c (selected_cases v cs) (list_all (clause_value v) (clauses_of_cases out cs)) refl refl
-    (cases-said v out cs)
-
-one-said : (o x : Bool) → (((not o || x) && (o || not x)) && true) ≡ by_sign o x
+-- the output has the value of the cases
+one-said : (o x : Bool) → (((not o || false) || x) && ((o || false) || not x)) ≡ by_sign o x
 one-said true true = refl
 one-said true false = refl
 one-said false true = refl
@@ -106,9 +41,11 @@ one-said false false = refl
 cases-value : (v : ℕ → Bool) (out : Lit) (cs : List Case) (x : Bool) → CasesSay v cs x
     → list_all (clause_value v) (clauses_of_cases out cs) ≡ by_sign (literal_value v out) x
 cases-value v out cs x say =
-    cases-said v out cs ∙ ap (list_all (open-said (literal_value v out) v)) say.one
-    ∙ ap (λ y. ((not (literal_value v out) || y) && (literal_value v out || side_value v say.case.no)) && true) say.yes
-    ∙ ap (λ y. ((not (literal_value v out) || x) && (literal_value v out || y)) && true) say.no
+    list_all-append (clause_value v) (clauses_saying true (negated out ∷ []) cs) (clauses_saying false (out ∷ []) cs)
+    ∙ ap (λ c. c && list_all (clause_value v) (clauses_saying false (out ∷ []) cs))
+    (cases-shown v true (negated out ∷ []) cs x say
+    ∙ ap (λ c. (c || false) || x) (value-negated v out))
+    ∙ ap (λ c. ((not (literal_value v out) || false) || x) && c) (cases-shown v false (out ∷ []) cs x say)
     ∙ one-said (literal_value v out) x
 
 -- a property of all cases is one of the selected_values case
@@ -155,31 +92,32 @@ plain-within n (x ∷ g) (Some []) a w h = cc
 plain-within n (x ∷ g) (Some (l ∷ ls)) a w h = cc
 
 -- the clauses are over the variables
-pub side-clauses : (n : ℕ) (l : Lit) (g : List Lit) (o : Option (List Lit)) → IsLitOf n l → AreLitsOf n g
-    → SideWithin n o
-    → All (AreLitsOf n) (side_clauses l g o)
-side-clauses n l g None hl hg ho = All-nil (AreLitsOf n)
-side-clauses n l g (Some ls) hl hg ho =
-    All-cons (AreLitsOf n) (l ∷ map negated g ++ ls) []
-    (All-cons (IsLitOf n) l (map negated g ++ ls) hl
-    (All-append (IsLitOf n) (map negated g) ls (All-map (IsLitOf n) negated g (λ k d lt. hg k d lt)) ho))
-    (All-nil (AreLitsOf n))
-
 pub side-more : (n m : ℕ) (le : n ≤ m) (o : Option (List Lit)) → SideWithin n o → SideWithin m o
 side-more n m le None h = tt
 side-more n m le (Some ls) h = lits-more n m le ls h
 
+pub cases-more : (n m : ℕ) (le : n ≤ m) (cs : List Case) → AllByRecursion (IsCaseOf n) cs
+    → AllByRecursion (IsCaseOf m) cs
+cases-more n m le [] h = tt
+cases-more n m le (c ∷ cs) h = (
+  record {
+    guards = lits-more n m le c.guards h.0.guards;
+    yes = side-more n m le c.yes h.0.yes;
+    no = side-more n m le c.no h.0.no;
+  },
+  cases-more n m le cs h.1,
+)
+
+lone : (n : ℕ) (l : Lit) → IsLitOf n l → AreLitsOf n (l ∷ [])
+lone n l h = All-cons (IsLitOf n) l [] h (All-nil (IsLitOf n))
+
 pub case-clauses : (n m : ℕ) (le : n ≤ m) (out : Lit) (cs : List Case) → IsLitOf m out → AllByRecursion (IsCaseOf n) cs
     → All (AreLitsOf m) (clauses_of_cases out cs)
-case-clauses n m le out [] ho h = All-nil (AreLitsOf m)
-case-clauses n m le out (c ∷ cs) ho h =
-    let g = lits-more n m le c.guards h.0.guards in
-    All-append (AreLitsOf m) (side_clauses (negated out) c.guards c.yes ++ side_clauses out c.guards c.no)
-    (clauses_of_cases out cs)
-    (All-append (AreLitsOf m) (side_clauses (negated out) c.guards c.yes) (side_clauses out c.guards c.no)
-    (side-clauses m (negated out) c.guards c.yes ho g (side-more n m le c.yes h.0.yes))
-    (side-clauses m out c.guards c.no ho g (side-more n m le c.no h.0.no)))
-    (case-clauses n m le out cs ho h.1)
+case-clauses n m le out cs ho h =
+    let are = cases-more n m le cs h in
+    All-append (AreLitsOf m) (clauses_saying true (negated out ∷ []) cs) (clauses_saying false (out ∷ []) cs)
+    (clauses-in m true (negated out ∷ []) cs (lone m (negated out) ho) are)
+    (clauses-in m false (out ∷ []) cs (lone m out ho) are)
 
 when-one : (g : Bool) (c d : Case) → g ≡ true → (if g then c ∷ [] else []) ≡ d ∷ [] → c ≡ d
 when-one true c d h e = cc

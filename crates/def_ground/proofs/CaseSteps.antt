@@ -15,7 +15,7 @@ use Rattle.def_ground.specs.Cases.{answer_without}
 use Rattle.def_ground.specs.Cases.{cases_of}
 use Rattle.def_ground.specs.CaseViews.{case_view}
 use Rattle.def_ground.specs.Meanings.{IsCaseOf}
-use Rattle.def_ground.proofs.CaseLaws.{side-clauses, plain-of-within}
+use Rattle.def_ground.proofs.CaseLaws.{plain-of-within}
 
 module _ (P : Case → Bool) where
   guard-step : (t a : Bool) (x y : Case) (fs : List Case)
@@ -41,10 +41,6 @@ module _ (P : Case → Bool) where
       ∙ ap (λ t. only_guard (cond t (case_view x ∷ filter P rest) (filter P rest))) p
       ∙ guard-first (case_view x) rest
       ∙ ap (λ b. if b then only_literal x.guards.now else None) e)
-
-pub side-clause-in : (n : ℕ) (l : Lit) (g ls : List Lit) → IsLitOf n l → AreLitsOf n g → AreLitsOf n ls
-    → AreLitsOf n (l ∷ map negated g ++ ls)
-side-clause-in n l g ls here guards side = side-clauses n l g (Some ls) here guards side 0 [] (omega arith)
 
 module _ (p : ProblemState) (cs : List Case) (h : AllByRecursion (IsCaseOf p.vars) cs) where
   abbrev made : Bool → Bool → Option Answer → GroundResult

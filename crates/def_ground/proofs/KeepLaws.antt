@@ -20,11 +20,11 @@ use Rattle.term_values.specs.Rows.{rows_of_term, rows_of_terms}
 use Rattle.def_ground.specs.declared.answers.Answer.{Answer}
 use Rattle.def_ground.specs.declared.answers.Answer.TheVariants.{Constant, Literal}
 use Rattle.def_ground.specs.Answers.{GroundResult, gate_of}
-use Rattle.def_ground.specs.Cases.{Case, answer_or_cases, answer_without, clauses_of_cases, cases_of}
+use Rattle.def_ground.specs.Cases.{Case, answer_or_cases, answer_without, clauses_of_cases, clauses_saying, cases_of}
 use Rattle.def_ground.specs.Comparisons.{guard_answers, comparison_case, comparison_of}
 use Rattle.def_ground.specs.Forms.{Parts, settles, with_answer, next_parts, no_more_parts, parts_each, close_parts}
 use Rattle.def_ground.specs.Forms.{opposite_result, signed_result, same_of, atom_case, form_of, parts_of}
-use Rattle.def_ground.specs.CaseSentences.{or_clause, clauses_saying, answer_or_clauses, assert_cases}
+use Rattle.def_ground.specs.CaseSentences.{or_clause, answer_or_clauses, assert_cases}
 use Rattle.def_ground.specs.CaseSentences.{assert_comparison, alike_clauses, assert_alike}
 use Rattle.def_ground.specs.Disjuncts.{own_part, disjuncts_of, all_disjuncts}
 use Rattle.def_ground.specs.Sentences.{are_few, parts_clause, assert_each, assert_of, assert_all, assert_any}

@@ -1,4 +1,5 @@
 pub mod Growing
+pub mod ShownCases
 pub mod CaseLaws
 pub mod CaseSteps
 pub mod FormLaws
@@ -19,3 +20,4 @@ pub mod ProblemLaws
 pub mod Counting
 pub mod FewLaws
 pub mod WithClauses
+pub mod SideSteps

@@ -18,8 +18,7 @@ use Rattle.def_ground.specs.GroundForms.{IsPredicateOf, IsGroundForm, AreGroundF
 
 abbrev mutual
   -- each term in the formula is well typed, where the scope has the types of the variables in scope, and there are no
-  -- number
-  -- quantifiers
+  -- number quantifiers
   pub IsTypedForm : Vocabulary → List (List Elem) → List ℕ → FormulaTree → Type 0
   IsTypedForm v domains scope verum = Unit {0}
   IsTypedForm v domains scope falsum = Unit {0}

@@ -1,6 +1,5 @@
 -- Atoms, comparisons and equivalences that are asserted: each case is a clause, and no variable is made for the whole.
-use Rattle.std.specs.Prelude.{List, [], ◌∷◌, ◌++◌, map, flat_map, Bool, true, false, not, if◌then◌else◌, Option, Some}
-use Rattle.std.specs.Prelude.{None}
+use Rattle.std.specs.Prelude.{List, [], ◌∷◌, ◌++◌, map, Bool, true, false, if◌then◌else◌, Option, Some, None}
 use Rattle.kb_logic.specs.declared.syntax.Cmp.{Cmp}
 use Rattle.kb_logic.specs.Denotations.{Denotation}
 use Rattle.lit_core.specs.declared.literals.Lit.{Lit}
@@ -10,36 +9,13 @@ use Rattle.ground_core.specs.Growth.{with_clause}
 use Rattle.def_ground.specs.declared.answers.Answer.{Answer}
 use Rattle.def_ground.specs.declared.answers.Answer.TheVariants.{Constant, Literal}
 use Rattle.def_ground.specs.Answers.{GroundResult}
-use Rattle.def_ground.specs.Cases.{Case, side_of, with_clauses, only_literal, answer_without}
+use Rattle.def_ground.specs.Cases.{Case, with_clauses, clauses_saying, answer_without}
 use Rattle.def_ground.specs.Comparisons.{guard_answers, comparison_case}
 use Rattle.def_ground.specs.Forms.{settles, with_answer, signed_result, same_of}
 
 -- the clause of the literals and the answer
 abbrev pub or_clause : List Lit → GroundResult → ProblemState
 or_clause ls g = if settles false g.answer then g.problem else with_clause g.problem (with_answer g.answer ls)
-
--- the one literal of a side of one literal
-abbrev pub only_of : Option (List Lit) → Option Lit
-only_of None = None
-only_of (Some ls) = only_literal ls
-
-abbrev pub shown_by : List Lit → Option Lit → List Lit
-shown_by ks None = ks
-shown_by ks (Some l) = negated l ∷ []
-
--- that one of a side's literals is true; where the other side is one literal, that this one is false says the same
-abbrev pub shown_lits : List Lit → Option (List Lit) → List Lit
-shown_lits ks other = shown_by ks (only_of other)
-
--- under the guards the side is true, or one of the literals is; nothing is said where it is so in any case
-abbrev pub shown_clauses : List Lit → List Lit → Option (List Lit) → Option (List Lit) → List (List Lit)
-shown_clauses ls guards None other = []
-shown_clauses ls guards (Some ks) other = (ls ++ map negated guards ++ shown_lits ks other) ∷ []
-
--- each of the cases is true, or where the sign is false each is not
-abbrev pub clauses_saying : Bool → List Lit → List Case → List (List Lit)
-clauses_saying sign ls cs =
-    flat_map (λ (c : Case). shown_clauses ls c.guards (side_of sign c) (side_of (not sign) c)) cs
 
 -- the answer's clause, or else that of each case
 abbrev pub answer_or_clauses : Option Answer → Bool → List Lit → List Case → ProblemState → ProblemState

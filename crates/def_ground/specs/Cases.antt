@@ -1,6 +1,6 @@
 -- Cases, of which exactly one has true guards: what atoms and comparisons of terms come to. They take at most one new
 -- variable, beside those for guards of several literals.
-use Rattle.std.specs.Prelude.{ℕ, ◌+◌, List, [], ◌∷◌, ◌++◌, map, flat_map, Bool, true, false, if◌then◌else◌, ◌||◌}
+use Rattle.std.specs.Prelude.{ℕ, ◌+◌, List, [], ◌∷◌, ◌++◌, map, flat_map, Bool, true, false, not, if◌then◌else◌, ◌||◌}
 use Rattle.std.specs.Prelude.{Option, Some, None, filter, option_map}
 use Rattle.std.specs.List.{list_all, list_any}
 use Rattle.lit_core.specs.declared.literals.Lit.{Lit}
@@ -12,8 +12,7 @@ use Rattle.def_ground.specs.declared.answers.Answer.TheVariants.{Constant, Liter
 use Rattle.def_ground.specs.Answers.{GroundResult}
 
 -- under the guards the whole is true where `yes` is, and false where `no` is; a side is a list of literals, one of
--- which
--- is true, or nothing, which is true in any case
+-- which is true, or nothing, which is true in any case
 pub record Case : Type 0 where
   pub guards : List Lit
   pub yes : Option (List Lit)
@@ -29,19 +28,42 @@ abbrev pub side_value : (ℕ → Bool) → Option (List Lit) → Bool
 side_value v None = true
 side_value v (Some ls) = list_any (literal_value v) ls
 
--- under the guards: the literal, or the side
-abbrev pub side_clauses : Lit → List Lit → Option (List Lit) → List (List Lit)
-side_clauses l guards None = []
-side_clauses l guards (Some ls) = (l ∷ map negated guards ++ ls) ∷ []
+-- the one literal of a list of one
+abbrev pub only_literal : List Lit → Option Lit
+only_literal [] = None
+only_literal (l ∷ []) = Some l
+only_literal (l ∷ m ∷ ls) = None
+
+-- the one literal of a side of one literal
+abbrev pub only_of : Option (List Lit) → Option Lit
+only_of None = None
+only_of (Some ls) = only_literal ls
+
+abbrev pub shown_by : List Lit → Option Lit → List Lit
+shown_by ks None = ks
+shown_by ks (Some l) = negated l ∷ []
+
+-- that one of a side's literals is true; where the other side is one literal, that this one is false says the same
+abbrev pub shown_lits : List Lit → Option (List Lit) → List Lit
+shown_lits ks other = shown_by ks (only_of other)
+
+-- under the guards the side is true, or one of the literals is; nothing is said where it is so in any case
+abbrev pub shown_clauses : List Lit → List Lit → Option (List Lit) → Option (List Lit) → List (List Lit)
+shown_clauses ls guards None other = []
+shown_clauses ls guards (Some ks) other = (ls ++ map negated guards ++ shown_lits ks other) ∷ []
+
+-- each of the cases is true, or where the sign is false each is not, or one of the literals is true
+abbrev pub clauses_saying : Bool → List Lit → List Case → List (List Lit)
+clauses_saying sign ls cs =
+    flat_map (λ (c : Case). shown_clauses ls c.guards (side_of sign c) (side_of (not sign) c)) cs
 
 -- the problem with more clauses
 abbrev pub with_clauses : ProblemState → List (List Lit) → ProblemState
 with_clauses p cs = record p { clauses = p.clauses ++ cs }
 
--- the clauses that give the output its value in each case
+-- the clauses that make the output true where the cases are, and false where they are not
 abbrev pub clauses_of_cases : Lit → List Case → List (List Lit)
-clauses_of_cases out cs =
-    flat_map (λ (c : Case). side_clauses (negated out) c.guards c.yes ++ side_clauses out c.guards c.no) cs
+clauses_of_cases out cs = clauses_saying true (negated out ∷ []) cs ++ clauses_saying false (out ∷ []) cs
 
 -- the problem with one more variable, and clauses
 abbrev pub with_var_and : ProblemState → List (List Lit) → ProblemState
@@ -75,12 +97,6 @@ abbrev pub single_answer : List Case → Option Answer
 single_answer [] = None
 single_answer (c ∷ []) = unguarded_answer c.guards c.yes
 single_answer (c ∷ d ∷ cs) = None
-
--- the one literal of a list of one
-abbrev pub only_literal : List Lit → Option Lit
-only_literal [] = None
-only_literal (l ∷ []) = Some l
-only_literal (l ∷ m ∷ ls) = None
 
 -- the guard of a case that stands alone, where it has just one
 abbrev pub only_guard : List Case → Option Lit

@@ -1,6 +1,5 @@
 -- A comparison of two terms, by their rows: a case for each row of the left term, whose sides are the values of the
--- right
--- term that compare so. No variable is made for a pair of values.
+-- right term that compare so. No variable is made for a pair of values.
 use Rattle.std.specs.Prelude.{List, [], ◌∷◌, map, Bool, true, false, not, if◌then◌else◌, Option, Some, None}
 use Rattle.std.specs.List.{list_all}
 use Rattle.kb_logic.specs.declared.syntax.Cmp.{Cmp}

@@ -26,8 +26,7 @@ pub record IsGroundTheory (base : Base) : Type 0 where
   pub definitions : base.theory.definitions ≡ []
 
 -- each model is the structure of a valuation that satisfies the problem, and of one alone; and the structure of each
--- such
--- valuation is a model
+-- such valuation is a model
 pub record IsGroundingOf (base : Base) (p : ProblemState) : Type 0 where
   -- the ground atoms are the first variables, in the order of all atoms
   pub atoms : p.atoms ≡ ground_atoms base.vocabulary.symbols base.known.domains

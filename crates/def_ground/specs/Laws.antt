@@ -54,8 +54,7 @@ SentencesAreAsserted =
     → AssertsMore p (assert_sentences b fs p) (λ v. list_all (λ f. truth_of (structure_of b v) f []) fs)
 
 -- in a valuation with what is known, the clauses of exactly one of the open variables say that exactly one of the
--- values
--- is chosen
+-- values is chosen
 abbrev pub OneEachByClauses : Type 0
 OneEachByClauses =
     (b : GroundBase) (v : ℕ → Bool) (n : ℕ) (xs : List Elem) → HasKnown b v

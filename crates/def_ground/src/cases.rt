@@ -1,21 +1,13 @@
 //! Cases, of which exactly one has true guards, as what a problem defines.
-ghost use Rattle.std.specs.Prelude.{◌≡◌, ◌∷◌, [], ◌++◌, not, map, filter, IfOk, OnOk};
-ghost use Rattle.std.specs.List.{list_all, AllByRecursion};
-ghost use Rattle.lit_core.specs.Literals.{negated};
-ghost use Rattle.ground_core.specs.Problems.{IsLitOf, AreLitsOf};
-ghost use Rattle.ground_core.specs.Growth.{next_lit};
-ghost use Rattle.def_ground.specs.declared.answers.Answer.TheVariants.{Literal};
-ghost use Rattle.def_ground.specs.Answers.{Makes, Grows};
+ghost use Rattle.std.specs.Prelude.{◌≡◌, ◌∷◌, [], not, map, filter, IfOk};
+ghost use Rattle.std.specs.List.{list_all};
 ghost use Rattle.def_ground.specs.Cases.{is_always, is_certain, only_literal, only_guard, single_answer, plain_answer};
-ghost use Rattle.def_ground.specs.Cases.{unguarded_answer, side_of, side_clauses, clauses_of_cases, with_clauses};
-ghost use Rattle.def_ground.specs.Cases.{with_cases};
-ghost use Rattle.def_ground.specs.Cases.{answer_without, cases_of, case_of as case_of_answer};
+ghost use Rattle.def_ground.specs.Cases.{unguarded_answer, side_of, answer_without, case_of as case_of_answer};
 ghost use Rattle.def_ground.specs.CaseViews.{case_view};
-ghost use Rattle.def_ground.specs.Meanings.{IsCaseOf, SideWithin};
 
 use crate::answers::Answer;
-use ground_core::{LitList, Memory, Problem};
-use lit_core::{Clause, Lit};
+use ground_core::{LitList, Memory};
+use lit_core::Lit;
 use std::alloc::Global;
 
 /// Under the guards the whole is true where the side `yes` is, and false where `no` is. A side is a list
@@ -196,84 +188,5 @@ pub fn case_of<'a>(alloc: Global, guards: &'a [Lit], answer: Answer) -> Result<C
             yes: Some(one_literal(alloc, lit)?),
             no: Some(one_literal(alloc, lit.negated())?),
         }),
-    }
-}
-
-/// The clause of the literal, the negated guards and the side's literals.
-fn side_clause(alloc: Global, lit: Lit, guards: &[Lit], side: &[Lit]) -> Result<Clause, Memory>
-    ensures { IfOk result (λ c. c ≡ lit ∷ map negated guards.now ++ side.now) }
-{
-    let mut clause = Clause::new(alloc);
-    clause.push(lit)?;
-    for guard in guards {
-        clause.push(guard.negated())?;
-    }
-    for part in side {
-        clause.push(*part)?;
-    }
-    Ok(clause)
-}
-
-/// Says that under the guards the literal or the side is true.
-fn push_side(
-    alloc: Global,
-    lit: Lit,
-    guards: &[Lit],
-    side: &Option<LitList>,
-    problem: &mut Problem,
-) -> Result<(), Memory>
-    requires lit { IsLitOf problem.old.vars lit }
-    requires guards { AreLitsOf problem.old.vars guards.now }
-    requires side { SideWithin problem.old.vars side.now }
-    ensures { OnOk result (problem.new ≡ with_clauses problem.old (side_clauses lit guards.now side.now)) }
-{
-    match side {
-        None => Ok(()),
-        Some(lits) => problem.add_clause(side_clause(alloc, lit, guards, lits.as_slice())?),
-    }
-}
-
-/// Says that the literal has in each case the case's value.
-fn push_sides(
-    alloc: Global,
-    out: Lit,
-    cases: &[Case<'_>],
-    problem: &mut Problem,
-) -> Result<(), Memory>
-    requires out { IsLitOf problem.old.vars out }
-    requires cases { AllByRecursion (IsCaseOf problem.old.vars) (map case_view cases.now) }
-    ensures { OnOk result (problem.new ≡ with_clauses problem.old (clauses_of_cases out (map case_view cases.now))) }
-{
-    for case in cases {
-        push_side(alloc, out.negated(), case.guards, &case.yes, problem)?;
-        push_side(alloc, out, case.guards, &case.no, problem)?;
-    }
-    Ok(())
-}
-
-/// A new variable that has in each case the case's value.
-fn add_cases(alloc: Global, cases: &[Case<'_>], problem: &mut Problem) -> Result<Answer, Memory>
-    requires { AllByRecursion (IsCaseOf problem.old.vars) (map case_view cases.now) }
-    ensures { IfOk result (λ a. (a ≡ Literal (next_lit problem.old))
-        × (problem.new ≡ with_cases problem.old (map case_view cases.now))) }
-{
-    let out = problem.add_var()?;
-    push_sides(alloc, out, cases, problem)?;
-    Ok(Answer::Literal(out))
-}
-
-/// What the cases come to: a constant, a literal, or else a new variable.
-pub fn answer_of_cases(
-    alloc: Global,
-    cases: &[Case<'_>],
-    problem: &mut Problem,
-) -> Result<Answer, Memory>
-    requires { AllByRecursion (IsCaseOf problem.old.vars) (map case_view cases.now) }
-    ensures made { IfOk result (λ a. Makes (cases_of (map case_view cases.now) problem.old) a problem.new) }
-    ensures grows { IfOk result (λ a. Grows problem.old problem.new a) }
-{
-    match without_variable(cases) {
-        Some(answer) => Ok(answer),
-        None => add_cases(alloc, cases, problem),
     }
 }

@@ -78,8 +78,7 @@ fn push_pairs(alloc: Global, lits: &[Lit], problem: &mut Problem) -> Result<(), 
 }
 
 /// Adds that exactly one of the variables from `first` on is true, one for each value. What is known to be false is
-/// left
-/// out, so that known values take no pairs.
+/// left out, so that known values take no pairs.
 #[tactic(auto, using(crate::proofs::WithClauses::with_more))]
 pub fn push_one_of(
     alloc: Global,

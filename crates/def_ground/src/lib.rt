@@ -4,15 +4,18 @@
 
 mod answers;
 mod asserted_cases;
+mod case_answers;
 mod cases;
 mod exactly_one;
 mod gates;
 mod laws;
+mod shown_cases;
 mod sides;
 
 pub use answers::Answer;
 pub use asserted_cases::{push_alike, push_answer, push_cases};
-pub use cases::{Case, answer_of_cases, case_of};
+pub use case_answers::answer_of_cases;
+pub use cases::{Case, case_of};
 pub use exactly_one::push_one_of;
 pub use gates::{add_part, close, gate, same};
 pub use laws::{

@@ -1,13 +1,13 @@
 //! The sides of a comparison's cases: the values of the right term that compare so with one of the left.
-ghost use Rattle.std.specs.Prelude.{◌≡◌, map, IfOk};
+ghost use Rattle.std.specs.Prelude.{◌≡◌, None, true, false, if◌then◌else◌, map, IfOk, OnOk};
 ghost use Rattle.std.specs.List.{list_all};
 ghost use Rattle.kb_logic.specs.Values.{value_view};
-ghost use Rattle.def_ground.specs.Comparisons.{any_where, side_where, comparison_case};
+ghost use Rattle.def_ground.specs.Comparisons.{any_where, comparison_case};
+ghost use Rattle.def_ground.specs.CaseViews.{or_behind};
 ghost use Rattle.def_ground.specs.CaseViews.{case_view, guarded_view, compared_with};
 
 use crate::answers::Answer;
 use crate::cases::Case;
-use crate::gates::add_part;
 use ground_core::{LitList, Memory};
 use kb_logic::Cmp;
 use kb_logic::values::{Value, compare};
@@ -44,41 +44,58 @@ fn all_pass(sign: bool, cmp: Cmp, x: Value<'_>, rows: &[GuardedValue<'_>]) -> bo
     true
 }
 
-/// The answers of the values that pass: None where one of them is certain.
-fn any_passes(
-    alloc: Global,
-    sign: bool,
-    cmp: Cmp,
-    x: Value<'_>,
-    rows: &[GuardedValue<'_>],
-) -> Result<Option<LitList>, Memory>
-    ensures { IfOk result (λ s. s ≡ any_where (λ y. compared_with sign cmp (value_view x.entry) y)
-        (map guarded_view rows.now)) }
+/// Adds the answer of one more value that passes to the side: None once one of them is certain.
+fn put(side: &mut Option<LitList>, answer: Answer) -> Result<(), Memory>
+    ensures { OnOk result (side.new ≡ or_behind side.old answer) }
 {
-    let mut lits = Vec::new(alloc);
-    for row in rows {
-        if passes(sign, cmp, x, row.value) && add_part(false, row.answer, &mut lits)? {
-            return Ok(None);
-        }
+    if let Answer::Constant(true) = answer {
+        *side = None;
+        return Ok(());
     }
-    Ok(Some(LitList::from_vec(lits)))
+    let Answer::Literal(lit) = answer else {
+        return Ok(());
+    };
+    if let Some(lits) = side {
+        lits.push(lit)?;
+    }
+    Ok(())
 }
 
-/// That the value compares so with the right term's: in any case where it does with each of its values.
-fn side(
+/// How much room a side with so many values is given at once: none where it takes little anyway.
+fn room_for(values: usize) -> usize {
+    if values > 4 { values } else { 0 }
+}
+
+// Each value is compared once, and the long side, which is mostly the second one, has its room from the start.
+/// The answers of the values that compare so, and of those that do not.
+fn parted(
     alloc: Global,
-    sign: bool,
     cmp: Cmp,
     x: Value<'_>,
     rows: &[GuardedValue<'_>],
-) -> Result<Option<LitList>, Memory>
-    ensures { IfOk result (λ s. s ≡ side_where (λ y. compared_with sign cmp (value_view x.entry) y)
+) -> Result<(Option<LitList>, Option<LitList>), Memory>
+    ensures yes { IfOk result (λ s. s.0 ≡ any_where (λ y. compared_with true cmp (value_view x.entry) y)
+        (map guarded_view rows.now)) }
+    ensures no { IfOk result (λ s. s.1 ≡ any_where (λ y. compared_with false cmp (value_view x.entry) y)
         (map guarded_view rows.now)) }
 {
-    if all_pass(sign, cmp, x, rows) {
-        return Ok(None);
+    let mut yes = Some(LitList::new(alloc));
+    let mut no = Some(LitList::from_vec(Vec::with_capacity(alloc, room_for(rows.len()))?));
+    for row in rows {
+        if compare(cmp, x, row.value) {
+            put(&mut yes, row.answer)?;
+        } else {
+            put(&mut no, row.answer)?;
+        }
     }
-    any_passes(alloc, sign, cmp, x, rows)
+    Ok((yes, no))
+}
+
+/// The side, unless all of the values pass: then it is true in any case.
+fn unless(all: bool, side: Option<LitList>) -> Option<LitList>
+    ensures { result ≡ (if all then None else side) }
+{
+    if all { None } else { side }
 }
 
 /// The case of a row of the left term, over the values of the right one.
@@ -92,7 +109,10 @@ pub fn case_of_row<'a>(
     ensures { IfOk result (λ c. case_view c ≡ comparison_case cmp (map guarded_view rows.now)
         (guards.now, value_view value.entry)) }
 {
-    let yes = side(alloc, true, cmp, value, rows)?;
-    let no = side(alloc, false, cmp, value, rows)?;
-    Ok(Case { guards, yes, no })
+    let (yes, no) = parted(alloc, cmp, value, rows)?;
+    Ok(Case {
+        guards,
+        yes: unless(all_pass(true, cmp, value, rows), yes),
+        no: unless(all_pass(false, cmp, value, rows), no),
+    })
 }

@@ -52,7 +52,7 @@ kept_apart y (i ∷ is) a = (
 
 -- ---- the first one that does not end before an integer
 
--- whether the integer lies in the interval, where it does not lie behind it
+-- whether the integer lies in the interval, where it does not lie after it
 abbrev pub reached : ℤ → Option Interval → Bool
 reached z None = false
 reached z (Some i) = not (int_lt z i.low)

@@ -20,8 +20,7 @@ StructuresAreReadBack =
     → IsReadBack m.file.vocabulary m.structure m.known
 
 -- each sentence of what a file means can be written with the words of the file's vocabulary, which mean it again, and
--- so
--- can the term of each term block
+-- so can the term of each term block
 abbrev pub FilesAreSpoken : Type 0
 FilesAreSpoken =
     (c : Choice) (bytes : List ℕ) (blocks : List Block) (m : Meaning) → KbReads bytes (Ok blocks) → FileMeans c bytes m

@@ -11,12 +11,12 @@ use Rattle.block_texts.specs.Texts.{next_row_text, rows_text}
 use Rattle.fo_printer.specs.declared.rows.RowText.{RowText}
 use Rattle.fo_printer.specs.declared.gathering.SymbolText.{SymbolText}
 
--- rows behind others, or behind none
+-- rows after others, or after none
 abbrev pub rows_text_after : Bool → List PlainRow → List ℕ
 rows_text_after true rows = flat_map next_row_text rows
 rows_text_after false rows = rows_text rows
 
--- the rows are written behind those that were there
+-- the rows are written after those that were there
 pub record HasMore (old new : RowText) (rows : List PlainRow) : Type 0 where
   pub some : new.some ≡ (old.some || is_some_row rows)
   pub text : new.text.items ≡ old.text.items ++ rows_text_after old.some rows

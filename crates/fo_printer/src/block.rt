@@ -14,14 +14,11 @@ use std::alloc::Global;
 
 /// Appends the structure block of this name: the line `structure NAME : VOCABULARY {`, a line for each type that is not
 /// constructed and then for each symbol of which something is known, and the line `}`. A symbol of which all is known
-/// has
-/// one line, as `P = {a,b; c,d}`; else there is a line `P<ct> = ..` for what is certainly true, and a line `P<cf> = ..`
-/// for
-/// what is certainly false. Where memory runs out, nothing is appended.
+/// has one line, as `P = {a,b; c,d}`; else there is a line `P<ct> = ..` for what is certainly true, and a line `P<cf> =
+/// ..` for what is certainly false. Where memory runs out, nothing is appended.
 ///
 /// Where the names are words that are read and not reserved, and the domains are as the vocabulary asks, the text is
-/// that
-/// of one structure block, which gives the same partial structure again.
+/// that of one structure block, which gives the same partial structure again.
 pub fn print_block(
     alloc: Global,
     out: &mut Vec<u8>,

@@ -35,8 +35,7 @@ use literal_printer::pieces::push_bytes;
 use std::alloc::Global;
 
 /// Appends a closed formula. Each formula but `true`, `false` and an atom stands in parentheses, and so does each sum
-/// and
-/// product; a bound variable is written with its type, as `x[T]`. Where memory runs out, nothing is appended.
+/// and product; a bound variable is written with its type, as `x[T]`. Where memory runs out, nothing is appended.
 ///
 /// Where each number's word means that number among the names, and no token lies too deep, the text is that of one
 /// formula, which by these names is this formula. Depth alone refuses the text.
@@ -75,9 +74,9 @@ fn append_formula(
     Ok(())
 }
 
-/// Words behind which a `[` is read otherwise, so that a space stands before it.
+/// Words after which a `[` is read otherwise, so that a space stands before it.
 const CHAIN_WORDS: [&[u8]; 3] = [b"MIN", b"MAX", b"SUCC"];
-/// Words behind which a `(` is read otherwise.
+/// Words after which a `(` is read otherwise.
 const CALL_WORDS: [&[u8]; 1] = [b"abs"];
 
 fn is_any_of(text: &[u8], words: &[&[u8]]) -> bool
@@ -499,7 +498,7 @@ fn push_first(
     push_term(out, scope, vocab, &part.term)
 }
 
-/// Appends variables and the colon behind them, and brings their names into scope; returns how many there were before.
+/// Appends variables and the colon after them, and brings their names into scope; returns how many there were before.
 fn push_scope(
     out: &mut Vec<u8>,
     scope: &mut Vec<Name>,

@@ -13,8 +13,7 @@ use partial_structures::{Partial, Truth};
 use std::alloc::Global;
 
 /// The rows of a symbol that are certainly true, those that are certainly false and that no value of a function
-/// implies,
-/// and whether all is known of the symbol.
+/// implies, and whether all is known of the symbol.
 #[derive(Drop)]
 pub(crate) struct SymbolText {
     pub whole: bool,
@@ -111,8 +110,7 @@ impl SymbolText {
 }
 
 /// Adds the rows of a function's atoms with these values that are certainly true, or certainly false, and returns
-/// whether
-/// there are any.
+/// whether there are any.
 fn add_values(
     alloc: Global,
     rows: &mut RowText,

@@ -18,7 +18,8 @@ use Rattle.token_reader.specs.Parts.{at_vars}
 use Rattle.formula_reader.specs.Results.{FormulaIs, ArgumentsAre}
 use Rattle.token_reader.specs.Parts.{Unsealed}
 use Rattle.token_reader.specs.Binders.{Binder, binder, put_binder, Whole}
-use Rattle.block_reader.specs.BlockParts.{next, Is, StuckAt}
+use Rattle.block_reader.specs.BlockParts.{StuckAt}
+use Rattle.token_reader.specs.Signs.{next, Is}
 use Rattle.fo_reader.specs.TheoryReads.{EndsApp, EndsSum}
 use Rattle.token_reader.proofs.Append.{formula-append, app-append}
 use Rattle.token_reader.proofs.Only.{only_app}

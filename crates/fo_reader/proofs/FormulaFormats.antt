@@ -11,7 +11,8 @@ use Rattle.fo_syntax.specs.Spelling.{put_vars, put_formula, put_links, put_or, p
 use Rattle.fo_syntax.specs.Spelling.{put_product, put_factor, put_app}
 use Rattle.fo_syntax.specs.Fine.{FineFormula, FineTerm, FineApp}
 use Rattle.token_reader.specs.Parts.{EndsFactor, EndsTerm}
-use Rattle.block_reader.specs.BlockParts.{next, Anything, Is, AWord}
+use Rattle.block_reader.specs.BlockParts.{Anything}
+use Rattle.token_reader.specs.Signs.{next, Is, AWord}
 use Rattle.fo_reader.specs.TheoryReads.{EndsApp, EndsSum}
 use Rattle.token_reader.proofs.Append.{vars-append, formula-append, term-append, app-append}
 use Rattle.token_reader.proofs.Ends.{EndsVars, EndsFormula, all_stop_formula}

@@ -29,7 +29,8 @@ use Rattle.fo_syntax.specs.BlockSpelling.{put_file}
 use Rattle.fo_syntax.specs.BlockFine.{FineTheory, FineTermBlock, FineBlock, FineFile}
 use Rattle.fo_syntax.specs.BlockView.{vocabulary_view, theory_view, structure_view, term_block_view, as_vocabulary}
 use Rattle.fo_syntax.specs.BlockView.{as_theory, as_structure, as_term_block, IsKb}
-use Rattle.block_reader.specs.BlockParts.{next, Anything, No, StuckIn, StuckAt}
+use Rattle.block_reader.specs.BlockParts.{Anything, StuckIn, StuckAt}
+use Rattle.token_reader.specs.Signs.{next, No}
 use Rattle.fo_syntax.specs.FileReads.{most_bytes, KbReads, too_long, fits, KbRead}
 use Rattle.fo_reader.specs.FileResults.{FileRead, block_view}
 use Rattle.block_reader.proofs.Formats.{Here, at_same, not_first, either_left, either_right, same_in, each_in}

@@ -18,7 +18,8 @@ use Rattle.fo_syntax.specs.BlockTrees.{Header, Binding, Head, Rule, TheoryItem}
 use Rattle.fo_syntax.specs.BlockSpelling.{put_option, put_each, put_sign, put_header, put_binding, put_head, put_body}
 use Rattle.fo_syntax.specs.BlockSpelling.{put_rule, put_theory_item, put_theory, put_term_block}
 use Rattle.fo_syntax.specs.BlockFine.{FineEach, FineHead, FineBody, FineRule, FineTheoryItem, FineTheory, FineTermBlock}
-use Rattle.block_reader.specs.BlockParts.{next, No, Is, AWord, Anything, StuckAt, Absent}
+use Rattle.block_reader.specs.BlockParts.{Anything, StuckAt}
+use Rattle.token_reader.specs.Signs.{next, No, Is, AWord, Absent}
 use Rattle.fo_reader.specs.TheoryReads.{EndsApp, EndsSum, put_ended, FineEnded, put_clause, FineClause}
 use Rattle.block_reader.specs.BlockParts.{EndsHead}
 use Rattle.block_reader.proofs.Formats.{Format, Law, Into, at_same, not_first, sign_law, then_first, then_second}

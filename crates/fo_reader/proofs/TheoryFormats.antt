@@ -13,7 +13,8 @@ use Rattle.fo_syntax.specs.BlockSpelling.{put_binding, put_head, put_rule, put_t
 use Rattle.fo_syntax.specs.BlockSpelling.{put_block}
 use Rattle.fo_syntax.specs.BlockFine.{FineHead, FineBody, FineRule, FineTheoryItem, FineTheory, FineTermBlock}
 use Rattle.fo_syntax.specs.BlockFine.{FineBlock}
-use Rattle.block_reader.specs.BlockParts.{Anything, No, Is, AWord}
+use Rattle.block_reader.specs.BlockParts.{Anything}
+use Rattle.token_reader.specs.Signs.{No, Is, AWord}
 use Rattle.fo_reader.specs.TheoryReads.{EndsApp, EndsSum}
 use Rattle.block_reader.specs.BlockParts.{EndsHead}
 use Rattle.block_reader.proofs.Formats.{Format, Law, Into, Apart, sign_format, sign_law, then, then_law, option}

@@ -28,8 +28,8 @@ use Rattle.fo_syntax.specs.BlockSpelling.{put_theory_item, put_theory, put_term_
 use Rattle.fo_syntax.specs.BlockFine.{FineEach, FineHead, FineBody, FineRule, FineTheoryItem, FineTheory, FineTermBlock}
 use Rattle.fo_syntax.specs.BlockView.{binding_view, head_view, body_view, rule_view, theory_item_view, theory_view}
 use Rattle.fo_syntax.specs.BlockView.{term_block_view}
-use Rattle.block_reader.specs.BlockParts.{PartRead, Anything, EndsHead, No, Is}
-use Rattle.block_reader.specs.BlockReads.{itself}
+use Rattle.block_reader.specs.BlockParts.{PartRead, Anything, EndsHead}
+use Rattle.token_reader.specs.Signs.{No, Is, itself}
 
 -- what may follow an application: no arguments
 abbrev pub EndsApp : Option Symbol → Type 0

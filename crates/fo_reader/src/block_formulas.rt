@@ -3,19 +3,19 @@ ghost use Rattle.std.specs.Prelude.{◌≤◌, ◌<◌, length, IfOk};
 ghost use Rattle.fo_syntax.specs.Terminals.{toks};
 ghost use Rattle.fo_reader.specs.TheoryReads.{ApplicationRead, InnerTermRead, StatementRead};
 
-use block_reader::block_cursor::{name, sign};
 use fo_syntax::{Item, Outer, RawApp, RawFormula, RawTermTree, Terminal};
 use formula_reader::expressions::Reader;
 use formula_reader::nested::{content, formula, term};
 use std::alloc::Global;
-use token_reader::cursor::{Found, sealed};
+use token_reader::binders::word;
+use token_reader::cursor::{Found, sealed, sign};
 
 /// A word with its arguments, if it has any.
 pub fn application<'a>(alloc: Global, items: &'a [Item<'a>], end: usize) -> Found<'a, RawApp>
     ensures reads { ApplicationRead (toks items.now) end result }
     ensures shorter { IfOk result (λ p. length p.1.now < length items.now) }
 {
-    let (name, rest) = name(alloc, items, end)?;
+    let (name, rest) = word(alloc, items, end)?;
     let reader = Reader {
         alloc,
         end,

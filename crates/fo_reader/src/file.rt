@@ -3,12 +3,11 @@ ghost use Rattle.std.specs.Prelude.{◌≡◌, ◌∷◌, [], ◌++◌, ◌<◌,
 ghost use Rattle.fo_syntax.specs.Terminals.{toks};
 ghost use Rattle.fo_syntax.specs.BlockTrees.{Block};
 ghost use Rattle.fo_syntax.specs.BlockView.{IsKb};
-ghost use Rattle.block_reader.specs.BlockParts.{next};
+ghost use Rattle.token_reader.specs.Signs.{next};
 ghost use Rattle.fo_reader.specs.FileResults.{BlockRead, FileRead, block_view};
 ghost use Rattle.fo_syntax.specs.FileReads.{KbRead};
 
 use crate::theory::{term_block, theory};
-use block_reader::block_cursor::skip;
 use block_reader::structure::structure;
 use block_reader::vocabulary::vocabulary;
 use fo_syntax::{
@@ -18,7 +17,7 @@ use fo_syntax::{
 use kb_text::{K, KbFault};
 use sqlite_items::Items;
 use std::alloc::{AllocError, Global};
-use token_reader::cursor::{Found, place_at, split, start};
+use token_reader::cursor::{Found, place_at, skip, split, start};
 use token_reader::items::items;
 
 const LONGEST: usize = 4_194_304;

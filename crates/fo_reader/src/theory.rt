@@ -12,7 +12,7 @@ ghost use Rattle.fo_syntax.specs.declared.terminal.Terminal.TheVariants as t;
 ghost use Rattle.fo_syntax.specs.declared.terminal.Outer.TheVariants as o;
 
 use crate::block_formulas::{application, inner_term, statement};
-use block_reader::block_cursor::{closes, head_ends, sign, skip};
+use block_reader::block_ends::{closes, head_ends};
 use block_reader::structure::header;
 use fo_syntax::{
     Comparison, Item, Outer, RawBinder, RawBody, RawDefinition, RawHead, RawRule, RawSentence,
@@ -21,7 +21,7 @@ use fo_syntax::{
 use sqlite_items::Items;
 use std::alloc::Global;
 use token_reader::binders::binder;
-use token_reader::cursor::{Found, start};
+use token_reader::cursor::{Found, sign, skip, start};
 
 // A body and the place of the full stop after it, and a head before them.
 type Ended = (Option<RawBody>, usize);

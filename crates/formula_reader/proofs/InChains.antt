@@ -21,7 +21,8 @@ use Rattle.token_reader.specs.Machine.{connects, links_on, link_on, on, run}
 use Rattle.token_reader.specs.Modes.{formula_sort, mode_formula, mode_links, mode_or, mode_and, mode_unary, mode_prim}
 use Rattle.token_reader.specs.Modes.{sort_formula, sort_links, sort_or, sort_and, sort_unary, sort_prim}
 use Rattle.fo_syntax.specs.View.{links_of, formula_of, or_of, and_of}
-use Rattle.token_reader.specs.Parts.{EndsFactor, EndsPrim, NoAnd, NoOr, NoArrows, NoArrow, Connects, NoConnective}
+use Rattle.token_reader.specs.Signs.{next, No}
+use Rattle.token_reader.specs.Parts.{EndsFactor, EndsPrim, NoArrows, Connects, NoConnective}
 use Rattle.token_reader.specs.Parts.{Halts, unaries, ands, ors, Tight, Behind, Entry, sentence, bracket, entry}
 use Rattle.token_reader.specs.Parts.{at_operand, at_unary, at_entry, at_sentence, at_bracket}
 use Rattle.formula_reader.specs.Chains.{AndsAre, OrsAre, LinksAre, closed_links, closed_formula}
@@ -36,26 +37,28 @@ use Rattle.token_reader.proofs.Inside.{Context, fails_in}
 
 -- ---- what may follow a chain
 
-tight_ands : (closed : Bool) (m : Mode) (k : Sort) (ts : List Tok) → Tight unaries m k ts → (closed ≡ true → NoAnd ts)
+tight_ands : (closed : Bool) (m : Mode) (k : Sort) (ts : List Tok) → Tight unaries m k ts
+    → (closed ≡ true → No t.And (next ts))
     → (closed ≡ false → Halts m k ts) → Tight ands m k ts
 tight_ands closed m k [] h n l = tt
 tight_ands closed m k (tok_at (mark (t.Arrow a)) p ∷ ts) h n l = tt
 tight_ands closed m k (tok_at (mark t.Or) p ∷ ts) h n l = tt
-tight_ands true m k (tok_at (mark t.And) p ∷ ts) h n l = absurd (n refl)
+tight_ands true m k (tok_at (mark t.And) p ∷ ts) h n l = absurd (n refl refl)
 tight_ands false m k (tok_at (mark t.And) p ∷ ts) h n l = l refl
 tight_ands closed m k (tok_at s p ∷ ts) h n l = h
 
-tight_ors : (closed : Bool) (m : Mode) (k : Sort) (ts : List Tok) → Tight ands m k ts → (closed ≡ true → NoOr ts)
+tight_ors : (closed : Bool) (m : Mode) (k : Sort) (ts : List Tok) → Tight ands m k ts
+    → (closed ≡ true → No t.Or (next ts))
     → (closed ≡ false → Halts m k ts) → Tight ors m k ts
 tight_ors closed m k [] h n l = tt
 tight_ors closed m k (tok_at (mark (t.Arrow a)) p ∷ ts) h n l = tt
-tight_ors true m k (tok_at (mark t.Or) p ∷ ts) h n l = absurd (n refl)
+tight_ors true m k (tok_at (mark t.Or) p ∷ ts) h n l = absurd (n refl refl)
 tight_ors false m k (tok_at (mark t.Or) p ∷ ts) h n l = l refl
 tight_ors closed m k (tok_at (mark t.And) p ∷ ts) h n l = h
 tight_ors closed m k (tok_at s p ∷ ts) h n l = h
 
 pub behind_ands : (closed : Bool) (mode : Chain → Mode) (k : Sort) (ts : List Tok) → Behind unaries closed mode k ts
-    → (closed ≡ true → NoAnd ts) → Behind ands closed mode k ts
+    → (closed ≡ true → No t.And (next ts)) → Behind ands closed mode k ts
 behind_ands closed mode k ts b n = record {
   no_args = b.no_args;
   tight = λ c. tight_ands closed (mode c) k ts
@@ -64,7 +67,7 @@ behind_ands closed mode k ts b n = record {
 }
 
 pub behind_ors : (closed : Bool) (mode : Chain → Mode) (k : Sort) (ts : List Tok) → Behind ands closed mode k ts
-    → (closed ≡ true → NoOr ts) → Behind ors closed mode k ts
+    → (closed ≡ true → No t.Or (next ts)) → Behind ors closed mode k ts
 behind_ors closed mode k ts b n = record {
   no_args = b.no_args;
   tight = λ c. tight_ors closed (mode c) k ts
@@ -135,7 +138,7 @@ ands_more ts u xs closed rest p v ending us next h e is k = record {
 }
 
 pub ands_are : (ts : List Tok) (a : And) (closed : Bool) (rest : List Tok) → AndsAre ts a closed rest
-    → (closed ≡ true → NoAnd rest) → AndIs ts a closed rest
+    → (closed ≡ true → No t.And (next rest)) → AndIs ts a closed rest
 ands_are ts a closed rest h n = record {
   spelled = h.spelled;
   fine = h.fine;
@@ -267,7 +270,7 @@ ors_more ts u xs closed rest p v ending us next h e is k = record {
 }
 
 pub ors_are : (ts : List Tok) (a : Or) (closed : Bool) (rest : List Tok) → OrsAre ts a closed rest
-    → (closed ≡ true → NoOr rest) → OrIs ts a closed rest
+    → (closed ≡ true → No t.Or (next rest)) → OrIs ts a closed rest
 ors_are ts a closed rest h n = record {
   spelled = h.spelled;
   fine = h.fine;
@@ -513,9 +516,9 @@ halts_of closed m k (tok_at s p ∷ ts) h n l = h
 no_arrows : (ts : List Tok) (b : Arrow) (p : ℕ) (us : List Tok) → NoArrows ts → ts ≡ sign (t.Arrow b) p ∷ us → ⊥
 no_arrows ts b p us h is = rw is at h
 
-no_arrow : (a : Arrow) (ts : List Tok) (b : Arrow) (p : ℕ) (us : List Tok) → NoArrow a ts
+no_arrow : (a : Arrow) (ts : List Tok) (b : Arrow) (p : ℕ) (us : List Tok) → No (t.Arrow a) (next ts)
     → ts ≡ sign (t.Arrow b) p ∷ us → a ≡ b → ⊥
-no_arrow a ts b p us h is = rw is at h
+no_arrow a ts b p us h is same = h (ap next is ∙ ap (λ (x : Arrow). Some (mark (t.Arrow x))) (sym same))
 
 -- an operand before which no quantified formula stands open, and the tokens after it
 pub at_arrow : (ts : List Tok) (o : Or) (closed : Bool) (rest next : List Tok) → OrIs ts o closed rest → closed ≡ true
@@ -534,7 +537,7 @@ alone_is ts o closed rest c h n = record {
 }
 
 linked_reach : (a : Arrow) (o : Or) (x : ℕ × Or) (xs : List (ℕ × Or)) (rest : List Tok) (c : Chain)
-    → closed_formula (formula_of a o (x ∷ xs)) ≡ true → NoArrow a rest
+    → closed_formula (formula_of a o (x ∷ xs)) ≡ true → No (t.Arrow a) (next rest)
     → (b : Arrow) (p : ℕ) (us : List Tok) → rest ≡ sign (t.Arrow b) p ∷ us
     → links_on b (mode_formula c (formula_of a o (x ∷ xs))) (sort_formula (formula_of a o (x ∷ xs))) ≡ None
 linked_reach a o x xs rest c e n b p us is =
@@ -542,7 +545,7 @@ linked_reach a o x xs rest c e n b p us is =
 
 pub linked_is : (ts : List Tok) (a : Arrow) (o : Or) (x : ℕ × Or) (xs : List (ℕ × Or)) (closed : Bool)
     (rest : List Tok) (c : Chain)
-    → LinksAre ts (formula_of a o (x ∷ xs)) closed rest → (closed ≡ true → NoArrow a rest)
+    → LinksAre ts (formula_of a o (x ∷ xs)) closed rest → (closed ≡ true → No (t.Arrow a) (next rest))
     → FormulaIs ts c (formula_of a o (x ∷ xs)) rest
 linked_is ts a o x xs closed rest c h n = record {
   spelled = h.spelled;

@@ -17,7 +17,8 @@ use Rattle.token_reader.specs.Machine.{Frame, want, done, paren, close_brace, fo
 use Rattle.token_reader.specs.Machine.{Mode, in_term, Sort, formula, term, fresh, on, stuck, run, advance, shut, shuts}
 use Rattle.token_reader.specs.Machine.{ended, behind_operand, finish, need}
 use Rattle.token_reader.specs.Modes.{mode_formula, sort_formula}
-use Rattle.token_reader.specs.Parts.{EndsFactor, NoMinus, wanted, at_factor, at_either, at_sentence, Halts, Lacks}
+use Rattle.token_reader.specs.Parts.{EndsFactor, wanted, at_factor, at_either, at_sentence, Halts}
+use Rattle.token_reader.specs.Signs.{next, No, Is, Absent}
 use Rattle.token_reader.specs.Parts.{Fails}
 use Rattle.token_reader.specs.Binders.{Whole}
 use Rattle.formula_reader.specs.Results.{Opening, opening, put_opening, at_opening, Shut, ShutFactor, IsUnsigned}
@@ -144,13 +145,14 @@ factor_ends ps x ts us last is found h = record {
 -- ---- no factor begins
 
 factor_first : (s : Terminal) (p : ℕ) (ts : List Tok) → ((n : ℕ) → s ≡ t.Integer n → ⊥) → (s ≡ t.Word → ⊥)
-    → (s ≡ t.Open → ⊥) → (s ≡ t.Count → ⊥) → ((a : Aggregation) → s ≡ t.Aggregate a → ⊥) → NoMinus (sign s p ∷ ts)
+    → (s ≡ t.Open → ⊥) → (s ≡ t.Count → ⊥) → ((a : Aggregation) → s ≡ t.Aggregate a → ⊥)
+    → No (t.Add Minus) (next (sign s p ∷ ts))
     → (m : Mode) (σ : List Frame) → run (on (want m ∷ σ)) (sign s p ∷ ts) ≡ stuck (sign s p ∷ ts)
 factor_first (t.Integer n) p ts a b c d e u m σ = absurd (a n refl)
 factor_first t.Open p ts a b c d e u m σ = absurd (c refl)
 factor_first t.Count p ts a b c d e u m σ = absurd (d refl)
 factor_first (t.Aggregate k) p ts a b c d e u m σ = absurd (e k refl)
-factor_first (t.Add Minus) p ts a b c d e u m σ = elim u [ ]
+factor_first (t.Add Minus) p ts a b c d e u m σ = absurd (u refl)
 factor_first (t.Add Plus) p ts a b c d e u m σ = refl
 factor_first s p ts a b c d e u m σ = refl
 
@@ -168,7 +170,8 @@ factor_none ts len h = no_factor ts len len (λ m σ. rw h refl) (rw h refl)
 pub factor_other : (ts : List Tok) (len : ℕ) (i : Item) (us : List Tok) → ts ≡ tok i ∷ us
     → ((n : ℕ) → i.terminal ≡ t.Integer n → ⊥) → (i.terminal ≡ t.Word → ⊥) → (i.terminal ≡ t.Open → ⊥)
     → (i.terminal ≡ t.Count → ⊥)
-    → ((a : Aggregation) → i.terminal ≡ t.Aggregate a → ⊥) → NoMinus ts → Fails at_factor put_factor FineFactor ts len
+    → ((a : Aggregation) → i.terminal ≡ t.Aggregate a → ⊥) → No (t.Add Minus) (next ts)
+    → Fails at_factor put_factor FineFactor ts len
     (Stuck i.place)
 factor_other ts len i us h a b c d e u =
     let is : ts ≡ sign i.terminal i.place ∷ us = h ∙ ap (λ (x : Symbol). tok_at x i.place ∷ us)
@@ -264,7 +267,7 @@ colon_shuts o σ k (mark t.Colon) h = absurd (h refl)
 colon_shuts o σ k x h = refl
 
 pub unclosed_count : (p : ℕ) (o : Opening) (f : Formula) (items us rest : List Tok) (len : ℕ) (e : ReadError)
-    → items ≡ put_opening o us → FormulaIs us fresh f rest → Lacks t.CloseBrace rest len e
+    → items ≡ put_opening o us → FormulaIs us fresh f rest → Absent (Is t.CloseBrace) rest len e
     → Fails at_factor put_factor FineFactor (sign t.Count p ∷ items) len e
 unclosed_count p o f items us rest len e is found h = lacks_fails at_factor put_factor FineFactor t.CloseBrace
     (sign t.Count p ∷ items) rest len e (λ (x : List Tok). sign t.Count p ∷ put_opening o (put_formula f x))
@@ -351,7 +354,7 @@ fold-append k p o f x y = ap (λ (v : List Tok). sign (t.Aggregate k) p ∷ v)
     (ap (λ (v : List Tok). put_opening o v) (formula-append f x y) ∙ opening-append o (put_formula f x) y)
 
 pub fold_no_colon : (k : Aggregation) (p : ℕ) (o : Opening) (f : Formula) (items us rest : List Tok) (len : ℕ)
-    (e : ReadError) → items ≡ put_opening o us → FormulaIs us fresh f rest → Lacks t.Colon rest len e
+    (e : ReadError) → items ≡ put_opening o us → FormulaIs us fresh f rest → Absent (Is t.Colon) rest len e
     → Fails at_factor put_factor FineFactor (sign (t.Aggregate k) p ∷ items) len e
 fold_no_colon k p o f items us rest len e is found h = lacks_fails at_factor put_factor FineFactor t.Colon
     (sign (t.Aggregate k) p ∷ items) rest len e (λ (x : List Tok). sign (t.Aggregate k) p ∷ put_opening o
@@ -401,7 +404,7 @@ in_fold_term k p o f d items us rest vs is found next = record {
 pub unclosed_fold : (k : Aggregation) (p : ℕ) (o : Opening) (f : Formula) (d : ℕ) (x : Term)
     (items us rest vs last : List Tok) (len : ℕ) (e : ReadError) → items ≡ put_opening o us → FormulaIs us fresh f rest
     → rest ≡ sign t.Colon d ∷ vs
-    → TermIs vs x last → Lacks t.CloseBrace last len e → Fails at_factor put_factor FineFactor
+    → TermIs vs x last → Absent (Is t.CloseBrace) last len e → Fails at_factor put_factor FineFactor
     (sign (t.Aggregate k) p ∷ items) len e
 unclosed_fold k p o f d x items us rest vs last len e is found next of h =
     lacks_fails at_factor put_factor FineFactor t.CloseBrace (sign (t.Aggregate k) p ∷ items) last len e

@@ -28,9 +28,10 @@ use Rattle.token_reader.specs.Machine.{settled, ended, shuts, on, stuck, run}
 use Rattle.token_reader.specs.Modes.{term_sort, formula_sort, mode_formula, sort_formula, mode_unary, sort_unary}
 use Rattle.token_reader.specs.Modes.{mode_prim, sort_prim}
 use Rattle.fo_syntax.specs.View.{formula_view, term_view, app_view}
-use Rattle.token_reader.specs.Parts.{EndsFactor, EndsTerm, EndsPrim, NoCompare, NoNot, TermsOnly, Halts, unaries, Tight}
+use Rattle.token_reader.specs.Parts.{EndsFactor, EndsTerm, EndsPrim, NoCompare, TermsOnly, Halts, unaries, Tight}
 use Rattle.token_reader.specs.Parts.{Behind, needed, at_factor, at_either, at_operand, at_unary, at_bracket}
-use Rattle.token_reader.specs.Parts.{at_sentence, at_vars, at_number, Lacks, Fails}
+use Rattle.token_reader.specs.Parts.{at_sentence, at_vars, at_number, Fails}
+use Rattle.token_reader.specs.Signs.{next, No, Is, Absent}
 use Rattle.token_reader.specs.Binders.{Binder, binder, put_binder, Whole, Counted, counted, put_counted, FineCounted}
 use Rattle.formula_reader.specs.Results.{UnaryIs, FormulaIs, TermIs, AppIs, ArgumentsAre, Shut, OperandIs, OperandRead}
 use Rattle.formula_reader.specs.Results.{ContentIs, wrap_prim, wrap_factor, nots, put_nots}
@@ -216,17 +217,17 @@ measured_app (count p b vs c f e) ts rest h is = refl
 measured_app (aggregate a p b vs c f d x e) ts rest h is = refl
 
 terms_only_mark : (s : Terminal) (p : ℕ) (ts : List Tok) → (s ≡ t.Open → ⊥) → (s ≡ t.Every → ⊥) → (s ≡ t.Some → ⊥)
-    → ((b : Bool) → s ≡ t.Truth b → ⊥) → NoNot (sign s p ∷ ts) → TermsOnly (sign s p ∷ ts)
+    → ((b : Bool) → s ≡ t.Truth b → ⊥) → No t.Not (next (sign s p ∷ ts)) → TermsOnly (sign s p ∷ ts)
 terms_only_mark t.Open p ts a b c d n = a refl
 terms_only_mark t.Every p ts a b c d n = b refl
 terms_only_mark t.Some p ts a b c d n = c refl
 terms_only_mark (t.Truth x) p ts a b c d n = d x refl
-terms_only_mark t.Not p ts a b c d n = n
+terms_only_mark t.Not p ts a b c d n = absurd (n refl)
 terms_only_mark s p ts a b c d n = tt
 
 pub terms_only : (ts : List Tok) (i : Item) (us : List Tok) → ts ≡ tok i ∷ us → (i.terminal ≡ t.Word → ⊥)
     → (i.terminal ≡ t.Open → ⊥) → (i.terminal ≡ t.Every → ⊥) → (i.terminal ≡ t.Some → ⊥)
-    → ((b : Bool) → i.terminal ≡ t.Truth b → ⊥) → NoNot ts → TermsOnly ts
+    → ((b : Bool) → i.terminal ≡ t.Truth b → ⊥) → No t.Not (next ts) → TermsOnly ts
 terms_only ts i us h w a b c d n =
     let is : ts ≡ sign i.terminal i.place ∷ us = h ∙ ap (λ (x : Symbol). tok_at x i.place ∷ us)
     (marked i.terminal i.text.now w) in
@@ -416,7 +417,7 @@ paren_shuts : (o : Mode) (σ : List Frame) (k : Sort) (x : Symbol) → (x ≡ ma
 paren_shuts o σ k (mark t.Close) h = absurd (h refl)
 paren_shuts o σ k x h = refl
 
-unclosed_inner : (p : ℕ) (us rest : List Tok) (len : ℕ) (e : ReadError) → Inner us rest → Lacks t.Close rest len e
+unclosed_inner : (p : ℕ) (us rest : List Tok) (len : ℕ) (e : ReadError) → Inner us rest → Absent (Is t.Close) rest len e
     → Fails at_operand put_unary FineUnary (sign t.Open p ∷ us) len e
 unclosed_inner p us rest len e i h = lacks_fails at_operand put_unary FineUnary t.Close (sign t.Open p ∷ us) rest len e
     (λ (y : List Tok). sign t.Open p ∷ i.put y)
@@ -427,7 +428,7 @@ unclosed_inner p us rest len e i h = lacks_fails at_operand put_unary FineUnary 
     (λ after. let w = i.makes p 0 after in (w.0, sign t.Close 0 ∷ w.1, w.2, w.3)) h
 
 pub unclosed_content : (p : ℕ) (inner : Content) (us rest : List Tok) (len : ℕ) (e : ReadError)
-    → ContentIs us inner rest → Lacks t.Close rest len e → Fails at_operand put_unary FineUnary
+    → ContentIs us inner rest → Absent (Is t.Close) rest len e → Fails at_operand put_unary FineUnary
     (sign t.Open p ∷ us) len e
 unclosed_content p inner us rest len e found h = unclosed_inner p us rest len e (inner_of us inner rest found) h
 

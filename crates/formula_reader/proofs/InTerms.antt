@@ -5,8 +5,7 @@ use Rattle.fo_syntax.specs.declared.terminal.Item.{Item}
 use Rattle.fo_syntax.specs.declared.raw.RawTermTree.{RawTermTree}
 use Rattle.fo_syntax.specs.declared.terminal.Terminal.TheVariants as t
 use Rattle.fo_syntax.specs.declared.terminal.Adding.{Adding}
-use Rattle.std.specs.Prelude.{IfOk, IfErr}
-use Rattle.fo_syntax.specs.Terminals.{Tok, toks, tok_at, mark, sign}
+use Rattle.fo_syntax.specs.Terminals.{Tok, tok_at, mark, sign}
 use Rattle.fo_syntax.specs.Trees.{Name, name, var, untyped, Term, product, sum, Product, factor, times, Factor}
 use Rattle.fo_syntax.specs.Trees.{brackets, apply, Terms, final, then}
 use Rattle.fo_syntax.specs.Spelling.{put_name, put_term, put_product, put_factor, put_app, put_terms}
@@ -16,15 +15,16 @@ use Rattle.token_reader.specs.Machine.{Frame, want, done, named, args, paren, cl
 use Rattle.token_reader.specs.Machine.{Mode, in_term, Sort, term, on, stuck, run}
 use Rattle.token_reader.specs.Modes.{term_sort}
 use Rattle.fo_syntax.specs.View.{terms_of, product_of, term_of}
-use Rattle.token_reader.specs.Parts.{EndsFactor, EndsTerm, NoClose, NoComma, NoTimes, NoAdd, Position, wanted, needed}
-use Rattle.token_reader.specs.Parts.{at_position, mode_at, sort_at, at_factor, at_either, at_vars, Lacks, Fails}
+use Rattle.token_reader.specs.Parts.{EndsFactor, EndsTerm, NoAdd, Position, wanted, needed}
+use Rattle.token_reader.specs.Signs.{next, No, Is, Absent, SignRead}
+use Rattle.token_reader.specs.Parts.{at_position, mode_at, sort_at, at_factor, at_either, at_vars, Fails}
 use Rattle.token_reader.specs.Binders.{Binder, binder, put_binder, Whole}
 use Rattle.formula_reader.specs.Chains.{MoreTerms}
 use Rattle.formula_reader.specs.Results.{Opening, opening, put_opening, at_opening, TermIs, SumRead, TermRead}
 use Rattle.token_reader.proofs.Append.{name-append, term-append, product-append, terms-append}
 use Rattle.token_reader.proofs.Ends.{terms_no_close}
-use Rattle.token_reader.proofs.Runs as Runs
-use Rattle.token_reader.proofs.Runs.{named_done, args_want, unclosed, run_times, run_add}
+use Rattle.token_reader.proofs.Runs.{args_want, run_times, run_add}
+use Rattle.token_reader.proofs.Signs.{no_sign}
 use Rattle.token_reader.proofs.Readings.{want_term, want_product, need_term, need_product}
 use Rattle.token_reader.proofs.Inside.{Context, fails_in, lacks_fails}
 
@@ -45,14 +45,14 @@ paren_stuck o σ (tok_at (mark (t.Add s)) p ∷ ts) z h = elim z [ ]
 paren_stuck o σ (tok_at (mark t.Close) p ∷ ts) z h = absurd (h p ts refl)
 paren_stuck o σ (tok_at s p ∷ ts) z h = refl
 
-pub args_stuck : (o : Mode) (k : Sort) (σ : List Frame) (ts : List Tok) → EndsTerm ts → NoComma ts
+pub args_stuck : (o : Mode) (k : Sort) (σ : List Frame) (ts : List Tok) → EndsTerm ts → No t.Comma (next ts)
     → ((p : ℕ) (us : List Tok) → ts ≡ sign t.Close p ∷ us → ⊥)
     → run (on (done in_term term ∷ args o k ∷ σ)) ts ≡ stuck ts
 args_stuck o k σ [] z n h = refl
 args_stuck o k σ (tok_at (mark t.Open) p ∷ ts) z n h = elim z [ ]
 args_stuck o k σ (tok_at (mark t.Times) p ∷ ts) z n h = elim z [ ]
 args_stuck o k σ (tok_at (mark (t.Add s)) p ∷ ts) z n h = elim z [ ]
-args_stuck o k σ (tok_at (mark t.Comma) p ∷ ts) z n h = elim n [ ]
+args_stuck o k σ (tok_at (mark t.Comma) p ∷ ts) z n h = absurd (n refl)
 args_stuck o k σ (tok_at (mark t.Close) p ∷ ts) z n h = absurd (h p ts refl)
 args_stuck o k σ (tok_at s p ∷ ts) z n h = refl
 
@@ -85,7 +85,7 @@ in_brackets p us = record {
 }
 
 pub unclosed_brackets : (p : ℕ) (x : Term) (us rest : List Tok) (len : ℕ) (e : ReadError) → TermIs us x rest
-    → Lacks t.Close rest len e → Fails at_factor put_factor FineFactor (sign t.Open p ∷ us) len e
+    → Absent (Is t.Close) rest len e → Fails at_factor put_factor FineFactor (sign t.Open p ∷ us) len e
 unclosed_brackets p x us rest len e is h = lacks_fails at_factor put_factor FineFactor t.Close (sign t.Open p ∷ us) rest
     len e (λ (y : List Tok). sign t.Open p ∷ put_term x y)
     (λ y z. ap (λ (v : List Tok). sign t.Open p ∷ v) (term-append x y z))
@@ -96,7 +96,7 @@ unclosed_brackets p x us rest len e is h = lacks_fails at_factor put_factor Fine
 
 -- ---- how an aggregate begins
 
-pub no_brace : (ts : List Tok) (len : ℕ) (e : ReadError) → Lacks t.OpenBrace ts len e
+pub no_brace : (ts : List Tok) (len : ℕ) (e : ReadError) → Absent (Is t.OpenBrace) ts len e
     → Fails at_opening put_opening Whole ts len e
 no_brace ts len e h = lacks_fails at_opening put_opening Whole t.OpenBrace ts ts len e (λ (x : List Tok). x)
     (λ x y. refl) refl (λ k j σ. open_brace_stuck (vars_first ∷ colon ∷ σ) ts k)
@@ -126,13 +126,8 @@ either_name : (i : Position) (n : Name) (σ : List Frame) (ts : List Tok) → ru
 either_name (wanted m) (name w q) σ ts = refl
 either_name (needed c) (name w q) σ ts = refl
 
-no_close : (ts : List Tok) → NoClose ts → Runs.NoClose ts
-no_close [] h = tt
-no_close (tok_at (mark t.Close) p ∷ ts) h = elim h [ ]
-no_close (tok_at s p ∷ ts) h = tt
-
-terms_open : (xs : Terms) (ts : List Tok) → Runs.NoClose (put_terms xs ts)
-terms_open xs ts = unclosed (put_terms xs ts) (λ i us e. terms_no_close xs i us ts e)
+terms_open : (xs : Terms) (ts : List Tok) → No t.Close (next (put_terms xs ts))
+terms_open xs ts = no_sign t.Close (put_terms xs ts) (λ i us e. terms_no_close xs i us ts (sym e))
 
 terms_on : (o : Mode) (k : Sort) (xs : Terms) → FineTerms xs → (σ : List Frame) (ts : List Tok) → EndsFactor ts
     → run (on (want in_term ∷ args o k ∷ σ)) (put_terms xs ts) ≡ run (on (done in_term term ∷ args o k ∷ σ)) ts
@@ -166,7 +161,7 @@ pub terms_push_fine : (x : Term) (xs : List (ℕ × Term)) (p : ℕ) (y : Term) 
 terms_push_fine x [] p y h k = (h, k)
 terms_push_fine x (z ∷ zs) p y h k = (h.0, terms_push_fine z.1 zs p y h.1 k)
 
-pub in_arguments : (n : Name) (start : ℕ) (items us : List Tok) → items ≡ sign t.Open start ∷ us → NoClose us
+pub in_arguments : (n : Name) (start : ℕ) (items us : List Tok) → items ≡ sign t.Open start ∷ us → No t.Close (next us)
     → Context at_factor put_term FineTerm at_either put_app FineApp (put_name n items) us
 in_arguments n start items us is open_still = record {
   before = λ x. put_name n (sign t.Open start ∷ x);
@@ -177,7 +172,7 @@ in_arguments n start items us is open_still = record {
     args (mode_at i) (sort_at i) ∷ σ,
     either_name i n σ items
         ∙ ap (λ (v : List Tok). run (on (named (mode_at i) (sort_at i) ∷ σ)) v) is
-        ∙ args_want (mode_at i) (sort_at i) σ us (no_close us open_still),
+        ∙ args_want (mode_at i) (sort_at i) σ us open_still,
   );
   wraps = λ after. (sign t.Close 0 ∷ after, λ a h. (apply n start (final a) 0, h, refl));
 }
@@ -218,8 +213,8 @@ in_further n start xs p items us is fine = record {
 }
 
 pub unclosed_arguments : (n : Name) (start : ℕ) (xs : Terms) (items us : List Tok) (len : ℕ) (e : ReadError)
-    → items ≡ sign t.Open start ∷ put_terms xs us → FineTerms xs → EndsTerm us → NoComma us
-    → Lacks t.Close us len e → Fails at_either put_app FineApp (put_name n items) len e
+    → items ≡ sign t.Open start ∷ put_terms xs us → FineTerms xs → EndsTerm us → No t.Comma (next us)
+    → Absent (Is t.Close) us len e → Fails at_either put_app FineApp (put_name n items) len e
 unclosed_arguments n start xs items us len e is fine z none h = lacks_fails at_either put_app FineApp t.Close
     (put_name n items) us len e (λ (x : List Tok). put_name n (sign t.Open start ∷ put_terms xs x))
     (λ x y. ap (λ (v : List Tok). put_name n (sign t.Open start ∷ v)) (terms-append xs x y)
@@ -231,13 +226,13 @@ unclosed_arguments n start xs items us len e is fine z none h = lacks_fails at_e
 -- the closing bracket, or what stands in its place
 pub closed_arguments : (n : Name) (start : ℕ) (x : Term) (xs : List (ℕ × Term)) (items us : List Tok) (len : ℕ)
     (r : Result (ℕ × Bor (List Item)) ReadError)
-    → items ≡ sign t.Open start ∷ put_terms (terms_of x xs) us → FineTerms (terms_of x xs) → EndsTerm us → NoComma us
-    → IfOk r (λ p. us ≡ sign t.Close p.0 ∷ toks p.1.now) → IfErr r (λ e. Lacks t.Close us len e)
-    → MoreTerms n items start x xs len r
-closed_arguments n start x xs items us len (Ok p) is fine z none ok err =
-    (is ∙ ap (λ (v : List Tok). sign t.Open start ∷ put_terms (terms_of x xs) v) ok, fine)
-closed_arguments n start x xs items us len (Err e) is fine z none ok err =
-    unclosed_arguments n start (terms_of x xs) items us len e is fine z none err
+    → items ≡ sign t.Open start ∷ put_terms (terms_of x xs) us → FineTerms (terms_of x xs) → EndsTerm us
+    → No t.Comma (next us)
+    → SignRead t.Close us len r → MoreTerms n items start x xs len r
+closed_arguments n start x xs items us len (Ok p) is fine z none read =
+    (is ∙ ap (λ (v : List Tok). sign t.Open start ∷ put_terms (terms_of x xs) v) read, fine)
+closed_arguments n start x xs items us len (Err e) is fine z none read =
+    unclosed_arguments n start (terms_of x xs) items us len e is fine z none read
 
 pub terms_step : (x : Term) (xs : List (ℕ × Term)) (p : ℕ) (y : Term) (start : ℕ) (items rest us last : List Tok)
     → items ≡ sign t.Open start ∷ put_terms (terms_of x xs) rest → rest ≡ sign t.Comma p ∷ us → us ≡ put_term y last
@@ -435,10 +430,10 @@ summed_from f ts rest is = record {
       λ after. (after, λ a h. (a, h, refl));
 }
 
-pub sum_ends : (ts : List Tok) → EndsFactor ts → NoTimes ts → NoAdd ts → EndsTerm ts
+pub sum_ends : (ts : List Tok) → EndsFactor ts → No t.Times (next ts) → NoAdd ts → EndsTerm ts
 sum_ends [] a b d = tt
 sum_ends (tok_at (mark t.Open) p ∷ ts) a b d = elim a [ ]
-sum_ends (tok_at (mark t.Times) p ∷ ts) a b d = elim b [ ]
+sum_ends (tok_at (mark t.Times) p ∷ ts) a b d = absurd (b refl)
 sum_ends (tok_at (mark (t.Add s)) p ∷ ts) a b d = elim d [ ]
 sum_ends (tok_at s p ∷ ts) a b d = tt
 

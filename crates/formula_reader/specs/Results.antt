@@ -36,7 +36,7 @@ use Rattle.fo_syntax.specs.View.{formula_view, or_view, and_view, unary_view, te
 use Rattle.fo_syntax.specs.View.{app_view, vars_view}
 use Rattle.token_reader.specs.Parts.{EndsFactor, EndsTerm, EndsPrim, Halts, unaries, ands, ors, Behind, Fails}
 use Rattle.token_reader.specs.Parts.{at_sentence, at_bracket, at_entry, at_operand, at_unary, at_factor, at_either, At}
-use Rattle.token_reader.specs.Parts.{NoTimes}
+use Rattle.token_reader.specs.Signs.{next, No}
 use Rattle.token_reader.specs.Binders.{Whole}
 
 -- an operand in these pairs of brackets, the innermost first
@@ -198,7 +198,7 @@ pub record ProductIs (ts : List Tok) (x : Product) (rest : List Tok) : Type 0 wh
   pub spelled : ts ≡ put_product x rest
   pub fine : FineProduct x
   pub ends : EndsFactor rest
-  pub no_times : NoTimes rest
+  pub no_times : No t.Times (next rest)
 
 abbrev pub ProductRead : List Tok → ℕ → Result (RawProduct × Bor (List Item)) ReadError → Type 0
 ProductRead ts len (Ok p) = ProductIs ts (product_view p.0) (toks p.1.now)

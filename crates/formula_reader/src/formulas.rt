@@ -7,7 +7,8 @@ ghost use Rattle.fo_syntax.specs.Fine.{FineTerm, FineFactor, FineApp};
 ghost use Rattle.token_reader.specs.Sorts.{app_formula, app_or, app_and, app_unary, app_term, app_factor};
 ghost use Rattle.fo_syntax.specs.View.{formula_of, or_of, and_of, link_view, or_tail_view, and_tail_view, formula_view};
 ghost use Rattle.fo_syntax.specs.View.{or_view, and_view, unary_view, prim_view, term_view, factor_view, app_view};
-ghost use Rattle.token_reader.specs.Parts.{EndsFactor, EndsTerm, EndsPrim, NoNot, TermsOnly};
+ghost use Rattle.token_reader.specs.Parts.{EndsFactor, EndsTerm, EndsPrim, TermsOnly};
+ghost use Rattle.token_reader.specs.Signs.{next, No};
 ghost use Rattle.formula_reader.specs.Chains.{AndsAre, OrsAre, LinksAre, MoreAnds, MoreOrs, MoreLinks};
 ghost use Rattle.formula_reader.specs.Results.{Readers, UnaryIs, UnaryRead, AndRead, OrIs, OrRead, ConjunctionRead};
 ghost use Rattle.formula_reader.specs.Results.{DisjunctionRead, FormulaRead, LinkedRead, OperandIs, OperandRead};
@@ -26,8 +27,8 @@ use std::alloc::{AllocError, Global};
 use token_reader::binders::{binder, number};
 use token_reader::build;
 use token_reader::cursor::{
-    Found, after_and, after_arrow, after_compare, after_not, after_or, after_same, close, connects,
-    goes_on, place_at, sealed, split, start,
+    Found, after_arrow, after_compare, connects, goes_on, place_at, sealed, sign, skip,
+    skip_connective, split, start,
 };
 
 /// What was read, whether no quantified formula stands at its end, and the tokens after it.
@@ -87,11 +88,11 @@ fn bracketed(
 // The signs `~` before an operand, the outermost first.
 fn tildes<'a>(signs: &mut Items<usize>, items: &'a [Item<'a>]) -> Result<&'a [Item<'a>], AllocError>
     ensures reads { IfOk result (λ r. put_nots signs.old (toks items.now) ≡ put_nots signs.new (toks r.now)) }
-    ensures ends { IfOk result (λ r. NoNot (toks r.now)) }
+    ensures ends { IfOk result (λ r. No t.Not (next (toks r.now))) }
     ensures shorter { IfOk result (λ r. length r.now ≤ length items.now) }
 {
     let (_count, mut rest) = start(items);
-    while let Some((place, after)) = after_not(rest) {
+    while let Some((place, after)) = skip(Terminal::Not, rest) {
         signs.push(place)?;
         rest = after;
     }
@@ -231,7 +232,7 @@ impl<
         ensures shorter { IfOk result (λ p. length p.2.now ≤ length items.now) }
     {
         let (inner, rest) = self.content(items)?;
-        let (place, last) = close(rest, self.end)?;
+        let (place, last) = sign(Terminal::Close, rest, self.end)?;
         sealed(last)?;
         Ok((inner, place, last))
     }
@@ -296,7 +297,7 @@ impl<
         requires nests { Readers self.now.left (F.pre self.now.formula) (F.post self.now.formula)
             (G.pre self.now.content) (G.post self.now.content) (H.pre self.now.term) (H.post self.now.term) }
         requires fewer { length items.now ≤ self.now.left }
-        ensures reads { NoNot (toks items.now) → OperandRead (toks items.now) self.now.end result }
+        ensures reads { No t.Not (next (toks items.now)) → OperandRead (toks items.now) self.now.end result }
         ensures shorter { IfOk result (λ p. length p.1.now ≤ length items.now) }
     {
         let Some((item, rest)) = split(items) else {
@@ -366,7 +367,7 @@ impl<
     {
         let (_count, mut rest) = start(items);
         let mut closed = ends;
-        while let Some((place, after)) = after_and(closed, rest) {
+        while let Some((place, after)) = skip_connective(Terminal::And, closed, rest) {
             let (operand, still, after) = self.unary(after)?;
             more.push(build::and_tail(place, operand))?;
             closed = still;
@@ -425,7 +426,7 @@ impl<
     {
         let (_count, mut rest) = start(items);
         let mut closed = ends;
-        while let Some((place, after)) = after_or(closed, rest) {
+        while let Some((place, after)) = skip_connective(Terminal::Or, closed, rest) {
             let (operand, still, after) = self.conjunction(after)?;
             more.push(build::or_tail(place, operand))?;
             closed = still;
@@ -486,7 +487,7 @@ impl<
     {
         let (_count, mut rest) = start(items);
         let mut closed = ends;
-        while let Some((place, after)) = after_same(arrow, closed, rest) {
+        while let Some((place, after)) = skip_connective(Terminal::Arrow(arrow), closed, rest) {
             let (operand, still, after) = self.disjunction(after)?;
             more.push(build::link(place, operand))?;
             closed = still;

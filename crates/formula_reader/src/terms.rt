@@ -8,7 +8,9 @@ ghost use Rattle.fo_syntax.specs.Spelling.{put_name, put_term, put_product, put_
 ghost use Rattle.fo_syntax.specs.Fine.{FineTerm, FineProduct, FineFactor, FineTerms};
 ghost use Rattle.fo_syntax.specs.View.{name_view, factor_view, product_tail_view, sum_tail_view, terms_tail_view};
 ghost use Rattle.fo_syntax.specs.View.{product_of, term_of, terms_of};
-ghost use Rattle.token_reader.specs.Parts.{EndsFactor, EndsTerm, NoClose, NoMinus, NoTimes};
+ghost use Rattle.token_reader.specs.Signs.{next, No};
+ghost use Rattle.token_reader.specs.Parts.{EndsFactor, EndsTerm};
+ghost use Rattle.fo_syntax.specs.declared.terminal.Adding.TheVariants.{Minus};
 ghost use Rattle.formula_reader.specs.Chains.{MoreFactors, MoreProducts, MoreTerms, ListedRead};
 ghost use Rattle.formula_reader.specs.Results.{Readers, Opening, put_opening, FormulaIs, WeighedRead, ArgumentsRead};
 ghost use Rattle.formula_reader.specs.Results.{OpeningRead, UnsignedRead, BareRead, put_minuses, FactorRead};
@@ -18,17 +20,14 @@ ghost use Rattle.fo_syntax.specs.declared.terminal.Terminal.TheVariants as t;
 use crate::expressions::Reader;
 use crate::kinds::Content;
 use fo_syntax::{
-    Aggregation, Item, RawApp, RawFactor, RawFormula, RawName, RawOpening, RawProduct,
+    Adding, Aggregation, Item, RawApp, RawFactor, RawFormula, RawName, RawOpening, RawProduct,
     RawProductTail, RawSumTail, RawTermTree, RawTerms, RawTermsTail, ReadError, Terminal,
 };
 use sqlite_items::{Boxed, Items};
 use std::alloc::{AllocError, Global};
 use token_reader::binders::binder;
 use token_reader::build;
-use token_reader::cursor::{
-    Found, after_add, after_close, after_comma, after_minus, after_open, after_times, close,
-    close_brace, colon, open_brace, sealed, split, start,
-};
+use token_reader::cursor::{Found, after_add, sealed, sign, skip, split, start};
 
 // How an aggregate begins, after its word or `#`.
 fn opening<'a>(
@@ -40,7 +39,7 @@ fn opening<'a>(
     ensures reads { OpeningRead place (toks items.now) end result }
     ensures shorter { IfOk result (λ p. length p.1.now < length items.now) }
 {
-    let (brace, rest) = open_brace(items, end)?;
+    let (brace, rest) = sign(Terminal::OpenBrace, items, end)?;
     let (vars, colon, last) = binder(alloc, rest, end)?;
     let opening = RawOpening {
         place,
@@ -57,11 +56,11 @@ fn minuses<'a>(
     items: &'a [Item<'a>],
 ) -> Result<&'a [Item<'a>], AllocError>
     ensures reads { IfOk result (λ r. put_minuses signs.old (toks items.now) ≡ put_minuses signs.new (toks r.now)) }
-    ensures ends { IfOk result (λ r. NoMinus (toks r.now)) }
+    ensures ends { IfOk result (λ r. No (t.Add Minus) (next (toks r.now))) }
     ensures shorter { IfOk result (λ r. length r.now ≤ length items.now) }
 {
     let (_count, mut rest) = start(items);
-    while let Some((place, after)) = after_minus(rest) {
+    while let Some((place, after)) = skip(Terminal::Add(Adding::Minus), rest) {
         signs.push(place)?;
         rest = after;
     }
@@ -102,12 +101,12 @@ impl<
         ensures shorter { IfOk result (λ p. length p.1.now ≤ length items.now) }
     {
         let (_count, mut rest) = start(items);
-        while let Some((place, after)) = after_comma(rest) {
+        while let Some((place, after)) = skip(Terminal::Comma, rest) {
             let (operand, after) = self.term(after)?;
             more.push(build::terms_tail(place, operand))?;
             rest = after;
         }
-        close(rest, self.end)
+        sign(Terminal::Close, rest, self.end)
     }
 
     // The terms of a list in brackets, which is not empty, and the place of the closing bracket.
@@ -115,7 +114,7 @@ impl<
         requires nests { Readers self.now.left (F.pre self.now.formula) (F.post self.now.formula)
             (G.pre self.now.content) (G.post self.now.content) (H.pre self.now.term) (H.post self.now.term) }
         requires fewer { length items.now < self.now.left }
-        ensures reads { (n : Name) (start : ℕ) → NoClose (toks items.now)
+        ensures reads { (n : Name) (start : ℕ) → No t.Close (next (toks items.now))
             → ListedRead n (sign t.Open start ∷ toks items.now) start self.now.end result }
         ensures shorter { IfOk result (λ p. length p.2.now ≤ length items.now) }
     {
@@ -126,6 +125,7 @@ impl<
     }
 
     /// The arguments after a word, if it has any.
+    #[tactic(auto, using(token_reader::proofs::Signs::no_open))]
     pub fn arguments(&self, name: RawName, items: &'a [Item<'a>]) -> Found<'a, Boxed<RawApp>>
         requires nests { Readers self.now.left (F.pre self.now.formula) (F.post self.now.formula)
             (G.pre self.now.content) (G.post self.now.content) (H.pre self.now.term) (H.post self.now.term) }
@@ -133,10 +133,10 @@ impl<
         ensures reads { ArgumentsRead (put_name (name_view name) (toks items.now)) self.now.end result }
         ensures shorter { IfOk result (λ p. length p.1.now ≤ length items.now) }
     {
-        let Some((begin, rest)) = after_open(items) else {
+        let Some((begin, rest)) = skip(Terminal::Open, items) else {
             return Ok((build::constant(self.alloc, name)?, items));
         };
-        if let Some((place, last)) = after_close(rest) {
+        if let Some((place, last)) = skip(Terminal::Close, rest) {
             return Ok((build::empty(self.alloc, name, begin, place)?, last));
         }
         let (terms, place, last) = self.listed(rest)?;
@@ -151,7 +151,7 @@ impl<
         ensures shorter { IfOk result (λ p. length p.1.now ≤ length items.now) }
     {
         let (inner, rest) = self.term(items)?;
-        let (place, last) = close(rest, self.end)?;
+        let (place, last) = sign(Terminal::Close, rest, self.end)?;
         Ok((build::brackets(self.alloc, begin, inner, place)?, last))
     }
 
@@ -164,7 +164,7 @@ impl<
     {
         let (head, rest) = opening(self.alloc, place, items, self.end)?;
         let (inner, rest) = self.formula(rest)?;
-        let (brace, last) = close_brace(rest, self.end)?;
+        let (brace, last) = sign(Terminal::CloseBrace, rest, self.end)?;
         Ok((build::count(self.alloc, head, inner, brace)?, last))
     }
 
@@ -182,9 +182,9 @@ impl<
             (toks items.now) self.now.end result }
         ensures shorter { IfOk result (λ p. length p.3.now ≤ length items.now) }
     {
-        let (second, rest) = colon(items, self.end)?;
+        let (second, rest) = sign(Terminal::Colon, items, self.end)?;
         let (of, rest) = self.term(rest)?;
-        let (brace, last) = close_brace(rest, self.end)?;
+        let (brace, last) = sign(Terminal::CloseBrace, rest, self.end)?;
         Ok((second, of, brace, last))
     }
 
@@ -228,7 +228,7 @@ impl<
         requires nests { Readers self.now.left (F.pre self.now.formula) (F.post self.now.formula)
             (G.pre self.now.content) (G.post self.now.content) (H.pre self.now.term) (H.post self.now.term) }
         requires fewer { length items.now ≤ self.now.left }
-        requires unsigned { NoMinus (toks items.now) }
+        requires unsigned { No (t.Add Minus) (next (toks items.now)) }
         ensures reads { UnsignedRead (toks items.now) self.now.end result }
         ensures shorter { IfOk result (λ p. length p.1.now ≤ length items.now) }
     {
@@ -252,7 +252,7 @@ impl<
         requires nests { Readers self.now.left (F.pre self.now.formula) (F.post self.now.formula)
             (G.pre self.now.content) (G.post self.now.content) (H.pre self.now.term) (H.post self.now.term) }
         requires fewer { length items.now ≤ self.now.left }
-        requires unsigned { NoMinus (toks items.now) }
+        requires unsigned { No (t.Add Minus) (next (toks items.now)) }
         ensures reads { (ps : List ℕ) (ts : List Tok) → ts ≡ put_minuses ps (toks items.now)
             → BareRead ps ts self.now.end result }
         ensures shorter { IfOk result (λ p. length p.1.now ≤ length items.now) }
@@ -293,7 +293,7 @@ impl<
         ensures shorter { IfOk result (λ r. length r.now ≤ length items.now) }
     {
         let (_count, mut rest) = start(items);
-        while let Some((place, after)) = after_times(rest) {
+        while let Some((place, after)) = skip(Terminal::Times, rest) {
             let (operand, after) = self.factor(after)?;
             more.push(build::product_tail(place, operand))?;
             rest = after;
@@ -330,7 +330,7 @@ impl<
             (G.pre self.now.content) (G.post self.now.content) (H.pre self.now.term) (H.post self.now.term) }
         requires fewer { length items.now ≤ self.now.left }
         requires ends { EndsFactor (toks items.now) }
-        requires no_times { NoTimes (toks items.now) }
+        requires no_times { No t.Times (next (toks items.now)) }
         ensures reads { (ts : List Tok) (x : Product)
             → ts ≡ put_term (term_of x (map sum_tail_view more.old)) (toks items.now)
             → FineTerm (term_of x (map sum_tail_view more.old))

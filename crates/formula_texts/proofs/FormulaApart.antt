@@ -147,7 +147,7 @@ aggregate_stands how.Sum bs = refl
 aggregate_stands how.Min bs = refl
 aggregate_stands how.Max bs = refl
 
--- ---- behind ~ and -
+-- ---- after ~ and -
 
 fm_front : (f : Fm) → IsFm f → (rest : List Part) (behind : List ℕ)
     → not (goes_on (is_pair 126) (text_with (write_fm f rest) behind)) ≡ true

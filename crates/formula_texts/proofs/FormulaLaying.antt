@@ -57,7 +57,7 @@ use Rattle.formula_texts.specs.Formulas.{says_terms, says_others, IsBinder, AreB
 use Rattle.formula_texts.specs.Formulas.{AreOthers, AreSummands, AreFactors}
 use Rattle.block_texts.proofs.Laying.{toks_at}
 
--- written at this place, whatever comes behind: a tree that says it, and where it ends
+-- written at this place, whatever comes after: a tree that says it, and where it ends
 pub record LaidAs {X A : Type 0} (write : X → List Part → List Part) (put : A → List Tok → List Tok) (Fine : A → Type 0)
     (view : A → X) (Means : X → A → Type 0) (x : X) (p : ℕ) : Type 0 where
   pub tree : A
@@ -144,14 +144,14 @@ module _ (xs : Binders) (vs : raw.Vars) (mean : BindersMean xs vs) where
       means v names (within scope vs) (inside v.types around (named_vars names vs) ps)
       ∙ ap (λ (s : List Text). tm_meaning names s f) (scope_means scope)
 
--- a mark and what is behind it
+-- a mark and what is after it
 behind_mark : (m : Terminal) (p : ℕ) (ts us : List Tok) → ts ≡ us → mark_at m p ∷ ts ≡ mark_at m p ∷ us
 behind_mark m p ts us e = ap (λ (xs : List Tok). mark_at m p ∷ xs) e
 
 value_read : (n : ℕ) → n < 2 ^ 63 → value_of_digits (decimal n) ≡ n
 value_read n lt = (written n (omega arith)).value
 
--- ---- brackets behind a word
+-- ---- brackets after a word
 
 record LaidOpen (words : List (List ℕ)) (text n : List ℕ) (m : Terminal) (p : ℕ) : Type 0 where
   place : ℕ
@@ -271,7 +271,7 @@ aggregate_mark how.Sum = refl
 aggregate_mark how.Min = refl
 aggregate_mark how.Max = refl
 
--- ---- what is behind a first argument, and behind a first operand of a sum
+-- ---- what is after a first argument, and after a first operand of a sum
 
 record LaidOthers (xs : Others) (p : ℕ) : Type 0 where
   join : raw.Term → raw.Terms

@@ -91,7 +91,7 @@ aggregate_word how.Max = codes "max"
 abbrev pub between : List ℕ → List Part → List Part
 between text rest = space ∷ sign text ∷ space ∷ rest
 
--- an opening bracket behind a word; behind some there is a space before it
+-- an opening bracket after a word; after some there is a space before it
 abbrev pub opened : List (List ℕ) → List ℕ → List ℕ → List Part → List Part
 opened words text n rest = if is_word_of words n then space ∷ sign text ∷ rest else sign text ∷ rest
 

@@ -9,6 +9,7 @@ pub mod Whole
 pub mod Sublists
 pub mod ListFacts
 pub mod AtomFacts
+pub mod AtomCounts
 pub mod EachAtom
 pub mod RangeFacts
 pub mod CoreFacts

@@ -9,5 +9,6 @@ pub mod More
 pub mod GateClauses
 pub mod Growth
 pub mod Atoms
+pub mod AtomTables
 pub mod Ranges
 pub mod Laws

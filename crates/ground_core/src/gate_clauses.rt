@@ -24,7 +24,7 @@ fn short_clauses(alloc: Global, gate: &Gate) -> Result<ClauseList, Memory>
     let out = signed(gate.out, !gate.all);
     for part in gate.parts.as_slice() {
         let lits = [out, signed(*part, gate.all)];
-        clauses.push(Clause::from_slice(alloc, &lits)?)?;
+        clauses.push(&lits)?;
     }
     Ok(clauses)
 }
@@ -47,6 +47,6 @@ pub fn clauses_of_gate(alloc: Global, gate: &Gate) -> Result<ClauseList, Memory>
     ensures { IfOk result (λ cs. cs ≡ gate_clauses gate.now) }
 {
     let mut clauses = short_clauses(alloc, gate)?;
-    clauses.push(long_clause(alloc, gate)?)?;
+    clauses.push(long_clause(alloc, gate)?.as_slice())?;
     Ok(clauses)
 }

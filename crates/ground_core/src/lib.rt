@@ -2,6 +2,8 @@
 //! which valuations satisfy it, and what a solver of such problems promises.
 #![tactic(auto)]
 
+mod atom_counts;
+mod atom_tables;
 mod atoms;
 mod errors;
 mod gate_clauses;
@@ -13,6 +15,7 @@ mod problems;
 mod ranges;
 mod solving;
 
+pub use atom_tables::AtomTable;
 pub use errors::Memory;
 pub use gate_clauses::clauses_of_gate;
 pub use growing::{Addition, Grow};
@@ -25,6 +28,6 @@ pub use laws::{
 };
 pub use moments::Moment;
 pub use parts::{AggCon, Gate, GroundTerm, LitList, Part, PartList, TermBound};
-pub use problems::{AtomTable, Problem};
+pub use problems::Problem;
 pub use ranges::has_small_terms;
 pub use solving::{Budget, Halt, Solve, Verdict};

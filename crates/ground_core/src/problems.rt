@@ -1,73 +1,18 @@
 //! Ground problems, and how they grow.
-ghost use Rattle.std.specs.Prelude.{◌≡◌, ◌≤◌, ◌<◌, ◌^◌, not, [], ◌∷◌, ◌++◌, List, length, take, slice_get, IfOk, OnErr};
-ghost use Rattle.std.specs.Prelude.{OnOk};
-ghost use Rattle.std.specs.Option.{option_copied};
+ghost use Rattle.std.specs.Prelude.{◌≡◌, ◌≤◌, ◌<◌, ◌^◌, not, [], ◌∷◌, ◌++◌, length, take, IfOk, OnErr, OnOk};
 ghost use Rattle.lit_core.specs.Literals.{negated, valuation};
-ghost use Rattle.ground_core.specs.Atoms.{ground_atoms};
 ghost use Rattle.ground_core.specs.Problems.{IsProblem, IsLitOf, AreLitsOf, ArePartsOf, IsTermOf};
 ghost use Rattle.ground_core.specs.Growth.{empty_problem, next_lit, with_var, with_clause, with_gate, with_sum};
 ghost use Rattle.ground_core.specs.Growth.{with_term, with_same, with_exclusion, falsified_by, clauses_of_same};
 ghost use Rattle.ground_core.specs.Growth.{AddsGate, AddsSum, AddsSame};
 
-use crate::atoms::all_atoms;
+use crate::atom_tables::AtomTable;
 use crate::errors::Memory;
 use crate::parts::{AggCon, Gate, GroundTerm, LitList, PartList, TermBound};
-use kb_logic::{AggKind, ElemList, ExtInt, ListOf, Literal, LiteralList, Symbol};
+use kb_logic::{AggKind, ExtInt, ListOf};
 use lit_core::{Clause, ClauseList, Lit, Values, Var};
 use std::alloc::Global;
 use std::marker::Model;
-
-/// The ground atoms of the first variables, in order: variable 1 is the first.
-#[derive(Drop)]
-pub struct AtomTable {
-    atoms: LiteralList,
-}
-
-impl Model for AtomTable {
-    ghost use Rattle.std.specs.Prelude.{List};
-    ghost use Rattle.kb_logic.specs.declared.structures.Literal.{Literal};
-
-    ghost Value = { List Literal };
-
-    ghost view = { λ t. t.atoms };
-}
-
-impl AtomTable {
-    /// The ground atoms over these symbols and domains: the symbols as declared, the tuples of arguments
-    /// of each in domain order, then the values in domain order. What it takes is linear in the atoms.
-    pub fn over(
-        alloc: Global,
-        symbols: &[Symbol],
-        domains: &[ElemList],
-    ) -> Result<AtomTable, Memory>
-        requires few { length symbols.now ≤ 2 ^ 32 }
-        ensures { IfOk result (λ table. table ≡ ground_atoms symbols.now domains.now) }
-    {
-        let atoms = all_atoms(alloc, symbols, domains)?;
-        Ok(AtomTable { atoms })
-    }
-
-    /// The table of these atoms.
-    pub fn from_list(atoms: LiteralList) -> AtomTable
-        ensures { result ≡ atoms }
-    {
-        AtomTable { atoms }
-    }
-
-    /// How many atoms there are.
-    pub fn len(&self) -> usize
-        ensures { result ≡ length self.now }
-    {
-        self.atoms.len()
-    }
-
-    /// The atom at a place, which is that of the variable with the next number.
-    pub fn get(&self, place: usize) -> Option<&Literal>
-        ensures { option_copied result ≡ slice_get self.now place }
-    {
-        self.atoms.get(place)
-    }
-}
 
 /// What is said of numbered variables. All that is said names variables from 1 to `vars`.
 #[derive(Drop)]
@@ -173,7 +118,7 @@ impl Problem {
         ensures ok { OnOk result (self.new ≡ with_clause self.old clause) }
         ensures err { OnErr result (self.new ≡ self.old) }
     {
-        self.clauses.push(clause)?;
+        self.clauses.push(clause.as_slice())?;
         Ok(())
     }
 
@@ -253,7 +198,7 @@ impl Problem {
     {
         let out = self.next()?;
         let before = self.clauses.len();
-        match push_same(alloc, &mut self.clauses, out, a, b) {
+        match push_same(&mut self.clauses, out, a, b) {
             Ok(()) => {
                 self.vars = out.var.0;
                 Ok(out)
@@ -274,7 +219,7 @@ impl Problem {
     {
         let out = self.next()?;
         let clause = exclusion(alloc, out, values, self.atoms.len())?;
-        self.clauses.push(clause)?;
+        self.clauses.push(clause.as_slice())?;
         self.vars = out.var.0;
         Ok(out)
     }
@@ -309,27 +254,21 @@ fn falsified(values: &Values, var: u64) -> Lit
 }
 
 /// Adds the clause of three literals.
-fn push_three(alloc: Global, clauses: &mut ClauseList, a: Lit, b: Lit, c: Lit) -> Result<(), Memory>
+fn push_three(clauses: &mut ClauseList, a: Lit, b: Lit, c: Lit) -> Result<(), Memory>
     ensures ok { OnOk result (clauses.new ≡ clauses.old ++ (a ∷ b ∷ c ∷ []) ∷ []) }
     ensures err { OnErr result (clauses.new ≡ clauses.old) }
 {
-    clauses.push(Clause::from_slice(alloc, &[a, b, c])?)?;
+    clauses.push(&[a, b, c])?;
     Ok(())
 }
 
 /// Adds the clauses that say that a literal is true exactly where two others have one value.
-fn push_same(
-    alloc: Global,
-    clauses: &mut ClauseList,
-    out: Lit,
-    a: Lit,
-    b: Lit,
-) -> Result<(), Memory>
+fn push_same(clauses: &mut ClauseList, out: Lit, a: Lit, b: Lit) -> Result<(), Memory>
     ensures ok { OnOk result (clauses.new ≡ clauses.old ++ clauses_of_same out a b) }
     ensures front { take (length clauses.old) clauses.new ≡ clauses.old }
 {
-    push_three(alloc, clauses, out.negated(), a.negated(), b)?;
-    push_three(alloc, clauses, out.negated(), a, b.negated())?;
-    push_three(alloc, clauses, out, a, b)?;
-    push_three(alloc, clauses, out, a.negated(), b.negated())
+    push_three(clauses, out.negated(), a.negated(), b)?;
+    push_three(clauses, out.negated(), a, b.negated())?;
+    push_three(clauses, out, a, b)?;
+    push_three(clauses, out, a.negated(), b.negated())
 }

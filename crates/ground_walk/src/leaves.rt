@@ -1,14 +1,16 @@
 //! Atoms and comparisons, by the rows of their terms.
-ghost use Rattle.std.specs.Prelude.{◌≡◌, ◌≤◌, IsNone, MatchOption, Some, map, true, IfOk, OnOk, ⊤};
+ghost use Rattle.std.specs.Prelude.{◌≡◌, ◌≤◌, IsNone, IfSome, MatchOption, Some, map, true, IfOk, OnOk, ⊤};
 ghost use Rattle.std.specs.List.{AllByRecursion};
 ghost use Rattle.kb_logic.specs.Bounds.{value_type_of};
 ghost use Rattle.kb_logic.specs.Trees.{terms_of, atom, comparison};
 ghost use Rattle.kb_logic.specs.Views.{term_view};
 ghost use Rattle.plain_evaluation.specs.Environments.{env_view};
-ghost use Rattle.ground_core.specs.Problems.{AreLitsOf};
+ghost use Rattle.ground_core.specs.Problems.{AreLitsOf, ProblemState};
 ghost use Rattle.term_values.specs.GroundBases.{row_index, tuples_at};
 ghost use Rattle.term_values.specs.KnownBases.{IsGroundBase};
+ghost use Rattle.term_values.specs.Rows.{rows_of_term};
 ghost use Rattle.term_values.specs.RowValues.{row_value};
+ghost use Rattle.def_ground.specs.declared.answers.Answer.TheVariants.{Constant};
 ghost use Rattle.def_ground.specs.Answers.{Makes, Grows, gate_of};
 ghost use Rattle.def_ground.specs.Cases.{answer_without};
 ghost use Rattle.def_ground.specs.CaseSentences.{assert_comparison};
@@ -23,6 +25,7 @@ use def_ground::{
     push_cases,
 };
 use ground_core::{LitList, Memory, Problem};
+use kb_logic::values::compare;
 use kb_logic::{Cmp, Term};
 use lit_core::Lit;
 use plain_evaluation::environments::Env;
@@ -65,7 +68,7 @@ fn atom_cases<'r>(
     requires { IsNone (value_type_of base.now.vocabulary symbol) }
     ensures { IfOk result (λ cs. map case_view cs.items ≡ map (atom_case base.now symbol) rows.now) }
 {
-    let mut cases = Vec::new(alloc);
+    let mut cases = Vec::with_capacity(alloc, rows.len())?;
     for row in 0..rows.len() {
         let answer = atom_answer(base, symbol, rows.values(row));
         cases.push(case_of(alloc, rows.guards(row), answer)?)?;
@@ -152,7 +155,7 @@ fn guard_answers<'a>(
     ensures rows { IfOk result (λ v. map guarded_view v.items ≡ (answers_of_guards rows.now problem.old).rows) }
     ensures problem { IfOk result (λ v. problem.new ≡ (answers_of_guards rows.now problem.old).problem) }
 {
-    let mut answers = Vec::new(alloc);
+    let mut answers = Vec::with_capacity(alloc, rows.len())?;
     for row in 0..rows.len() {
         let answer = guard_answer(alloc, rows.guards(row), problem)?;
         answers.push(GuardedValue {
@@ -173,7 +176,7 @@ fn comparison_cases<'r>(
     ensures { IfOk result (λ cs. map case_view cs.items
         ≡ map (comparison_case cmp (map guarded_view right.now)) left.now) }
 {
-    let mut cases = Vec::new(alloc);
+    let mut cases = Vec::with_capacity(alloc, left.len())?;
     for row in 0..left.len() {
         let case = case_of_row(alloc, cmp, left.guards(row), left.value(row), right)?;
         cases.push(case)?;
@@ -202,6 +205,29 @@ fn compare_rows(
     answer_of_cases(alloc, cases.as_slice(), problem)
 }
 
+// Most comparisons of a rule's conditions are of variables and numbers. These make no rows, and take no memory.
+/// Whether the comparison is true of two terms that each have one row, without guards.
+fn plain_comparison<'a>(
+    base: &'a GroundData<'a>,
+    cmp: Cmp,
+    left: &'a Term,
+    right: &'a Term,
+    env: &'a Env<'a>,
+) -> Option<bool>
+    ensures { IfSome result (λ c. (p : ProblemState)
+        → comparison_of cmp (rows_of_term base.now (term_view left.now) (env_view env.now))
+        (rows_of_term base.now (term_view right.now) (env_view env.now)) p
+        ≡ record { answer = Constant c; problem = p }) }
+{
+    let Some(x) = base.plain_value(left, env) else {
+        return None;
+    };
+    let Some(y) = base.plain_value(right, env) else {
+        return None;
+    };
+    Some(compare(cmp, x, y))
+}
+
 /// What a comparison comes to.
 pub(crate) fn comparison<'a>(
     alloc: Global,
@@ -221,6 +247,9 @@ pub(crate) fn comparison<'a>(
         (env_view env.now) problem.old) a problem.new) }
     ensures grows { IfOk result (λ a. Grows problem.old problem.new a) }
 {
+    if let Some(value) = plain_comparison(base, cmp, left, right, env) {
+        return Ok(Answer::Constant(value));
+    }
     let left_rows = base.rows(alloc, left, env)?;
     let right_rows = base.rows(alloc, right, env)?;
     compare_rows(alloc, cmp, &left_rows, &right_rows, problem)

@@ -76,8 +76,7 @@ fn push_some<'a>(
 }
 
 /// Says that one of the literals is true, or the formula is, or where the sign is false is not. The formula is asked
-/// for
-/// as one answer.
+/// for as one answer.
 fn push_leaf<'a>(
     alloc: Global,
     base: &'a GroundData<'a>,
@@ -102,8 +101,7 @@ fn push_leaf<'a>(
 }
 
 /// Says that one of the literals is true, or that two formulas have one truth, or where the sign is false that they
-/// have
-/// not.
+/// have not.
 fn push_iff<'a>(
     alloc: Global,
     base: &'a GroundData<'a>,
@@ -236,7 +234,7 @@ fn push_constant(
 }
 
 /// The right part of an implication, under the literals of the left one, unless these settle the whole. The literals
-/// behind the first `before` are cut off.
+/// after the first `before` are cut off.
 #[cycle(sentence)]
 fn push_under<'a>(
     alloc: Global,

@@ -108,7 +108,7 @@ no_check words command file g b line checks budget (check file' c) h =
     some_none b (sym budget
     ∙ (ap (λ (x : Given). x.budget) (one_line words command (codes "check") file file' g h.0 line h.1).given ∙ h.3))
 
--- two words and those behind them
+-- two words and those after them
 pub spelled : (rest behind behind' : Words) (option value : String Global) (o v : List ℕ) → rest ≡ option ∷ behind
     → behind ≡ value ∷ behind'
     → o ≡ string_bytes option → v ≡ string_bytes value → texts_of rest ≡ o ∷ (v ∷ texts_of behind')

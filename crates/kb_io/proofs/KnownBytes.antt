@@ -1,4 +1,4 @@
--- One call after another, on the bytes, names and numbers that are told.
+-- One call after another, on the bytes, names and numbers that are observable.
 use Rattle.std.specs.Prelude.{◌≡◌, ℕ, ◌+◌, List, [], ◌++◌, Option, Some, None}
 use Rattle.std.proofs.Common.{refl, sym, ◌∙◌, ap, append_assoc, arith}
 use Rattle.std.proofs.lemmas.List.{append-nil}

@@ -149,7 +149,7 @@ impl Shelf for MemShelf {
         ensures taken_back { LoweredByOne self.old.open_sources self.new.open_sources }
         ensures cause { Closes src.faults self.old.faults self.new.faults }
 
-        // The files stay, and the number is told where it was above 0.
+        // The files stay, and the number is observable where it was above 0.
         ensures rest { self.new.files ≡ self.old.files }
         ensures asked { self.new.asked ≡ self.old.asked }
         ensures told { (n : ℕ) → self.old.open_sources ≡ Some (n + 1) → self.new.open_sources ≡ Some n }

@@ -200,8 +200,7 @@ ValuesLieWithinBounds =
     → ValueIsWithin (bounds_of v m.domains t scope) (value_of m t e)
 
 -- so a formula whose terms have small bounds meets the condition of `truth`, and so does each part of it under elements
--- of the
--- variables in scope
+-- of the variables in scope
 abbrev pub SmallBoundsFit : Type 0
 SmallBoundsFit =
     (v : Vocabulary) (m : Structure) → IsStructure v m → (f : FormulaTree) (scope : List ℕ) (e : List Elem)

@@ -1,6 +1,5 @@
 -- The value of a term and the truth of a formula in a structure, under the elements e that are assigned to the
--- variables
--- in scope, the outermost first. What is not well typed has the value `undefined` or is false.
+-- variables in scope, the outermost first. What is not well typed has the value `undefined` or is false.
 use Rattle.std.specs.Prelude.{ℕ, ℤ, pos, ◌+ℤ◌, ◌*ℤ◌, neg_ℤ, List, [], ◌∷◌, ◌++◌, Bool, true, false, ◌&&◌, ◌||◌, ◌==◌}
 use Rattle.std.specs.Prelude.{not, if◌then◌else◌, Option, Some, None, slice_get, map, filter, count_by}
 use Rattle.std.specs.List.{list_all, list_any}

@@ -55,12 +55,14 @@ abbrev pub summands_of : List (Bool × TermTree) → SummandTrees
 summands_of [] = no_summands
 summands_of (s ∷ ss) = more_summands s.0 s.1 (summands_of ss)
 
--- a rule: its variables, its head and its body; a predicate's head has no value
+-- a rule: its variables, its head, whether it has a body, and its body, which is `verum` where it has none; a
+-- predicate's head has no value
 pub record RuleTree : Type 0 where
   pub vars : List Bound
   pub symbol : ℕ
   pub args : List TermTree
   pub value : Option TermTree
+  pub has_body : Bool
   pub body : FormulaTree
 
 -- a definition is its rules

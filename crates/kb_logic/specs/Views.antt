@@ -58,6 +58,7 @@ rule_view r = record {
   symbol = r.symbol;
   args = map term_view r.args;
   value = option_map term_view r.value;
+  has_body = r.has_body;
   body = formula_view r.body;
 }
 

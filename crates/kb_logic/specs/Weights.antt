@@ -1,7 +1,6 @@
 -- The sizes by which the work over a knowledge base is limited: its number of ground atoms, and its weight, which
--- counts
--- how often each part of a theory is instantiated.
-use Rattle.std.specs.Prelude.{ℕ, ◌+◌, ◌*◌, List, length, sum_by, Option, Some, None}
+-- counts how often each part of a theory is instantiated.
+use Rattle.std.specs.Prelude.{ℕ, ◌+◌, ◌*◌, if◌then◌else◌, List, length, sum_by, Option, Some, None}
 use Rattle.kb_logic.specs.declared.elements.Elem.{Elem}
 use Rattle.kb_logic.specs.declared.vocabularies.Vocabulary.{Vocabulary}
 use Rattle.kb_logic.specs.Trees.{TermTree, variable, integer, constructed, application, summation, product, aggregate}
@@ -43,8 +42,7 @@ abbrev mutual
 
 abbrev mutual
   -- the occurrences in a term, where the variables in scope have n assignments: each aggregate counts its own
-  -- assignments
-  -- too, times the applications in its weight
+  -- assignments too, times the applications in its weight
   pub term_occurrences : Vocabulary → List (List Elem) → TermTree → ℕ → ℕ
   term_occurrences v domains (variable k) n = 0
   term_occurrences v domains (integer z) n = 0
@@ -86,14 +84,13 @@ abbrev mutual
   all_occurrences v domains no_formulas n = 0
   all_occurrences v domains (more_formulas f fs) n = occurrences v domains f n + all_occurrences v domains fs n
 
--- the occurrences in a rule's body; a body that is `true`, as that of a rule without one, has none
-abbrev pub body_occurrences : Vocabulary → List (List Elem) → FormulaTree → ℕ → ℕ
-body_occurrences v domains verum n = 0
-body_occurrences v domains f n = occurrences v domains f n
+-- the occurrences in a rule's body, under n assignments of its variables: none where it has no body
+abbrev pub body_occurrences : Vocabulary → List (List Elem) → RuleTree → ℕ → ℕ
+body_occurrences v domains r n = if r.has_body then occurrences v domains r.body n else 0
 
 -- a rule counts 1, its head the assignments of its variables
 abbrev pub rule_occurrences : Vocabulary → List (List Elem) → RuleTree → ℕ
-rule_occurrences v domains r = let n = length (choices domains r.vars) in 1 + n + body_occurrences v domains r.body n
+rule_occurrences v domains r = let n = length (choices domains r.vars) in 1 + n + body_occurrences v domains r n
 
 abbrev pub definition_occurrences : Vocabulary → List (List Elem) → DefinitionTree → ℕ
 definition_occurrences v domains d = sum_by (rule_occurrences v domains) d.rules

@@ -61,6 +61,7 @@ impl Rule {
             symbol: self.symbol,
             args: self.args.copy(alloc)?,
             value: copy_value(alloc, &self.value)?,
+            has_body: self.has_body,
             body: self.body.copy(alloc)?,
         })
     }
@@ -153,32 +154,53 @@ fn copy_formula(alloc: Global, formula: &Formula) -> Result<Formula, Memory>
             copy_term(alloc, left)?,
             copy_term(alloc, right)?,
         )),
-        Formula::Not(inner) => Ok(Formula::Not(Box::new(alloc, copy_formula(alloc, inner)?)?)),
+        Formula::Not(inner) => Ok(Formula::Not(copy_boxed(alloc, inner)?)),
         Formula::And(parts) => Ok(Formula::And(copy_formulas(alloc, parts)?)),
         Formula::Or(parts) => Ok(Formula::Or(copy_formulas(alloc, parts)?)),
-        Formula::Implies(left, right) => Ok(Formula::Implies(
-            Box::new(alloc, copy_formula(alloc, left)?)?,
-            Box::new(alloc, copy_formula(alloc, right)?)?,
-        )),
-        Formula::Iff(left, right) => Ok(Formula::Iff(
-            Box::new(alloc, copy_formula(alloc, left)?)?,
-            Box::new(alloc, copy_formula(alloc, right)?)?,
-        )),
-        Formula::Any(bounds, inner) => Ok(Formula::Any(
-            copy_bounds(alloc, bounds)?,
-            Box::new(alloc, copy_formula(alloc, inner)?)?,
-        )),
-        Formula::All(bounds, inner) => Ok(Formula::All(
-            copy_bounds(alloc, bounds)?,
-            Box::new(alloc, copy_formula(alloc, inner)?)?,
-        )),
-        Formula::Number(cmp, n, bounds, inner) => Ok(Formula::Number(
-            *cmp,
-            *n,
-            copy_bounds(alloc, bounds)?,
-            Box::new(alloc, copy_formula(alloc, inner)?)?,
-        )),
+        Formula::Implies(left, right) => {
+            let left = copy_boxed(alloc, left)?;
+            Ok(Formula::Implies(left, copy_boxed(alloc, right)?))
+        }
+        Formula::Iff(left, right) => {
+            let left = copy_boxed(alloc, left)?;
+            Ok(Formula::Iff(left, copy_boxed(alloc, right)?))
+        }
+        Formula::Any(bounds, inner) => {
+            let (bounds, inner) = copy_quantified(alloc, bounds, inner)?;
+            Ok(Formula::Any(bounds, inner))
+        }
+        Formula::All(bounds, inner) => {
+            let (bounds, inner) = copy_quantified(alloc, bounds, inner)?;
+            Ok(Formula::All(bounds, inner))
+        }
+        Formula::Number(cmp, n, bounds, inner) => {
+            let (bounds, inner) = copy_quantified(alloc, bounds, inner)?;
+            Ok(Formula::Number(*cmp, *n, bounds, inner))
+        }
     }
+}
+
+// A function of its own, since a box that is made beside others costs the check the drop of each of them.
+#[cycle(copies)]
+fn copy_boxed(alloc: Global, formula: &Formula) -> Result<Box<Formula>, Memory>
+    ensures { IfOk result (λ f. formula_view f.value ≡ formula_view formula.now) }
+{
+    let copy = copy_formula(alloc, formula)?;
+    Ok(Box::new(alloc, copy)?)
+}
+
+/// The variables of a quantifier or of an aggregate, and the formula that they are bound in.
+#[cycle(copies)]
+fn copy_quantified(
+    alloc: Global,
+    bounds: &[Bound],
+    inner: &Formula,
+) -> Result<(Vec<Bound>, Box<Formula>), Memory>
+    ensures bounds { IfOk result (λ q. q.0.items ≡ bounds.now) }
+    ensures tree { IfOk result (λ q. formula_view q.1.value ≡ formula_view inner.now) }
+{
+    let inner = copy_boxed(alloc, inner)?;
+    Ok((copy_bounds(alloc, bounds)?, inner))
 }
 
 #[cycle(copies)]
@@ -203,12 +225,11 @@ fn copy_term(alloc: Global, term: &Term) -> Result<Term, Memory>
         Term::Product(factors) => Ok(Term::Product(copy_terms(alloc, factors)?)),
         Term::Apply(symbol, terms) => Ok(Term::Apply(*symbol, copy_terms(alloc, terms)?)),
         Term::Sum(parts) => Ok(Term::Sum(copy_summands(alloc, parts)?)),
-        Term::Agg(kind, bounds, formula, inner) => Ok(Term::Agg(
-            *kind,
-            copy_bounds(alloc, bounds)?,
-            Box::new(alloc, copy_formula(alloc, formula)?)?,
-            Box::new(alloc, copy_term(alloc, inner)?)?,
-        )),
+        Term::Agg(kind, bounds, formula, inner) => {
+            let (bounds, formula) = copy_quantified(alloc, bounds, formula)?;
+            let inner = copy_term(alloc, inner)?;
+            Ok(Term::Agg(*kind, bounds, formula, Box::new(alloc, inner)?))
+        }
     }
 }
 

@@ -64,13 +64,15 @@ pub enum Formula {
 }
 
 /// A rule `! vars: P(args) <- body`, or `! vars: f(args) = value <- body`. Its variables come first in the
-/// scope of its terms and its body.
+/// scope of its terms and its body. The body of a rule that has none is `True`: it means the same as a body that is
+/// written so, and weighs less.
 #[derive(Drop)]
 pub struct Rule {
     pub vars: BoundList,
     pub symbol: u32,
     pub args: TermList,
     pub value: Option<Term>,
+    pub has_body: bool,
     pub body: Formula,
 }
 

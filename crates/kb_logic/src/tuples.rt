@@ -69,13 +69,35 @@ fn push_longer(
     let Some((last, others)) = domain.split_last() else {
         return Ok(());
     };
-    for elem in others {
-        let mut copy = tuple.copy(alloc)?;
-        copy.push(elem.copy(alloc)?)?;
-        longer.push(copy)?;
+    push_copies(alloc, &tuple, others, longer)?;
+    push_with(alloc, tuple, last, longer)
+}
+
+/// Pushes a copy of the tuple with each element at its end.
+fn push_copies(
+    alloc: Global,
+    tuple: &ElemList,
+    elems: &[Elem],
+    longer: &mut Vec<ElemList>,
+) -> Result<(), Memory>
+    ensures { OnOk result (longer.new.items ≡ longer.old.items ++ map (λ x. tuple.now ++ x ∷ []) elems.now) }
+{
+    for elem in elems {
+        push_with(alloc, tuple.copy(alloc)?, elem, longer)?;
     }
+    Ok(())
+}
+
+fn push_with(
+    alloc: Global,
+    tuple: ElemList,
+    elem: &Elem,
+    longer: &mut Vec<ElemList>,
+) -> Result<(), Memory>
+    ensures { OnOk result (longer.new.items ≡ longer.old.items ++ (tuple ++ elem.now ∷ []) ∷ []) }
+{
     let mut tuple = tuple;
-    tuple.push(last.copy(alloc)?)?;
+    tuple.push(elem.copy(alloc)?)?;
     longer.push(tuple)?;
     Ok(())
 }

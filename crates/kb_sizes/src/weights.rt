@@ -79,13 +79,13 @@ fn sentences(vocab: &Vocabulary, domains: &DomainList, all: &[Formula]) -> u64
     count
 }
 
-/// A body that is `true` counts nothing.
-fn body(vocab: &Vocabulary, domains: &DomainList, of: &Formula, n: u64) -> u64
-    ensures { result ≡ capped (body_occurrences vocab.now domains.now (formula_view of.now) n) }
+fn body(vocab: &Vocabulary, domains: &DomainList, rule: &Rule, n: u64) -> u64
+    ensures { result ≡ capped (body_occurrences vocab.now domains.now (rule_view rule.now) n) }
 {
-    match of {
-        Formula::True => 0,
-        _ => formula_in(vocab, domains, of, n),
+    if rule.has_body {
+        formula_in(vocab, domains, &rule.body, n)
+    } else {
+        0
     }
 }
 
@@ -104,7 +104,7 @@ fn rule_weight(vocab: &Vocabulary, domains: &DomainList, rule: &Rule) -> u64
     ensures { result ≡ capped (rule_occurrences vocab.now domains.now (rule_view rule.now)) }
 {
     let heads = assignments(domains, rule.vars.as_slice());
-    plus(plus(1, heads), body(vocab, domains, &rule.body, heads))
+    plus(plus(1, heads), body(vocab, domains, rule, heads))
 }
 
 fn rules(vocab: &Vocabulary, domains: &DomainList, all: &[Rule]) -> u64

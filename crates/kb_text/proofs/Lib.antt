@@ -2,6 +2,7 @@ pub mod Closes
 pub mod Exact
 pub mod Exists
 pub mod Fronts
+pub mod Lengths
 pub mod Numbers
 pub mod Passages
 pub mod Pieces

@@ -1,6 +1,7 @@
 //! Classes of bytes, the signs of two and three bytes, and spaces.
 ghost use Rattle.std.specs.Prelude.{◌≡◌};
 ghost use Rattle.std.specs.List.{prefix_len};
+ghost use Rattle.std.specs.Str.{bytes_eq};
 ghost use Rattle.kb_text.specs.Bytes.{class_of, is_arrow, is_pair, is_triple, is_word_byte, is_digit_byte};
 ghost use Rattle.kb_text.specs.Bytes.{is_line_byte, is_space_byte, only_spaces};
 
@@ -52,16 +53,18 @@ pub fn class_of(b: u8) -> Class
     }
 }
 
+#[tactic(auto, unfolding(crate::specs::Bytes::class_of))]
 pub fn is_word_byte(b: u8) -> bool
     ensures { result ≡ is_word_byte b }
 {
-    matches!(class_of(b), Class::Letter | Class::Digit)
+    matches!(b, b'A'..=b'Z' | b'a'..=b'z' | b'_' | b'0'..=b'9')
 }
 
+#[tactic(auto, unfolding(crate::specs::Bytes::class_of))]
 pub fn is_digit_byte(b: u8) -> bool
     ensures { result ≡ is_digit_byte b }
 {
-    matches!(class_of(b), Class::Digit)
+    matches!(b, b'0'..=b'9')
 }
 
 pub fn is_space_byte(b: u8) -> bool
@@ -115,4 +118,13 @@ pub fn only_spaces(bytes: &[u8]) -> bool
     ensures { result ≡ only_spaces bytes.now }
 {
     bytes.iter().all(|b| is_space_byte(*b))
+}
+
+/// Whether two texts are the same. The lengths come first: most words of a text have another one than a reserved word,
+/// and then no byte is looked at.
+#[tactic(auto, using(crate::proofs::Lengths::other_length))]
+pub fn same_text(a: &[u8], b: &[u8]) -> bool
+    ensures { result ≡ bytes_eq a.now b.now }
+{
+    if a.len() == b.len() { a == b } else { false }
 }

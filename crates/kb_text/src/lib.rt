@@ -15,7 +15,7 @@ mod role;
 mod scan;
 mod token;
 
-pub use bytes::only_spaces;
+pub use bytes::{only_spaces, same_text};
 pub use fault::{K, KbFault, LexError};
 pub use scan::{one_answer, tokens};
 pub use token::{Kind, Token};

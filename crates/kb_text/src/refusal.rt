@@ -6,6 +6,7 @@ ghost use Rattle.kb_text.specs.Pieces.{IsPiece, IntText};
 ghost use Rattle.kb_text.specs.Tokens.{decimal, is_too_large, is_unsupported, own_refusal_of, refusal_of, IsSpellingOf};
 ghost use Rattle.kb_text.specs.Depth.{around_of, depth_of};
 
+use crate::bytes::same_text;
 use crate::depth::Nesting;
 use crate::fault::K;
 use crate::token::Kind;
@@ -37,7 +38,7 @@ const UNSUPPORTED_CALLS: [&[u8]; 1] = [b"abs"];
 fn is_any_of(text: &[u8], words: &[&[u8]]) -> bool
     ensures { result ≡ list_any (λ w. bytes_eq w.now text.now) words.now }
 {
-    words.iter().any(|word| *word == text)
+    words.iter().any(|word| same_text(*word, text))
 }
 
 fn is_unsupported(text: &[u8], behind: &[u8]) -> bool

@@ -1,7 +1,7 @@
 -- The laws of two problems together.
 use Rattle.std.proofs.Common.{◌≡◌, ℕ, ◌+◌, ◌≤◌, ◌<◌, List, [], ◌++◌, length, length-append, refl, sym, ap, ◌∙◌, subst}
-use Rattle.std.proofs.Common.{⊎_elim, arith, All}
-use Rattle.std.proofs.lemmas.List.{append-nil}
+use Rattle.std.proofs.Common.{⊎_elim, ◌⊎◌, inl, inr, arith, All}
+use Rattle.std.proofs.lemmas.List.{append-nil, nil_from_length}
 use Rattle.std.proofs.lemmas.List.Elements.{All-append, All-push, All-weaker, All-nil}
 use Rattle.lit_core.specs.declared.literals.Lit.{Lit}
 use Rattle.ground_core.specs.declared.parts.AggCon.{AggCon}
@@ -128,3 +128,9 @@ same-both p q sums bounds =
     let b : p.bounds ++ q.bounds ≡ p.bounds = ap (λ (xs : List TermBound). p.bounds ++ xs) bounds
     ∙ append-nil p.bounds in
     rw (a, b) refl
+
+-- of two problems that can be joined one has no atoms
+pub one-has-none : (p q : ProblemState) → IsProblem p → CanJoin p q → (p.atoms ≡ []) ⊎ (q.atoms ≡ [])
+one-has-none p q h can =
+    let few : length p.atoms ≤ p.vars = h.atoms in
+    ⊎_elim (λ n. inr n.0) (λ (e : p.vars ≡ 0). inl (nil_from_length p.atoms (omega (arith, few, e)))) can.names

@@ -8,10 +8,10 @@ use Rattle.kept_problem.specs.Selectors.{AreSelectors}
 -- constraints on sums are not kept yet
 abbrev pub state_of : Inside → ProblemState
 state_of p = record {
-  atoms = p.atoms.items;
+  atoms = p.atoms;
   vars = p.vars;
   gates = p.gates.items;
-  clauses = p.clauses.items;
+  clauses = p.clauses;
   sums = [];
   terms = p.terms.items;
   bounds = p.bounds.items;

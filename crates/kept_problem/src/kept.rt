@@ -1,6 +1,6 @@
 //! The problem that a solver keeps.
 ghost use Rattle.std.specs.Prelude.{◌≡◌, ◌≤◌, ◌<◌, ◌+◌, ◌++◌, ◌↔◌, [], length, slice_get, slice_index_or, Contains};
-ghost use Rattle.std.specs.Prelude.{IsTrue, IfOk, OnOk, OnErr, vec_len, vec_capacity};
+ghost use Rattle.std.specs.Prelude.{◌⊎◌, IsTrue, IfOk, OnOk, OnErr, vec_len, vec_capacity};
 ghost use Rattle.ground_core.specs.Problems.{AreLitsOf, IsProblem};
 ghost use Rattle.ground_core.specs.Moments.{moment_of};
 ghost use Rattle.ground_core.specs.Growth.{empty_problem, next_lit, with_bound};
@@ -9,8 +9,8 @@ ghost use Rattle.kept_problem.specs.Joining.{CanJoin, joined_problem, with_selec
 ghost use Rattle.kept_problem.specs.Selectors.{AreSelectors};
 
 use ground_core::{AtomTable, Gate, GroundTerm, Memory, Moment, Problem, TermBound};
-use kb_logic::{ExtInt, ListOf, Literal};
-use lit_core::{Clause, Lit, Var};
+use kb_logic::{ExtInt, ListOf, LiteralList};
+use lit_core::{ClauseList, Lit, PackedLit, Var};
 use std::alloc::Global;
 use std::marker::Model;
 
@@ -18,10 +18,10 @@ use std::marker::Model;
 /// good.
 #[derive(Drop)]
 pub struct KeptProblem {
-    atoms: Vec<Literal>,
+    atoms: AtomTable,
     vars: u64,
     gates: Vec<Gate>,
-    clauses: Vec<Clause>,
+    clauses: ClauseList,
     terms: Vec<GroundTerm>,
     bounds: Vec<TermBound>,
     /// Selectors that are retired, with room for every variable, so that retiring takes no memory.
@@ -47,17 +47,16 @@ fn is_among(lits: &[Lit], lit: Lit) -> bool
     lits.iter().any(|other| *other == lit)
 }
 
-fn copied_atoms(alloc: Global, table: &AtomTable) -> Result<Vec<Literal>, Memory>
-    ensures { IfOk result (λ atoms. atoms.items ≡ table.now) }
+/// The atoms of two problems of which one has none.
+fn joined_atoms(alloc: Global, old: &AtomTable, more: &AtomTable) -> Result<AtomTable, Memory>
+    requires { (old.now ≡ []) ⊎ (more.now ≡ []) }
+    ensures { IfOk result (λ atoms. atoms ≡ old.now ++ more.now) }
 {
-    let mut atoms = Vec::new(alloc);
-    for place in 0..table.len() {
-        match table.get(place) {
-            Some(atom) => atoms.push(atom.copy(alloc)?)?,
-            None => unreachable!(),
-        }
+    if more.len() == 0 {
+        old.copy(alloc)
+    } else {
+        more.copy(alloc)
     }
-    Ok(atoms)
 }
 
 fn copied_gate(alloc: Global, gate: &Gate) -> Result<Gate, Memory>
@@ -76,16 +75,6 @@ fn copied_gates(alloc: Global, gates: &[Gate]) -> Result<Vec<Gate>, Memory>
     let mut copies = Vec::new(alloc);
     for gate in gates {
         copies.push(copied_gate(alloc, gate)?)?;
-    }
-    Ok(copies)
-}
-
-fn copied_clauses(alloc: Global, clauses: &[Clause]) -> Result<Vec<Clause>, Memory>
-    ensures { IfOk result (λ copies. copies.items ≡ clauses.now) }
-{
-    let mut copies = Vec::new(alloc);
-    for clause in clauses {
-        copies.push(clause.copy(alloc)?)?;
     }
     Ok(copies)
 }
@@ -129,10 +118,10 @@ impl KeptProblem {
         ensures { result ≡ empty_problem [] }
     {
         KeptProblem {
-            atoms: Vec::new(alloc),
+            atoms: AtomTable::from_list(LiteralList::new(alloc)),
             vars: 0,
             gates: Vec::new(alloc),
-            clauses: Vec::new(alloc),
+            clauses: ClauseList::new(alloc),
             terms: Vec::new(alloc),
             bounds: Vec::new(alloc),
             retired: Vec::new(alloc),
@@ -178,11 +167,11 @@ impl KeptProblem {
     }
 
     /// The clause at a place, and no literals past the end.
-    pub fn clause(&self, place: usize) -> &[Lit]
+    pub fn clause(&self, place: usize) -> &[PackedLit]
         ensures { result.now ≡ slice_index_or self.now.clauses place [] }
     {
         match self.clauses.get(place) {
-            Some(clause) => clause.as_slice(),
+            Some(lits) => lits,
             None => &[],
         }
     }
@@ -219,9 +208,9 @@ impl KeptProblem {
     }
 
     /// Says one more clause, which may have one more variable, and makes the room to retire it.
-    pub fn add_selected(&mut self, clause: Clause) -> Result<(), Memory>
-        requires { AreLitsOf (self.old.vars + 1) clause }
-        ensures ok { OnOk result (self.new ≡ with_selected self.old clause) }
+    pub fn add_selected(&mut self, clause: &[Lit]) -> Result<(), Memory>
+        requires { AreLitsOf (self.old.vars + 1) clause.now }
+        ensures ok { OnOk result (self.new ≡ with_selected self.old clause.now) }
         ensures err { OnErr result (self.new ≡ self.old) }
     {
         let Some(vars) = self.vars.checked_add(1) else {
@@ -272,18 +261,15 @@ impl KeptProblem {
         ensures ok { OnOk result (self.new ≡ joined_problem self.old more.now) }
         ensures err { OnErr result (self.new ≡ self.old) }
     {
-        let atoms = copied_atoms(alloc, more.atoms())?;
+        let atoms = joined_atoms(alloc, &self.atoms, more.atoms())?;
         let gates = copied_gates(alloc, more.gates())?;
-        let clauses = copied_clauses(alloc, more.clauses().as_slice())?;
         let terms = copied_terms(alloc, more.terms())?;
-        self.atoms.reserve(atoms.len())?;
         self.gates.reserve(gates.len())?;
-        self.clauses.reserve(clauses.len())?;
         self.terms.reserve(terms.len())?;
         self.retired.reserve(more.vars() as usize)?;
-        append_reserved(&mut self.atoms, atoms);
+        self.clauses.append(more.clauses())?;
+        self.atoms = atoms;
         append_reserved(&mut self.gates, gates);
-        append_reserved(&mut self.clauses, clauses);
         append_reserved(&mut self.terms, terms);
         self.vars = more.vars();
         Ok(())

@@ -1,3 +1,4 @@
+pub mod ClauseListFacts
 pub mod Closure
 pub mod FreshFromQuiet
 pub mod Freshness

@@ -23,8 +23,7 @@ pub record IsFreshAt (clauses : List (List Lit)) (c : List Lit) (l : Lit) : Type
   pub opened : IsOpenUnder inforce l
 
 -- the clause is fresh against these clauses: some literal of it does not follow from the negations of the others by
--- unit
--- propagation
+-- unit propagation
 abbrev pub FreshAgainst : List (List Lit) → List Lit → Type 0
 FreshAgainst clauses c = (l : Lit) × IsFreshAt clauses c l
 

@@ -1,5 +1,4 @@
-ghost use Rattle.std.specs.Prelude.{◌≡◌, ◌≤◌, ◌↔◌, ◌++◌, ◌∷◌, [], length, take, slice_get, IsTrue, IfOk, OnOk, OnErr};
-ghost use Rattle.std.specs.Prelude.{MatchOption, Option, Some};
+ghost use Rattle.std.specs.Prelude.{◌≡◌, ◌↔◌, ◌++◌, ◌∷◌, [], length, IsTrue, IfOk, OnOk, OnErr};
 
 use crate::errors::Memory;
 use crate::literals::Lit;
@@ -83,86 +82,5 @@ impl Clause {
         ensures { IfOk result (λ c. c ≡ self.now) }
     {
         Clause::from_slice(alloc, self.as_slice())
-    }
-}
-
-/// Clauses, by their places.
-#[derive(Debug, Drop)]
-pub struct ClauseList {
-    clauses: Vec<Clause>,
-}
-
-impl Model for ClauseList {
-    ghost use Rattle.std.specs.Prelude.{List};
-    ghost use Rattle.lit_core.specs.declared.literals.Lit.{Lit};
-
-    ghost Value = { List (List Lit) };
-
-    ghost view = { λ c. c.clauses.items };
-}
-
-impl ClauseList {
-    /// No clause.
-    pub fn new(alloc: Global) -> ClauseList
-        ensures { result ≡ [] }
-    {
-        ClauseList {
-            clauses: Vec::new(alloc),
-        }
-    }
-
-    /// The number of clauses.
-    pub fn len(&self) -> usize
-        ensures { result ≡ length self.now }
-    {
-        self.clauses.len()
-    }
-
-    /// Whether there is no clause.
-    pub fn is_empty(&self) -> bool
-        ensures { IsTrue result ↔ (length self.now ≡ 0) }
-    {
-        self.clauses.is_empty()
-    }
-
-    /// The clause at a place, or None past the end.
-    pub fn get(&self, i: usize) -> Option<&Clause>
-        ensures { MatchOption result (length self.now ≤ i) (λ c. slice_get self.now i ≡ Some c.now) }
-    {
-        self.clauses.get(i)
-    }
-
-    /// The clauses in order.
-    pub fn as_slice(&self) -> &[Clause]
-        ensures { result.now ≡ self.now }
-    {
-        self.clauses.as_slice()
-    }
-
-    /// Adds a clause at the end.
-    pub fn push(&mut self, clause: Clause) -> Result<(), Memory>
-        ensures ok { OnOk result (self.new ≡ self.old ++ clause ∷ []) }
-        ensures err { OnErr result (self.new ≡ self.old) }
-    {
-        self.clauses.push(clause)?;
-        Ok(())
-    }
-
-    /// Keeps the first `len` clauses.
-    pub fn truncate(&mut self, len: usize)
-        ensures { self.new ≡ take len self.old }
-    {
-        self.clauses.truncate(len);
-    }
-
-    /// The same clauses once more.
-    pub fn copy(&self, alloc: Global) -> Result<ClauseList, Memory>
-        ensures { IfOk result (λ c. c ≡ self.now) }
-    {
-        let mut clauses = Vec::with_capacity(alloc, self.clauses.len())?;
-        for clause in &self.clauses {
-            clauses.push(clause.copy(alloc)?)?;
-        }
-        Ok(ClauseList { clauses })
     }
 }

@@ -2,16 +2,20 @@
 //! that a clause follows from others by unit propagation, and that a clause is fresh.
 #![tactic(auto)]
 
+mod clause_lists;
 mod clauses;
 mod errors;
 mod laws;
 mod literals;
+mod packed;
 mod valuations;
 
-pub use clauses::{Clause, ClauseList};
+pub use clause_lists::ClauseList;
+pub use clauses::Clause;
 pub use errors::Memory;
 pub use laws::{
     fresh_against_fewer, freshness_is_closure, quiet_leaves_fresh, refutation_is_sound,
 };
 pub use literals::{Lit, Var};
+pub use packed::PackedLit;
 pub use valuations::{Assignment, Values, satisfies};

@@ -83,7 +83,7 @@ abbrev pub constant_one : List (List Elem)
 constant_one = (one ∷ one ∷ []) ∷ (two ∷ one ∷ []) ∷ []
 
 abbrev pub p_if : List Bound → FormulaTree → RuleTree
-p_if vars body = record { vars = vars; symbol = 0; args = []; value = None; body = body }
+p_if vars body = record { vars = vars; symbol = 0; args = []; value = None; has_body = true; body = body }
 
 abbrev pub said : ℕ → FormulaTree
 said s = atom s no_terms
@@ -96,7 +96,14 @@ of_type ty = record { name = []; ty = ty } ∷ []
 
 -- `f(x) = n` for each x
 abbrev pub f_is : TermTree → RuleTree
-f_is n = record { vars = of_type 0; symbol = 3; args = variable 0 ∷ []; value = Some n; body = verum }
+f_is n = record {
+  vars = of_type 0;
+  symbol = 3;
+  args = variable 0 ∷ [];
+  value = Some n;
+  has_body = false;
+  body = verum;
+}
 
 abbrev pub p_holds : GroundAtom
 p_holds = record { symbol = 0; args = []; value = None }

@@ -1,5 +1,5 @@
 -- Worked examples of truth and value, in a structure that is small enough to work them out by hand.
-use Rattle.std.specs.Prelude.{◌≡◌, ℕ, ℤ, pos, negsuc, List, [], ◌∷◌, Bool, true, false, Option, None, Some}
+use Rattle.std.specs.Prelude.{◌≡◌, ◌+◌, ℕ, ℤ, pos, negsuc, List, [], ◌∷◌, Bool, true, false, Option, None, Some}
 use Rattle.kb_logic.specs.declared.elements.Elem.{Elem}
 use Rattle.kb_logic.specs.declared.elements.Elem.TheVariants.{Named, Num}
 use Rattle.kb_logic.specs.declared.vocabularies.Bound.{Bound}
@@ -159,8 +159,19 @@ rule = record {
   symbol = 0;
   args = x ∷ [];
   value = None;
-  body =
-      comparison cmp.Eq (weight x) (integer (pos 2));
+  has_body = true;
+  body = comparison cmp.Eq (weight x) (integer (pos 2));
+}
+
+-- `small(x) <- true` where the Bool is true, else `small(x)`
+abbrev fact : Bool → RuleTree
+fact has_body = record {
+  vars = over 0;
+  symbol = 0;
+  args = x ∷ [];
+  value = None;
+  has_body = has_body;
+  body = verum;
 }
 
 -- `!x: small(x).`
@@ -173,15 +184,43 @@ sum_sentence = comparison cmp.Eq (aggregate kind.Sum (over 0) (small x) (weight 
 
 -- `weight(x) = 2 <- small(x)`
 abbrev valued_rule : RuleTree
-valued_rule = record { vars = over 0; symbol = 1; args = x ∷ []; value = Some (integer (pos 2)); body = small x }
+valued_rule = record {
+  vars = over 0;
+  symbol = 1;
+  args = x ∷ [];
+  value = Some (integer (pos 2));
+  has_body = true;
+  body = small x;
+}
 
 abbrev weight_with : List FormulaTree → List DefinitionTree → List TermTree → ℕ
 weight_with sentences definitions terms = weight_of words sample.domains
     (record { sentences = sentences; definitions = definitions }) terms
 
+-- `weight(x) = v <- v = x + 1`, which stands for `weight(x) = x + 1`
+abbrev computed_rule : RuleTree
+computed_rule = record {
+  vars = record { name = 120 ∷ []; ty = 0 } ∷ record { name = 118 ∷ []; ty = 0 } ∷ [];
+  symbol = 1;
+  args = x ∷ [];
+  value = Some y;
+  has_body = true;
+  body = comparison cmp.Eq y (summation (more_summands false x (more_summands false (integer (pos 1)) no_summands)));
+}
+
+-- the occurrences of a rule: 1, those of its head, and those of its body where it has one. A body `true` that is
+-- written counts, and so does a body that the head's value gives
+abbrev pub Rules : Type 0
+Rules =
+    (rule_occurrences words sample.domains rule ≡ 1 + 3 + 9)
+    × (rule_occurrences words sample.domains (fact false) ≡ 1 + 3)
+    × (rule_occurrences words sample.domains (fact true) ≡ 1 + 3 + 3)
+    × (rule_occurrences words sample.domains computed_rule ≡ 1 + 9 + 9)
+    × (weight_with [] (record { rules = fact false ∷ [] } ∷ []) [] ≡ 28)
+    × (weight_with [] (record { rules = fact true ∷ [] } ∷ []) [] ≡ 40)
+
 -- the weight of an aggregate with an application in its weight, of an application in another, of a number quantifier,
--- of a
--- definition of a function, of a term that may be asked for, and of a count
+-- of a definition of a function, of a term that may be asked for, and of a count
 abbrev pub Weights : Type 0
 Weights =
     (weight_with (sum_sentence ∷ []) [] [] ≡ 64)
@@ -191,8 +230,7 @@ Weights =
     × (weight_with [] [] (weight (integer (pos 1)) ∷ []) ≡ 24)
     × (weight_with [] [] (aggregate kind.Count (over 0) (small x) (integer (pos 1)) ∷ []) ≡ 40)
 
--- static bounds, a width, ground atoms (3 of small and 9 of weight), the occurrences of a rule, and the weight of a
--- theory
+-- static bounds, a width, ground atoms (3 of small and 9 of weight), and the weight of a theory
 abbrev pub Sizes : Type 0
 Sizes =
     (bounds (weight (integer (pos 1))) ≡ from_to (pos 1) (pos 3))
@@ -206,8 +244,7 @@ Sizes =
     × (bounds (constructed 1 0) ≡ from_to (pos 0) (pos 0))
     × (width_of (bounds (aggregate kind.Sum (over 0) (small x) (weight x))) ≡ 9)
     × (atom_count words sample.domains ≡ 12)
-    × (rule_occurrences words sample.domains rule ≡ 13)
     × (weight_of words sample.domains theory [] ≡ 28)
 
 abbrev pub WorkedExamples : Type 0
-WorkedExamples = Connectives × Atoms × Quantifiers × Arithmetic × Aggregates × Ends × Sizes × Weights
+WorkedExamples = Connectives × Atoms × Quantifiers × Arithmetic × Aggregates × Ends × Sizes × Rules × Weights

@@ -17,6 +17,7 @@ fn rule(alloc: Global) -> Result<Rule, Memory> {
         symbol: 0,
         args: TermList::from_vec(vec![in alloc; Term::Var(0)]?),
         value: Some(Term::Int(1)),
+        has_body: true,
         body: member(alloc)?,
     })
 }

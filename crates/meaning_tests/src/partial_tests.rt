@@ -106,7 +106,7 @@ fn goes_so(alloc: Global, s: &mut Partial, told: &Told) -> bool {
     }
 }
 
-/// Whether each step goes as it is told.
+/// Whether each step goes as scripted.
 fn plays(alloc: Global, s: &mut Partial, story: &[Told]) -> bool {
     for told in story {
         if !goes_so(alloc, s, told) {

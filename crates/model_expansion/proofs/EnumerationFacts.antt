@@ -1,7 +1,7 @@
 -- Models found one after another.
-use Rattle.std.proofs.Common.{◌≡◌, ℕ, zero, suc, ◌+◌, ◌-◌, ◌*◌, ◌^◌, ◌<◌, ◌≤◌, Bool, true, false, Option, Some, None}
-use Rattle.std.proofs.Common.{Result, Ok, Err, List, [], ◌∷◌, ◌++◌, map, length, get_or, All, Contains, refl, sym, ap}
-use Rattle.std.proofs.Common.{◌∙◌, subst, arith, inl, inr, ⊎_elim}
+use Rattle.std.proofs.Common.{◌≡◌, ℕ, zero, suc, ◌+◌, ◌-◌, ◌*◌, ◌^◌, ◌<◌, ◌≤◌, Bool, true, false, Option}
+use Rattle.std.proofs.Common.{Result, Err, List, [], ◌∷◌, ◌++◌, map, length, get_or, All, refl, sym, ap}
+use Rattle.std.proofs.Common.{◌∙◌, subst, arith}
 use Rattle.std.proofs.lemmas.List.{append_assoc, append-nil, length_push}
 use Rattle.std.proofs.lemmas.List.Elements.{All-nil, All-contains, All-push}
 use Rattle.std.proofs.lemmas.Bool.{both_ways}
@@ -17,20 +17,21 @@ use Rattle.ground_core.specs.declared.solving.Halt.TheVariants.{Spent, Memory}
 use Rattle.ground_core.specs.Problems.{ProblemState, IsProblem, AreLitsOf}
 use Rattle.ground_core.specs.Meaning.{Satisfies, MakesTrue, RefutesAll}
 use Rattle.ground_core.specs.Growth.{with_exclusion, next_lit, retiring}
-use Rattle.ground_core.specs.Growing.{Conserves, IsSelector, excluded, retired}
+use Rattle.ground_core.specs.Growing.{Conserves, IsSelector, excluded}
 use Rattle.ground_core.specs.Laws.{Differs}
-use Rattle.ground_core.specs.Solving.{SolveState, AreUnretired, HasCoreWithin, IsBudgetOf, IsKept, IsWithin}
+use Rattle.ground_core.specs.Solving.{SolveState, AreUnretired, HasCoreWithin, IsBudgetOf, IsKept}
 use Rattle.ground_core.specs.Calls.{Keeps, Counts, CountsUpTo, Costs, Stays, IsAnsweredAtOnce, IsNone}
 use Rattle.ground_core.proofs.CallFacts.{none-yet, keeps-none, keeps-twice, counts-twice, counts-more}
 use Rattle.ground_core.proofs.AdditionFacts.{nothing-added}
 use Rattle.ground_core.proofs.GrowthFacts.{exclusions-select}
-use Rattle.model_search.specs.Models.{IsLeft, FindsModel}
-use Rattle.model_expansion.specs.Exclusions.{with_exclusions, exclusion_selectors, with_past_exclusions, Excludes}
-use Rattle.model_expansion.specs.Exclusions.{AreModels, AreApart, AreNew, retired_all}
-use Rattle.model_expansion.specs.Enumerations.{EndsAt, Gathers, Ends, IsAll, IsAllAtOnce, AddsExclusions, IsEmpty}
+use Rattle.model_search.specs.Models.{IsLeft}
+use Rattle.model_expansion.specs.Exclusions.{exclusion_selectors, Excludes}
+use Rattle.model_search.specs.Retirements.{AreNew, retired_all}
+use Rattle.model_expansion.specs.Exclusions.{AreModels}
+use Rattle.model_expansion.specs.Enumerations.{Gathers, Ends, IsAll, AddsExclusions, IsEmpty}
 use Rattle.model_expansion.proofs.ExclusionFacts.{exclusions-push, selectors-push, selector-stays, selectors-number}
-use Rattle.model_expansion.proofs.ExclusionFacts.{retired-stays, fresh, with-next, unretired-next, are-new, Selects}
-use Rattle.model_expansion.proofs.ExclusionFacts.{selects-begins, selects-next, apart-push, all-found, retire-first}
+use Rattle.model_expansion.proofs.ExclusionFacts.{retired-stays, with-next, unretired-next, are-new, Selects}
+use Rattle.model_expansion.proofs.ExclusionFacts.{selects-begins, selects-next, apart-push, all-found}
 
 -- what holds before the search number i, from 0 on
 pub record IsSoFar (assumed : List Lit) (n i : ℕ) (r s : SolveState) (a b : Budget) (ls : List Lit)
@@ -272,42 +273,6 @@ pub halted : (halt : Halt) → IsNone {T = List Bool} (Err halt) → IsAll (Err 
 halted Spent h = h
 halted Memory h = tt
 
-pub first-fits : (s : SolveState) (l : Lit) (ls rest : List Lit) → rest ≡ l ∷ ls → All (IsSelector s.problem) rest
-    → IsSelector s.problem l
-first-fits s l ls rest is h = subst (All (IsSelector s.problem)) is h zero l (omega arith)
-
--- a selector that is retired first
-module _ (s t : SolveState) (l : Lit) (ls rest : List Lit) (is : rest ≡ l ∷ ls) (new : AreNew s.problem.retired rest)
-    (retires : (Contains s.problem.retired l → ⊥) → t ≡ retired s l) where
-  abbrev new-first : AreNew s.problem.retired (l ∷ ls)
-  new-first = subst (AreNew s.problem.retired) is new
-
-  pub first-retired : t ≡ retired s l
-  first-retired = retires new-first.0
-
-  pub same-in-the-end : (all : SolveState) → retired_all s rest ≡ all → retired_all t ls ≡ all
-  same-in-the-end all e = ap (λ (q : SolveState). retired_all q ls) first-retired ∙ retire-first s l ls
-      ∙ ap (retired_all s) (sym is) ∙ e
-
-  pub others-new : AreNew t.problem.retired ls
-  others-new = subst (λ (q : SolveState). AreNew q.problem.retired ls) (sym first-retired) new-first.1
-
-  pub others-fit : All (IsSelector s.problem) rest → All (IsSelector t.problem) ls
-  others-fit h = λ k d lt.
-      let x : IsSelector s.problem (get_or (l ∷ ls) (suc k) d) = subst (All (IsSelector s.problem)) is h (suc k) d
-      (omega (arith, lt)) in
-      subst (λ (q : SolveState). IsSelector q.problem (get_or ls k d)) (sym first-retired)
-      (record {
-        positive = x.positive;
-        within = x.within;
-        atoms = x.atoms;
-        gates = x.gates;
-        clauses = x.clauses;
-        sums = x.sums;
-        terms = x.terms;
-        bounds = x.bounds;
-      })
-
 -- the selectors are retired in the end
 module _ (assumed : List Lit) (n : ℕ) (r s t : SolveState) (ls sels : List Lit) (vs : List (List Bool))
     (h : Gathers assumed n r s ls vs) (is : sels ≡ exclusion_selectors r.problem vs) where
@@ -374,7 +339,7 @@ module _ (assumed : List Lit) (n : ℕ) (r s t : SolveState) (ls sels : List Lit
         spent-fewer x y zero kp m f g some nothing = let z : kp ≡ 0 = nothing refl in omega (arith, f, z, some)
         spent-fewer x y (suc k) kp m f g some nothing = omega (arith, f, g, some)
 
--- the same, of what the whole call told
+-- the same, of what the whole call stated
 pub empty-halted : (halt : Halt) → IsAll (Err halt) → IsEmpty (Err halt)
 empty-halted Spent h = h
 empty-halted Memory h = tt

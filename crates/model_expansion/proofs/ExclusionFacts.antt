@@ -1,8 +1,7 @@
 -- Exclusions one after another, and their selectors.
-use Rattle.std.proofs.Common.{◌≡◌, ℕ, zero, suc, ◌+◌, ◌-◌, ◌<◌, ◌≤◌, Bool, true, false, not, List, [], ◌∷◌, ◌++◌}
+use Rattle.std.proofs.Common.{◌≡◌, ℕ, zero, suc, ◌+◌, ◌<◌, ◌≤◌, Bool, true, false, not, List, [], ◌∷◌, ◌++◌}
 use Rattle.std.proofs.Common.{length, get_or, All, Contains, refl, sym, ap, ◌∙◌, subst, arith, inl, inr, ⊎_elim, ◌⊎◌}
 use Rattle.std.specs.List.{Any}
-use Rattle.std.proofs.lemmas.List.{append_assoc, append-nil, length_push}
 use Rattle.std.proofs.lemmas.List.Elements.{All-nil, All-cons, All-contains, All-push, All-head, All-tail}
 use Rattle.std.proofs.lemmas.List.Elements.{Contains-push, Contains-push_cases}
 use Rattle.std.proofs.lemmas.Bool.{cases_eq}
@@ -12,14 +11,15 @@ use Rattle.lit_core.specs.Literals.{literal_value, valuation, negated}
 use Rattle.ground_core.specs.Problems.{ProblemState, IsProblem, IsLitOf, AreLitsOf}
 use Rattle.ground_core.specs.Meaning.{Satisfies, MakesTrue, RefutesAll}
 use Rattle.ground_core.specs.More.{Agree}
-use Rattle.ground_core.specs.Growth.{with_exclusion, next_lit, falsified_by, retiring}
-use Rattle.ground_core.specs.Growing.{Conserves, IsSelector, IsApart, retired}
-use Rattle.ground_core.specs.Solving.{SolveState, AreUnretired}
+use Rattle.ground_core.specs.Growth.{with_exclusion, next_lit, falsified_by}
+use Rattle.ground_core.specs.Growing.{Conserves, IsSelector}
+use Rattle.ground_core.specs.Solving.{AreUnretired}
 use Rattle.ground_core.specs.Laws.{Differs}
 use Rattle.ground_core.proofs.Fronts.{All-front}
 use Rattle.ground_core.proofs.Locals.{agree-trans, literal-local}
 use Rattle.ground_core.proofs.GrowthFacts.{exclusions-select, exclusion-restricts}
-use Rattle.model_expansion.specs.Exclusions.{with_exclusions, exclusion_selectors, AreApart, AreNew, retired_all}
+use Rattle.model_search.specs.Retirements.{AreNew}
+use Rattle.model_expansion.specs.Exclusions.{with_exclusions, exclusion_selectors, AreApart}
 
 pub exclusions-push : (p : ProblemState) (vs : List (List Bool)) (v : List Bool) → with_exclusions p (vs ++ v ∷ [])
     ≡ with_exclusion (with_exclusions p vs) v
@@ -202,50 +202,3 @@ all-found p q assumed vs ls h refuted v s t = ⊎_elim
     (λ d. let e = h.extends v s t d in absurd (refuted e.0 e.2 e.3))
     (λ any. any)
     (all-or-any p v vs)
-
--- retiring the first selector and then the others is retiring all
-pub retire-first : (s : SolveState) (l : Lit) (ls : List Lit) → retired_all (retired s l) ls ≡ retired_all s (l ∷ ls)
-retire-first s l ls =
-    let joined : (s.problem.retired ++ l ∷ []) ++ ls ≡ s.problem.retired ++ l ∷ ls =
-    append_assoc s.problem.retired (l ∷ []) ls in
-    let fewer : s.free - 1 - length ls ≡ s.free - suc (length ls) = omega arith in
-    ap (λ (gone : List Lit). record {
-      problem = retiring s.problem gone;
-      learnt = s.learnt;
-      moments = s.moments;
-      cores = s.cores;
-      free = s.free - 1 - length ls;
-      searches = s.searches;
-      additions = s.additions;
-    }) joined
-    ∙ ap (λ (free : ℕ). record {
-      problem = retiring s.problem (s.problem.retired ++ l ∷ ls);
-      learnt = s.learnt;
-      moments = s.moments;
-      cores = s.cores;
-      free = free;
-      searches = s.searches;
-      additions = s.additions;
-    }) fewer
-
-pub retire-none : (s : SolveState) → retired_all s [] ≡ s
-retire-none s =
-    let whole : s.free - 0 ≡ s.free = omega arith in
-    ap (λ (free : ℕ). record {
-      problem = retiring s.problem (s.problem.retired ++ []);
-      learnt = s.learnt;
-      moments = s.moments;
-      cores = s.cores;
-      free = free;
-      searches = s.searches;
-      additions = s.additions;
-    }) whole
-    ∙ ap (λ (gone : List Lit). record {
-      problem = retiring s.problem gone;
-      learnt = s.learnt;
-      moments = s.moments;
-      cores = s.cores;
-      free = s.free;
-      searches = s.searches;
-      additions = s.additions;
-    }) (append-nil s.problem.retired)

@@ -1,5 +1,5 @@
 -- Several models, no two of which have the same ground atoms.
-use Rattle.std.specs.Prelude.{◌≡◌, ℕ, ◌+◌, ◌≤◌, Bool, true, false, List, [], ◌∷◌, ◌++◌, map, length, All, Any, Result}
+use Rattle.std.specs.Prelude.{◌≡◌, ℕ, ◌+◌, ◌≤◌, Bool, true, false, List, [], ◌++◌, map, length, All, Any, Result}
 use Rattle.std.specs.Prelude.{Ok, Err}
 use Rattle.lit_core.specs.declared.literals.Lit.{Lit}
 use Rattle.lit_core.specs.Literals.{valuation}
@@ -13,7 +13,7 @@ use Rattle.ground_core.specs.Laws.{Differs}
 use Rattle.ground_core.specs.Growing.{IsSelector}
 use Rattle.ground_core.specs.Solving.{SolveState, HasCoreWithin}
 use Rattle.model_expansion.specs.declared.found.Several.{Several}
-use Rattle.model_expansion.specs.Exclusions.{with_exclusions, exclusion_selectors, Excludes, AreModels, AreNew}
+use Rattle.model_expansion.specs.Exclusions.{with_exclusions, exclusion_selectors, Excludes, AreModels}
 
 -- each valuation that is left has the ground atoms of one of these; or there are n of these, and another one is left
 abbrev pub EndsAt : ProblemState → List Lit → ℕ → List (List Bool) → Bool → Type 0
@@ -43,12 +43,12 @@ IsEmpty (Ok m) = (m.found ≡ []) × (m.complete ≡ true)
 IsEmpty (Err Spent) = ⊥
 IsEmpty (Err Memory) = Unit {0}
 
--- that there is no model, which a kept core shows, is told at once
+-- that there is no model, which a kept core shows, is returned at once
 pub record IsEmptyAtOnce (old new : SolveState) (result : Result Several Halt) : Type 0 where
   pub answer : IsEmpty result
   pub learnt : new.learnt ≡ old.learnt
 
--- these models were found, and exclusions of them are in force under selectors that stand behind what is assumed
+-- these models were found, and exclusions of them are in force under selectors that stand after what is assumed
 pub record Gathers (assumed : List Lit) (n : ℕ) (old new : SolveState) (ls : List Lit) (vs : List (List Bool))
     : Type 0 where
   pub problem : new.problem ≡ with_exclusions old.problem vs
@@ -71,7 +71,7 @@ IsAll (Ok complete) = complete ≡ true
 IsAll (Err Spent) = ⊥
 IsAll (Err Memory) = Unit {0}
 
--- that there is none is told at once
+-- that there is none is returned at once
 pub record IsAllAtOnce (old new : SolveState) (vs : List (List Bool)) (result : Result Bool Halt) : Type 0 where
   pub none : vs ≡ []
   pub answer : IsAll result

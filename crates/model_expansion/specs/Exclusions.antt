@@ -1,5 +1,5 @@
 -- Exclusions of valuations, whose selectors are retired.
-use Rattle.std.specs.Prelude.{◌≡◌, ◌+◌, ◌-◌, Bool, List, [], ◌∷◌, ◌++◌, map, length, All, Contains}
+use Rattle.std.specs.Prelude.{◌≡◌, Bool, List, [], ◌∷◌, ◌++◌, map, All}
 use Rattle.lit_core.specs.declared.literals.Lit.{Lit}
 use Rattle.lit_core.specs.Literals.{valuation}
 use Rattle.ground_core.specs.declared.growing.Addition.TheVariants.{Exclusion}
@@ -38,20 +38,3 @@ AreApart p (v ∷ vs) = All (λ w. Differs p v (valuation w)) vs × AreApart p v
 pub record AreModels (p : ProblemState) (assumed : List Lit) (vs : List (List Bool)) : Type 0 where
   pub left : All (IsLeft p assumed) vs
   pub apart : AreApart p vs
-
--- none of the selectors is retired, and none stands twice
-abbrev pub AreNew : List Lit → List Lit → Type 0
-AreNew gone [] = Unit {0}
-AreNew gone (l ∷ ls) = (Contains gone l → ⊥) × AreNew (gone ++ l ∷ []) ls
-
--- with these selectors retired too
-abbrev pub retired_all : SolveState → List Lit → SolveState
-retired_all s ls = record {
-  problem = retiring s.problem (s.problem.retired ++ ls);
-  learnt = s.learnt;
-  moments = s.moments;
-  cores = s.cores;
-  free = s.free - length ls;
-  searches = s.searches;
-  additions = s.additions;
-}

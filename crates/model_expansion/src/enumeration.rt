@@ -2,10 +2,10 @@
 ghost use Rattle.std.specs.Prelude.{◌≡◌, ◌+◌, ◌<◌, ◌++◌, ◌∷◌, [], length, All, IfOk, IfErr, OnOk, OnErr};
 ghost use Rattle.ground_core.specs.Problems.{AreLitsOf};
 ghost use Rattle.ground_core.specs.Growth.{next_lit};
-ghost use Rattle.ground_core.specs.Growing.{IsSelector, excluded};
+ghost use Rattle.ground_core.specs.Growing.{excluded};
 ghost use Rattle.ground_core.specs.Solving.{IsBudgetOf, AreUnretired, HaltedAt, HasCoreWithin, IsKept};
 ghost use Rattle.ground_core.specs.Calls.{Keeps, CountsUpTo, Costs};
-ghost use Rattle.model_expansion.specs.Exclusions.{AreNew, retired_all, Excludes};
+ghost use Rattle.model_expansion.specs.Exclusions.{Excludes};
 ghost use Rattle.model_expansion.specs.Enumerations.{FindsSeveral, AddsExclusions, IsEmptyAtOnce, Gathers, Ends};
 ghost use Rattle.model_expansion.specs.Enumerations.{IsAllAtOnce};
 
@@ -13,24 +13,8 @@ use crate::found::Several;
 use ground_core::{Budget, Grow, Halt, Memory};
 use kb_logic::ListOf;
 use lit_core::{Lit, Values};
-use model_search::model_of;
+use model_search::{model_of, retire_each};
 use std::alloc::Global;
-
-/// Retires the selectors, of which none is retired yet.
-fn retire_each<S: Grow>(s: &mut S, selectors: &[Lit])
-    requires selectors { All (IsSelector (S.state s.old).problem) selectors.now }
-    requires new { AreNew (S.state s.old).problem.retired selectors.now }
-    requires kept { IsKept (S.state s.old) }
-    ensures retired { S.state s.new ≡ retired_all (S.state s.old) selectors.now }
-    ensures kept { IsKept (S.state s.new) }
-    ensures later { S.goes_on s.old s.new }
-{
-    let (_, mut rest) = selectors.split_at(0);
-    while let Some((selector, others)) = rest.split_first() {
-        s.retire(*selector);
-        rest = others;
-    }
-}
 
 /// Excludes these values, and keeps them and the selector. Room is made before, so that no selector
 /// is made that is not kept.

@@ -1,3 +1,4 @@
+pub mod BoundFacts
 pub mod TurnFacts
 pub mod Order
 pub mod DescentFacts

@@ -1,6 +1,6 @@
--- A search under a bound whose selector is then retired.
-use Rattle.std.proofs.Common.{◌≡◌, ℕ, ◌+◌, ◌-◌, ◌<◌, ◌≤◌, Bool, true, false, Option, Some, None, List, [], ◌∷◌, ◌++◌}
-use Rattle.std.proofs.Common.{length, get_or, Contains, refl, sym, ap, ◌∙◌, subst, arith, inr, ⊎_elim}
+-- A search under a bound.
+use Rattle.std.proofs.Common.{◌≡◌, ℕ, ◌+◌, ◌<◌, ◌≤◌, Bool, true, false, Option, Some, None, List, [], ◌∷◌, ◌++◌}
+use Rattle.std.proofs.Common.{length, get_or, Contains, refl, sym, ap, ◌∙◌, subst, arith, inl, inr, ⊎_elim}
 use Rattle.std.proofs.lemmas.List.Elements.{All-contains, All-push, Contains-push, Contains-push_cases}
 use Rattle.kb_logic.specs.declared.elements.ExtInt.{ExtInt}
 use Rattle.kb_logic.specs.declared.syntax.Cmp.TheVariants as cmp
@@ -10,14 +10,14 @@ use Rattle.lit_core.specs.Literals.{literal_value, valuation}
 use Rattle.ground_core.specs.Problems.{ProblemState, IsProblem, IsLitOf, AreLitsOf}
 use Rattle.ground_core.specs.Meaning.{Satisfies, MakesTrue, RefutesAll, value_of_bound}
 use Rattle.ground_core.specs.Growth.{with_bound, next_lit}
-use Rattle.ground_core.specs.Growing.{value_at, IsSelector, bounded, retired, with_retired}
+use Rattle.ground_core.specs.Growing.{value_at, bounded}
 use Rattle.ground_core.specs.Solving.{SolveState, AreUnretired, HasCoreWithin}
 use Rattle.ground_core.proofs.Fronts.{All-front}
 use Rattle.ground_core.proofs.Locals.{literal-local}
-use Rattle.ground_core.proofs.GrowthFacts.{select, bound-restricts, bound-selector}
+use Rattle.ground_core.proofs.GrowthFacts.{select, bound-restricts}
 use Rattle.model_minimiser.specs.declared.minimum.Found.{Found}
 use Rattle.ground_core.specs.Calls.{Stays}
-use Rattle.model_minimiser.specs.Bounds.{GrowsBy, IsBelow, AddsAtMost}
+use Rattle.model_minimiser.specs.Bounds.{IsBelow, AddsAtMost}
 use Rattle.model_minimiser.specs.Minima.{IsFound, NothingBelow, Finds}
 
 -- the next variable is that of no literal of the problem
@@ -66,55 +66,24 @@ module _ (p : ProblemState) (term : ℕ) (n : ExtInt) (assume : List Lit) (fine 
           (All-push (λ l. literal_value e.0 l ≡ true) assume sel (λ k d less.
           sym (literal-local p.vars v e.0 e.1 (get_or assume k d) (lits k d less)) ∙ t k d less) e.3))
 
-module _ (s0 s1 s2 s3 : SolveState) (term : ℕ) (n : ExtInt) (fine : IsProblem s0.problem)
-    (made : s1 ≡ bounded s0 term n) (stays : Stays s1 s2) where
-  problem-is : s2.problem ≡ with_bound s0.problem term n
-  problem-is = stays.problem ∙ ap (λ (s : SolveState). s.problem) made
-
-  pub selects : IsSelector s2.problem (next_lit s0.problem)
-  selects = subst (λ (q : ProblemState). IsSelector q (next_lit s0.problem)) (sym problem-is)
-      (bound-selector s0.problem term n fine)
-
-  pub not-yet : Contains s2.problem.retired (next_lit s0.problem) → ⊥
-  not-yet has = fresh s0.problem s0.problem.retired fine.retired
-      (subst (λ (q : ProblemState). Contains q.retired (next_lit s0.problem)) problem-is has)
-
-  pub grown : ((Contains s2.problem.retired (next_lit s0.problem) → ⊥) → s3 ≡ retired s2 (next_lit s0.problem))
-      → GrowsBy term (n ∷ []) s0 s3
-  grown retires =
-      let e : s3 ≡ retired s2 (next_lit s0.problem) = retires not-yet in record {
-        problem = ap (λ (s : SolveState). s.problem) e ∙ ap (λ (q : ProblemState). with_retired q
-            (next_lit s0.problem)) problem-is;
-        additions = ap (λ (s : SolveState). s.additions) e ∙ stays.additions
-            ∙ ap (λ (s : SolveState). s.additions) made;
-        free =
-            let a : s3.free ≡ s2.free - 1 = ap (λ (s : SolveState). s.free) e in
-            let b : s2.free ≡ s0.free + 1 = stays.free ∙ ap (λ (s : SolveState). s.free) made in omega (arith, a, b);
-      }
-
-  pub added : ((Contains s2.problem.retired (next_lit s0.problem) → ⊥) → s3 ≡ retired s2 (next_lit s0.problem))
-      → AddsAtMost term n s0 s3
-  added retires = (n ∷ [], inr refl, grown retires)
-
-  pub cores-same : ((Contains s2.problem.retired (next_lit s0.problem) → ⊥) → s3 ≡ retired s2 (next_lit s0.problem))
-      → s3.cores ≡ s2.cores
-  cores-same retires = ap (λ (s : SolveState). s.cores) (retires not-yet)
-
-module _ (s0 s1 s2 s3 : SolveState) (term : ℕ) (n : ExtInt) (ls : List Lit) (sel : Lit) (fine : IsProblem s0.problem)
+-- a bound, and a search under it
+module _ (s0 s1 s2 : SolveState) (term : ℕ) (n : ExtInt) (ls : List Lit) (sel : Lit) (fine : IsProblem s0.problem)
     (lt : term < length s0.problem.terms) (lits : AreLitsOf s0.problem.vars ls)
-    (made : (sel ≡ next_lit s0.problem) × (s1 ≡ bounded s0 term n)) (stays : Stays s1 s2)
-    (retires : (Contains s2.problem.retired sel → ⊥) → s3 ≡ retired s2 sel) where
-  retires-next : (Contains s2.problem.retired (next_lit s0.problem) → ⊥) → s3 ≡ retired s2 (next_lit s0.problem)
-  retires-next = subst (λ (l : Lit). (Contains s2.problem.retired l → ⊥) → s3 ≡ retired s2 l) made.0 retires
-
-  pub turn-adds : AddsAtMost term n s0 s3
-  turn-adds = added s0 s1 s2 s3 term n fine made.1 stays retires-next
+    (is_next : sel ≡ next_lit s0.problem) (made : s1 ≡ bounded s0 term n) where
+  pub turn-adds : Stays s1 s2 → (before after : List Lit) → after ≡ before ++ sel ∷ []
+      → AddsAtMost term n s0 s2 before after
+  turn-adds stays before after longer = inr (record {
+    problem = stays.problem ∙ ap (λ (s : SolveState). s.problem) made;
+    additions = stays.additions ∙ ap (λ (s : SolveState). s.additions) made;
+    free = stays.free ∙ ap (λ (s : SolveState). s.free) made;
+    lits = longer ∙ ap (λ (l : Lit). before ++ l ∷ []) is_next;
+  })
 
   plain : (o : Option Found) → Finds s1.problem (ls ++ sel ∷ []) term s2.cores o → Finds (with_bound s0.problem term n)
       (ls ++ next_lit s0.problem ∷ []) term s2.cores o
   plain o f =
-      subst (λ (s : SolveState). Finds s.problem (ls ++ next_lit s0.problem ∷ []) term s2.cores o) made.1
-      (subst (λ (l : Lit). Finds s1.problem (ls ++ l ∷ []) term s2.cores o) made.0 f)
+      subst (λ (s : SolveState). Finds s.problem (ls ++ next_lit s0.problem ∷ []) term s2.cores o) made
+      (subst (λ (l : Lit). Finds s1.problem (ls ++ l ∷ []) term s2.cores o) is_next f)
 
   pub turn-found : (o : Option Found) (f : Found) → o ≡ Some f → Finds s1.problem (ls ++ sel ∷ []) term s2.cores o
       → IsFound s0.problem ls term f × IsBelow f.value n
@@ -122,11 +91,18 @@ module _ (s0 s1 s2 s3 : SolveState) (term : ℕ) (n : ExtInt) (ls : List Lit) (s
       (plain (Some f) (subst (λ (x : Option Found). Finds s1.problem (ls ++ sel ∷ []) term s2.cores x) is h))
 
   pub turn-nothing : (o : Option Found) → o ≡ None → Finds s1.problem (ls ++ sel ∷ []) term s2.cores o
-      → NothingBelow s0.problem ls term n × HasCoreWithin s3.cores (ls ++ sel ∷ [])
+      → NothingBelow s0.problem ls term n × HasCoreWithin s2.cores (ls ++ sel ∷ [])
   turn-nothing o is h =
       let none : Finds s1.problem (ls ++ sel ∷ []) term s2.cores None =
       subst (λ (x : Option Found). Finds s1.problem (ls ++ sel ∷ []) term s2.cores x) is h in (
         nothing-below s0.problem term n ls fine lt lits (plain None none).0,
-        subst (λ (cs : List (List Lit)). HasCoreWithin cs (ls ++ sel ∷ []))
-            (sym (cores-same s0 s1 s2 s3 term n fine made.1 stays retires-next)) none.1,
+        none.1,
       )
+
+-- nothing was added
+pub turn-none : (s t : SolveState) (term : ℕ) (n : ExtInt) (before after : List Lit) → t ≡ s → after ≡ before
+    → AddsAtMost term n s t before after
+turn-none s t term n before after same lits = inl (
+  subst (Stays s) (sym same) (record { problem = refl; additions = refl; free = refl }),
+  lits,
+)

@@ -1,19 +1,20 @@
 //! The least value of a term, by bounds that fall.
 ghost use Rattle.std.specs.Prelude.{◌≡◌, ◌+◌, ◌<◌, ◌++◌, ◌∷◌, [], ℕ, length, IsTrue, false, IfOk, IfErr};
+ghost use Rattle.std.specs.Prelude.{OnErr};
 ghost use Rattle.kb_logic.specs.declared.elements.ExtInt.TheVariants.{NegInf};
 ghost use Rattle.ground_core.specs.Problems.{AreLitsOf};
 ghost use Rattle.ground_core.specs.Growth.{next_lit};
-ghost use Rattle.ground_core.specs.Growing.{IsSelector};
+ghost use Rattle.ground_core.specs.Growing.{bounded};
 ghost use Rattle.ground_core.specs.Solving.{IsBudgetOf, AreUnretired, HaltedAt, HasCoreWithin, IsKept};
 ghost use Rattle.ground_core.specs.Calls.{Keeps, Counts, CountsUpTo, Costs, Stays, IsAnsweredAtOnce};
-ghost use Rattle.model_minimiser.specs.Bounds.{AddsBounds, AddsAtMost};
+ghost use Rattle.model_minimiser.specs.Bounds.{AddsBounds, AddsAtMost, HoldsBounds};
 ghost use Rattle.model_minimiser.specs.Minima.{IsFound, Finds, FindsBelow, IsLeast, FindsLeast, Spans};
 
 use crate::minimum::{Found, Minimum, Step};
-use ground_core::{Budget, Grow, Halt, Verdict};
+use ground_core::{Budget, Grow, Halt, Memory, Verdict};
 use kb_logic::ExtInt;
 use lit_core::Lit;
-use model_search::joined;
+use model_search::{joined, retire_each};
 use std::alloc::Global;
 
 /// Searches for values that satisfy the problem and make the literals true, with the term's value.
@@ -76,13 +77,38 @@ fn search_under<S: Grow>(
     }
 }
 
-/// Searches for values under which the term is below the number.
+/// Bounds the term under one more selector, and keeps that. Room is made before, so that no selector is made that is
+/// not
+/// kept.
+fn bound<S: Grow>(
+    s: &mut S,
+    term: u32,
+    below: ExtInt,
+    selectors: &mut Vec<Lit>,
+) -> Result<Lit, Memory>
+    requires term { term < length (S.state s.old).problem.terms }
+    requires below { below ≡ NegInf → ⊥ }
+    requires kept { IsKept (S.state s.old) }
+    ensures made { IfOk result (λ out. (out ≡ next_lit (S.state s.old).problem) × (S.state s.new
+        ≡ bounded (S.state s.old) term below) × (selectors.new.items ≡ selectors.old.items ++ out ∷ [])) }
+    ensures same { OnErr result ((S.state s.new ≡ S.state s.old) × (selectors.new.items ≡ selectors.old.items)) }
+    ensures kept { IsKept (S.state s.new) }
+    ensures later { S.goes_on s.old s.new }
+{
+    selectors.reserve(1)?;
+    let selector = s.bound(term, below)?;
+    selectors.push_reserved(selector);
+    Ok(selector)
+}
+
+/// Searches for values under which the term is below the number. The bound stays in force.
 fn lower<S: Grow>(
     alloc: Global,
     s: &mut S,
     assume: &[Lit],
     term: u32,
     below: ExtInt,
+    selectors: &mut Vec<Lit>,
     budget: &mut Budget,
 ) -> Result<Step, Halt>
     requires term { term < length (S.state s.old).problem.terms }
@@ -93,18 +119,16 @@ fn lower<S: Grow>(
     requires below { below ≡ NegInf → ⊥ }
     ensures finds { IfOk result (FindsBelow (S.state s.old).problem assume.now term below (S.state s.new).cores) }
     ensures halt { IfErr result (HaltedAt budget.new) }
-    ensures adds { AddsAtMost term below (S.state s.old) (S.state s.new) }
+    ensures adds { AddsAtMost term below (S.state s.old) (S.state s.new) selectors.old.items selectors.new.items }
     ensures keeps { Keeps (S.state s.old) (S.state s.new) budget.old budget.new }
     ensures counts { CountsUpTo ((S.state s.old).free + 1) 1 (S.state s.old) (S.state s.new) budget.old budget.new }
     ensures kept { IsKept (S.state s.new) }
     ensures later { S.goes_on s.old s.new }
 {
-    let Ok(selector) = s.bound(term, below) else {
+    let Ok(selector) = bound(s, term, below, selectors) else {
         return Err(Halt::Memory);
     };
-    let found = search_under(alloc, s, assume, selector, term, budget);
-    s.retire(selector);
-    match found {
+    match search_under(alloc, s, assume, selector, term, budget) {
         Ok(Some(found)) => Ok(Step::Lower(found)),
         Ok(None) => Ok(Step::Nothing(selector)),
         Err(halt) => Err(halt),
@@ -123,13 +147,14 @@ fn is_lowest(value: ExtInt) -> bool
     }
 }
 
-/// Lowers the value until nothing is below.
-fn descend<S: Grow>(
+/// Lowers the value until nothing is below. The bounds stay in force, each under one of the selectors.
+fn lower_all<S: Grow>(
     alloc: Global,
     s: &mut S,
     assume: &[Lit],
     term: u32,
     first: Found,
+    selectors: &mut Vec<Lit>,
     budget: &mut Budget,
 ) -> Result<Minimum, Halt>
     requires term { term < length (S.state s.old).problem.terms }
@@ -137,19 +162,20 @@ fn descend<S: Grow>(
     requires unretired { AreUnretired (S.state s.old).problem assume.now }
     requires budget { IsBudgetOf (S.state s.old).learnt budget.old }
     requires kept { IsKept (S.state s.old) }
+    requires none { selectors.old.items ≡ [] }
     requires found { IsFound (S.state s.old).problem assume.now term first }
     ensures least { IfOk result (IsLeast (S.state s.old).problem assume.now term (S.state s.new).cores) }
     ensures halt { IfErr result (HaltedAt budget.new) }
-    ensures adds { AddsBounds assume.now term (S.state s.old) (S.state s.new) }
+    ensures bounds { HoldsBounds assume.now term (S.state s.old) (S.state s.new) selectors.new.items }
     ensures keeps { Keeps (S.state s.old) (S.state s.new) budget.old budget.new }
-    ensures counts { (n : ℕ) → Spans (S.state s.old).problem term n → CountsUpTo ((S.state s.old).free + 1) (n + 2)
-        (S.state s.old) (S.state s.new) budget.old budget.new }
+    ensures counts { (n : ℕ) → Spans (S.state s.old).problem term n → CountsUpTo ((S.state s.old).free + (n + 2))
+        (n + 2) (S.state s.old) (S.state s.new) budget.old budget.new }
     ensures kept { IsKept (S.state s.new) }
     ensures later { S.goes_on s.old s.new }
 {
     let mut best = first;
     while !is_lowest(best.value) {
-        match lower(alloc, s, assume, term, best.value, budget) {
+        match lower(alloc, s, assume, term, best.value, selectors, budget) {
             Ok(Step::Lower(found)) => best = found,
             Ok(Step::Nothing(bound)) => {
                 return Ok(Minimum {
@@ -168,9 +194,39 @@ fn descend<S: Grow>(
     })
 }
 
+/// Lowers the value until nothing is below, and then retires the bounds' selectors, also where it halts.
+fn descend<S: Grow>(
+    alloc: Global,
+    s: &mut S,
+    assume: &[Lit],
+    term: u32,
+    first: Found,
+    budget: &mut Budget,
+) -> Result<Minimum, Halt>
+    requires term { term < length (S.state s.old).problem.terms }
+    requires literals { AreLitsOf (S.state s.old).problem.vars assume.now }
+    requires unretired { AreUnretired (S.state s.old).problem assume.now }
+    requires budget { IsBudgetOf (S.state s.old).learnt budget.old }
+    requires kept { IsKept (S.state s.old) }
+    requires found { IsFound (S.state s.old).problem assume.now term first }
+    ensures least { IfOk result (IsLeast (S.state s.old).problem assume.now term (S.state s.new).cores) }
+    ensures halt { IfErr result (HaltedAt budget.new) }
+    ensures adds { AddsBounds assume.now term (S.state s.old) (S.state s.new) }
+    ensures keeps { Keeps (S.state s.old) (S.state s.new) budget.old budget.new }
+    ensures counts { (n : ℕ) → Spans (S.state s.old).problem term n → CountsUpTo ((S.state s.old).free + (n + 2))
+        (n + 2) (S.state s.old) (S.state s.new) budget.old budget.new }
+    ensures kept { IsKept (S.state s.new) }
+    ensures later { S.goes_on s.old s.new }
+{
+    let mut selectors = Vec::new(alloc);
+    let told = lower_all(alloc, s, assume, term, first, &mut selectors, budget);
+    retire_each(s, selectors.as_slice());
+    told
+}
+
 /// The least value of a term where the problem and the literals hold, or None where they nowhere do.
-/// Each search but the first stands under a bound at the value found before; the bound's selector
-/// is then retired.
+/// Each search but the first stands under a bound at the value found before. The bounds' selectors are retired in the
+/// end, so that what was learnt under one bound may serve under the next.
 pub fn least<S: Grow>(
     alloc: Global,
     s: &mut S,

@@ -2,7 +2,9 @@
 #![tactic(auto)]
 
 mod lists;
+mod retiring;
 mod searching;
 
 pub use lists::joined;
+pub use retiring::retire_each;
 pub use searching::model_of;

@@ -1,6 +1,7 @@
 -- The tables of the elements of the types.
 use Rattle.std.proofs.Common.{◌≡◌, ℕ, zero, suc, ◌+◌, ◌<◌, List, [], ◌∷◌, ◌++◌, length, take, Bool, true, false}
-use Rattle.std.proofs.Common.{◌||◌, if◌then◌else◌, Option, None, Some, is_some, map, slice_get, refl, sym, ap, ◌∙◌, subst, get_or}
+use Rattle.std.proofs.Common.{◌||◌, if◌then◌else◌, Option, None, Some, is_some, map, slice_get, refl, sym, ap, ◌∙◌}
+use Rattle.std.proofs.Common.{subst, get_or}
 use Rattle.std.proofs.Common.{inl, inr, arith, Contains, MatchBool}
 use Rattle.std.specs.Prelude.{⊤}
 use Rattle.std.specs.List.{list_any}
@@ -11,7 +12,8 @@ use Rattle.kb_logic.specs.Structures.{domain_at}
 use Rattle.kb_logic.specs.Denotations.{Denotation, denotation_of}
 use Rattle.kb_logic.proofs.Members.{some_one, one_is_some}
 use Rattle.partial_structures.specs.Applications.{stands_in}
-use Rattle.partial_structures.specs.Elements.{AreLabelsOf, HasElements, TellsElements, has_label_of, labels_at, stands_for}
+use Rattle.partial_structures.specs.Elements.{AreLabelsOf, HasElements, TellsElements, has_label_of, labels_at}
+use Rattle.partial_structures.specs.Elements.{stands_for}
 use Rattle.partial_structures.specs.Rows.{same_label, same_optional_label, label_of, has_label}
 use Rattle.partial_structures.specs.Values.{value_label}
 use Rattle.partial_structures.specs.Words.{words_of}
@@ -163,7 +165,8 @@ label_stands ws d v l e = elim (cases_Bool (stands_in d v)) [
       true≢false (sym (ap (stands_in d) (sym same) ∙ stands_is d r.0 (has_from d r.0 r.1)) ∙ h)) ∙ sym h
 ]
 
-pub tells_elements : (ws : List (List ℕ)) (domains : List (List Elem)) (table : List (List Label)) → ws ≡ words_of domains
+pub tells_elements : (ws : List (List ℕ)) (domains : List (List Elem)) (table : List (List Label))
+    → ws ≡ words_of domains
     → HasElements ws domains table → TellsElements ws domains table
 tells_elements ws domains table words has = λ ty v. by ty v (value_label ws v) refl
   where
@@ -178,7 +181,8 @@ tells_elements ws domains table words has = λ ty v. by ty v (value_label ws v) 
         true≢false (sym some ∙ ap is_some none)))
 
 -- so it tells of each element whether it is one of a type's
-pub tells_membership : (ws : List (List ℕ)) (domains : List (List Elem)) (table : List (List Label)) → ws ≡ words_of domains
+pub tells_membership : (ws : List (List ℕ)) (domains : List (List Elem)) (table : List (List Label))
+    → ws ≡ words_of domains
     → HasElements ws domains table
     → (ty : ℕ) (x : Elem) → MatchBool (has_label_of table ty (label_of ws x)) (Contains (domain_at domains ty) x)
     (Contains (domain_at domains ty) x → ⊥)

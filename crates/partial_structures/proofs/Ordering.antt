@@ -59,14 +59,14 @@ module _ (ws : List (List ℕ)) (es : List (Edge × Mark)) (closed : Bool) (doma
       sym (map-map said atom (domain_at domains ty)) ∙ ap (map said)
       (sym (append-nil (map atom (domain_at domains ty))))
 
-  -- the tuples behind a prefix that is longer by one
+  -- the tuples after a prefix that is longer by one
   behind_one : (xs : List Elem) (x : Elem) (ts : List (List Elem)) → map (λ t. (xs ++ x ∷ []) ++ t) ts
       ≡ map (λ t. xs ++ t) (map (λ t. x ∷ t) ts)
   behind_one xs x ts =
       map-same (λ t. (xs ++ x ∷ []) ++ t) (λ t. xs ++ x ∷ t) ts (λ t m. append_assoc xs (x ∷ []) t)
       ∙ sym (map-map (λ t. xs ++ t) (λ t. x ∷ t) ts)
 
-  -- over the elements of one type, where it is so behind each of them
+  -- over the elements of one type, where it is so after each of them
   each_goes_on : (xs : List Elem) (types : List ℕ) (value : Option ℕ)
       → ((x : Elem) → beyond ws es closed domains (node_of ws es s (reverse (xs ++ x ∷ []))) types value ≡ said_of value
       (map (λ t. (xs ++ x ∷ []) ++ t) (tuples_of domains types)))

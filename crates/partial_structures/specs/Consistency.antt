@@ -7,8 +7,7 @@ use Rattle.partial_structures.specs.KnownAtoms.{KnownAtoms, IsAtomOver, atoms_ov
 use Rattle.partial_structures.specs.declared.truths.Truth.TheVariants as truth
 
 -- each true atom is one over the domains, a function has at most one value at its arguments, and no atom is both true
--- and
--- false
+-- and false
 pub record IsConsistent (k : KnownAtoms) : Type 0 where
   pub over : AllByRecursion (IsAtomOver k.symbols k.domains) k.true_atoms
   pub single : (a b : GroundAtom) → Contains k.true_atoms a → Contains k.true_atoms b → a.symbol ≡ b.symbol

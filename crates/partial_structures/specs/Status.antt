@@ -36,8 +36,7 @@ known_atoms p = record {
 }
 
 -- the domains have no element twice, each symbol has its flag, each name of an element has its number, the table has
--- the
--- elements of each type, and the atoms that are certainly true are counted
+-- the elements of each type, and the atoms that are certainly true are counted
 pub record IsSound (p : Inside) : Type 0 where
   pub distinct : AllByRecursion IsDistinct p.domains
   pub flags : length p.closed.items ≡ length p.symbols

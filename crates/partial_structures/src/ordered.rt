@@ -30,8 +30,7 @@ fn push_each(
 }
 
 /// Pushes what is known of the atoms whose arguments lead to the node: of one, or of a function's with each value of
-/// this
-/// type.
+/// this type.
 fn push_ending(
     s: Known<'_>,
     closed: bool,
@@ -61,7 +60,8 @@ pub(crate) fn push_beyond(
     out: &mut Vec<Truth>,
 ) -> Result<(), Memory>
     ensures { OnOk result (out.new.items ≡ out.old.items ++
-        beyond (words_in s.entry.rows.now.words) s.entry.rows.now.nodes.entries closed s.entry.domains.now node types.now value) }
+        beyond (words_in s.entry.rows.now.words) s.entry.rows.now.nodes.entries closed s.entry.domains.now node
+        types.now value) }
 {
     match types.split_first() {
         None => push_ending(s, closed, node, value, out),

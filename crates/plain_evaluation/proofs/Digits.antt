@@ -1,6 +1,5 @@
 -- The number of an assignment is a digit for the first variable, which says the place of its element in its type, and
--- the
--- number of the assignment of the rest.
+-- the number of the assignment of the rest.
 use Rattle.std.proofs.Common.{◌≡◌, ℕ, zero, suc, ◌+◌, ◌*◌, ◌/◌, ◌%◌, ◌<◌, ◌≤◌, List, [], ◌∷◌, length, get_or, drop}
 use Rattle.std.proofs.Common.{Some, refl, sym, ap, ◌∙◌, arith, inl, inr, pos}
 use Rattle.std.specs.List.{slice_get}

@@ -102,7 +102,7 @@ and_none : (x : Bool) → (x && false) ≡ false
 and_none true = refl
 and_none false = refl
 
--- a sign that is the front of no longer one
+-- a sign that is a prefix of no longer one
 no_pair : (a b : ℕ) → may_grow a ≡ false → is_pair a b ≡ false
 no_pair a b e =
     let p = or_parts (eqb a 61) _ e in

@@ -70,7 +70,7 @@ not_refused : (s : Around) (k : Kind) (text behind : List ℕ) → own_refusal_o
     → refusal_of s k text behind ≡ None
 not_refused s k text behind own shallow = rw (own, not_deep (depth_of s) shallow) refl
 
--- one token, and what comes behind it
+-- one token, and what comes after it
 one_token : (s : Around) (p : ℕ) (k : Kind) (text behind : List ℕ) (ts : List Lexeme)
     → StandsAt s.layer.in_braces k text behind → depth_of s ≤ 200
     → TokensFrom (after_token s k text) (p + length text) behind (Ok ts)

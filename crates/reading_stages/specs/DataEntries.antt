@@ -202,8 +202,7 @@ has_form (a_symbol s d) sense count value = form_of_symbol sense count d.args d.
 -- ---- entries
 
 -- an entry: its word, what this names, its mark, whether its value has the form that is asked for, and its rows; a
--- value
--- of another form has none
+-- value of another form has none
 pub record Said : Type 0 where
   pub word : Name
   pub subject : Subject

@@ -1,6 +1,5 @@
 -- The stage of sizes: what it refuses of the chosen theory over the data's domains, and what it returns where it
--- refuses
--- nothing.
+-- refuses nothing.
 use Rattle.std.specs.Prelude.{ℕ, ◌+◌, min, ◌≡◌, Bool, false, not, ◌&&◌, nat_lt, List, [], ◌∷◌, ◌++◌, map, Option}
 use Rattle.std.specs.Prelude.{Some, slice_get, option_to_list, zip, flat_map}
 use Rattle.std.specs.List.{list_any}

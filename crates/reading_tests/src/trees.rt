@@ -2,7 +2,7 @@
 use fo_reader::{RawFormula, RawOr, RawPrim, RawUnary, read_formula, read_term};
 use std::alloc::Global;
 
-/// A formula, what it begins with, and how many further operands follow behind `&`, behind `|` and behind its arrow.
+/// A formula, what it begins with, and how many further operands follow after `&`, after `|` and after its arrow.
 const FORMULAS: [(&[u8], &str, usize, usize, usize); 22] = [
     (b"p", "atom", 0, 0, 0),
     (b"(p)", "group", 0, 0, 0),

@@ -5,7 +5,7 @@ use kb_names::resolve;
 use std::alloc::Global;
 use type_derivation::{TypedKb, derive};
 
-/// Four queens: r is bound with its type in the first sentence alone. The second text has a comma behind the r that
+/// Four queens: r is bound with its type in the first sentence alone. The second text has a comma after the r that
 /// the second sentence binds.
 const QUEENS: [&[u8]; 2] = [
     b"/* four queens */

@@ -1,4 +1,4 @@
-//! Tests of `run` over devices in memory that are told what to do.
+//! Tests of `run` over scripted devices in memory.
 #![tactic(auto)]
 
 #[cfg(test)]

@@ -144,7 +144,7 @@ shown_drop zero lines = refl
 shown_drop (suc n) [] = refl
 shown_drop (suc n) (l ∷ lines) = shown_drop n lines
 
--- the lines behind this one
+-- the lines after this one
 abbrev pub behind : List (Bor (List ℕ)) → ℕ → List (List ℕ)
 behind lines before = shown (take (length lines - (before + 1)) (drop (before + 1) lines))
 
@@ -171,7 +171,7 @@ within_lines lines before n m number inside wrong =
       length-map lines (λ l. l.now),
     )
 
--- something is wrong behind the header
+-- something is wrong after the header
 pub no_end : (lines : List (Bor (List ℕ))) (before : ℕ) (d : Bor (List ℕ)) (n m number : ℕ) → before < length lines
     → All IsPassedOver (take before (shown lines)) → IsHeader n m (get_or lines before d).now
     → AreReadBehind n m (behind lines before) (Err number) → IsRefusedAt (shown lines) (before + 1 + number)

@@ -40,7 +40,7 @@ pub record IsHeader (n m : ℕ) (line : List ℕ) : Type 0 where
   pub clauses_are : IsNumber clauses (pos m)
   pub few : n < 2 ^ 32
 
--- the problem with these clauses behind its own
+-- the problem with these clauses after its own
 abbrev pub with_clauses : ProblemState → List (List Lit) → ProblemState
 with_clauses p cs = record {
   atoms = p.atoms;

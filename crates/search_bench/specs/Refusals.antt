@@ -32,14 +32,14 @@ pub record HasNoClause (n : ℕ) (lines : List (List ℕ)) (number : ℕ) : Type
   pub no_clause : (c : List Lit) → IsClauseLine n c line → ⊥
   pub refused : number ≡ before + 1
 
--- the lines write clauses, but not as many as was told, and the last one is refused
+-- the lines write clauses, but not as many as the header says, and the last one is refused
 pub record HasOtherCount (n m : ℕ) (lines : List (List ℕ)) (number : ℕ) : Type 0 where
   pub clauses : List (List Lit)
   pub written : AreClauseLines n lines clauses
   pub other : length clauses ≡ m → ⊥
   pub refused : number ≡ length lines
 
--- behind a header something is wrong
+-- after a header something is wrong
 pub record HasNoEnd (lines : List (List ℕ)) (number : ℕ) : Type 0 where
   pub before : ℕ
   pub silent : All IsPassedOver (take before lines)
@@ -67,7 +67,7 @@ AreReadAs lines (Err errors.Memory) = Unit {0}
 abbrev pub IsReadAs : List ℕ → Result Problem ReadError → Type 0
 IsReadAs text r = AreReadAs (cut_at 10 text) r
 
--- behind a header that tells so many variables and clauses: the problem, or the number of the line that is refused
+-- after a header that states so many variables and clauses: the problem, or the number of the line that is refused
 -- among these
 abbrev pub AreReadBehind : ℕ → ℕ → List (List ℕ) → Result Problem ℕ → Type 0
 AreReadBehind n m lines (Ok p) = (p.vars ≡ n) × (length p.clauses ≡ m) × AreClauseLines n lines p.clauses

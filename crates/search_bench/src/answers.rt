@@ -45,8 +45,8 @@ fn answer_of(alloc: Global, question: Question, problem: Problem) -> Result<Vec<
 }
 
 /// The answer to the question about the problem that the text writes, as it is printed.
-pub fn answer(alloc: Global, question: Question, text: &[u8]) -> Result<Vec<u8>, ReadError>
-    ensures { IsAnswered question text.now result }
+pub fn answer(alloc: Global, question: Question, text: Vec<u8>) -> Result<Vec<u8>, ReadError>
+    ensures { IsAnswered question text.items result }
 {
     let problem = match read_problem(alloc, text) {
         Ok(problem) => problem,

@@ -5,7 +5,7 @@ ghost use Rattle.search_bench.specs.Cuts.{cut_at};
 use ground_core::Memory;
 use std::alloc::Global;
 
-/// What stands before, between and behind the separators.
+/// What stands before, between and after the separators.
 pub fn pieces<'a>(alloc: Global, bytes: &'a [u8], separator: u8) -> Result<Vec<&'a [u8]>, Memory>
     ensures { IfOk result (λ pieces. map (λ p. p.now) pieces.items ≡ cut_at separator bytes.now) }
 {

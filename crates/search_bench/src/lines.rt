@@ -108,7 +108,7 @@ fn is_word(word: &[u8], text: &[u8]) -> bool
     word == text
 }
 
-/// The words behind `p cnf`.
+/// The words after `p cnf`.
 fn behind_kind<'a>(words: &[&'a [u8]]) -> Option<(&'a [u8], &'a [u8])>
     ensures { MatchOption result ((a b : List ℕ) → map (λ w. w.now) words.now ≡ codes "p" ∷ codes "cnf" ∷ a ∷ b ∷ []
         → ⊥) (λ r. map (λ w. w.now) words.now ≡ codes "p" ∷ codes "cnf" ∷ r.0.now ∷ r.1.now ∷ []) }

@@ -19,7 +19,7 @@ use std::env::{self, Env};
 use std::io::{Read, Write};
 use std::process::ExitCode;
 
-/// The question that the words behind the program's name ask.
+/// The question that the words after the program's name ask.
 fn asked<R: Env + AllocGlobal>(rt: &R) -> Option<Question> {
     let mut words = Vec::new(rt.alloc());
     let Ok(args) = env::args(rt) else {
@@ -41,7 +41,7 @@ fn main(rt: HostRuntime) -> ExitCode {
     if rt.stdin().read_to_end(&mut text).is_err() {
         return ExitCode::from(2);
     }
-    let (written, status) = match answer(rt.alloc(), question, &text) {
+    let (written, status) = match answer(rt.alloc(), question, text) {
         Ok(out) => (rt.stdout().write_all(&out), 0),
         Err(error) => (println!(rt; "{error}"), 1),
     };

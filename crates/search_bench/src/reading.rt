@@ -75,7 +75,7 @@ fn add_lines(alloc: Global, lines: &[&[u8]], problem: &mut Problem) -> Result<Op
     Ok(None)
 }
 
-/// Adds the clauses of the lines behind the header, and answers the number of the line that is refused.
+/// Adds the clauses of the lines after the header, and answers the number of the line that is refused.
 fn add_clauses(
     alloc: Global,
     lines: &[&[u8]],
@@ -100,7 +100,7 @@ fn add_clauses(
     }
 }
 
-/// The problem that the lines behind the header write, or the number of the one that is refused.
+/// The problem that the lines after the header write, or the number of the one that is refused.
 fn read_behind(
     alloc: Global,
     header: Header,
@@ -132,10 +132,10 @@ fn read_lines(alloc: Global, lines: &[&[u8]]) -> Result<Problem, ReadError>
     }
 }
 
-/// The problem that the text writes.
-pub fn read_problem(alloc: Global, text: &[u8]) -> Result<Problem, ReadError>
-    ensures { IsReadAs text.now result }
+/// The problem that the text writes. The text is given up, so that its memory is free for the search.
+pub fn read_problem(alloc: Global, text: Vec<u8>) -> Result<Problem, ReadError>
+    ensures { IsReadAs text.items result }
 {
-    let lines = pieces(alloc, text, b'\n')?;
+    let lines = pieces(alloc, text.as_slice(), b'\n')?;
     read_lines(alloc, lines.as_slice())
 }

@@ -12,7 +12,7 @@ use chooser::Choose;
 use clause_store::Store;
 use ground_core::Memory;
 use kept_problem::KeptProblem;
-use lit_core::{Assignment, Lit, Var};
+use lit_core::{Assignment, Lit, PackedLit, Var};
 use std::alloc::Global;
 
 /// Chooses decisions.
@@ -184,13 +184,14 @@ impl Decider {
     }
 
     /// Raises the scores of the variables of a conflict's clause.
-    pub fn raise(&mut self, lits: &[Lit])
+    pub fn raise(&mut self, lits: &[PackedLit])
         ensures { Raises lits.now self.old.scores.scores.items self.new.scores.scores.items }
     {
         for lit in lits {
-            let score = self.scores.score(lit.var.0);
-            self.atoms.raise(lit.var.0, score);
-            self.others.raise(lit.var.0, score);
+            let var = lit.lit().var.0;
+            let score = self.scores.score(var);
+            self.atoms.raise(var, score);
+            self.others.raise(var, score);
         }
         self.scores.raise(lits);
     }

@@ -9,7 +9,7 @@ ghost use Rattle.search_decisions.specs.Phases.{times_seen};
 
 use ground_core::Memory;
 use kept_problem::KeptProblem;
-use lit_core::{Assignment, Lit, Values, Var};
+use lit_core::{Assignment, Lit, PackedLit, Values, Var};
 use std::alloc::Global;
 
 /// The open atom of a clause that comes first, while nothing is taken back.
@@ -53,10 +53,10 @@ fn is_atom(lit: Lit, atoms: u64) -> bool
 }
 
 /// Whether the clause has nothing but atoms that are not negated.
-fn is_choice(clause: &[Lit], atoms: u64) -> bool
+fn is_choice(clause: &[PackedLit], atoms: u64) -> bool
     ensures { IsTrue result ↔ All (λ l. (l.positive ≡ true) × (l.var.0 ≤ atoms)) clause.now }
 {
-    clause.iter().all(|lit| is_atom(*lit, atoms))
+    clause.iter().all(|lit| is_atom(lit.lit(), atoms))
 }
 
 /// Adds variables that were never seen, so that there are at least `len`.
@@ -144,12 +144,12 @@ impl Phases {
     }
 
     /// Notes the place of a choice at its variables.
-    fn note_choice(&mut self, place: usize, clause: &[Lit])
+    fn note_choice(&mut self, place: usize, clause: &[PackedLit])
         ensures same { KeepsAnswers self.old self.new }
         ensures notes { Notes (λ v k. Any (λ l. l.var.0 ≡ v) clause.now × (k ≡ place)) self.old self.new }
     {
         for lit in clause {
-            self.note_place(lit.var, place);
+            self.note_place(lit.lit().var, place);
         }
     }
 
@@ -247,15 +247,16 @@ impl Phases {
     }
 
     /// The open variable of the clause that comes first, which is at most this one.
-    fn first_of(&self, assignment: &Assignment, clause: &[Lit], var: Var, salt: u64) -> Var
+    fn first_of(&self, assignment: &Assignment, clause: &[PackedLit], var: Var, salt: u64) -> Var
         ensures least { Any (λ l. l.var.0 ≡ var.0) clause.now → IsLeastSeen self.now assignment.now
             clause.now result.0 }
         ensures open_or { (result ≡ var) ⊎ IsOpen assignment.now result.0 }
     {
         let mut first = var;
         for lit in clause {
-            if self.is_better(assignment, lit.var, first, salt) {
-                first = lit.var;
+            let var = lit.lit().var;
+            if self.is_better(assignment, var, first, salt) {
+                first = var;
             }
         }
         first
@@ -299,8 +300,7 @@ impl Phases {
     }
 
     /// Whether the variable was true in fewer than half of the answers. Where it was in half of them the salt decides,
-    /// so
-    /// that later answers are not all the same but for a few variables, which their exclusions would have to tell
+    /// so that later answers are not all the same but for a few variables, which their exclusions would have to tell
     /// apart.
     fn is_due(&self, var: Var, salt: u64) -> bool
         ensures due { result ≡ true → times_seen self.now var.0 + times_seen self.now var.0 ≤ self.now.answers }

@@ -5,7 +5,7 @@ ghost use Rattle.search_decisions.specs.Scores.{AreListed, Raises, score_of};
 
 use crate::phases::{grow_counts, is_open};
 use ground_core::Memory;
-use lit_core::{Assignment, Lit, Var};
+use lit_core::{Assignment, Lit, PackedLit, Var};
 use std::alloc::Global;
 
 /// How many conflicts had each variable in their clause, and the list that was made last.
@@ -102,11 +102,11 @@ impl Scores {
     }
 
     /// Raises the scores of the variables of a conflict's clause.
-    pub fn raise(&mut self, lits: &[Lit])
+    pub fn raise(&mut self, lits: &[PackedLit])
         ensures { Raises lits.now self.old.scores.items self.new.scores.items }
     {
         for lit in lits {
-            self.raise_one(lit.var.0 as usize);
+            self.raise_one(lit.lit().var.0 as usize);
         }
     }
 }

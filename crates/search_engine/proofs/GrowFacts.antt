@@ -75,7 +75,7 @@ known-same p learnt ids a b back there h = record {
   learnt_held = zip-held a b there ids learnt h.learnt_held;
 }
 
--- what was pushed behind the old clauses was removed
+-- what was pushed after the old clauses was removed
 module _ (old mid new : List (Option (List Lit))) (front : old ≡ take (length old) mid)
     (removed : RemovesFrom (length old) mid new) where
   new-front : take (length old) new ≡ old

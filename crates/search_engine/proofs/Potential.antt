@@ -24,7 +24,7 @@ bounded (suc v) (false ∷ bs) m e =
     let t : 2 ^ (suc v) ≡ 2 ^ v + 2 ^ v = twice v in
     omega arith
 
--- the part after the front P
+-- the part after the prefix P
 pub at-append : (v : ℕ) (p q : List Bool) (m : ℕ) → length p + m ≡ v → potential v (p ++ q)
     ≡ potential v p + potential m q
 at-append v [] q m e = let s : m ≡ v = omega arith in rw s (omega arith)
@@ -42,7 +42,7 @@ passes v p s m k c ev em h =
     let z : 0 < 2 ^ k = above-zero k in
     omega arith
 
--- another conflict before a literal follows at the place after the front
+-- another conflict before a literal follows at the place after the prefix
 pub passes-more : (v : ℕ) (p s : List Bool) (m k c : ℕ) → length p + suc m ≡ v → length s + suc k ≡ m
     → c ≤ potential v (p ++ false ∷ s) + 2 ^ k → c + 1 ≤ potential v p + 2 ^ m
 passes-more v p s m k c ev em h =

@@ -157,7 +157,7 @@ level-within s laws id level l = ⊎_elim
     w.2.4 in omega (arith, top, at))
     l.here
 
--- where all of a clause is false up to a level, it is false after the step back to it
+-- where all of a clause is false up to a level, it is false after the backtrack to it
 pub upto-false : (s t : TrailState) (level : ℕ) → CutsAt level s t → IsTrail t → (m : Lit) → IsFalseUpTo s level m
     → value_in t.values m ≡ Some false
 upto-false s t level cut laws m f = ⊎_elim
@@ -196,7 +196,7 @@ module _ (s t : StoreState) (id level : ℕ) (cut : CutsAt level s.trail t.trail
       (l.clause, held-still, (w.0, w.1, (k, u, here, w.2.3, at ∙ sym cut.level_is))))
       l.here
 
--- the steps that are left are a front
+-- the steps that are left are a prefix
 cut-front : (s t : TrailState) (level : ℕ) → CutsAt level s t → implied_of s.steps ≡ implied_of t.steps ++ implied_of
     (drop (length t.steps) s.steps)
 cut-front s t level cut = ap implied_of (sym (take-append-drop (length t.steps) s.steps))

@@ -25,7 +25,7 @@ use Rattle.search_engine.proofs.TrailChange.{same-open, still-false}
 use Rattle.search_engine.proofs.SearchFacts.{Moves, paid-same, search-moves}
 use Rattle.search_engine.proofs.DecideFacts.{SameBut, front-trues, room-for}
 
--- steps that follow were added after the step back
+-- steps that follow were added after the backtrack
 pub extends-stands : (v c goal room : ℕ) (old new : List Step) → Extends old new → length (implied_of new) + room ≡ v
     → Stands v (implied_of old) c goal → Stands v (implied_of new) c goal
 extends-stands v c goal room old new h fits s = ⊎_elim

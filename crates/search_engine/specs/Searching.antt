@@ -135,7 +135,7 @@ pub record SameCounts (old new : Engine) : Type 0 where
   pub root_conflicts : new.root_conflicts ≡ old.root_conflicts
   pub assumed : new.assumed ≡ old.assumed
 
--- what was learnt of a conflict: that the problem is refuted, or a clause that is unit after the step back, whether it
+-- what was learnt of a conflict: that the problem is refuted, or a clause that is unit after the backtrack, whether it
 -- is kept or not, so that the conflict is counted
 abbrev pub LessonGives : Engine → Engine → Option (List Lit) → Type 0
 LessonGives old new None = (new.root_conflicts ≡ 1) × RefutesAll old.problem [] × (new.conflicts ≡ old.conflicts)

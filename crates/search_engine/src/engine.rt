@@ -10,7 +10,7 @@ use clause_store::Store;
 use conflict_analysis::analyse;
 use ground_core::{Memory, Moment};
 use kept_problem::KeptProblem;
-use lit_core::{Clause, ClauseList, Lit};
+use lit_core::{ClauseList, Lit};
 use search_decisions::Decider;
 use std::alloc::Global;
 
@@ -99,11 +99,10 @@ impl Engine {
         ensures one { length self.new.learnt ≤ length self.old.learnt + 1 }
         ensures first { OnOk result (IsFirstAssigned self.new.store.trail.values clause.now) }
     {
-        let copy = Clause::from_slice(self.alloc, clause)?;
         self.store.reserve_clause(clause.len())?;
         self.ids.reserve(1)?;
         self.moments.reserve(1)?;
-        self.learnt.push(copy)?;
+        self.learnt.push(clause)?;
         let _count = self.learnt.len();
         let id = match self.store.push_clause(clause) {
             Ok(id) => id,
@@ -133,7 +132,7 @@ impl Engine {
         }
     }
 
-    /// Learns from a conflict, and makes true what follows after the step back.
+    /// Learns from a conflict, and makes true what follows after the backtrack.
     ///
     /// The learnt clause is fresh where its first literal is still unassigned once the others
     /// were propagated without it.

@@ -14,7 +14,7 @@ use clause_store::Store;
 use ground_core::{Memory, Problem};
 use kb_logic::ExtInt;
 use kept_problem::KeptProblem;
-use lit_core::{Clause, ClauseList, Lit, Values, Var};
+use lit_core::{ClauseList, Lit, Values, Var};
 use search_decisions::Decider;
 use std::alloc::Global;
 
@@ -103,19 +103,18 @@ impl Engine {
     }
 
     /// Holds a clause, the last of the problem, that is the first to have the greatest variable.
-    fn hold_last(&mut self, clause: Clause) -> Result<(), Memory>
+    fn hold_last(&mut self, clause: &[Lit]) -> Result<(), Memory>
         requires resting { IsResting self.old }
         requires sized { self.old.problem.vars + 1 < length self.old.store.trail.values }
-        requires lits { AreLitsOf (self.old.problem.vars + 1) clause }
+        requires lits { AreLitsOf (self.old.problem.vars + 1) clause.now }
         ensures resting { IsResting self.new }
-        ensures ok { OnOk result ((self.new.problem ≡ with_selected self.old.problem clause)
+        ensures ok { OnOk result ((self.new.problem ≡ with_selected self.old.problem clause.now)
             × SameSearches self.old self.new) }
         ensures err { OnErr result (Stays self.old self.new) }
     {
         self.store.reserve_clause(clause.len())?;
-        let place = self.problem.clause_count();
         self.problem.add_selected(clause)?;
-        match self.store.push_clause(self.problem.clause(place)) {
+        match self.store.push_clause(clause) {
             Ok(_) => Ok(()),
             Err(_) => unreachable!(),
         }
@@ -142,7 +141,7 @@ impl Engine {
         };
         let atoms = self.problem.atom_count() as usize;
         let clause = exclusion(self.alloc, out, values, atoms)?;
-        self.hold_last(clause)?;
+        self.hold_last(clause.as_slice())?;
         Ok(out)
     }
 

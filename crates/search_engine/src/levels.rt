@@ -13,7 +13,7 @@ pub fn conflict_level(store: &Store, conflict: u64) -> u64
     let mut level = 0;
     let lits = store.lend(conflict);
     for lit in lits {
-        level = level.max(store.level_of(lit.var));
+        level = level.max(store.level_of(lit.lit().var));
     }
     level
 }

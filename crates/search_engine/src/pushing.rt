@@ -6,11 +6,11 @@ ghost use Rattle.search_engine.specs.Knowledge.{Pushes, RemovesAll, RemovesFrom}
 
 use clause_store::Store;
 use ground_core::{Gate, Memory, Problem, clauses_of_gate};
-use lit_core::Clause;
+use lit_core::ClauseList;
 use std::alloc::Global;
 
 /// Holds the clauses in order.
-fn push_clauses(store: &mut Store, clauses: &[Clause]) -> Result<(), Memory>
+fn push_clauses(alloc: Global, store: &mut Store, clauses: &ClauseList) -> Result<(), Memory>
     requires laws { IsStore store.old }
     requires in_range { All (All (λ l. l.var.0 < length store.old.trail.values)) clauses.now }
     requires cleared { store.old.trail.steps ≡ [] }
@@ -19,7 +19,8 @@ fn push_clauses(store: &mut Store, clauses: &[Clause]) -> Result<(), Memory>
     ensures ok { OnOk result (Pushes store.old.clauses store.new.clauses clauses.now) }
     ensures laws { IsStore store.new }
 {
-    for clause in clauses {
+    for place in 0..clauses.len() {
+        let clause = clauses.clause(alloc, place)?;
         store.push_clause(clause.as_slice())?;
     }
     Ok(())
@@ -37,7 +38,7 @@ fn push_gates(alloc: Global, store: &mut Store, gates: &[Gate]) -> Result<(), Me
 {
     for gate in gates {
         let clauses = clauses_of_gate(alloc, gate)?;
-        push_clauses(store, clauses.as_slice())?;
+        push_clauses(alloc, store, &clauses)?;
     }
     Ok(())
 }
@@ -53,7 +54,7 @@ pub fn push_problem(alloc: Global, store: &mut Store, more: &Problem) -> Result<
     ensures laws { IsStore store.new }
 {
     push_gates(alloc, store, more.gates())?;
-    push_clauses(store, more.clauses().as_slice())
+    push_clauses(alloc, store, more.clauses())
 }
 
 /// Removes the clauses from a number on.

@@ -57,7 +57,7 @@ fn has_current(store: &Store, conflict: u64) -> bool
 {
     let lits = store.lend(conflict);
     for lit in lits {
-        if store.level_of(lit.var) == store.level() {
+        if store.level_of(lit.lit().var) == store.level() {
             return true;
         }
     }

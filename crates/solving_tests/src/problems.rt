@@ -63,10 +63,11 @@ fn clauses_of_both(alloc: Global) -> Result<ClauseList, Memory> {
 #[test]
 fn a_gate_has_three_clauses(rt: HostRuntime) -> Result<(), Fail> {
     let clauses = clauses_of_both(rt.alloc())?;
-    let list = clauses.as_slice();
-    assert_eq!(rt; list.len(), 3);
-    assert_eq!(rt; list[1].as_slice(), [no(3), yes(2)].as_slice());
-    assert_eq!(rt; list[2].as_slice(), [yes(3), no(1), no(2)].as_slice());
+    assert_eq!(rt; clauses.len(), 3);
+    let second = clauses.clause(rt.alloc(), 1)?;
+    let last = clauses.clause(rt.alloc(), 2)?;
+    assert_eq!(rt; second.as_slice(), [no(3), yes(2)].as_slice());
+    assert_eq!(rt; last.as_slice(), [yes(3), no(1), no(2)].as_slice());
     Ok(())
 }
 
@@ -216,14 +217,16 @@ fn digits_of(atom: &Literal) -> i64 {
 }
 
 /// Whether these are the atoms, as digits.
-fn are_atoms(table: &AtomTable, digits: &[i64]) -> bool {
+fn are_atoms(atoms: &[Literal], digits: &[i64]) -> bool {
+    if atoms.len() != digits.len() {
+        return false;
+    }
     for place in 0..digits.len() {
-        match table.get(place) {
-            Some(atom) if digits_of(atom) == digits[place] => {}
-            _ => return false,
+        if digits_of(&atoms[place]) != digits[place] {
+            return false;
         }
     }
-    table.len() == digits.len()
+    true
 }
 
 fn pair(alloc: Global, first: i64) -> Result<ElemList, Memory> {
@@ -251,6 +254,8 @@ fn table_of_two(alloc: Global) -> Result<AtomTable, Memory> {
 #[test]
 fn atoms_stand_in_domain_order(rt: HostRuntime) -> Result<(), Fail> {
     let table = table_of_two(rt.alloc())?;
-    assert!(rt; are_atoms(&table, &[17, 18, 27, 28, 117, 118, 127, 128]));
+    assert!(rt; table.len() == 8);
+    let atoms = table.copy(rt.alloc())?.list(rt.alloc())?;
+    assert!(rt; are_atoms(atoms.as_slice(), &[17, 18, 27, 28, 117, 118, 127, 128]));
     Ok(())
 }

@@ -24,8 +24,8 @@ fn a_clause_of_four_literals_is_kept(rt: HostRuntime) -> Result<(), Fail> {
 #[test]
 fn a_list_of_clauses_is_read_by_place(rt: HostRuntime) -> Result<(), Fail> {
     let mut list = ClauseList::new(rt.alloc());
-    list.push(Clause::new(rt.alloc()))?;
-    list.push(Clause::from_slice(rt.alloc(), &[lit(7, true)])?)?;
+    list.push(&[])?;
+    list.push(&[lit(7, true)])?;
     let same = list.copy(rt.alloc())?;
     assert_eq!(rt; same.len(), 2);
     assert!(rt; same.get(2).is_none());

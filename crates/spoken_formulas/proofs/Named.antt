@@ -338,8 +338,7 @@ module _ (v : Vocabulary) (names : Names) (I : ℕ → ℤ → Type 0) where
     term_in around ps t h = subst (λ (s : List Text). TermIsSpoken v names s t) (same_scope around ps) h
 
     -- the variables of the list with their types; the types of all in scope, as the stage of types has found them
-    -- there, and
-    -- at last
+    -- there, and at last
     abbrev BoundHere : List (Option ℕ) → List Part → List Bound
     BoundHere around ps = typed_vars v.types around (named_vars names vs) ps
 

@@ -5,7 +5,7 @@ use crate::plain::{Plain, value_of};
 use crate::random::Random;
 use crate::use_of_store::{decide, go_back, is_free, push};
 use clause_store::Store;
-use lit_core::{Assignment, Clause, ClauseList, Lit, Var};
+use lit_core::{Assignment, ClauseList, Lit, Var};
 use std::alloc::Global;
 use std::process::Abort;
 use std::test::Fail;
@@ -37,10 +37,9 @@ fn pair_of(alloc: Global) -> Result<Pair, Fail> {
     })
 }
 
-fn push_both(alloc: Global, pair: &mut Pair, lits: &[Lit]) -> Result<(), Fail> {
+fn push_both(pair: &mut Pair, lits: &[Lit]) -> Result<(), Fail> {
     push(&mut pair.store, lits)?;
-    let clause = Clause::from_slice(alloc, lits)?;
-    pair.plain.clauses.push(clause)?;
+    pair.plain.clauses.push(lits)?;
     Ok(())
 }
 
@@ -85,7 +84,7 @@ fn agree(alloc: Global, pair: &mut Pair) -> Result<bool, Fail> {
 
 fn change(alloc: Global, pair: &mut Pair, random: &mut Random) -> Result<(), Fail> {
     match random.below(6) {
-        0 => push_both(alloc, pair, &[random.lit(VARS), random.lit(VARS)])?,
+        0 => push_both(pair, &[random.lit(VARS), random.lit(VARS)])?,
         1 => go_back_both(pair, random.below(4)),
         2 => {
             pair.store.clear();
@@ -101,7 +100,6 @@ fn run(rt: &impl Abort, alloc: Global, seed: u64) -> Result<(), Fail> {
     let mut pair = pair_of(alloc)?;
     for _ in 0..20 {
         push_both(
-            alloc,
             &mut pair,
             &[random.lit(VARS), random.lit(VARS), random.lit(VARS)],
         )?;

@@ -1,6 +1,6 @@
 //! Unit propagation by its definition: passes over all clauses, until one finds nothing.
 
-use lit_core::{Assignment, Clause, ClauseList, Lit};
+use lit_core::{Assignment, ClauseList, Lit, PackedLit};
 use std::alloc::Global;
 use std::test::Fail;
 
@@ -38,16 +38,17 @@ fn set(values: &mut Assignment, lit: Lit) {
     }
 }
 
-fn status_of(values: &Assignment, clause: &Clause) -> Status {
+fn status_of(values: &Assignment, clause: &[PackedLit]) -> Status {
     let mut free: Option<Lit> = None;
-    for lit in clause.as_slice() {
-        match value_of(values, *lit) {
+    for lit in clause {
+        let lit = lit.lit();
+        match value_of(values, lit) {
             Some(true) => return Status::Settled,
             Some(false) => {}
             None => match free {
-                None => free = Some(*lit),
+                None => free = Some(lit),
                 Some(first) => {
-                    if first != *lit {
+                    if first != lit {
                         return Status::Settled;
                     }
                 }
@@ -62,7 +63,10 @@ fn status_of(values: &Assignment, clause: &Clause) -> Status {
 
 /// Makes true what follows from one clause at a time. Whether no clause is false then.
 fn run_pass(values: &mut Assignment, clauses: &ClauseList) -> bool {
-    for clause in clauses.as_slice() {
+    for place in 0..clauses.len() {
+        let Some(clause) = clauses.get(place) else {
+            return false;
+        };
         match status_of(values, clause) {
             Status::False => return false,
             Status::Unit(lit) => set(values, lit),

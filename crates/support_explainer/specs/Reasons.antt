@@ -56,7 +56,7 @@ IsNoReason (Ok (By items)) = ⊥
 IsNoReason (Err Spent) = ⊥
 IsNoReason (Err Memory) = Unit {0}
 
--- assumptions that a kept core refutes are told at once
+-- assumptions that a kept core refutes are refused at once
 pub record IsInconsistentAtOnce (old new : SolveState) (result : Result Support Halt) : Type 0 where
   pub answer : IsNoReason result
   pub learnt : new.learnt ≡ old.learnt

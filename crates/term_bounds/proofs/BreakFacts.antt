@@ -1,24 +1,26 @@
 -- What the least that parts may count says of a bound.
-use Rattle.std.proofs.Common.{◌≡◌, ◌≢◌, ℕ, zero, suc, ◌<◌, ◌+◌, ℤ, pos, ◌+ℤ◌, ◌≤ℤ◌, Bool, true, false, not, Option}
+use Rattle.std.proofs.Common.{◌≡◌, ℕ, suc, ◌<◌, ◌+◌, ℤ, ◌+ℤ◌, ◌≤ℤ◌, Bool, true, false, not, Option}
 use Rattle.std.proofs.Common.{Some, None, List, [], ◌∷◌, length, get_or, drop, slice_get, refl, sym, ap, ◌∙◌, subst}
 use Rattle.std.proofs.Common.{◌⊎◌, inl, inr, ⊎_elim, arith, All, Any, Contains}
 use Rattle.std.proofs.lemmas.Bool.{both_ways}
 use Rattle.std.proofs.lemmas.List.{at_drop_more}
-use Rattle.std.proofs.lemmas.List.Elements.{All-nil, All-cons, All-weaker, All-contains}
+use Rattle.std.proofs.lemmas.List.Elements.{All-nil, All-cons, All-weaker, All-contains, All-drop}
 use Rattle.std.proofs.lemmas.Option.{get_or_from_slice_get, same_Some, slice_get_within}
-use Rattle.std.specs.Prelude.{IfSome}
+use Rattle.std.specs.Prelude.{IfSome, IsSome}
 use Rattle.kb_logic.specs.declared.elements.ExtInt.{ExtInt}
 use Rattle.kb_logic.specs.declared.syntax.AggKind.{AggKind}
 use Rattle.kb_logic.specs.Denotations.{number}
 use Rattle.lit_core.specs.declared.literals.Lit.{Lit}
-use Rattle.lit_core.specs.Literals.{by_sign, literal_value, negated}
+use Rattle.lit_core.specs.Literals.{by_sign, literal_value, negated, value_in}
+use Rattle.lit_core.proofs.LiteralFacts.{Contains-head, Contains-tail}
 use Rattle.lit_core.specs.Truth.{IsSatisfied}
 use Rattle.ground_core.specs.declared.parts.GroundTerm.{GroundTerm}
 use Rattle.ground_core.specs.declared.parts.Part.{Part}
 use Rattle.ground_core.specs.declared.parts.TermBound.{TermBound}
 use Rattle.ground_core.specs.Meaning.{AreAllFalse, BoundHolds, term_value}
 use Rattle.term_bounds.specs.Amounts.{is_under, lessened}
-use Rattle.term_bounds.specs.Breaking.{HasLits, Holds, IsBroken, IsBrokenBy, IsOfBounds}
+use Rattle.term_bounds.specs.Breaking.{HasLits, Holds, IsBroken, IsBrokenBy, IsNoTighter}
+use Rattle.term_bounds.specs.Breaking.{IsOfBounds}
 use Rattle.term_bounds.specs.Reasons.{IsReason}
 use Rattle.term_bounds.specs.Shares.{IsDecidedAs, least_total}
 use Rattle.term_bounds.specs.Totals.{total, total_bound}
@@ -129,3 +131,67 @@ module _ (terms : List GroundTerm) (bounds : List TermBound) (a : List (Option B
       let split : drop i bounds ≡ b ∷ drop (i + 1) bounds = at_drop_more (λ (xs : List TermBound). xs) bounds i b
       in-bounds ∙ ap (λ (x : TermBound). x ∷ drop (i + 1) bounds) is-bound in
       subst (All (BoundHolds v terms)) (sym split) (All-cons (BoundHolds v terms) b (drop (i + 1) bounds) here rest)
+
+-- what is noted of the bounds from a place on: one of them that is in force, if any
+abbrev pub IsNoted : List TermBound → List (Option Bool) → ℕ → Option TermBound → Type 0
+IsNoted bounds a i o = IfSome o (λ b. Contains (drop i bounds) b × (value_in a b.out ≡ Some true))
+
+module _ (terms : List GroundTerm) (bounds : List TermBound) (a : List (Option Bool)) (i : ℕ) (b : TermBound)
+    (at-bound : slice_get bounds i ≡ Some b) where
+  split-here : drop i bounds ≡ b ∷ drop (i + 1) bounds
+  split-here = at_drop_more (λ (xs : List TermBound). xs) bounds i b (slice_get_within bounds i b at-bound)
+      ∙ ap (λ (x : TermBound). x ∷ drop (i + 1) bounds) (get_or_from_slice_get bounds i b b at-bound)
+
+  pub noted-later : (o : Option TermBound) → IsNoted bounds a (i + 1) o → IsNoted bounds a i o
+  noted-later None h = tt
+  noted-later (Some t) h = (
+    subst (λ (xs : List TermBound). Contains xs t) (sym split-here)
+        (Contains-tail b (drop (i + 1) bounds) t h.0),
+    h.1,
+  )
+
+  pub noted-here : (o r : Option TermBound) → IsNoted bounds a (i + 1) o
+      → ((r ≡ Some b) × (value_in a b.out ≡ Some true)) ⊎ (r ≡ o) → IsNoted bounds a i r
+  noted-here o r h way = ⊎_elim
+      (λ w. subst (IsNoted bounds a i) (sym w.0) (
+        subst (λ (xs : List TermBound). Contains xs b) (sym split-here) (Contains-head b (drop (i + 1) bounds)),
+        w.1,
+      ))
+      (λ same. subst (IsNoted bounds a i) (sym same) (noted-later o h))
+      way
+
+  -- where it follows from one after it that is in force
+  pub hold-implied : (tight : TermBound) → IsNoTighter b tight → Contains (drop (i + 1) bounds) tight
+      → value_in a tight.out ≡ Some true → (v : ℕ → Bool) → HasLits (IsDecidedAs a v) terms bounds
+      → All (BoundHolds v terms) (drop (i + 1) bounds) → All (BoundHolds v terms) (drop i bounds)
+  hold-implied tight follows has true-now v decided rest =
+      let out : IsDecidedAs a v tight.out = All-contains (λ (x : TermBound). IsDecidedAs a v x.out)
+      (drop (i + 1) bounds) tight (All-drop (λ (x : TermBound). IsDecidedAs a v x.out) (i + 1) bounds decided.1) has in
+      let on : literal_value v tight.out ≡ true = sym (same_Some true (literal_value v tight.out)
+      (sym true-now ∙ out)) in
+      let held : BoundHolds v terms tight = All-contains (BoundHolds v terms) (drop (i + 1) bounds) tight rest has in
+      let below : IfSome (slice_get terms b.term) (λ u. is_under tight.below (term_value v u) ≡ true) =
+      subst (λ (k : ℕ). IfSome (slice_get terms k) (λ u. is_under tight.below (term_value v u) ≡ true)) follows.0
+      (held on) in
+      let here : BoundHolds v terms b = λ _. lower (slice_get terms b.term) below in
+      subst (All (BoundHolds v terms)) (sym split-here) (All-cons (BoundHolds v terms) b
+      (drop (i + 1) bounds) here rest)
+    where
+      lower : (o : Option GroundTerm) → IfSome o (λ u. is_under tight.below (term_value v u) ≡ true)
+          → IfSome o (λ u. is_under b.below (term_value v u) ≡ true)
+      lower None h = tt
+      lower (Some u) h = follows.1 (term_value v u) h
+
+  -- where it follows from what is noted
+  pub hold-followed : (o : Option TermBound) → IfSome o (λ t. IsNoTighter b t) × IsSome o → IsNoted bounds a (i + 1) o
+      → (v : ℕ → Bool) → HasLits (IsDecidedAs a v) terms bounds → All (BoundHolds v terms) (drop (i + 1) bounds)
+      → All (BoundHolds v terms) (drop i bounds)
+  hold-followed None h noted v decided rest = let no : false ≡ true = h.1 in cc
+  hold-followed (Some t) h noted v decided rest = hold-implied t h.0 noted.0 noted.1 v
+      decided rest
+
+-- a term is below a number exactly where the sum of its parts is below the bound on it
+pub below-by-total : (t : GroundTerm) (below : ExtInt) (k : AggKind) (bound : ExtInt) (ps : List Part) (v : ℕ → Bool)
+    → k ≡ t.kind → bound ≡ lessened t.base below → ps ≡ t.parts → is_under (total_bound k bound)
+    (number (total v k bound ps)) ≡ is_under below (term_value v t)
+below-by-total t below k bound ps v kind is parts = rw (kind, is, parts) (sym (bounds-by-totals v t below))

@@ -1,6 +1,6 @@
 -- The least that parts may count.
-use Rattle.std.proofs.Common.{◌≡◌, ℕ, ℤ, pos, ◌+ℤ◌, ◌-ℤ◌, ◌≤ℤ◌, int_lt, Bool, true, false, if◌then◌else◌, Option, Some}
-use Rattle.std.proofs.Common.{None, List, [], ◌∷◌, All, refl, sym, ap, ◌∙◌, subst, arith}
+use Rattle.std.proofs.Common.{◌≡◌, ℕ, ℤ, pos, ◌≤ℤ◌, int_lt, Bool, true, false, if◌then◌else◌, Option, Some}
+use Rattle.std.proofs.Common.{None, List, [], ◌∷◌, All, refl, sym, ap, subst, arith}
 use Rattle.std.proofs.lemmas.List.Elements.{All-head, All-tail}
 use Rattle.std.proofs.lemmas.Bool.Decides.{nat_tests}
 use Rattle.std.proofs.lemmas.Int.{ints}
@@ -10,7 +10,7 @@ use Rattle.lit_core.specs.Literals.{literal_value, value_in}
 use Rattle.ground_core.specs.declared.parts.Part.{Part}
 use Rattle.term_bounds.specs.Totals.{counted_as, where_true, total}
 use Rattle.term_bounds.specs.Shares.{share, raised, least_total, IsDecidedAs}
-use Rattle.term_bounds.specs.Laws.{Extends, LeastIsLeast}
+use Rattle.term_bounds.specs.Laws.{LeastIsLeast}
 
 -- without a value a part counts least
 pub none-least : (w : ℤ) (b : Bool) → share None w ≤ℤ where_true b w

@@ -1,5 +1,6 @@
 -- Bounds that cannot hold any more, and why.
 use Rattle.std.specs.Prelude.{◌≡◌, ℕ, ◌<◌, Bool, true, Option, List, length, All, Any, ◌⊎◌}
+use Rattle.kb_logic.specs.Denotations.{Denotation}
 use Rattle.lit_core.specs.declared.literals.Lit.{Lit}
 use Rattle.lit_core.specs.Literals.{literal_value}
 use Rattle.lit_core.specs.Truth.{IsSatisfied, IsFalsified}
@@ -12,6 +13,11 @@ use Rattle.term_bounds.specs.Amounts.{is_under}
 -- where the bound's output is true, this term is below its number
 abbrev pub Holds : (ℕ → Bool) → GroundTerm → TermBound → Type 0
 Holds v t b = literal_value v b.out ≡ true → is_under b.below (term_value v t) ≡ true
+
+-- both bounds are on one term, and all that is below the number of the second is below that of the first
+abbrev pub IsNoTighter : TermBound → TermBound → Type 0
+IsNoTighter b tight = (tight.term ≡ b.term) × ((d : Denotation) → is_under tight.below d ≡ true
+    → is_under b.below d ≡ true)
 
 -- what holds of the literal of each part holds of each term, and of each bound what holds of its output
 abbrev pub HasLits : (Lit → Type 0) → List GroundTerm → List TermBound → Type 0

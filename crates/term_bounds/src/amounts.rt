@@ -1,6 +1,6 @@
 //! Numbers of 128 bits and infinities: what sums of any number of weights come to.
-ghost use Rattle.std.specs.Prelude.{◌≡◌, ◌≤ℤ◌, ◌-ℤ◌, ◌^◌, pos, neg_ℤ, ℤ};
-ghost use Rattle.kb_logic.specs.Denotations.{number};
+ghost use Rattle.std.specs.Prelude.{◌≡◌, ◌≤ℤ◌, ◌-ℤ◌, ◌^◌, pos, neg_ℤ, ℤ, true, IsTrue};
+ghost use Rattle.kb_logic.specs.Denotations.{Denotation, number};
 ghost use Rattle.term_bounds.specs.Amounts.{amount_of, is_under, lessened};
 
 use kb_logic::ExtInt;
@@ -32,5 +32,17 @@ pub fn is_below(n: i128, bound: Amount) -> bool
         Amount::NegInf => false,
         Amount::Num(least) => n < least,
         Amount::PosInf => true,
+    }
+}
+
+/// Whether all that is below the first bound is below the second.
+pub fn is_at_most(first: ExtInt, second: ExtInt) -> bool
+    ensures { IsTrue result → (d : Denotation) → is_under first d ≡ true → is_under second d ≡ true }
+{
+    match (first, second) {
+        (ExtInt::NegInf, _) => true,
+        (_, ExtInt::PosInf) => true,
+        (ExtInt::Num(a), ExtInt::Num(b)) => a <= b,
+        _ => false,
     }
 }

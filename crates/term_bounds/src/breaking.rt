@@ -1,11 +1,15 @@
 //! Bounds that cannot hold any more.
-ghost use Rattle.std.specs.Prelude.{◌≡◌, ◌<◌, ℕ, Bool, Some, List, length, All, IfNone, IfOk, IfSome};
+ghost use Rattle.std.specs.Prelude.{◌≡◌, ◌<◌, ◌⊎◌, ℕ, Bool, Some, true, List, length, All, IfNone, IfOk, IfSome};
+ghost use Rattle.std.specs.Prelude.{IsSome, IsTrue};
 ghost use Rattle.lit_core.specs.declared.literals.Lit.{Lit as LitRow};
+ghost use Rattle.lit_core.specs.Literals.{value_in};
 ghost use Rattle.ground_core.specs.declared.parts.Part.{Part as PartRow};
 ghost use Rattle.ground_core.specs.Meaning.{BoundHolds};
 ghost use Rattle.term_bounds.specs.Breaking.{AreOnTerms, HasLits, Holds, IsBroken, IsBrokenBy};
+ghost use Rattle.term_bounds.specs.Breaking.{IsNoTighter};
 ghost use Rattle.term_bounds.specs.Shares.{IsDecidedAs};
 
+use crate::amounts::is_at_most;
 use crate::linear::Line;
 use crate::reasons::reasons;
 use crate::shares::{least_of, spare_of};
@@ -37,6 +41,33 @@ fn broken_by(
     }
 }
 
+/// Whether the bound holds wherever the other one does, whose output is true: they are on one term, and its number is
+/// no lower.
+fn follows_from(bound: TermBound, other: Option<TermBound>) -> bool
+    ensures { IsTrue result → IfSome other (λ tight. IsNoTighter bound tight) × IsSome other }
+{
+    match other {
+        Some(tight) => tight.term == bound.term && is_at_most(tight.below, bound.below),
+        None => false,
+    }
+}
+
+/// The bound where its output is true, and the other one elsewhere.
+fn in_force(
+    bound: TermBound,
+    other: Option<TermBound>,
+    assignment: &Assignment,
+) -> Option<TermBound>
+    requires { bound.out.var.0 < length assignment.now }
+    ensures { ((result ≡ Some bound) × (value_in assignment.now bound.out ≡ Some true)) ⊎ (result ≡ other) }
+{
+    if assignment.value(bound.out) == Some(true) {
+        Some(bound)
+    } else {
+        other
+    }
+}
+
 /// A clause that is false now and that one of the bounds implies, or None where none is found. Where every
 /// variable of terms and bounds has a value, None says that all bounds hold.
 pub fn broken(
@@ -51,15 +82,19 @@ pub fn broken(
     ensures hold { IfOk result (λ o. IfNone o ((v : ℕ → Bool) → HasLits (IsDecidedAs assignment.now v) terms.now
         bounds.now → All (BoundHolds v terms.now) bounds.now)) }
 {
-    // The newest bounds come first: they are the tightest.
+    // The newest bounds come first: they are the tightest, and those that follow from one of them need no look.
+    let mut tight = None;
     let mut left = bounds.len();
     while left > 0 {
         left -= 1;
         let bound = bounds[left];
+        if follows_from(bound, tight) {
+            continue;
+        }
         let term = &terms[bound.term as usize];
         match broken_by(alloc, term, bound, assignment)? {
             Some(clause) => return Ok(Some(clause)),
-            None => {}
+            None => tight = in_force(bound, tight, assignment),
         }
     }
     Ok(None)

@@ -9,7 +9,10 @@ mod linear;
 mod reasons;
 mod shares;
 mod term_values;
+mod trials;
 
+pub use amounts::is_at_most;
 pub use breaking::broken;
 pub use laws::{bounds_by_totals, least_is_least};
 pub use term_values::value_of;
+pub use trials::is_term_below;

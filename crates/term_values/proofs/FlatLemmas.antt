@@ -120,7 +120,7 @@ pub rows_more : (gs : List Lit) (vs : List RowValue) (s : RowEnd) (es : List Row
 rows_more gs vs s [] e = refl
 rows_more gs vs s (d ∷ es) e = ap (λ c. row_between gs vs s d ∷ c) (rows_more gs vs d es e)
 
--- what is put behind the first items of a list
+-- what is put after the first items of a list
 part_last : {X : Type 0} (xs ys : List X) (k n : ℕ) → k ≤ length xs → n ≡ length (take k xs ++ ys)
     → slice_range (take k xs ++ ys) k n ≡ ys
 part_last xs ys k n h e =
@@ -131,7 +131,7 @@ part_last xs ys k n h e =
 pub front_kept : {X : Type 0} (xs ys : List X) (k : ℕ) → k ≤ length xs → take k (take k xs ++ ys) ≡ take k xs
 front_kept xs ys k h = take_at (take k xs) ys k (length-take-le k xs h)
 
--- a row is pushed: its guards and values are put behind the last ends
+-- a row is pushed: its guards and values are put after the last ends
 pub row_pushed : (gs ms : List Lit) (vs ws : List RowValue) (es : List RowEnd) (e : RowEnd)
     → AreEnds origin es (length gs) (length vs)
     → let z = row_start origin es (length es) in

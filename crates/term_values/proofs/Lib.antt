@@ -16,4 +16,5 @@ pub mod RadixLemmas
 pub mod VariableLemmas
 pub mod RowListLemmas
 pub mod TermRowLemmas
+pub mod PlainLemmas
 pub mod KnownLists

@@ -113,7 +113,7 @@ other_length domains (ty ∷ types) (v ∷ vs) h =
 
 -- ---- what the code keeps
 
--- the index of the rest, behind these digits
+-- the index of the rest, after these digits
 abbrev pub index_from : List (List Elem) → List ℕ → List Denotation → ℕ → ℕ → Option ℕ
 index_from domains types vs i place =
     option_map (λ k. capped (place * length (tuples_of domains (drop i types)) + k))

@@ -32,7 +32,7 @@ impl<'a> DomainIndex<'a> {
         Ok(index)
     }
 
-    /// Notes the element that stands at the place behind those that were noted, by its value.
+    /// Notes the element that stands at the place after those that were noted, by its value.
     fn add(&mut self, value: Value<'a>, place: usize) -> Result<(), Memory>
         ensures { OnOk result ((x : Element) (xs : List Element) → denotation_of x ≡ value_view value.entry
             → IsIndexOf self.old xs → place ≡ length xs → IsIndexOf self.new (xs ++ x ∷ [])) }

@@ -1,8 +1,10 @@
 //! What a ground problem is made over, with what is known of each of its atoms.
-ghost use Rattle.std.specs.Prelude.{◌≡◌, ◌<◌, ◌≤◌, ◌+◌, ◌*◌, ◌^◌, length, map, IfOk, IfSome, IsNone, option_map};
+ghost use Rattle.std.specs.Prelude.{◌≡◌, ◌<◌, ◌≤◌, ◌+◌, ◌*◌, ◌^◌, ◌∷◌, [], length, map, IfOk, IfSome, IsNone};
+ghost use Rattle.std.specs.Prelude.{option_map};
 ghost use Rattle.kb_logic.specs.Bounds.{value_type_of};
 ghost use Rattle.plain_evaluation.specs.Environments.{env_view};
 ghost use Rattle.kb_logic.specs.Trees.{terms_of};
+ghost use Rattle.kb_logic.specs.Values.{value_view};
 ghost use Rattle.kb_logic.specs.Views.{term_view};
 ghost use Rattle.term_values.specs.GroundBases.{known_of, first_var as first_variable, row_index, tuples_at, values_at};
 ghost use Rattle.term_values.specs.KnownBases.{AreDataOf, base_of_data};
@@ -14,10 +16,11 @@ ghost use Rattle.term_values.specs.Rows.{rows_of_term, rows_of_terms};
 use crate::counts::{all_first_vars, count_tuples};
 use crate::domain_index::{DomainIndex, indexes_of};
 use crate::known_atoms::all_known;
+use crate::plain_terms::plain_value;
 use crate::rows::{RowValue, Rows, TupleRows};
 use crate::term_rows::{push_term, put_terms};
 use crate::tuple_places::tuple_place;
-use kb_logic::values::domain_in;
+use kb_logic::values::{Value, domain_in};
 use kb_logic::{Elem, ElemList, Memory, Term, Vocabulary};
 use partial_structures::Partial;
 use plain_evaluation::environments::Env;
@@ -187,12 +190,29 @@ impl<'a> GroundData<'a> {
         }
     }
 
+    /// The value of a variable, a number or a made element: such a term has one row, without guards.
+    pub fn plain_value(&self, term: &Term, env: &Env<'a>) -> Option<Value<'a>>
+        ensures { IfSome result (λ x. rows_of_term self.now (term_view term.now) (env_view env.now)
+            ≡ ([], value_view x) ∷ []) }
+    {
+        plain_value(self, term, env)
+    }
+
+    // No more than a few dozen, since of the values of a large type most may be known to be false.
+    /// For how many rows it is worth while to make room at once: those of a function's values.
+    fn room_for(&self, term: &Term) -> usize {
+        match term {
+            Term::Apply(symbol, _) => self.values(*symbol).len().min(32),
+            _ => 0,
+        }
+    }
+
     /// The rows of a term, whose free variables have the elements of `env`. An aggregate has none.
     pub fn rows(&self, alloc: Global, term: &Term, env: &Env<'a>) -> Result<Rows<'a>, Memory>
         requires { RowsFit self.now (term_view term.now) (env_view env.now) }
         ensures { IfOk result (λ r. r ≡ rows_of_term self.now (term_view term.now) (env_view env.now)) }
     {
-        let mut rows = Rows::new(alloc);
+        let mut rows = Rows::with_room(alloc, self.room_for(term))?;
         push_term(alloc, self, term, env, &mut rows)?;
         Ok(rows)
     }

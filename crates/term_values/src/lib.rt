@@ -8,6 +8,7 @@ mod domain_index;
 mod ground_data;
 mod known_atoms;
 mod laws;
+mod plain_terms;
 mod row_lists;
 mod rows;
 mod term_rows;

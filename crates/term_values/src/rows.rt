@@ -81,7 +81,47 @@ fn end_of(ends: &[RowEnd]) -> RowEnd
     }
 }
 
-/// Keeps the first `len` literals, and puts more behind them.
+// Most rows have one guard or two. A call that copies memory costs more than all else for these.
+/// Adds more literals.
+fn append_guards(guards: &mut SmallVec<Lit, 4>, more: &[Lit]) -> Result<(), Memory>
+    ensures ok { OnOk result (guards.new.items ≡ guards.old.items ++ more.now) }
+    ensures err { OnErr result (guards.new ≡ guards.old) }
+{
+    match more {
+        [] => Ok(()),
+        [lit] => {
+            guards.push(*lit)?;
+            Ok(())
+        }
+        _ => {
+            guards.extend_from_slice(more)?;
+            Ok(())
+        }
+    }
+}
+
+/// Adds more values.
+fn append_values<'a>(
+    values: &mut SmallVec<RowValue<'a>, 4>,
+    more: &[RowValue<'a>],
+) -> Result<(), Memory>
+    ensures ok { OnOk result (values.new.items ≡ values.old.items ++ more.now) }
+    ensures err { OnErr result (values.new ≡ values.old) }
+{
+    match more {
+        [] => Ok(()),
+        [value] => {
+            values.push(*value)?;
+            Ok(())
+        }
+        _ => {
+            values.extend_from_slice(more)?;
+            Ok(())
+        }
+    }
+}
+
+/// Keeps the first `len` literals, and puts more after them.
 fn put_guards(
     guards: &mut SmallVec<Lit, 4>,
     len: usize,
@@ -94,12 +134,11 @@ fn put_guards(
     ensures err { OnErr result (take len guards.new.items ≡ take len guards.old.items) }
 {
     guards.truncate(len);
-    guards.extend_from_slice(first)?;
-    guards.extend_from_slice(second)?;
-    Ok(())
+    append_guards(guards, first)?;
+    append_guards(guards, second)
 }
 
-/// Keeps the first `len` values, and puts more behind them.
+/// Keeps the first `len` values, and puts more after them.
 fn put_values<'a>(
     values: &mut SmallVec<RowValue<'a>, 4>,
     len: usize,
@@ -112,9 +151,8 @@ fn put_values<'a>(
     ensures err { OnErr result (take len values.new.items ≡ take len values.old.items) }
 {
     values.truncate(len);
-    values.extend_from_slice(first)?;
-    values.extend_from_slice(second)?;
-    Ok(())
+    append_values(values, first)?;
+    append_values(values, second)
 }
 
 /// The items from the first place on, before the second.
@@ -138,12 +176,36 @@ impl<'a> TupleRows<'a> {
         }
     }
 
+    /// No row, with room for so many of one guard and one value each.
+    pub(crate) fn with_room(alloc: Global, rows: usize) -> Result<TupleRows<'a>, Memory>
+        ensures { IfOk result (λ r. r ≡ []) }
+    {
+        let mut guards = SmallVec::new(alloc);
+        guards.reserve(rows)?;
+        let mut values = SmallVec::new(alloc);
+        values.reserve(rows)?;
+        let mut ends = SmallVec::new(alloc);
+        ends.reserve(rows)?;
+        Ok(TupleRows {
+            guards,
+            values,
+            ends,
+        })
+    }
+
     /// One row without guards and values: that of no term.
     pub(crate) fn unit(alloc: Global) -> Result<TupleRows<'a>, Memory>
         ensures { IfOk result (λ r. r ≡ ([], []) ∷ []) }
     {
+        TupleRows::single(alloc, &[])
+    }
+
+    /// One row of these values, without guards.
+    pub(crate) fn single(alloc: Global, values: &[RowValue<'a>]) -> Result<TupleRows<'a>, Memory>
+        ensures { IfOk result (λ r. r ≡ ([], map row_value values.now) ∷ []) }
+    {
         let mut rows = TupleRows::new(alloc);
-        rows.push(&[], &[], &[], &[])?;
+        rows.push(&[], &[], values, &[])?;
         Ok(rows)
     }
 
@@ -225,6 +287,15 @@ impl<'a> Rows<'a> {
         Rows {
             tuples: TupleRows::new(alloc),
         }
+    }
+
+    /// No row, with room for so many of one guard each.
+    pub(crate) fn with_room(alloc: Global, rows: usize) -> Result<Rows<'a>, Memory>
+        ensures { IfOk result (λ r. r ≡ []) }
+    {
+        Ok(Rows {
+            tuples: TupleRows::with_room(alloc, rows)?,
+        })
     }
 
     /// How many rows there are.

@@ -17,12 +17,14 @@ ghost use Rattle.term_values.specs.RowSums.{operands_of};
 ghost use Rattle.term_values.specs.RowValues.{row_value};
 
 use crate::ground_data::GroundData;
+use crate::plain_terms::push_plain;
 use crate::row_lists::{push_pairs, push_products, push_sums};
 use crate::rows::{RowValue, Rows, TupleRows};
 use kb_logic::values::{Value, elem_value, made_value};
 use kb_logic::{Elem, Memory, Signed, Term};
 use lit_core::{Lit, Var};
 use plain_evaluation::environments::{Env, variable_value};
+use smallvec::SmallVec;
 use std::alloc::Global;
 
 /// Pushes the row of a value that a function may have, unless it is known to have another.
@@ -174,7 +176,7 @@ fn put_before<'a>(
 {
     let mut rows = Rows::new(alloc);
     push_term(alloc, base, term, env, &mut rows)?;
-    let mut longer = TupleRows::new(alloc);
+    let mut longer = TupleRows::with_room(alloc, rows.len().saturating_mul(out.len()))?;
     push_pairs(&rows, out, &mut longer)?;
     *out = longer;
     Ok(())
@@ -193,6 +195,11 @@ pub(crate) fn put_terms<'a>(
     requires { TupleRowsFit base.now (terms_of (map term_view terms.now)) (env_view env.now) }
     ensures { OnOk result (out.new ≡ rows_of_terms base.now (terms_of (map term_view terms.now)) (env_view env.now)) }
 {
+    let mut values = SmallVec::new(alloc);
+    if push_plain(base, terms, env, &mut values)? {
+        *out = TupleRows::single(alloc, values.as_slice())?;
+        return Ok(());
+    }
     *out = TupleRows::unit(alloc)?;
     let mut left = terms.len();
     while left > 0 {

@@ -1,10 +1,10 @@
 -- The way of the machine through names, variables and numbers.
-use Rattle.std.proofs.Common.{◌≡◌, ℕ, List, [], ◌∷◌, ◌++◌, Option, Some, None, Err, refl, sym, ap, ◌∙◌}
+use Rattle.std.proofs.Common.{◌≡◌, ℕ, List, [], ◌∷◌, ◌++◌, Option, Some, None, Result, Ok, Err, Bor, refl, sym, ap, ◌∙◌}
 use Rattle.fo_syntax.specs.declared.terminal.Terminal.{Terminal}
 use Rattle.fo_syntax.specs.declared.terminal.Terminal.TheVariants as t
 use Rattle.fo_syntax.specs.declared.terminal.Comparison.{Comparison}
 use Rattle.fo_syntax.specs.declared.terminal.Comparison.TheVariants as cmp
-use Rattle.fo_syntax.specs.Terminals.{Symbol, Tok, tok, tok_at, mark, word, sign, symbol_of, place_of}
+use Rattle.fo_syntax.specs.Terminals.{Symbol, Tok, tok, tok_at, mark, word, sign, symbol_of, place_of, toks}
 use Rattle.fo_syntax.specs.declared.terminal.Item.{Item}
 use Rattle.fo_syntax.specs.declared.stops.ReadError.TheVariants.{Stuck}
 use Rattle.fo_syntax.specs.Trees.{Var, untyped, name, Vars, var, any, compared}
@@ -12,23 +12,24 @@ use Rattle.fo_syntax.specs.Spelling.{put_var, put_vars}
 use Rattle.fo_syntax.specs.View.{vars_more, vars_of}
 use Rattle.token_reader.specs.Machine.{Frame, vars_first, vars_on, vars_end, type_name, type_close, number_first}
 use Rattle.token_reader.specs.Machine.{number_last, colon, on, stuck, run}
-use Rattle.token_reader.specs.Parts.{NoSquare, NoInteger, at_vars, at_number, Fails}
-use Rattle.token_reader.specs.Parts.{Lacks}
+use Rattle.token_reader.specs.Signs.{next, No, Is, AWord, Absent, SignRead}
+use Rattle.token_reader.specs.Parts.{NoInteger, at_vars, at_number, Fails}
 use Rattle.fo_syntax.specs.Fine.{FineNumber}
 use Rattle.fo_syntax.specs.declared.stops.ReadError.{ReadError}
 use Rattle.token_reader.proofs.Inside.{Context, fails_at, lacks_fails, integer_fails}
-use Rattle.token_reader.specs.Binders.{NoWord, NoVar, IsWord, VarAhead, put_comma, Binder, binder, put_binder, counted}
+use Rattle.token_reader.specs.Binders.{NoVar, VarAhead, put_comma, Binder, binder, put_binder, counted}
+use Rattle.token_reader.specs.Variables.{front_vars, VarsAre, MoreVars}
 use Rattle.token_reader.specs.Binders.{put_counted, FineCounted, Whole, IntegerRead}
 use Rattle.token_reader.proofs.Append.{var-append}
 
-pub vars_stuck : (τ : List Frame) (ts : List Tok) → NoWord ts → run (on (vars_first ∷ τ)) ts ≡ stuck ts
+pub vars_stuck : (τ : List Frame) (ts : List Tok) → (AWord (next ts) → ⊥) → run (on (vars_first ∷ τ)) ts ≡ stuck ts
 vars_stuck τ [] h = refl
-vars_stuck τ (tok_at (word w) p ∷ ts) h = elim h [ ]
+vars_stuck τ (tok_at (word w) p ∷ ts) h = absurd (h tt)
 vars_stuck τ (tok_at (mark s) p ∷ ts) h = refl
 
-pub type_stuck : (τ : List Frame) (ts : List Tok) → NoWord ts → run (on (type_name ∷ τ)) ts ≡ stuck ts
+pub type_stuck : (τ : List Frame) (ts : List Tok) → (AWord (next ts) → ⊥) → run (on (type_name ∷ τ)) ts ≡ stuck ts
 type_stuck τ [] h = refl
-type_stuck τ (tok_at (word w) p ∷ ts) h = elim h [ ]
+type_stuck τ (tok_at (word w) p ∷ ts) h = absurd (h tt)
 type_stuck τ (tok_at (mark s) p ∷ ts) h = refl
 
 pub square_stuck : (τ : List Frame) (ts : List Tok) → ((p : ℕ) (us : List Tok) → ts ≡ sign t.CloseSquare p ∷ us → ⊥)
@@ -37,10 +38,10 @@ square_stuck τ [] h = refl
 square_stuck τ (tok_at (mark t.CloseSquare) p ∷ ts) h = absurd (h p ts refl)
 square_stuck τ (tok_at s p ∷ ts) h = refl
 
-pub var_untyped : (τ : List Frame) (ts : List Tok) → NoSquare ts → run (on (vars_on ∷ τ)) ts
+pub var_untyped : (τ : List Frame) (ts : List Tok) → No t.OpenSquare (next ts) → run (on (vars_on ∷ τ)) ts
     ≡ run (on (vars_end ∷ τ)) ts
 var_untyped τ [] h = refl
-var_untyped τ (tok_at (mark t.OpenSquare) p ∷ ts) h = elim h [ ]
+var_untyped τ (tok_at (mark t.OpenSquare) p ∷ ts) h = absurd (h refl)
 var_untyped τ (tok_at s p ∷ ts) h = refl
 
 pub colon_stuck : (σ : List Frame) (ts : List Tok) → NoVar ts → ((p : ℕ) (us : List Tok) → ts ≡ sign t.Colon p ∷ us → ⊥)
@@ -51,7 +52,8 @@ colon_stuck σ (tok_at (mark t.Comma) p ∷ ts) h k = elim h [ ]
 colon_stuck σ (tok_at (mark t.Colon) p ∷ ts) h k = absurd (k p ts refl)
 colon_stuck σ (tok_at s p ∷ ts) h k = refl
 
-word_ahead : (τ : List Frame) (ts : List Tok) → IsWord ts → run (on (vars_end ∷ τ)) ts ≡ run (on (vars_first ∷ τ)) ts
+word_ahead : (τ : List Frame) (ts : List Tok) → AWord (next ts) → run (on (vars_end ∷ τ)) ts
+    ≡ run (on (vars_first ∷ τ)) ts
 word_ahead τ [] h = elim h [ ]
 word_ahead τ (tok_at (word w) p ∷ ts) h = refl
 word_ahead τ (tok_at (mark s) p ∷ ts) h = elim h [ ]
@@ -66,10 +68,6 @@ ahead_is ts None us h = h.0
 ahead_is ts (Some p) us h = h
 
 -- ---- the variables so far, and then these tokens
-
-abbrev pub front_vars : Var → List (Option ℕ × Var) → List Tok → List Tok
-front_vars v [] ts = put_var v ts
-front_vars v (x ∷ xs) ts = put_var v (put_comma x.0 (front_vars x.1 xs ts))
 
 comma-append : (c : Option ℕ) (ts us : List Tok) → put_comma c (ts ++ us) ≡ put_comma c ts ++ us
 comma-append None ts us = refl
@@ -194,16 +192,20 @@ number_last_fails ts us len e s p ne is h = integer_fails at_number put_counted 
 
 -- ---- the list of variables
 
-pub binder_in : (v : Var) (xs : List (Option ℕ × Var)) (c : Option ℕ) (ts rest us : List Tok)
-    → ts ≡ front_vars v xs rest → VarAhead rest c us
+pub vars_first_one : (v : Var) (ts rest : List Tok) → ts ≡ put_var v rest
     → ((σ : List Frame) → run (on (vars_first ∷ colon ∷ σ)) ts ≡ run (on (vars_end ∷ colon ∷ σ)) rest)
+    → VarsAre ts v [] rest
+vars_first_one v ts rest is runs = record { spelled = is; runs = runs }
+
+pub binder_in : (v : Var) (xs : List (Option ℕ × Var)) (c : Option ℕ) (ts rest us : List Tok)
+    → VarsAre ts v xs rest → VarAhead rest c us
     → Context at_vars put_binder Whole at_vars put_binder Whole ts us
-binder_in v xs c ts rest us is next runs = record {
+binder_in v xs c ts rest us are next = record {
   before = λ x. front_vars v xs (put_comma c x);
   appends = λ x y. ap (λ (z : List Tok). front_vars v xs z) (comma-append c x y)
       ∙ front_vars-append v xs (put_comma c x) y;
-  split = is ∙ ap (λ (x : List Tok). front_vars v xs x) (ahead_is rest c us next);
-  enters = λ j σ. (tt, σ, runs σ ∙ ahead_run (colon ∷ σ) rest c us next);
+  split = are.spelled ∙ ap (λ (x : List Tok). front_vars v xs x) (ahead_is rest c us next);
+  enters = λ j σ. (tt, σ, are.runs σ ∙ ahead_run (colon ∷ σ) rest c us next);
   wraps = λ after. (after, λ a h. further a);
 }
   where
@@ -215,25 +217,32 @@ binder_in v xs c ts rest us is next runs = record {
       vars_chain_is v xs c vs (sign t.Colon q ∷ after),
     )
 
-pub binder_ends : (v : Var) (xs : List (Option ℕ × Var)) (ts rest : List Tok) (len : ℕ) (e : ReadError)
-    → ts ≡ front_vars v xs rest
-    → ((σ : List Frame) → run (on (vars_first ∷ colon ∷ σ)) ts ≡ run (on (vars_end ∷ colon ∷ σ)) rest) → NoVar rest
-    → Lacks t.Colon rest len e → Fails at_vars put_binder Whole ts len e
-binder_ends v xs ts rest len e is runs none h = lacks_fails at_vars put_binder Whole t.Colon ts rest len e
-    (λ (x : List Tok). front_vars v xs x) (front_vars-append v xs) is
-    (λ k j σ. runs σ ∙ colon_stuck σ rest none k) (λ after. (
+binder_ends : (v : Var) (xs : List (Option ℕ × Var)) (ts rest : List Tok) (len : ℕ) (e : ReadError)
+    → VarsAre ts v xs rest → NoVar rest → Absent (Is t.Colon) rest len e → Fails at_vars put_binder Whole ts len e
+binder_ends v xs ts rest len e are none h = lacks_fails at_vars put_binder Whole t.Colon ts rest len e
+    (λ (x : List Tok). front_vars v xs x) (front_vars-append v xs) are.spelled
+    (λ k j σ. are.runs σ ∙ colon_stuck σ rest none k) (λ after. (
       binder (vars_of v xs) 0,
       sign t.Colon 0 ∷ after,
       tt,
       sym (front_vars_is v xs (sign t.Colon 0 ∷ after)),
     )) h
 
+-- a further variable
 pub binder_step : (v : Var) (xs : List (Option ℕ × Var)) (c : Option ℕ) (w : Var) (ts rest us last : List Tok)
-    → ts ≡ front_vars v xs rest → VarAhead rest c us → us ≡ put_var w last → ts ≡ front_vars v (xs ++ (c, w) ∷ []) last
-binder_step v xs c w ts rest us last is next h = is ∙ ap (λ (x : List Tok). front_vars v xs x) (ahead_is rest c us next
-    ∙ ap (λ (x : List Tok). put_comma c x) h) ∙ sym (front_vars_push v xs c w last)
+    → VarsAre ts v xs rest → VarAhead rest c us → us ≡ put_var w last
+    → ((σ : List Frame) → run (on (vars_first ∷ colon ∷ σ)) us ≡ run (on (vars_end ∷ colon ∷ σ)) last)
+    → VarsAre ts v (xs ++ (c, w) ∷ []) last
+binder_step v xs c w ts rest us last are next is runs = record {
+  spelled = are.spelled ∙ ap (λ (x : List Tok). front_vars v xs x) (ahead_is rest c us next
+      ∙ ap (λ (x : List Tok). put_comma c x) is) ∙ sym (front_vars_push v xs c w last);
+  runs = λ σ. are.runs σ ∙ ahead_run (colon ∷ σ) rest c us next ∙ runs σ;
+}
 
-pub binder_whole : (v : Var) (xs : List (Option ℕ × Var)) (q : ℕ) (ts rest last : List Tok) → ts ≡ front_vars v xs rest
-    → rest ≡ sign t.Colon q ∷ last → ts ≡ put_vars (vars_of v xs) (sign t.Colon q ∷ last)
-binder_whole v xs q ts rest last is h = is ∙ ap (λ (x : List Tok). front_vars v xs x) h
-    ∙ sym (front_vars_is v xs (sign t.Colon q ∷ last))
+-- the colon, or what stands in its place
+pub binder_closes : (v : Var) (xs : List (Option ℕ × Var)) (ts rest : List Tok) (len : ℕ)
+    (r : Result (ℕ × Bor (List Item)) ReadError) → VarsAre ts v xs rest → NoVar rest → SignRead t.Colon rest len r
+    → MoreVars ts v xs len r
+binder_closes v xs ts rest len (Ok p) are none read = are.spelled ∙ ap (λ (x : List Tok). front_vars v xs x) read
+    ∙ sym (front_vars_is v xs (sign t.Colon p.0 ∷ toks p.1.now))
+binder_closes v xs ts rest len (Err e) are none read = binder_ends v xs ts rest len e are none read

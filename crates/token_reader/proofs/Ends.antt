@@ -2,7 +2,9 @@
 use Rattle.std.proofs.Common.{◌≡◌, ℕ, List, [], ◌∷◌, true, refl, sym, ap, subst, ◌∙◌}
 use Rattle.fo_syntax.specs.declared.terminal.Comparison.{Comparison}
 use Rattle.fo_syntax.specs.declared.terminal.Adding.{Adding}
-use Rattle.token_reader.specs.Parts.{EndsFactor, EndsTerm, EndsPrim}
+use Rattle.token_reader.specs.Signs.{next, No}
+use Rattle.token_reader.specs.Parts.{EndsFactor, EndsTerm, EndsPrim, NoArrows}
+use Rattle.token_reader.proofs.Signs.{no_sign}
 use Rattle.fo_syntax.specs.Fine.{closed_unary, closed_and, closed_or}
 use Rattle.token_reader.proofs.Balance.{outer, behind_close, formula-passed, term-passed, terms-passed}
 use Rattle.fo_syntax.specs.declared.terminal.Terminal.TheVariants as t
@@ -44,30 +46,6 @@ EndsProduct (tok_at (mark t.Open) p ∷ ts) = ⊥
 EndsProduct (tok_at (mark t.Times) p ∷ ts) = ⊥
 EndsProduct _ = Unit {0}
 
--- no comma comes
-abbrev pub NoComma : List Tok → Type 0
-NoComma [] = Unit {0}
-NoComma (tok_at (mark t.Comma) p ∷ ts) = ⊥
-NoComma _ = Unit {0}
-
--- no & comes
-abbrev pub NoAnd : List Tok → Type 0
-NoAnd [] = Unit {0}
-NoAnd (tok_at (mark t.And) p ∷ ts) = ⊥
-NoAnd _ = Unit {0}
-
--- no | comes
-abbrev pub NoOr : List Tok → Type 0
-NoOr [] = Unit {0}
-NoOr (tok_at (mark t.Or) p ∷ ts) = ⊥
-NoOr _ = Unit {0}
-
--- no arrow comes
-abbrev pub NoArrows : List Tok → Type 0
-NoArrows [] = Unit {0}
-NoArrows (tok_at (mark (t.Arrow a)) p ∷ ts) = ⊥
-NoArrows _ = Unit {0}
-
 -- neither an operator nor a comparison nor & comes
 abbrev pub EndsAnd : List Tok → Type 0
 EndsAnd [] = Unit {0}
@@ -101,14 +79,8 @@ EndsFormula (tok_at (mark t.Or) p ∷ ts) = ⊥
 EndsFormula (tok_at (mark (t.Arrow a)) p ∷ ts) = ⊥
 EndsFormula _ = Unit {0}
 
--- this arrow does not come
-abbrev pub NoArrow : Arrow → List Tok → Type 0
-NoArrow a [] = Unit {0}
-NoArrow a (tok_at (mark (t.Arrow b)) p ∷ ts) = a ≡ b → ⊥
-NoArrow a _ = Unit {0}
-
 abbrev pub EndsList : List Tok → Type 0
-EndsList ts = EndsTerm ts × NoComma ts
+EndsList ts = EndsTerm ts × No t.Comma (next ts)
 
 -- what ends the tree, by how it ends itself
 abbrev mutual
@@ -117,15 +89,15 @@ abbrev mutual
   stops_formula (linked a o p os) ts = stops_links a os ts
 
   pub stops_links : Arrow → Links → List Tok → Type 0
-  stops_links a (last o) ts = stops_or o ts × NoArrow a ts
+  stops_links a (last o) ts = stops_or o ts × No (t.Arrow a) (next ts)
   stops_links a (link o p os) ts = stops_links a os ts
 
   pub stops_or : Or → List Tok → Type 0
-  stops_or (one a) ts = stops_and a ts × NoOr ts
+  stops_or (one a) ts = stops_and a ts × No t.Or (next ts)
   stops_or (or a p o) ts = stops_or o ts
 
   pub stops_and : And → List Tok → Type 0
-  stops_and (single u) ts = stops_unary u ts × NoAnd ts
+  stops_and (single u) ts = stops_unary u ts × No t.And (next ts)
   stops_and (and u p a) ts = stops_and a ts
 
   pub stops_unary : Unary → List Tok → Type 0
@@ -179,14 +151,8 @@ and_ends (tok_at (mark (t.Compare c)) p ∷ ts) h = elim h [ ]
 and_ends (tok_at (mark t.And) p ∷ ts) h = elim h [ ]
 and_ends (tok_at s p ∷ ts) h = tt
 
-pub and_no_and : (ts : List Tok) → EndsAnd ts → NoAnd ts
-and_no_and [] h = tt
-and_no_and (tok_at (mark t.Open) p ∷ ts) h = elim h [ ]
-and_no_and (tok_at (mark t.Times) p ∷ ts) h = elim h [ ]
-and_no_and (tok_at (mark (t.Add s)) p ∷ ts) h = elim h [ ]
-and_no_and (tok_at (mark (t.Compare c)) p ∷ ts) h = elim h [ ]
-and_no_and (tok_at (mark t.And) p ∷ ts) h = elim h [ ]
-and_no_and (tok_at s p ∷ ts) h = tt
+pub and_no_and : (ts : List Tok) → EndsAnd ts → No t.And (next ts)
+and_no_and ts h = no_sign t.And ts (λ p us e. let k : EndsAnd (sign t.And p ∷ us) = subst (EndsAnd) e h in k)
 
 pub or_ends : (ts : List Tok) → EndsOr ts → EndsAnd ts
 or_ends [] h = tt
@@ -198,15 +164,8 @@ or_ends (tok_at (mark t.And) p ∷ ts) h = elim h [ ]
 or_ends (tok_at (mark t.Or) p ∷ ts) h = elim h [ ]
 or_ends (tok_at s p ∷ ts) h = tt
 
-pub or_no_or : (ts : List Tok) → EndsOr ts → NoOr ts
-or_no_or [] h = tt
-or_no_or (tok_at (mark t.Open) p ∷ ts) h = elim h [ ]
-or_no_or (tok_at (mark t.Times) p ∷ ts) h = elim h [ ]
-or_no_or (tok_at (mark (t.Add s)) p ∷ ts) h = elim h [ ]
-or_no_or (tok_at (mark (t.Compare c)) p ∷ ts) h = elim h [ ]
-or_no_or (tok_at (mark t.And) p ∷ ts) h = elim h [ ]
-or_no_or (tok_at (mark t.Or) p ∷ ts) h = elim h [ ]
-or_no_or (tok_at s p ∷ ts) h = tt
+pub or_no_or : (ts : List Tok) → EndsOr ts → No t.Or (next ts)
+or_no_or ts h = no_sign t.Or ts (λ p us e. let k : EndsOr (sign t.Or p ∷ us) = subst (EndsOr) e h in k)
 
 pub formula_ends : (ts : List Tok) → EndsFormula ts → EndsOr ts
 formula_ends [] h = tt
@@ -230,10 +189,9 @@ formula_no_arrows (tok_at (mark t.Or) p ∷ ts) h = elim h [ ]
 formula_no_arrows (tok_at (mark (t.Arrow a)) p ∷ ts) h = elim h [ ]
 formula_no_arrows (tok_at s p ∷ ts) h = tt
 
-pub formula_no_arrow : (a : Arrow) (ts : List Tok) → EndsFormula ts → NoArrow a ts
-formula_no_arrow a [] h = tt
-formula_no_arrow a (tok_at (mark (t.Arrow b)) p ∷ ts) h = elim h [ ]
-formula_no_arrow a (tok_at s p ∷ ts) h = tt
+pub formula_no_arrow : (a : Arrow) (ts : List Tok) → EndsFormula ts → No (t.Arrow a) (next ts)
+formula_no_arrow a ts h = no_sign (t.Arrow a) ts
+    (λ p us e. let k : EndsFormula (sign (t.Arrow a) p ∷ us) = subst (EndsFormula) e h in k)
 
 pub goes_name : (p : ℕ) (ts us : List Tok) → EndsName us → sign t.OpenSquare p ∷ ts ≡ us → ⊥
 goes_name p ts us z e = let h : EndsName (sign t.OpenSquare p ∷ ts) = subst (EndsName) (sym e) z in h
@@ -256,20 +214,8 @@ goes_product p ts us z e = let h : EndsProduct (sign t.Times p ∷ ts) = subst (
 pub goes_term : (s : Adding) (p : ℕ) (ts us : List Tok) → EndsTerm us → sign (t.Add s) p ∷ ts ≡ us → ⊥
 goes_term s p ts us z e = let h : EndsTerm (sign (t.Add s) p ∷ ts) = subst (EndsTerm) (sym e) z in h
 
-pub goes_list : (p : ℕ) (ts us : List Tok) → NoComma us → sign t.Comma p ∷ ts ≡ us → ⊥
-goes_list p ts us z e = let h : NoComma (sign t.Comma p ∷ ts) = subst (NoComma) (sym e) z in h
-
-pub goes_and : (p : ℕ) (ts us : List Tok) → NoAnd us → sign t.And p ∷ ts ≡ us → ⊥
-goes_and p ts us z e = let h : NoAnd (sign t.And p ∷ ts) = subst (NoAnd) (sym e) z in h
-
-pub goes_or : (p : ℕ) (ts us : List Tok) → NoOr us → sign t.Or p ∷ ts ≡ us → ⊥
-goes_or p ts us z e = let h : NoOr (sign t.Or p ∷ ts) = subst (NoOr) (sym e) z in h
-
 pub goes_formula : (a : Arrow) (p : ℕ) (ts us : List Tok) → NoArrows us → sign (t.Arrow a) p ∷ ts ≡ us → ⊥
 goes_formula a p ts us z e = let h : NoArrows (sign (t.Arrow a) p ∷ ts) = subst (NoArrows) (sym e) z in h
-
-pub goes_links : (a : Arrow) (p : ℕ) (ts us : List Tok) → NoArrow a us → sign (t.Arrow a) p ∷ ts ≡ us → ⊥
-goes_links a p ts us z e = let h : NoArrow a (sign (t.Arrow a) p ∷ ts) = subst (NoArrow a) (sym e) z in h refl
 
 pub closed_unary_stops : (u : Unary) (ts : List Tok) → closed_unary u ≡ true → EndsPrim ts → stops_unary u ts
 closed_unary_stops (not p u) ts h z = closed_unary_stops u ts h z

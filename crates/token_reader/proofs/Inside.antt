@@ -5,8 +5,10 @@ use Rattle.fo_syntax.specs.declared.stops.ReadError.TheVariants.{Memory, Stuck}
 use Rattle.fo_syntax.specs.declared.terminal.Terminal.{Terminal}
 use Rattle.fo_syntax.specs.Terminals.{Tok, tok_at, mark, place_of}
 use Rattle.token_reader.specs.Machine.{Frame, on, stuck, run}
-use Rattle.token_reader.specs.Parts.{Broken, Fails, Lacks, NoInteger}
-use Rattle.token_reader.specs.Binders.{NoWord, NameRead, IntegerRead}
+use Rattle.token_reader.specs.Signs.{next, Is, AWord, Absent, WordRead}
+use Rattle.token_reader.specs.Parts.{Broken, Fails, NoInteger}
+use Rattle.token_reader.proofs.Signs.{other_sign}
+use Rattle.token_reader.specs.Binders.{IntegerRead}
 
 -- how an A stands in a B: the tokens before it, the way there, and what makes a B of each A
 pub record Context {I J A B : Type 0} (stack : I → List Frame → List Frame) (put : A → List Tok → List Tok)
@@ -72,17 +74,17 @@ pub lacks_fails : {J B : Type 0} (outer : J → List Frame → List Frame) (whol
     → (((p : ℕ) (vs : List Tok) → us ≡ tok_at (mark s) p ∷ vs → ⊥) → (j : J) (σ : List Frame)
     → run (on (outer j σ)) ts ≡ stuck us)
     → ((after : List Tok) → (b : B) × (more : List Tok) × FineWhole b × (before more ≡ whole b after))
-    → Lacks s us len e → Fails outer whole FineWhole ts len e
-lacks_fails outer whole FineWhole s ts us len Memory before appends split runs viable h = elim h [ ]
+    → Absent (Is s) us len e → Fails outer whole FineWhole ts len e
+lacks_fails outer whole FineWhole s ts us len Memory before appends split runs viable h = tt
 lacks_fails outer whole FineWhole s ts us len (Stuck place) before appends split runs viable h =
-    fails_at outer whole FineWhole ts us len place before appends split (runs h.0) viable h.1
+    fails_at outer whole FineWhole ts us len place before appends split (runs (other_sign s us h.0)) viable h.1
 
 pub word_fails : {J B : Type 0} (outer : J → List Frame → List Frame) (whole : B → List Tok → List Tok) (FineWhole : B
     → Type 0) (ts us : List Tok) (len : ℕ) (e : ReadError)
     (before : List Tok → List Tok) → ((x y : List Tok) → before (x ++ y) ≡ before x ++ y) → ts ≡ before us
-    → (NoWord us → (j : J) (σ : List Frame) → run (on (outer j σ)) ts ≡ stuck us)
+    → ((AWord (next us) → ⊥) → (j : J) (σ : List Frame) → run (on (outer j σ)) ts ≡ stuck us)
     → ((after : List Tok) → (b : B) × (more : List Tok) × FineWhole b × (before more ≡ whole b after))
-    → NameRead us len (Err e) → Fails outer whole FineWhole ts len e
+    → WordRead us len (Err e) → Fails outer whole FineWhole ts len e
 word_fails outer whole FineWhole ts us len Memory before appends split runs viable h = tt
 word_fails outer whole FineWhole ts us len (Stuck place) before appends split runs viable h =
     fails_at outer whole FineWhole ts us len place before appends split (runs h.0) viable h.1

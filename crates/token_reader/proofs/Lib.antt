@@ -1,3 +1,4 @@
+pub mod Signs
 pub mod Append
 pub mod Balance
 pub mod Ends

@@ -9,7 +9,8 @@ use Rattle.token_reader.proofs.Ends.{prim_ends, prim_ends_factor, vars_end_var, 
 use Rattle.token_reader.proofs.Ends.{closed_or_stops, all_stop_formula, vars_no_square, vars_no_number, vars_no_comma}
 use Rattle.token_reader.proofs.Ends.{terms_no_close, same_start_unary, same_start_prim, same_start_factor, goes_name}
 use Rattle.token_reader.proofs.Ends.{goes_vars, goes_integer, goes_compare, goes_factor, goes_product, goes_term}
-use Rattle.token_reader.proofs.Ends.{goes_list, goes_and, goes_or, goes_formula, goes_links, goes_beside}
+use Rattle.token_reader.proofs.Ends.{goes_formula, goes_beside}
+use Rattle.token_reader.proofs.Signs.{goes_sign}
 use Rattle.fo_syntax.specs.declared.terminal.Terminal.TheVariants as t
 use Rattle.fo_syntax.specs.declared.terminal.Arrow.{Arrow}
 use Rattle.fo_syntax.specs.Terminals.{Tok, sign}
@@ -112,10 +113,10 @@ mutual
   only_links a (last o) (last o2) m n h k z w e =
       let s0 = only_or o o2 m n h k z.0 w.0 e in let l0 = s0.0 in let r0 = s0.1 in
       (ap last l0, r0)
-  only_links a (last o) (link o2 p2 os2) m n h k z w e = absurd (goes_links a p2 (put_links a os2 n) m z.1
+  only_links a (last o) (link o2 p2 os2) m n h k z w e = absurd (goes_sign (t.Arrow a) p2 (put_links a os2 n) m z.1
       (sym (only_or o o2 m (sign (t.Arrow a) p2 ∷ put_links a os2 n) h k.1 z.0
       (closed_or_stops o2 (sign (t.Arrow a) p2 ∷ put_links a os2 n) k.0 tt) e).1))
-  only_links a (link o p os) (last o2) m n h k z w e = absurd (goes_links a p (put_links a os m) n w.1
+  only_links a (link o p os) (last o2) m n h k z w e = absurd (goes_sign (t.Arrow a) p (put_links a os m) n w.1
       (only_or o o2 (sign (t.Arrow a) p ∷ put_links a os m) n h.1 k
       (closed_or_stops o (sign (t.Arrow a) p ∷ put_links a os m) h.0 tt) w.0 e).1)
   only_links a (link o p os) (link o2 p2 os2) m n h k z w e =
@@ -131,10 +132,10 @@ mutual
   only_or (one a) (one a2) m n h k z w e =
       let s0 = only_and a a2 m n h k z.0 w.0 e in let l0 = s0.0 in let r0 = s0.1 in
       (ap one l0, r0)
-  only_or (one a) (or a2 p2 o2) m n h k z w e = absurd (goes_or p2 (put_or o2 n) m z.1
+  only_or (one a) (or a2 p2 o2) m n h k z w e = absurd (goes_sign t.Or p2 (put_or o2 n) m z.1
       (sym (only_and a a2 m (sign t.Or p2 ∷ put_or o2 n) h k.1 z.0
       (closed_and_stops a2 (sign t.Or p2 ∷ put_or o2 n) k.0 tt) e).1))
-  only_or (or a p o) (one a2) m n h k z w e = absurd (goes_or p (put_or o m) n w.1
+  only_or (or a p o) (one a2) m n h k z w e = absurd (goes_sign t.Or p (put_or o m) n w.1
       (only_and a a2 (sign t.Or p ∷ put_or o m) n h.1 k (closed_and_stops a (sign t.Or p ∷ put_or o m) h.0 tt) w.0 e).1)
   only_or (or a p o) (or a2 p2 o2) m n h k z w e =
       let s0 = only_and a a2 (sign t.Or p ∷ put_or o m) (sign t.Or p2 ∷ put_or o2 n) h.1 k.1
@@ -149,10 +150,10 @@ mutual
   only_and (single u) (single u2) m n h k z w e =
       let s0 = only_unary u u2 m n h k z.0 w.0 e in let l0 = s0.0 in let r0 = s0.1 in
       (ap single l0, r0)
-  only_and (single u) (and u2 p2 a2) m n h k z w e = absurd (goes_and p2 (put_and a2 n) m z.1
+  only_and (single u) (and u2 p2 a2) m n h k z w e = absurd (goes_sign t.And p2 (put_and a2 n) m z.1
       (sym (only_unary u u2 m (sign t.And p2 ∷ put_and a2 n) h k.1 z.0
       (closed_unary_stops u2 (sign t.And p2 ∷ put_and a2 n) k.0 tt) e).1))
-  only_and (and u p a) (single u2) m n h k z w e = absurd (goes_and p (put_and a m) n w.1
+  only_and (and u p a) (single u2) m n h k z w e = absurd (goes_sign t.And p (put_and a m) n w.1
       (only_unary u u2 (sign t.And p ∷ put_and a m) n h.1 k (closed_unary_stops u (sign t.And p ∷ put_and a m) h.0
       tt) w.0 e).1)
   only_and (and u p a) (and u2 p2 a2) m n h k z w e =
@@ -429,7 +430,8 @@ mutual
       let s0 = only_name n0 n02 (sign t.Open p ∷ put_terms xs (sign t.Close q ∷ m))
       (sign t.Open p2 ∷ put_terms xs2 (sign t.Close q2 ∷ n)) e in let l0 = s0.0 in let r0 = s0.1 in
       let t1 : put_terms xs (sign t.Close q ∷ m) ≡ put_terms xs2 (sign t.Close q2 ∷ n) = cc in
-      let s1 = only_terms xs xs2 (sign t.Close q ∷ m) (sign t.Close q2 ∷ n) h k ((tt, tt)) ((tt, tt)) t1 in let l1 =
+      let s1 = only_terms xs xs2 (sign t.Close q ∷ m) (sign t.Close q2 ∷ n) h k (tt, λ f. cc)
+      (tt, λ f. cc) t1 in let l1 =
       s1.0 in let r1 = s1.1 in
       (cc, cc)
 
@@ -439,9 +441,9 @@ mutual
       let s0 = only_term x x2 m n h k z.0 w.0 e in let l0 = s0.0 in let r0 = s0.1 in
       (ap final l0, r0)
   only_terms (final x) (then x2 p2 xs2) m n h k z w e = absurd
-      (goes_list p2 (put_terms xs2 n) m z.1 (sym (only_term x x2 m (sign t.Comma p2 ∷ put_terms xs2 n) h k.0
+      (goes_sign t.Comma p2 (put_terms xs2 n) m z.1 (sym (only_term x x2 m (sign t.Comma p2 ∷ put_terms xs2 n) h k.0
       z.0 tt e).1))
-  only_terms (then x p xs) (final x2) m n h k z w e = absurd (goes_list p (put_terms xs m) n w.1
+  only_terms (then x p xs) (final x2) m n h k z w e = absurd (goes_sign t.Comma p (put_terms xs m) n w.1
       (only_term x x2 (sign t.Comma p ∷ put_terms xs m) n h.0 k tt w.0 e).1)
   only_terms (then x p xs) (then x2 p2 xs2) m n h k z w e =
       let s0 = only_term x x2 (sign t.Comma p ∷ put_terms xs m) (sign t.Comma p2 ∷ put_terms xs2 n) h.0 k.0 tt tt e in

@@ -1,5 +1,5 @@
 -- The machine reads every tree.
-use Rattle.std.proofs.Common.{◌≡◌, ℕ, List, ◌∷◌, refl, ◌∙◌}
+use Rattle.std.proofs.Common.{◌≡◌, ℕ, List, ◌∷◌, refl, sym, ◌∙◌}
 use Rattle.fo_syntax.specs.declared.terminal.Terminal.TheVariants as t
 use Rattle.fo_syntax.specs.declared.terminal.Arrow.{Arrow}
 use Rattle.fo_syntax.specs.Terminals.{Tok, sign}
@@ -13,6 +13,8 @@ use Rattle.fo_syntax.specs.Fine.{FineFormula, FineLinks, FineOr, FineAnd, FineUn
 use Rattle.fo_syntax.specs.Fine.{FineFactor, FineApp, FineTerms}
 use Rattle.token_reader.specs.Sorts.{app_formula, app_term, app_product, app_factor}
 use Rattle.token_reader.proofs.Ends.{terms_no_close}
+use Rattle.token_reader.specs.Signs.{next, No}
+use Rattle.token_reader.proofs.Signs.{no_sign}
 use Rattle.token_reader.specs.Parts.{EndsFactor}
 use Rattle.token_reader.specs.Machine as m
 use Rattle.token_reader.specs.Machine.{Chain, unsettled, fresh, chained, Mode, in_term, in_formula, Sort, formula, term}
@@ -21,12 +23,12 @@ use Rattle.token_reader.specs.Machine.{fold_colon, colon, vars_first, number_fir
 use Rattle.token_reader.specs.Modes.{term_sort, formula_sort, mode_formula, mode_links, mode_or, mode_and, mode_unary}
 use Rattle.token_reader.specs.Modes.{mode_prim, sort_formula, sort_links, sort_or, sort_and, sort_unary, sort_prim}
 use Rattle.token_reader.proofs.Behind.{connects_unary, connects_and, links_or, link_same, ends_formula, opens_formula}
-use Rattle.token_reader.proofs.Runs.{run_vars, run_number, named_done, NoClose, args_want, unclosed, run_times, run_add}
+use Rattle.token_reader.proofs.Runs.{run_vars, run_number, named_done, args_want, run_times, run_add}
 use Rattle.token_reader.proofs.Runs.{run_compare, run_and_sign, run_or_sign, run_arrow, run_shut, Linkable, link_first}
 
-pub args_open : (xs : Terms) (q : ℕ) (ts : List Tok) → NoClose (put_terms xs (sign t.Close q ∷ ts))
-args_open xs q ts = unclosed (put_terms xs (sign t.Close q ∷ ts))
-    (λ i us e. terms_no_close xs i us (sign t.Close q ∷ ts) e)
+pub args_open : (xs : Terms) (q : ℕ) (ts : List Tok) → No t.Close (next (put_terms xs (sign t.Close q ∷ ts)))
+args_open xs q ts = no_sign t.Close (put_terms xs (sign t.Close q ∷ ts))
+    (λ i us e. terms_no_close xs i us (sign t.Close q ∷ ts) (sym e))
 
 mutual
   pub read_formula : (c : Chain) → Linkable c → (f : Formula) → FineFormula f → (σ : List Frame) (ts : List Tok)

@@ -10,6 +10,7 @@ use Rattle.fo_syntax.specs.Terminals.{Tok, tok_at, mark, sign}
 use Rattle.fo_syntax.specs.Trees.{name, untyped, typed, Vars, var, beside, comma, Number, any, exactly, compared, Prim}
 use Rattle.fo_syntax.specs.Spelling.{put_vars, put_number}
 use Rattle.fo_syntax.specs.Fine.{FineNumber}
+use Rattle.token_reader.specs.Signs.{next, No}
 use Rattle.token_reader.specs.Parts.{EndsFactor}
 use Rattle.token_reader.specs.Machine as m
 use Rattle.token_reader.specs.Machine.{Chain, unsettled, fresh, chained, Mode, in_term, in_formula, Sort, formula, term}
@@ -78,22 +79,12 @@ named_done o k (f ∷ σ) [] z = refl
 named_done o k σ (tok_at (mark t.Open) p ∷ ts) z = elim z [ ]
 named_done o k σ (tok_at s p ∷ ts) z = refl
 
--- no closing bracket comes
-abbrev pub NoClose : List Tok → Type 0
-NoClose [] = Unit {0}
-NoClose (tok_at (mark t.Close) p ∷ ts) = ⊥
-NoClose _ = Unit {0}
-
-pub args_want : (o : Mode) (k : Sort) (σ : List Frame) (ts : List Tok) → NoClose ts → run (on (args_first o k ∷ σ)) ts
+pub args_want : (o : Mode) (k : Sort) (σ : List Frame) (ts : List Tok) → No t.Close (next ts)
+    → run (on (args_first o k ∷ σ)) ts
     ≡ run (on (want in_term ∷ args o k ∷ σ)) ts
 args_want o k σ [] z = refl
-args_want o k σ (tok_at (mark t.Close) p ∷ ts) z = elim z [ ]
+args_want o k σ (tok_at (mark t.Close) p ∷ ts) z = absurd (z refl)
 args_want o k σ (tok_at s p ∷ ts) z = refl
-
-pub unclosed : (ts : List Tok) → ((q : ℕ) (us : List Tok) → sign t.Close q ∷ us ≡ ts → ⊥) → NoClose ts
-unclosed [] h = tt
-unclosed (tok_at (mark t.Close) p ∷ ts) h = h p ts refl
-unclosed (tok_at s p ∷ ts) h = tt
 
 pub run_times : (o : Mode) (b : Bool) (σ : List Frame) (p : ℕ) (ts : List Tok) → run (on (done o (term_sort b) ∷ σ))
     (sign t.Times p ∷ ts) ≡ run (on (want o ∷ σ)) ts

@@ -5,27 +5,17 @@ use Rattle.fo_syntax.specs.declared.stops.ReadError.{ReadError}
 use Rattle.fo_syntax.specs.declared.stops.ReadError.TheVariants.{Memory, Stuck}
 use Rattle.fo_syntax.specs.declared.terminal.Terminal.TheVariants as t
 use Rattle.fo_syntax.specs.declared.terminal.Item.{Item}
-use Rattle.fo_syntax.specs.declared.raw.RawName.{RawName}
 use Rattle.fo_syntax.specs.declared.raw.RawVar.{RawVar}
 use Rattle.fo_syntax.specs.declared.raw.RawVars.{RawVars}
 use Rattle.fo_syntax.specs.declared.raw.RawNumber.{RawNumber}
 use Rattle.fo_syntax.specs.Terminals.{Tok, tok_at, mark, word, sign, toks, place_of}
 use Rattle.fo_syntax.specs.Trees.{Vars, Number}
-use Rattle.fo_syntax.specs.Spelling.{put_name, put_var, put_vars, put_number}
+use Rattle.fo_syntax.specs.Spelling.{put_var, put_vars, put_number}
 use Rattle.fo_syntax.specs.Fine.{FineNumber}
-use Rattle.fo_syntax.specs.View.{name_view, var_view, vars_view, number_view}
+use Rattle.fo_syntax.specs.View.{var_view, vars_view, number_view}
 use Rattle.token_reader.specs.Machine.{Frame, vars_first, vars_end, number_first, colon, on, run}
+use Rattle.token_reader.specs.Signs.{next, AWord}
 use Rattle.token_reader.specs.Parts.{Fails, at_vars, at_number, NoInteger}
-
--- no word comes
-abbrev pub NoWord : List Tok → Type 0
-NoWord (tok_at (word w) p ∷ ts) = ⊥
-NoWord _ = Unit {0}
-
-abbrev pub NameRead : List Tok → ℕ → Result (RawName × Bor (List Item)) ReadError → Type 0
-NameRead ts len (Ok p) = ts ≡ put_name (name_view p.0) (toks p.1.now)
-NameRead ts len (Err Memory) = Unit {0}
-NameRead ts len (Err (Stuck place)) = NoWord ts × (place ≡ place_of ts len)
 
 -- variables, and the colon after them
 pub data Binder : Type 0 where
@@ -66,14 +56,9 @@ abbrev pub put_comma : Option ℕ → List Tok → List Tok
 put_comma None ts = ts
 put_comma (Some p) ts = sign t.Comma p ∷ ts
 
--- a word comes
-abbrev pub IsWord : List Tok → Type 0
-IsWord (tok_at (word w) p ∷ ts) = Unit {0}
-IsWord _ = ⊥
-
 -- a further variable is ahead, after a comma or not
 abbrev pub VarAhead : List Tok → Option ℕ → List Tok → Type 0
-VarAhead ts None us = (ts ≡ us) × IsWord us
+VarAhead ts None us = (ts ≡ us) × AWord (next us)
 VarAhead ts (Some p) us = ts ≡ sign t.Comma p ∷ us
 
 -- neither a comma nor a word comes

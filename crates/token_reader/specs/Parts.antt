@@ -2,10 +2,7 @@
 use Rattle.std.specs.Prelude.{◌≡◌, ℕ, List, [], ◌∷◌, ◌++◌, None, Bool, false}
 use Rattle.fo_syntax.specs.declared.stops.ReadError.{ReadError}
 use Rattle.fo_syntax.specs.declared.stops.ReadError.TheVariants.{Memory, Stuck}
-use Rattle.fo_syntax.specs.declared.terminal.Terminal.{Terminal}
 use Rattle.fo_syntax.specs.declared.terminal.Terminal.TheVariants as t
-use Rattle.fo_syntax.specs.declared.terminal.Arrow.{Arrow}
-use Rattle.fo_syntax.specs.declared.terminal.Adding.TheVariants.{Minus}
 use Rattle.fo_syntax.specs.Terminals.{Tok, tok_at, mark, word, sign, place_of}
 use Rattle.token_reader.specs.Machine.{Frame, need, want, vars_first, number_first, colon, Chain, unsettled, fresh}
 use Rattle.token_reader.specs.Machine.{settled, Mode, in_formula, Sort, term, either, on, stuck, run, goes_on}
@@ -33,65 +30,25 @@ EndsPrim (tok_at (mark (t.Add s)) p ∷ ts) = ⊥
 EndsPrim (tok_at (mark (t.Compare c)) p ∷ ts) = ⊥
 EndsPrim _ = Unit {0}
 
--- no & comes
-abbrev pub NoAnd : List Tok → Type 0
-NoAnd (tok_at (mark t.And) p ∷ ts) = ⊥
-NoAnd _ = Unit {0}
-
--- no | comes
-abbrev pub NoOr : List Tok → Type 0
-NoOr (tok_at (mark t.Or) p ∷ ts) = ⊥
-NoOr _ = Unit {0}
-
 -- no arrow comes
 abbrev pub NoArrows : List Tok → Type 0
 NoArrows (tok_at (mark (t.Arrow a)) p ∷ ts) = ⊥
 NoArrows _ = Unit {0}
-
--- no * comes
-abbrev pub NoTimes : List Tok → Type 0
-NoTimes (tok_at (mark t.Times) p ∷ ts) = ⊥
-NoTimes _ = Unit {0}
 
 -- neither + nor - comes
 abbrev pub NoAdd : List Tok → Type 0
 NoAdd (tok_at (mark (t.Add s)) p ∷ ts) = ⊥
 NoAdd _ = Unit {0}
 
--- no - comes
-abbrev pub NoMinus : List Tok → Type 0
-NoMinus (tok_at (mark (t.Add Minus)) p ∷ ts) = ⊥
-NoMinus _ = Unit {0}
-
 -- no comparison comes
 abbrev pub NoCompare : List Tok → Type 0
 NoCompare (tok_at (mark (t.Compare c)) p ∷ ts) = ⊥
 NoCompare _ = Unit {0}
 
--- no closing bracket comes
-abbrev pub NoClose : List Tok → Type 0
-NoClose (tok_at (mark t.Close) p ∷ ts) = ⊥
-NoClose _ = Unit {0}
-
--- no comma comes
-abbrev pub NoComma : List Tok → Type 0
-NoComma (tok_at (mark t.Comma) p ∷ ts) = ⊥
-NoComma _ = Unit {0}
-
--- no type in square brackets comes
-abbrev pub NoSquare : List Tok → Type 0
-NoSquare (tok_at (mark t.OpenSquare) p ∷ ts) = ⊥
-NoSquare _ = Unit {0}
-
 -- no integer comes
 abbrev pub NoInteger : List Tok → Type 0
 NoInteger (tok_at (mark (t.Integer n)) p ∷ ts) = ⊥
 NoInteger _ = Unit {0}
-
--- this arrow does not come
-abbrev pub NoArrow : Arrow → List Tok → Type 0
-NoArrow a (tok_at (mark (t.Arrow b)) p ∷ ts) = a ≡ b → ⊥
-NoArrow a _ = Unit {0}
 
 -- an arrow, & or | comes
 abbrev pub Connects : List Tok → Type 0
@@ -106,11 +63,6 @@ NoConnective (tok_at (mark t.And) p ∷ ts) = ⊥
 NoConnective (tok_at (mark t.Or) p ∷ ts) = ⊥
 NoConnective (tok_at (mark (t.Arrow a)) p ∷ ts) = ⊥
 NoConnective _ = Unit {0}
-
--- no ~ comes
-abbrev pub NoNot : List Tok → Type 0
-NoNot (tok_at (mark t.Not) p ∷ ts) = ⊥
-NoNot _ = Unit {0}
 
 -- nothing comes with which more than a term may begin
 abbrev pub TermsOnly : List Tok → Type 0
@@ -218,11 +170,6 @@ abbrev pub Fails : {I A : Type 0} → (I → List Frame → List Frame) → (A �
 Fails stack put Fine ts len Memory = Unit {0}
 Fails stack put Fine ts len (Stuck place) = (rest : List Tok) × Broken stack put Fine ts rest
     × (place ≡ place_of rest len)
-
--- another token than this, or the end
-abbrev pub Lacks : Terminal → List Tok → ℕ → ReadError → Type 0
-Lacks s ts len Memory = ⊥
-Lacks s ts len (Stuck place) = ((p : ℕ) (us : List Tok) → ts ≡ tok_at (mark s) p ∷ us → ⊥) × (place ≡ place_of ts len)
 
 -- an opening bracket comes where none may
 abbrev pub Unsealed : List Tok → ReadError → Type 0

@@ -1,12 +1,15 @@
 //! Variables where they are bound, and the number of instances before them.
-ghost use Rattle.std.specs.Prelude.{◌≡◌, ◌∷◌, ◌≤◌, ◌<◌, length, map, IfOk, IfSome, IfNone};
+ghost use Rattle.std.specs.Prelude.{◌≡◌, ◌∷◌, ◌≤◌, ◌<◌, List, length, map, IfOk, IfSome, IfNone};
 ghost use Rattle.fo_syntax.specs.Trees as tree;
-ghost use Rattle.fo_syntax.specs.Terminals.{tok, toks};
+ghost use Rattle.fo_syntax.specs.Terminals.{Tok, tok, toks};
+ghost use Rattle.fo_syntax.specs.Trees.{Var};
 ghost use Rattle.fo_syntax.specs.View.{name_view, var_view, var_tail_view, vars_view, vars_of, number_view};
-ghost use Rattle.token_reader.specs.Binders.{NameRead, VarRead, BinderRead, NumberRead, IntegerRead, VarAhead, NoVar};
+ghost use Rattle.token_reader.specs.Binders.{VarRead, BinderRead, NumberRead, IntegerRead, VarAhead, NoVar};
+ghost use Rattle.token_reader.specs.Variables.{VarsAre, MoreVars};
+ghost use Rattle.token_reader.specs.Signs.{WordRead};
 
 use crate::build::named;
-use crate::cursor::{after_square, close_square, colon, split};
+use crate::cursor::{Found, sign, skip, split, start};
 use fo_syntax::{
     Comparison, Item, RawInteger, RawName, RawNumber, RawVar, RawVarTail, RawVarType, RawVars,
     ReadError, Terminal,
@@ -20,7 +23,7 @@ pub fn word<'a>(
     items: &'a [Item<'a>],
     end: usize,
 ) -> Result<(RawName, &'a [Item<'a>]), ReadError>
-    ensures reads { NameRead (toks items.now) end result }
+    ensures reads { WordRead (toks items.now) end result }
     ensures shorter { IfOk result (λ p. length p.1.now < length items.now) }
 {
     let Some((item, rest)) = split(items) else {
@@ -60,11 +63,11 @@ fn var<'a>(
     ensures shorter { IfOk result (λ p. length p.1.now < length items.now) }
 {
     let (name, rest) = word(alloc, items, end)?;
-    let Some((start, after)) = after_square(rest) else {
+    let Some((start, after)) = skip(Terminal::OpenSquare, rest) else {
         return Ok((untyped(name), rest));
     };
     let (of, after) = word(alloc, after, end)?;
-    let (close, last) = close_square(after, end)?;
+    let (close, last) = sign(Terminal::CloseSquare, after, end)?;
     Ok((typed(name, start, of, close), last))
 }
 
@@ -98,6 +101,26 @@ fn ahead<'a>(items: &'a [Item<'a>]) -> Option<(Option<usize>, &'a [Item<'a>])>
     }
 }
 
+// The further variables, and the place of the colon after them. The list is lent, so that no way out gives it up.
+fn more_vars<'a>(
+    alloc: Global,
+    more: &mut Items<RawVarTail>,
+    items: &'a [Item<'a>],
+    end: usize,
+) -> Found<'a, usize>
+    ensures reads { (ts : List Tok) (v : Var) → VarsAre ts v (map var_tail_view more.old) (toks items.now)
+        → MoreVars ts v (map var_tail_view more.new) end result }
+    ensures shorter { IfOk result (λ p. length p.1.now < length items.now) }
+{
+    let (_count, mut rest) = start(items);
+    while let Some((comma, after)) = ahead(rest) {
+        let (further, after) = var(alloc, after, end)?;
+        more.push(tail(comma, further))?;
+        rest = after;
+    }
+    sign(Terminal::Colon, rest, end)
+}
+
 /// One or more variables and the colon after them: its place.
 pub fn binder<'a>(
     alloc: Global,
@@ -107,14 +130,9 @@ pub fn binder<'a>(
     ensures reads { BinderRead (toks items.now) end result }
     ensures shorter { IfOk result (λ p. length p.2.now < length items.now) }
 {
-    let (first, mut rest) = var(alloc, items, end)?;
+    let (first, rest) = var(alloc, items, end)?;
     let mut more = Items::new(alloc);
-    while let Some((comma, after)) = ahead(rest) {
-        let (further, after) = var(alloc, after, end)?;
-        more.push(tail(comma, further))?;
-        rest = after;
-    }
-    let (place, last) = colon(rest, end)?;
+    let (place, last) = more_vars(alloc, &mut more, rest, end)?;
     let vars = listed(alloc, first, more)?;
     Ok((vars, place, last))
 }

@@ -1,10 +1,9 @@
 //! The next token, and what follows it.
-ghost use Rattle.std.specs.Prelude.{◌≡◌, ◌∷◌, [], ◌≤◌, ◌<◌, length, IfOk, IfErr, IfSome, IfNone, true, false};
-ghost use Rattle.fo_syntax.specs.Terminals.{tok, toks, sign, place_of};
-ghost use Rattle.token_reader.specs.Parts.{Connects, NoConnective, NoNot, EndsPrim, Lacks, NoAnd, NoOr, NoArrows};
-ghost use Rattle.token_reader.specs.Parts.{NoArrow, NoTimes, NoAdd, NoCompare, NoComma, NoSquare, NoClose, NoMinus};
-ghost use Rattle.token_reader.specs.Parts.{EndsFactor};
-ghost use Rattle.fo_syntax.specs.declared.terminal.Adding.TheVariants.{Minus};
+ghost use Rattle.std.specs.Prelude.{◌≡◌, ◌∷◌, [], ◌<◌, length, IfOk, IfErr, IfSome, IfNone, true, false};
+ghost use Rattle.fo_syntax.specs.Terminals.{tok, toks, place_of};
+ghost use Rattle.fo_syntax.specs.Terminals as terminals;
+ghost use Rattle.token_reader.specs.Signs.{next, No, IsSign, SignRead};
+ghost use Rattle.token_reader.specs.Parts.{Connects, NoConnective, EndsPrim, NoArrows, NoAdd, NoCompare, EndsFactor};
 ghost use Rattle.token_reader.specs.Parts.{Unsealed};
 ghost use Rattle.fo_syntax.specs.declared.terminal.Terminal.TheVariants as t;
 
@@ -25,174 +24,91 @@ pub fn split<'a>(items: &'a [Item<'a>]) -> Option<(Item<'a>, &'a [Item<'a>])>
     }
 }
 
-/// A closing bracket, which has to come: its place.
-pub fn close<'a>(items: &'a [Item<'a>], end: usize) -> Result<(usize, &'a [Item<'a>]), ReadError>
-    ensures ok { IfOk result (λ p. toks items.now ≡ sign t.Close p.0 ∷ toks p.1.now) }
-    ensures shorter { IfOk result (λ p. length p.1.now < length items.now) }
-    ensures err { IfErr result (Lacks t.Close (toks items.now) end) }
+// Whether this terminal is that sign.
+fn is(terminal: Terminal, sign: Terminal) -> bool
+    requires { IsSign sign }
+    ensures yes { result ≡ true → terminal ≡ sign }
+    ensures no { result ≡ false → terminal ≡ sign → ⊥ }
 {
-    let Some((item, rest)) = split(items) else {
-        return Err(ReadError::Stuck(end));
-    };
-    match item.terminal {
-        Terminal::Close => Ok((item.place, rest)),
-        _ => Err(ReadError::Stuck(item.place)),
+    match sign {
+        Terminal::And => matches!(terminal, Terminal::And),
+        Terminal::Or => matches!(terminal, Terminal::Or),
+        Terminal::Not => matches!(terminal, Terminal::Not),
+        Terminal::Times => matches!(terminal, Terminal::Times),
+        Terminal::Every => matches!(terminal, Terminal::Every),
+        Terminal::Some => matches!(terminal, Terminal::Some),
+        Terminal::Open => matches!(terminal, Terminal::Open),
+        Terminal::Close => matches!(terminal, Terminal::Close),
+        Terminal::OpenSquare => matches!(terminal, Terminal::OpenSquare),
+        Terminal::CloseSquare => matches!(terminal, Terminal::CloseSquare),
+        Terminal::OpenBrace => matches!(terminal, Terminal::OpenBrace),
+        Terminal::CloseBrace => matches!(terminal, Terminal::CloseBrace),
+        Terminal::Comma => matches!(terminal, Terminal::Comma),
+        Terminal::Colon => matches!(terminal, Terminal::Colon),
+        Terminal::Count => matches!(terminal, Terminal::Count),
+        Terminal::Compare(sought) => match terminal {
+            Terminal::Compare(found) => found == sought,
+            _ => false,
+        },
+        Terminal::Arrow(sought) => match terminal {
+            Terminal::Arrow(found) => found == sought,
+            _ => false,
+        },
+        Terminal::Add(sought) => match terminal {
+            Terminal::Add(found) => found == sought,
+            _ => false,
+        },
+        Terminal::Outer(sought) => match terminal {
+            Terminal::Outer(found) => found == sought,
+            _ => false,
+        },
+        _ => false,
     }
 }
 
-/// A colon, which has to come: its place.
-pub fn colon<'a>(items: &'a [Item<'a>], end: usize) -> Result<(usize, &'a [Item<'a>]), ReadError>
-    ensures ok { IfOk result (λ p. toks items.now ≡ sign t.Colon p.0 ∷ toks p.1.now) }
-    ensures shorter { IfOk result (λ p. length p.1.now < length items.now) }
-    ensures err { IfErr result (Lacks t.Colon (toks items.now) end) }
+/// The tokens after this sign, if it is next, and its place.
+pub fn skip<'a>(sign: Terminal, items: &'a [Item<'a>]) -> Option<(usize, &'a [Item<'a>])>
+    requires { IsSign sign }
+    ensures some { IfSome result (λ p. toks items.now ≡ terminals.sign sign p.0 ∷ toks p.1.now) }
+    ensures shorter { IfSome result (λ p. length p.1.now < length items.now) }
+    ensures none { IfNone result (No sign (next (toks items.now))) }
 {
-    let Some((item, rest)) = split(items) else {
-        return Err(ReadError::Stuck(end));
-    };
-    match item.terminal {
-        Terminal::Colon => Ok((item.place, rest)),
-        _ => Err(ReadError::Stuck(item.place)),
+    let (item, rest) = split(items)?;
+    if is(item.terminal, sign) {
+        Some((item.place, rest))
+    } else {
+        None
     }
 }
 
-/// An opening brace, which has to come: its place.
-pub fn open_brace<'a>(
+/// This sign, which has to come: its place.
+pub fn sign<'a>(sign: Terminal, items: &'a [Item<'a>], end: usize) -> Found<'a, usize>
+    requires { IsSign sign }
+    ensures reads { SignRead sign (toks items.now) end result }
+    ensures shorter { IfOk result (λ p. length p.1.now < length items.now) }
+{
+    match skip(sign, items) {
+        Some((place, rest)) => Ok((place, rest)),
+        None => Err(ReadError::Stuck(place_at(items, end))),
+    }
+}
+
+/// The tokens after this connective, if it is next, and its place. After an open end no connective is looked for.
+pub fn skip_connective<'a>(
+    sign: Terminal,
+    closed: bool,
     items: &'a [Item<'a>],
-    end: usize,
-) -> Result<(usize, &'a [Item<'a>]), ReadError>
-    ensures ok { IfOk result (λ p. toks items.now ≡ sign t.OpenBrace p.0 ∷ toks p.1.now) }
-    ensures shorter { IfOk result (λ p. length p.1.now < length items.now) }
-    ensures err { IfErr result (Lacks t.OpenBrace (toks items.now) end) }
-{
-    let Some((item, rest)) = split(items) else {
-        return Err(ReadError::Stuck(end));
-    };
-    match item.terminal {
-        Terminal::OpenBrace => Ok((item.place, rest)),
-        _ => Err(ReadError::Stuck(item.place)),
-    }
-}
-
-/// A closing brace, which has to come: its place.
-pub fn close_brace<'a>(
-    items: &'a [Item<'a>],
-    end: usize,
-) -> Result<(usize, &'a [Item<'a>]), ReadError>
-    ensures ok { IfOk result (λ p. toks items.now ≡ sign t.CloseBrace p.0 ∷ toks p.1.now) }
-    ensures shorter { IfOk result (λ p. length p.1.now < length items.now) }
-    ensures err { IfErr result (Lacks t.CloseBrace (toks items.now) end) }
-{
-    let Some((item, rest)) = split(items) else {
-        return Err(ReadError::Stuck(end));
-    };
-    match item.terminal {
-        Terminal::CloseBrace => Ok((item.place, rest)),
-        _ => Err(ReadError::Stuck(item.place)),
-    }
-}
-
-/// A closing square bracket, which has to come: its place.
-pub fn close_square<'a>(
-    items: &'a [Item<'a>],
-    end: usize,
-) -> Result<(usize, &'a [Item<'a>]), ReadError>
-    ensures ok { IfOk result (λ p. toks items.now ≡ sign t.CloseSquare p.0 ∷ toks p.1.now) }
-    ensures shorter { IfOk result (λ p. length p.1.now < length items.now) }
-    ensures err { IfErr result (Lacks t.CloseSquare (toks items.now) end) }
-{
-    let Some((item, rest)) = split(items) else {
-        return Err(ReadError::Stuck(end));
-    };
-    match item.terminal {
-        Terminal::CloseSquare => Ok((item.place, rest)),
-        _ => Err(ReadError::Stuck(item.place)),
-    }
-}
-
-/// The tokens after `&`, if it is next, and its place. After an open end no connective is looked for.
-pub fn after_and<'a>(closed: bool, items: &'a [Item<'a>]) -> Option<(usize, &'a [Item<'a>])>
-    ensures some { IfSome result (λ p. toks items.now ≡ sign t.And p.0 ∷ toks p.1.now) }
+) -> Option<(usize, &'a [Item<'a>])>
+    requires { IsSign sign }
+    ensures some { IfSome result (λ p. toks items.now ≡ terminals.sign sign p.0 ∷ toks p.1.now) }
     ensures closed { IfSome result (λ p. closed ≡ true) }
     ensures shorter { IfSome result (λ p. length p.1.now < length items.now) }
-    ensures none { IfNone result (closed ≡ true → NoAnd (toks items.now)) }
+    ensures none { IfNone result (closed ≡ true → No sign (next (toks items.now))) }
 {
     if !closed {
         return None;
     }
-    let (item, rest) = split(items)?;
-    match item.terminal {
-        Terminal::And => Some((item.place, rest)),
-        _ => None,
-    }
-}
-
-/// The tokens after `|`, if it is next, and its place. After an open end no connective is looked for.
-pub fn after_or<'a>(closed: bool, items: &'a [Item<'a>]) -> Option<(usize, &'a [Item<'a>])>
-    ensures some { IfSome result (λ p. toks items.now ≡ sign t.Or p.0 ∷ toks p.1.now) }
-    ensures closed { IfSome result (λ p. closed ≡ true) }
-    ensures shorter { IfSome result (λ p. length p.1.now < length items.now) }
-    ensures none { IfNone result (closed ≡ true → NoOr (toks items.now)) }
-{
-    if !closed {
-        return None;
-    }
-    let (item, rest) = split(items)?;
-    match item.terminal {
-        Terminal::Or => Some((item.place, rest)),
-        _ => None,
-    }
-}
-
-/// The tokens after `*`, if it is next, and its place.
-pub fn after_times<'a>(items: &'a [Item<'a>]) -> Option<(usize, &'a [Item<'a>])>
-    ensures some { IfSome result (λ p. toks items.now ≡ sign t.Times p.0 ∷ toks p.1.now) }
-    ensures shorter { IfSome result (λ p. length p.1.now < length items.now) }
-    ensures none { IfNone result (NoTimes (toks items.now)) }
-{
-    let (item, rest) = split(items)?;
-    match item.terminal {
-        Terminal::Times => Some((item.place, rest)),
-        _ => None,
-    }
-}
-
-/// The tokens after a comma, if it is next, and its place.
-pub fn after_comma<'a>(items: &'a [Item<'a>]) -> Option<(usize, &'a [Item<'a>])>
-    ensures some { IfSome result (λ p. toks items.now ≡ sign t.Comma p.0 ∷ toks p.1.now) }
-    ensures shorter { IfSome result (λ p. length p.1.now < length items.now) }
-    ensures none { IfNone result (NoComma (toks items.now)) }
-{
-    let (item, rest) = split(items)?;
-    match item.terminal {
-        Terminal::Comma => Some((item.place, rest)),
-        _ => None,
-    }
-}
-
-/// The tokens after an opening bracket, if it is next, and its place.
-pub fn after_open<'a>(items: &'a [Item<'a>]) -> Option<(usize, &'a [Item<'a>])>
-    ensures some { IfSome result (λ p. toks items.now ≡ sign t.Open p.0 ∷ toks p.1.now) }
-    ensures shorter { IfSome result (λ p. length p.1.now < length items.now) }
-    ensures none { IfNone result (EndsFactor (toks items.now)) }
-{
-    let (item, rest) = split(items)?;
-    match item.terminal {
-        Terminal::Open => Some((item.place, rest)),
-        _ => None,
-    }
-}
-
-/// The tokens after an opening square bracket, if it is next, and its place.
-pub fn after_square<'a>(items: &'a [Item<'a>]) -> Option<(usize, &'a [Item<'a>])>
-    ensures some { IfSome result (λ p. toks items.now ≡ sign t.OpenSquare p.0 ∷ toks p.1.now) }
-    ensures shorter { IfSome result (λ p. length p.1.now < length items.now) }
-    ensures none { IfNone result (NoSquare (toks items.now)) }
-{
-    let (item, rest) = split(items)?;
-    match item.terminal {
-        Terminal::OpenSquare => Some((item.place, rest)),
-        _ => None,
-    }
+    skip(sign, items)
 }
 
 /// The tokens after an arrow, if it is next.
@@ -200,7 +116,7 @@ pub fn after_arrow<'a>(
     closed: bool,
     items: &'a [Item<'a>],
 ) -> Option<(Arrow, usize, &'a [Item<'a>])>
-    ensures some { IfSome result (λ p. toks items.now ≡ sign (t.Arrow p.0) p.1 ∷ toks p.2.now) }
+    ensures some { IfSome result (λ p. toks items.now ≡ terminals.sign (t.Arrow p.0) p.1 ∷ toks p.2.now) }
     ensures closed { IfSome result (λ p. closed ≡ true) }
     ensures shorter { IfSome result (λ p. length p.2.now < length items.now) }
     ensures none { IfNone result (closed ≡ true → NoArrows (toks items.now)) }
@@ -215,28 +131,9 @@ pub fn after_arrow<'a>(
     }
 }
 
-/// The tokens after this arrow, if it is next.
-pub fn after_same<'a>(
-    arrow: Arrow,
-    closed: bool,
-    items: &'a [Item<'a>],
-) -> Option<(usize, &'a [Item<'a>])>
-    ensures some { IfSome result (λ p. toks items.now ≡ sign (t.Arrow arrow) p.0 ∷ toks p.1.now) }
-    ensures closed { IfSome result (λ p. closed ≡ true) }
-    ensures shorter { IfSome result (λ p. length p.1.now < length items.now) }
-    ensures none { IfNone result (closed ≡ true → NoArrow arrow (toks items.now)) }
-{
-    let (found, place, rest) = after_arrow(closed, items)?;
-    if found == arrow {
-        Some((place, rest))
-    } else {
-        None
-    }
-}
-
 /// The tokens after `+` or `-`, if it is next.
 pub fn after_add<'a>(items: &'a [Item<'a>]) -> Option<(Adding, usize, &'a [Item<'a>])>
-    ensures some { IfSome result (λ p. toks items.now ≡ sign (t.Add p.0) p.1 ∷ toks p.2.now) }
+    ensures some { IfSome result (λ p. toks items.now ≡ terminals.sign (t.Add p.0) p.1 ∷ toks p.2.now) }
     ensures shorter { IfSome result (λ p. length p.2.now < length items.now) }
     ensures none { IfNone result (NoAdd (toks items.now)) }
 {
@@ -249,7 +146,7 @@ pub fn after_add<'a>(items: &'a [Item<'a>]) -> Option<(Adding, usize, &'a [Item<
 
 /// The tokens after a comparison, if it is next.
 pub fn after_compare<'a>(items: &'a [Item<'a>]) -> Option<(Comparison, usize, &'a [Item<'a>])>
-    ensures some { IfSome result (λ p. toks items.now ≡ sign (t.Compare p.0) p.1 ∷ toks p.2.now) }
+    ensures some { IfSome result (λ p. toks items.now ≡ terminals.sign (t.Compare p.0) p.1 ∷ toks p.2.now) }
     ensures shorter { IfSome result (λ p. length p.2.now < length items.now) }
     ensures none { IfNone result (NoCompare (toks items.now)) }
 {
@@ -260,25 +157,13 @@ pub fn after_compare<'a>(items: &'a [Item<'a>]) -> Option<(Comparison, usize, &'
     }
 }
 
-/// The tokens after a closing bracket, if it is next, and its place.
-pub fn after_close<'a>(items: &'a [Item<'a>]) -> Option<(usize, &'a [Item<'a>])>
-    ensures some { IfSome result (λ p. toks items.now ≡ sign t.Close p.0 ∷ toks p.1.now) }
-    ensures shorter { IfSome result (λ p. length p.1.now < length items.now) }
-    ensures none { IfNone result (NoClose (toks items.now)) }
-{
-    let (item, rest) = split(items)?;
-    match item.terminal {
-        Terminal::Close => Some((item.place, rest)),
-        _ => None,
-    }
-}
-
 /// After an operand no arguments may follow but those that it has.
+#[tactic(auto, using(crate::proofs::Signs::no_open))]
 pub fn sealed(items: &[Item<'_>]) -> Result<(), ReadError>
     ensures ok { IfOk result (λ u. EndsFactor (toks items.now)) }
     ensures err { IfErr result (λ e. Unsealed (toks items.now) e) }
 {
-    match after_open(items) {
+    match skip(Terminal::Open, items) {
         Some((place, _rest)) => Err(ReadError::Stuck(place)),
         None => Ok(()),
     }
@@ -294,38 +179,12 @@ pub fn place_at(items: &[Item<'_>], end: usize) -> usize
     }
 }
 
-/// The tokens after `-`, if it is next.
-pub fn after_minus<'a>(items: &'a [Item<'a>]) -> Option<(usize, &'a [Item<'a>])>
-    ensures some { IfSome result (λ p. toks items.now ≡ sign (t.Add Minus) p.0 ∷ toks p.1.now) }
-    ensures shorter { IfSome result (λ p. length p.1.now < length items.now) }
-    ensures none { IfNone result (NoMinus (toks items.now)) }
-{
-    let (sign, place, rest) = after_add(items)?;
-    match sign {
-        Adding::Minus => Some((place, rest)),
-        Adding::Plus => None,
-    }
-}
-
 /// The tokens themselves, where a loop over them begins, and how many they are.
 pub fn start<'a>(items: &'a [Item<'a>]) -> (usize, &'a [Item<'a>])
     ensures count { result.0 ≡ length items.now }
     ensures same { result.1.now ≡ items.now }
 {
     (items.len(), items)
-}
-
-/// The tokens after `~`, if it is next, and its place.
-pub fn after_not<'a>(items: &'a [Item<'a>]) -> Option<(usize, &'a [Item<'a>])>
-    ensures some { IfSome result (λ p. toks items.now ≡ sign t.Not p.0 ∷ toks p.1.now) }
-    ensures shorter { IfSome result (λ p. length p.1.now < length items.now) }
-    ensures none { IfNone result (NoNot (toks items.now)) }
-{
-    let (item, rest) = split(items)?;
-    match item.terminal {
-        Terminal::Not => Some((item.place, rest)),
-        _ => None,
-    }
 }
 
 /// Whether a connective comes.

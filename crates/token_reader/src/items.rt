@@ -8,37 +8,37 @@ ghost use Rattle.fo_syntax.specs.Items.{ItemsOf, longer_terminal, sign_terminal,
 ghost use Rattle.fo_syntax.specs.Items.{word_terminal};
 
 use fo_syntax::{Adding, Aggregation, Arrow, Comparison, Item, KbError, Outer, Terminal};
-use kb_text::{Kind, LexError, Token};
+use kb_text::{Kind, LexError, Token, same_text};
 use std::alloc::{AllocError, Global};
 
 fn word_terminal(text: &[u8]) -> Terminal
     ensures { result ≡ word_terminal text.now }
 {
-    if text == b"vocabulary".as_slice() {
+    if same_text(text, b"vocabulary") {
         Terminal::Outer(Outer::Vocabulary)
-    } else if text == b"theory".as_slice() {
+    } else if same_text(text, b"theory") {
         Terminal::Outer(Outer::Theory)
-    } else if text == b"structure".as_slice() {
+    } else if same_text(text, b"structure") {
         Terminal::Outer(Outer::Structure)
-    } else if text == b"term".as_slice() {
+    } else if same_text(text, b"term") {
         Terminal::Outer(Outer::Term)
-    } else if text == b"procedure".as_slice() {
+    } else if same_text(text, b"procedure") {
         Terminal::Outer(Outer::Procedure)
-    } else if text == b"type".as_slice() {
+    } else if same_text(text, b"type") {
         Terminal::Outer(Outer::Type)
-    } else if text == b"isa".as_slice() {
+    } else if same_text(text, b"isa") {
         Terminal::Outer(Outer::Isa)
-    } else if text == b"constructed".as_slice() {
+    } else if same_text(text, b"constructed") {
         Terminal::Outer(Outer::Constructed)
-    } else if text == b"true".as_slice() {
+    } else if same_text(text, b"true") {
         Terminal::Truth(true)
-    } else if text == b"false".as_slice() {
+    } else if same_text(text, b"false") {
         Terminal::Truth(false)
-    } else if text == b"sum".as_slice() {
+    } else if same_text(text, b"sum") {
         Terminal::Aggregate(Aggregation::Sum)
-    } else if text == b"min".as_slice() {
+    } else if same_text(text, b"min") {
         Terminal::Aggregate(Aggregation::Min)
-    } else if text == b"max".as_slice() {
+    } else if same_text(text, b"max") {
         Terminal::Aggregate(Aggregation::Max)
     } else {
         Terminal::Word
@@ -78,21 +78,21 @@ fn single_terminal(b: u8) -> Terminal
 fn longer_terminal(text: &[u8]) -> Terminal
     ensures { result ≡ longer_terminal text.now }
 {
-    if text == b"=>".as_slice() {
+    if same_text(text, b"=>") {
         Terminal::Arrow(Arrow::Implies)
-    } else if text == b"<=".as_slice() {
+    } else if same_text(text, b"<=") {
         Terminal::Arrow(Arrow::ImpliedBy)
-    } else if text == b"=<".as_slice() {
+    } else if same_text(text, b"=<") {
         Terminal::Compare(Comparison::AtMost)
-    } else if text == b">=".as_slice() {
+    } else if same_text(text, b">=") {
         Terminal::Compare(Comparison::AtLeast)
-    } else if text == b"~=".as_slice() {
+    } else if same_text(text, b"~=") {
         Terminal::Compare(Comparison::NotEqual)
-    } else if text == b"<-".as_slice() {
+    } else if same_text(text, b"<-") {
         Terminal::Outer(Outer::If)
-    } else if text == b"->".as_slice() {
+    } else if same_text(text, b"->") {
         Terminal::Outer(Outer::To)
-    } else if text == b"..".as_slice() {
+    } else if same_text(text, b"..") {
         Terminal::Outer(Outer::Range)
     } else {
         Terminal::Arrow(Arrow::Equivalent)
@@ -148,7 +148,7 @@ fn items_of<'a>(alloc: Global, tokens: &[Token<'a>]) -> Result<Vec<Item<'a>>, Al
     requires { All IsSpelled (lexemes tokens.now) }
     ensures { IfOk result (λ v. toks v.items ≡ map tok_of (lexemes tokens.now)) }
 {
-    let mut found = Vec::new(alloc);
+    let mut found = Vec::with_capacity(alloc, tokens.len())?;
     for token in tokens {
         found.push(item(*token))?;
     }

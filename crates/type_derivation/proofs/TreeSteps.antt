@@ -2,11 +2,12 @@
 use Rattle.std.proofs.Common.{◌≡◌, ◌≤◌, ◌<◌, ℕ, ◌+◌, Bool, List, [], ◌∷◌, ◌++◌, length, refl, ap, ◌∙◌, sym, add-one}
 use Rattle.std.proofs.Common.{get_or, drop, drop-cons, arith, map, subst, append_assoc}
 use Rattle.std.proofs.lemmas.Grind.{common_steps}
+use Rattle.std.proofs.lemmas.List.{append-nil}
 use Rattle.kb_logic.specs.Trees as tree
 use Rattle.reading_stages.specs.NamedTrees.{NamedTerm, terms_of, summands_of, NamedFormula, formulas_of}
 use Rattle.reading_stages.specs.TermPlaces.{each_begins, formulas_begin, summands_begin, term_begins, terms_begin}
 use Rattle.type_derivation.specs.ListedTrees as listed
-use Rattle.type_derivation.specs.TreeLists.{then_formulas, then_terms, then_summands}
+use Rattle.type_derivation.specs.TreeLists.{then_formulas, then_terms, then_summands, IsBuilt}
 
 -- ---- the rest of a list
 
@@ -62,6 +63,18 @@ formulas_done ts rest done total none e =
     sym (formulas-none done) ∙ subst (λ (gs : List NamedFormula). then_formulas done
     (listed.listed_formulas ts (formulas_of gs)) ≡ total) none e
 
+pub formulas_built : (ts places : List ℕ) (rest : List NamedFormula) (done : List tree.FormulaTree)
+    (total : tree.FormulaTrees)
+    (left begun : List ℕ) → rest ≡ [] → then_formulas done (listed.listed_formulas ts (formulas_of rest)) ≡ total
+    → listed.left_formulas ts (formulas_of rest) ≡ left → places ++ formulas_begin (formulas_of rest) ≡ begun
+    → IsBuilt (tree.formulas_of done) ts places total left begun
+formulas_built ts places rest done total left begun none e l b = record {
+  tree = formulas_done ts rest done total none e;
+  types = subst (λ (xs : List NamedFormula). listed.left_formulas ts (formulas_of xs) ≡ left) none l;
+  places = sym (append-nil places) ∙ subst (λ (xs : List NamedFormula). places ++ formulas_begin (formulas_of xs)
+      ≡ begun) none b;
+}
+
 -- ---- terms
 
 terms-push : (us : List tree.TermTree) (u : tree.TermTree) (rest : tree.TermTrees) → then_terms (us ++ u ∷ []) rest
@@ -101,6 +114,17 @@ pub terms_done : (ts : List ℕ) (rest : List NamedTerm) (done : List tree.TermT
 terms_done ts rest done total none e =
     sym (terms-none done) ∙ subst (λ (vs : List NamedTerm). then_terms done (listed.listed_terms ts (terms_of vs))
     ≡ total) none e
+
+pub terms_built : (ts places : List ℕ) (rest : List NamedTerm) (done : List tree.TermTree) (total : tree.TermTrees)
+    (left begun : List ℕ) → rest ≡ [] → then_terms done (listed.listed_terms ts (terms_of rest)) ≡ total
+    → listed.left_terms ts (terms_of rest) ≡ left → places ++ each_begins (terms_of rest) ≡ begun
+    → IsBuilt (tree.terms_of done) ts places total left begun
+terms_built ts places rest done total left begun none e l b = record {
+  tree = terms_done ts rest done total none e;
+  types = subst (λ (xs : List NamedTerm). listed.left_terms ts (terms_of xs) ≡ left) none l;
+  places = sym (append-nil places) ∙ subst (λ (xs : List NamedTerm). places ++ each_begins (terms_of xs)
+      ≡ begun) none b;
+}
 
 -- ---- operands of sums
 
@@ -147,3 +171,15 @@ pub summands_done : (ts : List ℕ) (rest : List (Bool × NamedTerm)) (done : Li
 summands_done ts rest done total none e =
     sym (summands-none done) ∙ subst (λ (rs : List (Bool × NamedTerm)). then_summands done
     (listed.listed_summands ts (summands_of rs)) ≡ total) none e
+
+pub summands_built : (ts places : List ℕ) (rest : List (Bool × NamedTerm)) (done : List (Bool × tree.TermTree))
+    (total : tree.SummandTrees)
+    (left begun : List ℕ) → rest ≡ [] → then_summands done (listed.listed_summands ts (summands_of rest)) ≡ total
+    → listed.left_summands ts (summands_of rest) ≡ left → places ++ summands_begin (summands_of rest) ≡ begun
+    → IsBuilt (tree.summands_of done) ts places total left begun
+summands_built ts places rest done total left begun none e l b = record {
+  tree = summands_done ts rest done total none e;
+  types = subst (λ (xs : List (Bool × NamedTerm)). listed.left_summands ts (summands_of xs) ≡ left) none l;
+  places = sym (append-nil places) ∙ subst (λ (xs : List (Bool × NamedTerm)). places ++ summands_begin (summands_of xs)
+      ≡ begun) none b;
+}

@@ -1,6 +1,5 @@
 -- The types of all variables in the order in which they are bound in the text, and trees whose variables take theirs
--- from
--- the start of such a list. Derivation works by these trees; they are the typed ones.
+-- from the start of such a list. Derivation works by these trees; they are the typed ones.
 use Rattle.std.specs.Prelude.{ℕ, ◌≡◌, pos, List, [], ◌∷◌, ◌++◌, map}
 use Rattle.kb_logic.specs.declared.vocabularies.Vocabulary.{Vocabulary}
 use Rattle.kb_logic.specs.declared.vocabularies.Bound.{Bound}

@@ -65,19 +65,16 @@ pub fn formula(
             term(alloc, symbols, right, out)
         }
         NamedFormula::Not(inner) => formula(alloc, symbols, inner, out),
-        NamedFormula::And(operands) => formulas(alloc, symbols, operands, out),
-        NamedFormula::Or(operands) => formulas(alloc, symbols, operands, out),
-        NamedFormula::Implies(left, right) => {
+        NamedFormula::And(operands) | NamedFormula::Or(operands) => {
+            formulas(alloc, symbols, operands, out)
+        }
+        NamedFormula::Implies(left, right) | NamedFormula::Iff(left, right) => {
             formula(alloc, symbols, left, out)?;
             formula(alloc, symbols, right, out)
         }
-        NamedFormula::Iff(left, right) => {
-            formula(alloc, symbols, left, out)?;
-            formula(alloc, symbols, right, out)
-        }
-        NamedFormula::All(vars, inner) => scope(alloc, symbols, vars.as_slice(), inner, out),
-        NamedFormula::Any(vars, inner) => scope(alloc, symbols, vars.as_slice(), inner, out),
-        NamedFormula::Number(_, _, vars, inner) => {
+        NamedFormula::All(vars, inner)
+        | NamedFormula::Any(vars, inner)
+        | NamedFormula::Number(_, _, vars, inner) => {
             scope(alloc, symbols, vars.as_slice(), inner, out)
         }
     }

@@ -8,10 +8,12 @@ ghost use Rattle.reading_stages.specs.TermPlaces.{terms_begin};
 ghost use Rattle.reading_stages.specs.TypedTrees as typed;
 ghost use Rattle.reading_stages.specs.NamedViews.{formula_view, signed_view, term_view, var_view};
 ghost use Rattle.type_derivation.specs.ListedTrees as listed;
+ghost use Rattle.type_derivation.specs.TreeLists.{IsBuilt};
 
 use crate::remaining::Remaining;
 use kb_logic::{Bound, Formula, Memory, Signed, Term};
 use reading_stages::{NamedFormula, NamedNode, NamedSigned, NamedTerm, NamedVar};
+use sqlite_items::Items;
 use std::alloc::Global;
 
 /// An integer of the language, which has 64 bits with its sign.
@@ -60,9 +62,9 @@ pub fn formula(
     named: &NamedFormula,
     places: &mut Vec<usize>,
 ) -> Result<Formula, Memory>
-    ensures tree { IfOk result (λ f. view.formula_view f ≡ listed.listed_formula types.old (formula_view named.now)) }
-    ensures types { OnOk result (types.new ≡ listed.left_formula types.old (formula_view named.now)) }
-    ensures places { OnOk result (places.new.items ≡ places.old.items ++ terms_begin (formula_view named.now)) }
+    ensures { IfOk result (λ f. IsBuilt (view.formula_view f) types.new places.new.items
+        (listed.listed_formula types.old (formula_view named.now)) (listed.left_formula types.old
+        (formula_view named.now)) (places.old.items ++ terms_begin (formula_view named.now))) }
 {
     match named {
         NamedFormula::Truth(value) => Ok(truth(*value)),
@@ -74,56 +76,65 @@ pub fn formula(
             let right = term(alloc, types, right, places)?;
             Ok(Formula::Compare(*cmp, left, right))
         }
-        NamedFormula::Not(inner) => {
-            let inner = formula(alloc, types, inner, places)?;
-            Ok(Formula::Not(Box::new(alloc, inner)?))
-        }
+        NamedFormula::Not(inner) => Ok(Formula::Not(boxed(alloc, types, inner, places)?)),
         NamedFormula::And(operands) => Ok(Formula::And(formulas(alloc, types, operands, places)?)),
         NamedFormula::Or(operands) => Ok(Formula::Or(formulas(alloc, types, operands, places)?)),
         NamedFormula::Implies(left, right) => {
-            let left = formula(alloc, types, left, places)?;
-            let right = formula(alloc, types, right, places)?;
-            Ok(Formula::Implies(Box::new(alloc, left)?, Box::new(alloc, right)?))
+            let left = boxed(alloc, types, left, places)?;
+            Ok(Formula::Implies(left, boxed(alloc, types, right, places)?))
         }
         NamedFormula::Iff(left, right) => {
-            let left = formula(alloc, types, left, places)?;
-            let right = formula(alloc, types, right, places)?;
-            Ok(Formula::Iff(Box::new(alloc, left)?, Box::new(alloc, right)?))
+            let left = boxed(alloc, types, left, places)?;
+            Ok(Formula::Iff(left, boxed(alloc, types, right, places)?))
         }
         NamedFormula::All(vars, inner) => {
-            let (bounds, inner) = quantified(alloc, types, vars.as_slice(), inner, places)?;
+            let (bounds, inner) = quantified(alloc, types, vars, inner, places)?;
             Ok(Formula::All(bounds, inner))
         }
         NamedFormula::Any(vars, inner) => {
-            let (bounds, inner) = quantified(alloc, types, vars.as_slice(), inner, places)?;
+            let (bounds, inner) = quantified(alloc, types, vars, inner, places)?;
             Ok(Formula::Any(bounds, inner))
         }
         NamedFormula::Number(cmp, count, vars, inner) => {
-            let (bounds, inner) = quantified(alloc, types, vars.as_slice(), inner, places)?;
+            let (bounds, inner) = quantified(alloc, types, vars, inner, places)?;
             Ok(Formula::Number(*cmp, integer(*count), bounds, inner))
         }
     }
 }
 
-/// The variables of a quantifier, and the formula that they are bound in.
+// A function of its own, since a box that is made beside other values costs the check the drop of each of them.
+#[cycle(trees)]
+fn boxed(
+    alloc: Global,
+    types: &mut Remaining,
+    named: &NamedFormula,
+    places: &mut Vec<usize>,
+) -> Result<Box<Formula>, Memory>
+    ensures { IfOk result (λ f. IsBuilt (view.formula_view f.value) types.new places.new.items
+        (listed.listed_formula types.old (formula_view named.now)) (listed.left_formula types.old
+        (formula_view named.now)) (places.old.items ++ terms_begin (formula_view named.now))) }
+{
+    let formula = formula(alloc, types, named, places)?;
+    Ok(Box::new(alloc, formula)?)
+}
+
+/// The variables of a quantifier or of an aggregate, and the formula that they are bound in.
 #[cycle(trees)]
 fn quantified(
     alloc: Global,
     types: &mut Remaining,
-    vars: &[NamedVar],
+    vars: &Items<NamedVar>,
     inner: &NamedFormula,
     places: &mut Vec<usize>,
 ) -> Result<(Vec<Bound>, Box<Formula>), Memory>
     ensures bounds { IfOk result (λ q. q.0.items ≡ listed.listed_vars types.old (map var_view vars.now)) }
-    ensures tree { IfOk result (λ q. view.formula_view q.1.value ≡ listed.listed_formula
-        (listed.left_vars types.old (map var_view vars.now)) (formula_view inner.now)) }
-    ensures types { OnOk result (types.new ≡ listed.left_formula (listed.left_vars types.old (map var_view vars.now))
-        (formula_view inner.now)) }
-    ensures places { OnOk result (places.new.items ≡ places.old.items ++ terms_begin (formula_view inner.now)) }
+    ensures inner { IfOk result (λ q. IsBuilt (view.formula_view q.1.value) types.new places.new.items
+        (listed.listed_formula (listed.left_vars types.old (map var_view vars.now)) (formula_view inner.now))
+        (listed.left_formula (listed.left_vars types.old (map var_view vars.now)) (formula_view inner.now))
+        (places.old.items ++ terms_begin (formula_view inner.now))) }
 {
-    let bounds = bound_vars(alloc, types, vars)?;
-    let inner = formula(alloc, types, inner, places)?;
-    Ok((bounds, Box::new(alloc, inner)?))
+    let bounds = bound_vars(alloc, types, vars.as_slice())?;
+    Ok((bounds, boxed(alloc, types, inner, places)?))
 }
 
 #[cycle(trees)]
@@ -133,12 +144,10 @@ fn formulas(
     named: &[NamedFormula],
     places: &mut Vec<usize>,
 ) -> Result<Vec<Formula>, Memory>
-    ensures trees { IfOk result (λ fs. tree.formulas_of (map view.formula_view fs.items)
-        ≡ listed.listed_formulas types.old (named_tree.formulas_of (map formula_view named.now))) }
-    ensures types { OnOk result (types.new ≡ listed.left_formulas types.old
-        (named_tree.formulas_of (map formula_view named.now))) }
-    ensures places { OnOk result (places.new.items ≡ places.old.items ++ formulas_begin
-        (named_tree.formulas_of (map formula_view named.now))) }
+    ensures { IfOk result (λ fs. IsBuilt (tree.formulas_of (map view.formula_view fs.items)) types.new places.new.items
+        (listed.listed_formulas types.old (named_tree.formulas_of (map formula_view named.now)))
+        (listed.left_formulas types.old (named_tree.formulas_of (map formula_view named.now)))
+        (places.old.items ++ formulas_begin (named_tree.formulas_of (map formula_view named.now)))) }
 {
     let mut operands = Vec::new(alloc);
     for operand in named {
@@ -155,9 +164,9 @@ pub fn term(
     named: &NamedTerm,
     places: &mut Vec<usize>,
 ) -> Result<Term, Memory>
-    ensures tree { IfOk result (λ t. view.term_view t ≡ listed.listed_term types.old (term_view named.now)) }
-    ensures types { OnOk result (types.new ≡ listed.left_term types.old (term_view named.now)) }
-    ensures places { OnOk result (places.new.items ≡ places.old.items ++ term_begins (term_view named.now)) }
+    ensures { IfOk result (λ t. IsBuilt (view.term_view t) types.new places.new.items
+        (listed.listed_term types.old (term_view named.now)) (listed.left_term types.old (term_view named.now))
+        (places.old.items ++ term_begins (term_view named.now))) }
 {
     places.push(named.place)?;
     match &named.node {
@@ -172,10 +181,8 @@ pub fn term(
             Ok(Term::Product(terms(alloc, types, operands, places)?))
         }
         NamedNode::Agg(how, vars, condition, weight) => {
-            let bounds = bound_vars(alloc, types, vars.as_slice())?;
-            let condition = formula(alloc, types, condition, places)?;
+            let (bounds, condition) = quantified(alloc, types, vars, condition, places)?;
             let weight = term(alloc, types, weight, places)?;
-            let condition = Box::new(alloc, condition)?;
             Ok(Term::Agg(*how, bounds, condition, Box::new(alloc, weight)?))
         }
     }
@@ -188,12 +195,10 @@ fn terms(
     named: &[NamedTerm],
     places: &mut Vec<usize>,
 ) -> Result<Vec<Term>, Memory>
-    ensures trees { IfOk result (λ ts. tree.terms_of (map view.term_view ts.items) ≡ listed.listed_terms types.old
-        (named_tree.terms_of (map term_view named.now))) }
-    ensures types { OnOk result (types.new ≡ listed.left_terms types.old
-        (named_tree.terms_of (map term_view named.now))) }
-    ensures places { OnOk result (places.new.items ≡ places.old.items ++ each_begins
-        (named_tree.terms_of (map term_view named.now))) }
+    ensures { IfOk result (λ ts. IsBuilt (tree.terms_of (map view.term_view ts.items)) types.new places.new.items
+        (listed.listed_terms types.old (named_tree.terms_of (map term_view named.now)))
+        (listed.left_terms types.old (named_tree.terms_of (map term_view named.now)))
+        (places.old.items ++ each_begins (named_tree.terms_of (map term_view named.now)))) }
 {
     let mut operands = Vec::new(alloc);
     for operand in named {
@@ -209,12 +214,10 @@ fn summands(
     named: &[NamedSigned],
     places: &mut Vec<usize>,
 ) -> Result<Vec<Signed>, Memory>
-    ensures trees { IfOk result (λ ss. tree.summands_of (map view.signed_view ss.items)
-        ≡ listed.listed_summands types.old (named_tree.summands_of (map signed_view named.now))) }
-    ensures types { OnOk result (types.new ≡ listed.left_summands types.old
-        (named_tree.summands_of (map signed_view named.now))) }
-    ensures places { OnOk result (places.new.items ≡ places.old.items ++ summands_begin
-        (named_tree.summands_of (map signed_view named.now))) }
+    ensures { IfOk result (λ ss. IsBuilt (tree.summands_of (map view.signed_view ss.items)) types.new places.new.items
+        (listed.listed_summands types.old (named_tree.summands_of (map signed_view named.now)))
+        (listed.left_summands types.old (named_tree.summands_of (map signed_view named.now)))
+        (places.old.items ++ summands_begin (named_tree.summands_of (map signed_view named.now)))) }
 {
     let mut operands = Vec::new(alloc);
     for operand in named {

@@ -1,6 +1,5 @@
 -- A tree that is well typed is well typed over domains, where each integer that is an argument of a function is an
--- element
--- of its position's type.
+-- element of its position's type.
 use Rattle.std.proofs.Common.{◌≡◌, ◌⊎◌, inl, inr, ℕ, ℤ, neg_ℤ, true, List, [], ◌∷◌, ◌++◌, Option, None, Some, subst}
 use Rattle.std.specs.Prelude.{⊤}
 use Rattle.std.specs.List.{AllByRecursion}

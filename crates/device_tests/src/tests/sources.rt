@@ -1,4 +1,4 @@
-//! Sources that are told what to do.
+//! Scripted sources.
 ghost use Rattle.std.specs.Prelude.{◌≡◌, IfOk};
 
 use kb_io::MemSource;

@@ -1,4 +1,4 @@
-//! Runs over a shelf, a source and a sink in memory, told what to do by a plan.
+//! Runs over a shelf, a source and a sink in memory, scripted by a plan.
 ghost use Rattle.std.specs.Prelude.{◌≡◌, IfOk};
 
 use super::bases::EITHER_P_OR_Q;

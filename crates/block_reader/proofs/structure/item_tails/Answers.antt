@@ -11,7 +11,7 @@ use Rattle.block_reader.proofs.structure.item_tails.Goals as goal
 
 pub returns-in_err-item-clause-reads : goal.returns-in_err-item-clause-reads
 returns-in_err-item-clause-reads c =
-    let p = err_from_is_err_and c.from_residual.result c.from_residual.ensures.1 in
+    let p = err_from_is_err_and c.from_residual-in_err-item.result c.from_residual-in_err-item.ensures.1 in
     let l = c.loop-place.invariant in
     rw (p.1, p.2) (in_item_tails _ c.in-Some.place (toks c.args.items.now) (toks c.loop-place.rest.now)
     (toks c.in-Some.behind.now) c.args.end c.in_err-item.field-0.0 l.so_far l.may c.in-Some.ensures.some

@@ -4,7 +4,8 @@ use Rattle.fo_syntax.specs.declared.terminal.Outer.TheVariants as o
 use Rattle.fo_syntax.specs.Terminals.{toks}
 use Rattle.fo_syntax.specs.BlockSpelling.{put_each, put_behind, put_row}
 use Rattle.fo_syntax.specs.BlockView.{row_tail_view}
-use Rattle.block_reader.specs.BlockParts.{next, EndsRow}
+use Rattle.block_reader.specs.BlockParts.{EndsRow}
+use Rattle.token_reader.specs.Signs.{next}
 use Rattle.block_reader.proofs.structure.row_tails.Given as goal
 
 abbrev pub invariant-loop-place : goal.invariant-loop-place

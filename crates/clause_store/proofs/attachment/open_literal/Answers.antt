@@ -7,10 +7,10 @@ use Rattle.clause_store.proofs.attachment.open_literal.Goals as goal
 
 pub loop-lit-preserved : goal.loop-lit-preserved
 loop-lit-preserved c =
-    let d : Lit = record { var = record { 0 = 0 }; positive = false } in
+    let d : Lit = c.lit-item.result in
     All-more (λ m. value_in c.args.assignment.now m ≡ Some false) c.args.lits.now c.loop-lit.lit-index d
-    c.loop-lit-test.true c.loop-lit.invariant (sym c.value.ensures ∙ c.in-Some-false.is
-    ∙ ap Some c.in-Some-false.field-0-test)
+    c.loop-lit-test.true c.loop-lit.invariant (ap (value_in c.args.assignment.now) (sym c.lit-item.is
+    ∙ sym c.lit-lit.ensures.value) ∙ sym c.value.ensures ∙ c.in-Some-false.is ∙ ap Some c.in-Some-false.field-0-test)
 
 pub returns : goal.returns
 returns c =

@@ -11,9 +11,6 @@ use Rattle.conflict_analysis.proofs.shortening.redundant_by.Goals as goal
 use Rattle.conflict_analysis.proofs.shortening.redundant_by.Goals.{else-other-place-via-then-other-place+else-not-is_left}
 use Rattle.conflict_analysis.proofs.shortening.redundant_by.Goals.{else-other-place-via-else-other-place}
 
-abbrev some_literal : Lit
-some_literal = record { var = record { 0 = 0 }; positive = false }
-
 pub lend-lits-requires : goal.lend-lits-requires
 lend-lits-requires c =
     let r = c.requires.laws.reasons c.args.place c.step-step.result c.in_ok-reason.reason c.step-step.ensures.step
@@ -25,10 +22,11 @@ place_of-other-requires-clause-assigned c =
     let s : StoreState = c.args.store.now in
     let xs : List Lit = c.lend-lits.result.now in
     let i : ℕ = c.loop-lit.lit-index in
-    let m : Lit = get_or xs i some_literal in
+    let m : Lit = c.lit.result in
+    let is : m ≡ get_or xs i c.lit-item.result = c.lit.ensures.value ∙ c.lit-item.is in
     let w = reason-placed s c.requires.laws c.args.place c.in_ok-reason.reason c.step-step.result xs
     c.step-step.ensures.step c.in_ok-reason.was c.lend-lits.ensures.held m
-    (Contains-get_or xs i some_literal c.loop-lit-test.true) in
+    (subst (Contains xs) (sym is) (Contains-get_or xs i c.lit-item.result c.loop-lit-test.true)) in
     assigned-of s.trail.values s.trail.steps c.requires.laws.trail.coherent m w.0 w.1 w.2 w.3
 
 pub loop-lit-preserved : goal.loop-lit-preserved
@@ -36,8 +34,10 @@ loop-lit-preserved c = λ t at m has.
     let s : StoreState = c.args.store.now in
     let xs : List Lit = c.lend-lits.result.now in
     let i : ℕ = c.loop-lit.lit-index in
-    let x : Lit = get_or xs i some_literal in
-    let here : Contains xs x = Contains-get_or xs i some_literal c.loop-lit-test.true in
+    let x : Lit = c.lit.result in
+    let is_item : x ≡ get_or xs i c.lit-item.result = c.lit.ensures.value ∙ c.lit-item.is in
+    let here : Contains xs x = subst (Contains xs) (sym is_item) (Contains-get_or xs i c.lit-item.result
+    c.loop-lit-test.true) in
     let one : c.step-step.result ≡ t = same-step s.trail.steps c.args.place c.step-step.result t
     c.step-step.ensures.step at in
     let is : t.reason ≡ Some c.in_ok-reason.reason = sym (ap (λ (u : Step). u.reason) one) ∙ c.in_ok-reason.was in
@@ -53,7 +53,7 @@ loop-lit-preserved c = λ t at m has.
     xs c.args.lower.now.keys at is c.lend-lits.ensures.held m (subst (Contains xs) new here) u.1 (ap (λ v. v.0) u.2
     ∙ ap (λ (l : Lit). l.var.0) new) way)
     (Contains-push_cases (take i xs) x m (subst (λ (ls : List Lit). Contains ls m)
-    (take_more xs i some_literal c.loop-lit-test.true) has))
+    (take_more xs i c.lit-item.result c.loop-lit-test.true ∙ ap (λ l. take i xs ++ l ∷ []) (sym is_item)) has))
 
 pub returns : goal.returns
 returns c =

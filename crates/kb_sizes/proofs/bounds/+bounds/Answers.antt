@@ -4,6 +4,7 @@ use Rattle.kb_logic.specs.Structures.{choices}
 use Rattle.kb_logic.specs.Trees.{summands_of, terms_of}
 use Rattle.kb_logic.specs.Views.{formula_view, signed_view, term_view}
 use Rattle.kb_logic.proofs.ViewsOf.{term_view-Agg}
+use Rattle.kb_logic.specs.declared.syntax.Formula.{the_lemmas}
 use Rattle.reading_stages.specs.ClampedBounds.{clamp_interval, clamped_bounds, clamped_factors, clamped_summands}
 use Rattle.reading_stages.specs.ClampedBounds.{clamping_product, clamping_sum}
 use Rattle.reading_stages.specs.SizesStage.{capped}
@@ -146,3 +147,84 @@ product-loop-factor-preserved t c =
           (ap (λ ss. c.loop-factor.any || is_wide (front_bounds clamping_product (range_view c.loop-factor.range)
           (clamped_factors v d ss scope))) (sym next) ∙ inv.3),
     )
+
+pub formula-returns-in-All-clause-wide : goal.formula-returns-in-All-clause-wide
+formula-returns-in-All-clause-wide t c = search (rules, the_lemmas)
+
+pub formula-returns-in-And-clause-wide : goal.formula-returns-in-And-clause-wide
+formula-returns-in-And-clause-wide t c = search (rules, the_lemmas)
+
+pub formula-returns-in-Any-clause-wide : goal.formula-returns-in-Any-clause-wide
+formula-returns-in-Any-clause-wide t c = search (rules, the_lemmas)
+
+pub formula-returns-in-Atom-clause-wide : goal.formula-returns-in-Atom-clause-wide
+formula-returns-in-Atom-clause-wide t c = search (rules, the_lemmas)
+
+pub formula-returns-in-False-clause-wide : goal.formula-returns-in-False-clause-wide
+formula-returns-in-False-clause-wide t c = search (rules, the_lemmas)
+
+pub formula-returns-in-Not-clause-wide : goal.formula-returns-in-Not-clause-wide
+formula-returns-in-Not-clause-wide t c = search (rules, the_lemmas)
+
+pub formula-returns-in-Number-clause-wide : goal.formula-returns-in-Number-clause-wide
+formula-returns-in-Number-clause-wide t c = search (rules, the_lemmas)
+
+pub formula-returns-in-Or-clause-wide : goal.formula-returns-in-Or-clause-wide
+formula-returns-in-Or-clause-wide t c = search (rules, the_lemmas)
+
+pub formula-returns-in-True-clause-wide : goal.formula-returns-in-True-clause-wide
+formula-returns-in-True-clause-wide t c = search (rules, the_lemmas)
+
+pub node-returns-in-Int-clause-own : goal.node-returns-in-Int-clause-own
+node-returns-in-Int-clause-own t c = search (rules, the_lemmas)
+
+pub node-returns-in-Int-clause-range : goal.node-returns-in-Int-clause-range
+node-returns-in-Int-clause-range t c = search (rules, the_lemmas)
+
+pub node-returns-in-Int-clause-wide : goal.node-returns-in-Int-clause-wide
+node-returns-in-Int-clause-wide t c = search (rules, the_lemmas)
+
+pub node-returns-in-Made-clause-own : goal.node-returns-in-Made-clause-own
+node-returns-in-Made-clause-own t c = search (rules, the_lemmas)
+
+pub node-returns-in-Made-clause-range : goal.node-returns-in-Made-clause-range
+node-returns-in-Made-clause-range t c = search (rules, the_lemmas)
+
+pub node-returns-in-Made-clause-wide : goal.node-returns-in-Made-clause-wide
+node-returns-in-Made-clause-wide t c = search (rules, the_lemmas)
+
+pub node-returns-in-Product-clause-own : goal.node-returns-in-Product-clause-own
+node-returns-in-Product-clause-own t c = search (rules, the_lemmas)
+
+pub node-returns-in-Product-clause-range : goal.node-returns-in-Product-clause-range
+node-returns-in-Product-clause-range t c = search (rules, the_lemmas)
+
+pub node-returns-in-Product-clause-wide : goal.node-returns-in-Product-clause-wide
+node-returns-in-Product-clause-wide t c = search (rules, the_lemmas)
+
+pub node-returns-in-Sum-clause-own : goal.node-returns-in-Sum-clause-own
+node-returns-in-Sum-clause-own t c = search (rules, the_lemmas)
+
+pub node-returns-in-Sum-clause-range : goal.node-returns-in-Sum-clause-range
+node-returns-in-Sum-clause-range t c = search (rules, the_lemmas)
+
+pub node-returns-in-Sum-clause-wide : goal.node-returns-in-Sum-clause-wide
+node-returns-in-Sum-clause-wide t c = search (rules, the_lemmas)
+
+pub node-returns-in-Var-clause-own : goal.node-returns-in-Var-clause-own
+node-returns-in-Var-clause-own t c = search (rules, the_lemmas)
+
+pub node-returns-in-Var-clause-range : goal.node-returns-in-Var-clause-range
+node-returns-in-Var-clause-range t c = search (rules, the_lemmas)
+
+pub node-returns-in-Var-clause-wide : goal.node-returns-in-Var-clause-wide
+node-returns-in-Var-clause-wide t c = search (rules, the_lemmas)
+
+pub node-returns-in_ok-terms-in-Apply-clause-own : goal.node-returns-in_ok-terms-in-Apply-clause-own
+node-returns-in_ok-terms-in-Apply-clause-own t c = search (rules, the_lemmas)
+
+pub node-returns-in_ok-terms-in-Apply-clause-range : goal.node-returns-in_ok-terms-in-Apply-clause-range
+node-returns-in_ok-terms-in-Apply-clause-range t c = search (rules, the_lemmas)
+
+pub node-returns-in_ok-terms-in-Apply-clause-wide : goal.node-returns-in_ok-terms-in-Apply-clause-wide
+node-returns-in_ok-terms-in-Apply-clause-wide t c = search (rules, the_lemmas)

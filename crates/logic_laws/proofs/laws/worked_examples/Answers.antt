@@ -9,6 +9,7 @@ returns c = (
   (refl, refl, refl),
   (refl, refl, refl, refl, refl, refl, refl, refl, refl),
   (refl, refl, refl, refl),
-  (refl, refl, refl, refl, refl, refl, refl, refl, refl, refl, refl),
+  (refl, refl, refl, refl, refl, refl, refl, refl, refl, refl),
+  (refl, refl, refl, refl, refl, refl),
   (refl, refl, refl, refl, refl, refl),
 )

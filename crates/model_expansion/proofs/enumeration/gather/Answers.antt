@@ -1,16 +1,11 @@
-use Rattle.std.proofs.Common.{◌≡◌, ◌+◌, ◌<◌, ◌++◌, ◌∷◌, [], Bool, true, Option, Some, None, Result, Ok, Err, List, refl}
-use Rattle.std.proofs.Common.{sym, ap, ◌∙◌, subst, arith}
+use Rattle.std.proofs.Common.{◌+◌, ◌++◌, ◌∷◌, [], Bool, Option, None, Ok, Err, List, refl}
+use Rattle.std.proofs.Common.{sym, subst, arith}
 use Rattle.lit_core.specs.declared.literals.Lit.{Lit}
-use Rattle.ground_core.specs.declared.solving.Budget.{Budget}
-use Rattle.ground_core.specs.declared.solving.Halt.{Halt}
-use Rattle.ground_core.specs.Growth.{next_lit}
-use Rattle.ground_core.specs.Growing.{excluded}
 use Rattle.ground_core.specs.Solving.{SolveState, AreUnretired, HasCoreWithin}
 use Rattle.ground_core.specs.Calls.{Keeps, CountsUpTo, IsAnsweredAtOnce, IsNone}
 use Rattle.model_search.specs.Models.{IsLeft, FindsModel}
-use Rattle.model_expansion.specs.Enumerations.{Gathers, Ends, IsAll, IsAllAtOnce}
-use Rattle.model_expansion.proofs.EnumerationFacts.{IsSoFar, so-far-begins, ends-with-more, so-far-budget}
-use Rattle.model_expansion.proofs.EnumerationFacts.{searched-keeps, searched-counts, searched-up-to, searched-gathers}
+use Rattle.model_expansion.proofs.EnumerationFacts.{IsSoFar, ends-with-more}
+use Rattle.model_expansion.proofs.EnumerationFacts.{searched-keeps, searched-up-to}
 use Rattle.model_expansion.proofs.EnumerationFacts.{all-told, told-at-once, so-far-next, halted}
 use Rattle.model_expansion.proofs.enumeration.gather.Goals as goal
 

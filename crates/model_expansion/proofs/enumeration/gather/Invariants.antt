@@ -1,4 +1,3 @@
-use Rattle.std.proofs.Common.{◌≡◌}
 use Rattle.model_expansion.proofs.EnumerationFacts.{IsSoFar}
 use Rattle.model_expansion.proofs.enumeration.gather.Given as goal
 

@@ -1,11 +1,10 @@
-use Rattle.std.proofs.Common.{◌≡◌, ◌+◌, ◌++◌, ◌∷◌, [], Bool, Result, Ok, Err, List, Contains, drop, length, sym, ap}
+use Rattle.std.proofs.Common.{◌≡◌, Bool, List, drop, length, sym, ap}
 use Rattle.std.proofs.Common.{◌∙◌, subst}
 use Rattle.std.proofs.Math.Seq.{drop-append_seam}
 use Rattle.lit_core.specs.declared.literals.Lit.{Lit}
 use Rattle.ground_core.specs.Solving.{SolveState, AreUnretired, HasCoreWithin}
-use Rattle.ground_core.specs.Calls.{Keeps, CountsUpTo}
 use Rattle.model_expansion.specs.Exclusions.{exclusion_selectors, Excludes}
-use Rattle.model_expansion.specs.Enumerations.{Gathers, Ends, FindsSeveral, IsAllAtOnce}
+use Rattle.model_expansion.specs.Enumerations.{Gathers, Ends, FindsSeveral}
 use Rattle.model_expansion.proofs.EnumerationFacts.{selectors-fit, selectors-new, end-excludes, end-adds, end-costs}
 use Rattle.model_expansion.proofs.EnumerationFacts.{empty-halted}
 use Rattle.model_expansion.proofs.enumeration.several.Goals as goal

@@ -1,94 +1,31 @@
-use Rattle.std.proofs.Common.{refl, subst}
+use Rattle.std.proofs.Common.{◌≡◌, ◌+◌, List, sym, subst}
+use Rattle.lit_core.specs.declared.literals.Lit.{Lit}
 use Rattle.ground_core.specs.Solving.{SolveState}
-use Rattle.model_minimiser.specs.declared.minimum.Step.{Step}
-use Rattle.model_minimiser.specs.Minima.{FindsBelow}
-use Rattle.model_minimiser.proofs.DescentFacts.{so-far-begins, turn-ends-adds, turn-ends-counts, turn-next, turn-falls}
-use Rattle.model_minimiser.proofs.DescentFacts.{least-here}
-use Rattle.ground_core.proofs.AdditionFacts.{still-unretired}
+use Rattle.model_search.specs.Retirements.{AreNew, retired_all}
+use Rattle.model_minimiser.proofs.BoundFacts.{end-adds, end-counts, selectors-new}
 use Rattle.model_minimiser.proofs.descent.descend.Goals as goal
 
-pub loop-alloc-init : goal.loop-alloc-init
-loop-alloc-init g c = (
-  so-far-begins c.args.assume.now c.args.term (g.S.Solve.state c.args.s.now) c.args.budget.now c.args.first
-      c.requires.budget c.requires.kept c.requires.found,
-  g.met.S.Solve.goes_on_itself c.args.s.now,
-  refl,
-  refl,
-)
-
-pub lower-requires-clause-unretired : goal.lower-requires-clause-unretired
-lower-requires-clause-unretired g c = still-unretired (g.S.Solve.state c.args.s.now).problem
-    (g.S.Solve.state c.loop-alloc.s).problem c.loop-alloc.invariant.0.past c.args.assume.now c.requires.literals
-    c.requires.unretired
-
-pub loop-alloc-smaller : goal.loop-alloc-smaller
-loop-alloc-smaller g c =
+pub retire_each-requires-clause-new : goal.retire_each-requires-clause-new
+retire_each-requires-clause-new g c =
     let r : SolveState = g.S.Solve.state c.args.s.now in
-    let s : SolveState = g.S.Solve.state c.loop-alloc.s in
-    let t : SolveState = g.S.Solve.state c.lower.new.s in
-    let finds = subst (λ (x : Step). FindsBelow s.problem c.args.assume.now c.args.term c.loop-alloc.best.value t.cores
-    x) c.in-Ok-Lower.field-0-is c.in-Ok-Lower.ensures.finds in
-    turn-falls c.args.assume.now c.args.term r s c.args.budget.now c.loop-alloc.budget c.loop-alloc.best
-    c.loop-alloc.invariant.0 t c.lower.new.budget c.lower.ensures.adds c.lower.ensures.keeps c.lower.ensures.counts
-    c.in-Ok-Lower.found c.requires.term c.requires.kept c.requires.literals finds
+    let s : SolveState = g.S.Solve.state c.lower_all-told.new.s in
+    subst (AreNew s.problem.retired) (sym c.as_slice.ensures.value)
+    (selectors-new c.args.assume.now c.args.term r s s c.lower_all-told.new.selectors.items
+    c.lower_all-told.ensures.bounds c.requires.kept.problem)
 
-pub loop-alloc-preserved : goal.loop-alloc-preserved
-loop-alloc-preserved g c =
+pub returns-clause-adds : goal.returns-clause-adds
+returns-clause-adds g c =
     let r : SolveState = g.S.Solve.state c.args.s.now in
-    let s : SolveState = g.S.Solve.state c.loop-alloc.s in
-    let t : SolveState = g.S.Solve.state c.lower.new.s in
-    let finds = subst (λ (x : Step). FindsBelow s.problem c.args.assume.now c.args.term c.loop-alloc.best.value t.cores
-    x) c.in-Ok-Lower.field-0-is c.in-Ok-Lower.ensures.finds in (
-      turn-next c.args.assume.now c.args.term r s c.args.budget.now c.loop-alloc.budget c.loop-alloc.best
-          c.loop-alloc.invariant.0 t c.lower.new.budget c.lower.ensures.adds c.lower.ensures.keeps
-          c.lower.ensures.counts c.in-Ok-Lower.found c.requires.literals finds c.lower.ensures.kept,
-      g.met.S.Solve.goes_on_twice c.args.s.now c.loop-alloc.s c.lower.new.s c.loop-alloc.invariant.1
-          c.lower.ensures.later,
-      refl,
-      refl,
-    )
+    let s : SolveState = g.S.Solve.state c.lower_all-told.new.s in
+    let t : SolveState = g.S.Solve.state c.retire_each.new.s in
+    end-adds c.args.assume.now c.args.term r s t c.lower_all-told.new.selectors.items c.lower_all-told.ensures.bounds
+    (subst (λ (ls : List Lit). t ≡ retired_all s ls) c.as_slice.ensures.value c.retire_each.ensures.retired)
 
-pub returns-in-Ok-Nothing-clause-least : goal.returns-in-Ok-Nothing-clause-least
-returns-in-Ok-Nothing-clause-least g c =
+pub returns-clause-counts : goal.returns-clause-counts
+returns-clause-counts g c = λ n spans.
     let r : SolveState = g.S.Solve.state c.args.s.now in
-    let s : SolveState = g.S.Solve.state c.loop-alloc.s in
-    let t : SolveState = g.S.Solve.state c.lower.new.s in
-    let finds = subst (λ (x : Step). FindsBelow s.problem c.args.assume.now c.args.term c.loop-alloc.best.value t.cores
-    x) c.in-Ok-Nothing.field-0-is c.in-Ok-Nothing.ensures.finds in
-    least-here c.args.assume.now c.args.term r s c.args.budget.now c.loop-alloc.budget c.loop-alloc.best
-    c.loop-alloc.invariant.0 t.cores c.in-Ok-Nothing.bound c.requires.kept.problem c.requires.literals
-    (c.loop-alloc-test.ensures.other refl) finds
-
-pub returns-in-Ok-Nothing-clause-adds : goal.returns-in-Ok-Nothing-clause-adds
-returns-in-Ok-Nothing-clause-adds g c =
-    let r : SolveState = g.S.Solve.state c.args.s.now in
-    let s : SolveState = g.S.Solve.state c.loop-alloc.s in
-    let t : SolveState = g.S.Solve.state c.lower.new.s in
-    turn-ends-adds c.args.assume.now c.args.term r s c.args.budget.now c.loop-alloc.budget c.loop-alloc.best
-    c.loop-alloc.invariant.0 t c.lower.new.budget c.lower.ensures.adds c.lower.ensures.keeps c.lower.ensures.counts
-
-pub returns-in-Ok-Nothing-clause-counts : goal.returns-in-Ok-Nothing-clause-counts
-returns-in-Ok-Nothing-clause-counts g c =
-    let r : SolveState = g.S.Solve.state c.args.s.now in
-    let s : SolveState = g.S.Solve.state c.loop-alloc.s in
-    let t : SolveState = g.S.Solve.state c.lower.new.s in
-    turn-ends-counts c.args.assume.now c.args.term r s c.args.budget.now c.loop-alloc.budget c.loop-alloc.best
-    c.loop-alloc.invariant.0 t c.lower.new.budget c.lower.ensures.adds c.lower.ensures.keeps c.lower.ensures.counts
-    (c.loop-alloc-test.ensures.other refl)
-
-pub returns-in-Err-clause-adds : goal.returns-in-Err-clause-adds
-returns-in-Err-clause-adds g c =
-    let r : SolveState = g.S.Solve.state c.args.s.now in
-    let s : SolveState = g.S.Solve.state c.loop-alloc.s in
-    let t : SolveState = g.S.Solve.state c.lower.new.s in
-    turn-ends-adds c.args.assume.now c.args.term r s c.args.budget.now c.loop-alloc.budget c.loop-alloc.best
-    c.loop-alloc.invariant.0 t c.lower.new.budget c.lower.ensures.adds c.lower.ensures.keeps c.lower.ensures.counts
-
-pub returns-in-Err-clause-counts : goal.returns-in-Err-clause-counts
-returns-in-Err-clause-counts g c =
-    let r : SolveState = g.S.Solve.state c.args.s.now in
-    let s : SolveState = g.S.Solve.state c.loop-alloc.s in
-    let t : SolveState = g.S.Solve.state c.lower.new.s in
-    turn-ends-counts c.args.assume.now c.args.term r s c.args.budget.now c.loop-alloc.budget c.loop-alloc.best
-    c.loop-alloc.invariant.0 t c.lower.new.budget c.lower.ensures.adds c.lower.ensures.keeps c.lower.ensures.counts
-    (c.loop-alloc-test.ensures.other refl)
+    let s : SolveState = g.S.Solve.state c.lower_all-told.new.s in
+    let t : SolveState = g.S.Solve.state c.retire_each.new.s in
+    end-counts c.args.assume.now c.args.term r s t c.lower_all-told.new.selectors.items c.lower_all-told.ensures.bounds
+    (subst (λ (ls : List Lit). t ≡ retired_all s ls) c.as_slice.ensures.value c.retire_each.ensures.retired)
+    c.args.budget.now c.lower_all-told.new.budget (r.free + (n + 2)) (n + 2) (c.lower_all-told.ensures.counts n spans)

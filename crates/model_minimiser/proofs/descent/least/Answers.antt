@@ -3,8 +3,8 @@ use Rattle.ground_core.specs.Problems.{ProblemState}
 use Rattle.model_minimiser.specs.Minima.{Spans}
 use Rattle.ground_core.specs.Solving.{SolveState}
 use Rattle.ground_core.specs.Calls.{Keeps}
-use Rattle.ground_core.proofs.CallFacts.{keeps-twice, cost-after, cost-once}
-use Rattle.model_minimiser.proofs.DescentFacts.{adds-after}
+use Rattle.ground_core.proofs.CallFacts.{keeps-twice, cost-once}
+use Rattle.model_minimiser.proofs.DescentFacts.{adds-after, costs-below}
 use Rattle.model_minimiser.proofs.descent.least.Goals as goal
 
 pub returns-in-Ok-clause-adds : goal.returns-in-Ok-clause-adds
@@ -30,7 +30,7 @@ returns-in-Ok-clause-costs g c = λ n spans.
     let both : Keeps r t c.args.budget.now c.descend.new.budget =
     keeps-twice r s t c.args.budget.now c.search.new.budget c.descend.new.budget c.search.ensures.keeps
     c.descend.ensures.keeps in
-    cost-after n r s t c.args.budget.now c.search.new.budget c.descend.new.budget c.search.ensures.stays.free
+    costs-below n r s t c.args.budget.now c.search.new.budget c.descend.new.budget c.search.ensures.stays.free
     c.search.ensures.counts (c.descend.ensures.counts n (subst (λ (p : ProblemState). Spans p c.args.term n)
     (sym c.search.ensures.stays.problem) spans)) both.rises
 
@@ -57,7 +57,7 @@ returns-in-Err-descend-clause-costs g c = λ n spans.
     let both : Keeps r t c.args.budget.now c.descend.new.budget =
     keeps-twice r s t c.args.budget.now c.search.new.budget c.descend.new.budget c.search.ensures.keeps
     c.descend.ensures.keeps in
-    cost-after n r s t c.args.budget.now c.search.new.budget c.descend.new.budget c.search.ensures.stays.free
+    costs-below n r s t c.args.budget.now c.search.new.budget c.descend.new.budget c.search.ensures.stays.free
     c.search.ensures.counts (c.descend.ensures.counts n (subst (λ (p : ProblemState). Spans p c.args.term n)
     (sym c.search.ensures.stays.problem) spans)) both.rises
 

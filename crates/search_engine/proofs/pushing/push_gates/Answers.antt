@@ -15,20 +15,16 @@ push_clauses-requires-clause-in_range c =
     gate-among P c.args.gates.now c.loop-gate.gate-index c.gate-item.result lt c.requires.in_range in
     let here : All P (gate_clauses c.gate-item.result) = subst (λ (g : Gate). All P (gate_clauses g))
     (sym c.gate-item.is) at in
-    let lent : c.as_slice.result.now ≡ gate_clauses c.gate-item.result =
-    cc (c.as_slice.ensures, c.in_ok-clauses.ensures) in
-    let at-slice : All P c.as_slice.result.now = subst (All P) (sym lent) here in
-    subst (λ (t : TrailState). All (All (λ (l : Lit). l.var.0 < length t.values)) c.as_slice.result.now)
-    (sym c.loop-gate.invariant.trail) at-slice
+    let made : All P c.in_ok-clauses.clauses = subst (All P) (sym c.in_ok-clauses.ensures) here in
+    subst (λ (t : TrailState). All (All (λ (l : Lit). l.var.0 < length t.values)) c.in_ok-clauses.clauses)
+    (sym c.loop-gate.invariant.trail) made
 
 pub loop-gate-preserved : goal.loop-gate-preserved
 loop-gate-preserved c =
     let lt : c.loop-gate.gate-index < length c.args.gates.now = search rules in
     let next = flat-next c.args.gates.now c.loop-gate.gate-index c.gate-item.result lt c.gate-item.is in
-    let lent : c.as_slice.result.now ≡ gate_clauses c.gate-item.result =
-    cc (c.as_slice.ensures, c.in_ok-clauses.ensures) in
     let pushed : Pushes c.loop-gate.store.clauses c.push_clauses.new.store.clauses (gate_clauses c.gate-item.result) =
-    subst (Pushes c.loop-gate.store.clauses c.push_clauses.new.store.clauses) lent
+    subst (Pushes c.loop-gate.store.clauses c.push_clauses.new.store.clauses) c.in_ok-clauses.ensures
     c.in_ok-push_clauses.ensures.ok in
     record {
       trail = c.push_clauses.ensures.trail ∙ c.loop-gate.invariant.trail;

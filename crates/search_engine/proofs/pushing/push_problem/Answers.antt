@@ -31,9 +31,8 @@ returns-clause-ok c =
     (flat_map gate_clauses c.args.more.now.gates) = subst (λ gs. Pushes c.args.store.now.clauses
     c.push_gates.new.store.clauses (flat_map gate_clauses gs)) c.gates.ensures.value
     c.in_ok-push_gates.ensures.ok in
-    let lent : c.as_slice.result.now ≡ c.args.more.now.clauses = cc (c.as_slice.ensures, c.clauses.ensures.value) in
-    let whole = λ (h : Pushes c.push_gates.new.store.clauses c.push_clauses.new.store.clauses c.as_slice.result.now).
+    let whole = λ (h : Pushes c.push_gates.new.store.clauses c.push_clauses.new.store.clauses c.clauses.result.now).
     pushes-append c.args.store.now.clauses c.push_gates.new.store.clauses c.push_clauses.new.store.clauses
     (flat_map gate_clauses c.args.more.now.gates) c.args.more.now.clauses first
-    (subst (Pushes c.push_gates.new.store.clauses c.push_clauses.new.store.clauses) lent h) in
+    (subst (Pushes c.push_gates.new.store.clauses c.push_clauses.new.store.clauses) c.clauses.ensures.value h) in
     on_ok_weaker c.push_clauses.result whole c.push_clauses.ensures.ok

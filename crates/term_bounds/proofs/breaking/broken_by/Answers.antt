@@ -1,11 +1,9 @@
-use Rattle.std.proofs.Common.{rules, ◌≡◌, ℤ, ◌+ℤ◌, ◌≤ℤ◌, true, false, FitsSigned, to_z, of_z, sym, ap, ◌∙◌, subst}
+use Rattle.std.proofs.Common.{rules, ◌≡◌, ℤ, ◌+ℤ◌, ◌≤ℤ◌, true, false, FitsSigned, to_z, of_z, ◌∙◌, subst}
 use Rattle.std.proofs.Common.{arith}
 use Rattle.std.specs.Int.{w128}
 use Rattle.std.proofs.lemmas.Int.{ints, to_z-of_z}
 use Rattle.kb_logic.specs.Denotations.{number}
 use Rattle.term_bounds.specs.Amounts.{amount_of, is_under}
-use Rattle.term_bounds.specs.Breaking.{IsBroken}
-use Rattle.term_bounds.specs.Reasons.{IsReason}
 use Rattle.term_bounds.specs.Shares.{least_total}
 use Rattle.term_bounds.specs.Totals.{total_bound}
 use Rattle.term_bounds.proofs.BreakFacts.{broken-where-not, holds-where-below}

@@ -1,5 +1,5 @@
-use Rattle.std.proofs.Common.{rules, ◌≡◌, ◌+◌, ◌-ℤ◌, ◌≤ℤ◌, pos, Bool, Option, Some, None, List, [], ◌∷◌, ◌++◌, drop}
-use Rattle.std.proofs.Common.{get_or, FitsSigned, to_z, of_z, refl, sym, ap, ◌∙◌, subst, arith}
+use Rattle.std.proofs.Common.{rules, ◌≡◌, ◌+◌, ◌-ℤ◌, ◌≤ℤ◌, pos, None, List, [], ◌∷◌, ◌++◌, drop}
+use Rattle.std.proofs.Common.{get_or, FitsSigned, to_z, of_z, sym, ap, ◌∙◌, subst, arith}
 use Rattle.std.specs.Int.{w128}
 use Rattle.std.proofs.lemmas.Int.{ints, to_z-of_z}
 use Rattle.std.proofs.lemmas.List.{drop_all}
@@ -11,7 +11,7 @@ use Rattle.term_bounds.specs.Shares.{raised}
 use Rattle.term_bounds.specs.Totals.{counted_as}
 use Rattle.term_bounds.specs.Reasons.{IsReason}
 use Rattle.term_bounds.proofs.ListFacts.{no_part}
-use Rattle.term_bounds.proofs.ReasonFacts.{SoFar, false_lit, so-far-all, so-far-kept, so-far-none, so-far-spared}
+use Rattle.term_bounds.proofs.ReasonFacts.{SoFar, false_lit, so-far-all, so-far-kept, so-far-spared}
 use Rattle.term_bounds.proofs.reasons.reasons.Goals.{in-Some+then-raise-spare+in_ok-push-in-Some}
 use Rattle.term_bounds.proofs.reasons.reasons.Goals.{in-Some+else-raise-spare, in-None}
 use Rattle.term_bounds.proofs.reasons.reasons.Goals as goal

@@ -1,11 +1,10 @@
-use Rattle.std.proofs.Common.{rules, ◌≡◌, ◌+◌, ◌+ℤ◌, Some, drop, get_or, FitsSigned, w64, to_z, of_z, refl, ap, ◌∙◌}
+use Rattle.std.proofs.Common.{rules, ◌≡◌, ◌+◌, ◌+ℤ◌, drop, get_or, FitsSigned, w64, to_z, of_z, refl, ap, ◌∙◌}
 use Rattle.std.proofs.Common.{arith}
 use Rattle.std.specs.Int.{w128}
 use Rattle.std.proofs.lemmas.Int.{ints, to_z-of_z}
-use Rattle.lit_core.specs.Literals.{literal_value, valuation, value_in}
+use Rattle.lit_core.specs.Literals.{literal_value, valuation}
 use Rattle.ground_core.specs.declared.parts.Part.{Part}
 use Rattle.term_bounds.specs.Amounts.{amount_of}
-use Rattle.term_bounds.specs.Shares.{least_total, share}
 use Rattle.term_bounds.specs.Totals.{counted_as, total, where_true}
 use Rattle.term_bounds.proofs.ListFacts.{no_part, sum-next}
 use Rattle.term_bounds.proofs.term_values.total_of.Goals as goal

@@ -1,4 +1,4 @@
-use Rattle.std.proofs.Common.{length, ap, ◌∙◌, arith, subst, ◌<◌}
+use Rattle.std.proofs.Common.{length, ap, arith}
 use Rattle.term_values.proofs.KnownLists.{values_more}
 use Rattle.term_values.proofs.known_atoms.all_known.Goals as goal
 

@@ -1,4 +1,4 @@
-use Rattle.std.proofs.Common.{◌≡◌, ◌++◌, OnOk, map, subst, sym, ap, ◌∙◌}
+use Rattle.std.proofs.Common.{◌≡◌, ◌++◌, OnOk, subst}
 use Rattle.kb_logic.proofs.TupleLists.{map-map}
 use Rattle.partial_structures.specs.KnownAtoms.{atoms_of, value_at}
 use Rattle.term_values.specs.KnownBases.{known_truth}

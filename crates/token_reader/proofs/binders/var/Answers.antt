@@ -59,4 +59,4 @@ returns-in_err-close-clause-reads c =
     ∙ name-append n (sign t.OpenSquare c.in-Some.start ∷ put_name m x) y) split
     (λ h j σ. ap (λ (x : List Tok). run (on (vars_first ∷ colon ∷ σ)) x) split ∙ square_stuck (colon ∷ σ) us h)
     (λ after. (binder (var (typed n c.in-Some.start m 0)) 0, sign t.CloseSquare 0 ∷ sign t.Colon 0 ∷ after, tt, refl))
-    c.in_err-close.ensures.err)
+    c.in_err-close.ensures.reads)

@@ -1,5 +1,8 @@
 use Rattle.std.proofs.Common.{◌≡◌, ◌+◌, ◌++◌, ◌∷◌, [], Some, None, List, Option, map, refl, ap, ◌∙◌, subst}
+use Rattle.std.proofs.Common.{Contains, get_or}
+use Rattle.std.proofs.lemmas.List.Elements.{All-contains, All-contains_itself}
 use Rattle.lit_core.specs.declared.literals.Lit.{Lit}
+use Rattle.lit_core.specs.Packing.{Fits}
 use Rattle.clause_base.specs.ClauseDbState.{ClauseDbState}
 use Rattle.clause_base.specs.ClauseDbFields.{clause_of}
 use Rattle.clause_base.specs.StoreState.{IsEachOnceOf}
@@ -7,6 +10,15 @@ use Rattle.clause_base.specs.declared.clause_db.Entry.{Entry}
 use Rattle.clause_base.specs.declared.clause_db.ClauseDb.TheInside.{Inside}
 use Rattle.clause_base.proofs.ArenaFacts.{clauses-push, kept-push}
 use Rattle.clause_base.proofs.clause_db.ClauseDb.push.Goals as goal
+
+pub append-requires-clause-fits : goal.append-requires-clause-fits
+append-requires-clause-fits c = λ k d lt.
+    let l : Lit = get_or c.as_slice.result.now k d in
+    let sorted = subst (λ (ls : List Lit). Contains ls l) c.as_slice.ensures (All-contains_itself c.as_slice.result.now
+    k d lt) in
+    let given = subst (λ (ls : List Lit). Contains ls l) c.fill.ensures.items
+    (c.sort_once.ensures.once.from l sorted) in
+    All-contains Fits c.args.lits.now l c.requires.fits given
 
 pub invariant_of-self : goal.invariant_of-self
 invariant_of-self c =

@@ -1,4 +1,8 @@
-use Rattle.std.proofs.Common.{◌≤◌, ◌+◌, length, refl, sym, subst, All, arith}
+use Rattle.std.proofs.Common.{◌≤◌, ◌+◌, ◌++◌, ◌∷◌, [], List, length, refl, sym, ap, ◌∙◌, subst, All, arith}
+use Rattle.lit_core.specs.declared.literals.Lit.{Lit}
+use Rattle.clause_learning.specs.LiveBounds.{IsLive}
+use Rattle.clause_learning.proofs.LiveGrowth.{live-with-bound}
+use Rattle.ground_core.specs.declared.parts.TermBound.{TermBound}
 use Rattle.ground_core.specs.Problems.{ProblemState}
 use Rattle.ground_core.specs.Meaning.{HasTermsInRange, RefutesAll}
 use Rattle.ground_core.specs.Growth.{with_bound}
@@ -25,4 +29,16 @@ returns-clause-keeper c =
       refuted = subst (λ (r : ProblemState). All (RefutesAll r) a.index.cores.items) (sym made.problem)
           (refuted-more p q less a.index.cores.items h.refuted);
       counted = rw made.same.searches h.counted;
+      live = subst (λ (r : ProblemState). All (IsLive r) c.push_reserved-2.new.self.items) (sym made.problem)
+          (subst (All (IsLive q)) (sym (c.push_reserved-2.ensures.items
+          ∙ ap (λ (bs : List TermBound). bs ++ record {
+            out = c.in_ok-out.out;
+            term = c.args.term;
+            below =
+                c.args.below;
+          } ∷ [])
+          c.in_ok-reserve-2.ensures.items
+          ∙ ap (λ (o : Lit). a.live.items ++ record { out = o; term = c.args.term; below = c.args.below } ∷ [])
+          c.in_ok-out.ensures.ok.0))
+          (live-with-bound p h.resting.engine.problem c.args.term c.args.below a.live.items h.live));
     }

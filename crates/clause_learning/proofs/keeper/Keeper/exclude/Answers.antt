@@ -1,4 +1,7 @@
 use Rattle.std.proofs.Common.{◌≤◌, ◌+◌, length, refl, sym, subst, All, arith}
+use Rattle.std.proofs.lemmas.List.Elements.{All-weaker}
+use Rattle.clause_learning.specs.LiveBounds.{IsLive}
+use Rattle.clause_learning.proofs.LiveGrowth.{live-excluded}
 use Rattle.ground_core.specs.Problems.{ProblemState}
 use Rattle.ground_core.specs.Meaning.{HasTermsInRange, RefutesAll}
 use Rattle.ground_core.specs.Growth.{with_exclusion}
@@ -25,4 +28,7 @@ returns-clause-keeper c =
           (refuted-more p (with_exclusion p c.args.values.now) (exclusion-restricts p c.args.values.now)
           a.index.cores.items h.refuted);
       counted = rw made.same.searches h.counted;
+      live = subst (λ (r : ProblemState). All (IsLive r) a.live.items) (sym made.problem)
+          (All-weaker (IsLive p) (IsLive (with_exclusion p c.args.values.now))
+          (live-excluded p h.resting.engine.problem c.args.values.now) a.live.items h.live);
     }

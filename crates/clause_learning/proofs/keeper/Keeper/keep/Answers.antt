@@ -20,4 +20,5 @@ returns-in-Ok-clause-keeper c =
       refuted = subst (λ (cs : List (List Lit)). All (RefutesAll a.engine.problem) cs) (sym cores)
           (All-push (RefutesAll a.engine.problem) a.index.cores.items c.in-Unsat.core c.requires.keeper.refuted new.0);
       counted = c.requires.keeper.counted;
+      live = c.requires.keeper.live;
     }

@@ -1,5 +1,8 @@
 use Rattle.std.proofs.Common.{refl, sym, subst, ⊎_elim, All}
 use Rattle.lit_core.proofs.LiteralFacts.{decide_member}
+use Rattle.std.proofs.lemmas.List.Elements.{All-filter}
+use Rattle.clause_learning.specs.LiveBounds.{IsLive, without_output}
+use Rattle.clause_learning.proofs.LiveGrowth.{live-without}
 use Rattle.ground_core.specs.Problems.{ProblemState}
 use Rattle.ground_core.specs.Meaning.{HasTermsInRange, RefutesAll}
 use Rattle.ground_core.specs.Growing.{with_retired}
@@ -31,4 +34,10 @@ returns-clause-keeper c =
           (retired-first p c.args.selector) a.index.cores.items h.refuted))
           (decide_member p.retired c.args.selector);
       counted = rw c.retire.ensures.same.searches h.counted;
+      live = subst (All (IsLive q)) (sym c.give_up.ensures) (⊎_elim
+          (λ has. subst (λ (r : ProblemState). All (IsLive r) (without_output c.args.selector a.live.items))
+          (sym (c.retire.ensures.already has)) (All-filter _ (IsLive p) a.live.items h.live))
+          (λ not. subst (λ (r : ProblemState). All (IsLive r) (without_output c.args.selector a.live.items))
+          (sym (c.retire.ensures.retired not)) (live-without p c.args.selector a.live.items h.live))
+          (decide_member p.retired c.args.selector));
     }

@@ -10,40 +10,43 @@ use Rattle.conflict_analysis.proofs.Gathered.{gathers-more}
 use Rattle.conflict_analysis.proofs.Places.{unfixed-of}
 use Rattle.conflict_analysis.proofs.resolvent.Resolvent.absorb.Goals as goal
 
-abbrev some_literal : Lit
-some_literal = record { var = record { 0 = 0 }; positive = false }
-
 pub mark-requires-clause-made : goal.mark-requires-clause-made
 mark-requires-clause-made c =
     let s : StoreState = c.args.store.now in
     let xs : List Lit = c.lend-lits.result.now in
     let i : ℕ = c.loop-lit.lit-index in
+    let m : Lit = c.lit.result in
+    let is : m ≡ get_or xs i c.lit-item.result = c.lit.ensures.value ∙ c.lit-item.is in
     let same : xs ≡ c.requires.clause.0 = same-held s c.args.clause xs c.requires.clause.0 c.lend-lits.ensures.held
     c.requires.clause.1 in
-    let has : Contains xs (get_or xs i some_literal) = Contains-get_or xs i some_literal c.loop-lit-test.true in
-    subst (λ (top : ℕ). IsMadeBefore s.trail.steps top (negated (get_or xs i some_literal)) ⊎ IsMadeAt s.trail.steps top
-    (get_or xs i some_literal)) (sym c.loop-lit.invariant.0.top)
-    (c.requires.clause.2 (get_or xs i some_literal) (subst (λ (ls : List Lit).
-    Contains ls (get_or xs i some_literal)) same has))
+    let has : Contains xs m = subst (Contains xs) (sym is) (Contains-get_or xs i c.lit-item.result c.loop-lit-test.true)
+    in
+    subst (λ (top : ℕ). IsMadeBefore s.trail.steps top (negated m) ⊎ IsMadeAt s.trail.steps top m)
+    (sym c.loop-lit.invariant.0.top) (c.requires.clause.2 m (subst (λ (ls : List Lit). Contains ls m) same has))
 
 pub mark-requires-clause-unfixed : goal.mark-requires-clause-unfixed
 mark-requires-clause-unfixed c =
     let xs : List Lit = c.lend-lits.result.now in
     let i : ℕ = c.loop-lit.lit-index in
-    unfixed-of c.args.store.now c.args.clause xs (get_or xs i some_literal) c.lend-lits.ensures.laws
-    c.lend-lits.ensures.held (Contains-get_or xs i some_literal c.loop-lit-test.true)
+    let m : Lit = c.lit.result in
+    let is : m ≡ get_or xs i c.lit-item.result = c.lit.ensures.value ∙ c.lit-item.is in
+    let has : Contains xs m = subst (Contains xs) (sym is) (Contains-get_or xs i c.lit-item.result c.loop-lit-test.true)
+    in
+    unfixed-of c.args.store.now c.args.clause xs m c.lend-lits.ensures.laws c.lend-lits.ensures.held has
 
 pub loop-lit-preserved : goal.loop-lit-preserved
 loop-lit-preserved c =
     let xs : List Lit = c.lend-lits.result.now in
     let i : ℕ = c.loop-lit.lit-index in
-    let more : take (i + 1) xs ≡ take i xs ++ get_or xs i some_literal ∷ [] =
-    take_more xs i some_literal c.loop-lit-test.true in
+    let m : Lit = c.lit.result in
+    let is : m ≡ get_or xs i c.lit-item.result = c.lit.ensures.value ∙ c.lit-item.is in
+    let more : take (i + 1) xs ≡ take i xs ++ m ∷ [] = take_more xs i c.lit-item.result c.loop-lit-test.true
+    ∙ ap (λ l. take i xs ++ l ∷ []) (sym is) in
     let e = c.in_ok-mark.ensures in (
       subst (λ (ls : List Lit). Gathers c.args.store.now.trail.steps c.args.self.now (Contains ls) c.mark.new.self)
           (sym more)
-          (gathers-more c.args.store.now.trail.steps c.args.self.now c.loop-lit.self c.mark.new.self (take i xs)
-          (get_or xs i some_literal) c.loop-lit.invariant.0 e.ok),
+          (gathers-more c.args.store.now.trail.steps c.args.self.now c.loop-lit.self c.mark.new.self (take i xs) m
+          c.loop-lit.invariant.0 e.ok),
       e.hints ∙ c.loop-lit.invariant.1,
     )
 

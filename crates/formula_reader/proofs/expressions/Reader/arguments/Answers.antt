@@ -1,4 +1,4 @@
-use Rattle.std.proofs.Common.{◌≡◌, ◌∷◌, ◌∙◌, List, ap, refl, subst, sym}
+use Rattle.std.proofs.Common.{◌∙◌, List, ap, subst, sym}
 use Rattle.std.proofs.lemmas.Result.{err_from_is_err_and}
 use Rattle.fo_syntax.specs.Terminals.{Tok}
 use Rattle.fo_syntax.specs.Spelling.{put_app, put_name}
@@ -12,12 +12,12 @@ returns-in_err-terms-clause-reads g c =
     let p = err_from_is_err_and c.from_residual-in_err-terms.result c.from_residual-in_err-terms.ensures.1 in
     rw (p.1, p.2) (subst (λ (ts : List Tok). Fails at_either put_app FineApp (put_name (name_view c.args.name) ts)
     c.args.self.now.end c.in_err-terms.field-0.0) (sym c.in-Some.ensures.some)
-    (c.in_err-terms.ensures.reads (name_view c.args.name) c.in-Some.begin c.in_default-after_close.ensures.none))
+    (c.in_err-terms.ensures.reads (name_view c.args.name) c.in-Some.begin c.in_default-skip.ensures.none))
 
 pub returns-clause-reads : goal.returns-clause-reads
 returns-clause-reads g c =
     let read = c.in_ok-terms.ensures.reads (name_view c.args.name) c.in-Some.begin
-    c.in_default-after_close.ensures.none in
+    c.in_default-skip.ensures.none in
     rw c.in_ok-apply.ensures (record {
       spelled = ap (λ (ts : List Tok). put_name (name_view c.args.name) ts)
           (c.in-Some.ensures.some ∙ read.0);

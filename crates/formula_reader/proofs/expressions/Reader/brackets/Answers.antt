@@ -14,4 +14,4 @@ pub returns-in_err-place-clause-reads : goal.returns-in_err-place-clause-reads
 returns-in_err-place-clause-reads g c =
     let p = err_from_is_err_and c.from_residual-in_err-place.result c.from_residual-in_err-place.ensures.1 in
     rw (p.1, p.2) (unclosed_brackets c.args.begin _ (toks c.args.items.now) _ c.args.self.now.end
-    c.in_err-place.field-0.0 c.in_ok-inner.ensures.reads c.in_err-place.ensures.err)
+    c.in_err-place.field-0.0 c.in_ok-inner.ensures.reads c.in_err-place.ensures.reads)

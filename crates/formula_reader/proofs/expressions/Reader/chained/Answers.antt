@@ -1,7 +1,7 @@
-use Rattle.std.proofs.Common.{◌∷◌, [], true, List, refl}
+use Rattle.std.proofs.Common.{◌∷◌, [], true, refl}
 use Rattle.std.proofs.lemmas.Result.{err_from_is_err_and}
 use Rattle.fo_syntax.specs.declared.terminal.Terminal.TheVariants as t
-use Rattle.fo_syntax.specs.Terminals.{Tok, toks, sign}
+use Rattle.fo_syntax.specs.Terminals.{toks, sign}
 use Rattle.fo_syntax.specs.View.{or_view, link_view}
 use Rattle.token_reader.proofs.Inside.{fails_in}
 use Rattle.formula_reader.proofs.InChains.{links_first, links_more, in_links}

@@ -23,4 +23,4 @@ returns-in_err-brace-clause-reads g c =
     let p = err_from_is_err_and c.from_residual-in_err-brace.result c.from_residual-in_err-brace.ensures.1 in
     rw (p.1, p.2) (unclosed_count c.args.place (opening_view c.in_ok-head.head) _ (toks c.args.items.now) _ _
     c.args.self.now.end c.in_err-brace.field-0.0 c.in_ok-head.ensures.reads.0 c.in_ok-inner.ensures.reads
-    c.in_err-brace.ensures.err)
+    c.in_err-brace.ensures.reads)

@@ -15,19 +15,19 @@ returns-in_err-place-clause-reads g c =
     let p = err_from_is_err_and c.from_residual-in_err-place.result c.from_residual-in_err-place.ensures.1 in
     rw (p.1, p.2) (λ begin. unclosed_content begin c.in_ok-inner.inner (toks c.args.items.now)
     (toks c.in_ok-inner.rest.now) c.args.self.now.end c.in_err-place.field-0.0
-    c.in_ok-inner.ensures.reads c.in_err-place.ensures.err)
+    c.in_ok-inner.ensures.reads c.in_err-place.ensures.reads)
 
 pub returns-in_err-sealed-clause-reads : goal.returns-in_err-sealed-clause-reads
 returns-in_err-sealed-clause-reads g c =
     let p = err_from_is_err_and c.from_residual-in_err-sealed.result c.from_residual-in_err-sealed.ensures.1 in
     rw (p.1, p.2) (λ begin. unsealed_content begin c.in_ok-place.place c.in_ok-inner.inner (toks c.args.items.now)
     (toks c.in_ok-inner.rest.now) (toks c.in_ok-place.last.now) c.args.self.now.end
-    c.in_err-sealed.field-0.0 c.in_ok-inner.ensures.reads c.in_ok-place.ensures.ok c.in_err-sealed.ensures.err)
+    c.in_err-sealed.field-0.0 c.in_ok-inner.ensures.reads c.in_ok-place.ensures.reads c.in_err-sealed.ensures.err)
 
 pub returns-clause-reads : goal.returns-clause-reads
 returns-clause-reads g c = (
   toks c.in_ok-inner.rest.now,
   c.in_ok-inner.ensures.reads,
-  c.in_ok-place.ensures.ok,
+  c.in_ok-place.ensures.reads,
   c.in_ok-sealed.ensures.ok,
 )

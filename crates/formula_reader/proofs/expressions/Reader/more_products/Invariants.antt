@@ -3,7 +3,9 @@ use Rattle.fo_syntax.specs.Terminals.{Tok, toks}
 use Rattle.fo_syntax.specs.Trees.{Product}
 use Rattle.fo_syntax.specs.Spelling.{put_term}
 use Rattle.fo_syntax.specs.Fine.{FineTerm}
-use Rattle.token_reader.specs.Parts.{EndsFactor, NoTimes}
+use Rattle.fo_syntax.specs.declared.terminal.Terminal.TheVariants as t
+use Rattle.token_reader.specs.Signs.{next, No}
+use Rattle.token_reader.specs.Parts.{EndsFactor}
 use Rattle.fo_syntax.specs.View.{sum_tail_view, term_of}
 use Rattle.formula_reader.proofs.expressions.Reader.more_products.Given as goal
 
@@ -15,7 +17,7 @@ invariant-loop-sign g l = record {
   fine : (x : Product) → FineTerm (term_of x (map sum_tail_view l.initial.more))
       → FineTerm (term_of x (map sum_tail_view l.more));
   ends : EndsFactor (toks l.rest);
-  no_times : NoTimes (toks l.rest);
+  no_times : No t.Times (next (toks l.rest));
 }
 
 abbrev pub decreases-loop-sign : goal.decreases-loop-sign

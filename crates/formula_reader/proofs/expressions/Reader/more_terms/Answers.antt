@@ -45,5 +45,5 @@ pub returns-clause-reads : goal.returns-clause-reads
 returns-clause-reads g c =
     let l = c.loop-place.invariant in
     λ n ts s x h f. closed_arguments n s x (map terms_tail_view c.loop-place.more) ts (toks c.loop-place.rest.now)
-    c.args.self.now.end c.close.result
-    (l.so_far ts s x h) (l.fine x f) l.ends c.in_default.ensures.none c.close.ensures.ok c.close.ensures.err
+    c.args.self.now.end c.sign.result
+    (l.so_far ts s x h) (l.fine x f) l.ends c.in_default.ensures.none c.sign.ensures.reads

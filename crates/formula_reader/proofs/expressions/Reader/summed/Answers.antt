@@ -1,4 +1,3 @@
-use Rattle.std.proofs.Common.{refl}
 use Rattle.std.proofs.lemmas.Result.{err_from_is_err_and}
 use Rattle.fo_syntax.specs.Terminals.{toks}
 use Rattle.fo_syntax.specs.Spelling.{put_factor}

@@ -12,9 +12,10 @@ no-selectors = record { once = distinct-nil; positive = All-nil (λ (l : Lit). l
 pub invariant_of-result : goal.invariant_of-result
 invariant_of-result c = record {
   laws = rw (
-    c.new.ensures.items,
+    c.from_list.ensures,
+    c.new.ensures,
     c.new-2.ensures.items,
-    c.new-3.ensures.items,
+    c.new-3.ensures,
     c.new-4.ensures.items,
     c.new-5.ensures.items,
     c.new-6.ensures.items,

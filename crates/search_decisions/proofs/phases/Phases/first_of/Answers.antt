@@ -1,4 +1,4 @@
-use Rattle.std.proofs.Common.{◌≡◌, ℕ, ◌≤◌, ◌<◌, false, All, Any, inr, ⊎_elim, get_or, length, refl, subst, sym, take}
+use Rattle.std.proofs.Common.{◌≡◌, ℕ, ◌≤◌, ◌<◌, All, Any, inr, ⊎_elim, get_or, length, refl, subst, sym, ◌∙◌, take}
 use Rattle.std.proofs.Common.{arith, rules}
 use Rattle.std.proofs.lemmas.List.{get_or_default, take_all}
 use Rattle.std.proofs.lemmas.List.Elements.{All-more}
@@ -13,8 +13,9 @@ loop-lit-preserved c =
     let i = c.loop-lit.lit-index in
     let s = c.args.self.now in
     let lt : i < length c.args.clause.now = search rules in
-    let d : Lit = record { var = record { 0 = 0 }; positive = false } in
-    let x : Lit = get_or c.args.clause.now i d in
+    let d : Lit = c.lit-item.result in
+    let x : Lit = c.lit.result in
+    let same : get_or c.args.clause.now i d ≡ x = sym (c.lit.ensures.value ∙ c.lit-item.is) in
     let NoLess : ℕ → Lit → Type 0 = λ v m. IsOpen c.args.assignment.now m.var.0
     → times_seen s v ≤ times_seen s m.var.0 in
     elim c.if-is_better.branch [
@@ -23,16 +24,17 @@ loop-lit-preserved c =
           c.is_better.ensures.better w.if-is_better.true in
           let less : times_seen s x.var.0 ≤ times_seen s c.loop-lit.first.0 = better.1 in
           rw w.first-is (record {
-            among = inr (i, x, lt, sym (get_or_default c.args.clause.now i d x lt), refl);
+            among = inr (i, x, lt, sym (get_or_default c.args.clause.now i d x lt) ∙ same, refl);
             least = All-more (NoLess x.var.0) c.args.clause.now i d lt (λ k e below is. let more =
-                c.loop-lit.invariant.least k e below is in omega (arith, less, more)) (λ _. omega arith);
+                c.loop-lit.invariant.least k e below is in omega (arith, less, more))
+                (subst (NoLess x.var.0) (sym same) (λ _. omega arith));
             open_or = inr better.0;
           })
       | else-is_better w ↦
           rw w.first-is (record {
             among = c.loop-lit.invariant.among;
             least = All-more (NoLess c.loop-lit.first.0) c.args.clause.now i d lt c.loop-lit.invariant.least
-                (c.is_better.ensures.not w.if-is_better.false);
+                (subst (NoLess c.loop-lit.first.0) (sym same) (c.is_better.ensures.not w.if-is_better.false));
             open_or = c.loop-lit.invariant.open_or;
           })
     ]

@@ -1,4 +1,4 @@
-use Rattle.std.proofs.Common.{◌≡◌, ◌+◌, ◌<◌, ◌++◌, ◌∷◌, [], false, List, Any, length, get_or, take, subst, rules}
+use Rattle.std.proofs.Common.{◌≡◌, ◌+◌, ◌<◌, ◌++◌, ◌∷◌, [], List, Any, length, get_or, take, ap, sym, ◌∙◌, subst, rules}
 use Rattle.std.proofs.lemmas.List.{take_all, take_more}
 use Rattle.lit_core.specs.declared.literals.Lit.{Lit}
 use Rattle.search_decisions.specs.Phases.{Notes}
@@ -8,11 +8,12 @@ use Rattle.search_decisions.proofs.phases.Phases.note_choice.Goals as goal
 pub loop-lit-preserved : goal.loop-lit-preserved
 loop-lit-preserved c =
     let lt : c.loop-lit.lit-index < length c.args.clause.now = search rules in
-    let d : Lit = record { var = record { 0 = 0 }; positive = false } in
-    let x : Lit = get_or c.args.clause.now c.loop-lit.lit-index d in
+    let d : Lit = c.lit-item.result in
+    let x : Lit = c.lit.result in
+    let is : x ≡ get_or c.args.clause.now c.loop-lit.lit-index d = c.lit.ensures.value ∙ c.lit-item.is in
     let front : List Lit = take c.loop-lit.lit-index c.args.clause.now in
     let next : take (c.loop-lit.lit-index + 1) c.args.clause.now ≡ front ++ x ∷ [] =
-    take_more c.args.clause.now c.loop-lit.lit-index d lt in
+    take_more c.args.clause.now c.loop-lit.lit-index d lt ∙ ap (λ l. front ++ l ∷ []) (sym is) in
     record {
       same = search rules;
       notes = rw next (notes-literal c.args.place front x c.loop-lit.invariant.notes c.note_place.ensures.notes);

@@ -18,8 +18,8 @@ hold_last-requires-clause-lits c =
     let vars : q.vars ≡ c.args.self.now.problem.vars = ap (λ (p : ProblemState). p.vars)
     c.make_room.ensures.reserves.problem in
     let var : c.in-Some.var ≡ q.vars + 1 = omega (arith, c.in-Some.ensures, c.vars.ensures.value, vars) in
-    let same : c.in_ok-clause.clause ≡ e =
-    c.in_ok-clause.ensures
+    let same : c.as_slice.result.now ≡ e =
+    c.as_slice.ensures ∙ c.in_ok-clause.ensures
     ∙ (ap (λ (n : ℕ). negated (record { var = record { 0 = n }; positive = true }) ∷ falsified_by vs
     c.atom_count-atoms.result) var
     ∙ ap (λ (n : ℕ). negated (next_lit q) ∷ falsified_by vs n) c.atom_count-atoms.ensures) in

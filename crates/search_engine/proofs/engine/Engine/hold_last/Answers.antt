@@ -1,9 +1,5 @@
-use Rattle.std.proofs.Common.{◌≡◌, [], ◌∷◌, ◌++◌, Some, List, length, get_or, refl, ap, ◌∙◌, subst}
-use Rattle.std.proofs.lemmas.Option.{get_or_from_slice_get}
-use Rattle.lit_core.specs.declared.literals.Lit.{Lit}
-use Rattle.clause_store.specs.StoreState.{StoreState, IsEachOnceOf}
-use Rattle.clause_store.proofs.ListFacts.{slice_get-push_new}
-use Rattle.ground_core.specs.Problems.{ProblemState}
+use Rattle.std.proofs.Common.{◌≡◌, [], ◌∷◌, ◌++◌, Some, refl, ap, ◌∙◌}
+use Rattle.clause_store.specs.StoreState.{StoreState}
 use Rattle.search_engine.specs.declared.engine.Engine.{Engine}
 use Rattle.search_engine.proofs.GrowFacts.{resting-same, resting-selected, same-itself}
 use Rattle.search_engine.proofs.engine.Engine.hold_last.Goals as goal
@@ -23,21 +19,11 @@ pub returns-clause-resting : goal.returns-clause-resting
 returns-clause-resting c =
     let e : Engine = c.args.self.now in
     let w = c.in-Ok.ensures.ok in
-    let cs : List (List Lit) = e.problem.clauses in
-    let all : c.add_selected.new.self.clauses ≡ cs ++ c.args.clause ∷ [] =
-    ap (λ (p : ProblemState). p.clauses) c.in_ok-add_selected.ensures.ok in
-    let at : get_or (cs ++ c.args.clause ∷ []) (length cs) [] ≡ c.args.clause =
-    get_or_from_slice_get (cs ++ c.args.clause ∷ []) (length cs) c.args.clause []
-    (slice_get-push_new cs c.args.clause) in
-    let lent : c.clause-2.result.now ≡ c.args.clause = c.clause-2.ensures
-    ∙ (ap (λ (xs : List (List Lit)). get_or xs c.clause_count-place.result []) all
-    ∙ (ap (λ n. get_or (cs ++ c.args.clause ∷ []) n []) c.clause_count-place.ensures ∙ at)) in
-    let once : IsEachOnceOf c.args.clause w.1.0 = subst (λ (lits : List Lit). IsEachOnceOf lits w.1.0) lent w.1.1 in
     let spare = c.in_ok-reserve_clause.ensures.ok in
     let clauses : c.push_clause.new.self.clauses ≡ e.store.clauses ++ Some w.1.0 ∷ [] =
     ap (λ (s : StoreState). s.clauses) w.1.2 ∙ ap (λ (s : StoreState). s.clauses ++ Some w.1.0 ∷ []) spare in
     let trail : c.push_clause.new.self.trail ≡ e.store.trail = ap (λ (s : StoreState). s.trail) w.1.2
     ∙ ap (λ (s : StoreState). s.trail) spare in
-    resting-selected e _ c.args.clause w.1.0 c.requires.resting
-    (record { same = same-itself e _ refl refl refl refl refl; ids = refl; closed = refl }) c.requires.lits once
+    resting-selected e _ c.args.clause.now w.1.0 c.requires.resting
+    (record { same = same-itself e _ refl refl refl refl refl; ids = refl; closed = refl }) c.requires.lits w.1.1
     clauses trail c.push_clause.ensures.laws c.requires.sized c.in_ok-add_selected.ensures.ok

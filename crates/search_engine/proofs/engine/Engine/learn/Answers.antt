@@ -82,7 +82,7 @@ module _ (c : goal.After-assign) where
       ∙ ap (λ (t : TrailState). length t.values) trail)
 
   learnt : c.push.new.self ≡ c.args.self.now.learnt ++ c.args.clause.now ∷ []
-  learnt = c.in_ok-push.ensures.ok ∙ ap (λ x. c.args.self.now.learnt ++ x ∷ []) c.in_ok-copy.ensures
+  learnt = c.in_ok-push.ensures.ok
 
   ids : c.push_reserved.new.self.items ≡ c.args.self.now.ids.items ++ length old.clauses ∷ []
   ids = c.push_reserved.ensures.items ∙ (ap (λ xs. xs ++ c.in-Ok.id ∷ []) c.in_ok-reserve.ensures.items

@@ -1,6 +1,0 @@
-use Rattle.std.proofs.Common.{◌≡◌, map, take, [], ◌∷◌, ◌++◌}
-use Rattle.kb_logic.proofs.tuples.push_longer.Given as goal
-
-abbrev pub invariant-loop-elem : goal.invariant-loop-elem
-invariant-loop-elem l = l.longer.items ≡ l.initial.longer.items ++ map (λ x. l.tuple ++ x ∷ [])
-    (take l.elem-index l.others)
