@@ -1,6 +1,7 @@
 -- A fact whose symbol's rows all have one sign clashes with none, so that nothing is noted of it.
 use Rattle.std.proofs.Common.{◌≡◌, ◌==◌, ℕ, Bool, true, false, not, ◌&&◌, ◌||◌, is_none, is_some, List, [], ◌∷◌, ◌++◌}
-use Rattle.std.proofs.Common.{filter, cond, fold, Option, None, Some, option_map, inl, inr, ◌⊎◌, refl, sym, ap, ◌∙◌, subst}
+use Rattle.std.proofs.Common.{filter, cond, fold, Option, None, Some, option_map, inl, inr, ◌⊎◌, refl, sym, ap, ◌∙◌}
+use Rattle.std.proofs.Common.{subst}
 use Rattle.std.proofs.Common.{if◌then◌else◌, length, append_assoc, drop, map, ◌+◌}
 use Rattle.std.specs.Prelude.{flat_map, filter_map}
 use Rattle.std.specs.List.{cons_option, list_any}
@@ -166,7 +167,8 @@ row_says holds (a_symbol s d) r f fits h =
 
 fact_says : (e : Said) (f : Fact) → Has (facts_of e) f → IsSaidBy e f
 fact_says e f h =
-    let sign = flat_map_has (λ holds. filter_map (fact_of holds e.subject) (fitting e)) (signs_of (sense_of e.mark)) f h in
+    let sign = flat_map_has (λ holds. filter_map (fact_of holds e.subject) (fitting e))
+    (signs_of (sense_of e.mark)) f h in
     let row = some_options (fact_of sign.0 e.subject) (fitting e) f sign.2 in
     let at = row_says sign.0 e.subject row.0 f (of_filter (fits_in e.subject) e.rows row.0 row.1) row.2 in (
       at.0,
