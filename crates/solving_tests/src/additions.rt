@@ -3,10 +3,10 @@ ghost use Rattle.std.specs.Prelude.{◌≡◌, []};
 ghost use Rattle.ground_core.specs.Problems.{AreLitsOf};
 ghost use Rattle.ground_core.specs.Solving.{AreUnretired};
 
-use crate::fixtures::{no, said, solver_of, yes};
-use brute_force::BruteForce;
+use crate::fixtures::brute_of;
 use ground_core::{Budget, Grow, Verdict};
 use lit_core::Lit;
+use problem_fixtures::{no, said, solver_of, yes};
 use std::test::Fail;
 
 /// Whether there are other values than the first ones, and whether there are values once their
@@ -52,7 +52,7 @@ fn an_exclusion_is_given_up_when_it_is_retired(rt: HostRuntime) -> Result<(), Fa
     let problem = said(rt.alloc(), 2, &[[no(1), yes(2), yes(2), yes(2)]])?;
     let mut solver = solver_of(rt.alloc(), &problem)?;
     let found = excluded(&mut solver);
-    let mut force = BruteForce::new(rt.alloc(), problem)?;
+    let mut force = brute_of(rt.alloc(), problem)?;
     let right = excluded(&mut force);
     assert!(rt; found == Some((true, true)) && right == Some((true, true)));
     Ok(())
@@ -63,7 +63,7 @@ fn an_exclusion_forbids_the_only_values(rt: HostRuntime) -> Result<(), Fail> {
     let problem = said(rt.alloc(), 1, &[[no(1), no(1), no(1), no(1)]])?;
     let mut solver = solver_of(rt.alloc(), &problem)?;
     let found = excluded(&mut solver);
-    let mut force = BruteForce::new(rt.alloc(), problem)?;
+    let mut force = brute_of(rt.alloc(), problem)?;
     let right = excluded(&mut force);
     assert!(rt; found == Some((false, true)) && right == Some((false, true)));
     Ok(())

@@ -3,7 +3,6 @@ ghost use Rattle.std.specs.Prelude.{◌≡◌, [], true, length, IfOk};
 ghost use Rattle.ground_core.specs.Problems.{IsTermOf};
 
 use crate::additions::finds;
-use crate::fixtures::{Kept, no, said, yes};
 use chooser::FirstGreatest;
 use clause_learning::Solver;
 use ground_core::{
@@ -11,6 +10,7 @@ use ground_core::{
 };
 use kb_logic::{AggKind, ExtInt, ListOf, Name};
 use lit_core::{Lit, Values, Var};
+use problem_fixtures::{Kept, no, said, yes};
 use std::alloc::Global;
 use std::test::Fail;
 

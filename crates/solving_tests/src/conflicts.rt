@@ -5,10 +5,10 @@ ghost use Rattle.clause_store.specs.TrailLaws.{IsFixed};
 ghost use Rattle.clause_store.specs.StoreState.{IsConflict};
 ghost use Rattle.conflict_analysis.specs.Analyses.{HasCurrent};
 
-use crate::fixtures::{no, yes};
 use clause_store::Store;
 use conflict_analysis::{Analysis, Refuted, analyse, final_core, root_hints};
 use lit_core::Lit;
+use problem_fixtures::{no, yes};
 use std::alloc::Global;
 use std::test::Fail;
 

@@ -2,7 +2,7 @@
 ghost use Rattle.std.specs.Prelude.{◌≡◌, [], IsTrue, IfOk};
 ghost use Rattle.ground_core.specs.Problems.{AreLitsOf, IsLitOf};
 
-use crate::fixtures::{are_over, blamed_by_force, no, problem_of, say, yes};
+use crate::fixtures::blamed_by_force;
 use ground_core::{
     AtomTable, Gate, GroundTerm, LitList, Memory, Part, PartList, Problem, clauses_of_gate,
     has_small_terms,
@@ -12,6 +12,7 @@ use kb_logic::{
 };
 use lit_core::{ClauseList, Lit};
 use normal_forms::nnf;
+use problem_fixtures::{are_over, no, problem_of, say, yes};
 use std::alloc::Global;
 use std::test::Fail;
 

@@ -1,9 +1,10 @@
 //! Searches, against brute force and over a solver that is kept.
 ghost use Rattle.std.specs.Prelude.{◌≡◌, [], IfOk};
 
-use crate::fixtures::{Kept, are_over, blamed, blamed_by_force, no, said, solver_of, yes};
+use crate::fixtures::{blamed, blamed_by_force};
 use ground_core::{Budget, Memory, Solve, Verdict};
 use lit_core::{Lit, Values, Var};
+use problem_fixtures::{Kept, are_over, no, said, solver_of, yes};
 use std::alloc::Global;
 use std::test::Fail;
 

@@ -1,7 +1,8 @@
 //! The problem that the tests ask about.
-ghost use Rattle.std.specs.Prelude.{◌≡◌, [], IfOk};
+ghost use Rattle.std.specs.Prelude.{◌≡◌, [], length, IfOk};
 
-use ground_core::{Memory, Problem};
+use brute_force::BruteForce;
+use ground_core::{Memory, Problem, has_small_terms};
 use problem_fixtures::{no, said, yes};
 use std::alloc::Global;
 
@@ -16,4 +17,19 @@ pub fn example(alloc: Global) -> Result<Problem, Memory>
         [no(1), yes(3), yes(3), yes(3)],
     ];
     said(alloc, 3, &clauses)
+}
+
+/// Brute force of the problem. A term that may leave the range counts as out of memory.
+pub fn brute_of(alloc: Global, problem: Problem) -> Result<BruteForce, Memory>
+    requires plain { (problem.sums ≡ []) × (problem.bounds ≡ []) }
+    requires retired { problem.retired ≡ [] }
+    ensures vars { IfOk result (λ solver. solver.problem.vars ≡ problem.vars) }
+    ensures atoms { IfOk result (λ solver. solver.problem.atoms ≡ problem.atoms) }
+    ensures terms { IfOk result (λ solver. length solver.problem.terms ≡ length problem.terms) }
+    ensures retired { IfOk result (λ solver. solver.problem.retired ≡ []) }
+{
+    if !has_small_terms(&problem) {
+        return Err(Memory);
+    }
+    BruteForce::new(alloc, problem)
 }

@@ -1,8 +1,7 @@
 //! Which literals are forced.
 ghost use Rattle.std.specs.Prelude.{◌≡◌, [], length};
 
-use crate::fixtures::example;
-use brute_force::BruteForce;
+use crate::fixtures::{brute_of, example};
 use consequences::{KeptList, forced};
 use ground_core::{Budget, Halt, Memory, Problem, Solve};
 use lit_core::{Lit, Values};
@@ -48,7 +47,7 @@ fn forced_by(
     let vars = problem.vars();
     let atoms = problem.atoms().len() as u64;
     let seen: [Values; 0] = [];
-    let mut solver = BruteForce::new(alloc, problem)?;
+    let mut solver = brute_of(alloc, problem)?;
     match ask_of(
         alloc,
         &mut solver,

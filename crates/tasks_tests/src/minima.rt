@@ -1,11 +1,12 @@
-//! Least values of a weighted sum, over the kept solver.
+//! Least values of a weighted sum, over the kept solver and by brute force.
 ghost use Rattle.std.specs.Prelude.{◌≡◌, [], length, IfOk};
 
-use ground_core::{Budget, Grow, Memory, Part};
+use crate::fixtures::brute_of;
+use ground_core::{Budget, Grow, Memory, Part, Problem};
 use kb_logic::ExtInt;
 use lit_core::Lit;
 use model_minimiser::least;
-use problem_fixtures::{Kept, name_sum, no, said, solver_of, yes};
+use problem_fixtures::{name_sum, no, said, solver_of, yes};
 use std::alloc::Global;
 use std::test::Fail;
 
@@ -63,10 +64,11 @@ fn costs(alloc: Global, weights: &[i64; 4]) -> Result<Vec<Part>, Memory> {
     Ok(parts)
 }
 
-/// A solver of the demands, with what all costs as its term.
-fn solver_with(alloc: Global, cover: &Cover) -> Result<Kept, Memory>
-    ensures term { IfOk result (λ s. length s.kept.problem.terms ≡ 1) }
-    ensures retired { IfOk result (λ s. s.kept.problem.retired ≡ []) }
+/// The demands, with what all costs as the term.
+fn problem_with(alloc: Global, cover: &Cover) -> Result<Problem, Memory>
+    ensures plain { IfOk result (λ p. (p.sums ≡ []) × (p.bounds ≡ [])) }
+    ensures retired { IfOk result (λ p. p.retired ≡ []) }
+    ensures term { IfOk result (λ p. length p.terms ≡ 1) }
 {
     let rows = &cover.0;
     let clauses = [
@@ -77,7 +79,7 @@ fn solver_with(alloc: Global, cover: &Cover) -> Result<Kept, Memory>
     ];
     let mut problem = said(alloc, 4, &clauses)?;
     name_sum(alloc, &mut problem, costs(alloc, &cover.1)?)?;
-    solver_of(alloc, &problem)
+    Ok(problem)
 }
 
 /// The least value of the term, or a number that is none here: 99 where nothing is left, and 98 where the call halts.
@@ -100,19 +102,32 @@ fn least_of<S: Grow>(alloc: Global, solver: &mut S) -> i64
     }
 }
 
-/// Whether the least cost is the one that is expected.
-fn is_right(alloc: Global, cover: &Cover) -> bool {
-    match solver_with(alloc, cover) {
-        Ok(mut solver) => least_of(alloc, &mut solver) == cover.2,
-        Err(_) => false,
-    }
+/// The least cost that the kept solver finds.
+fn least_kept(alloc: Global, cover: &Cover) -> Result<i64, Memory> {
+    let problem = problem_with(alloc, cover)?;
+    let mut solver = solver_of(alloc, &problem)?;
+    Ok(least_of(alloc, &mut solver))
+}
+
+/// The least cost that brute force finds.
+fn least_by(alloc: Global, cover: &Cover) -> Result<i64, Memory> {
+    let problem = problem_with(alloc, cover)?;
+    let mut solver = brute_of(alloc, problem)?;
+    Ok(least_of(alloc, &mut solver))
 }
 
 #[test]
 fn least_costs_of_covers_are_found(rt: HostRuntime) -> Result<(), Fail> {
     for cover in &COVERS {
-        let right = is_right(rt.alloc(), cover);
-        assert!(rt; right);
+        assert_eq!(rt; least_kept(rt.alloc(), cover)?, cover.2);
+    }
+    Ok(())
+}
+
+#[test]
+fn brute_force_finds_the_same_costs(rt: HostRuntime) -> Result<(), Fail> {
+    for cover in &COVERS {
+        assert_eq!(rt; least_by(rt.alloc(), cover)?, cover.2);
     }
     Ok(())
 }

@@ -1,8 +1,7 @@
 //! Several models.
 ghost use Rattle.std.specs.Prelude.{◌≡◌, []};
 
-use crate::fixtures::example;
-use brute_force::BruteForce;
+use crate::fixtures::{brute_of, example};
 use ground_core::{Budget, Grow, Memory, Problem};
 use lit_core::Lit;
 use model_expansion::several;
@@ -45,7 +44,7 @@ fn number_by(
     requires unnamed { (problem.terms ≡ []) × (problem.retired ≡ []) }
 {
     let vars = problem.vars();
-    let mut solver = BruteForce::new(alloc, problem)?;
+    let mut solver = brute_of(alloc, problem)?;
     Ok(number_of(alloc, &mut solver, vars, assume, n))
 }
 

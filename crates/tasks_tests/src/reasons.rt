@@ -1,8 +1,7 @@
 //! Why nothing is left, and why a literal is true.
 ghost use Rattle.std.specs.Prelude.{◌≡◌, []};
 
-use crate::fixtures::example;
-use brute_force::BruteForce;
+use crate::fixtures::{brute_of, example};
 use ground_core::{Budget, Halt, LitList, Memory, Problem, Solve};
 use lit_core::Lit;
 use problem_fixtures::{are_over, no, yes};
@@ -36,7 +35,7 @@ fn conflict_by(alloc: Global, problem: Problem, assume: &[Lit]) -> Result<Option
     requires unnamed { (problem.terms ≡ []) × (problem.retired ≡ []) }
 {
     let vars = problem.vars();
-    let mut solver = BruteForce::new(alloc, problem)?;
+    let mut solver = brute_of(alloc, problem)?;
     match conflict_of(alloc, &mut solver, vars, assume) {
         Ok(found) => Ok(found),
         Err(_) => Err(Memory),
