@@ -31,7 +31,7 @@ loop-cell-init c =
       listing = c.in_ok-listing.ensures.listing;
       range = subst (λ z. (z +ℤ pos (length new.ahead.items)) ≤ℤ pos 1000001) (sym low)
           (subst (λ n. (h.low +ℤ pos n) ≤ℤ pos 1000001) (sym count)
-              (end_small h (is_small c.args.cells.now (interval_view c.hull_of.result) c.requires c.hull_of.ensures)));
+          (end_small h (is_small c.args.cells.now (interval_view c.hull_of.result) c.requires c.hull_of.ensures)));
       low = subst (λ z. negsuc 999999 ≤ℤ z) (sym low) (is_small c.args.cells.now (interval_view c.hull_of.result)
           c.requires c.hull_of.ensures).low_from;
       places = subst (λ z. AllByRecursion (HasPlaces z (length new.ahead.items)) (map cell_view c.args.cells.now))
@@ -59,7 +59,7 @@ loop-cell-preserved c =
     let base : new.base ≡ s.base = c.in_ok-add_cell.ensures.base in
     let count : length new.ahead.items ≡ length s.ahead.items = c.in_ok-add_cell.ensures.count in
     let more = next_listed_cell (HasPlaces s.base (length s.ahead.items)) s.elems new.elems
-        (set.listed (map cell_view c.args.cells.now)) xs i _
+    (set.listed (map cell_view c.args.cells.now)) xs i _
     c.in_ok-add_cell.ensures.elems (drop_more xs i _ c.loop-cell-test.true) c.loop-cell.invariant.places
     c.loop-cell.invariant.elems in
     record {

@@ -24,4 +24,4 @@ returns-clause-elems c =
     ∙ list_any-map (λ (v : Bor (List ℕ)). v.now) (bytes_eq w) (λ (v : Bor (List ℕ)). bytes_eq w v.now) (λ x. refl)
     s.words.keys ∙ sym c.contains.ensures ∙ missing in
     c.in_ok-push.ensures.ok ∙ ap (λ x. s.elems ++ elem.Named x ∷ []) c.in_ok-new.ensures
-        ∙ new_element s.elems (elem.Named w) unlisted
+    ∙ new_element s.elems (elem.Named w) unlisted
