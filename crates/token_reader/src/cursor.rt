@@ -1,10 +1,11 @@
 //! The next token, and what follows it.
-ghost use Rattle.std.specs.Prelude.{◌≡◌, ◌∷◌, [], ◌<◌, length, IfOk, IfErr, IfSome, IfNone, true, false};
+ghost use Rattle.std.specs.Prelude.{◌≡◌, ◌∷◌, [], ◌<◌, length, Err, IfOk, IfErr, IfSome, IfNone, true, false};
 ghost use Rattle.fo_syntax.specs.Terminals.{tok, toks, place_of};
 ghost use Rattle.fo_syntax.specs.Terminals as terminals;
 ghost use Rattle.token_reader.specs.Signs.{next, No, IsSign, SignRead};
 ghost use Rattle.token_reader.specs.Parts.{Connects, NoConnective, EndsPrim, NoArrows, NoAdd, NoCompare, EndsFactor};
 ghost use Rattle.token_reader.specs.Parts.{Unsealed};
+ghost use Rattle.fo_syntax.specs.declared.stops.ReadError.TheVariants.{Memory};
 ghost use Rattle.fo_syntax.specs.declared.terminal.Terminal.TheVariants as t;
 
 use fo_syntax::{Adding, Arrow, Comparison, Item, ReadError, Terminal};
@@ -86,6 +87,7 @@ pub fn sign<'a>(sign: Terminal, items: &'a [Item<'a>], end: usize) -> Found<'a, 
     requires { IsSign sign }
     ensures reads { SignRead sign (toks items.now) end result }
     ensures shorter { IfOk result (λ p. length p.1.now < length items.now) }
+    ensures needs_no_memory { result ≡ Err Memory → ⊥ }
 {
     match skip(sign, items) {
         Some((place, rest)) => Ok((place, rest)),
