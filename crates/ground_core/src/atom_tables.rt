@@ -6,9 +6,8 @@ ghost use Rattle.ground_core.specs.Atoms.{ground_atoms};
 
 use crate::atom_counts::count_atoms;
 use crate::atoms::all_atoms;
-use crate::errors::Memory;
 use kb_logic::{Copied, DomainList, ElemList, ListOf, LiteralList, Symbol};
-use std::alloc::Global;
+use std::alloc::{AllocError as Memory, Global};
 use std::marker::Model;
 
 /// All ground atoms over some symbols and domains, and how many they are.

@@ -3,10 +3,9 @@ ghost use Rattle.std.specs.Prelude.{◌≡◌, ◌≤◌, ◌^◌, true, [], ◌
 ghost use Rattle.kb_logic.specs.Structures.{domain_at};
 ghost use Rattle.ground_core.specs.Atoms.{atom_of, atoms_at, atoms_of_symbol, ground_atoms};
 
-use crate::errors::Memory;
 use kb_logic::tuples::all_tuples;
 use kb_logic::{Elem, ElemList, Literal, LiteralList, Symbol};
-use std::alloc::Global;
+use std::alloc::{AllocError as Memory, Global};
 
 /// The domain of a type.
 fn domain_of(domains: &[ElemList], ty: u32) -> &[Elem]

@@ -3,10 +3,9 @@ ghost use Rattle.std.specs.Prelude.{◌≡◌, ◌∷◌, [], ◌++◌, not, map
 ghost use Rattle.lit_core.specs.declared.literals.Lit.{Lit};
 ghost use Rattle.ground_core.specs.GateClauses.{with_sign, gate_clauses};
 
-use crate::errors::Memory;
 use crate::parts::Gate;
 use lit_core::{Clause, ClauseList, Lit};
-use std::alloc::Global;
+use std::alloc::{AllocError as Memory, Global};
 
 /// The literal, or its negation.
 fn signed(lit: Lit, sign: bool) -> Lit

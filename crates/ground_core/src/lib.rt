@@ -5,7 +5,6 @@
 mod atom_counts;
 mod atom_tables;
 mod atoms;
-mod errors;
 mod gate_clauses;
 mod growing;
 mod laws;
@@ -16,7 +15,7 @@ mod ranges;
 mod solving;
 
 pub use atom_tables::AtomTable;
-pub use errors::Memory;
+pub use std::alloc::AllocError as Memory;
 pub use gate_clauses::clauses_of_gate;
 pub use growing::{Addition, Grow};
 pub use laws::{

@@ -7,11 +7,10 @@ ghost use Rattle.ground_core.specs.Growth.{with_term, with_same, with_exclusion,
 ghost use Rattle.ground_core.specs.Growth.{AddsGate, AddsSum, AddsSame};
 
 use crate::atom_tables::AtomTable;
-use crate::errors::Memory;
 use crate::parts::{AggCon, Gate, GroundTerm, LitList, PartList, TermBound};
 use kb_logic::{AggKind, ExtInt, ListOf};
 use lit_core::{Clause, ClauseList, Lit, Values, Var};
-use std::alloc::Global;
+use std::alloc::{AllocError as Memory, Global};
 use std::marker::Model;
 
 /// What is said of numbered variables. All that is said names variables from 1 to `vars`.

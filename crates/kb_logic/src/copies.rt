@@ -3,14 +3,13 @@ ghost use Rattle.std.specs.Prelude.{◌≡◌, IfOk, map};
 ghost use Rattle.std.specs.Option.{option_map};
 ghost use Rattle.kb_logic.specs.Views.{formula_view, term_view, signed_view, rule_view, definition_view, theory_view};
 
-use crate::errors::Memory;
 use crate::lists::ListOf;
 use crate::syntax::{
     Definition, DefinitionList, Formula, FormulaList, Rule, RuleList, Signed, Term, TermList,
     Theory,
 };
 use crate::vocabularies::Bound;
-use std::alloc::Global;
+use std::alloc::{AllocError as Memory, Global};
 
 impl Formula {
     pub fn copy(&self, alloc: Global) -> Result<Formula, Memory>

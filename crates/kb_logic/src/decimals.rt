@@ -3,8 +3,8 @@ ghost use Rattle.std.specs.Prelude.{◌≡◌, ◌++◌, OnOk, OnErr};
 ghost use Rattle.kb_logic.specs.Decimals.{decimal_text};
 
 use crate::elements::ExtInt;
-use crate::errors::Memory;
 use itoa::Buffer;
+use std::alloc::AllocError as Memory;
 
 /// Appends the number in decimal, or `+inf` or `-inf`.
 pub fn decimal(out: &mut Vec<u8>, n: ExtInt) -> Result<(), Memory>

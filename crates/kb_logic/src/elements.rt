@@ -1,10 +1,9 @@
 //! Elements of domains, and integers with infinities.
 ghost use Rattle.std.specs.Prelude.{◌≡◌, ◌↔◌, IfOk, IsTrue};
 
-use crate::errors::Memory;
 use crate::lists::Copied;
 use crate::names::Name;
-use std::alloc::Global;
+use std::alloc::{AllocError as Memory, Global};
 
 /// An element of a type's domain.
 #[derive(Drop)]

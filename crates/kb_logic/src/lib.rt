@@ -8,7 +8,6 @@
 mod copies;
 mod decimals;
 mod elements;
-mod errors;
 mod lists;
 mod names;
 mod structures;
@@ -19,9 +18,9 @@ mod vocabularies;
 
 pub use decimals::decimal;
 pub use elements::{Elem, ExtInt};
-pub use errors::Memory;
 pub use lists::{Copied, DomainList, ElemList, ListOf, NameList, NumberList, RowList};
 pub use names::Name;
+pub use std::alloc::AllocError as Memory;
 pub use structures::{Literal, LiteralList, Structure, Table, TableList};
 pub use syntax::{
     AggKind, Cmp, Definition, DefinitionList, Formula, FormulaList, Rule, RuleList, Signed, Term,

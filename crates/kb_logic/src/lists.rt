@@ -3,9 +3,8 @@ ghost use Rattle.std.specs.Prelude.{◌≡◌, ◌==◌, List, [], ◌∷◌, �
 ghost use Rattle.std.specs.Option.{option_copied};
 
 use crate::elements::Elem;
-use crate::errors::Memory;
 use crate::names::Name;
-use std::alloc::Global;
+use std::alloc::{AllocError as Memory, Global};
 use std::marker::Model;
 
 /// A type whose values can be copied where there is memory. A copy equals its source.

@@ -1,9 +1,8 @@
 //! Words.
 ghost use Rattle.std.specs.Prelude.{◌≡◌, List, ℕ, IfOk};
 
-use crate::errors::Memory;
 use crate::lists::Copied;
-use std::alloc::Global;
+use std::alloc::{AllocError as Memory, Global};
 use std::marker::Model;
 
 /// A word, seen as its bytes.

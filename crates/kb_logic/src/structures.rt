@@ -2,9 +2,8 @@
 ghost use Rattle.std.specs.Prelude.{◌≡◌, IfOk};
 
 use crate::elements::Elem;
-use crate::errors::Memory;
 use crate::lists::{Copied, DomainList, ElemList, ListOf, RowList};
-use std::alloc::Global;
+use std::alloc::{AllocError as Memory, Global};
 
 /// The rows of one symbol. A predicate's row has the arguments of a true atom, a function's row has
 /// arguments and then their value.

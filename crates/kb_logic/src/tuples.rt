@@ -3,10 +3,9 @@ ghost use Rattle.std.specs.Prelude.{◌≡◌, true, [], ◌∷◌, ◌++◌, ma
 ghost use Rattle.kb_logic.specs.Structures.{tuples_of};
 
 use crate::elements::Elem;
-use crate::errors::Memory;
 use crate::lists::ElemList;
 use crate::values::domain_in;
-use std::alloc::Global;
+use std::alloc::{AllocError as Memory, Global};
 
 /// All tuples of elements of these types, in domain order. Where no domain is empty, the memory that it
 /// takes is linear in what it returns.

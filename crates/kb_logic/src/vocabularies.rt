@@ -1,10 +1,9 @@
 //! Types, symbols and vocabularies.
 ghost use Rattle.std.specs.Prelude.{◌≡◌, IfOk};
 
-use crate::errors::Memory;
 use crate::lists::{Copied, ListOf, NameList, NumberList};
 use crate::names::Name;
-use std::alloc::Global;
+use std::alloc::{AllocError as Memory, Global};
 
 /// What a type is declared to be under. `Of` has the number of another type of the vocabulary.
 #[derive(Clone, Copy)]

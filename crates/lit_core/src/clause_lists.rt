@@ -4,10 +4,9 @@ ghost use Rattle.std.specs.Prelude.{slice_index_or};
 ghost use Rattle.std.specs.Prelude.{All, IsTrue, IfOk, OnOk, OnErr, MatchOption, Some, map, vec_capacity};
 
 use crate::clauses::Clause;
-use crate::errors::Memory;
 use crate::literals::Lit;
 use crate::packed::PackedLit;
-use std::alloc::Global;
+use std::alloc::{AllocError as Memory, Global};
 use std::marker::Model;
 
 /// Clauses, by their places: the literals of all of them in 32 bits each, and where each clause ends. A literal that

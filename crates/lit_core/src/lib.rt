@@ -4,7 +4,6 @@
 
 mod clause_lists;
 mod clauses;
-mod errors;
 mod laws;
 mod literals;
 mod packed;
@@ -12,10 +11,10 @@ mod valuations;
 
 pub use clause_lists::ClauseList;
 pub use clauses::Clause;
-pub use errors::Memory;
 pub use laws::{
     fresh_against_fewer, freshness_is_closure, quiet_leaves_fresh, refutation_is_sound,
 };
 pub use literals::{Lit, Var};
 pub use packed::PackedLit;
+pub use std::alloc::AllocError as Memory;
 pub use valuations::{Assignment, Values, satisfies};

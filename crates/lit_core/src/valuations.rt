@@ -4,9 +4,8 @@ ghost use Rattle.lit_core.specs.Literals.{literal_value, valuation, value_in};
 ghost use Rattle.lit_core.specs.Truth.{IsSatisfied};
 
 use crate::clauses::Clause;
-use crate::errors::Memory;
 use crate::literals::{Lit, Var};
-use std::alloc::Global;
+use std::alloc::{AllocError as Memory, Global};
 use std::marker::Model;
 
 /// One truth value for each variable.
