@@ -6,7 +6,7 @@ use Rattle.kb_logic.specs.Meaning.{truth_of, value_of}
 use Rattle.kb_logic.specs.Trees.{aggregate}
 use Rattle.kb_logic.specs.Views.{formula_view, term_view}
 use Rattle.kb_logic.specs.declared.syntax.Term.{Agg, size-Term}
-use Rattle.kb_logic.specs.declared.syntax.Formula.{size-Formula}
+use Rattle.kb_logic.specs.declared.syntax.Formula.{size-Formula, the_lemmas}
 use Rattle.kb_logic.specs.declared.elements.Elem.{Elem}
 use Rattle.std.proofs.Common.{◌∙◌, arith, rules, subst, FitsSigned, w64, drop, ◌+◌, ◌-◌, ◌^◌, min, ◌≡◌, ◌++◌, ◌&&◌}
 use Rattle.std.proofs.Common.{◌||◌, true, false, ap, sym, refl, List, [], length, get_or, ◌<◌, ◌≤◌}
@@ -352,3 +352,27 @@ aggregate-returns t c =
     ∙ c.loop-number.invariant.0
     ∙ ap (fold (combined k) (total_view c.args.before)) (sym (values_by_front m c.args.bounds.now these others
     c.split.ensures.parts P (λ (a : List Elem). W (e ++ a))))
+
+pub is_true-is_in-requires : goal.is_true-is_in-requires
+is_true-is_in-requires t c = search (rules, the_lemmas)
+
+pub is_true-is_true-requires : goal.is_true-is_true-requires
+is_true-is_true-requires t c = search (rules, the_lemmas)
+
+pub is_true-is_true-requires-else-not-is_true : goal.is_true-is_true-requires-else-not-is_true
+is_true-is_true-requires-else-not-is_true t c = search (rules, the_lemmas)
+
+pub is_true-is_true-requires-in-Iff : goal.is_true-is_true-requires-in-Iff
+is_true-is_true-requires-in-Iff t c = search (rules, the_lemmas)
+
+pub is_true-is_true-requires-in-Iff-2 : goal.is_true-is_true-requires-in-Iff-2
+is_true-is_true-requires-in-Iff-2 t c = search (rules, the_lemmas)
+
+pub is_true-is_true-requires-in-Not : goal.is_true-is_true-requires-in-Not
+is_true-is_true-requires-in-Not t c = search (rules, the_lemmas)
+
+pub is_true-returns-else-not-is_true : goal.is_true-returns-else-not-is_true
+is_true-returns-else-not-is_true t c = search (rules, the_lemmas)
+
+pub is_true-returns-in-All : goal.is_true-returns-in-All
+is_true-returns-in-All t c = search (rules, the_lemmas)
