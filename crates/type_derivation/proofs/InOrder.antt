@@ -21,7 +21,8 @@ use Rattle.reading_stages.specs.TypedTrees.{inside, typed_vars, aggregate_parts,
 use Rattle.reading_stages.specs.TypedTrees.{typed_formulas, typed_term, typed_node, typed_terms, typed_summands}
 use Rattle.reading_stages.specs.Typing.{settled_bindings, places_in, sides_in, by_places, part_by_places, by_sides}
 use Rattle.reading_stages.specs.Typing.{part_by_sides, type_found, within}
-use Rattle.type_derivation.specs.ListedTrees.{types_at, types_among, listed_vars, left_vars, left_formula}
+use Rattle.type_constraints.specs.ChosenTypes.{types_at, types_among}
+use Rattle.type_derivation.specs.ListedTrees.{listed_vars, left_vars, left_formula}
 use Rattle.type_derivation.specs.ListedTrees.{left_formulas, left_term, left_node, left_terms, left_summands}
 use Rattle.type_derivation.specs.ListedTrees.{listed_formula, listed_formulas, listed_term, listed_node, listed_terms}
 use Rattle.type_derivation.specs.ListedTrees.{listed_summands, TypesAreInOrder}

@@ -1,9 +1,4 @@
 mod InOrder
-mod Integers
-mod Least
 mod Listed
-mod Seen
-mod Settled
 mod TreeSteps
 mod TypeRows
-mod WaysUp

@@ -1,29 +1,20 @@
--- The types of all variables in the order in which they are bound in the text, and trees whose variables take theirs
--- from the start of such a list. Derivation works by these trees; they are the typed ones.
-use Rattle.std.specs.Prelude.{ℕ, ◌≡◌, pos, List, [], ◌∷◌, ◌++◌, map}
+-- Trees whose variables take their types from the start of a list, in the order in which they are bound in the text.
+-- Derivation works by these trees; they are the typed ones.
+use Rattle.std.specs.Prelude.{ℕ, ◌≡◌, pos, List, [], ◌∷◌}
 use Rattle.kb_logic.specs.declared.vocabularies.Vocabulary.{Vocabulary}
 use Rattle.kb_logic.specs.declared.vocabularies.Bound.{Bound}
 use Rattle.kb_logic.specs.Trees.{TermTree, TermTrees, SummandTrees, FormulaTree, FormulaTrees}
 use Rattle.kb_logic.specs.Trees as tree
-use Rattle.reading_stages.specs.Demands.{Part, demand, scope, Parts, no_parts, more_parts, later_types}
+use Rattle.reading_stages.specs.Demands.{later_types}
 use Rattle.reading_stages.specs.NamedTrees.{NamedVar, NamedTerm, at, NamedNode, variable, integer, constructed}
 use Rattle.reading_stages.specs.NamedTrees.{application, summation, product, aggregate, NamedTerms, no_terms}
 use Rattle.reading_stages.specs.NamedTrees.{more_terms, NamedSummands, no_summands, more_summands, NamedFormula, truth}
 use Rattle.reading_stages.specs.NamedTrees.{atom, comparison, negation, conjunction, disjunction, implication}
 use Rattle.reading_stages.specs.NamedTrees.{equivalence, universal, existential, numbered, NamedFormulas, no_formulas}
 use Rattle.reading_stages.specs.NamedTrees.{more_formulas}
-use Rattle.reading_stages.specs.TypedTrees.{chosen, integer_of, truth_tree, typed_sentence, typed_block_term}
+use Rattle.reading_stages.specs.TypedTrees.{integer_of, truth_tree, typed_sentence, typed_block_term}
 use Rattle.reading_stages.specs.TypesStage.{sentence_settled, block_settled}
-
--- the types of all variables in parts, as they are found
-abbrev mutual
-  pub types_at : Part → List ℕ
-  types_at (demand d) = []
-  types_at (scope bs ps) = map (λ b. chosen b.finding) bs ++ types_among ps
-
-  pub types_among : Parts → List ℕ
-  types_among no_parts = []
-  types_among (more_parts p ps) = types_at p ++ types_among ps
+use Rattle.type_constraints.specs.ChosenTypes.{types_among}
 
 -- the type at the start
 abbrev pub first_type : List ℕ → ℕ

@@ -8,47 +8,23 @@ ghost use Rattle.reading_stages.specs.TypedFiles.{typed_block, typed_file, typed
 ghost use Rattle.reading_stages.specs.TypedTrees.{typed_block_term, typed_sentence};
 ghost use Rattle.reading_stages.specs.TypesStage as stage;
 ghost use Rattle.reading_stages.specs.TypesStage.{type_noted, IsTyped};
-ghost use Rattle.reading_stages.specs.Typing.{all_settled};
 ghost use Rattle.reading_stages.specs.FileViews as named_view;
 ghost use Rattle.reading_stages.specs.FileViews.{kb_view};
 ghost use Rattle.reading_stages.specs.NamedViews.{formula_view, term_view};
 ghost use Rattle.type_derivation.specs.Failures.{FailsWith};
-ghost use Rattle.type_derivation.specs.ListedTrees.{types_among};
-ghost use Rattle.type_derivation.specs.PartViews.{parts_view};
 ghost use Rattle.type_derivation.specs.TypedViews.{named_term_view, named_theory_view, typed_view};
 
-use crate::demands::Part;
-use crate::gathering::settle_all;
-use crate::kinds::demand_number;
-use crate::noting::note_parts;
 use crate::remaining::Remaining;
+use crate::trees;
 use crate::typed::{Named, Places, TypedKb};
-use crate::{listing, trees};
 use fo_syntax::KbError;
-use kb_logic::{Formula, ListOf, Memory, Term, Theory, TypeDecl, Vocabulary};
+use kb_logic::{Formula, ListOf, Memory, Term, Theory, Vocabulary};
 use reading_stages::{Earliest, NamedFormula, NamedKb, NamedTerm, NamedTermBlock, NamedTheory};
 use sqlite_items::Items;
 use std::alloc::Global;
+use type_constraints::{block_term_types, sentence_types};
 
-/// The types of all variables in these parts, and what is refused of them.
-fn types_of(
-    alloc: Global,
-    types: &[TypeDecl],
-    listed: &[Part],
-    earliest: &mut Earliest,
-) -> Result<Remaining, Memory>
-    requires acyclic { HasNoCycle (type_parents types.now) }
-    ensures types { IfOk result (λ r. r ≡ types_among (all_settled types.now (parts_view listed.now))) }
-    ensures noted { OnOk result (earliest.new.first ≡ fold (type_noted types.now) earliest.old.first
-        (stage.uses_among [] (all_settled types.now (parts_view listed.now)))) }
-{
-    let parts = settle_all(alloc, types, listed)?;
-    let mut scope = Vec::new(alloc);
-    let mut chosen = Vec::new(alloc);
-    note_parts(types, &mut scope, &parts, &mut chosen, earliest)?;
-    Ok(Remaining::new(chosen))
-}
-
+/// A sentence with the types of its variables.
 fn sentence(
     alloc: Global,
     vocab: &Vocabulary,
@@ -62,12 +38,11 @@ fn sentence(
     ensures noted { OnOk result (earliest.new.first ≡ fold (type_noted vocab.now.types) earliest.old.first
         (stage.uses_among [] (stage.sentence_settled vocab.now (formula_view named.now)))) }
 {
-    let mut listed = Vec::new(alloc);
-    listing::formula(alloc, vocab.symbols.as_slice(), named, &mut listed)?;
-    let mut types = types_of(alloc, vocab.types.as_slice(), &listed, earliest)?;
+    let mut types = Remaining::new(sentence_types(alloc, vocab, named, earliest)?);
     trees::formula(alloc, &mut types, named, places)
 }
 
+/// The term of a term block with the types of its variables.
 fn block_term(
     alloc: Global,
     vocab: &Vocabulary,
@@ -81,10 +56,7 @@ fn block_term(
     ensures noted { OnOk result (earliest.new.first ≡ fold (type_noted vocab.now.types) earliest.old.first
         (stage.uses_among [] (stage.block_settled vocab.now (term_view named.now)))) }
 {
-    let mut listed = Vec::new(alloc);
-    demand_number(vocab.symbols.as_slice(), named, &mut listed)?;
-    listing::term(alloc, vocab.symbols.as_slice(), named, &mut listed)?;
-    let mut types = types_of(alloc, vocab.types.as_slice(), &listed, earliest)?;
+    let mut types = Remaining::new(block_term_types(alloc, vocab, named, earliest)?);
     trees::term(alloc, &mut types, named, places)
 }
 

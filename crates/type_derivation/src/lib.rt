@@ -2,15 +2,8 @@
 #![tactic(auto)]
 
 mod copies;
-mod demands;
 mod files;
-mod findings;
-mod gathering;
-mod kinds;
-mod kinship;
 mod laws;
-mod listing;
-mod noting;
 mod remaining;
 mod trees;
 mod typed;

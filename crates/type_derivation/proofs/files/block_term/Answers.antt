@@ -3,14 +3,15 @@ use Rattle.std.proofs.lemmas.Result.{IfOk-weaker}
 use Rattle.kb_logic.specs.Views as view
 use Rattle.reading_stages.specs.TypesStage.{block_settled}
 use Rattle.reading_stages.specs.NamedViews.{term_view}
-use Rattle.type_derivation.specs.ListedTrees.{types_among, listed_term}
+use Rattle.type_constraints.specs.ChosenTypes.{types_among}
+use Rattle.type_derivation.specs.ListedTrees.{listed_term}
 use Rattle.type_derivation.proofs.InOrder.{types_are_in_order}
 use Rattle.type_derivation.proofs.files.block_term.Goals as goal
 
 pub returns-clause-tree : goal.returns-clause-tree
 returns-clause-tree c =
-    let listed : IfOk c.term-2.result (λ t. view.term_view t ≡ listed_term
+    let listed : IfOk c.term.result (λ t. view.term_view t ≡ listed_term
     (types_among (block_settled c.args.vocab.now (term_view c.args.named.now))) (term_view c.args.named.now)) =
     search rules in
-    IfOk-weaker c.term-2.result _ _ (λ t e. e ∙ sym (types_are_in_order.term c.args.vocab.now
+    IfOk-weaker c.term.result _ _ (λ t e. e ∙ sym (types_are_in_order.term c.args.vocab.now
     (term_view c.args.named.now))) listed

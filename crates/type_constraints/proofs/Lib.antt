@@ -1,0 +1,5 @@
+mod Integers
+mod Least
+mod Seen
+mod Settled
+mod WaysUp

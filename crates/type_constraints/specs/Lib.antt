@@ -1,0 +1,4 @@
+pub mod PartViews
+pub mod Above
+pub mod Gathering
+pub mod ChosenTypes

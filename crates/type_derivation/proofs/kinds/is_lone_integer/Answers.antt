@@ -1,5 +1,0 @@
-use Rattle.type_derivation.proofs.Integers.{several}
-use Rattle.type_derivation.proofs.kinds.is_lone_integer.Goals as goal
-
-pub returns-in-len2-up : goal.returns-in-len2-up
-returns-in-len2-up c = several c.args.operands.now c.in-len2-up.len_at_least

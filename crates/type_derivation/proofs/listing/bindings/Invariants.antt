@@ -1,8 +1,0 @@
-use Rattle.std.proofs.Common.{◌≡◌, map, take}
-use Rattle.reading_stages.specs.Demands.{binding_of}
-use Rattle.reading_stages.specs.NamedViews.{var_view}
-use Rattle.type_derivation.specs.PartViews.{binding_view}
-use Rattle.type_derivation.proofs.listing.bindings.Given as goal
-
-abbrev pub invariant-loop-var : goal.invariant-loop-var
-invariant-loop-var l = map binding_view l.bindings.items ≡ map binding_of (map var_view (take l.var-index l.vars))
