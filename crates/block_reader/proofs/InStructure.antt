@@ -24,24 +24,23 @@ use Rattle.block_reader.proofs.Plain.{fully, not_first, sign_law, name_law, then
 use Rattle.block_reader.proofs.Plain.{option_in, option_ends, each_law, each_in, either_law, either_left, either_right}
 use Rattle.block_reader.proofs.Plain.{same_in, narrowed_in, stuck_behind, behind, behind_in}
 use Rattle.block_reader.proofs.BlockReadings.{absent_at, neither}
-use Rattle.block_reader.proofs.StructureFormats.{BeginsElement, element_format, element_law, range_format}
-use Rattle.block_reader.proofs.StructureFormats.{range_optional, item_format, item_parts_law, item_same, item_law}
-use Rattle.block_reader.proofs.StructureFormats.{item_tails, item_tails_several, items_format, items_parts_law}
-use Rattle.block_reader.proofs.StructureFormats.{items_same, items_law, to_law, arrow_format, arrow_optional}
-use Rattle.block_reader.proofs.StructureFormats.{closed_arrow_law, inner_row, inner_row_law, only_format}
-use Rattle.block_reader.proofs.StructureFormats.{other_alternatives, row_format, row_parts_law, row_same}
-use Rattle.block_reader.proofs.StructureFormats.{row_alternatives, row_law, row_tail, row_tails_several, row_tails}
-use Rattle.block_reader.proofs.StructureFormats.{row_tails_law, tails_to, tails_written, rows_format, rows_parts_law}
-use Rattle.block_reader.proofs.StructureFormats.{rows_same, rows_optional, inner_table_law, ATruth}
-use Rattle.block_reader.proofs.StructureFormats.{other_value_alternatives, value_format, value_parts_law}
-use Rattle.block_reader.proofs.StructureFormats.{value_alternatives, value_same, value_law, closing_alternatives}
-use Rattle.block_reader.proofs.StructureFormats.{named_mark, named_mark_law, equal_format, equal_parts_law}
-use Rattle.block_reader.proofs.StructureFormats.{equal_alternatives, equal_same, equal_law, given_value_law}
-use Rattle.block_reader.proofs.StructureFormats.{entry_format, entry_parts_law, entry_same, entry_law, entries_format}
-use Rattle.block_reader.proofs.StructureFormats.{entries_several, closed_entries_law, of_vocabulary_law, colon_of}
-use Rattle.block_reader.proofs.StructureFormats.{colon_of_law, named_header, named_header_law, header_format}
-use Rattle.block_reader.proofs.StructureFormats.{header_parts_law, header_same, header_law, structure_format}
-use Rattle.block_reader.proofs.StructureFormats.{structure_parts_law, structure_same}
+use Rattle.block_reader.proofs.RowFormats.{BeginsElement, element_format, element_law, range_format, range_optional}
+use Rattle.block_reader.proofs.RowFormats.{item_format, item_parts_law, item_same, item_law, item_tails}
+use Rattle.block_reader.proofs.RowFormats.{item_tails_several, items_format, items_parts_law, items_same, items_law}
+use Rattle.block_reader.proofs.RowFormats.{to_law, arrow_format, arrow_optional, closed_arrow_law, inner_row}
+use Rattle.block_reader.proofs.RowFormats.{inner_row_law, only_format, other_alternatives, row_format, row_parts_law}
+use Rattle.block_reader.proofs.RowFormats.{row_same, row_alternatives, row_law, row_tail, row_tails_several, row_tails}
+use Rattle.block_reader.proofs.RowFormats.{row_tails_law, tails_to, tails_written, rows_format, rows_parts_law}
+use Rattle.block_reader.proofs.RowFormats.{rows_same}
+use Rattle.block_reader.proofs.StructureFormats.{rows_optional, inner_table_law, ATruth, other_value_alternatives}
+use Rattle.block_reader.proofs.StructureFormats.{value_format, value_parts_law, value_alternatives, value_same}
+use Rattle.block_reader.proofs.StructureFormats.{value_law, closing_alternatives, named_mark, named_mark_law}
+use Rattle.block_reader.proofs.StructureFormats.{equal_format, equal_parts_law, equal_alternatives, equal_same}
+use Rattle.block_reader.proofs.StructureFormats.{equal_law, given_value_law, entry_format, entry_parts_law, entry_same}
+use Rattle.block_reader.proofs.StructureFormats.{entry_law, entries_format, entries_several, closed_entries_law}
+use Rattle.block_reader.proofs.StructureFormats.{of_vocabulary_law, colon_of, colon_of_law, named_header}
+use Rattle.block_reader.proofs.StructureFormats.{named_header_law, header_format, header_parts_law, header_same}
+use Rattle.block_reader.proofs.StructureFormats.{header_law, structure_format, structure_parts_law, structure_same}
 
 -- ---- how a block begins
 

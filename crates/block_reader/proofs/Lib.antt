@@ -4,4 +4,5 @@ pub mod BlockReadings
 pub mod InVocabulary
 pub mod InStructure
 pub mod BlockFormats
+pub mod RowFormats
 pub mod StructureFormats

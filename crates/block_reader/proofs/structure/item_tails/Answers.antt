@@ -5,7 +5,7 @@ use Rattle.fo_syntax.specs.declared.terminal.Terminal.TheVariants as t
 use Rattle.fo_syntax.specs.Terminals.{Tok, toks, sign}
 use Rattle.block_reader.proofs.Formats.{each_step}
 use Rattle.block_reader.proofs.Plain.{behind}
-use Rattle.block_reader.proofs.StructureFormats.{item_format}
+use Rattle.block_reader.proofs.RowFormats.{item_format}
 use Rattle.block_reader.proofs.InStructure.{in_item_tails, items_end}
 use Rattle.block_reader.proofs.structure.item_tails.Goals as goal
 

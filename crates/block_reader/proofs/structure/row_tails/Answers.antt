@@ -8,7 +8,7 @@ use Rattle.fo_syntax.specs.BlockSpelling.{put_each, put_behind, put_row}
 use Rattle.fo_syntax.specs.BlockView.{row_tail_view}
 use Rattle.block_reader.proofs.Formats.{each_step}
 use Rattle.block_reader.proofs.Plain.{behind}
-use Rattle.block_reader.proofs.StructureFormats.{row_format}
+use Rattle.block_reader.proofs.RowFormats.{row_format}
 use Rattle.block_reader.proofs.InStructure.{in_row_tails, rows_end}
 use Rattle.block_reader.proofs.structure.row_tails.Goals as goal
 
