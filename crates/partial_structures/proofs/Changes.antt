@@ -1,5 +1,5 @@
 -- A new mark of one node.
-use Rattle.std.proofs.Common.{◌≡◌, ℕ, suc, zero, ◌<◌, List, [], ◌∷◌, length, Bool, true, ◌&&◌, ◌||◌, nat_lt, Option}
+use Rattle.std.proofs.Common.{◌≡◌, ℕ, suc, zero, ◌<◌, List, [], ◌∷◌, length, Bool, true, ◌&&◌, ◌||◌, nat_lt, Option, reverse}
 use Rattle.std.proofs.Common.{None, Some, if◌then◌else◌, refl, sym, ap, ◌∙◌, arith, slice_get}
 use Rattle.std.specs.Option.{option_map, option_map_or}
 use Rattle.std.specs.List.{list_all}
@@ -7,7 +7,8 @@ use Rattle.kb_logic.specs.declared.elements.Elem.{Elem}
 use Rattle.indexmap.specs.IndexMap.{set_value_at}
 use Rattle.partial_structures.specs.Words.{place}
 use Rattle.partial_structures.specs.Rows.{same_edge, label_of, child_by, node_of, blank, mark_at, mark_of, is_symbol}
-use Rattle.partial_structures.specs.Rows.{is_tree, Grows, Marks}
+use Rattle.partial_structures.specs.Rows.{is_tree, Grows, Marks, MadeTrue}
+use Rattle.partial_structures.specs.declared.truths.Truth.TheVariants.{Yes}
 use Rattle.partial_structures.specs.declared.rows.Edge.{Edge}
 use Rattle.partial_structures.specs.declared.rows.Mark.{Mark}
 use Rattle.partial_structures.specs.declared.rows.Label.{Label}
@@ -102,3 +103,18 @@ set_after ws later es fs gs s xs ys n mark f same grows at row is set =
       here = ap (λ hs. mark_of ws hs s xs) set ∙ marks.here ∙ ap f was;
       others = λ r zs ne. ap (λ hs. mark_of ws hs r zs) set ∙ marks.others r zs ne ∙ grows.marks ws r zs;
     }
+
+-- a new mark after a tree grew is one of the tree before
+pub grown_Marks : (ws : List (List ℕ)) (es fs gs : List (Edge × Mark)) (s : ℕ) (xs : List Elem) (f : Mark → Mark)
+    → Grows es fs → Marks ws fs gs s xs (f (mark_of ws fs s xs)) → Marks ws es gs s xs (f (mark_of ws es s xs))
+grown_Marks ws es fs gs s xs f grows m = record {
+  here = m.here ∙ ap f (grows.marks ws s xs);
+  others = λ r zs ne. m.others r zs ne ∙ grows.marks ws r zs;
+}
+
+pub grown_MadeTrue : (ws : List (List ℕ)) (es fs gs : List (Edge × Mark)) (s : ℕ) (args : List Elem)
+    (v : Option Elem) → Grows es fs → MadeTrue ws fs gs s args v → MadeTrue ws es gs s args v
+grown_MadeTrue ws es fs gs s args None grows m = grown_Marks ws es fs gs s (reverse args)
+    (λ k. record k { known = Yes }) grows m
+grown_MadeTrue ws es fs gs s args (Some x) grows m = grown_Marks ws es fs gs s (reverse args)
+    (λ k. record k { value = label_of ws x }) grows m

@@ -10,7 +10,7 @@ use Rattle.kb_logic.specs.Denotations.{denotation_of, same_value}
 use Rattle.kb_logic.specs.Models.{GroundAtom}
 use Rattle.partial_structures.specs.KnownAtoms.{same_row, same_option, same_atom, both_values, is_rival}
 use Rattle.partial_structures.specs.Rows.{same_label, label_of, has_label, blank, child_by, node_of, mark_at, mark_of}
-use Rattle.partial_structures.specs.Rows.{row_of, Marks, MadeTrue, MadeFalse, settled, denied, same_optional_label}
+use Rattle.partial_structures.specs.Rows.{Grows, row_of, Marks, MadeTrue, MadeFalse, settled, denied, same_optional_label}
 use Rattle.partial_structures.specs.Rows.{value_status, status_of}
 use Rattle.partial_structures.specs.Flags.{is_closed}
 use Rattle.partial_structures.specs.Status.{is_yes, is_no}
@@ -369,6 +369,20 @@ pub same_marks : (ws : List (List ℕ)) (es fs : List (Edge × Mark)) (c : Bool)
 same_marks ws es fs c h s xs None = ap (λ m. settled c m.known) (h s (reverse xs))
 same_marks ws es fs c h s xs (Some x) = value_truth ws es fs c s xs x (ap (λ m. m.value) (h s (reverse xs)))
     (ap (λ m. m.known) (h s (x ∷ reverse xs)))
+
+-- what the rows of a tree that grew say of an atom is what they said
+pub status_kept : (ws later : List (List ℕ)) (es fs : List (Edge × Mark)) (c : Bool) (s : ℕ) (xs : List Elem)
+    (v : Option Elem) → later ≡ ws → Grows es fs → status_of later fs c s xs v ≡ status_of ws es c s xs v
+status_kept ws later es fs c s xs v same grows = ap (λ w. status_of w fs c s xs v) same
+    ∙ same_marks ws es fs c (grows.marks ws) s xs v
+
+-- what is read at the node where a row ends in a tree that grew is what the rows said of the atom before
+pub read_behind : (ws later : List (List ℕ)) (es fs : List (Edge × Mark)) (c : Bool) (s n : ℕ) (args : List Elem)
+    (v : Option Elem) (known : Truth) → later ≡ ws → Grows es fs → node_of later fs s (reverse args) ≡ Some n
+    → ((r : ℕ) (xs : List Elem) → node_of later fs r (reverse xs) ≡ Some n → known ≡ status_of later fs c r xs v)
+    → known ≡ status_of ws es c s args v
+read_behind ws later es fs c s n args v known same grows at read = read s args at
+    ∙ status_kept ws later es fs c s args v same grows
 
 no_child : (o : Option ℕ) (l : Option Label) → child_by [] o l ≡ None
 no_child None l = refl

@@ -1,11 +1,16 @@
 //! What rows say of an atom.
-ghost use Rattle.std.specs.Prelude.{IfOk, Some, ◌≡◌, List, ℕ, All, IfSome, IsTrue, OnOk, OnErr};
+ghost use Rattle.std.specs.Prelude.{IfOk, Some, ◌≡◌, ◌↔◌, ◌<◌, ◌+◌, List, ℕ, All, IfSome, IsTrue, IsErrOf, OnOk, OnErr};
+ghost use Rattle.std.specs.Prelude.{length, reverse};
 ghost use Rattle.kb_logic.specs.declared.elements.Elem.{Elem as Element};
 ghost use Rattle.partial_structures.specs.Words.{words_in};
 ghost use Rattle.partial_structures.specs.Ordered.{value_behind};
 ghost use Rattle.partial_structures.specs.Rows.{Grows, MadeFalse, MadeTrue, node_of, row_of, denied, has_label};
 ghost use Rattle.partial_structures.specs.Rows.{mark_of, settled, status_of};
+ghost use Rattle.partial_structures.specs.Counts.{added_by};
+ghost use Rattle.partial_structures.specs.declared.truths.Truth.TheVariants.{No};
+ghost use Rattle.partial_structures.specs.declared.errors.SetError.TheVariants.{DataClash};
 
+use crate::errors::SetError;
 use crate::rows::{Mark, Rows};
 use crate::truths::Truth;
 use kb_logic::{Elem, Literal, Memory};
@@ -79,28 +84,34 @@ pub(crate) fn status(rows: &Rows, closed: bool, atom: &Literal) -> Truth
     }
 }
 
-/// Makes the atom true.
-pub(crate) fn make_true(rows: &mut Rows, atom: &Literal) -> Result<(), Memory>
-    requires { All (λ x. IsTrue (has_label (words_in rows.old.words) x)) atom.now.args }
-    ensures ok { OnOk result (MadeTrue (words_in rows.old.words) rows.old.nodes.entries rows.new.nodes.entries
-        atom.now.symbol atom.now.args atom.now.value) }
-    ensures err { OnErr result ((s : ℕ) (xs : List Element) → mark_of (words_in rows.old.words) rows.new.nodes.entries s
-        xs ≡ mark_of (words_in rows.old.words) rows.old.nodes.entries s xs) }
+/// What is known of the atom with this value whose arguments lead to the node.
+fn known_behind(rows: &Rows, closed: bool, front: Option<usize>, value: &Option<Elem>) -> Truth
+    ensures { (s : ℕ) (args : List Element) → node_of (words_in rows.now.words) rows.now.nodes.entries s (reverse args)
+        ≡ front → result ≡ status_of (words_in rows.now.words) rows.now.nodes.entries closed s args value.now }
+{
+    match value {
+        None => if_closed(closed, rows.mark(front).known),
+        Some(value) => value_known(rows, closed, front, value),
+    }
+}
+
+/// Makes the atom true whose arguments lead to the node.
+fn affirm(rows: &mut Rows, node: usize, value: &Option<Elem>)
+    requires { node < length rows.old.nodes.entries }
+    ensures made { (s : ℕ) (args : List Element) → node_of (words_in rows.old.words) rows.old.nodes.entries s
+        (reverse args) ≡ Some node → MadeTrue (words_in rows.old.words) rows.old.nodes.entries rows.new.nodes.entries s
+        args value.now }
     ensures words { rows.new.words ≡ rows.old.words }
 {
-    let node = rows.reach(atom.symbol, atom.args.as_slice())?;
     let mark = rows.mark(Some(node));
-    match &atom.value {
-        None => {
-            rows.set_mark(
-                node,
-                Mark {
-                    known: Truth::Yes,
-                    value: mark.value,
-                },
-            );
-            Ok(())
-        }
+    match value {
+        None => rows.set_mark(
+            node,
+            Mark {
+                known: Truth::Yes,
+                value: mark.value,
+            },
+        ),
         Some(value) => {
             let value = rows.label(value);
             rows.set_mark(
@@ -110,8 +121,63 @@ pub(crate) fn make_true(rows: &mut Rows, atom: &Literal) -> Result<(), Memory>
                     value,
                 },
             );
-            Ok(())
         }
+    }
+}
+
+/// How many atoms are true once one more is, whose truth before is `known`; None where they cannot be counted.
+fn counted(known: Truth, count: u64) -> Option<u64>
+    ensures { IfSome result (λ n. n ≡ count + added_by known) }
+{
+    match known {
+        Truth::Yes => Some(count),
+        _ => count.checked_add(1),
+    }
+}
+
+/// Why an atom was not made true for which there is no memory, where this is known of it.
+fn unaffirmed(known: Truth) -> SetError
+    ensures { (result ≡ DataClash) ↔ (known ≡ No) }
+{
+    match known {
+        Truth::No => SetError::DataClash,
+        _ => SetError::Memory,
+    }
+}
+
+/// Makes the atom true, unless it is false, where so many atoms are true; how many are true then.
+///
+/// What is known is looked up where the one walk through the tree ends that makes room for the atom. Only where that
+/// has no memory a walk of its own says whether the atom is false.
+pub(crate) fn make_true(
+    rows: &mut Rows,
+    closed: bool,
+    count: u64,
+    atom: &Literal,
+) -> Result<u64, SetError>
+    requires { All (λ x. IsTrue (has_label (words_in rows.old.words) x)) atom.now.args }
+    ensures ok { OnOk result (MadeTrue (words_in rows.old.words) rows.old.nodes.entries rows.new.nodes.entries
+        atom.now.symbol atom.now.args atom.now.value) }
+    ensures count { IfOk result (λ n. n ≡ count + added_by (status_of (words_in rows.old.words) rows.old.nodes.entries
+        closed atom.now.symbol atom.now.args atom.now.value)) }
+    ensures clash { IsErrOf result DataClash ↔ (status_of (words_in rows.old.words) rows.old.nodes.entries closed
+        atom.now.symbol atom.now.args atom.now.value ≡ No) }
+    ensures err { OnErr result ((s : ℕ) (xs : List Element) → mark_of (words_in rows.old.words) rows.new.nodes.entries s
+        xs ≡ mark_of (words_in rows.old.words) rows.old.nodes.entries s xs) }
+    ensures words { rows.new.words ≡ rows.old.words }
+{
+    let Ok(node) = rows.reach(atom.symbol, atom.args.as_slice()) else {
+        return Err(unaffirmed(status(rows, closed, atom)));
+    };
+    match known_behind(rows, closed, Some(node), &atom.value) {
+        Truth::No => Err(SetError::DataClash),
+        known => match counted(known, count) {
+            None => Err(SetError::Memory),
+            Some(count) => {
+                affirm(rows, node, &atom.value);
+                Ok(count)
+            }
+        },
     }
 }
 

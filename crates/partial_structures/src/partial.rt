@@ -1,5 +1,5 @@
 //! Partial structures.
-ghost use Rattle.std.specs.Prelude.{◌≡◌, ◌↔◌, ◌<◌, ◌+◌, ◌++◌, length, map, Contains, IfOk, IfSome, IsTrue, MatchBool};
+ghost use Rattle.std.specs.Prelude.{◌≡◌, ◌↔◌, ◌<◌, ◌++◌, length, map, Contains, IfOk, IsTrue, MatchBool};
 ghost use Rattle.std.specs.Prelude.{OnOk, OnErr, IsErrOf};
 ghost use Rattle.std.specs.List.{AllByRecursion};
 ghost use Rattle.kb_logic.specs.Structures.{IsDistinct, domain_at};
@@ -7,7 +7,6 @@ ghost use Rattle.partial_structures.specs.Known.{known_in};
 ghost use Rattle.partial_structures.specs.KnownAtoms.{IsAtomOver, atom_of, atoms_of, nothing_known, value_at};
 ghost use Rattle.partial_structures.specs.KnownAtoms.{with_closed, with_false, with_true};
 ghost use Rattle.partial_structures.specs.Consistency.{IsConsistent, IsListed};
-ghost use Rattle.partial_structures.specs.Counts.{added_by};
 ghost use Rattle.partial_structures.specs.Extension.{ExtendsData, IsStructureOver};
 ghost use Rattle.partial_structures.specs.declared.truths.Truth.TheVariants.{Yes, No};
 ghost use Rattle.partial_structures.specs.declared.errors.SetError.TheVariants.{DataClash};
@@ -155,18 +154,13 @@ impl Partial {
         ensures clash { IsErrOf result DataClash ↔ (value_at self.old (atom_of atom.now) ≡ No) }
         ensures err { OnErr result (self.new ≡ self.old) }
     {
-        match status(&self.rows, flag(&self.closed, atom.symbol), atom) {
-            Truth::No => Err(SetError::DataClash),
-            known => match counted(known, self.count) {
-                None => Err(SetError::Memory),
-                Some(count) => match make_true(&mut self.rows, atom) {
-                    Ok(()) => {
-                        self.count = count;
-                        Ok(())
-                    }
-                    Err(_) => Err(SetError::Memory),
-                },
-            },
+        let closed = flag(&self.closed, atom.symbol);
+        match make_true(&mut self.rows, closed, self.count, atom) {
+            Ok(count) => {
+                self.count = count;
+                Ok(())
+            }
+            Err(error) => Err(error),
         }
     }
 
@@ -223,16 +217,6 @@ impl Partial {
         ensures { self.new ≡ with_closed self.old symbol }
     {
         self.closed[symbol as usize] = true;
-    }
-}
-
-/// How many atoms are true once one more is, whose truth before is `known`; None where they cannot be counted.
-fn counted(known: Truth, count: u64) -> Option<u64>
-    ensures { IfSome result (λ n. n ≡ count + added_by known) }
-{
-    match known {
-        Truth::Yes => Some(count),
-        _ => count.checked_add(1),
     }
 }
 
