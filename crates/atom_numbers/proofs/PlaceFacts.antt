@@ -1,12 +1,12 @@
 -- Places of tuples, whose elements are digits, and of atoms.
-use Rattle.std.proofs.Common.{◌≡◌, ℕ, zero, suc, ◌+◌, ◌*◌, ◌^◌, ◌<◌, ◌≤◌, Option, Some, None, List, [], ◌∷◌, map}
+use Rattle.std.proofs.Common.{◌≡◌, ℕ, zero, suc, ◌+◌, ◌*◌, ◌/◌, ◌%◌, ◌^◌, ◌<◌, ◌≤◌, Option, Some, None, List, [], ◌∷◌, ◌++◌, map}
 use Rattle.std.proofs.Common.{option_map, length, drop, take, get_or, slice_get, Contains, refl, sym, ap, ◌∙◌, subst}
-use Rattle.std.proofs.Common.{arith, inl, inr, ⊎_elim, ◌⊎◌, length-drop}
-use Rattle.std.specs.List.{flat_map, sum_by}
-use Rattle.std.proofs.lemmas.List.{at_drop_more, at_drop_all, length-map}
+use Rattle.std.proofs.Common.{arith, inl, inr, ⊎_elim, length-drop}
+use Rattle.std.specs.List.{sum_by}
+use Rattle.std.proofs.lemmas.List.{at_drop_more, at_drop_all, length-map, append_assoc}
 use Rattle.std.proofs.lemmas.List.Sums.{sum_by_more_le, sum_by_more}
 use Rattle.std.proofs.Math.Seq.{take-length}
-use Rattle.std.proofs.lemmas.Nat.{mul-le}
+use Rattle.std.proofs.lemmas.Nat.{mul-le, div-mul-add, div_below, mod_below, div-add-mod'}
 use Rattle.std.proofs.lemmas.Option.{slice_get_within, slice_get-map, slice_get-get_or, get_or_from_slice_get}
 use Rattle.kb_logic.specs.declared.elements.Elem.{Elem}
 use Rattle.kb_logic.specs.declared.vocabularies.Symbol.{Symbol}
@@ -21,7 +21,7 @@ use Rattle.term_values.specs.GroundBases.{GroundBase, atoms_in, first_var}
 use Rattle.term_values.proofs.Offsets.{part-at, offset-even}
 use Rattle.term_values.proofs.Chosen.{has-index}
 use Rattle.term_values.proofs.Places.{predicate-variable, function-variable, atoms-count}
-use Rattle.atom_numbers.specs.Numbers.{IsPlainPlace, IsValuedPlace, IsPlaceIn, first_of, AreNumbered, HasNumber}
+use Rattle.atom_numbers.specs.Numbers.{IsPlaceIn, first_of, AreNumbered}
 
 pub next-count : (domains : List (List Elem)) (types : List ℕ) (i count product n : ℕ) → i < length types
     → count * length (tuples_of domains (drop i types)) ≡ n → product ≡ count * length
@@ -341,3 +341,85 @@ module _ (domains : List (List Elem)) (symbols : List Symbol) (vars : List ℕ) 
       (domain_at domains ty) < 2 ^ 64
   function-fits ty e = subst (λ (o : Option ℕ). get_or vars i 0 + length (tuples_of domains d.args) * value_count
       domains o < 2 ^ 64) e all-fit
+
+pos-left : (a b n : ℕ) → n < a * b → 0 < a
+pos-left zero b n lt = absurd (let none : zero * b ≡ 0 = omega arith in omega (arith, lt, none))
+pos-left (suc a) b n lt = omega arith
+
+pos-right : (a b n : ℕ) → n < a * b → 0 < b
+pos-right a zero n lt = absurd (let none : a * 0 ≡ 0 = omega arith in omega (arith, lt, none))
+pos-right a (suc b) n lt = omega arith
+
+-- a tuple read digit by digit from the first one on: `each` tuples begin as it does, among which it is the one at `left`
+module _ (domains : List (List Elem)) (types : List ℕ) (i each left : ℕ) (within : i < length types)
+    (all : each ≡ length (tuples_of domains (drop i types))) (lt : left < each) (domain : List Elem)
+    (is : domain ≡ domain_at domains (get_or types i 0)) where
+  abbrev rest-tuples : List (List Elem)
+  rest-tuples = tuples_of domains (drop (i + 1) types)
+
+  types-split : drop i types ≡ get_or types i 0 ∷ drop (i + 1) types
+  types-split = at_drop_more (λ (zs : List ℕ). zs) types i 0 within
+
+  each-split : each ≡ length domain * length rest-tuples
+  each-split =
+      all ∙ ap (λ ts. length (tuples_of domains ts)) types-split
+      ∙ length-tuples_over rest-tuples (domain_at domains (get_or types i 0))
+      ∙ ap (λ (xs : List Elem). length xs * length rest-tuples) (sym is)
+
+  left-below : left < length domain * length rest-tuples
+  left-below = subst (λ n. left < n) each-split lt
+
+  pub domain-there : 0 < length domain
+  domain-there = pos-left (length domain) (length rest-tuples) left left-below
+
+  rest-there : 0 < length rest-tuples
+  rest-there = pos-right (length domain) (length rest-tuples) left left-below
+
+  pub rest-count : each / length domain ≡ length rest-tuples
+  rest-count =
+      ap (λ n. n / length domain) (each-split ∙ turned (length domain) (length rest-tuples))
+      ∙ div-mul-add (length rest-tuples) (length domain) 0 domain-there
+    where
+      turned : (a b : ℕ) → a * b ≡ b * a + 0
+      turned a b = omega arith
+
+  pub next-there : 0 < each / length domain
+  next-there = subst (λ n. 0 < n) (sym rest-count) rest-there
+
+  digit-within : left / length rest-tuples < length domain
+  digit-within = div_below left (length rest-tuples) (length domain) rest-there left-below
+
+  pub digit-below : left / (each / length domain) < length domain
+  digit-below = subst (λ n. left / n < length domain) (sym rest-count) digit-within
+
+  pub left-fits : left % (each / length domain) < each / length domain
+  left-fits = mod_below left (each / length domain) next-there
+
+  pub digit-leads : (x : Elem) → x ≡ get_or domain (left / (each / length domain)) x
+      → get_or (tuples_of domains (drop i types)) left [] ≡ x ∷ get_or rest-tuples (left % (each / length domain)) []
+  digit-leads x at =
+      let p : ℕ = left / length rest-tuples in
+      let q : ℕ = left % length rest-tuples in
+      let ty : ℕ = get_or types i 0 in
+      let tys : List ℕ = drop (i + 1) types in
+      let xs : List Elem = get_or rest-tuples q [] in
+      let there : slice_get domain p ≡ Some x = slice_get-get_or domain p x digit-within
+      ∙ ap (λ n. Some (get_or domain (left / n) x)) (sym rest-count) ∙ ap Some (sym at) in
+      let at_x : slice_get (domain_at domains ty) p ≡ Some x = ap (λ (ys : List Elem). slice_get ys p) (sym is)
+      ∙ there in
+      let at_xs : slice_get rest-tuples q ≡ Some xs = slice_get-get_or rest-tuples q []
+      (mod_below left (length rest-tuples) rest-there) in
+      let place : slice_get (tuples_of domains (ty ∷ tys)) left ≡ Some (x ∷ xs) =
+      subst (λ n. slice_get (tuples_of domains (ty ∷ tys)) n ≡ Some (x ∷ xs))
+      (div-add-mod' left (length rest-tuples)) (tuple-at domains ty tys p q x xs at_x at_xs) in
+      get_or_from_slice_get (tuples_of domains (drop i types)) left (x ∷ xs) []
+      (ap (λ ts. slice_get (tuples_of domains ts) left) types-split ∙ place)
+      ∙ ap (λ n. x ∷ get_or rest-tuples (left % n) []) (sym rest-count)
+
+  pub digit-added : (tuple longer whole : List Elem) (x : Elem) → x ≡ get_or domain (left / (each / length domain)) x
+      → tuple ++ get_or (tuples_of domains (drop i types)) left [] ≡ whole → longer ≡ tuple ++ x ∷ []
+      → longer ++ get_or rest-tuples (left % (each / length domain)) [] ≡ whole
+  digit-added tuple longer whole x at before e =
+      let rest : List Elem = get_or rest-tuples (left % (each / length domain)) [] in
+      ap (λ (t : List Elem). t ++ rest) e ∙ append_assoc tuple (x ∷ []) rest
+      ∙ ap (λ (t : List Elem). tuple ++ t) (sym (digit-leads x at)) ∙ before

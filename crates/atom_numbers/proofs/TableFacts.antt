@@ -1,17 +1,16 @@
 -- Tables by the places of their rows are those by the rows' values.
-use Rattle.std.proofs.Common.{◌≡◌, ℕ, zero, suc, ◌+◌, ◌*◌, ◌^◌, ◌<◌, ◌≤◌, Bool, true, false, if◌then◌else◌, Option}
-use Rattle.std.proofs.Common.{Some, None, List, [], ◌∷◌, ◌++◌, map, filter, option_map, is_none, is_some, length, take}
-use Rattle.std.proofs.Common.{get_or, slice_get, refl, sym, ap, ◌∙◌, subst, arith, inl, inr, ◌⊎◌}
-use Rattle.std.specs.List.{flat_map, enumerate_from, AllByRecursion}
+use Rattle.std.proofs.Common.{◌≡◌, ℕ, suc, ◌+◌, ◌*◌, ◌<◌, ◌≤◌, Bool, true, false, if◌then◌else◌, Option}
+use Rattle.std.proofs.Common.{Some, None, List, [], ◌∷◌, ◌++◌, map, filter, is_none, is_some, length, take}
+use Rattle.std.proofs.Common.{get_or, slice_get, refl, sym, ap, ◌∙◌, arith, inl, inr, ◌⊎◌}
+use Rattle.std.specs.List.{flat_map, enumerate_from}
 use Rattle.std.proofs.Math.Seq.{take-length}
-use Rattle.std.proofs.lemmas.List.{append_assoc, append-nil, take_more, take_all, map-append, length-map}
+use Rattle.std.proofs.lemmas.List.{append_assoc, append-nil, take_more, map-append}
 use Rattle.std.proofs.lemmas.List.{length-take-le}
 use Rattle.std.proofs.lemmas.List.Elements.{filter-append}
 use Rattle.std.proofs.lemmas.List.FromFn.{get_or-enumerate_from, length-enumerate_from}
 use Rattle.std.proofs.lemmas.Option.{slice_get_cases}
 use Rattle.kb_logic.specs.declared.elements.Elem.{Elem}
 use Rattle.kb_logic.specs.declared.structures.Table.{Table}
-use Rattle.kb_logic.specs.declared.structures.Structure.{Structure}
 use Rattle.kb_logic.specs.declared.vocabularies.Symbol.{Symbol}
 use Rattle.kb_logic.specs.Structures.{IsDistinct, domain_at, tuples_of, predicates_of, functions_of}
 use Rattle.kb_logic.specs.Denotations.{denotation_of}
@@ -27,8 +26,13 @@ use Rattle.term_values.proofs.Chosen.{index-is}
 use Rattle.term_values.proofs.StructureAtoms.{tuples-are, values-are}
 use Rattle.term_values.proofs.StructureLaws.{same-mapped, function-of}
 use Rattle.atom_numbers.specs.Numbers.{first_of, AreNumbered}
-use Rattle.atom_numbers.specs.Tables.{one_if, true_rows, valued_rows, relation_table, function_table, relation_tables}
+use Rattle.atom_numbers.specs.Tables.{true_rows, valued_rows, relation_table, function_table, relation_tables}
 use Rattle.atom_numbers.specs.Tables.{function_tables}
+
+-- the item where it is wanted
+abbrev one_if : {X : Type 0} → Bool → X → List X
+one_if true x = x ∷ []
+one_if false x = []
 
 if-push : {X : Type 0} (b : Bool) (q : X) (xs ys : List X) → (if b then q ∷ (xs ++ ys) else (xs ++ ys))
     ≡ (if b then q ∷ xs else xs) ++ ys
@@ -55,6 +59,25 @@ true-values-push v n m [] x c at is = let same : n ≡ m = omega (arith, at) in 
 true-values-push v n m (q ∷ xs) x c at is =
     ap (λ (ys : List Elem). if v n then q ∷ ys else ys) (true-values-push v (n + 1) m xs x c (omega (arith, at)) is)
     ∙ if-push (v n) q (true_values v (n + 1) xs) (one_if c x)
+
+-- one row more, where it is true
+pub row-added : (v : ℕ → Bool) (n k : ℕ) (rs : List (List Elem)) (r : List Elem) (old new : List (List Elem))
+    → k < length rs → r ≡ get_or rs k [] → v (n + k) ≡ true → old ≡ true_rows v n (take k rs) → new ≡ old ++ r ∷ []
+    → new ≡ true_rows v n (take (k + 1) rs)
+row-added v n k rs r old new lt here is before e =
+    let more = true-rows-push v n (n + k) (take k rs) (get_or rs k []) true (let l : length (take k rs) ≡ k =
+    length-take-le k rs (omega (arith, lt)) in omega (arith, l)) is in
+    e ∙ ap (λ (zs : List (List Elem)). zs ++ r ∷ []) before
+    ∙ ap (λ (q : List Elem). true_rows v n (take k rs) ++ q ∷ []) here
+    ∙ sym (ap (true_rows v n) (take_more rs k [] lt) ∙ more)
+
+-- and none where it is false
+pub row-passed : (v : ℕ → Bool) (n k : ℕ) (rs : List (List Elem)) → k < length rs → v (n + k) ≡ false
+    → true_rows v n (take (k + 1) rs) ≡ true_rows v n (take k rs)
+row-passed v n k rs lt is =
+    let more = true-rows-push v n (n + k) (take k rs) (get_or rs k []) false (let l : length (take k rs) ≡ k =
+    length-take-le k rs (omega (arith, lt)) in omega (arith, l)) is in
+    ap (true_rows v n) (take_more rs k [] lt) ∙ more ∙ append-nil (true_rows v n (take k rs))
 
 pub valued-rows-push : (v : ℕ → Bool) (n m : ℕ) (values : List Elem) (rs : List (List Elem)) (r : List Elem)
     → m ≡ n + length rs * length values → valued_rows v n values (rs ++ r ∷ []) ≡ valued_rows v n values rs ++ map

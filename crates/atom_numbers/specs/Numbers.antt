@@ -1,5 +1,5 @@
 -- The variable of a ground atom.
-use Rattle.std.specs.Prelude.{◌≡◌, ℕ, suc, ◌+◌, ◌*◌, length, ◌<◌, ◌≤◌, ◌^◌, Option, Some, None, slice_get, get_or, take}
+use Rattle.std.specs.Prelude.{◌≡◌, ℕ, suc, ◌+◌, ◌*◌, length, ◌<◌, ◌≤◌, ◌^◌, Some, None, slice_get, get_or, take}
 use Rattle.std.specs.Prelude.{sum_by, ◌⊎◌, List, []}
 use Rattle.kb_logic.specs.declared.elements.Elem.{Elem}
 use Rattle.kb_logic.specs.declared.vocabularies.Symbol.{Symbol}

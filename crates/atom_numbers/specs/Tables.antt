@@ -1,5 +1,5 @@
 -- Tables by the places of their rows.
-use Rattle.std.specs.Prelude.{ℕ, ◌+◌, Bool, true, false, if◌then◌else◌, List, [], ◌∷◌, ◌++◌, map, length, filter, take}
+use Rattle.std.specs.Prelude.{ℕ, ◌+◌, Bool, if◌then◌else◌, List, [], ◌∷◌, ◌++◌, map, length, filter, take}
 use Rattle.std.specs.Prelude.{is_none, is_some}
 use Rattle.std.specs.List.{enumerate_from}
 use Rattle.kb_logic.specs.declared.elements.Elem.{Elem}
@@ -9,11 +9,6 @@ use Rattle.kb_logic.specs.Structures.{tuples_of}
 use Rattle.kb_logic.specs.Bounds.{domain_if}
 use Rattle.term_values.specs.GroundBases.{true_values}
 use Rattle.atom_numbers.specs.Numbers.{first_of}
-
--- the item where it is wanted
-abbrev pub one_if : {X : Type 0} → Bool → X → List X
-one_if true x = x ∷ []
-one_if false x = []
 
 -- the rows whose variables are true, where the first row has the variable n
 abbrev pub true_rows : (ℕ → Bool) → ℕ → List (List Elem) → List (List Elem)

@@ -1,5 +1,6 @@
 //! Places of tuples and of atoms in their orders.
-ghost use Rattle.std.specs.Prelude.{◌≡◌, ◌<◌, ◌^◌, ℕ, suc, length, slice_get, Contains, IfSome, Some};
+ghost use Rattle.std.specs.Prelude.{◌≡◌, ◌<◌, ◌^◌, ℕ, suc, length, slice_get, get_or, [], Contains};
+ghost use Rattle.std.specs.Prelude.{IfSome, IfOk, Some};
 ghost use Rattle.kb_logic.specs.Structures.{tuples_of};
 ghost use Rattle.kb_logic.specs.Models.{IsAtomOver, HasValueIn, atom_of};
 ghost use Rattle.term_values.specs.GroundBases.{atoms_in};
@@ -7,7 +8,8 @@ ghost use Rattle.kb_logic.specs.KnownAtoms.{atoms_over};
 ghost use Rattle.atom_numbers.specs.Numbers.{IsPlaceIn, AreNumbered};
 
 use kb_logic::values::domain_in;
-use kb_logic::{Elem, ElemList, Literal, Symbol};
+use kb_logic::{Elem, ElemList, Literal, Memory, Symbol};
+use std::alloc::Global;
 
 /// How many tuples there are over these types; None where a `u64` cannot count them.
 pub(crate) fn tuple_count(domains: &[ElemList], types: &[u32]) -> Option<u64>
@@ -61,6 +63,32 @@ fn tuple_place(domains: &[ElemList], types: &[u32], args: &[Elem]) -> u64
         place = place * domain.len() as u64 + position(domain, &args[k]) as u64;
     }
     place
+}
+
+// The digits are read from the first one on: `each` tuples begin with the elements so far, and the tuple is the one at
+// `left` among these.
+/// The tuple at this place among all of these types, of which there are `count`.
+pub(crate) fn tuple_at(
+    alloc: Global,
+    domains: &[ElemList],
+    types: &[u32],
+    count: u64,
+    place: u64,
+) -> Result<ElemList, Memory>
+    requires count { count ≡ length (tuples_of domains.now types.now) }
+    requires place { place < count }
+    ensures { IfOk result (λ tuple. tuple ≡ get_or (tuples_of domains.now types.now) place []) }
+{
+    let mut tuple = ElemList::new(alloc);
+    let mut each = count;
+    let mut left = place;
+    for ty in types {
+        let domain = domain_in(domains, *ty);
+        each /= domain.len() as u64;
+        tuple.push(domain[(left / each) as usize].copy(alloc)?)?;
+        left %= each;
+    }
+    Ok(tuple)
 }
 
 /// The place of the literal's atom among those of its symbol.

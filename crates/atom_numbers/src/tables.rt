@@ -4,8 +4,9 @@ ghost use Rattle.kb_logic.specs.Structures.{tuples_of, domain_at};
 ghost use Rattle.lit_core.specs.Literals.{valuation};
 ghost use Rattle.term_values.specs.GroundBases.{true_values};
 ghost use Rattle.atom_numbers.specs.Numbers.{AreNumbered};
-ghost use Rattle.atom_numbers.specs.Tables.{one_if, true_rows, valued_rows, relation_tables, function_tables};
+ghost use Rattle.atom_numbers.specs.Tables.{true_rows, valued_rows, relation_tables, function_tables};
 
+use crate::places::{tuple_at, tuple_count};
 use kb_logic::tuples::all_tuples;
 use kb_logic::values::domain_in;
 use kb_logic::{Elem, ElemList, Memory, RowList, Symbol, Table, TableList};
@@ -23,31 +24,26 @@ fn is_true(values: &Values, var: u64) -> bool
     var < values.len() as u64 && values.holds(lit)
 }
 
-/// Pushes the row where it is wanted.
-fn push_if(rows: &mut Vec<ElemList>, wanted: bool, row: ElemList) -> Result<(), Memory>
-    ensures { OnOk result (rows.new.items ≡ rows.old.items ++ one_if wanted row) }
-{
-    if wanted {
-        rows.push(row)?;
-    }
-    Ok(())
-}
-
-/// The rows whose variables are true.
+// Of the atoms of most predicates few are true, so that a tuple is made only where its variable is.
+/// The rows whose variables are true, where there are `count` tuples over these types.
 fn predicate_rows(
     alloc: Global,
-    tuples: Vec<ElemList>,
+    domains: &[ElemList],
+    types: &[u32],
+    count: u64,
     values: &Values,
     first: u64,
 ) -> Result<RowList, Memory>
-    requires { first + length tuples.items < 2 ^ 64 }
-    ensures { IfOk result (λ rows. rows ≡ true_rows (valuation values.now) first tuples.items) }
+    requires count { count ≡ length (tuples_of domains.now types.now) }
+    requires few { first + count < 2 ^ 64 }
+    ensures { IfOk result (λ rows. rows ≡ true_rows (valuation values.now) first (tuples_of domains.now types.now)) }
 {
     let mut rows = Vec::new(alloc);
-    let mut var = first;
-    for row in tuples {
-        push_if(&mut rows, is_true(values, var), row)?;
-        var += 1;
+    for place in 0..count {
+        if !is_true(values, first + place) {
+            continue;
+        }
+        rows.push(tuple_at(alloc, domains, types, count, place)?)?;
     }
     Ok(RowList::from_vec(rows))
 }
@@ -108,8 +104,11 @@ fn relation(
     ensures { IfOk result (λ rows. rows ≡ true_rows (valuation values.now) first
         (tuples_of domains.now symbol.now.args)) }
 {
-    let tuples = all_tuples(alloc, domains, symbol.args.as_slice())?;
-    predicate_rows(alloc, tuples, values, first)
+    let types = symbol.args.as_slice();
+    let Some(count) = tuple_count(domains, types) else {
+        return Err(Memory);
+    };
+    predicate_rows(alloc, domains, types, count, values, first)
 }
 
 /// The table of a function with values of this type, in the same way.

@@ -190,7 +190,7 @@ impl<'a> GroundData<'a> {
         }
     }
 
-    /// The value of a variable, a number or a made element: such a term has one row, without guards.
+    /// The value of a variable, a number, a made element, or a sum of these: such a term has one row, without guards.
     pub fn plain_value(&self, term: &Term, env: &Env<'a>) -> Option<Value<'a>>
         ensures { IfSome result (λ x. rows_of_term self.now (term_view term.now) (env_view env.now)
             ≡ ([], value_view x) ∷ []) }

@@ -1,4 +1,4 @@
-use Rattle.std.proofs.Common.{◌≡◌, ℕ, ◌+◌, ◌*◌, ◌<◌, ◌^◌, Option, Some, List, length, slice_get, sym, ap, ◌∙◌, subst}
+use Rattle.std.proofs.Common.{◌≡◌, ℕ, ◌+◌, ◌*◌, ◌<◌, ◌^◌, Option, Some, List, length, slice_get, sym, subst}
 use Rattle.std.proofs.Common.{arith, w64, Fits}
 use Rattle.std.proofs.lemmas.Option.{slice_get_within}
 use Rattle.kb_logic.specs.declared.elements.Elem.{Elem}

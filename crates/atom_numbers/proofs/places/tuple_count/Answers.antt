@@ -1,5 +1,4 @@
-use Rattle.std.proofs.Common.{◌≡◌, ◌*◌, length, ap, ◌∙◌}
-use Rattle.kb_logic.specs.declared.elements.Elem.{Elem}
+use Rattle.std.proofs.Common.{◌*◌, length, ap, ◌∙◌}
 use Rattle.kb_logic.specs.Structures.{tuples_of}
 use Rattle.atom_numbers.proofs.PlaceFacts.{next-count}
 use Rattle.atom_numbers.proofs.places.tuple_count.Goals as goal

@@ -1,7 +1,6 @@
-use Rattle.std.proofs.Common.{◌≡◌, ℕ, ◌+◌, ◌*◌, ◌<◌, ◌≤◌, List, Some, length, get_or, slice_get, Contains, sym, ap, ◌∙◌}
+use Rattle.std.proofs.Common.{◌≡◌, ◌+◌, ◌*◌, List, Some, length, slice_get, Contains, sym}
 use Rattle.std.proofs.Common.{subst, arith, w64, Fits}
 use Rattle.kb_logic.specs.declared.elements.Elem.{Elem}
-use Rattle.kb_logic.specs.Structures.{domain_at, tuples_of}
 use Rattle.atom_numbers.proofs.PlaceFacts.{LeadsOn, leads-begins, tuple-length, element-there, leads-next, place-fits}
 use Rattle.atom_numbers.proofs.PlaceFacts.{leads-ends, product-fits}
 use Rattle.atom_numbers.proofs.places.tuple_place.Goals as goal

@@ -1,4 +1,4 @@
-use Rattle.std.proofs.Common.{◌+◌, ◌<◌, arith}
+use Rattle.std.proofs.Common.{arith}
 use Rattle.atom_numbers.proofs.PlaceFacts.{symbol-atoms-few, vars-within, numbered, number-fits}
 use Rattle.atom_numbers.proofs.places.variable_of.Goals as goal
 

@@ -1,7 +1,4 @@
-use Rattle.std.proofs.Common.{◌≡◌, ℕ, ◌+◌, ◌*◌, ◌++◌, ◌∷◌, [], List, map, take, length, get_or, sym, ap, ◌∙◌, subst}
-use Rattle.std.proofs.Common.{arith}
 use Rattle.lit_core.specs.Literals.{valuation}
-use Rattle.kb_logic.specs.declared.elements.Elem.{Elem}
 use Rattle.atom_numbers.proofs.TableFacts.{one-function-row}
 use Rattle.atom_numbers.proofs.tables.function_rows.Goals as goal
 

@@ -1,6 +1,4 @@
-use Rattle.std.proofs.Common.{◌≡◌, ◌+◌, ◌++◌, ◌∷◌, [], List, Option, None, true, false, sym, ap, ◌∙◌, subst}
 use Rattle.lit_core.specs.Literals.{valuation}
-use Rattle.kb_logic.specs.declared.structures.Table.{Table}
 use Rattle.atom_numbers.proofs.PlaceFacts.{function-fits}
 use Rattle.atom_numbers.proofs.TableFacts.{function-passed, function-added}
 use Rattle.atom_numbers.proofs.tables.functions.Goals as goal

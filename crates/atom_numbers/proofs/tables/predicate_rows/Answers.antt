@@ -1,19 +1,22 @@
-use Rattle.std.proofs.Common.{◌≡◌, ◌+◌, ◌++◌, ◌∷◌, [], List, length, sym, ap, ◌∙◌, arith}
-use Rattle.std.proofs.lemmas.List.{length_push}
+use Rattle.std.proofs.Common.{◌<◌, sym, ◌∙◌, subst}
 use Rattle.lit_core.specs.Literals.{valuation}
-use Rattle.kb_logic.specs.declared.elements.Elem.{Elem}
-use Rattle.atom_numbers.specs.Tables.{one_if}
-use Rattle.atom_numbers.proofs.TableFacts.{true-rows-push}
+use Rattle.kb_logic.specs.Structures.{tuples_of}
+use Rattle.atom_numbers.proofs.TableFacts.{row-added, row-passed}
 use Rattle.atom_numbers.proofs.tables.predicate_rows.Goals as goal
 
-pub loop-row-preserved : goal.loop-row-preserved
-loop-row-preserved c =
-    let at : c.loop-row.var ≡ c.args.first + length c.loop-row.yielded = c.loop-row.invariant.1 in
-    let more : length (c.loop-row.yielded ++ c.in-Some.row ∷ []) ≡ length c.loop-row.yielded + 1 =
-    length_push c.loop-row.yielded c.in-Some.row in (
-      c.in_ok-push_if.ensures ∙ ap (λ (rs : List (List Elem)). rs ++ one_if c.is_true.result c.in-Some.row)
-          c.loop-row.invariant.0
-          ∙ sym (true-rows-push (valuation c.args.values.now) c.args.first c.loop-row.var c.loop-row.yielded
-          c.in-Some.row c.is_true.result at (sym c.is_true.ensures)),
-      omega (arith, at, more),
-    )
+pub loop-place-preserved-then-not-is_true : goal.loop-place-preserved-then-not-is_true
+loop-place-preserved-then-not-is_true c =
+    let tuples = tuples_of c.args.domains.now c.args.types.now in
+    c.loop-place.invariant
+    ∙ sym (row-passed (valuation c.args.values.now) c.args.first c.loop-place.place tuples
+    (subst (λ n. c.loop-place.place < n) c.requires.count c.loop-place-test.true)
+    (sym c.is_true.ensures ∙ c.if-not-is_true.true))
+
+pub loop-place-preserved : goal.loop-place-preserved
+loop-place-preserved c =
+    let tuples = tuples_of c.args.domains.now c.args.types.now in
+    row-added (valuation c.args.values.now) c.args.first c.loop-place.place tuples c.in_ok-tuple_at.field-0
+    c.loop-place.rows.items c.push.new.self.items
+    (subst (λ n. c.loop-place.place < n) c.requires.count c.loop-place-test.true)
+    c.in_ok-tuple_at.ensures (sym c.is_true.ensures ∙ c.if-not-is_true.false) c.loop-place.invariant
+    c.in_ok-push.ensures.items

@@ -1,4 +1,4 @@
-use Rattle.std.proofs.Common.{◌≡◌, ◌+◌, ◌++◌, ◌∷◌, [], List, map, take, get_or, true, sym, ap, ◌∙◌, subst}
+use Rattle.std.proofs.Common.{◌++◌, ◌∷◌, [], List, map, sym, ap, ◌∙◌}
 use Rattle.lit_core.specs.Literals.{valuation}
 use Rattle.kb_logic.specs.declared.elements.Elem.{Elem}
 use Rattle.atom_numbers.proofs.TableFacts.{push-true, push-false}

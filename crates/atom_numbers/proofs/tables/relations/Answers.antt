@@ -1,6 +1,5 @@
-use Rattle.std.proofs.Common.{◌≡◌, ◌+◌, ◌++◌, ◌∷◌, [], List, Option, None, true, false, sym, ap, ◌∙◌, subst}
+use Rattle.std.proofs.Common.{sym, ◌∙◌}
 use Rattle.lit_core.specs.Literals.{valuation}
-use Rattle.kb_logic.specs.declared.structures.Table.{Table}
 use Rattle.atom_numbers.proofs.PlaceFacts.{relation-fits}
 use Rattle.atom_numbers.proofs.TableFacts.{relation-passed, relation-added, is-none}
 use Rattle.atom_numbers.proofs.tables.relations.Goals as goal
