@@ -1,5 +1,5 @@
 use Rattle.std.proofs.Common.{◌≡◌, ◌<◌, ◌≤◌, ◌∷◌, ◌++◌, [], ℕ, length, map, arith, rules, false, ap, refl}
-use Rattle.std.proofs.lemmas.Grind.{common_steps}
+use Rattle.std.proofs.lemmas.Grind.{common_steps, fold-append}
 use Rattle.fo_syntax.specs.Trees as raw
 use Rattle.fo_syntax.specs.View as view
 use Rattle.fo_syntax.specs.declared.terminal.Adding.{Adding}
@@ -22,6 +22,7 @@ use Rattle.formula_names.proofs.Chains.{uses_in_or-is, uses_in_and-is, uses_in_t
 use Rattle.formula_names.proofs.Chains.{uses_in_terms-is, named_terms-is, named_links-is, uses_in_links-is}
 use Rattle.formula_names.proofs.ChainEnds.{pushed, pushed_more, noted_twice, noted_all, or_tree, and_tree, sum_tree}
 use Rattle.formula_names.proofs.ChainEnds.{product_tree, opened_noted, always_on_ok, same_grouped}
+use Rattle.reading_stages.specs.declared.named.NamedFormula.{the_lemmas as named_lemmas}
 use Rattle.formula_names.proofs.formulas.+resolve.Goals as goal
 use Rattle.reading_stages.specs.NamedTrees as tree
 
@@ -261,3 +262,93 @@ formula-returns-in_ok-add_links-in-Linked-clause-noted t c =
     (uses_in_links (in_scope c.args.scope.now) (view.links_of (view.link_view c.in-Linked.field-2).1
     (map view.link_view c.in-Linked.field-3)))
     c.in_ok-first-in-Linked.ensures.noted (rw (seen, c.in_ok-first-in-Linked.ensures.scope) at noted)))
+
+pub factor-returns-in-Integer-clause-tree : goal.factor-returns-in-Integer-clause-tree
+factor-returns-in-Integer-clause-tree t c = search (rules, the_lemmas, named_lemmas)
+
+pub factor-returns-in-Integer-clause-noted : goal.factor-returns-in-Integer-clause-noted
+factor-returns-in-Integer-clause-noted t c = search (rules, the_lemmas, fold-append)
+
+pub factor-returns-in_ok-args-in-Value-clause-tree : goal.factor-returns-in_ok-args-in-Value-clause-tree
+factor-returns-in_ok-args-in-Value-clause-tree t c = search (rules, the_lemmas, named_lemmas)
+
+pub factor-returns-in_ok-args-in-Value-clause-noted : goal.factor-returns-in_ok-args-in-Value-clause-noted
+factor-returns-in_ok-args-in-Value-clause-noted t c = search (rules, the_lemmas, fold-append)
+
+pub factor-returns-in_ok-inner-in-Brackets-clause-tree : goal.factor-returns-in_ok-inner-in-Brackets-clause-tree
+factor-returns-in_ok-inner-in-Brackets-clause-tree t c = search (rules, the_lemmas, named_lemmas)
+
+pub factor-returns-in_ok-inner-in-Brackets-clause-noted : goal.factor-returns-in_ok-inner-in-Brackets-clause-noted
+factor-returns-in_ok-inner-in-Brackets-clause-noted t c = search (rules, the_lemmas, fold-append)
+
+pub factor-returns-in_ok-inner-in-Negative-clause-tree : goal.factor-returns-in_ok-inner-in-Negative-clause-tree
+factor-returns-in_ok-inner-in-Negative-clause-tree t c = search (rules, the_lemmas, named_lemmas)
+
+pub factor-returns-in_ok-inner-in-Negative-clause-noted : goal.factor-returns-in_ok-inner-in-Negative-clause-noted
+factor-returns-in_ok-inner-in-Negative-clause-noted t c = search (rules, the_lemmas, fold-append)
+
+pub factor-returns-in_ok-vars-in-Count-clause-tree : goal.factor-returns-in_ok-vars-in-Count-clause-tree
+factor-returns-in_ok-vars-in-Count-clause-tree t c = search (rules, the_lemmas, named_lemmas)
+
+pub factor-returns-in_ok-vars-in-Count-clause-noted : goal.factor-returns-in_ok-vars-in-Count-clause-noted
+factor-returns-in_ok-vars-in-Count-clause-noted t c = search (rules, the_lemmas, fold-append)
+
+pub factor-returns-in_ok-weight-in-Aggregate-clause-tree : goal.factor-returns-in_ok-weight-in-Aggregate-clause-tree
+factor-returns-in_ok-weight-in-Aggregate-clause-tree t c = search (rules, the_lemmas, named_lemmas)
+
+pub factor-returns-in_ok-weight-in-Aggregate-clause-noted : goal.factor-returns-in_ok-weight-in-Aggregate-clause-noted
+factor-returns-in_ok-weight-in-Aggregate-clause-noted t c = search (rules, the_lemmas, fold-append)
+
+pub formula-returns-in-Alone-clause-tree : goal.formula-returns-in-Alone-clause-tree
+formula-returns-in-Alone-clause-tree t c = search (rules, the_lemmas, named_lemmas)
+
+pub formula-returns-in-Alone-clause-noted : goal.formula-returns-in-Alone-clause-noted
+formula-returns-in-Alone-clause-noted t c = search (rules, the_lemmas, fold-append)
+
+pub prim-returns-in-Group-clause-tree : goal.prim-returns-in-Group-clause-tree
+prim-returns-in-Group-clause-tree t c = search (rules, the_lemmas, named_lemmas)
+
+pub prim-returns-in-Group-clause-noted : goal.prim-returns-in-Group-clause-noted
+prim-returns-in-Group-clause-noted t c = search (rules, the_lemmas, fold-append)
+
+pub prim-returns-in-Truth-clause-tree : goal.prim-returns-in-Truth-clause-tree
+prim-returns-in-Truth-clause-tree t c = search (rules, the_lemmas, named_lemmas)
+
+pub prim-returns-in-Truth-clause-noted : goal.prim-returns-in-Truth-clause-noted
+prim-returns-in-Truth-clause-noted t c = search (rules, the_lemmas, fold-append)
+
+pub prim-returns-in_ok-args-in-Atom-clause-tree : goal.prim-returns-in_ok-args-in-Atom-clause-tree
+prim-returns-in_ok-args-in-Atom-clause-tree t c = search (rules, the_lemmas, named_lemmas)
+
+pub prim-returns-in_ok-args-in-Atom-clause-noted : goal.prim-returns-in_ok-args-in-Atom-clause-noted
+prim-returns-in_ok-args-in-Atom-clause-noted t c = search (rules, the_lemmas, fold-append)
+
+pub prim-returns-in_ok-right-in-Compare-clause-tree : goal.prim-returns-in_ok-right-in-Compare-clause-tree
+prim-returns-in_ok-right-in-Compare-clause-tree t c = search (rules, the_lemmas, named_lemmas)
+
+pub prim-returns-in_ok-right-in-Compare-clause-noted : goal.prim-returns-in_ok-right-in-Compare-clause-noted
+prim-returns-in_ok-right-in-Compare-clause-noted t c = search (rules, the_lemmas, fold-append)
+
+pub unary-returns-in-Prim-clause-tree : goal.unary-returns-in-Prim-clause-tree
+unary-returns-in-Prim-clause-tree t c = search (rules, the_lemmas, named_lemmas)
+
+pub unary-returns-in-Prim-clause-noted : goal.unary-returns-in-Prim-clause-noted
+unary-returns-in-Prim-clause-noted t c = search (rules, the_lemmas, fold-append)
+
+pub unary-returns-in_ok-inner-in-Every-clause-tree : goal.unary-returns-in_ok-inner-in-Every-clause-tree
+unary-returns-in_ok-inner-in-Every-clause-tree t c = search (rules, the_lemmas, named_lemmas)
+
+pub unary-returns-in_ok-inner-in-Every-clause-noted : goal.unary-returns-in_ok-inner-in-Every-clause-noted
+unary-returns-in_ok-inner-in-Every-clause-noted t c = search (rules, the_lemmas, fold-append)
+
+pub unary-returns-in_ok-inner-in-Not-clause-tree : goal.unary-returns-in_ok-inner-in-Not-clause-tree
+unary-returns-in_ok-inner-in-Not-clause-tree t c = search (rules, the_lemmas, named_lemmas)
+
+pub unary-returns-in_ok-inner-in-Not-clause-noted : goal.unary-returns-in_ok-inner-in-Not-clause-noted
+unary-returns-in_ok-inner-in-Not-clause-noted t c = search (rules, the_lemmas, fold-append)
+
+pub unary-returns-in_ok-inner-in-Some-clause-tree : goal.unary-returns-in_ok-inner-in-Some-clause-tree
+unary-returns-in_ok-inner-in-Some-clause-tree t c = search (rules, the_lemmas, named_lemmas)
+
+pub unary-returns-in_ok-inner-in-Some-clause-noted : goal.unary-returns-in_ok-inner-in-Some-clause-noted
+unary-returns-in_ok-inner-in-Some-clause-noted t c = search (rules, the_lemmas, fold-append)
