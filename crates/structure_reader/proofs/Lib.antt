@@ -1,2 +1,3 @@
 pub mod NextDomain
 pub mod Uses
+mod Accepted

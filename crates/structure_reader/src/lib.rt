@@ -7,5 +7,5 @@ mod reading;
 mod sizes;
 
 pub use kb_sizes::Measure;
-pub use reading::read_structure;
+pub use reading::{read_data, read_structure};
 pub use sizes::measure;

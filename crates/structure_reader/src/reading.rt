@@ -1,30 +1,36 @@
-//! The stage of data, as a partial structure.
-ghost use Rattle.std.specs.Prelude.{IfErr, IfOk};
+//! The stages of data and sizes, as a partial structure.
+ghost use Rattle.std.specs.Prelude.{IfErr, IfOk, map};
 ghost use Rattle.fo_syntax.specs.BlockView.{structure_view};
+ghost use Rattle.kb_sizes.specs.Measures.{measure_view};
 ghost use Rattle.reading_stages.specs.DataAnswer.{IsDataOf};
-ghost use Rattle.structure_reader.specs.DataReads.{DataFailsWith};
+ghost use Rattle.data_entries.specs.SaidViews.{said_view};
+ghost use Rattle.structure_reader.specs.DataReads.{DataFailsWith, DataOrSizesFail, IsAccepted, IsMeasuredData};
 ghost use Rattle.type_derivation.specs.TypedViews.{typed_view};
 
 use crate::domains::domains_of;
 use crate::noting::note_all;
 use data_domains::types::types_of;
 use data_entries::entries::entries;
+use data_entries::written::Entry;
 use data_filling::fill;
 use fo_syntax::{KbError, RawStructure};
+use kb_logic::DomainList;
+use kb_sizes::{Measure, measure};
 use partial_structures::Partial;
 use reading_stages::Earliest;
 use std::alloc::Global;
 use type_derivation::TypedKb;
 
-/// The partial structure that the text of a structure means beside the theory with this number, or the earliest
-/// refusal of the stage of data.
-pub fn read_structure(
+/// What a structure says beside the theory with this number, and the domains that it gives; or the earliest refusal of
+/// the stage of data.
+fn accepted<'a>(
     alloc: Global,
-    kb: &TypedKb,
+    kb: &'a TypedKb,
     theory: usize,
-    raw: &RawStructure,
-) -> Result<Partial, KbError>
-    ensures ok { IfOk result (λ p. IsDataOf (typed_view kb.now) theory (structure_view raw.now) p) }
+    raw: &'a RawStructure,
+) -> Result<(Vec<Entry<'a>>, DomainList), KbError>
+    ensures ok { IfOk result (λ g. IsAccepted (typed_view kb.now) theory (structure_view raw.now)
+        (map said_view g.0.items) g.1) }
     ensures err { IfErr result (DataFailsWith (typed_view kb.now) theory (structure_view raw.now)) }
 {
     let Ok(entries) = entries(alloc, &kb.vocab, raw) else {
@@ -43,8 +49,53 @@ pub fn read_structure(
     let Ok(domains) = domains_of(alloc, &types) else {
         return Err(KbError::Memory);
     };
-    let Ok(partial) = fill(alloc, &kb.vocab, domains, &entries) else {
-        return Err(KbError::Memory);
+    Ok((entries, domains))
+}
+
+/// The partial structure that the text of a structure means beside the theory with this number, or the earliest
+/// refusal of the stage of data.
+pub fn read_structure(
+    alloc: Global,
+    kb: &TypedKb,
+    theory: usize,
+    raw: &RawStructure,
+) -> Result<Partial, KbError>
+    ensures ok { IfOk result (λ p. IsDataOf (typed_view kb.now) theory (structure_view raw.now) p) }
+    ensures err { IfErr result (DataFailsWith (typed_view kb.now) theory (structure_view raw.now)) }
+{
+    let (entries, domains) = match accepted(alloc, kb, theory, raw) {
+        Ok(given) => given,
+        Err(e) => return Err(e),
     };
-    Ok(partial)
+    match fill(alloc, &kb.vocab, domains, &entries) {
+        Ok(partial) => Ok(partial),
+        Err(_) => Err(KbError::Memory),
+    }
+}
+
+/// The same, with the number of ground atoms over the structure's domains and the weight of the theory with this
+/// number; or the earliest refusal of the stage of data or, where that refuses nothing, of the stage of sizes. No atom
+/// is made known before all were counted.
+pub fn read_data(
+    alloc: Global,
+    kb: &TypedKb,
+    theory: usize,
+    raw: &RawStructure,
+) -> Result<(Partial, Measure), KbError>
+    ensures ok { IfOk result (λ r. IsMeasuredData (typed_view kb.now) theory (structure_view raw.now) r.0
+        (measure_view r.1)) }
+    ensures err { IfErr result (DataOrSizesFail (typed_view kb.now) theory (structure_view raw.now)) }
+{
+    let (entries, domains) = match accepted(alloc, kb, theory, raw) {
+        Ok(given) => given,
+        Err(e) => return Err(e),
+    };
+    let sizes = match measure(alloc, kb, theory, &domains) {
+        Ok(sizes) => sizes,
+        Err(e) => return Err(e),
+    };
+    match fill(alloc, &kb.vocab, domains, &entries) {
+        Ok(partial) => Ok((partial, sizes)),
+        Err(_) => Err(KbError::Memory),
+    }
 }
