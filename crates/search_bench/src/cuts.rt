@@ -1,9 +1,22 @@
 //! Cuts bytes at a separator.
-ghost use Rattle.std.specs.Prelude.{◌≡◌, map, IfOk};
-ghost use Rattle.search_bench.specs.Cuts.{cut_at};
+ghost use Rattle.std.specs.Prelude.{◌≡◌, ◌≤◌, map, length, IfOk};
+ghost use Rattle.search_bench.specs.Cuts.{EndsPiece, cut_at};
 
 use ground_core::Memory;
 use std::alloc::Global;
+
+/// Where the piece that begins here ends: at the next separator, or with the bytes.
+pub fn piece_end(bytes: &[u8], start: usize, separator: u8) -> usize
+    requires { start ≤ length bytes.now }
+    ensures { EndsPiece separator bytes.now start result }
+{
+    for at in start..bytes.len() {
+        if bytes[at] == separator {
+            return at;
+        }
+    }
+    bytes.len()
+}
 
 /// What stands before, between and after the separators.
 pub fn pieces<'a>(alloc: Global, bytes: &'a [u8], separator: u8) -> Result<Vec<&'a [u8]>, Memory>
@@ -11,12 +24,12 @@ pub fn pieces<'a>(alloc: Global, bytes: &'a [u8], separator: u8) -> Result<Vec<&
 {
     let mut pieces = Vec::new(alloc);
     let mut start = 0;
-    for at in 0..bytes.len() {
-        if bytes[at] == separator {
-            pieces.push(&bytes[start..at])?;
-            start = at + 1;
+    loop {
+        let end = piece_end(bytes, start, separator);
+        pieces.push(&bytes[start..end])?;
+        if end == bytes.len() {
+            return Ok(pieces);
         }
+        start = end + 1;
     }
-    pieces.push(&bytes[start..])?;
-    Ok(pieces)
 }

@@ -1,14 +1,12 @@
 //! Reads single lines.
 ghost use Rattle.std.specs.Prelude.{◌≡◌, ◌<◌, ◌^◌, ℕ, pos, List, [], ◌∷◌, codes, map, IfOk, MatchBool, MatchOption};
-ghost use Rattle.std.specs.List.{AllZip};
 ghost use Rattle.lit_core.specs.declared.literals.Lit.{Lit};
-ghost use Rattle.ground_core.specs.Problems.{AreLitsOf};
-ghost use Rattle.search_bench.specs.Dimacs.{IsNumber, number_of, IsClauseLine, IsPassedOver, IsHeader};
+ghost use Rattle.search_bench.specs.Dimacs.{IsNumber, IsClauseLine, IsPassedOver, IsHeader};
 
-use crate::cuts::pieces;
+use crate::cuts::{piece_end, pieces};
 use crate::numbers::{literal, number};
 use ground_core::Memory;
-use lit_core::Clause;
+use lit_core::Lit;
 use std::alloc::Global;
 
 /// Whether the line is empty or a comment.
@@ -21,22 +19,6 @@ pub fn is_passed_over(line: &[u8]) -> bool
     }
 }
 
-/// The literals that the words write.
-fn lits_of(alloc: Global, vars: u64, words: &[&[u8]]) -> Result<Option<Clause>, Memory>
-    ensures { IfOk result (λ o. MatchOption o ((c : List Lit) → AreLitsOf vars c
-        → AllZip IsNumber (map (λ w. w.now) words.now) (map number_of c) → ⊥) (λ c. AreLitsOf vars c × AllZip IsNumber
-        (map (λ w. w.now) words.now) (map number_of c))) }
-{
-    let mut clause = Clause::new(alloc);
-    for word in words {
-        match literal(vars, word) {
-            Some(lit) => clause.push(lit)?,
-            None => return Ok(None),
-        }
-    }
-    Ok(Some(clause))
-}
-
 /// Whether the word writes 0.
 fn is_zero(word: &[u8]) -> bool
     ensures { MatchBool result (IsNumber word.now (pos 0)) (IsNumber word.now (pos 0) → ⊥) }
@@ -47,19 +29,28 @@ fn is_zero(word: &[u8]) -> bool
     }
 }
 
-/// The clause that the line writes.
-pub fn clause_of(alloc: Global, vars: u64, line: &[u8]) -> Result<Option<Clause>, Memory>
-    ensures { IfOk result (λ o. MatchOption o ((c : List Lit) → IsClauseLine vars c line.now → ⊥)
-        (λ c. IsClauseLine vars c line.now)) }
+/// Whether the line writes a clause, whose literals then replace what stood in `clause`.
+///
+/// The words are read one after another where they stand, and `clause` keeps its memory from line to line, so that a
+/// line takes none.
+pub fn reads_clause(vars: u64, line: &[u8], clause: &mut Vec<Lit>) -> Result<bool, Memory>
+    ensures { IfOk result (λ fine. MatchBool fine (IsClauseLine vars clause.new.items line.now)
+        ((c : List Lit) → IsClauseLine vars c line.now → ⊥)) }
 {
-    let words = pieces(alloc, line, b' ')?;
-    let Some((last, others)) = words.as_slice().split_last() else {
-        return Ok(None);
-    };
-    if !is_zero(last) {
-        return Ok(None);
+    clause.clear();
+    let mut start = 0;
+    loop {
+        let end = piece_end(line, start, b' ');
+        let word = &line[start..end];
+        if end == line.len() {
+            return Ok(is_zero(word));
+        }
+        let Some(lit) = literal(vars, word) else {
+            return Ok(false);
+        };
+        clause.push(lit)?;
+        start = end + 1;
     }
-    lits_of(alloc, vars, others)
 }
 
 /// How many variables and clauses there are.

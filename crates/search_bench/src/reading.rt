@@ -7,9 +7,10 @@ ghost use Rattle.search_bench.specs.Refusals.{HasNoClause, HasOtherCount, AreRea
 
 use crate::cuts::pieces;
 use crate::errors::ReadError;
-use crate::lines::{Header, clause_of, header_of, is_passed_over};
+use crate::lines::{Header, header_of, is_passed_over, reads_clause};
 use ground_core::{AtomTable, Memory, Problem};
 use kb_logic::{ElemList, Literal, LiteralList};
+use lit_core::{Clause, Lit};
 use std::alloc::Global;
 
 /// So many propositions.
@@ -43,8 +44,14 @@ fn silent_lines(lines: &[&[u8]]) -> usize
     lines.len()
 }
 
-/// Adds what the line says, and answers false where it is not as it must be.
-fn add_line(alloc: Global, line: &[u8], problem: &mut Problem) -> Result<bool, Memory>
+/// Adds what the line says, and answers false where it is not as it must be. Its literals are read into `lits`, whatever
+/// stood there.
+fn add_line(
+    alloc: Global,
+    line: &[u8],
+    lits: &mut Vec<Lit>,
+    problem: &mut Problem,
+) -> Result<bool, Memory>
     ensures { IfOk result (λ fine. MatchBool fine ((cs : List (List Lit)) × AddsOfLine problem.old.vars line.now cs
         × (problem.new ≡ with_clauses problem.old cs)) ((IsPassedOver line.now → ⊥)
         × ((c : List Lit) → IsClauseLine problem.old.vars c line.now → ⊥))) }
@@ -52,13 +59,11 @@ fn add_line(alloc: Global, line: &[u8], problem: &mut Problem) -> Result<bool, M
     if is_passed_over(line) {
         return Ok(true);
     }
-    match clause_of(alloc, problem.vars(), line)? {
-        Some(clause) => {
-            problem.add_clause(clause)?;
-            Ok(true)
-        }
-        None => Ok(false),
+    if !reads_clause(problem.vars(), line, lits)? {
+        return Ok(false);
     }
+    problem.add_clause(Clause::from_slice(alloc, lits.as_slice())?)?;
+    Ok(true)
 }
 
 /// Adds what the lines say, and answers the number of the first that is not as it must be.
@@ -67,8 +72,9 @@ fn add_lines(alloc: Global, lines: &[&[u8]], problem: &mut Problem) -> Result<Op
         (map (λ l. l.now) lines.now) cs × (problem.new ≡ with_clauses problem.old cs))
         (λ number. HasNoClause problem.old.vars (map (λ l. l.now) lines.now) number)) }
 {
+    let mut lits = Vec::new(alloc);
     for place in 0..lines.len() {
-        if !add_line(alloc, lines[place], problem)? {
+        if !add_line(alloc, lines[place], &mut lits, problem)? {
             return Ok(Some(place as u64 + 1));
         }
     }
