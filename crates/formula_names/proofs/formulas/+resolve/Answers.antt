@@ -1,4 +1,4 @@
-use Rattle.std.proofs.Common.{◌≡◌, ◌<◌, ◌≤◌, ◌∷◌, ◌++◌, [], ℕ, length, map, arith, rules, false, ap, refl}
+use Rattle.std.proofs.Common.{◌≡◌, ◌<◌, ◌≤◌, ◌∷◌, ◌++◌, [], ℕ, List, length, map, arith, rules, false, ap, refl}
 use Rattle.std.proofs.lemmas.Grind.{common_steps, fold-append}
 use Rattle.fo_syntax.specs.Trees as raw
 use Rattle.fo_syntax.specs.View as view
@@ -25,6 +25,11 @@ use Rattle.formula_names.proofs.ChainEnds.{product_tree, opened_noted, always_on
 use Rattle.reading_stages.specs.declared.named.NamedFormula.{the_lemmas as named_lemmas}
 use Rattle.formula_names.proofs.formulas.+resolve.Goals as goal
 use Rattle.reading_stages.specs.NamedTrees as tree
+
+-- a list that counts none
+nothing : {A : Type 0} (xs : List A) → length xs ≡ 0 → xs ≡ []
+nothing [] e = refl
+nothing (x ∷ xs) e = absurd (omega arith)
 
 pub disjunction-returns-clause-tree : goal.disjunction-returns-clause-tree
 disjunction-returns-clause-tree t c =
@@ -352,3 +357,67 @@ unary-returns-in_ok-inner-in-Some-clause-tree t c = search (rules, the_lemmas, n
 
 pub unary-returns-in_ok-inner-in-Some-clause-noted : goal.unary-returns-in_ok-inner-in-Some-clause-noted
 unary-returns-in_ok-inner-in-Some-clause-noted t c = search (rules, the_lemmas, fold-append)
+
+pub disjunction-returns-then-is_empty-clause-tree : goal.disjunction-returns-then-is_empty-clause-tree
+disjunction-returns-then-is_empty-clause-tree t c =
+    let seen : view.or_view c.args.raw.now ≡ view.or_of (view.and_view (out-RawOr c.args.raw.now).first)
+    (map view.or_tail_view (out-RawOr c.args.raw.now).more) = search (rules, the_lemmas) in
+    let count : length (out-RawOr c.args.raw.now).more ≡ 0 = grind (arith, common_steps) in
+    let none : (out-RawOr c.args.raw.now).more ≡ [] = nothing _ count in
+    rw (seen, none) c.in_ok-first.ensures.tree
+
+pub disjunction-returns-then-is_empty-clause-noted : goal.disjunction-returns-then-is_empty-clause-noted
+disjunction-returns-then-is_empty-clause-noted t c =
+    let seen : view.or_view c.args.raw.now ≡ view.or_of (view.and_view (out-RawOr c.args.raw.now).first)
+    (map view.or_tail_view (out-RawOr c.args.raw.now).more) = search (rules, the_lemmas) in
+    let count : length (out-RawOr c.args.raw.now).more ≡ 0 = grind (arith, common_steps) in
+    let none : (out-RawOr c.args.raw.now).more ≡ [] = nothing _ count in
+    rw (seen, none) c.in_ok-first.ensures.noted
+
+pub conjunction-returns-then-is_empty-clause-tree : goal.conjunction-returns-then-is_empty-clause-tree
+conjunction-returns-then-is_empty-clause-tree t c =
+    let seen : view.and_view c.args.raw.now ≡ view.and_of (view.unary_view (out-RawAnd c.args.raw.now).first)
+    (map view.and_tail_view (out-RawAnd c.args.raw.now).more) = search (rules, the_lemmas) in
+    let count : length (out-RawAnd c.args.raw.now).more ≡ 0 = grind (arith, common_steps) in
+    let none : (out-RawAnd c.args.raw.now).more ≡ [] = nothing _ count in
+    rw (seen, none) c.in_ok-first.ensures.tree
+
+pub conjunction-returns-then-is_empty-clause-noted : goal.conjunction-returns-then-is_empty-clause-noted
+conjunction-returns-then-is_empty-clause-noted t c =
+    let seen : view.and_view c.args.raw.now ≡ view.and_of (view.unary_view (out-RawAnd c.args.raw.now).first)
+    (map view.and_tail_view (out-RawAnd c.args.raw.now).more) = search (rules, the_lemmas) in
+    let count : length (out-RawAnd c.args.raw.now).more ≡ 0 = grind (arith, common_steps) in
+    let none : (out-RawAnd c.args.raw.now).more ≡ [] = nothing _ count in
+    rw (seen, none) c.in_ok-first.ensures.noted
+
+pub term-returns-then-is_empty-clause-tree : goal.term-returns-then-is_empty-clause-tree
+term-returns-then-is_empty-clause-tree t c =
+    let seen : view.term_view c.args.raw.now ≡ view.term_of (view.product_view (out-RawTermTree c.args.raw.now).first)
+    (map view.sum_tail_view (out-RawTermTree c.args.raw.now).more) = search (rules, the_lemmas) in
+    let count : length (out-RawTermTree c.args.raw.now).more ≡ 0 = grind (arith, common_steps) in
+    let none : (out-RawTermTree c.args.raw.now).more ≡ [] = nothing _ count in
+    rw (seen, none) c.in_ok-first.ensures.tree
+
+pub term-returns-then-is_empty-clause-noted : goal.term-returns-then-is_empty-clause-noted
+term-returns-then-is_empty-clause-noted t c =
+    let seen : view.term_view c.args.raw.now ≡ view.term_of (view.product_view (out-RawTermTree c.args.raw.now).first)
+    (map view.sum_tail_view (out-RawTermTree c.args.raw.now).more) = search (rules, the_lemmas) in
+    let count : length (out-RawTermTree c.args.raw.now).more ≡ 0 = grind (arith, common_steps) in
+    let none : (out-RawTermTree c.args.raw.now).more ≡ [] = nothing _ count in
+    rw (seen, none) c.in_ok-first.ensures.noted
+
+pub product-returns-then-is_empty-clause-tree : goal.product-returns-then-is_empty-clause-tree
+product-returns-then-is_empty-clause-tree t c =
+    let seen : view.product_view c.args.raw.now ≡ view.product_of (view.factor_view (out-RawProduct c.args.raw.now).first)
+    (map view.product_tail_view (out-RawProduct c.args.raw.now).more) = search (rules, the_lemmas) in
+    let count : length (out-RawProduct c.args.raw.now).more ≡ 0 = grind (arith, common_steps) in
+    let none : (out-RawProduct c.args.raw.now).more ≡ [] = nothing _ count in
+    rw (seen, none) c.in_ok-first.ensures.tree
+
+pub product-returns-then-is_empty-clause-noted : goal.product-returns-then-is_empty-clause-noted
+product-returns-then-is_empty-clause-noted t c =
+    let seen : view.product_view c.args.raw.now ≡ view.product_of (view.factor_view (out-RawProduct c.args.raw.now).first)
+    (map view.product_tail_view (out-RawProduct c.args.raw.now).more) = search (rules, the_lemmas) in
+    let count : length (out-RawProduct c.args.raw.now).more ≡ 0 = grind (arith, common_steps) in
+    let none : (out-RawProduct c.args.raw.now).more ≡ [] = nothing _ count in
+    rw (seen, none) c.in_ok-first.ensures.noted
