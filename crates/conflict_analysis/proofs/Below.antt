@@ -153,8 +153,8 @@ resolvent-start s end floor id beside fresh r n a made =
 pub resolvent-take : (s : StoreState) (end : ℕ) (beside : Lit → Type 0) (place : ℕ) (old new : Resolvent)
     → IsResolvent s end beside old → TakesLast old place new → IsTaken s end beside place new
 resolvent-take s end beside place old new h t =
-    let has : Contains old.upper.keys place = subst (λ (ks : List ℕ). Contains ks place) (sym t.upper)
-    (Contains-push new.upper.keys place) in
+    let has : Contains old.upper place = subst (λ (ks : List ℕ). Contains ks place) (sym t.upper)
+    (Contains-push new.upper place) in
     let lt : place < old.top = (h.upper place has).0 in
     let within : old.top ≤ end = h.within in
     record {
@@ -165,7 +165,7 @@ resolvent-take s end beside place old new h t =
           (λ l n. ⊎_elim (λ b. inl b) (λ w. inr (
             w.0,
             ⊎_elim
-                (λ u. ⊎_elim (λ o. inr (inl o)) (λ e. inl (sym e)) (Contains-push_cases new.upper.keys place w.0
+                (λ u. ⊎_elim (λ o. inr (inl o)) (λ e. inl (sym e)) (Contains-push_cases new.upper place w.0
                 (subst (λ (ks : List ℕ). Contains ks w.0) t.upper u)))
                 (λ l. inr (inr (subst (λ (ks : List ℕ). Contains ks w.0) (sym t.lower) l)))
                 w.1,
@@ -179,7 +179,7 @@ resolvent-take s end beside place old new h t =
         subst (λ (e : ℕ). k < e) (sym t.top) (t.below k u),
         subst (λ (f : ℕ). IsUpper s.trail.steps f k)
             (sym t.floor) (h.upper k (subst (λ (ks : List ℕ). Contains ks k) (sym t.upper)
-            (Contains-append_left new.upper.keys (place ∷ []) k u))).1,
+            (Contains-append_left new.upper (place ∷ []) k u))).1,
       );
       lower = λ k l. subst (λ (f : ℕ). IsLower s.trail.steps f k) (sym t.floor)
           (h.lower k (subst (λ (ks : List ℕ). Contains ks k) t.lower l));
@@ -187,7 +187,7 @@ resolvent-take s end beside place old new h t =
           (λ (e : k ≡ place). subst (IsSourced s) (sym e) (h.sourced place (inl has)))
           (λ m. ⊎_elim
           (λ u. h.sourced k (inl (subst (λ (ks : List ℕ). Contains ks k) (sym t.upper)
-          (Contains-append_left new.upper.keys (place ∷ []) k u))))
+          (Contains-append_left new.upper (place ∷ []) k u))))
           (λ l. h.sourced k (inr (subst (λ (ks : List ℕ). Contains ks k) t.lower l)))
           m)
           way;
@@ -198,7 +198,7 @@ pub resolvent-within : (s : StoreState) (end : ℕ) (beside : Lit → Type 0) (p
     → IsResolvent s end beside old → TakesLast old place new → place < length s.trail.steps
 resolvent-within s end beside place old new h t =
     let u = (h.upper place (subst (λ (ks : List ℕ). Contains ks place) (sym t.upper)
-    (Contains-push new.upper.keys place))).1 in
+    (Contains-push new.upper place))).1 in
     slice_get_within s.trail.steps place u.0 u.1
 
 -- the reason of the place that was taken off is resolved

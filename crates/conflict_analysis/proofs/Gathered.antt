@@ -1,8 +1,6 @@
 -- What is marked after one more literal.
 use Rattle.std.proofs.Common.{◌≡◌, ℕ, ◌<◌, ◌≤◌, Option, Some, None, List, [], ◌∷◌, ◌++◌, refl, sym, ap, ◌∙◌, ◌⊎◌, inl}
 use Rattle.std.proofs.Common.{inr, ⊎_elim, subst, Contains, slice_get, arith}
-use Rattle.std.specs.Ordering.{nat_cmp}
-use Rattle.std.specs.BTreeSet.{insert_key}
 use Rattle.std.specs.Option.{IsSome}
 use Rattle.std.proofs.lemmas.List.Elements.{Contains-append_left, Contains-push, Contains-push_cases}
 use Rattle.lit_core.specs.declared.literals.Lit.{Lit}
@@ -13,8 +11,8 @@ use Rattle.clause_store.specs.TrailState.{TrailState}
 use Rattle.clause_store.specs.TrailLaws.{IsTrail, IsFixed}
 use Rattle.clause_store.specs.StoreState.{IsMadeBefore}
 use Rattle.conflict_analysis.specs.declared.resolvent.Resolvent.{Resolvent}
+use Rattle.conflict_analysis.specs.Marked.{Inserts}
 use Rattle.conflict_analysis.specs.Resolvents.{IsMadeAt, IsOfOne, IsUpper, IsLower, Gathers}
-use Rattle.conflict_analysis.proofs.Keys.{inserted-old, inserted-new, inserted-cases}
 use Rattle.conflict_analysis.proofs.Places.{made-below, variable-of}
 
 -- nothing is gathered yet
@@ -90,22 +88,20 @@ module _ (s : TrailState) (trail : IsTrail s) (old new : Resolvent) (lit : Lit)
         (t, at, made-below s.values s.steps trail.coherent lit old.top place t made at var-same lt),
   )
 
-  pub gathers-lower : new.floor ≡ old.floor → new.top ≡ old.top → new.upper.keys ≡ old.upper.keys
-      → new.lower.keys ≡ insert_key nat_cmp old.lower.keys place → t.level < old.floor → place < old.top
+  pub gathers-lower : new.floor ≡ old.floor → new.top ≡ old.top → new.upper ≡ old.upper
+      → Inserts old.lower place new.lower → t.level < old.floor → place < old.top
       → Gathers s.steps old (λ m. m ≡ lit) new
   gathers-lower floor top upper lower lt below-top = record {
     floor = floor;
     top = top;
-    marked = λ m e k below w. inr (subst (λ (ks : List ℕ). Contains ks k) (sym lower)
-        (subst (Contains (insert_key nat_cmp old.lower.keys place)) (is-place m e k w)
-        (inserted-new old.lower.keys place)));
+    marked = λ m e k below w. inr (subst (Contains new.lower) (is-place m e k w) lower.has);
     kept_upper = λ k h. subst (λ (ks : List ℕ). Contains ks k) (sym upper) h;
-    kept_lower = λ k h. subst (λ (ks : List ℕ). Contains ks k) (sym lower) (inserted-old old.lower.keys place k h);
+    kept_lower = λ k h. lower.kept k h;
     from_upper = λ k h. inl (subst (λ (ks : List ℕ). Contains ks k) upper h);
     from_lower = λ k h. ⊎_elim (λ o. inl o) (λ e. inr (
       subst (IsLower s.steps old.floor) e (t, at, lt),
       of-this e below-top,
-    )) (inserted-cases old.lower.keys place k (subst (λ (ks : List ℕ). Contains ks k) lower h));
+    )) (lower.from k h);
   }
 
   reasoned : (o : Option ℕ) → t.reason ≡ o → (IsFixed s (negated lit) → ⊥) → place < old.top → t.level ≡ 0 → IsSome o
@@ -119,22 +115,20 @@ module _ (s : TrailState) (trail : IsTrail s) (old new : Resolvent) (lit : Lit)
     e,
   ))
 
-  pub gathers-upper : new.floor ≡ old.floor → new.top ≡ old.top → new.lower.keys ≡ old.lower.keys
-      → new.upper.keys ≡ insert_key nat_cmp old.upper.keys place → old.floor ≤ t.level → place < old.top
+  pub gathers-upper : new.floor ≡ old.floor → new.top ≡ old.top → new.lower ≡ old.lower
+      → Inserts old.upper place new.upper → old.floor ≤ t.level → place < old.top
       → (IsFixed s (negated lit) → ⊥) → Gathers s.steps old (λ m. m ≡ lit) new
   gathers-upper floor top lower upper le lt unfixed = record {
     floor = floor;
     top = top;
-    marked = λ m e k below w. inl (subst (λ (ks : List ℕ). Contains ks k) (sym upper)
-        (subst (Contains (insert_key nat_cmp old.upper.keys place)) (is-place m e k w)
-        (inserted-new old.upper.keys place)));
-    kept_upper = λ k h. subst (λ (ks : List ℕ). Contains ks k) (sym upper) (inserted-old old.upper.keys place k h);
+    marked = λ m e k below w. inl (subst (Contains new.upper) (is-place m e k w) upper.has);
+    kept_upper = λ k h. upper.kept k h;
     kept_lower = λ k h. subst (λ (ks : List ℕ). Contains ks k) (sym lower) h;
     from_upper = λ k h. ⊎_elim (λ o. inl o) (λ e. inr (
       subst (λ (n : ℕ). n < old.top) e lt,
       subst (IsUpper s.steps old.floor) e (t, at, le, reasoned t.reason refl unfixed lt),
       of-this e lt,
     ))
-        (inserted-cases old.upper.keys place k (subst (λ (ks : List ℕ). Contains ks k) upper h));
+        (upper.from k h);
     from_lower = λ k h. inl (subst (λ (ks : List ℕ). Contains ks k) lower h);
   }

@@ -1,5 +1,5 @@
 -- The clause that is learnt.
-use Rattle.std.proofs.Common.{◌≡◌, ℕ, ◌<◌, ◌≤◌, ◌+◌, Bool, false, Option, Some, None, List, [], ◌∷◌, ◌++◌, length, map}
+use Rattle.std.proofs.Common.{◌≡◌, ℕ, ◌<◌, ◌≤◌, Bool, false, Option, Some, None, List, [], ◌∷◌, ◌++◌, length, map}
 use Rattle.std.proofs.Common.{reverse, refl, sym, ap, ◌∙◌, ◌⊎◌, inl, inr, ⊎_elim, arith, slice_get, subst, All}
 use Rattle.std.proofs.Common.{Contains, get_or}
 use Rattle.std.specs.List.{AllZip}
@@ -18,9 +18,9 @@ use Rattle.conflict_analysis.specs.declared.resolvent.Resolvent.{Resolvent}
 use Rattle.conflict_analysis.specs.Analyses.{IsFalseSince, IsFalseUpTo, HasCurrent, FollowsFrom, IsHeldLiteral}
 use Rattle.conflict_analysis.specs.Analyses.{IsUnitBackAt, IsAnalysis}
 use Rattle.conflict_analysis.specs.Learning.{IsLastLevel, IsClauseOf, IsClauseAbove}
-use Rattle.conflict_analysis.specs.Resolvents.{IsMadeAt, IsMarked, IsNew, Absorbs, TakesLast}
-use Rattle.conflict_analysis.specs.Tracing.{IsNeeded, IsSourced, IsTaken, NoLiteral, HasUpper, IsCurrent, IsLast}
-use Rattle.conflict_analysis.proofs.Places.{same-step, variable-of, of-conflict, lower-place}
+use Rattle.conflict_analysis.specs.Resolvents.{IsMadeAt, IsNew, Absorbs, TakesLast}
+use Rattle.conflict_analysis.specs.Tracing.{IsSourced, IsTaken, NoLiteral, HasUpper, IsCurrent, IsLast}
+use Rattle.conflict_analysis.proofs.Places.{same-step, variable-of, of-conflict}
 use Rattle.conflict_analysis.specs.Shortening.{AreInForce, IsLeftAt, IsShort}
 use Rattle.conflict_analysis.proofs.Below.{map-cases, map-contains, resolvent-start, resolvent-take, resolvent-resolve}
 use Rattle.conflict_analysis.proofs.Traced.{once-push, once-single}
@@ -91,13 +91,13 @@ module _ (s : StoreState) (store : IsStore s) (high : 0 < s.trail.level) (place 
   pub current-down : (new : Resolvent) → new.top ≡ mid.top → new.top < old.top
   current-down new same =
       let lt : place < old.top = (h.resolvent.upper place (subst (λ (ks : List ℕ). Contains ks place) (sym takes.upper)
-      (Contains-push mid.upper.keys place))).0 in
+      (Contains-push mid.upper place))).0 in
       let top : mid.top ≡ place = takes.top in
       omega (arith, same, lt, top)
 
 -- where no other literal of the level is left, the last one is the unique implication point
 pub current-last : (s : StoreState) (place : ℕ) (old mid : Resolvent) → IsCurrent s old → TakesLast old place mid
-    → mid.upper.keys ≡ [] → IsLast s place mid
+    → mid.upper ≡ [] → IsLast s place mid
 current-last s place old mid h takes none = record {
   taken = resolvent-take s (length s.trail.steps) NoLiteral place old mid h.resolvent takes;
   floor = takes.floor ∙ h.floor;

@@ -1,4 +1,5 @@
 pub mod Keys
+pub mod MarkFacts
 pub mod Places
 pub mod Gathered
 pub mod Below

@@ -1,25 +1,20 @@
 -- Learnt clauses without the literals that follow from others.
-use Rattle.std.proofs.Common.{◌≡◌, ℕ, ◌<◌, ◌≤◌, ◌+◌, Bool, Option, Some, List, [], ◌∷◌, ◌++◌, length, reverse, refl}
+use Rattle.std.proofs.Common.{◌≡◌, ℕ, ◌<◌, ◌≤◌, Some, List, [], ◌∷◌, ◌++◌, refl}
 use Rattle.std.proofs.Common.{sym, ap, ◌∙◌, ◌⊎◌, inl, inr, ⊎_elim, arith, slice_get, subst, Contains, get_or}
-use Rattle.std.specs.BTreeSet.{insert_key}
-use Rattle.std.specs.Ordering.{nat_cmp}
-use Rattle.std.specs.List.{AllZip}
 use Rattle.std.proofs.lemmas.List.Elements.{All-contains, Contains-append_left, Contains-push, Contains-push_cases}
 use Rattle.std.proofs.lemmas.List.Elements.{Contains-get_or}
 use Rattle.lit_core.specs.declared.literals.Lit.{Lit}
 use Rattle.lit_core.specs.Literals.{negated}
-use Rattle.lit_core.specs.Refutation.{RefutesInOrder}
 use Rattle.lit_core.proofs.LiteralFacts.{nothing_in_none}
 use Rattle.clause_store.specs.declared.trails.Step.{Step}
 use Rattle.clause_store.specs.StoreState.{StoreState, IsStore, IsHeld, IsMadeBefore}
 use Rattle.clause_store.proofs.WatchFacts.{same-held}
 use Rattle.conflict_analysis.specs.declared.resolvent.Resolvent.{Resolvent}
-use Rattle.conflict_analysis.specs.Learning.{PopsLast}
+use Rattle.conflict_analysis.specs.Marked.{Inserts, PopsLast}
 use Rattle.conflict_analysis.specs.Resolvents.{IsMadeAt, IsLower, IsUpper}
 use Rattle.conflict_analysis.specs.Shortening.{AreInForce, IsLeftAt, IsLeftOrKept, IsRedundant, IsShort}
 use Rattle.conflict_analysis.specs.Tracing.{IsLast}
 use Rattle.conflict_analysis.proofs.Below.{held-more, prepend}
-use Rattle.conflict_analysis.proofs.Keys.{inserted-cases, inserted-new, inserted-old}
 use Rattle.conflict_analysis.proofs.Places.{lower-place, of-reason, same-step, step-of, variable-of}
 
 -- the same places, said in another way
@@ -49,7 +44,7 @@ short-below s store place among hints h k a =
 
 -- at first nothing is left out
 pub short-start : (s : StoreState) → IsStore s → (place : ℕ) (r : Resolvent) → IsLast s place r
-    → IsShort s place (Contains r.lower.keys) r.hints.items
+    → IsShort s place (Contains r.lower) r.hints.items
 short-start s store place r h = record {
   hinted = h.taken.hinted;
   held = h.taken.held;
@@ -71,10 +66,10 @@ short-start s store place r h = record {
   sourced = λ k way. h.taken.sourced k (⊎_elim (λ e. inl e) (λ o. inr (inr o)) way);
 }
   where
-    low : (k : ℕ) → Contains r.lower.keys k → IsLower s.trail.steps s.trail.level k
+    low : (k : ℕ) → Contains r.lower k → IsLower s.trail.steps s.trail.level k
     low k has = subst (λ (f : ℕ). IsLower s.trail.steps f k) h.floor (h.taken.lower k has)
 
-    below-place : (k : ℕ) → Contains r.lower.keys k → k < place
+    below-place : (k : ℕ) → Contains r.lower k → k < place
     below-place k has =
         let l = low k has in
         let u = h.taken.taken in
@@ -171,32 +166,30 @@ module _ (old left kept : List ℕ) (next : ℕ) (pops : PopsLast old next left)
       (λ c. let lt : next < next = above next next c has-next in omega (arith, lt))
       way
 
-  keep-to : (k : ℕ) → IsLeftOrKept old kept k → IsLeftOrKept left (insert_key nat_cmp kept next) k
-  keep-to k way = ⊎_elim
-      (λ o. ⊎_elim (λ e. inr (subst (Contains (insert_key nat_cmp kept next)) (sym e) (inserted-new kept next)))
-      (λ l. inl l) (split-cases k o))
-      (λ c. inr (inserted-old kept next k c))
+  keep-to : (keys : List ℕ) → Inserts kept next keys → (k : ℕ) → IsLeftOrKept old kept k → IsLeftOrKept left keys k
+  keep-to keys more k way = ⊎_elim
+      (λ o. ⊎_elim (λ e. inr (subst (Contains keys) (sym e) more.has)) (λ l. inl l) (split-cases k o))
+      (λ c. inr (more.kept k c))
       way
 
-  keep-back : (k : ℕ) → IsLeftOrKept left (insert_key nat_cmp kept next) k → IsLeftOrKept old kept k
-  keep-back k way = ⊎_elim
+  keep-back : (keys : List ℕ) → Inserts kept next keys → (k : ℕ) → IsLeftOrKept left keys k → IsLeftOrKept old kept k
+  keep-back keys more k way = ⊎_elim
       (λ l. inl (left-old k l))
-      (λ c. ⊎_elim (λ o. inr o) (λ e. inl (subst (Contains old) e has-next)) (inserted-cases kept next k c))
+      (λ c. ⊎_elim (λ o. inr o) (λ e. inl (subst (Contains old) e has-next)) (more.from k c))
       way
 
   -- a place is kept
-  pub short-keep : (s : StoreState) (place : ℕ) (hints keys : List ℕ) → keys ≡ insert_key nat_cmp kept next
+  pub short-keep : (s : StoreState) (place : ℕ) (hints keys : List ℕ) → Inserts kept next keys
       → IsShort s place (IsLeftOrKept old kept) hints → IsShort s place (IsLeftOrKept left keys) hints
-  short-keep s place hints keys e h = subst (λ (ks : List ℕ). IsShort s place (IsLeftOrKept left ks) hints) (sym e)
-      (short-same s place (IsLeftOrKept old kept) (IsLeftOrKept left (insert_key nat_cmp kept next)) hints
-      keep-to keep-back h)
+  short-keep s place hints keys more h = short-same s place (IsLeftOrKept old kept) (IsLeftOrKept left keys) hints
+      (keep-to keys more) (keep-back keys more) h
 
-  pub keep-above : (keys : List ℕ) → keys ≡ insert_key nat_cmp kept next → ((k j : ℕ) → Contains kept k → Contains old j
+  pub keep-above : (keys : List ℕ) → Inserts kept next keys → ((k j : ℕ) → Contains kept k → Contains old j
       → j < k) → (k j : ℕ) → Contains keys k → Contains left j → j < k
-  keep-above keys e above k j has b = ⊎_elim
+  keep-above keys more above k j has b = ⊎_elim
       (λ o. above k j o (left-old j b))
       (λ same. subst (λ (n : ℕ). j < n) same (pops.below j b))
-      (inserted-cases kept next k (subst (λ (ks : List ℕ). Contains ks k) e has))
+      (more.from k has)
 
 -- a literal of a reason has a step
 pub reason-placed : (s : StoreState) → IsStore s → (place id : ℕ) (t : Step) (c : List Lit)

@@ -80,7 +80,7 @@ module _ (s : StoreState) (store : IsStore s) (end place : ℕ) (old mid : Resol
     (takes : TakesLast old place mid) where
   lt-top : place < old.top
   lt-top = (h.resolvent.upper place (subst (λ (ks : List ℕ). Contains ks place) (sym takes.upper)
-      (Contains-push mid.upper.keys place))).0
+      (Contains-push mid.upper place))).0
 
   taken : IsTaken s end (IsBeside s.trail.steps end lits) place mid
   taken = resolvent-take s end (IsBeside s.trail.steps end lits) place old mid h.resolvent takes
@@ -139,7 +139,7 @@ module _ (s : StoreState) (store : IsStore s) (end place : ℕ) (old mid : Resol
       }
 
 pub traced : (s : StoreState) → IsStore s → (end : ℕ) (r : Resolvent) (a : Refuted) → IsTracing s end r a.lits.items
-    → r.upper.keys ≡ [] → a.hints.items ≡ reverse r.hints.items → IsTraced s end a
+    → r.upper ≡ [] → a.hints.items ≡ reverse r.hints.items → IsTraced s end a
 traced s store end r a h none e = record {
   decisions = decisions-lower s r.top 0 a.lits.items (omega arith) h.decisions;
   follows = λ c all from. record {

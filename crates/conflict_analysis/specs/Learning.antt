@@ -1,14 +1,9 @@
 -- The clause that is learnt, by the places of its literals.
-use Rattle.std.specs.Prelude.{◌≡◌, ℕ, ◌<◌, ◌≤◌, Some, List, [], ◌∷◌, ◌++◌, slice_get, Contains, ◌⊎◌}
+use Rattle.std.specs.Prelude.{◌≡◌, ℕ, ◌<◌, ◌≤◌, Some, List, [], slice_get, Contains, ◌⊎◌}
 use Rattle.lit_core.specs.declared.literals.Lit.{Lit}
 use Rattle.lit_core.specs.Literals.{negated, HasEachOnce}
 use Rattle.clause_store.specs.declared.trails.Step.{Step}
 use Rattle.conflict_analysis.specs.Resolvents.{IsMadeAt}
-
--- the last of these places was taken off
-pub record PopsLast (old : List ℕ) (place : ℕ) (new : List ℕ) : Type 0 where
-  pub split : old ≡ new ++ place ∷ []
-  pub below : (k : ℕ) → Contains new k → k < place
 
 -- the level of the last of these places, or 0 where there is none
 abbrev pub IsLastLevel : List Step → List ℕ → ℕ → Type 0

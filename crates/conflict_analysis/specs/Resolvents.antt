@@ -12,7 +12,7 @@ IsMadeAt steps k l = (t : Step) × (slice_get steps k ≡ Some t) × (t.lit ≡ 
 
 -- the place is marked
 abbrev pub IsMarked : Resolvent → ℕ → Type 0
-IsMarked r k = Contains r.upper.keys k ⊎ Contains r.lower.keys k
+IsMarked r k = Contains r.upper k ⊎ Contains r.lower k
 
 -- a step from the floor up, which did not fix its literal
 abbrev pub IsUpper : List Step → ℕ → ℕ → Type 0
@@ -30,21 +30,21 @@ IsOfOne steps has k = (m : Lit) × has m × IsMadeAt steps k (negated m)
 pub record IsNew (floor top : ℕ) (r : Resolvent) : Type 0 where
   pub floor_is : r.floor ≡ floor
   pub top_is : r.top ≡ top
-  pub upper : r.upper.keys ≡ []
-  pub lower : r.lower.keys ≡ []
+  pub upper : r.upper ≡ []
+  pub lower : r.lower ≡ []
   pub hints : r.hints.items ≡ []
 
 -- no place is left to be resolved
 abbrev pub TakesNone : Resolvent → Resolvent → Type 0
-TakesNone old new = (old.upper.keys ≡ []) × (new ≡ old)
+TakesNone old new = (old.upper ≡ []) × (new ≡ old)
 
 -- the last place was taken off
 pub record TakesLast (old : Resolvent) (place : ℕ) (new : Resolvent) : Type 0 where
-  pub upper : old.upper.keys ≡ new.upper.keys ++ place ∷ []
-  pub below : (k : ℕ) → Contains new.upper.keys k → k < place
+  pub upper : old.upper ≡ new.upper ++ place ∷ []
+  pub below : (k : ℕ) → Contains new.upper k → k < place
   pub top : new.top ≡ place
   pub floor : new.floor ≡ old.floor
-  pub lower : new.lower.keys ≡ old.lower.keys
+  pub lower : new.lower ≡ old.lower
   pub hints : new.hints.items ≡ old.hints.items
 
 -- the places below the top that made these literals false were marked, and no others
@@ -52,11 +52,11 @@ pub record Gathers (steps : List Step) (old : Resolvent) (has : Lit → Type 0) 
   pub floor : new.floor ≡ old.floor
   pub top : new.top ≡ old.top
   pub marked : (m : Lit) → has m → (k : ℕ) → k < old.top → IsMadeAt steps k (negated m) → IsMarked new k
-  pub kept_upper : (k : ℕ) → Contains old.upper.keys k → Contains new.upper.keys k
-  pub kept_lower : (k : ℕ) → Contains old.lower.keys k → Contains new.lower.keys k
-  pub from_upper : (k : ℕ) → Contains new.upper.keys k → Contains old.upper.keys k
+  pub kept_upper : (k : ℕ) → Contains old.upper k → Contains new.upper k
+  pub kept_lower : (k : ℕ) → Contains old.lower k → Contains new.lower k
+  pub from_upper : (k : ℕ) → Contains new.upper k → Contains old.upper k
       ⊎ ((k < old.top) × IsUpper steps old.floor k × IsOfOne steps has k)
-  pub from_lower : (k : ℕ) → Contains new.lower.keys k → Contains old.lower.keys k
+  pub from_lower : (k : ℕ) → Contains new.lower k → Contains old.lower k
       ⊎ (IsLower steps old.floor k × IsOfOne steps has k)
 
 -- a held clause whose literals were made false before the place, but for the one that the step there made true

@@ -37,8 +37,8 @@ pub record IsResolvent (s : StoreState) (end : ℕ) (beside : Lit → Type 0) (r
   pub held : AllZip (IsHeld s) (reverse r.hints.items) hinted
   pub refuted : IsRefutedBelow s.trail.steps r.top end (IsNeeded s.trail.steps beside (IsMarked r)) hinted
   pub within : r.top ≤ end
-  pub upper : (k : ℕ) → Contains r.upper.keys k → (k < r.top) × IsUpper s.trail.steps r.floor k
-  pub lower : (k : ℕ) → Contains r.lower.keys k → IsLower s.trail.steps r.floor k
+  pub upper : (k : ℕ) → Contains r.upper k → (k < r.top) × IsUpper s.trail.steps r.floor k
+  pub lower : (k : ℕ) → Contains r.lower k → IsLower s.trail.steps r.floor k
   pub sourced : (k : ℕ) → IsMarked r k → IsSourced s k
 
 -- the same with a place that was taken off
@@ -50,8 +50,8 @@ pub record IsTaken (s : StoreState) (end : ℕ) (beside : Lit → Type 0) (place
   pub top : r.top ≡ place
   pub within : place < end
   pub taken : IsUpper s.trail.steps r.floor place
-  pub upper : (k : ℕ) → Contains r.upper.keys k → (k < r.top) × IsUpper s.trail.steps r.floor k
-  pub lower : (k : ℕ) → Contains r.lower.keys k → IsLower s.trail.steps r.floor k
+  pub upper : (k : ℕ) → Contains r.upper k → (k < r.top) × IsUpper s.trail.steps r.floor k
+  pub lower : (k : ℕ) → Contains r.lower k → IsLower s.trail.steps r.floor k
   pub sourced : (k : ℕ) → (k ≡ place) ⊎ IsMarked r k → IsSourced s k
 
 -- no literal
@@ -60,7 +60,7 @@ NoLiteral l = ⊥
 
 -- some place is left to be resolved
 abbrev pub HasUpper : Resolvent → Type 0
-HasUpper r = (k : ℕ) × Contains r.upper.keys k
+HasUpper r = (k : ℕ) × Contains r.upper k
 
 -- resolution from the end of the trail, at the current level alone
 pub record IsCurrent (s : StoreState) (r : Resolvent) : Type 0 where
@@ -72,7 +72,7 @@ pub record IsCurrent (s : StoreState) (r : Resolvent) : Type 0 where
 pub record IsLast (s : StoreState) (place : ℕ) (r : Resolvent) : Type 0 where
   pub taken : IsTaken s (length s.trail.steps) NoLiteral place r
   pub floor : r.floor ≡ s.trail.level
-  pub none : r.upper.keys ≡ []
+  pub none : r.upper ≡ []
 
 -- decisions in the order in which they are met, none of which is below `top`
 pub record AreDecisions (s : StoreState) (top : ℕ) (lits : List Lit) : Type 0 where

@@ -5,12 +5,12 @@ ghost use Rattle.conflict_analysis.specs.Analyses.{HasCurrent, IsAnalysis};
 ghost use Rattle.conflict_analysis.specs.Learning.{IsLastLevel, IsClauseOf};
 ghost use Rattle.conflict_analysis.specs.Tracing.{IsCurrent, IsLast};
 
+use crate::place_sets::PlaceSet;
 use crate::resolvent::Resolvent;
-use crate::shortening::{pop_place, shorten};
+use crate::shortening::shorten;
 use clause_store::Store;
 use lit_core::{Lit, Memory};
 use std::alloc::Global;
-use std::collections::BTreeSet;
 
 /// A clause that was learnt from a false one.
 #[derive(Debug, Drop)]
@@ -45,12 +45,12 @@ fn resolve_last(store: &Store, resolvent: &mut Resolvent) -> Result<Option<usize
 }
 
 /// The level of the last place, or 0 where there is none.
-fn last_level(store: &Store, places: &BTreeSet<usize>) -> u64
-    requires { (k : ℕ) → Contains places.now.keys k → k < length store.now.trail.steps }
-    ensures { IsLastLevel store.now.trail.steps places.now.keys result }
+fn last_level(store: &Store, places: &PlaceSet) -> u64
+    requires { (k : ℕ) → Contains places.now k → k < length store.now.trail.steps }
+    ensures { IsLastLevel store.now.trail.steps places.now result }
 {
     match places.last() {
-        Some(place) => store.step(*place).level,
+        Some(place) => store.step(place).level,
         None => 0,
     }
 }
@@ -60,16 +60,16 @@ fn clause_of(
     alloc: Global,
     store: &Store,
     place: usize,
-    lower: BTreeSet<usize>,
+    lower: PlaceSet,
 ) -> Result<Vec<Lit>, Memory>
     requires place { place < length store.now.trail.steps }
-    requires lower { (k : ℕ) → Contains lower.keys k → k < place }
-    ensures { IfOk result (λ clause. IsClauseOf store.now.trail.steps place lower.keys clause.items) }
+    requires lower { (k : ℕ) → Contains lower k → k < place }
+    ensures { IfOk result (λ clause. IsClauseOf store.now.trail.steps place lower clause.items) }
 {
     let mut clause = Vec::new(alloc);
     clause.push(store.step(place).lit.negated())?;
     let mut places = lower;
-    while let Some(next) = pop_place(&mut places) {
+    while let Some(next) = places.pop_last() {
         clause.push(store.step(next).lit.negated())?;
     }
     Ok(clause)

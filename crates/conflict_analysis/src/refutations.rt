@@ -31,7 +31,7 @@ fn trace_last(
     requires tracing { IsTracing store.now end resolvent.old decisions.old.items }
     ensures tracing { OnOk result (IsTracing store.now end resolvent.new decisions.new.items) }
     ensures more { IfOk result (λ more. OnTrue more (resolvent.new.top < resolvent.old.top)) }
-    ensures done { IfOk result (λ more. OnFalse more (resolvent.new.upper.keys ≡ [])) }
+    ensures done { IfOk result (λ more. OnFalse more (resolvent.new.upper ≡ [])) }
 {
     let Some(place) = resolvent.take_last() else {
         return Ok(false);

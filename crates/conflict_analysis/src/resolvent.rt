@@ -5,10 +5,10 @@ ghost use Rattle.clause_store.specs.TrailLaws.{IsFixed};
 ghost use Rattle.clause_store.specs.StoreState.{IsMadeBefore, IsStore};
 ghost use Rattle.conflict_analysis.specs.Resolvents.{IsMadeAt, IsOfStep, IsNew, Gathers, Absorbs, TakesNone, TakesLast};
 
+use crate::place_sets::PlaceSet;
 use clause_store::Store;
 use lit_core::{Lit, Memory};
 use std::alloc::Global;
-use std::collections::BTreeSet;
 
 /// The clause that resolution has come to, by the places on the trail that made its literals false.
 #[derive(Debug, Drop)]
@@ -18,9 +18,9 @@ pub struct Resolvent {
     /// The places that are still to be resolved are below this one.
     pub top: usize,
     /// The places at levels from the floor up.
-    pub upper: BTreeSet<usize>,
+    pub upper: PlaceSet,
     /// The places at lower levels.
-    pub lower: BTreeSet<usize>,
+    pub lower: PlaceSet,
     /// The clauses that were resolved, the false clause first.
     pub hints: Vec<u64>,
 }
@@ -33,8 +33,8 @@ impl Resolvent {
         Resolvent {
             floor,
             top,
-            upper: BTreeSet::new(alloc),
-            lower: BTreeSet::new(alloc),
+            upper: PlaceSet::new(alloc),
+            lower: PlaceSet::new(alloc),
             hints: Vec::new(alloc),
         }
     }

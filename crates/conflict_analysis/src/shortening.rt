@@ -1,41 +1,25 @@
 //! Leaving out the literals that a learnt clause can do without.
-ghost use Rattle.std.specs.Prelude.{◌≡◌, ◌↔◌, ◌<◌, ℕ, [], length, Contains, IsTrue, IfOk, IfNone, IfSome};
+ghost use Rattle.std.specs.Prelude.{◌<◌, length, Contains, IfOk, IfSome};
 ghost use Rattle.clause_store.specs.StoreState.{IsStore};
-ghost use Rattle.conflict_analysis.specs.Learning.{PopsLast};
 ghost use Rattle.conflict_analysis.specs.Shortening.{IsRedundant, IsShort};
 
+use crate::place_sets::PlaceSet;
 use clause_store::Store;
 use lit_core::Memory;
 use std::alloc::Global;
-use std::collections::BTreeSet;
-
-/// Takes off the last place.
-pub fn pop_place(places: &mut BTreeSet<usize>) -> Option<usize>
-    ensures none { IfNone result (places.old.keys ≡ []) }
-    ensures some { IfSome result (λ place. PopsLast places.old.keys place places.new.keys) }
-{
-    places.pop_last()
-}
-
-/// Whether the place is one of these.
-fn is_left(places: &BTreeSet<usize>, place: usize) -> bool
-    ensures { IsTrue result ↔ Contains places.now.keys place }
-{
-    places.contains(&place)
-}
 
 /// The reason of the step at a place, where its other literals became false at places of the set.
-fn redundant_by(store: &Store, place: usize, lower: &BTreeSet<usize>) -> Option<u64>
+fn redundant_by(store: &Store, place: usize, lower: &PlaceSet) -> Option<u64>
     requires laws { IsStore store.now }
     requires place { place < length store.now.trail.steps }
-    ensures { IfSome result (IsRedundant store.now place lower.now.keys) }
+    ensures { IfSome result (IsRedundant store.now place lower.now) }
 {
     let step = store.step(place);
     let reason = step.reason?;
     let lits = store.lend(reason);
     for lit in lits {
         let other = store.place_of(lit.lit().var);
-        if other != place && !is_left(lower, other) {
+        if other != place && !lower.contains(other) {
             return None;
         }
     }
@@ -50,16 +34,16 @@ pub fn shorten(
     alloc: Global,
     store: &Store,
     place: usize,
-    lower: BTreeSet<usize>,
+    lower: PlaceSet,
     hints: &mut Vec<u64>,
-) -> Result<BTreeSet<usize>, Memory>
+) -> Result<PlaceSet, Memory>
     requires laws { IsStore store.now }
-    requires long { IsShort store.now place (Contains lower.keys) hints.old.items }
-    ensures { IfOk result (λ kept. IsShort store.now place (Contains kept.keys) hints.new.items) }
+    requires long { IsShort store.now place (Contains lower) hints.old.items }
+    ensures { IfOk result (λ kept. IsShort store.now place (Contains kept) hints.new.items) }
 {
-    let mut kept = BTreeSet::new(alloc);
+    let mut kept = PlaceSet::new(alloc);
     let mut left = lower;
-    while let Some(next) = pop_place(&mut left) {
+    while let Some(next) = left.pop_last() {
         if let Some(reason) = redundant_by(store, next, &left) {
             hints.push(reason)?;
             continue;

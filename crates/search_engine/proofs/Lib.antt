@@ -11,6 +11,7 @@ pub mod TrailChange
 pub mod Roots
 pub mod SearchFacts
 pub mod LearnFacts
+pub mod Keys
 pub mod LitSetFacts
 pub mod CoreFacts
 pub mod LevelFacts

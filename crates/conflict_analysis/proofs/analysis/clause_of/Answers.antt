@@ -12,16 +12,16 @@ loop-next-init c =
     let items : c.push.new.self.items ≡ negated c.step.result.lit ∷ [] = c.in_ok-push.ensures.items
     ∙ (ap (λ (xs : List Lit). xs ++ c.negated.result ∷ []) c.new-clause.ensures.items
     ∙ ap (λ (l : Lit). l ∷ []) c.negated.ensures) in
-    subst (λ (xs : List Lit). IsClauseAbove c.args.store.now.trail.steps c.args.place c.args.lower.keys
-    c.args.lower.keys xs) (sym items)
-    (clause-first c.args.store.now.trail.steps c.args.place c.step.result c.step.ensures.step c.args.lower.keys
+    subst (λ (xs : List Lit). IsClauseAbove c.args.store.now.trail.steps c.args.place c.args.lower
+    c.args.lower xs) (sym items)
+    (clause-first c.args.store.now.trail.steps c.args.place c.step.result c.step.ensures.step c.args.lower
     c.requires.lower)
 
 pub step-requires-in-Some : goal.step-requires-in-Some
 step-requires-in-Some c =
     let n : ℕ = c.in-Some.next in
-    let has : Contains c.loop-next.places.keys n = subst (λ (ks : List ℕ). Contains ks n)
-    (sym c.in-Some.ensures.some.split) (Contains-push c.pop_place.new.places.keys n) in
+    let has : Contains c.loop-next.places n = subst (λ (ks : List ℕ). Contains ks n)
+    (sym c.in-Some.ensures.some.split) (Contains-push c.pop_last.new.self n) in
     let lt : n < c.args.place = c.requires.lower n (c.loop-next.invariant.among n has) in
     let within : c.args.place < length c.args.store.now.trail.steps = c.requires.place in
     omega (arith, lt, within)
@@ -32,12 +32,12 @@ loop-next-preserved c =
     let old : List Lit = c.loop-next.clause.items in
     let items : c.push-in-Some.new.self.items ≡ old ++ negated c.step-in-Some.result.lit ∷ [] =
     c.in_ok-push-2.ensures.items ∙ ap (λ (l : Lit). old ++ l ∷ []) c.negated-in-Some.ensures in
-    subst (λ (xs : List Lit). IsClauseAbove s.trail.steps c.args.place c.args.lower.keys c.pop_place.new.places.keys xs)
+    subst (λ (xs : List Lit). IsClauseAbove s.trail.steps c.args.place c.args.lower c.pop_last.new.self xs)
     (sym items)
-    (clause-more s.trail.values s.trail.steps c.step-in-Some.ensures.laws.trail.coherent c.args.place c.args.lower.keys
-    c.loop-next.places.keys c.pop_place.new.places.keys c.in-Some.next c.step-in-Some.result old
+    (clause-more s.trail.values s.trail.steps c.step-in-Some.ensures.laws.trail.coherent c.args.place c.args.lower
+    c.loop-next.places c.pop_last.new.self c.in-Some.next c.step-in-Some.result old
     c.loop-next.invariant c.in-Some.ensures.some.split c.in-Some.ensures.some.below c.step-in-Some.ensures.step)
 
 pub returns : goal.returns
-returns c = clause-done c.args.store.now.trail.steps c.args.place c.args.lower.keys c.loop-next.places.keys
-    c.loop-next.clause.items c.loop-next.invariant c.in_default.ensures.none
+returns c = clause-done c.args.store.now.trail.steps c.args.place c.args.lower c.loop-next.places
+    c.loop-next.clause.items c.loop-next.invariant c.in_default.ensures.none.0

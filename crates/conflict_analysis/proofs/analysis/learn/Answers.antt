@@ -15,7 +15,7 @@ last_level-level-requires c = λ k has. let l = c.in_ok-kept.ensures.lower k has
 
 pub clause_of-requires-clause-lower : goal.clause_of-requires-clause-lower
 clause_of-requires-clause-lower c = λ k has. short-below c.args.store.now c.requires.laws c.args.place
-    (Contains c.in_ok-kept.kept.keys) c.shorten.new.hints.items c.in_ok-kept.ensures k has
+    (Contains c.in_ok-kept.kept) c.shorten.new.hints.items c.in_ok-kept.ensures k has
 
 pub returns : goal.returns
 returns c =
@@ -25,6 +25,6 @@ returns c =
       hints =
           c.reverse.new.self;
     } in
-    learnt c.args.store.now c.requires.laws c.requires.level c.args.place c.in_ok-kept.kept.keys
+    learnt c.args.store.now c.requires.laws c.requires.level c.args.place c.in_ok-kept.kept
     c.shorten.new.hints.items c.in_ok-kept.ensures c.last_level-level.result c.last_level-level.ensures
     c.in_ok-clause.clause.items c.in_ok-clause.ensures a refl refl c.reverse.ensures.items

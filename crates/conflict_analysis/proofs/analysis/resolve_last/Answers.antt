@@ -1,5 +1,4 @@
 use Rattle.std.proofs.Common.{◌≡◌, ℕ, false, true, length, refl, sym, subst}
-use Rattle.std.proofs.lemmas.List.{nil_from_length}
 use Rattle.conflict_analysis.specs.Resolvents.{IsOfStep}
 use Rattle.conflict_analysis.specs.Tracing.{NoLiteral, HasUpper}
 use Rattle.conflict_analysis.proofs.Keys.{some-number}
@@ -10,8 +9,7 @@ use Rattle.conflict_analysis.proofs.analysis.resolve_last.Goals as goal
 
 pub returns-then-is_empty-clause-last : goal.returns-then-is_empty-clause-last
 returns-then-is_empty-clause-last c = current-last c.args.store.now c.in-Some.place c.args.resolvent.now
-    c.take_last.new.self c.requires.current c.in-Some.ensures.some (nil_from_length c.take_last.new.self.upper.keys
-    (c.if-is_empty.ensures.0 refl))
+    c.take_last.new.self c.requires.current c.in-Some.ensures.some (c.if-is_empty.ensures.0 refl)
 
 pub step-requires : goal.step-requires
 step-requires c = resolvent-within c.args.store.now (length c.args.store.now.trail.steps) NoLiteral c.in-Some.place
@@ -19,7 +17,7 @@ step-requires c = resolvent-within c.args.store.now (length c.args.store.now.tra
 
 pub unreachable-requires-in_default-reason : goal.unreachable-requires-in_default-reason
 unreachable-requires-in_default-reason c =
-    let more : HasUpper c.take_last.new.self = some-number c.take_last.new.self.upper.keys (λ e. let f : false ≡ true =
+    let more : HasUpper c.take_last.new.self = some-number c.take_last.new.self.upper (λ e. let f : false ≡ true =
     c.if-is_empty.ensures.1 e in cc) in
     current-reason c.args.store.now c.step.ensures.laws c.requires.level c.in-Some.place c.args.resolvent.now
     c.take_last.new.self c.requires.current c.in-Some.ensures.some more c.step.result c.step.ensures.step
@@ -34,7 +32,7 @@ absorb-requires c = record {
 
 pub returns-clause-current : goal.returns-clause-current
 returns-clause-current c =
-    let more : HasUpper c.take_last.new.self = some-number c.take_last.new.self.upper.keys (λ e. let f : false ≡ true =
+    let more : HasUpper c.take_last.new.self = some-number c.take_last.new.self.upper (λ e. let f : false ≡ true =
     c.if-is_empty.ensures.1 e in cc) in
     current-resolve c.args.store.now c.step.ensures.laws c.requires.level c.in-Some.place c.args.resolvent.now
     c.take_last.new.self c.requires.current c.in-Some.ensures.some more c.step.result c.step.ensures.step

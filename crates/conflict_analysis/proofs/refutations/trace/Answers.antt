@@ -22,8 +22,8 @@ loop-lits-init c =
 pub returns : goal.returns
 returns c =
     let a : Refuted = record { lits = c.trace_last.new.decisions; hints = c.into_hints.result } in
-    let none : c.trace_last.new.resolvent.upper.keys ≡ [] = subst
-    (λ (b : Bool). OnFalse b (c.trace_last.new.resolvent.upper.keys ≡ [])) c.if-branch.false
+    let none : c.trace_last.new.resolvent.upper ≡ [] = subst
+    (λ (b : Bool). OnFalse b (c.trace_last.new.resolvent.upper ≡ [])) c.if-branch.false
     c.in_ok-trace_last.ensures.done in
     traced c.args.store.now c.requires.laws c.args.end c.trace_last.new.resolvent a c.in_ok-trace_last.ensures.tracing
     none c.into_hints.ensures

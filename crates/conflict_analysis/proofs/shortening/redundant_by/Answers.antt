@@ -1,4 +1,4 @@
-use Rattle.std.proofs.Common.{◌≡◌, ◌⊎◌, ℕ, false, Some, List, [], ◌∷◌, ◌++◌, Contains, get_or, slice_get, take, ap, sym}
+use Rattle.std.proofs.Common.{◌≡◌, ◌⊎◌, ℕ, Some, List, [], ◌∷◌, ◌++◌, Contains, get_or, take, ap, sym}
 use Rattle.std.proofs.Common.{◌∙◌, subst, inl, inr, ⊎_elim, rules}
 use Rattle.std.proofs.lemmas.List.{take_all, take_more}
 use Rattle.std.proofs.lemmas.List.Elements.{Contains-get_or, Contains-push_cases}
@@ -8,7 +8,7 @@ use Rattle.clause_store.specs.StoreState.{StoreState}
 use Rattle.conflict_analysis.proofs.Places.{assigned-of, same-step}
 use Rattle.conflict_analysis.proofs.Shortened.{reason-others, reason-placed}
 use Rattle.conflict_analysis.proofs.shortening.redundant_by.Goals as goal
-use Rattle.conflict_analysis.proofs.shortening.redundant_by.Goals.{else-other-place-via-then-other-place+else-not-is_left}
+use Rattle.conflict_analysis.proofs.shortening.redundant_by.Goals.{else-other-place-via-then-other-place+else-not-contains}
 use Rattle.conflict_analysis.proofs.shortening.redundant_by.Goals.{else-other-place-via-else-other-place}
 
 pub lend-lits-requires : goal.lend-lits-requires
@@ -42,15 +42,15 @@ loop-lit-preserved c = λ t at m has.
     c.step-step.ensures.step at in
     let is : t.reason ≡ Some c.in_ok-reason.reason = sym (ap (λ (u : Step). u.reason) one) ∙ c.in_ok-reason.was in
     let u = c.place_of-other.ensures.step in
-    let way : (c.place_of-other.result ≡ c.args.place) ⊎ Contains c.args.lower.now.keys c.place_of-other.result =
+    let way : (c.place_of-other.result ≡ c.args.place) ⊎ Contains c.args.lower.now c.place_of-other.result =
     elim c.else-other-place.branch [
-      | else-other-place-via-then-other-place+else-not-is_left w ↦ inr (search rules)
+      | else-other-place-via-then-other-place+else-not-contains w ↦ inr (search rules)
       | else-other-place-via-else-other-place w ↦ inl (search rules)
     ] in
     ⊎_elim
     (λ old. c.loop-lit.invariant t at m old)
     (λ (new : x ≡ m). reason-others s c.requires.laws c.args.place c.in_ok-reason.reason c.place_of-other.result t u.0
-    xs c.args.lower.now.keys at is c.lend-lits.ensures.held m (subst (Contains xs) new here) u.1 (ap (λ v. v.0) u.2
+    xs c.args.lower.now at is c.lend-lits.ensures.held m (subst (Contains xs) new here) u.1 (ap (λ v. v.0) u.2
     ∙ ap (λ (l : Lit). l.var.0) new) way)
     (Contains-push_cases (take i xs) x m (subst (λ (ls : List Lit). Contains ls m)
     (take_more xs i c.lit-item.result c.loop-lit-test.true ∙ ap (λ l. take i xs ++ l ∷ []) (sym is_item)) has))

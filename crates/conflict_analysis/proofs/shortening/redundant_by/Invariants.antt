@@ -8,5 +8,5 @@ use Rattle.conflict_analysis.proofs.shortening.redundant_by.Given as goal
 -- the literals so far became false at the places, or are what follows
 abbrev pub invariant-loop-lit : goal.invariant-loop-lit
 invariant-loop-lit l = (t : Step) → slice_get l.store.trail.steps l.place ≡ Some t → (m : Lit)
-    → Contains (take l.lit-index l.lits) m → (m ≡ t.lit) ⊎ ((k : ℕ) × Contains l.lower.keys k
+    → Contains (take l.lit-index l.lits) m → (m ≡ t.lit) ⊎ ((k : ℕ) × Contains l.lower k
     × IsMadeAt l.store.trail.steps k (negated m))

@@ -41,7 +41,7 @@ returns-then-step-self-clause-ok c =
       hints = c.args.self.now.hints;
     } in
     gathers-lower s.trail c.requires.laws.trail c.args.self.now new c.args.lit c.requires.made c.place_of-place.result
-    c.step.result at same refl refl refl c.in_ok-insert.ensures.keys lt (omega arith)
+    c.step.result at same refl refl refl c.in_ok-insert.ensures lt (omega arith)
 
 pub returns-clause-ok : goal.returns-clause-ok
 returns-clause-ok c =
@@ -61,4 +61,4 @@ returns-clause-ok c =
       hints = c.args.self.now.hints;
     } in
     gathers-upper s.trail c.requires.laws.trail c.args.self.now new c.args.lit c.requires.made c.place_of-place.result
-    c.step.result at same refl refl refl c.in_ok-insert-2.ensures.keys le lt c.requires.unfixed
+    c.step.result at same refl refl refl c.in_ok-insert-2.ensures le lt c.requires.unfixed
