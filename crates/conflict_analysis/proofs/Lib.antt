@@ -1,5 +1,6 @@
 pub mod Keys
 pub mod MarkFacts
+pub mod JoinedSets
 pub mod Places
 pub mod Gathered
 pub mod Below

@@ -136,3 +136,10 @@ marked-if bs k b lt is = (
   λ t. marked-has bs k lt (subst (λ (x : ℕ). is_byte 1 x ≡ true) is t),
   λ has. subst (λ (x : ℕ). is_byte 1 x ≡ true) (sym is) (marked-at bs k has).1,
 )
+
+-- marks that were only added say the same
+pub marked-covered : (old covered : List ℕ) → ((k : ℕ) → slice_index covered k ≡ slice_index old k) → (k : ℕ)
+    → Contains (marked covered) k → Contains (marked old) k
+marked-covered old covered same k has =
+    let is : IsMark old k = subst (λ (b : ℕ). is_byte 1 b ≡ true) (same k) (marked-at covered k has).1 in
+    marked-has old k (mark-within old k is) is

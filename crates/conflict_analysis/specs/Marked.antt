@@ -16,3 +16,8 @@ pub record Inserts (old : List ℕ) (place : ℕ) (new : List ℕ) : Type 0 wher
   pub kept : (k : ℕ) → Contains old k → Contains new k
   pub has : Contains new place
   pub from : (k : ℕ) → Contains new k → Contains old k ⊎ (place ≡ k)
+
+-- the first of these places have marks, and the others do not
+pub record AreApart (near far : List ℕ) : Type 0 where
+  pub low : (k : ℕ) → Contains near k → k < 65536
+  pub high : (k : ℕ) → Contains far k → 65536 ≤ k

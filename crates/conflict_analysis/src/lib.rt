@@ -4,6 +4,7 @@
 
 mod analysis;
 mod laws;
+mod near_sets;
 mod place_sets;
 mod refutations;
 mod resolvent;

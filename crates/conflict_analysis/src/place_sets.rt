@@ -1,44 +1,72 @@
 //! Sets of places on the trail.
-ghost use Rattle.std.specs.Prelude.{◌≡◌, ◌↔◌, ℕ, [], ◌<◌, ◌≤◌, length, slice_index, Contains, IsTrue, IfNone, IfSome, OnOk};
+ghost use Rattle.std.specs.Prelude.{◌≡◌, ◌↔◌, ◌⊎◌, ℕ, [], Contains, IsTrue, IfNone, IfSome, OnOk};
 ghost use Rattle.conflict_analysis.specs.Marked.{HasAsLast, Inserts, PopsLast};
 
+use crate::near_sets::NearSet;
 use lit_core::Memory;
-use memchr::memrchr;
 use std::alloc::Global;
+use std::collections::BTreeSet;
 use std::marker::Model;
 
-/// A set of places on the trail, from which the last one is taken in no more than a look at the places below it.
+/// The places below this one have marks.
+const NEAR: usize = 65_536;
+
+/// A set of places on the trail.
 ///
 /// Resolution walks back along the trail over seen marks: a mark is a byte that is written once, where a tree of places
 /// would be gone down, filled and split at each literal of each clause. Marks reach from the trail's beginning to the
-/// last place that was ever marked, so a conflict clears what lies there, a byte a place; the walk back is a search for a
-/// byte from the end, of many at a time.
+/// last place that is marked, and a conflict clears what lies there. So that a conflict on a trail of some 100,000 places
+/// does not clear them all where few are marked, there are marks for the first places alone, and a tree has the others.
 #[derive(Debug, Drop)]
 pub struct PlaceSet {
-    /// 1 at each place of the set, and 0 at the others.
-    marks: Vec<u8>,
+    near: NearSet,
+    far: BTreeSet<usize>,
 }
 
 impl Model for PlaceSet {
-    ghost use Rattle.std.specs.Prelude.{List, ℕ};
+    ghost use Rattle.std.specs.Prelude.{List, ℕ, ◌++◌};
 
     ghost Value = { List ℕ };
 
-    ghost use Rattle.memchr.specs.Find.{is_byte, places};
+    ghost use Rattle.conflict_analysis.specs.Marked.{AreApart};
 
-    ghost view = { λ s. places (is_byte 1) s.marks.items };
+    ghost view = { λ s. s.near ++ s.far.keys };
+
+    ghost invariant = { λ s. AreApart s.near s.far.keys };
 }
 
-/// Adds marks of places that are not in the set, so that there is one of this place.
-fn cover(marks: &mut Vec<u8>, place: usize) -> Result<(), Memory>
-    ensures same { (k : ℕ) → slice_index marks.new.items k ≡ slice_index marks.old.items k }
-    ensures longer { length marks.old.items ≤ length marks.new.items }
-    ensures enough { OnOk result (place < length marks.new.items) }
+/// Takes off the last place.
+fn pop_far(far: &mut BTreeSet<usize>) -> Option<usize>
+    ensures none { IfNone result ((far.old.keys ≡ []) × (far.new.keys ≡ [])) }
+    ensures some { IfSome result (λ place. PopsLast far.old.keys place far.new.keys) }
 {
-    if marks.len() <= place {
-        marks.resize(place, 0)?;
-        marks.push(0)?;
+    far.pop_last()
+}
+
+/// Whether the place is one of these.
+fn is_far(far: &BTreeSet<usize>, place: usize) -> bool
+    ensures { IsTrue result ↔ Contains far.now.keys place }
+{
+    far.contains(&place)
+}
+
+/// The last place.
+fn last_far(far: &BTreeSet<usize>) -> Option<usize>
+    ensures none { IfNone result (far.now.keys ≡ []) }
+    ensures some { IfSome result (HasAsLast far.now.keys) }
+{
+    match far.last() {
+        Some(place) => Some(*place),
+        None => None,
     }
+}
+
+/// Adds a place.
+fn insert_far(far: &mut BTreeSet<usize>, place: usize) -> Result<(), Memory>
+    ensures inserts { OnOk result (Inserts far.old.keys place far.new.keys) }
+    ensures from { (k : ℕ) → Contains far.new.keys k → Contains far.old.keys k ⊎ (place ≡ k) }
+{
+    far.insert(place)?;
     Ok(())
 }
 
@@ -48,7 +76,8 @@ impl PlaceSet {
         ensures { result ≡ [] }
     {
         PlaceSet {
-            marks: Vec::new(alloc),
+            near: NearSet::new(alloc),
+            far: BTreeSet::new(alloc),
         }
     }
 
@@ -66,10 +95,10 @@ impl PlaceSet {
     pub fn contains(&self, place: usize) -> bool
         ensures { IsTrue result ↔ Contains self.now place }
     {
-        match self.marks.get(place) {
-            Some(mark) => *mark == 1,
-            None => false,
+        if place < NEAR {
+            return self.near.contains(place);
         }
+        is_far(&self.far, place)
     }
 
     /// The last place.
@@ -77,16 +106,20 @@ impl PlaceSet {
         ensures none { IfNone result (self.now ≡ []) }
         ensures some { IfSome result (HasAsLast self.now) }
     {
-        memrchr(1, &self.marks)
+        match last_far(&self.far) {
+            Some(place) => Some(place),
+            None => self.near.last(),
+        }
     }
 
     /// Adds a place.
     pub fn insert(&mut self, place: usize) -> Result<(), Memory>
         ensures { OnOk result (Inserts self.old place self.new) }
     {
-        cover(&mut self.marks, place)?;
-        self.marks[place] = 1;
-        Ok(())
+        if place < NEAR {
+            return self.near.insert(place);
+        }
+        insert_far(&mut self.far, place)
     }
 
     /// Takes off the last place.
@@ -94,8 +127,9 @@ impl PlaceSet {
         ensures none { IfNone result ((self.old ≡ []) × (self.new ≡ self.old)) }
         ensures some { IfSome result (λ place. PopsLast self.old place self.new) }
     {
-        let place = memrchr(1, &self.marks)?;
-        self.marks.truncate(place);
-        Some(place)
+        match pop_far(&mut self.far) {
+            Some(place) => Some(place),
+            None => self.near.pop_last(),
+        }
     }
 }

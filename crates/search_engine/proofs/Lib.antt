@@ -11,7 +11,6 @@ pub mod TrailChange
 pub mod Roots
 pub mod SearchFacts
 pub mod LearnFacts
-pub mod Keys
 pub mod LitSetFacts
 pub mod CoreFacts
 pub mod LevelFacts

@@ -8,7 +8,7 @@ use Rattle.std.specs.Ordering.{nat_cmp}
 use Rattle.std.proofs.lemmas.List.Elements.{Contains-push_cases, Contains-push, Contains-append_left}
 use Rattle.lit_core.specs.declared.literals.Lit.{Lit}
 use Rattle.lit_core.proofs.LiteralFacts.{same_literal, nothing_in_none}
-use Rattle.search_engine.proofs.Keys.{inserted-old, inserted-new, inserted-cases}
+use Rattle.conflict_analysis.proofs.Keys.{inserted-old, inserted-new, inserted-cases}
 use Rattle.search_engine.specs.declared.lit_sets.LitSet.{LitSet}
 use Rattle.search_engine.specs.LitSets.{numbers_of, HasLit, IsEmptySet, IsSetOf}
 

@@ -1,18 +1,21 @@
-use Rattle.std.proofs.Common.{◌∙◌, ℕ, List, Contains, IsTrue, ap, sym, subst, ◌==◌}
-use Rattle.std.proofs.lemmas.Bool.{false≢true}
-use Rattle.conflict_analysis.proofs.MarkFacts.{marked, marked-if, marked-past}
+use Rattle.std.proofs.Common.{ℕ, List, Contains, sym, subst, arith}
+use Rattle.std.proofs.lemmas.List.Elements.{Contains-append_left, Contains-append_right}
+use Rattle.conflict_analysis.proofs.JoinedSets.{joined-far, joined-near}
 use Rattle.conflict_analysis.proofs.place_sets.PlaceSet.contains.Goals as goal
 
-pub returns-in-Some : goal.returns-in-Some
-returns-in-Some c =
-    subst (λ (ks : List ℕ). (IsTrue (c.in-Some.mark.now == 1) → Contains ks c.args.place)
-    × (Contains ks c.args.place → IsTrue (c.in-Some.mark.now == 1))) (ap marked c.deref.ensures.value ∙ c.self.view_is)
-    (marked-if c.deref.result.now c.args.place c.in-Some.mark.now c.in-Some.ensures.lookup.3.0
-    (c.in-Some.ensures.lookup.3.1 0))
+pub returns-then-place-lt-NEAR : goal.returns-then-place-lt-NEAR
+returns-then-place-lt-NEAR c = (
+  λ t. subst (λ (ks : List ℕ). Contains ks c.args.place) c.self.view_is
+      (Contains-append_left c.self.inside.near c.self.inside.far.keys c.args.place (c.contains.ensures.0 t)),
+  λ has. c.contains.ensures.1 (joined-near c.self.inside.near c.self.inside.far.keys c.self.invariant c.args.place
+      c.if-place-lt-NEAR.true (subst (λ (ks : List ℕ). Contains ks c.args.place) (sym c.self.view_is) has)),
+)
 
-pub returns-in-None : goal.returns-in-None
-returns-in-None c = (
-  λ t. absurd (false≢true t),
-  λ has. absurd (marked-past c.deref.result.now c.args.place (λ lt. false≢true (c.in-None.ensures.lookup.2 lt))
-      (subst (λ (ks : List ℕ). Contains ks c.args.place) (sym (ap marked c.deref.ensures.value ∙ c.self.view_is)) has)),
+pub returns : goal.returns
+returns c = (
+  λ t. subst (λ (ks : List ℕ). Contains ks c.args.place) c.self.view_is
+      (Contains-append_right c.self.inside.near c.self.inside.far.keys c.args.place (c.is_far.ensures.0 t)),
+  λ has. c.is_far.ensures.1 (joined-far c.self.inside.near c.self.inside.far.keys c.self.invariant c.args.place
+      (omega (arith, c.if-place-lt-NEAR.false))
+      (subst (λ (ks : List ℕ). Contains ks c.args.place) (sym c.self.view_is) has)),
 )

@@ -1,22 +1,22 @@
-use Rattle.std.proofs.Common.{◌≡◌, ◌∙◌, ℕ, List, [], Option, Some, None, IfNone, take, ap, sym, subst, refl}
-use Rattle.memchr.specs.Find.{IsLastByte, is_byte}
+use Rattle.std.proofs.Common.{ℕ, ◌++◌, List, Contains, inl, sym, subst}
 use Rattle.conflict_analysis.specs.Marked.{PopsLast}
-use Rattle.conflict_analysis.proofs.MarkFacts.{marked, marked-cut, marked-none}
+use Rattle.std.proofs.lemmas.List.Elements.{Contains-append_left}
+use Rattle.conflict_analysis.proofs.JoinedSets.{apart-far, apart-popped, joined-pop-far}
 use Rattle.conflict_analysis.proofs.place_sets.PlaceSet.pop_last.Goals as goal
 
-pub returns-in_err-place-clause-none : goal.returns-in_err-place-clause-none
-returns-in_err-place-clause-none c =
-    let none : IsLastByte (is_byte 1) c.deref.result.now None = subst (IsLastByte (is_byte 1) c.deref.result.now)
-    c.in_err-place.was c.memrchr.ensures in
-    subst (λ (o : Option ℕ). IfNone o ((c.args.self.now ≡ []) × (c.args.self.now ≡ c.args.self.now)))
-    (sym c.from_residual.ensures)
-    (sym (ap marked c.deref.ensures.value ∙ c.self.view_is) ∙ marked-none c.deref.result.now none, refl)
+pub invariant_of-self : goal.invariant_of-self
+invariant_of-self c =
+    let p = c.in-Some.ensures.some in
+    apart-far c.self.inside.near c.self.inside.far.keys c.self.invariant c.pop_far.new.far.keys
+    (λ k h. inl (subst (λ (ks : List ℕ). Contains ks k) (sym p.split)
+    (Contains-append_left c.pop_far.new.far.keys _ k h)))
 
-pub returns-clause-some : goal.returns-clause-some
-returns-clause-some c =
-    let bs : List ℕ = c.self.inside.marks.items in
-    let p : ℕ = c.in_ok-place.place in
-    let last : IsLastByte (is_byte 1) bs (Some p) = subst (λ (xs : List ℕ). IsLastByte (is_byte 1) xs (Some p))
-    c.deref.ensures.value (subst (IsLastByte (is_byte 1) c.deref.result.now) c.in_ok-place.was c.memrchr.ensures) in
-    subst (λ (xs : List ℕ). PopsLast c.args.self.now p (marked xs)) (sym c.truncate.ensures.items)
-    (subst (λ (ks : List ℕ). PopsLast ks p (marked (take p bs))) c.self.view_is (marked-cut bs p last))
+pub invariant_of-self-in-None : goal.invariant_of-self-in-None
+invariant_of-self-in-None c = apart-popped c.pop_last.result c.self.inside.near c.pop_last.new.self c.self.inside.far.keys
+    c.pop_far.new.far.keys c.self.invariant c.pop_last.ensures.none c.pop_last.ensures.some c.in-None.ensures.none.1
+
+pub returns-in-Some-clause-some : goal.returns-in-Some-clause-some
+returns-in-Some-clause-some c =
+    subst (λ (ks : List ℕ). PopsLast ks c.in-Some.place (c.self.inside.near ++ c.pop_far.new.far.keys)) c.self.view_is
+    (joined-pop-far c.self.inside.near c.self.inside.far.keys c.self.invariant c.in-Some.place c.pop_far.new.far.keys
+    c.in-Some.ensures.some)
