@@ -19,12 +19,10 @@ use Rattle.reading_stages.specs.FileView.{file_in}
 use Rattle.reading_stages.specs.BlocksStage.{IsPicked}
 use Rattle.reading_stages.specs.Failures as names
 use Rattle.reading_stages.specs.Numbering.{NamedFile, IsNamed}
-use Rattle.reading_stages.specs.DataAnswer.{IsDataOf}
-use Rattle.reading_stages.specs.SizesStage.{SizesRefuse, size_uses}
+use Rattle.reading_stages.specs.SizesStage.{Sizes}
 use Rattle.reading_stages.specs.TypedFiles.{TypedFile}
 use Rattle.type_derivation.specs.Failures as types
-use Rattle.structure_reader.specs.DataReads.{DataFailsWith}
-use Rattle.kb_sizes.specs.Measures as sizes
+use Rattle.structure_reader.specs.DataReads.{DataOrSizesFail, IsMeasuredData}
 use Rattle.std.proofs.lemmas.List.{length-map}
 use Rattle.fo_syntax.specs.declared.raw_blocks.RawStructure.{RawStructure}
 use Rattle.reading_stages.specs.Earliest.{IsEarliest}
@@ -39,7 +37,7 @@ use Rattle.file_bases.specs.FileLaws.{AcceptedCanBeGrounded, AcceptedIsBounded}
 use Rattle.consult_base.specs.Opened.{opened, IsKnowledgeBase}
 use Rattle.base_reader.proofs.Facts.{chosen_within, theories_many, read_map}
 use Rattle.base_reader.specs.FileMeanings as refused
-use Rattle.base_reader.specs.Readings.{AreBlocksOf, FailsWith, HasTypedFile, NamesOrTypes, IsSizedData, DataOrSizes}
+use Rattle.base_reader.specs.Readings.{AreBlocksOf, FailsWith, HasTypedFile, NamesOrTypes}
 
 -- a law on raw files: what the stages see in one is what they see in its blocks
 abbrev pub FilesAreTheirBlocks : Type 0
@@ -83,18 +81,6 @@ pub types_fail : (f : File) (named : NamedFile) (e : KbError) → IsNamed f name
 types_fail f named Memory is h = tt
 types_fail f named (Refused q) is h = inr (named, is, h)
 
--- the stage of data fails
-pub data_fail : (f : TypedFile) (theory : ℕ) (s : raw.Structure) (e : KbError) → DataFailsWith f theory s e
-    → DataOrSizes f theory s e
-data_fail f theory s Memory h = tt
-data_fail f theory s (Refused q) h = inl h
-
--- the stage of sizes fails
-pub sizes_fail : (f : TypedFile) (theory : ℕ) (s : raw.Structure) (known : KnownAtoms) (e : KbError)
-    → IsDataOf f theory s known → sizes.FailsWith f theory known.domains e → DataOrSizes f theory s e
-sizes_fail f theory s known Memory is h = tt
-sizes_fail f theory s known (Refused q) is h = inr (known, is, h)
-
 module _ (same : FilesAreTheirBlocks) (c : Choice) (bytes : List ℕ) (kb : RawKb) (t s : ℕ)
     (blocks : AreBlocksOf c bytes kb t s) where
   at_blocks : file_in kb ≡ file_of blocks.blocks (length bytes)
@@ -132,7 +118,7 @@ module _ (same : FilesAreTheirBlocks) (c : Choice) (bytes : List ℕ) (kb : RawK
   -- the stage of data or that of sizes refuses the structure
   pub data_refused : (typed : TypedFile) (x : RawStructure) → HasTypedFile (file_in kb) typed
       → slice_get kb.structures s ≡ Some x
-      → (e : KbError) → DataOrSizes typed t (structure_view x) e → FailsWith c bytes e
+      → (e : KbError) → DataOrSizesFail typed t (structure_view x) e → FailsWith c bytes e
   data_refused typed x is at Memory h = tt
   data_refused typed x is at (Refused q) (inl entries) =
       refused.entries (record { file = typed; theory = t; structure = structure_view x }) q
@@ -142,16 +128,17 @@ module _ (same : FilesAreTheirBlocks) (c : Choice) (bytes : List ℕ) (kb : RawK
       (has_types typed x is at) sizes.1 sizes.2
 
   -- the file means this
-  pub means : (typed : TypedFile) (x : RawStructure) (known : KnownAtoms) (title : Text)
+  pub means : (typed : TypedFile) (x : RawStructure) (known : KnownAtoms) (sizes : Sizes) (title : Text)
       → HasTypedFile (file_in kb) typed
-      → slice_get kb.structures s ≡ Some x → IsSizedData typed t (structure_view x) known → title ≡ x.header.name.text
+      → slice_get kb.structures s ≡ Some x → IsMeasuredData typed t (structure_view x) known sizes
+      → title ≡ x.header.name.text
       → FileMeans c bytes (record { file = typed; theory = t; structure = title; known = known })
-  means typed x known title is at sized named = record {
+  means typed x known sizes title is at measured named = record {
     structure = structure_view x;
     typed = has_types typed x is at;
     name = named;
-    given = sized.given;
-    sized = sized.sized.accepted;
+    given = measured.given;
+    sized = measured.sized.accepted;
   }
 
   -- the number of the chosen structure is that of one
@@ -182,13 +169,14 @@ module _ (same : FilesAreTheirBlocks) (c : Choice) (bytes : List ℕ) (kb : RawK
 
   -- what is opened is a knowledge base
   pub is_opened : AcceptedCanBeGrounded → AcceptedIsBounded → DerivedIsWellFormed → (typed : TypedKb) (x : RawStructure)
-      (known : KnownAtoms) (title : Text)
-      → HasTypedFile (file_in kb) (typed_view typed) → IsSizedData (typed_view typed) t (structure_view x) known
+      (known : KnownAtoms) (sizes : Sizes) (title : Text)
+      → HasTypedFile (file_in kb) (typed_view typed)
+      → IsMeasuredData (typed_view typed) t (structure_view x) known sizes
       → IsKnowledgeBase (opened typed t title known)
-  is_opened grounded bounded formed typed x known title is sized = record {
+  is_opened grounded bounded formed typed x known sizes title is measured = record {
     theory = omega (arith, theory_within (typed_view typed) is, length-map typed.theories named_theory_view);
-    ground = (grounded (file_in kb) is.0 (typed_view typed) is.1 is.2 t (structure_view x) known sized.given).0;
-    bounded = (bounded is.0 (typed_view typed) is.2 t known sized.sizes sized.sized).theory;
-    sized = sized.sized.accepted;
+    ground = (grounded (file_in kb) is.0 (typed_view typed) is.1 is.2 t (structure_view x) known measured.given).0;
+    bounded = (bounded is.0 (typed_view typed) is.2 t known sizes measured.sized).theory;
+    sized = measured.sized.accepted;
     numbered = (formed (file_in kb) is.0 (typed_view typed) is.1 is.2).few_symbols;
   }

@@ -1,9 +1,7 @@
 -- What reading a knowledge base returns, and what its steps do.
 use Rattle.std.specs.Prelude.{◌≡◌, ◌⊎◌, ◌<◌, List, ℕ, length, Option, ⊤}
 use Rattle.std.specs.Borrow.{Bor}
-use Rattle.kb_logic.specs.KnownAtoms.{KnownAtoms}
 use Rattle.kb_text.specs.declared.fault.KbFault.{KbFault}
-use Rattle.fo_syntax.specs.BlockTrees as raw
 use Rattle.fo_syntax.specs.BlockTrees.{Block}
 use Rattle.fo_syntax.specs.BlockView.{IsKb}
 use Rattle.fo_syntax.specs.declared.raw_blocks.RawKb.{RawKb}
@@ -16,9 +14,6 @@ use Rattle.reading_stages.specs.NamesStage.{NamesRefuse}
 use Rattle.reading_stages.specs.Numbering.{IsNamed, NamedFile}
 use Rattle.reading_stages.specs.TypesStage.{TypesRefuse, IsTyped}
 use Rattle.reading_stages.specs.TypedFiles.{TypedFile}
-use Rattle.reading_stages.specs.DataStage.{StructureRefuses}
-use Rattle.reading_stages.specs.DataAnswer.{IsDataOf}
-use Rattle.reading_stages.specs.SizesStage.{Sizes, AreSizesOf, SizesRefuse, size_uses}
 use Rattle.type_derivation.specs.TypedViews.{typed_view}
 use Rattle.consult_base.specs.Opened.{Opened}
 use Rattle.base_reader.specs.FileMeanings.{Choice, Meaning, HasBlocks, IsRefused}
@@ -51,17 +46,3 @@ abbrev pub NamesOrTypes : File → KbError → Type 0
 NamesOrTypes f Memory = ⊤
 NamesOrTypes f (Refused q) =
     IsEarliest (NamesRefuse f) q ⊎ ((named : NamedFile) × IsNamed f named × IsEarliest (TypesRefuse named) q)
-
--- these are the data of the structure, and no size is refused
-pub record IsSizedData (f : TypedFile) (theory : ℕ) (s : raw.Structure) (known : KnownAtoms) : Type 0 where
-  pub given : IsDataOf f theory s known
-  pub sizes : Sizes
-  pub sized : AreSizesOf f theory known.domains sizes
-
--- the stage of data or that of sizes refuses the structure
-abbrev pub DataOrSizes : TypedFile → ℕ → raw.Structure → KbError → Type 0
-DataOrSizes f theory s Memory = ⊤
-DataOrSizes f theory s (Refused q) =
-    IsEarliest (StructureRefuses f theory s) q
-    ⊎ ((known : KnownAtoms) × IsDataOf f theory s known
-    × IsEarliest (SizesRefuse (size_uses f theory known.domains)) q)

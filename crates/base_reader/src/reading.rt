@@ -1,11 +1,9 @@
 //! The stages of reading, one after another.
 ghost use Rattle.std.specs.Prelude.{◌≡◌, ◌<◌, Some, length, slice_get, IfErr, IfOk};
-ghost use Rattle.fo_syntax.specs.BlockView.{structure_view};
 ghost use Rattle.reading_stages.specs.FileView.{file_in};
 ghost use Rattle.type_derivation.specs.TypedViews.{typed_view};
 ghost use Rattle.base_reader.specs.FileMeanings.{FileMeans};
-ghost use Rattle.base_reader.specs.Readings.{choice, meaning_of, AreBlocksOf, DataOrSizes, FailsWith, HasTypedFile};
-ghost use Rattle.base_reader.specs.Readings.{IsSizedData, NamesOrTypes};
+ghost use Rattle.base_reader.specs.Readings.{choice, meaning_of, AreBlocksOf, FailsWith, HasTypedFile, NamesOrTypes};
 
 use block_choice::{Picked, pick};
 use consult_base::KnowledgeBase;
@@ -14,10 +12,9 @@ use fo_reader::read_kb;
 use fo_syntax::{KbError, RawKb, RawStructure};
 use kb_logic::Name;
 use kb_names::resolve;
-use partial_structures::Partial;
 use reading_stages::files_are_their_blocks;
 use std::alloc::Global;
-use structure_reader::{measure, read_structure};
+use structure_reader::read_data;
 use type_derivation::{TypedKb, derive};
 use typing_laws::{accepted_is_typed_over, derived_is_well_formed};
 
@@ -50,26 +47,6 @@ fn read_types(alloc: Global, raw: &RawKb) -> Result<TypedKb, KbError>
 {
     match resolve(alloc, raw) {
         Ok(named) => derive(alloc, named),
-        Err(e) => Err(e),
-    }
-}
-
-/// What the structure makes known, where its sizes are within their limits.
-fn read_data(
-    alloc: Global,
-    typed: &TypedKb,
-    theory: usize,
-    structure: &RawStructure,
-) -> Result<Partial, KbError>
-    ensures ok { IfOk result (λ known. IsSizedData (typed_view typed.now) theory (structure_view structure.now) known) }
-    ensures err { IfErr result (DataOrSizes (typed_view typed.now) theory (structure_view structure.now)) }
-{
-    let data = match read_structure(alloc, typed, theory, structure) {
-        Ok(data) => data,
-        Err(e) => return Err(e),
-    };
-    match measure(alloc, typed, theory, &data) {
-        Ok(_) => Ok(data),
         Err(e) => Err(e),
     }
 }
@@ -107,8 +84,8 @@ pub fn read_base(
         Err(e) => return Err(e),
     };
     let structure = structure_at(&raw, picked.structure);
-    let data = match read_data(alloc, &typed, picked.theory, structure) {
-        Ok(data) => data,
+    let (data, _sizes) = match read_data(alloc, &typed, picked.theory, structure) {
+        Ok(measured) => measured,
         Err(e) => return Err(e),
     };
     let Ok(name) = Name::new(alloc, structure.header.name.text.as_slice()) else {

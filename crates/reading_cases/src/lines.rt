@@ -17,7 +17,7 @@ use fo_syntax::RawStructure;
 use kb_names::{Picked, pick, resolve};
 use kb_text::{KbFault, Kind, LexError, Token, tokens};
 use std::alloc::{AllocError, Global};
-use structure_reader::{Measure, measure, read_structure};
+use structure_reader::{Measure, read_data};
 use type_derivation::{TypedKb, derive};
 
 fn letter(kind: Kind) -> &'static str
@@ -202,13 +202,8 @@ fn measured_line(
     ensures { IfOk result (λ line. IsMeasuredLine (typed_view kb.now) theory (structure_view structure.now)
         (string_bytes line)) }
 {
-    let partial = match read_structure(alloc, kb, theory, structure) {
-        Ok(partial) => partial,
-        Err(KbError::Refused(fault)) => return fault_line(alloc, fault),
-        Err(KbError::Memory) => return Err(AllocError),
-    };
-    match measure(alloc, kb, theory, &partial) {
-        Ok(sizes) => sizes_line(alloc, sizes),
+    match read_data(alloc, kb, theory, structure) {
+        Ok((_partial, sizes)) => sizes_line(alloc, sizes),
         Err(KbError::Refused(fault)) => fault_line(alloc, fault),
         Err(KbError::Memory) => Err(AllocError),
     }

@@ -1,5 +1,6 @@
 use Rattle.std.proofs.Common.{subst, ap, ◌∙◌, sym}
 use Rattle.fo_syntax.specs.BlockView.{structure_view}
+use Rattle.kb_sizes.specs.Measures.{measure_view}
 use Rattle.type_derivation.specs.TypedViews.{typed_view}
 use Rattle.consult_base.specs.Opened.{Opened, opened}
 use Rattle.base_reader.specs.FileMeanings.{FileMeans}
@@ -32,15 +33,16 @@ new-requires-2 c =
     is_opened c.files_are_their_blocks.ensures (choice c.args.theory c.args.structure) c.args.bytes.now c.in-Ok.found.0
     c.in-Ok.found.1.theory c.in-Ok.found.1.structure
     c.in-Ok.ensures.ok c.accepted_can_be_grounded.ensures c.accepted_is_bounded.ensures c.derived_is_well_formed.ensures
-    c.in-Ok-read_types.typed c.structure_at-structure.result.now c.in-Ok-read_data.data c.in-Ok-new.name
+    c.in-Ok-read_types.typed c.structure_at-structure.result.now c.in-Ok-read_data.measured.0
+    (measure_view c.in-Ok-read_data.measured.1) c.in-Ok-new.name
     c.in-Ok-read_types.ensures.ok c.in-Ok-read_data.ensures.ok
 
 pub returns-clause-ok : goal.returns-clause-ok
 returns-clause-ok c =
     let is = means c.files_are_their_blocks.ensures (choice c.args.theory c.args.structure) c.args.bytes.now
     c.in-Ok.found.0 c.in-Ok.found.1.theory c.in-Ok.found.1.structure
-    c.in-Ok.ensures.ok (typed_view c.in-Ok-read_types.typed) c.structure_at-structure.result.now c.in-Ok-read_data.data
-    c.in-Ok-new.name
+    c.in-Ok.ensures.ok (typed_view c.in-Ok-read_types.typed) c.structure_at-structure.result.now
+    c.in-Ok-read_data.measured.0 (measure_view c.in-Ok-read_data.measured.1) c.in-Ok-new.name
     c.in-Ok-read_types.ensures.ok c.structure_at-structure.ensures c.in-Ok-read_data.ensures.ok (c.in-Ok-new.ensures
     ∙ c.as_slice.ensures) in
     subst (λ (k : Opened). FileMeans (choice c.args.theory c.args.structure) c.args.bytes.now (meaning_of k))
