@@ -1,5 +1,6 @@
 -- Places of tuples, whose elements are digits, and of atoms.
-use Rattle.std.proofs.Common.{◌≡◌, ℕ, zero, suc, ◌+◌, ◌*◌, ◌/◌, ◌%◌, ◌^◌, ◌<◌, ◌≤◌, Option, Some, None, List, [], ◌∷◌, ◌++◌, map}
+use Rattle.std.proofs.Common.{◌≡◌, ℕ, zero, suc, ◌+◌, ◌*◌, ◌/◌, ◌%◌, ◌^◌, ◌<◌, ◌≤◌, Option, Some, None, List, []}
+use Rattle.std.proofs.Common.{◌∷◌, ◌++◌, map}
 use Rattle.std.proofs.Common.{option_map, length, drop, take, get_or, slice_get, Contains, refl, sym, ap, ◌∙◌, subst}
 use Rattle.std.proofs.Common.{arith, inl, inr, ⊎_elim, length-drop}
 use Rattle.std.specs.List.{sum_by}
@@ -350,7 +351,8 @@ pos-right : (a b n : ℕ) → n < a * b → 0 < b
 pos-right a zero n lt = absurd (let none : a * 0 ≡ 0 = omega arith in omega (arith, lt, none))
 pos-right a (suc b) n lt = omega arith
 
--- a tuple read digit by digit from the first one on: `each` tuples begin as it does, among which it is the one at `left`
+-- a tuple read digit by digit from the first one on: `each` tuples begin as it does, among which it is the one at
+-- `left`
 module _ (domains : List (List Elem)) (types : List ℕ) (i each left : ℕ) (within : i < length types)
     (all : each ≡ length (tuples_of domains (drop i types))) (lt : left < each) (domain : List Elem)
     (is : domain ≡ domain_at domains (get_or types i 0)) where

@@ -12,7 +12,8 @@ on-ok (Err e) P Q f h = tt
 
 module _ (near far : List ℕ) (apart : AreApart near far) where
   pub joined-near : (k : ℕ) → k < 65536 → Contains (near ++ far) k → Contains near k
-  joined-near k lt has = ⊎_elim (λ n. n) (λ f. let high : 65536 ≤ k = apart.high k f in absurd (omega (arith, lt, high)))
+  joined-near k lt has = ⊎_elim (λ n. n) (λ f. let high : 65536 ≤ k = apart.high k f in absurd (omega (arith, lt,
+      high)))
       (Contains-append_cases near far k has)
 
   pub joined-far : (k : ℕ) → 65536 ≤ k → Contains (near ++ far) k → Contains far k
@@ -30,7 +31,8 @@ module _ (near far : List ℕ) (apart : AreApart near far) where
         (Contains-append_cases near far j has);
   }
 
-  pub joined-insert-near : (place : ℕ) (more : List ℕ) → Inserts near place more → Inserts (near ++ far) place (more ++ far)
+  pub joined-insert-near : (place : ℕ) (more : List ℕ) → Inserts near place more → Inserts (near ++ far) place
+      (more ++ far)
   joined-insert-near place more i = record {
     kept = λ k has. ⊎_elim (λ n. Contains-append_left more far k (i.kept k n)) (λ f. Contains-append_right more far k f)
         (Contains-append_cases near far k has);
@@ -41,9 +43,11 @@ module _ (near far : List ℕ) (apart : AreApart near far) where
         (Contains-append_cases more far k has);
   }
 
-  pub joined-insert-far : (place : ℕ) (more : List ℕ) → Inserts far place more → Inserts (near ++ far) place (near ++ more)
+  pub joined-insert-far : (place : ℕ) (more : List ℕ) → Inserts far place more → Inserts (near ++ far) place (near
+      ++ more)
   joined-insert-far place more i = record {
-    kept = λ k has. ⊎_elim (λ n. Contains-append_left near more k n) (λ f. Contains-append_right near more k (i.kept k f))
+    kept = λ k has. ⊎_elim (λ n. Contains-append_left near more k n) (λ f. Contains-append_right near more k
+        (i.kept k f))
         (Contains-append_cases near far k has);
     has = Contains-append_right near more place i.has;
     from = λ k has. ⊎_elim
@@ -52,7 +56,8 @@ module _ (near far : List ℕ) (apart : AreApart near far) where
         (Contains-append_cases near more k has);
   }
 
-  pub joined-pop-far : (place : ℕ) (less : List ℕ) → PopsLast far place less → PopsLast (near ++ far) place (near ++ less)
+  pub joined-pop-far : (place : ℕ) (less : List ℕ) → PopsLast far place less → PopsLast (near ++ far) place (near
+      ++ less)
   joined-pop-far place less p =
       let has : Contains far place = subst (λ (ks : List ℕ). Contains ks place) (sym p.split)
       (Contains-append_right less (place ∷ []) place (0, omega arith, refl)) in
@@ -88,4 +93,5 @@ apart-popped o near less far none apart if_none if_some e = record {
     kept : (q : Option ℕ) → IfNone q ((near ≡ []) × (less ≡ near)) → IfSome q (λ p. PopsLast near p less) → (k : ℕ)
         → Contains less k → Contains near k
     kept None n s k h = subst (λ (ks : List ℕ). Contains ks k) n.1 h
-    kept (Some p) n s k h = subst (λ (ks : List ℕ). Contains ks k) (sym s.split) (Contains-append_left less (p ∷ []) k h)
+    kept (Some p) n s k h = subst (λ (ks : List ℕ). Contains ks k) (sym s.split) (Contains-append_left less (p ∷
+        []) k h)

@@ -1,5 +1,6 @@
 -- What marks say of a set of places.
-use Rattle.std.proofs.Common.{◌≡◌, ℕ, zero, suc, ◌+◌, ◌-◌, ◌<◌, ◌≤◌, ◌==◌, true, List, [], ◌∷◌, ◌++◌, length, take, refl}
+use Rattle.std.proofs.Common.{◌≡◌, ℕ, zero, suc, ◌+◌, ◌-◌, ◌<◌, ◌≤◌, ◌==◌, true, List, [], ◌∷◌, ◌++◌, length, take}
+use Rattle.std.proofs.Common.{refl}
 use Rattle.std.proofs.Common.{sym, ap, ◌∙◌, inl, inr, ⊎_elim, arith, subst, Contains, Some, None, slice_index}
 use Rattle.std.proofs.lemmas.Bool.{cases_eq, cases_lt, cond_both, eqb-true, false≢true}
 use Rattle.std.proofs.lemmas.List.{get_or_past, get_or-take, length-take-le}
@@ -41,12 +42,14 @@ marked-has bs k lt m = from-here bs 0 (length bs - 0) k (omega arith) (omega (ar
 
 -- a place of the set has a mark
 pub marked-at : (bs : List ℕ) (k : ℕ) → Contains (marked bs) k → (k < length bs) × IsMark bs k
-marked-at bs k has = All-contains (λ (j : ℕ). (j < length bs) × IsMark bs j) (marked bs) k (All-places (is_byte 1) bs) has
+marked-at bs k has = All-contains (λ (j : ℕ). (j < length bs) × IsMark bs j) (marked bs) k (All-places (is_byte 1)
+    bs) has
 
 -- there is no mark past the end
 mark-within : (bs : List ℕ) (k : ℕ) → IsMark bs k → k < length bs
 mark-within bs k m = ⊎_elim (λ lt. lt) (λ le. let one : slice_index bs k ≡ 1 = eqb-true (slice_index bs k) 1 m in
-    let none : slice_index bs k ≡ 0 = get_or_past bs k 0 le in absurd (omega (arith, one, none))) (cases_lt k (length bs))
+    let none : slice_index bs k ≡ 0 = get_or_past bs k 0 le in absurd (omega (arith, one, none))) (cases_lt k
+        (length bs))
 
 -- one more mark is written
 pub marked-more : (old new : List ℕ) (place : ℕ) → place < length new → IsMark new place
@@ -119,7 +122,8 @@ last-not-empty ks k last e = nothing_in_none k (subst (λ (xs : List ℕ). Conta
 
 -- a mark is written where there is one for the place
 pub marked-set : (old covered : List ℕ) (place : ℕ) → place < length covered
-    → ((k : ℕ) → slice_index covered k ≡ slice_index old k) → Inserts (marked old) place (marked (slice_set covered place 1))
+    → ((k : ℕ) → slice_index covered k ≡ slice_index old k) → Inserts (marked old) place (marked (slice_set covered
+        place 1))
 marked-set old covered place lt same = marked-more old (slice_set covered place 1) place
     (subst (λ (n : ℕ). place < n) (sym (length-set covered place 1)) lt)
     (subst (λ (b : ℕ). is_byte 1 b ≡ true) (sym (get_or-set_same covered place 1 0 lt)) refl)

@@ -1,5 +1,6 @@
 //! Sets of places near the beginning of the trail.
-ghost use Rattle.std.specs.Prelude.{◌≡◌, ◌↔◌, ◌⊎◌, ℕ, [], ◌<◌, ◌≤◌, length, slice_index, Contains, IsTrue, IfNone, IfSome, OnOk};
+ghost use Rattle.std.specs.Prelude.{◌≡◌, ◌↔◌, ◌⊎◌, ℕ, [], ◌<◌, ◌≤◌, length, slice_index, Contains, IsTrue, IfNone};
+ghost use Rattle.std.specs.Prelude.{IfSome, OnOk};
 ghost use Rattle.conflict_analysis.specs.Marked.{HasAsLast, Inserts, PopsLast};
 
 use lit_core::Memory;

@@ -15,8 +15,9 @@ const NEAR: usize = 65_536;
 ///
 /// Resolution walks back along the trail over seen marks: a mark is a byte that is written once, where a tree of places
 /// would be gone down, filled and split at each literal of each clause. Marks reach from the trail's beginning to the
-/// last place that is marked, and a conflict clears what lies there. So that a conflict on a trail of some 100,000 places
-/// does not clear them all where few are marked, there are marks for the first places alone, and a tree has the others.
+/// last place that is marked, and a conflict clears what lies there. So that a conflict on a trail of some 100,000
+/// places does not clear them all where few are marked, there are marks for the first places alone, and a tree has
+/// the others.
 #[derive(Debug, Drop)]
 pub struct PlaceSet {
     near: NearSet,

@@ -15,7 +15,6 @@ mod ranges;
 mod solving;
 
 pub use atom_tables::AtomTable;
-pub use std::alloc::AllocError as Memory;
 pub use gate_clauses::clauses_of_gate;
 pub use growing::{Addition, Grow};
 pub use laws::{
@@ -30,3 +29,4 @@ pub use parts::{AggCon, Gate, GroundTerm, LitList, Part, PartList, TermBound};
 pub use problems::Problem;
 pub use ranges::has_small_terms;
 pub use solving::{Budget, Halt, Solve, Verdict};
+pub use std::alloc::AllocError as Memory;

@@ -1,5 +1,6 @@
 -- A new mark of one node.
-use Rattle.std.proofs.Common.{◌≡◌, ℕ, suc, zero, ◌<◌, List, [], ◌∷◌, length, Bool, true, ◌&&◌, ◌||◌, nat_lt, Option, reverse}
+use Rattle.std.proofs.Common.{◌≡◌, ℕ, suc, zero, ◌<◌, List, [], ◌∷◌, length, Bool, true, ◌&&◌, ◌||◌, nat_lt, Option}
+use Rattle.std.proofs.Common.{reverse}
 use Rattle.std.proofs.Common.{None, Some, if◌then◌else◌, refl, sym, ap, ◌∙◌, arith, slice_get}
 use Rattle.std.specs.Option.{option_map, option_map_or}
 use Rattle.std.specs.List.{list_all}

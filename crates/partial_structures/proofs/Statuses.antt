@@ -10,7 +10,8 @@ use Rattle.kb_logic.specs.Denotations.{denotation_of, same_value}
 use Rattle.kb_logic.specs.Models.{GroundAtom}
 use Rattle.partial_structures.specs.KnownAtoms.{same_row, same_option, same_atom, both_values, is_rival}
 use Rattle.partial_structures.specs.Rows.{same_label, label_of, has_label, blank, child_by, node_of, mark_at, mark_of}
-use Rattle.partial_structures.specs.Rows.{Grows, row_of, Marks, MadeTrue, MadeFalse, settled, denied, same_optional_label}
+use Rattle.partial_structures.specs.Rows.{Grows, row_of, Marks, MadeTrue, MadeFalse, settled, denied}
+use Rattle.partial_structures.specs.Rows.{same_optional_label}
 use Rattle.partial_structures.specs.Rows.{value_status, status_of}
 use Rattle.partial_structures.specs.Flags.{is_closed}
 use Rattle.partial_structures.specs.Status.{is_yes, is_no}

@@ -44,8 +44,8 @@ fn silent_lines(lines: &[&[u8]]) -> usize
     lines.len()
 }
 
-/// Adds what the line says, and answers false where it is not as it must be. Its literals are read into `lits`, whatever
-/// stood there.
+/// Adds what the line says, and answers false where it is not as it must be. Its literals are read into `lits`,
+/// whatever stood there.
 fn add_line(
     alloc: Global,
     line: &[u8],

@@ -3,7 +3,8 @@ use Rattle.std.proofs.lemmas.Bool.{cases_lt}
 use Rattle.lit_core.proofs.LiteralFacts.{nothing_in_none}
 use Rattle.conflict_analysis.specs.Marked.{AreApart, HasAsLast, Inserts, PopsLast}
 use Rattle.std.proofs.lemmas.List.Elements.{Contains-append_left, Contains-append_right}
-use Rattle.conflict_analysis.proofs.JoinedSets.{apart-far, apart-near, joined-far, joined-near, joined-last, joined-insert-far, joined-insert-near, joined-pop-far, on-ok}
+use Rattle.conflict_analysis.proofs.JoinedSets.{apart-far, apart-near, joined-far, joined-near, joined-last}
+use Rattle.conflict_analysis.proofs.JoinedSets.{joined-insert-far, joined-insert-near, joined-pop-far, on-ok}
 use Rattle.conflict_analysis.proofs.place_sets.PlaceSet.insert.Goals as goal
 
 pub invariant_of-self : goal.invariant_of-self

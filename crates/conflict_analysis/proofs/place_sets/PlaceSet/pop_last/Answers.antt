@@ -12,7 +12,8 @@ invariant_of-self c =
     (Contains-append_left c.pop_far.new.far.keys _ k h)))
 
 pub invariant_of-self-in-None : goal.invariant_of-self-in-None
-invariant_of-self-in-None c = apart-popped c.pop_last.result c.self.inside.near c.pop_last.new.self c.self.inside.far.keys
+invariant_of-self-in-None c = apart-popped c.pop_last.result c.self.inside.near c.pop_last.new.self
+    c.self.inside.far.keys
     c.pop_far.new.far.keys c.self.invariant c.pop_last.ensures.none c.pop_last.ensures.some c.in-None.ensures.none.1
 
 pub returns-in-Some-clause-some : goal.returns-in-Some-clause-some
