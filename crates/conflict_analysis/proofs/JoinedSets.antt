@@ -12,8 +12,11 @@ on-ok (Err e) P Q f h = tt
 
 module _ (near far : List ℕ) (apart : AreApart near far) where
   pub joined-near : (k : ℕ) → k < 65536 → Contains (near ++ far) k → Contains near k
-  joined-near k lt has = ⊎_elim (λ n. n) (λ f. let high : 65536 ≤ k = apart.high k f in absurd (omega (arith, lt,
-      high)))
+  joined-near k lt has = ⊎_elim (λ n. n) (λ f. let high : 65536 ≤ k = apart.high k f in absurd (omega (
+    arith,
+    lt,
+    high,
+  )))
       (Contains-append_cases near far k has)
 
   pub joined-far : (k : ℕ) → 65536 ≤ k → Contains (near ++ far) k → Contains far k

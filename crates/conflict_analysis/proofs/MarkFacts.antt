@@ -49,7 +49,7 @@ marked-at bs k has = All-contains (λ (j : ℕ). (j < length bs) × IsMark bs j)
 mark-within : (bs : List ℕ) (k : ℕ) → IsMark bs k → k < length bs
 mark-within bs k m = ⊎_elim (λ lt. lt) (λ le. let one : slice_index bs k ≡ 1 = eqb-true (slice_index bs k) 1 m in
     let none : slice_index bs k ≡ 0 = get_or_past bs k 0 le in absurd (omega (arith, one, none))) (cases_lt k
-        (length bs))
+    (length bs))
 
 -- one more mark is written
 pub marked-more : (old new : List ℕ) (place : ℕ) → place < length new → IsMark new place
@@ -123,7 +123,7 @@ last-not-empty ks k last e = nothing_in_none k (subst (λ (xs : List ℕ). Conta
 -- a mark is written where there is one for the place
 pub marked-set : (old covered : List ℕ) (place : ℕ) → place < length covered
     → ((k : ℕ) → slice_index covered k ≡ slice_index old k) → Inserts (marked old) place (marked (slice_set covered
-        place 1))
+    place 1))
 marked-set old covered place lt same = marked-more old (slice_set covered place 1) place
     (subst (λ (n : ℕ). place < n) (sym (length-set covered place 1)) lt)
     (subst (λ (b : ℕ). is_byte 1 b ≡ true) (sym (get_or-set_same covered place 1 0 lt)) refl)

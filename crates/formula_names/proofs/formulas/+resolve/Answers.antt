@@ -409,7 +409,7 @@ term-returns-then-is_empty-clause-noted t c =
 pub product-returns-then-is_empty-clause-tree : goal.product-returns-then-is_empty-clause-tree
 product-returns-then-is_empty-clause-tree t c =
     let seen : view.product_view c.args.raw.now ≡ view.product_of (view.factor_view (out-RawProduct
-        c.args.raw.now).first)
+    c.args.raw.now).first)
     (map view.product_tail_view (out-RawProduct c.args.raw.now).more) = search (rules, the_lemmas) in
     let count : length (out-RawProduct c.args.raw.now).more ≡ 0 = grind (arith, common_steps) in
     let none : (out-RawProduct c.args.raw.now).more ≡ [] = nothing _ count in
@@ -418,7 +418,7 @@ product-returns-then-is_empty-clause-tree t c =
 pub product-returns-then-is_empty-clause-noted : goal.product-returns-then-is_empty-clause-noted
 product-returns-then-is_empty-clause-noted t c =
     let seen : view.product_view c.args.raw.now ≡ view.product_of (view.factor_view (out-RawProduct
-        c.args.raw.now).first)
+    c.args.raw.now).first)
     (map view.product_tail_view (out-RawProduct c.args.raw.now).more) = search (rules, the_lemmas) in
     let count : length (out-RawProduct c.args.raw.now).more ≡ 0 = grind (arith, common_steps) in
     let none : (out-RawProduct c.args.raw.now).more ≡ [] = nothing _ count in

@@ -8,14 +8,14 @@ use Rattle.conflict_analysis.proofs.near_sets.NearSet.insert.Goals as goal
 pub returns-clause-inserts : goal.returns-clause-inserts
 returns-clause-inserts c =
     subst (λ (ks : List ℕ). Inserts ks c.args.place (marked (slice_set c.cover.new.marks.items c.args.place 1)))
-        c.self.view_is
+    c.self.view_is
     (marked-set c.self.inside.marks.items c.cover.new.marks.items c.args.place c.in_ok-cover.ensures.enough
     c.cover.ensures.same)
 
 pub returns-clause-from : goal.returns-clause-from
 returns-clause-from c =
     (subst (λ (ks : List ℕ). Inserts ks c.args.place (marked (slice_set c.cover.new.marks.items c.args.place 1)))
-        c.self.view_is
+    c.self.view_is
     (marked-set c.self.inside.marks.items c.cover.new.marks.items c.args.place c.in_ok-cover.ensures.enough
     c.cover.ensures.same)).from
 
