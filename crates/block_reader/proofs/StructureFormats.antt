@@ -6,7 +6,7 @@ use Rattle.fo_syntax.specs.declared.terminal.Outer.TheVariants as o
 use Rattle.fo_syntax.specs.declared.terminal.Comparison.TheVariants as cmp
 use Rattle.fo_syntax.specs.Terminals.{Symbol, Tok, mark, word, sign}
 use Rattle.fo_syntax.specs.Trees.{Name}
-use Rattle.fo_syntax.specs.BlockTrees.{Header, header, Element, only, Rows, Value, truth_value, element_value, table}
+use Rattle.fo_syntax.specs.BlockTrees.{Header, header, Element, Rows, Value, truth_value, element_value, table}
 use Rattle.fo_syntax.specs.BlockTrees.{Mark, closed_mark, open_mark, Entry, entry, Structure, structure}
 use Rattle.fo_syntax.specs.BlockSpelling.{put_header, put_value, put_equal, put_entry, put_structure}
 use Rattle.block_reader.specs.BlockParts.{Anything}

@@ -19,11 +19,11 @@ ghost use Rattle.fo_syntax.specs.declared.terminal.Comparison.TheVariants as cmp
 
 use crate::block_ends::{closes, item_ends, row_ends};
 use fo_syntax::{
-    Adding, Comparison, Item, Outer, RawElement, RawEntry, RawHeader, RawInteger, RawItem,
-    RawItemTail, RawItems, RawMark, RawName, RawRange, RawRow, RawRowTail, RawRows, RawStructure,
-    RawTable, RawTo, RawValue, ReadError, Terminal,
+    Adding, Comparison, Item, ItemTails, Outer, RawElement, RawEntry, RawHeader, RawInteger,
+    RawItem, RawItemTail, RawItems, RawMark, RawName, RawRange, RawRow, RawRowTail, RawRows,
+    RawStructure, RawTable, RawTo, RawValue, ReadError, Terminal,
 };
-use sqlite_items::Items;
+use sqlite_items::{Boxed, Items};
 use std::alloc::Global;
 use token_reader::binders::word;
 use token_reader::cursor::{Found, place_at, sign, skip, split, start};
@@ -110,42 +110,21 @@ fn item<'a>(alloc: Global, items: &'a [Item<'a>], end: usize) -> Found<'a, RawIt
     };
     let (last, behind) = element(alloc, behind, end)?;
     item_ends(behind, end)?;
-    let to = Some(RawRange { place, last });
+    let to = Some(Boxed::new(alloc, RawRange { place, last })?);
     Ok((RawItem { first, to }, behind))
 }
 
-// The commas that come in a row, counted as far as eight. A list that grows by itself takes room for four items at its
-// first one: where a structure has a hundred thousand rows of two items, that is half of the memory that is touched.
-fn commas(items: &[Item<'_>]) -> usize
-    ensures { result ≤ 8 }
-{
-    let mut count = 0;
-    for item in items {
-        match item.terminal {
-            Terminal::Comma => {
-                count += 1;
-                if count == 8 {
-                    break;
-                }
-            }
-            Terminal::Word | Terminal::Integer(_) | Terminal::Add(_) => {}
-            _ => break,
-        }
-    }
-    count
-}
-
 // The commas that come, with an item after each.
-fn item_tails<'a>(alloc: Global, items: &'a [Item<'a>], end: usize) -> Found<'a, Items<RawItemTail>>
+fn item_tails<'a>(alloc: Global, items: &'a [Item<'a>], end: usize) -> Found<'a, ItemTails>
     requires { EndsItem (next (toks items.now)) }
     ensures reads { ItemTailsRead (toks items.now) end result }
     ensures shorter { IfOk result (λ p. length p.1.now ≤ length items.now) }
 {
     let (_count, mut rest) = start(items);
-    let mut more = Items::from_vec(Vec::with_capacity(alloc, commas(items))?);
+    let mut more = ItemTails::new();
     while let Some((place, behind)) = skip(Terminal::Comma, rest) {
         let (item, last) = item(alloc, behind, end)?;
-        more.push(RawItemTail { place, item })?;
+        more.push(alloc, RawItemTail { place, item })?;
         rest = last;
     }
     Ok((more, rest))
@@ -162,7 +141,7 @@ fn row_items<'a>(alloc: Global, items: &'a [Item<'a>], end: usize) -> Found<'a, 
 }
 
 // The arrow and its element, if there is one, at the end of a row.
-fn arrow<'a>(alloc: Global, items: &'a [Item<'a>], end: usize) -> Found<'a, Option<RawTo>>
+fn arrow<'a>(alloc: Global, items: &'a [Item<'a>], end: usize) -> Found<'a, Option<Boxed<RawTo>>>
     ensures reads { ArrowRead (toks items.now) end result }
     ensures shorter { IfOk result (λ p. length p.1.now ≤ length items.now) }
 {
@@ -172,7 +151,7 @@ fn arrow<'a>(alloc: Global, items: &'a [Item<'a>], end: usize) -> Found<'a, Opti
     };
     let (element, last) = element(alloc, behind, end)?;
     row_ends(last, end)?;
-    Ok((Some(RawTo { place, element }), last))
+    Ok((Some(Boxed::new(alloc, RawTo { place, element })?), last))
 }
 
 // A row in brackets, after the opening one.

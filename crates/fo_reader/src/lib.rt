@@ -9,14 +9,15 @@ mod theory;
 pub use block_laws::{one_file, one_file_reading, one_item};
 pub use file::read_kb;
 pub use fo_syntax::{
-    Adding, Aggregation, Arrow, Comparison, KbError, RawAnd, RawAndTail, RawApp, RawBinder,
-    RawBody, RawConstructed, RawDeclaration, RawDefinition, RawElement, RawElementTail, RawEntry,
-    RawFactor, RawFormula, RawHead, RawHeader, RawInteger, RawIsa, RawItem, RawItemTail, RawItems,
-    RawKb, RawLink, RawMark, RawName, RawNameTail, RawNames, RawNumber, RawOpening, RawOr,
-    RawOrTail, RawPositions, RawPrim, RawProduct, RawProductTail, RawRange, RawResult, RawRow,
-    RawRowTail, RawRows, RawRule, RawSentence, RawStructure, RawSumTail, RawSymbol, RawTable,
-    RawTerm, RawTermTree, RawTerms, RawTermsTail, RawTheory, RawTheoryItem, RawTo, RawType,
-    RawUnary, RawValue, RawVar, RawVarTail, RawVarType, RawVars, RawVocabulary, Separator,
+    Adding, Aggregation, Arrow, Comparison, ItemTails, KbError, RawAnd, RawAndTail, RawApp,
+    RawBinder, RawBody, RawConstructed, RawDeclaration, RawDefinition, RawElement, RawElementTail,
+    RawEntry, RawFactor, RawFormula, RawHead, RawHeader, RawInteger, RawIsa, RawItem, RawItemTail,
+    RawItems, RawKb, RawLink, RawMark, RawName, RawNameTail, RawNames, RawNumber, RawOpening,
+    RawOr, RawOrTail, RawPositions, RawPrim, RawProduct, RawProductTail, RawRange, RawResult,
+    RawRow, RawRowTail, RawRows, RawRule, RawSentence, RawStructure, RawSumTail, RawSymbol,
+    RawTable, RawTerm, RawTermTree, RawTerms, RawTermsTail, RawTheory, RawTheoryItem, RawTo,
+    RawType, RawUnary, RawValue, RawVar, RawVarTail, RawVarType, RawVars, RawVocabulary, Separator,
+    Text,
 };
 pub use formula_reader::{
     one_formula, one_formula_reading, one_term, one_term_reading, read_formula, read_term,

@@ -11,3 +11,5 @@ pub mod BlockSpelling
 pub mod BlockFine
 pub mod BlockView
 pub mod FileReads
+pub mod TextBytes
+pub mod Tails

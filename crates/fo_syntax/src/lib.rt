@@ -3,12 +3,15 @@
 #![tactic(auto)]
 
 mod error;
+mod item_tails;
 mod raw;
 mod raw_blocks;
 mod stops;
 mod terminal;
+mod text;
 
 pub use error::KbError;
+pub use item_tails::ItemTails;
 pub use raw::{
     RawAnd, RawAndTail, RawApp, RawFactor, RawFormula, RawInteger, RawLink, RawName, RawNumber,
     RawOpening, RawOr, RawOrTail, RawPrim, RawProduct, RawProductTail, RawSumTail, RawTermTree,
@@ -23,3 +26,4 @@ pub use raw_blocks::{
 };
 pub use stops::ReadError;
 pub use terminal::{Adding, Aggregation, Arrow, Comparison, Item, Outer, Terminal};
+pub use text::Text;

@@ -1,11 +1,12 @@
 //! The raw trees: what stands in the text, with the place of each token.
 use crate::terminal::{Adding, Aggregation, Arrow, Comparison};
+use crate::text::Text;
 use sqlite_items::{Boxed, Items};
 
 /// A word and its place.
 #[derive(Drop)]
 pub struct RawName {
-    pub text: Items<u8>,
+    pub text: Text,
     pub place: usize,
 }
 

@@ -1,4 +1,5 @@
 //! The raw trees of the blocks of a file, with the place of each token.
+use crate::item_tails::ItemTails;
 use crate::raw::{RawApp, RawFormula, RawInteger, RawName, RawTermTree, RawVars};
 use sqlite_items::{Boxed, Items};
 
@@ -249,9 +250,9 @@ pub struct RawRowTail {
 
 #[derive(Drop)]
 pub enum RawRow {
-    Plain(RawItems, Option<RawTo>),
+    Plain(RawItems, Option<Boxed<RawTo>>),
     /// With the places of the brackets.
-    Bracketed(usize, RawItems, usize, Option<RawTo>),
+    Bracketed(usize, RawItems, usize, Option<Boxed<RawTo>>),
     Only(RawTo),
 }
 
@@ -266,7 +267,7 @@ pub struct RawTo {
 #[derive(Drop)]
 pub struct RawItems {
     pub first: RawItem,
-    pub more: Items<RawItemTail>,
+    pub more: ItemTails,
 }
 
 /// A comma and the item after it.
@@ -280,7 +281,7 @@ pub struct RawItemTail {
 #[derive(Drop)]
 pub struct RawItem {
     pub first: RawElement,
-    pub to: Option<RawRange>,
+    pub to: Option<Boxed<RawRange>>,
 }
 
 /// `..` and the element after it.

@@ -11,7 +11,7 @@ use Rattle.kb_text.specs.declared.fault.K.TheVariants.{TooDeep}
 use Rattle.kb_text.specs.Depth.{Around, outermost, depth_of}
 use Rattle.kb_text.specs.Tokens.{AreShallow, IsTokenAt, IsSpelled, IsSpellingOf, Lexeme, lexeme, Outcome, SpansRise}
 use Rattle.kb_text.specs.Tokens.{TokensFrom, nothing, gap, token, token_before, refused, stuck, decimal, is_too_large}
-use Rattle.kb_text.specs.Tokens.{own_refusal_of, first_refusal}
+use Rattle.kb_text.specs.Tokens.{own_refusal_of, first_refusal, refusal_of}
 use Rattle.kb_text.proofs.Fronts.{token_length, token_within}
 
 -- ---- spans
@@ -71,6 +71,13 @@ in_range text behind e =
     below : (n : ℕ) → leb (2 ^ 63) n ≡ false → n < 2 ^ 63
     below n fits = grind (arith, fits)
 
+pub token_spelled : (s : Around) (p : ℕ) (bytes : List ℕ) (k : Kind) (n : ℕ) → IsTokenAt s.layer.in_braces bytes k n
+    → refusal_of s k (take n bytes) (drop n bytes) ≡ None → IsSpelled (lexeme bytes p k n)
+token_spelled s p bytes k n is fits =
+    let range : k ≡ Int → decimal (take n bytes) < 2 ^ 63 = λ e. in_range (take n bytes) (drop n bytes) (let own =
+    own_is_none (own_refusal_of k (take n bytes) (drop n bytes)) _ fits in rw e at own) in
+    (token_spells s.layer.in_braces bytes k n is, range)
+
 all_more : (t : Lexeme) (ts : List Lexeme) → IsSpelled t → All IsSpelled ts → All IsSpelled (t ∷ ts)
 all_more t ts first rest zero d lt = first
 all_more t ts first rest (suc k) d lt = rest k d (omega arith)
@@ -79,9 +86,7 @@ pub spelled_from : {s : Around} {p : ℕ} {bytes : List ℕ} {r : Outcome} → T
 spelled_from nothing = λ k d lt. absurd (omega arith)
 spelled_from (gap g l rest) = spelled_from rest
 spelled_from (token {s = s} {p = p} {bytes = bytes} {ts = ts} n k l fits rest) =
-    let range : k ≡ Int → decimal (take n bytes) < 2 ^ 63 = λ e. in_range (take n bytes) (drop n bytes) (let own =
-    own_is_none (own_refusal_of k (take n bytes) (drop n bytes)) _ fits in rw e at own) in
-    all_more (lexeme bytes p k n) ts (token_spells s.layer.in_braces bytes k n l, range) (spelled_from rest)
+    all_more (lexeme bytes p k n) ts (token_spelled s p bytes k n l fits) (spelled_from rest)
 spelled_from (token_before n k l fits rest) = tt
 spelled_from (refused n k l why) = tt
 spelled_from (stuck none) = tt

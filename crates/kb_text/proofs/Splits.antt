@@ -8,17 +8,8 @@ use Rattle.kb_text.specs.Depth.{Around, outermost, after_token}
 use Rattle.kb_text.specs.Pieces.{Piece, IsGap, IsLongest}
 use Rattle.kb_text.specs.Tokens.{IsTokenAt, NoTokenAt, Lexeme, lexeme, Outcome, refusal_of, TokensFrom, nothing, gap}
 use Rattle.kb_text.specs.Tokens.{token, token_before, refused, stuck}
+use Rattle.kb_text.specs.Lexing.{after, Goes}
 use Rattle.kb_text.proofs.Fronts.{token_within}
-
--- what was read before, and then this
-abbrev pub after : List Lexeme → Outcome → Outcome
-after ts (Ok us) = Ok (ts ++ us)
-after ts (Err f) = Err f
-
--- whatever the text from place p on gives, the whole text gives after these tokens
-pub record Goes (src : List ℕ) (s : Around) (p : ℕ) (ts : List Lexeme) : Type 0 where
-  pub within : p ≤ length src
-  pub on : (r : Outcome) → TokensFrom s p (drop p src) r → TokensFrom outermost 0 src (after ts r)
 
 pub begins : (src : List ℕ) → Goes src outermost 0 []
 begins src = record { within = omega arith; on = on }

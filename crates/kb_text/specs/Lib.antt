@@ -6,4 +6,5 @@ pub mod Procedures
 pub mod Roles
 pub mod Depth
 pub mod Tokens
+pub mod Lexing
 pub mod Found

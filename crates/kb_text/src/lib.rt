@@ -17,5 +17,5 @@ mod token;
 
 pub use bytes::{only_spaces, same_text};
 pub use fault::{K, KbFault, LexError};
-pub use scan::{one_answer, tokens};
+pub use scan::{Lexer, one_answer, tokens};
 pub use token::{Kind, Token};

@@ -16,6 +16,68 @@ fn refused<T>(cause: K, place: usize) -> Result<T, LexError>
     Err(LexError::Refused(KbFault { cause, place }))
 }
 
+/// The tokens of a text, one after the other, so that a reader makes what it wants of each and keeps no list of them.
+#[derive(Drop)]
+pub struct Lexer<'a> {
+    src: &'a [u8],
+    /// Where the tokens so far end.
+    start: usize,
+    nesting: Nesting,
+}
+
+impl<'a> Lexer<'a> {
+    ghost use Rattle.std.specs.Prelude.{◌≡◌, ◌<◌, [], List, IfOk, IfSome};
+    ghost use Rattle.kb_text.specs.Tokens.{Lexeme, IsSpelled, lexeme_of};
+    ghost use Rattle.kb_text.specs.Lexing.{HasPassed, TokenRead, left_of, text_of};
+
+    /// Before the first token.
+    pub fn new(alloc: Global, src: &'a [u8]) -> Lexer<'a>
+        ensures text { text_of result ≡ src.now }
+        ensures none { HasPassed [] result }
+    {
+        Lexer {
+            src,
+            start: 0,
+            nesting: Nesting::new(alloc),
+        }
+    }
+
+    /// The next token, if the text has a further one; else its end. A refusal is the text's first one.
+    pub fn next_token(&mut self) -> Result<Option<Token<'a>>, LexError>
+        ensures read { (ts : List Lexeme) → HasPassed ts self.old → TokenRead ts (text_of self.old) self.new result }
+        ensures spelled { IfOk result (λ found. IfSome found (λ t. IsSpelled (lexeme_of t))) }
+        ensures text { text_of self.new ≡ text_of self.old }
+        ensures shorter { IfOk result (λ found. IfSome found (λ t. left_of self.new < left_of self.old)) }
+    {
+        let src = self.src;
+        let mut start = self.start;
+        while start < src.len() {
+            let (_, rest) = src.split_at(start);
+            match piece(self.nesting.in_braces(), rest) {
+                Found::Gap(n) => start += n,
+                Found::Token(kind, n) => {
+                    let (text, behind) = rest.split_at(n);
+                    if let Some(cause) = refusal(&self.nesting, kind, text, behind) {
+                        return refused(cause, start);
+                    }
+                    self.nesting.pass(kind, text)?;
+                    let end = start + n;
+                    self.start = end;
+                    let found = Token {
+                        kind,
+                        text,
+                        start,
+                        end,
+                    };
+                    return Ok(Some(found));
+                }
+                Found::Nothing(cause) => return refused(cause, start),
+            }
+        }
+        Ok(None)
+    }
+}
+
 /// The tokens of the text, in one pass.
 ///
 /// A refusal is the first one: that of the least place, and there the one of the least number.
@@ -26,29 +88,9 @@ pub fn tokens<'a>(alloc: Global, src: &'a [u8]) -> Result<Vec<Token<'a>>, LexErr
     ensures shallow { IfOk result (λ v. AreShallow outermost (lexemes v.items)) }
 {
     let mut out = Vec::new(alloc);
-    let mut nesting = Nesting::new(alloc);
-    let mut start = 0;
-    while start < src.len() {
-        let (_, rest) = src.split_at(start);
-        match piece(nesting.in_braces(), rest) {
-            Found::Gap(n) => start += n,
-            Found::Token(kind, n) => {
-                let (text, behind) = rest.split_at(n);
-                if let Some(cause) = refusal(&nesting, kind, text, behind) {
-                    return refused(cause, start);
-                }
-                nesting.pass(kind, text)?;
-                let end = start + n;
-                out.push(Token {
-                    kind,
-                    text,
-                    start,
-                    end,
-                })?;
-                start = end;
-            }
-            Found::Nothing(cause) => return refused(cause, start),
-        }
+    let mut lexer = Lexer::new(alloc, src);
+    while let Some(token) = lexer.next_token()? {
+        out.push(token)?;
     }
     Ok(out)
 }

@@ -11,7 +11,7 @@ ghost use Rattle.fo_syntax.specs.View.{terms_of};
 use fo_syntax::{
     Adding, Aggregation, Arrow, Comparison, RawAnd, RawAndTail, RawApp, RawFactor, RawFormula,
     RawInteger, RawLink, RawName, RawNumber, RawOpening, RawOr, RawOrTail, RawPrim, RawProduct,
-    RawProductTail, RawSumTail, RawTermTree, RawTerms, RawTermsTail, RawUnary, RawVars,
+    RawProductTail, RawSumTail, RawTermTree, RawTerms, RawTermsTail, RawUnary, RawVars, Text,
 };
 use sqlite_items::{Boxed, Items};
 use std::alloc::{AllocError, Global};
@@ -20,7 +20,7 @@ pub fn named(alloc: Global, text: &[u8], place: usize) -> Result<RawName, AllocE
     ensures { IfOk result (λ e. name_view e ≡ tree.name text.now place) }
 {
     Ok(RawName {
-        text: Items::from_slice(alloc, text)?,
+        text: Text::new(alloc, text)?,
         place,
     })
 }

@@ -1,15 +1,15 @@
 //! What each token of a text is to the grammar.
-ghost use Rattle.std.specs.Prelude.{◌≡◌, ◌<◌, ◌^◌, IfOk, All, map};
+ghost use Rattle.std.specs.Prelude.{◌≡◌, ◌<◌, ◌^◌, IfOk, IfErr};
 ghost use Rattle.kb_text.specs.Pieces.{IsPiece, IntText};
-ghost use Rattle.kb_text.specs.Tokens.{IsSpelled, IsSpellingOf, decimal, lexeme_of, lexemes};
+ghost use Rattle.kb_text.specs.Tokens.{Fails, IsSpelled, IsSpellingOf, decimal, lexeme_of};
 ghost use Rattle.kb_text.specs.declared.token.Kind.TheVariants.{Int};
 ghost use Rattle.fo_syntax.specs.Terminals.{tok, toks};
-ghost use Rattle.fo_syntax.specs.Items.{ItemsOf, longer_terminal, sign_terminal, single_terminal, terminal_of, tok_of};
+ghost use Rattle.fo_syntax.specs.Items.{IsTokens, ItemsOf, longer_terminal, sign_terminal, single_terminal, terminal_of, tok_of};
 ghost use Rattle.fo_syntax.specs.Items.{word_terminal};
 
 use fo_syntax::{Adding, Aggregation, Arrow, Comparison, Item, KbError, Outer, Terminal};
-use kb_text::{Kind, LexError, Token, same_text};
-use std::alloc::{AllocError, Global};
+use kb_text::{Kind, LexError, Lexer, Token, same_text};
+use std::alloc::Global;
 
 fn word_terminal(text: &[u8]) -> Terminal
     ensures { result ≡ word_terminal text.now }
@@ -144,13 +144,15 @@ fn item<'a>(token: Token<'a>) -> Item<'a>
     }
 }
 
-fn items_of<'a>(alloc: Global, tokens: &[Token<'a>]) -> Result<Vec<Item<'a>>, AllocError>
-    requires { All IsSpelled (lexemes tokens.now) }
-    ensures { IfOk result (λ v. toks v.items ≡ map tok_of (lexemes tokens.now)) }
+// Each token is made an item as it is read: a list of the tokens of a text would be as long as that of the items.
+fn items_of<'a>(alloc: Global, src: &'a [u8]) -> Result<Vec<Item<'a>>, LexError>
+    ensures ok { IfOk result (λ v. IsTokens src.now (toks v.items)) }
+    ensures err { IfErr result (λ e. Fails e src.now) }
 {
-    let mut found = Vec::with_capacity(alloc, tokens.len())?;
-    for token in tokens {
-        found.push(item(*token))?;
+    let mut found = Vec::new(alloc);
+    let mut lexer = Lexer::new(alloc, src);
+    while let Some(token) = lexer.next_token()? {
+        found.push(item(token))?;
     }
     Ok(found)
 }
@@ -159,11 +161,8 @@ fn items_of<'a>(alloc: Global, tokens: &[Token<'a>]) -> Result<Vec<Item<'a>>, Al
 pub fn items<'a>(alloc: Global, src: &'a [u8]) -> Result<Vec<Item<'a>>, KbError>
     ensures { ItemsOf src.now result }
 {
-    match kb_text::tokens(alloc, src) {
-        Ok(tokens) => match items_of(alloc, &tokens) {
-            Ok(found) => Ok(found),
-            Err(_) => Err(KbError::Memory),
-        },
+    match items_of(alloc, src) {
+        Ok(found) => Ok(found),
         Err(LexError::Refused(fault)) => Err(KbError::Refused(fault)),
         Err(LexError::Memory) => Err(KbError::Memory),
     }

@@ -1,11 +1,10 @@
-use Rattle.std.proofs.Common.{length, ◌-◌}
-use Rattle.kb_text.specs.Depth.{around_of}
+use Rattle.std.proofs.Common.{◌≡◌}
+use Rattle.kb_text.specs.Lexing.{HasPassed, left_of, text_of}
 use Rattle.kb_text.specs.Tokens.{lexemes}
-use Rattle.kb_text.proofs.Splits.{Goes}
 use Rattle.kb_text.proofs.scan.tokens.Given as goal
 
-abbrev pub invariant-loop-start : goal.invariant-loop-start
-invariant-loop-start l = Goes l.src (around_of l.nesting) l.start (lexemes l.out.items)
+abbrev pub invariant-loop-lexer : goal.invariant-loop-lexer
+invariant-loop-lexer l = record { text : text_of l.lexer ≡ l.src; passed : HasPassed (lexemes l.out.items) l.lexer }
 
-abbrev pub decreases-loop-start : goal.decreases-loop-start
-decreases-loop-start l = length l.src - l.start
+abbrev pub decreases-loop-lexer : goal.decreases-loop-lexer
+decreases-loop-lexer l = left_of l.lexer
