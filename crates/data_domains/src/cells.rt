@@ -33,7 +33,7 @@ pub fn add_given<'a>(entry: &Entry<'a>, cells: &mut Vec<Cell<'a>>) -> Result<(),
         (said_view entry.now)) }
 {
     for spot in &entry.spots {
-        if let Some(cell) = spot.cell {
+        if let Some(cell) = spot.cell() {
             cells.push(cell)?;
         }
     }
@@ -124,7 +124,7 @@ fn add_occurring<'a>(
     }
     for spot in &entry.spots {
         if occurs_at(types, ty, spot) {
-            if let Some(cell) = spot.cell {
+            if let Some(cell) = spot.cell() {
                 cells.push(cell)?;
             }
         }

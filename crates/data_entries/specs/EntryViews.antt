@@ -1,9 +1,13 @@
 -- What elements, rows and entries in memory say.
-use Rattle.std.specs.Prelude.{Bool, List, [], ◌∷◌, map, option_map, if◌then◌else◌}
+use Rattle.std.specs.Borrow.{Bor}
+use Rattle.std.specs.Prelude.{ℕ, Bool, List, [], ◌∷◌, Option, None, Some, map, option_map, if◌then◌else◌}
 use Rattle.std.specs.Str.{bytes_eq}
 use Rattle.kb_logic.specs.declared.elements.Elem.{Elem}
 use Rattle.kb_logic.specs.declared.elements.Elem.TheVariants as elem
-use Rattle.fo_syntax.specs.BlockView.{element_view, item_view}
+use Rattle.fo_syntax.specs.BlockTrees as raw
+use Rattle.fo_syntax.specs.BlockView.{element_view, item_tail_view, item_view}
+use Rattle.fo_syntax.specs.declared.raw_blocks.RawItem.{RawItem}
+use Rattle.fo_syntax.specs.declared.raw_blocks.RawItemTail.{RawItemTail}
 use Rattle.reading_stages.specs.Scopes.{Text}
 use Rattle.reading_stages.specs.Elements as cell
 use Rattle.reading_stages.specs.DataEntries as said
@@ -18,8 +22,11 @@ use Rattle.data_entries.specs.declared.subjects.Subject.TheVariants as subject
 use Rattle.data_entries.specs.declared.subjects.Subjects.{Subjects}
 use Rattle.data_entries.specs.declared.senses.Sense.{Sense}
 use Rattle.data_entries.specs.declared.senses.Sense.TheVariants as sense
+use Rattle.data_entries.specs.declared.items.RowItems.{RowItems}
 use Rattle.data_entries.specs.declared.rows.Row.{Row}
 use Rattle.data_entries.specs.declared.spots.Spot.{Spot}
+use Rattle.data_entries.specs.declared.spots.Written.{Written}
+use Rattle.data_entries.specs.declared.spots.Written.TheVariants.{Item, Value}
 use Rattle.data_entries.specs.declared.facts.Fact.{Fact}
 
 abbrev pub elem_view : Element → Elem
@@ -51,19 +58,41 @@ sense_view sense.CertainlyTrue = said.certainly_true
 sense_view sense.CertainlyFalse = said.certainly_false
 sense_view sense.Unread = said.unread
 
+-- the items that the tree has after a first one
+abbrev pub tail_items : List RawItemTail → List raw.RowItem
+tail_items more = map (λ (x : ℕ × raw.RowItem). x.1) (map item_tail_view more)
+
+abbrev items_from : Option (Bor RawItem) → List RawItemTail → List raw.RowItem
+items_from None more = []
+items_from (Some i) more = item_view i.now ∷ tail_items more
+
+-- the items of a row, one after another
+abbrev pub items_of : RowItems → List raw.RowItem
+items_of r = items_from r.first r.more.now
+
 abbrev pub row_view : Row → said.WrittenRow
 row_view r = record {
   place = r.place;
-  items = map (λ i. item_view i.now) r.items.items;
+  items = items_of r.items;
   value = option_map (λ e. element_view e.now) r.value;
 }
+
+-- where what is written begins
+abbrev pub place_written : Written → ℕ
+place_written (Item i) = said.place_of_item (item_view i.now)
+place_written (Value e) = said.place_of_element (element_view e.now)
+
+-- what it stands for, in a list where ranges may stand or not
+abbrev pub cell_written : Bool → Written → Option cell.Cell
+cell_written is_plain (Item i) = said.cell_of is_plain (item_view i.now)
+cell_written is_plain (Value e) = Some (cell.one (said.element_of (element_view e.now)))
 
 abbrev pub spot_view : Spot → said.Spot
 spot_view s = record {
   ty = s.ty;
   in_list = s.in_list;
-  place = s.place;
-  cell = option_map cell_view s.cell;
+  place = place_written s.written;
+  cell = cell_written s.is_plain s.written;
 }
 
 abbrev pub fact_view : Fact → fact.Fact

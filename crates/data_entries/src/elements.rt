@@ -3,6 +3,7 @@ ghost use Rattle.std.specs.Prelude.{◌≡◌, option_map};
 ghost use Rattle.fo_syntax.specs.BlockView.{element_view, item_view};
 ghost use Rattle.reading_stages.specs.Elements.{is_between, is_in, same_element};
 ghost use Rattle.reading_stages.specs.DataEntries as said;
+ghost use Rattle.reading_stages.specs.DataFacts as stated;
 ghost use Rattle.data_entries.specs.WholeViews.{whole_view};
 ghost use Rattle.data_entries.specs.EntryViews.{cell_view, elem_view};
 
@@ -68,6 +69,16 @@ fn range_of<'a>(first: Element<'a>, last: Element<'a>) -> Option<Cell<'a>>
     }
 }
 
+/// An item that is no range.
+pub fn single_element<'a>(item: &'a RawItem) -> Option<Element<'a>>
+    ensures { option_map elem_view result ≡ stated.single_element (item_view item.now) }
+{
+    match &item.to {
+        None => Some(element_of(&item.first)),
+        Some(_) => None,
+    }
+}
+
 /// What an item stands for; a range stands for something only in a plain list, and between integers.
 pub fn cell_of<'a>(in_plain_list: bool, raw: &'a RawItem) -> Option<Cell<'a>>
     ensures { option_map cell_view result ≡ said.cell_of in_plain_list (item_view raw.now) }
@@ -76,7 +87,7 @@ pub fn cell_of<'a>(in_plain_list: bool, raw: &'a RawItem) -> Option<Cell<'a>>
         None => Some(Cell::One(element_of(&raw.first))),
         Some(range) => {
             if in_plain_list {
-                range_of(element_of(&raw.first), element_of(&range.last))
+                range_of(element_of(&raw.first), element_of(&range.get().last))
             } else {
                 None
             }

@@ -2,19 +2,20 @@
 ghost use Rattle.std.specs.Prelude.{◌≡◌, ◌++◌, ◌∷◌, [], filter, map, IfOk, OnOk};
 ghost use Rattle.std.specs.List.{filter_map, flat_map};
 ghost use Rattle.std.specs.Option.{option_map};
-ghost use Rattle.fo_syntax.specs.BlockView.{element_view, item_view};
+ghost use Rattle.fo_syntax.specs.BlockView.{element_view};
 ghost use Rattle.reading_stages.specs.DataEntries as said;
 ghost use Rattle.reading_stages.specs.DataFacts as stated;
 ghost use Rattle.data_entries.specs.SaidViews.{said_view};
-ghost use Rattle.data_entries.specs.EntryViews.{cell_view, elem_view, fact_view, row_view, subject_view};
+ghost use Rattle.data_entries.specs.EntryViews.{cell_view, elem_view, fact_view, items_of, row_view, subject_view};
 
 use crate::elements::{Cell, Element, cell_of, element_of};
+use crate::items::RowItems;
 use crate::rows::Row;
 use crate::senses::{Sense, sense_of};
 use crate::spots::fits_in;
 use crate::subjects::Subject;
 use crate::written::Entry;
-use fo_syntax::{RawElement, RawItem};
+use fo_syntax::RawElement;
 use kb_logic::Memory;
 use std::alloc::Global;
 
@@ -43,17 +44,19 @@ fn value_of<'a>(value: Option<&'a RawElement>) -> Option<Element<'a>>
 fn cells_read<'a>(
     alloc: Global,
     in_plain_list: bool,
-    items: &[&'a RawItem],
+    items: RowItems<'a>,
 ) -> Result<Option<Vec<Cell<'a>>>, Memory>
     ensures { IfOk result (λ read. option_map (λ cells. map cell_view cells.items) read
-        ≡ stated.cells_read in_plain_list (map (λ i. item_view i.now) items.now)) }
+        ≡ stated.cells_read in_plain_list (items_of items.entry)) }
 {
     let mut cells = Vec::with_capacity(alloc, items.len())?;
-    for item in items {
+    let mut rest = items;
+    while let Some((item, after)) = rest.split_first() {
         match cell_of(in_plain_list, item) {
             None => return Ok(None),
             Some(cell) => cells.push(cell)?,
         }
+        rest = after;
     }
     Ok(Some(cells))
 }
@@ -73,7 +76,7 @@ fn fact_of<'a>(
         Subject::OfElement => Ok(None),
         Subject::OfType(_, _) => Ok(None),
         Subject::OfSymbol(symbol, _) => {
-            match cells_read(alloc, subject.is_plain_list(), &row.items)? {
+            match cells_read(alloc, subject.is_plain_list(), row.items)? {
                 None => Ok(None),
                 Some(args) => Ok(Some(Fact {
                     place: row.place,
@@ -87,7 +90,8 @@ fn fact_of<'a>(
     }
 }
 
-fn add_row<'a>(
+/// What a row says, where it fits and all of its items are read.
+pub fn add_row<'a>(
     alloc: Global,
     holds: bool,
     subject: Subject<'a>,

@@ -5,6 +5,7 @@ pub mod elements;
 pub mod entries;
 pub mod facts;
 pub mod forms;
+pub mod items;
 pub mod rows;
 pub mod senses;
 pub mod spots;

@@ -9,127 +9,100 @@ ghost use Rattle.reading_stages.specs.DataEntries as said;
 ghost use Rattle.data_entries.specs.EntryViews.{row_view};
 
 use crate::elements::{place_of_element, place_of_item};
-use fo_syntax::{
-    RawElement, RawItem, RawItemTail, RawItems, RawRow, RawRowTail, RawRows, RawTo, RawValue,
-};
+use crate::items::RowItems;
+use fo_syntax::{RawElement, RawItem, RawItems, RawRow, RawRowTail, RawRows, RawTo, RawValue};
 use kb_logic::Memory;
+use sqlite_items::Boxed;
 use std::alloc::Global;
 
 /// A row: the place of its first token, its arguments and its value.
 #[derive(Drop)]
 pub struct Row<'a> {
     pub place: usize,
-    pub items: Vec<&'a RawItem>,
+    pub items: RowItems<'a>,
     pub value: Option<&'a RawElement>,
 }
 
-/// Items, without the commas between them.
-fn items_in<'a>(alloc: Global, raw: &'a RawItems) -> Result<Vec<&'a RawItem>, Memory>
-    ensures { IfOk result (λ items. map (λ i. item_view i.now) items.items ≡ said.items_in (items_view raw.now)) }
-{
-    let mut items = Vec::new(alloc);
-    items.push(&raw.first)?;
-    for tail in raw.more.as_slice() {
-        items.push(&tail.item)?;
-    }
-    Ok(items)
-}
-
 /// The element after an arrow.
-fn value_in<'a>(to: &'a Option<RawTo>) -> Option<&'a RawElement>
+fn value_in<'a>(to: &'a Option<Boxed<RawTo>>) -> Option<&'a RawElement>
     ensures { option_map (λ e. element_view e.now) result ≡ said.value_in (option_map to_view to.now) }
 {
     match to {
-        Some(to) => Some(&to.element),
+        Some(to) => Some(&to.get().element),
         None => None,
     }
 }
 
 /// Items that are one row, which begins at this place.
-fn row_at<'a>(
-    alloc: Global,
-    place: usize,
-    items: &'a RawItems,
-    to: &'a Option<RawTo>,
-) -> Result<Row<'a>, Memory>
-    ensures { IfOk result (λ r. row_view r ≡ record {
+fn row_at<'a>(place: usize, items: &'a RawItems, to: &'a Option<Boxed<RawTo>>) -> Row<'a>
+    ensures { row_view result ≡ record {
       place = place;
       items = said.items_in (items_view items.now);
       value = said.value_in (option_map to_view to.now);
-    }) }
+    } }
 {
-    Ok(Row {
+    Row {
         place,
-        items: items_in(alloc, items)?,
+        items: RowItems::of(items),
         value: value_in(to),
-    })
+    }
 }
 
 /// An item that is a row by itself.
-fn single_row<'a>(alloc: Global, item: &'a RawItem) -> Result<Row<'a>, Memory>
-    ensures { IfOk result (λ r. row_view r ≡ said.row_of_item (item_view item.now)) }
+fn single_row<'a>(item: &'a RawItem) -> Row<'a>
+    ensures { row_view result ≡ said.row_of_item (item_view item.now) }
 {
-    let mut items = Vec::with_capacity(alloc, 1)?;
-    items.push(item)?;
-    Ok(Row {
+    Row {
         place: place_of_item(item),
-        items,
+        items: RowItems::single(item),
         value: None,
-    })
+    }
 }
 
 /// Each item as a row.
-fn add_each<'a>(alloc: Global, raw: &'a RawItems, rows: &mut Vec<Row<'a>>) -> Result<(), Memory>
+fn add_each<'a>(raw: &'a RawItems, rows: &mut Vec<Row<'a>>) -> Result<(), Memory>
     ensures { OnOk result (map row_view rows.new.items ≡ map row_view rows.old.items ++ map said.row_of_item
         (said.items_in (items_view raw.now))) }
 {
-    rows.push(single_row(alloc, &raw.first)?)?;
+    rows.push(single_row(&raw.first))?;
     for tail in raw.more.as_slice() {
-        rows.push(single_row(alloc, &tail.item)?)?;
+        rows.push(single_row(&tail.item))?;
     }
     Ok(())
 }
 
 /// What stands between two semicolons without brackets.
 fn add_plain<'a>(
-    alloc: Global,
     by_commas: bool,
     items: &'a RawItems,
-    to: &'a Option<RawTo>,
+    to: &'a Option<Boxed<RawTo>>,
     rows: &mut Vec<Row<'a>>,
 ) -> Result<(), Memory>
     ensures { OnOk result (map row_view rows.new.items ≡ map row_view rows.old.items ++ said.rows_between by_commas
         (raw_tree.plain (items_view items.now) (option_map to_view to.now))) }
 {
     if by_commas && to.is_none() {
-        return add_each(alloc, items, rows);
+        return add_each(items, rows);
     }
-    let row = row_at(alloc, place_of_item(&items.first), items, to)?;
-    rows.push(row)?;
+    rows.push(row_at(place_of_item(&items.first), items, to))?;
     Ok(())
 }
 
 /// The rows that stand between two semicolons.
-fn add_rows<'a>(
-    alloc: Global,
-    by_commas: bool,
-    raw: &'a RawRow,
-    rows: &mut Vec<Row<'a>>,
-) -> Result<(), Memory>
+fn add_rows<'a>(by_commas: bool, raw: &'a RawRow, rows: &mut Vec<Row<'a>>) -> Result<(), Memory>
     ensures { OnOk result (map row_view rows.new.items ≡ map row_view rows.old.items ++ said.rows_between by_commas
         (raw_view.row_view raw.now)) }
 {
     match raw {
-        RawRow::Plain(items, to) => add_plain(alloc, by_commas, items, to, rows),
+        RawRow::Plain(items, to) => add_plain(by_commas, items, to, rows),
         RawRow::Bracketed(place, items, _, to) => {
-            let row = row_at(alloc, *place, items, to)?;
-            rows.push(row)?;
+            rows.push(row_at(*place, items, to))?;
             Ok(())
         }
         RawRow::Only(to) => {
             rows.push(Row {
                 place: to.place,
-                items: Vec::new(alloc),
+                items: RowItems::none(),
                 value: Some(&to.element),
             })?;
             Ok(())
@@ -139,7 +112,6 @@ fn add_rows<'a>(
 
 /// The rows after the first semicolon.
 fn add_more<'a>(
-    alloc: Global,
     by_commas: bool,
     more: &'a [RawRowTail],
     rows: &mut Vec<Row<'a>>,
@@ -148,7 +120,7 @@ fn add_more<'a>(
         (said.rows_between by_commas) (map (λ x. x.1) (map raw_view.row_tail_view more.now))) }
 {
     for tail in more {
-        add_rows(alloc, by_commas, &tail.row, rows)?;
+        add_rows(by_commas, &tail.row, rows)?;
     }
     Ok(())
 }
@@ -159,8 +131,8 @@ fn rows_of<'a>(alloc: Global, by_commas: bool, raw: &'a RawRows) -> Result<Vec<R
         (said.rows_in (rows_view raw.now))) }
 {
     let mut rows = Vec::new(alloc);
-    add_rows(alloc, by_commas, &raw.first, &mut rows)?;
-    add_more(alloc, by_commas, raw.more.as_slice(), &mut rows)?;
+    add_rows(by_commas, &raw.first, &mut rows)?;
+    add_more(by_commas, raw.more.as_slice(), &mut rows)?;
     Ok(rows)
 }
 
@@ -179,7 +151,7 @@ fn one_row<'a>(
     let mut rows = Vec::new(alloc);
     rows.push(Row {
         place,
-        items: Vec::new(alloc),
+        items: RowItems::none(),
         value,
     })?;
     Ok(rows)

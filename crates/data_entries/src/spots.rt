@@ -4,23 +4,52 @@ ghost use Rattle.std.specs.List.{flat_map};
 ghost use Rattle.std.specs.Option.{option_map};
 ghost use Rattle.fo_syntax.specs.BlockView.{element_view};
 ghost use Rattle.reading_stages.specs.DataEntries as said;
-ghost use Rattle.data_entries.specs.EntryViews.{row_view, spot_view, subject_view};
+ghost use Rattle.data_entries.specs.EntryViews.{cell_view, row_view, spot_view, subject_view};
 
 use crate::elements::{Cell, cell_of, element_of, place_of_element, place_of_item};
 use crate::rows::Row;
 use crate::subjects::Subject;
-use fo_syntax::RawElement;
+use fo_syntax::{RawElement, RawItem};
 use kb_logic::Memory;
 use std::alloc::Global;
 
-/// An element or a range where it is written: its type, whether it stands in the type's own list, its place, and what
-/// it stands for.
+/// What is written: an item of a row, or a row's value.
+#[derive(Clone, Copy)]
+pub enum Written<'a> {
+    Item(&'a RawItem),
+    Value(&'a RawElement),
+}
+
+/// An element or a range where it is written: its type, whether it stands in the type's own list, whether in a list
+/// where ranges may stand, and the tree's part, of which its place and what it stands for are read when they are asked
+/// for. There is one for each element of each row, and so it takes half the memory.
 #[derive(Clone, Copy)]
 pub struct Spot<'a> {
     pub ty: usize,
     pub in_list: bool,
-    pub place: usize,
-    pub cell: Option<Cell<'a>>,
+    pub is_plain: bool,
+    pub written: Written<'a>,
+}
+
+impl<'a> Spot<'a> {
+    pub fn place(&self) -> usize
+        ensures { result ≡ (spot_view self.now).place }
+    {
+        match self.written {
+            Written::Item(item) => place_of_item(item),
+            Written::Value(value) => place_of_element(value),
+        }
+    }
+
+    /// What it stands for.
+    pub fn cell(&self) -> Option<Cell<'a>>
+        ensures { option_map cell_view result ≡ (spot_view self.now).cell }
+    {
+        match self.written {
+            Written::Item(item) => cell_of(self.is_plain, item),
+            Written::Value(value) => Some(Cell::One(element_of(value))),
+        }
+    }
 }
 
 fn is_value_for(ty: Option<usize>, value: Option<&RawElement>) -> bool
@@ -49,17 +78,21 @@ fn add_items<'a>(
 {
     let in_list = subject.is_a_type();
     let is_plain = subject.is_plain_list();
-    for i in 0..row.items.len() {
+    let mut rest = row.items;
+    for i in 0..subject.argument_count() {
+        let Some((item, after)) = rest.split_first() else {
+            return Ok(());
+        };
         let Some(ty) = subject.argument_type(i) else {
             return Ok(());
         };
-        let item = row.items[i];
         spots.push(Spot {
             ty,
             in_list,
-            place: place_of_item(item),
-            cell: cell_of(is_plain, item),
+            is_plain,
+            written: Written::Item(item),
         })?;
+        rest = after;
     }
     Ok(())
 }
@@ -80,8 +113,8 @@ fn add_value<'a>(
                 spots.push(Spot {
                     ty,
                     in_list: false,
-                    place: place_of_element(raw),
-                    cell: Some(Cell::One(element_of(raw))),
+                    is_plain: false,
+                    written: Written::Value(raw),
                 })?;
                 Ok(())
             }

@@ -7,3 +7,4 @@ mod FactsOver
 mod Turns
 mod Unopposed
 mod TogetherFacts
+mod RowsOver

@@ -80,6 +80,15 @@ pub subject_after : {X : Type 0} (view : X → Said) (old new : KnownAtoms) (ms 
 subject_after view old new ms a xs i x lt e h = subst (λ (ss : List Symbol). IsSubjectOver ss (view x)) (sym a.symbols)
     (at_item (IsSubjectOver old.symbols) view xs i x lt e h)
 
+-- some of what is left, after what was added before it
+pub part_after : (old now : KnownAtoms) (done one rest whole : List Fact) → Adds old now done
+    → done ++ (one ++ rest) ≡ whole → AllByRecursion (IsFactOver old.symbols old.domains) whole
+    → AllByRecursion (IsFactOver now.symbols now.domains) one
+part_after old now done one rest whole a e h =
+    let P = IsFactOver old.symbols old.domains in
+    all_after old now done a one (all_front P one rest (all_back P done (one ++ rest)
+    (subst (λ (fs : List Fact). AllByRecursion P fs) (sym e) h)))
+
 -- ---- ranges
 
 integer_in : (z : ℤ) (n k : ℕ) → k < n → Contains (integers_from z n) (Num (z +ℤ pos k))

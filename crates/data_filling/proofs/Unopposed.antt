@@ -177,6 +177,13 @@ open_within view old new xs i x lt e h o =
     (open_then old new (facts_in (map view (take i xs))) (facts_of (view x) ++ split.0) h
     (subst (λ (fs : List Fact). IsOpenTo old fs) split.1 o))
 
+-- some of what is left, after what was added before it
+pub open_part : (old now : KnownAtoms) (done one rest whole : List Fact) → Adds old now done
+    → done ++ (one ++ rest) ≡ whole → IsOpenTo old whole → IsOpenTo now one
+open_part old now done one rest whole a e o =
+    open_first now one rest (open_then old now done (one ++ rest) a
+    (subst (λ (fs : List Fact). IsOpenTo old fs) (sym e) o))
+
 -- ---- ranges
 
 first_integers : (z : ℤ) (k n : ℕ) → k ≤ n → (rest : List Elem) × (integers_from z n ≡ integers_from z k ++ rest)

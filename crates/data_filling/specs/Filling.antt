@@ -1,7 +1,7 @@
 -- What a partial structure knows while it is filled by what the rows of a structure say.
-use Rattle.std.specs.Prelude.{◌≡◌, ℕ, true, false, not, ◌&&◌, ◌||◌, List, [], ◌++◌, map, filter, Some, slice_get}
-use Rattle.std.specs.Prelude.{Contains, ⊤}
-use Rattle.std.specs.List.{list_any}
+use Rattle.std.specs.Prelude.{◌≡◌, ℕ, Bool, true, false, not, ◌&&◌, ◌||◌, List, [], ◌++◌, map, filter}
+use Rattle.std.specs.Prelude.{Option, None, Some, option_map, slice_get, Contains, ⊤}
+use Rattle.std.specs.List.{filter_map, list_any}
 use Rattle.kb_text.specs.declared.fault.KbFault.{KbFault}
 use Rattle.kb_logic.specs.declared.elements.Elem.{Elem}
 use Rattle.kb_logic.specs.declared.vocabularies.Symbol.{Symbol}
@@ -12,8 +12,9 @@ use Rattle.kb_logic.specs.Structures.{domain_at, EachWith}
 use Rattle.partial_structures.specs.KnownAtoms.{with_closed}
 use Rattle.fo_syntax.specs.BlockTrees as raw
 use Rattle.reading_stages.specs.Elements.{Cell, one, members}
-use Rattle.reading_stages.specs.DataEntries.{Subject, nothing_named, an_element, a_type, a_symbol, Said, said_in}
-use Rattle.reading_stages.specs.DataFacts.{Fact, says_true, says_false, is_whole}
+use Rattle.reading_stages.specs.DataEntries.{Subject, nothing_named, an_element, a_type, a_symbol, Said, WrittenRow}
+use Rattle.reading_stages.specs.DataEntries.{element_of, fits_in, said_in}
+use Rattle.reading_stages.specs.DataFacts.{Fact, fact_at, fact_of, says_true, says_false, is_whole}
 use Rattle.reading_stages.specs.DataStage.{EntriesRefuse}
 
 -- these are the entries of a structure of which nothing is refused, wherever the types are declared
@@ -85,6 +86,17 @@ ClosesSubject old new an_element = new ≡ old
 ClosesSubject old new (a_type t d) = new ≡ old
 ClosesSubject old new (a_symbol s d) = new ≡ with_closed old s
 
+-- what rows say of what a word names, each of them true or each of them false
+abbrev pub row_facts : Bool → Subject → List WrittenRow → List Fact
+row_facts holds x rs = filter_map (fact_of holds x) (filter (fits_in x) rs)
+
+-- the number of the symbol that a word names
+abbrev pub symbol_named : Subject → Option ℕ
+symbol_named nothing_named = None
+symbol_named an_element = None
+symbol_named (a_type t d) = None
+symbol_named (a_symbol s d) = Some s
+
 -- the fact with one element in place of its arguments, and with these elements
 abbrev pub fact_with : Fact → List Elem → Fact
 fact_with f xs = record f { args = map (λ x. one x) xs }
@@ -92,3 +104,7 @@ fact_with f xs = record f { args = map (λ x. one x) xs }
 -- the atom of the fact with these arguments
 abbrev pub atom_with : Fact → List Elem → GroundAtom
 atom_with f xs = record { symbol = f.symbol; args = xs; value = f.value }
+
+-- what a row says of the symbol with this number, where these elements are its arguments
+abbrev pub single_fact : Bool → ℕ → WrittenRow → List Elem → Fact
+single_fact holds s r xs = fact_with (fact_at r.place s holds (option_map element_of r.value) []) xs

@@ -2,11 +2,13 @@
 ghost use Rattle.std.specs.Prelude.{◌≡◌, map, IfOk, IfSome};
 ghost use Rattle.std.specs.Option.{option_map};
 ghost use Rattle.kb_logic.specs.declared.elements.Elem.TheVariants as elem;
+ghost use Rattle.partial_structures.specs.Lent.{lent_view};
 ghost use Rattle.reading_stages.specs.Elements.{one};
 ghost use Rattle.data_entries.specs.EntryViews.{cell_view, elem_view};
 
 use data_entries::elements::{Cell, Element};
 use kb_logic::{Elem, ElemList, Memory, Name};
+use partial_structures::LentElem;
 use std::alloc::Global;
 
 /// An integer as an element, which lies from -1,000,000 to 1,000,000; none beyond is in a domain.
@@ -37,6 +39,19 @@ pub fn elem_of(alloc: Global, x: Element<'_>) -> Result<Elem, Memory>
     match x {
         Element::Word(word) => Ok(Elem::Named(Name::new(alloc, word)?)),
         Element::Number(n) => number(n.value()),
+    }
+}
+
+/// An element as it stands in the text.
+pub fn lent_of<'a>(x: Element<'a>) -> Result<LentElem<'a>, Memory>
+    ensures { IfOk result (λ y. lent_view y ≡ elem_view x.entry) }
+{
+    match x {
+        Element::Word(word) => Ok(LentElem::Named(word)),
+        Element::Number(n) => match in_domains(n.value()) {
+            Some(n) => Ok(LentElem::Num(n)),
+            None => Err(Memory),
+        },
     }
 }
 

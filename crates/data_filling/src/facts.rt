@@ -14,9 +14,11 @@ ghost use Rattle.data_entries.specs.WholeViews.{whole_view};
 ghost use Rattle.data_filling.specs.Filling.{Adds, IsFactOver, IsOpenTo, atom_with, fact_with};
 
 use crate::elements::{elems_of, number, value_of};
+use crate::rows::{add_rows, have_range};
 use crate::together::add_together;
 use data_entries::elements::Cell;
 use data_entries::facts::{Fact, add_facts};
+use data_entries::senses::{Sense, sense_of};
 use data_entries::wholes::Whole;
 use data_entries::written::Entry;
 use kb_logic::{ElemList, Literal, Memory};
@@ -188,8 +190,8 @@ pub(crate) fn add_each(
     Ok(())
 }
 
-/// What an entry says of atoms.
-fn add_entry(alloc: Global, entry: &Entry<'_>, partial: &mut Partial) -> Result<(), Memory>
+/// What an entry says of atoms, where the arguments that stand alone are made a set first.
+fn add_as_set(alloc: Global, entry: &Entry<'_>, partial: &mut Partial) -> Result<(), Memory>
     requires over { AllByRecursion (IsFactOver partial.old.symbols partial.old.domains)
         (facts_of (said_view entry.now)) }
     requires open_to { IsOpenTo partial.old (facts_of (said_view entry.now)) }
@@ -198,6 +200,24 @@ fn add_entry(alloc: Global, entry: &Entry<'_>, partial: &mut Partial) -> Result<
     let mut facts = Vec::new(alloc);
     add_facts(alloc, entry, &mut facts)?;
     add_together(alloc, &facts, partial)
+}
+
+/// What an entry says of atoms.
+fn add_entry(alloc: Global, entry: &Entry<'_>, partial: &mut Partial) -> Result<(), Memory>
+    requires over { AllByRecursion (IsFactOver partial.old.symbols partial.old.domains)
+        (facts_of (said_view entry.now)) }
+    requires open_to { IsOpenTo partial.old (facts_of (said_view entry.now)) }
+    ensures { OnOk result (Adds partial.old partial.new (facts_of (said_view entry.now))) }
+{
+    if have_range(entry) {
+        return add_as_set(alloc, entry, partial);
+    }
+    match sense_of(entry.mark) {
+        Sense::Everything => add_rows(alloc, true, entry, partial),
+        Sense::CertainlyTrue => add_rows(alloc, true, entry, partial),
+        Sense::CertainlyFalse => add_rows(alloc, false, entry, partial),
+        Sense::Unread => Ok(()),
+    }
 }
 
 /// What entries say of atoms.

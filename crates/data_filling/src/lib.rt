@@ -5,6 +5,7 @@ mod closing;
 mod elements;
 mod facts;
 mod filling;
+mod rows;
 mod together;
 
 pub use filling::fill;

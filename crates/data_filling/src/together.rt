@@ -19,25 +19,6 @@ use kb_logic::Memory;
 use partial_structures::Partial;
 use std::alloc::Global;
 
-fn is_range(cell: Cell<'_>) -> bool {
-    match cell {
-        Cell::One(_) => false,
-        Cell::Span(_, _) => true,
-    }
-}
-
-/// Whether a range is among the arguments; where none is, each element stands for itself.
-fn have_range(facts: &[Fact<'_>]) -> bool {
-    for fact in facts {
-        if let Some(cell) = fact.args.first() {
-            if is_range(*cell) {
-                return true;
-            }
-        }
-    }
-    false
-}
-
 /// The only argument of a fact of this symbol and sign and without a value.
 fn only_cell<'a>(symbol: usize, holds: bool, fact: &Fact<'a>) -> Option<Cell<'a>>
     ensures { IfSome result (λ c. placeless (fact_view fact.now) ≡ fact_over symbol holds (cell_view c)) }
@@ -192,9 +173,6 @@ pub fn add_together(alloc: Global, facts: &[Fact<'_>], partial: &mut Partial) ->
     requires open_to { IsOpenTo partial.old (map fact_view facts.now) }
     ensures { OnOk result (Adds partial.old partial.new (map fact_view facts.now)) }
 {
-    if !have_range(facts) {
-        return add_each(alloc, facts, partial);
-    }
     match facts.first() {
         None => Ok(()),
         Some(first) => add_alike(alloc, first.symbol, first.holds, facts, partial),

@@ -14,7 +14,7 @@ use Rattle.integer_arguments.specs.PlacedViews.{placed_view, placed_views}
 use Rattle.integer_arguments.specs.declared.placed.Placed.{Placed}
 use Rattle.std.specs.Option.{option_map}
 use Rattle.std.proofs.lemmas.Grind.{fold-append}
-use Rattle.std.proofs.lemmas.List.{drop_all, drop_more, get_or_default, length-drop, length-map, map-append}
+use Rattle.std.proofs.lemmas.List.{drop_all, drop_more, length-drop, length-map, map-append}
 use Rattle.std.proofs.lemmas.Bool.Decides.{nat_tests}
 use Rattle.std.proofs.lemmas.Option.{slice_get-map}
 use Rattle.kb_text.specs.declared.fault.KbFault.{KbFault}
@@ -105,10 +105,6 @@ pub in_domain : (types : List TypeDecl) (es : List Said) (t : ℕ) (z : ℤ) →
     ≡ list_any (same_element (Num z)) (domain_at (domains_of types es) t)
 in_domain types es t z = listed_are_among (cells_of types es t) (Num z) ∙ ap (list_any (same_element (Num z)))
     (sym (domain_is types es t))
-
--- an item that is copied out of a list
-pub copied_at : {X : Type 0} (xs : List X) (i : ℕ) (d : X) → i < length xs → get_or xs i d ≡ get_or xs i (get_or xs i d)
-copied_at xs i d h = get_or_default xs i d (get_or xs i d) h
 
 -- ---- elements at positions
 

@@ -126,7 +126,7 @@ fn is_no_element<'a>(types: &[TypeData<'a>], traits: Traits, spot: &Spot<'a>) ->
     if is_idle(traits, spot) {
         return false;
     }
-    match spot.cell {
+    match spot.cell() {
         None => false,
         Some(cell) => is_outside(types, traits, spot, cell),
     }
@@ -140,7 +140,7 @@ fn is_out_of_range(traits: Traits, spot: &Spot<'_>) -> bool
     if is_idle(traits, spot) || !gives(traits, spot) {
         return false;
     }
-    match spot.cell {
+    match spot.cell() {
         None => false,
         Some(cell) => !is_in_range(cell),
     }
@@ -152,13 +152,10 @@ fn note_spot<'a>(earliest: &mut Earliest, types: &[TypeData<'a>], spot: &Spot<'a
         ≡ stage.data_noted all es earliest.old.first (stage.spot (spot_view spot.now)) }
 {
     let traits = traits_at(types, spot.ty);
-    earliest.note_if(
-        is_no_element(types, traits, spot),
-        K::NotAnElement,
-        spot.place,
-    );
-    earliest.note_if(spot.cell.is_none(), K::Unsupported, spot.place);
-    earliest.note_if(is_out_of_range(traits, spot), K::OutOfRange, spot.place);
+    let place = spot.place();
+    earliest.note_if(is_no_element(types, traits, spot), K::NotAnElement, place);
+    earliest.note_if(spot.cell().is_none(), K::Unsupported, place);
+    earliest.note_if(is_out_of_range(traits, spot), K::OutOfRange, place);
 }
 
 /// Notes what is refused of elements and ranges.
@@ -166,7 +163,7 @@ pub fn note_spots<'a>(earliest: &mut Earliest, types: &[TypeData<'a>], spots: &[
     ensures { (all : List AType) (es : List said.Said) → AreTypesOf all es types.now → earliest.new.first
         ≡ fold (stage.data_noted all es) earliest.old.first (map stage.spot (map spot_view spots.now)) }
 {
-    for spot in spots {
-        note_spot(earliest, types, spot);
+    for i in 0..spots.len() {
+        note_spot(earliest, types, &spots[i]);
     }
 }

@@ -4,11 +4,10 @@ ghost use Rattle.std.specs.List.{filter_map};
 ghost use Rattle.std.specs.Option.{option_map};
 ghost use Rattle.kb_logic.specs.declared.vocabularies.TypeDecl.{TypeDecl as AType};
 ghost use Rattle.kb_logic.specs.declared.elements.Elem.{Elem as AnElem};
-ghost use Rattle.fo_syntax.specs.BlockView.{item_view};
 ghost use Rattle.reading_stages.specs.DataEntries as said;
 ghost use Rattle.reading_stages.specs.DataFacts as stated;
 ghost use Rattle.reading_stages.specs.SizesStage.{capped};
-ghost use Rattle.data_entries.specs.EntryViews.{elem_view, row_view, subject_view};
+ghost use Rattle.data_entries.specs.EntryViews.{elem_view, items_of, row_view, subject_view};
 ghost use Rattle.data_entries.specs.SaidViews.{said_view};
 ghost use Rattle.data_domains.specs.TypeSets.{AreTypesOf};
 ghost use Rattle.data_notes.specs.Labels.{tuple_view, AreSameTuples};
@@ -16,12 +15,12 @@ ghost use Rattle.data_notes.specs.Labels.{tuple_view, AreSameTuples};
 use crate::labels::{Label, label_of};
 use data_domains::lookups::{count_of, has_element};
 use data_domains::types::TypeData;
-use data_entries::elements::{Element, element_of};
+use data_entries::elements::{Element, single_element};
+use data_entries::items::RowItems;
 use data_entries::rows::Row;
 use data_entries::spots::fits_in;
 use data_entries::subjects::Subject;
 use data_entries::written::Entry;
-use fo_syntax::RawItem;
 use indexmap::IndexSet;
 use kb_logic::Memory;
 use std::alloc::Global;
@@ -50,30 +49,22 @@ fn tuple_count(types: &[TypeData<'_>], args: &[u32]) -> u64
     count
 }
 
-/// An item that is no range.
-fn single_element<'a>(item: &'a RawItem) -> Option<Element<'a>>
-    ensures { option_map elem_view result ≡ stated.single_element (item_view item.now) }
-{
-    match &item.to {
-        None => Some(element_of(&item.first)),
-        Some(_) => None,
-    }
-}
-
 /// The arguments of a row, where it has no range.
 fn single_elements<'a>(
     alloc: Global,
-    items: &[&'a RawItem],
+    items: RowItems<'a>,
 ) -> Result<Option<Vec<Element<'a>>>, Memory>
     ensures { IfOk result (λ read. option_map (λ xs. map elem_view xs.items) read ≡ stated.single_elements
-        (map (λ i. item_view i.now) items.now)) }
+        (items_of items.entry)) }
 {
     let mut elements = Vec::new(alloc);
-    for item in items {
+    let mut rest = items;
+    while let Some((item, after)) = rest.split_first() {
         match single_element(item) {
             None => return Ok(None),
             Some(x) => elements.push(x)?,
         }
+        rest = after;
     }
     Ok(Some(elements))
 }
@@ -134,7 +125,7 @@ impl<'a> Tuples<'a> {
         if !fits_in(subject, row) {
             return Ok(());
         }
-        match single_elements(alloc, &row.items)? {
+        match single_elements(alloc, row.items)? {
             None => Ok(()),
             Some(elements) => {
                 if is_over(types, args, &elements) {

@@ -6,7 +6,7 @@ use Rattle.std.specs.List.{list_any}
 use Rattle.std.specs.Option.{option_map}
 use Rattle.std.specs.Str.{bytes_eq}
 use Rattle.std.proofs.lemmas.List.Folds.{list_any-append}
-use Rattle.std.proofs.lemmas.List.Elements.{All-nil, All-cons}
+use Rattle.std.proofs.lemmas.List.Elements.{All-nil, All-cons, All-head, All-tail}
 use Rattle.std.proofs.lemmas.Slice.Eq.{bytes_eq-Decides}
 use Rattle.std.proofs.lemmas.Bool.{or_left, or_right}
 use Rattle.kb_logic.specs.declared.elements.Elem.{Elem}
@@ -122,3 +122,9 @@ args_labelled symbols ds a is = tuple_labelled ds is.0.args a.args (has_from (tu
 pub atom_labelled : (symbols : List Symbol) (ds : List (List Elem)) (a : GroundAtom) → IsAtomOver symbols ds a
     → IfSome a.value (λ x. IsTrue (has_label (words_of ds) x))
 atom_labelled symbols ds a is = value_labelled ds is.0.value a.value is.3
+
+-- what holds of what is seen of each item
+pub each_seen : {X Y : Type 0} (P : Y → Type 0) (f : X → Y) (xs : List X) → All P (map f xs) → All (λ x. P (f x)) xs
+each_seen P f [] h = All-nil (λ x. P (f x))
+each_seen P f (x ∷ xs) h = All-cons (λ y. P (f y)) x xs (All-head P (f x) (map f xs) h)
+    (each_seen P f xs (All-tail P (f x) (map f xs) h))

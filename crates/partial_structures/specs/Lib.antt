@@ -10,6 +10,7 @@ pub mod Extension
 pub mod Applications
 pub mod Consistency
 pub mod Values
+pub mod Lent
 pub mod Elements
 pub mod Known
 pub mod Laws

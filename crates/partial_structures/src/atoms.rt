@@ -1,7 +1,8 @@
 //! What rows say of an atom.
 ghost use Rattle.std.specs.Prelude.{IfOk, Some, ◌≡◌, ◌↔◌, ◌<◌, ◌+◌, List, ℕ, All, IfSome, IsTrue, IsErrOf, OnOk, OnErr};
-ghost use Rattle.std.specs.Prelude.{length, reverse};
+ghost use Rattle.std.specs.Prelude.{length, map, option_map, reverse};
 ghost use Rattle.kb_logic.specs.declared.elements.Elem.{Elem as Element};
+ghost use Rattle.partial_structures.specs.Lent.{lent_view};
 ghost use Rattle.partial_structures.specs.Words.{words_in};
 ghost use Rattle.partial_structures.specs.Ordered.{value_behind};
 ghost use Rattle.partial_structures.specs.Rows.{Grows, MadeFalse, MadeTrue, node_of, row_of, denied, has_label};
@@ -11,6 +12,7 @@ ghost use Rattle.partial_structures.specs.declared.truths.Truth.TheVariants.{No}
 ghost use Rattle.partial_structures.specs.declared.errors.SetError.TheVariants.{DataClash};
 
 use crate::errors::SetError;
+use crate::lent::{LentElem, lent, lent_value};
 use crate::rows::{Mark, Rows};
 use crate::truths::Truth;
 use kb_logic::{Elem, Literal, Memory};
@@ -44,18 +46,27 @@ pub(crate) fn predicate_status(rows: &Rows, closed: bool, symbol: u32, args: &[E
 }
 
 /// What is known of a function's having this value where its arguments lead to the node.
-pub(crate) fn value_known(rows: &Rows, closed: bool, front: Option<usize>, value: &Elem) -> Truth
-    ensures { result ≡ value_behind (words_in rows.now.words) rows.now.nodes.entries closed front value.now }
+pub(crate) fn value_known(
+    rows: &Rows,
+    closed: bool,
+    front: Option<usize>,
+    value: LentElem<'_>,
+) -> Truth
+    ensures { result ≡ value_behind (words_in rows.now.words) rows.now.nodes.entries closed front
+        (lent_view value.entry) }
 {
     match rows.mark(front).value {
         Some(label) => {
-            if rows.label(value) == Some(label) {
+            if rows.lent_label(value) == Some(label) {
                 Truth::Yes
             } else {
                 Truth::No
             }
         }
-        None => if_closed(closed, denial(rows.mark(rows.step(front, value)).known)),
+        None => if_closed(
+            closed,
+            denial(rows.mark(rows.lent_step(front, value)).known),
+        ),
     }
 }
 
@@ -70,7 +81,7 @@ pub(crate) fn function_status(
     ensures { result ≡ status_of (words_in rows.now.words) rows.now.nodes.entries closed symbol args.now
         (Some value.now) }
 {
-    value_known(rows, closed, rows.find(symbol, args), value)
+    value_known(rows, closed, rows.find(symbol, args), lent(value))
 }
 
 /// What is known of the atom, in the same way.
@@ -85,9 +96,15 @@ pub(crate) fn status(rows: &Rows, closed: bool, atom: &Literal) -> Truth
 }
 
 /// What is known of the atom with this value whose arguments lead to the node.
-fn known_behind(rows: &Rows, closed: bool, front: Option<usize>, value: &Option<Elem>) -> Truth
+fn known_behind(
+    rows: &Rows,
+    closed: bool,
+    front: Option<usize>,
+    value: Option<LentElem<'_>>,
+) -> Truth
     ensures { (s : ℕ) (args : List Element) → node_of (words_in rows.now.words) rows.now.nodes.entries s (reverse args)
-        ≡ front → result ≡ status_of (words_in rows.now.words) rows.now.nodes.entries closed s args value.now }
+        ≡ front → result ≡ status_of (words_in rows.now.words) rows.now.nodes.entries closed s args
+        (option_map lent_view value.entry) }
 {
     match value {
         None => if_closed(closed, rows.mark(front).known),
@@ -96,11 +113,11 @@ fn known_behind(rows: &Rows, closed: bool, front: Option<usize>, value: &Option<
 }
 
 /// Makes the atom true whose arguments lead to the node.
-fn affirm(rows: &mut Rows, node: usize, value: &Option<Elem>)
+fn affirm(rows: &mut Rows, node: usize, value: Option<LentElem<'_>>)
     requires { node < length rows.old.nodes.entries }
     ensures made { (s : ℕ) (args : List Element) → node_of (words_in rows.old.words) rows.old.nodes.entries s
         (reverse args) ≡ Some node → MadeTrue (words_in rows.old.words) rows.old.nodes.entries rows.new.nodes.entries s
-        args value.now }
+        args (option_map lent_view value.entry) }
     ensures words { rows.new.words ≡ rows.old.words }
 {
     let mark = rows.mark(Some(node));
@@ -113,7 +130,7 @@ fn affirm(rows: &mut Rows, node: usize, value: &Option<Elem>)
             },
         ),
         Some(value) => {
-            let value = rows.label(value);
+            let value = rows.lent_label(value);
             rows.set_mark(
                 node,
                 Mark {
@@ -169,12 +186,13 @@ pub(crate) fn make_true(
     let Ok(node) = rows.reach(atom.symbol, atom.args.as_slice()) else {
         return Err(unaffirmed(status(rows, closed, atom)));
     };
-    match known_behind(rows, closed, Some(node), &atom.value) {
+    let value = lent_value(&atom.value);
+    match known_behind(rows, closed, Some(node), value) {
         Truth::No => Err(SetError::DataClash),
         known => match counted(known, count) {
             None => Err(SetError::Memory),
             Some(count) => {
-                affirm(rows, node, &atom.value);
+                affirm(rows, node, value);
                 Ok(count)
             }
         },
@@ -217,4 +235,76 @@ fn reach_atom(rows: &mut Rows, atom: &Literal) -> Result<usize, Memory>
         None => Ok(node),
         Some(value) => Ok(rows.reach_child(node, value)?),
     }
+}
+
+/// Makes the atom of these elements true, which is not false, where so many atoms are true; how many are true then.
+pub(crate) fn make_lent_true(
+    rows: &mut Rows,
+    closed: bool,
+    count: u64,
+    symbol: u32,
+    args: &[LentElem<'_>],
+    value: Option<LentElem<'_>>,
+) -> Result<u64, Memory>
+    requires { All (λ x. IsTrue (has_label (words_in rows.old.words) (lent_view x))) args.now }
+    ensures ok { OnOk result (MadeTrue (words_in rows.old.words) rows.old.nodes.entries rows.new.nodes.entries
+        symbol (map lent_view args.now) (option_map lent_view value.entry)) }
+    ensures count { IfOk result (λ n. n ≡ count + added_by (status_of (words_in rows.old.words) rows.old.nodes.entries
+        closed symbol (map lent_view args.now) (option_map lent_view value.entry))) }
+    ensures err { OnErr result ((s : ℕ) (xs : List Element) → mark_of (words_in rows.old.words) rows.new.nodes.entries s
+        xs ≡ mark_of (words_in rows.old.words) rows.old.nodes.entries s xs) }
+    ensures words { rows.new.words ≡ rows.old.words }
+{
+    let node = rows.reach_lent(symbol, args)?;
+    let known = known_behind(rows, closed, Some(node), value);
+    match counted(known, count) {
+        None => Err(Memory),
+        Some(count) => {
+            affirm(rows, node, value);
+            Ok(count)
+        }
+    }
+}
+
+/// The node of the row of these elements, with the value where there is one.
+fn reach_lent_atom(
+    rows: &mut Rows,
+    symbol: u32,
+    args: &[LentElem<'_>],
+    value: Option<LentElem<'_>>,
+) -> Result<usize, Memory>
+    requires args { All (λ x. IsTrue (has_label (words_in rows.old.words) (lent_view x))) args.now }
+    requires value { IfSome (option_map lent_view value) (λ x. IsTrue (has_label (words_in rows.old.words) x)) }
+    ensures node { IfOk result (λ n. node_of (words_in rows.new.words) rows.new.nodes.entries symbol
+        (row_of (map lent_view args.now) (option_map lent_view value.entry)) ≡ Some n) }
+    ensures grows { Grows rows.old.nodes.entries rows.new.nodes.entries }
+    ensures words { rows.new.words ≡ rows.old.words }
+{
+    let node = rows.reach_lent(symbol, args)?;
+    match value {
+        None => Ok(node),
+        Some(value) => Ok(rows.reach_lent_child(node, value)?),
+    }
+}
+
+/// Makes the atom of these elements false.
+pub(crate) fn make_lent_false(
+    rows: &mut Rows,
+    symbol: u32,
+    args: &[LentElem<'_>],
+    value: Option<LentElem<'_>>,
+) -> Result<(), Memory>
+    requires args { All (λ x. IsTrue (has_label (words_in rows.old.words) (lent_view x))) args.now }
+    requires value { IfSome (option_map lent_view value) (λ x. IsTrue (has_label (words_in rows.old.words) x)) }
+    ensures ok { OnOk result (MadeFalse (words_in rows.old.words) rows.old.nodes.entries rows.new.nodes.entries
+        symbol (map lent_view args.now) (option_map lent_view value.entry)) }
+    ensures err { OnErr result ((s : ℕ) (xs : List Element) → mark_of (words_in rows.old.words) rows.new.nodes.entries s
+        xs ≡ mark_of (words_in rows.old.words) rows.old.nodes.entries s xs) }
+    ensures words { rows.new.words ≡ rows.old.words }
+{
+    let node = reach_lent_atom(rows, symbol, args, value)?;
+    let mut mark = rows.mark(Some(node));
+    mark.known = Truth::No;
+    rows.set_mark(node, mark);
+    Ok(())
 }

@@ -7,6 +7,7 @@ ghost use Rattle.partial_structures.specs.Words.{words_in};
 
 use crate::atoms::{if_closed, value_known};
 use crate::known::Known;
+use crate::lent::lent;
 use crate::rows::Rows;
 use crate::truths::Truth;
 use kb_logic::values::domain_in;
@@ -24,7 +25,7 @@ fn push_each(
         map (value_behind (words_in rows.now.words) rows.now.nodes.entries closed node) values.now) }
 {
     for value in values {
-        out.push(value_known(rows, closed, node, value))?;
+        out.push(value_known(rows, closed, node, lent(value)))?;
     }
     Ok(())
 }

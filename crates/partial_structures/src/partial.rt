@@ -7,16 +7,18 @@ ghost use Rattle.partial_structures.specs.Known.{known_in};
 ghost use Rattle.partial_structures.specs.KnownAtoms.{IsAtomOver, atom_of, atoms_of, nothing_known, value_at};
 ghost use Rattle.partial_structures.specs.KnownAtoms.{with_closed, with_false, with_true};
 ghost use Rattle.partial_structures.specs.Consistency.{IsConsistent, IsListed};
+ghost use Rattle.partial_structures.specs.Lent.{lent_atom};
 ghost use Rattle.partial_structures.specs.Extension.{ExtendsData, IsStructureOver};
 ghost use Rattle.partial_structures.specs.declared.truths.Truth.TheVariants.{Yes, No};
 ghost use Rattle.partial_structures.specs.declared.errors.SetError.TheVariants.{DataClash};
 
-use crate::atoms::{make_false, make_true, status};
+use crate::atoms::{make_false, make_lent_false, make_lent_true, make_true, status};
 use crate::elements::Elements;
 use crate::errors::SetError;
 use crate::extension::{are_same_domains, left_over};
 use crate::flags::flag;
 use crate::known::Known;
+use crate::lent::LentElem;
 use crate::ordered::push_beyond;
 use crate::rows::{Mark, Rows};
 use crate::truths::Truth;
@@ -178,6 +180,43 @@ impl Partial {
                 Err(_) => Err(SetError::Memory),
             },
         }
+    }
+
+    /// Makes the atom of these elements over the domains, which is not false, certainly true. No name is copied.
+    pub fn affirm(
+        &mut self,
+        symbol: u32,
+        args: &[LentElem<'_>],
+        value: Option<LentElem<'_>>,
+    ) -> Result<(), Memory>
+        requires over { IsAtomOver self.old.symbols self.old.domains (lent_atom symbol args.now value) }
+        requires free { value_at self.old (lent_atom symbol args.now value) ≡ No → ⊥ }
+        ensures ok { OnOk result (self.new ≡ with_true self.old (lent_atom symbol args.now value.entry)) }
+        ensures err { OnErr result (self.new ≡ self.old) }
+    {
+        let closed = flag(&self.closed, symbol);
+        match make_lent_true(&mut self.rows, closed, self.count, symbol, args, value) {
+            Ok(count) => {
+                self.count = count;
+                Ok(())
+            }
+            Err(error) => Err(error),
+        }
+    }
+
+    /// Makes the atom of these elements over the domains, which is not true, certainly false. No name is copied.
+    pub fn deny(
+        &mut self,
+        symbol: u32,
+        args: &[LentElem<'_>],
+        value: Option<LentElem<'_>>,
+    ) -> Result<(), Memory>
+        requires over { IsAtomOver self.old.symbols self.old.domains (lent_atom symbol args.now value) }
+        requires free { value_at self.old (lent_atom symbol args.now value) ≡ Yes → ⊥ }
+        ensures ok { OnOk result (self.new ≡ with_false self.old (lent_atom symbol args.now value.entry)) }
+        ensures err { OnErr result (self.new ≡ self.old) }
+    {
+        make_lent_false(&mut self.rows, symbol, args, value)
     }
 
     /// As `extends`.

@@ -1,14 +1,16 @@
 //! A trie of rows with hashed edges: a row is found by its elements one after another, without memory and whatever its
 //! length.
 ghost use Rattle.std.specs.Prelude.{◌≡◌, ◌<◌, ◌||◌, ◌++◌, ◌∷◌, None, Some, [], List, ℕ, length, reverse, nat_lt, true};
-ghost use Rattle.std.specs.Prelude.{IsTrue, IsSome, All, OnOk, OnErr, IfOk};
+ghost use Rattle.std.specs.Prelude.{map, IsTrue, IsSome, All, OnOk, OnErr, IfOk};
 ghost use Rattle.indexmap.specs.IndexMap.{set_value_at};
+ghost use Rattle.partial_structures.specs.Lent.{lent_view};
 ghost use Rattle.partial_structures.specs.Words.{words_in};
 ghost use Rattle.partial_structures.specs.Rows.{Grows, child_of, child_by, has_label, is_symbol, is_tree, label_of};
 ghost use Rattle.partial_structures.specs.Rows.{mark_at, node_of};
 ghost use Rattle.partial_structures.specs.Values.{IsValueOf, value_label};
 ghost use Rattle.kb_logic.specs.Values.{value_view};
 
+use crate::lent::LentElem;
 use crate::truths::Truth;
 use crate::words::Words;
 use indexmap::IndexMap;
@@ -224,6 +226,63 @@ impl Rows {
         ensures words { self.new.words ≡ self.old.words }
     {
         match self.label(elem) {
+            Some(label) => self.child_or_new(node, label),
+            None => unreachable!(),
+        }
+    }
+
+    /// The label of an element that is lent.
+    pub fn lent_label(&self, elem: LentElem<'_>) -> Option<Label>
+        ensures { result ≡ label_of (words_in self.now.words) (lent_view elem.entry) }
+    {
+        match elem {
+            LentElem::Named(name) => match self.words.number(name) {
+                Some(number) => Some(Label::Word(number)),
+                None => None,
+            },
+            LentElem::Num(n) => Some(Label::Number(n)),
+        }
+    }
+
+    /// As `step`, of an element that is lent.
+    pub fn lent_step(&self, node: Option<usize>, elem: LentElem<'_>) -> Option<usize>
+        ensures { result ≡ child_by self.now.nodes.entries node (label_of (words_in self.now.words)
+            (lent_view elem.entry)) }
+    {
+        match node {
+            None => None,
+            Some(parent) => match self.lent_label(elem) {
+                None => None,
+                Some(label) => self.child(parent, label),
+            },
+        }
+    }
+
+    /// As `reach`, of elements that are lent.
+    pub fn reach_lent(&mut self, symbol: u32, args: &[LentElem<'_>]) -> Result<usize, Memory>
+        requires { All (λ x. IsTrue (has_label (words_in self.old.words) (lent_view x))) args.now }
+        ensures node { IfOk result (λ n. node_of (words_in self.new.words) self.new.nodes.entries symbol
+            (reverse (map lent_view args.now)) ≡ Some n) }
+        ensures grows { Grows self.old.nodes.entries self.new.nodes.entries }
+        ensures words { self.new.words ≡ self.old.words }
+    {
+        let mut node = self.child_or_new(0, Label::Symbol(symbol))?;
+        for elem in args {
+            node = self.reach_lent_child(node, *elem)?;
+        }
+        Ok(node)
+    }
+
+    /// As `reach_child`, of an element that is lent.
+    pub fn reach_lent_child(&mut self, node: usize, elem: LentElem<'_>) -> Result<usize, Memory>
+        requires parent { node < length self.old.nodes.entries }
+        requires label { IsTrue (has_label (words_in self.old.words) (lent_view elem)) }
+        ensures child { IfOk result (λ n. child_by self.new.nodes.entries (Some node)
+            (label_of (words_in self.new.words) (lent_view elem.entry)) ≡ Some n) }
+        ensures grows { Grows self.old.nodes.entries self.new.nodes.entries }
+        ensures words { self.new.words ≡ self.old.words }
+    {
+        match self.lent_label(elem) {
             Some(label) => self.child_or_new(node, label),
             None => unreachable!(),
         }

@@ -6,7 +6,7 @@ use Rattle.data_entries.specs.EntryViews.{spot_view}
 use Rattle.data_domains.specs.TypeSets.{AreTypesOf}
 use Rattle.data_notes.proofs.spots.note_spots.Given as goal
 
-abbrev pub invariant-loop-spot : goal.invariant-loop-spot
-invariant-loop-spot l = (all : List TypeDecl) (es : List Said) → AreTypesOf all es l.types
-    → fold (stage.data_noted all es) l.earliest.first (map stage.spot (map spot_view (drop l.spot-index l.spots)))
+abbrev pub invariant-loop-i : goal.invariant-loop-i
+invariant-loop-i l = (all : List TypeDecl) (es : List Said) → AreTypesOf all es l.types
+    → fold (stage.data_noted all es) l.earliest.first (map stage.spot (map spot_view (drop l.i l.spots)))
     ≡ fold (stage.data_noted all es) l.fn.earliest.first (map stage.spot (map spot_view l.spots))

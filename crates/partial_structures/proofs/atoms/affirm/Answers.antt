@@ -16,6 +16,6 @@ pub returns-in-Some-clause-made : goal.returns-in-Some-clause-made
 returns-in-Some-clause-made c = λ s args at.
     let ws = words_in c.args.rows.now.words in
     let es = c.args.rows.now.nodes.entries in
-    rw (c.in-Some.is, ← c.label-value.ensures) (set_after ws ws es es c.set_mark-in-Some.new.self.nodes.entries s
-    (reverse args) (reverse args) c.args.node c.mark-mark.result (λ m. record m { value = c.label-value.result }) refl
-    (Grows-refl es) at refl c.mark-mark.ensures c.set_mark-in-Some.ensures.nodes)
+    rw (c.in-Some.is, ← c.lent_label-value.ensures) (set_after ws ws es es c.set_mark-in-Some.new.self.nodes.entries s
+    (reverse args) (reverse args) c.args.node c.mark-mark.result
+    (λ m. record m { value = c.lent_label-value.result }) refl (Grows-refl es) at refl c.mark-mark.ensures c.set_mark-in-Some.ensures.nodes)

@@ -1,4 +1,5 @@
-use Rattle.std.proofs.Common.{◌≡◌, ◌∙◌, ◌+◌, Err, Some, refl, sym, ap, subst, reverse}
+use Rattle.std.proofs.Common.{◌≡◌, ◌∙◌, ◌+◌, Err, Some, option_map, refl, sym, ap, subst, reverse}
+use Rattle.partial_structures.specs.Lent.{lent_view}
 use Rattle.partial_structures.specs.Words.{words_in}
 use Rattle.partial_structures.specs.Rows.{MadeTrue, node_of, status_of}
 use Rattle.partial_structures.specs.Counts.{added_by}
@@ -37,8 +38,10 @@ returns-in-No-clause-clash c =
     let was : c.known_behind.result ≡ status_of (words_in old.words) old.nodes.entries c.args.closed a.symbol a.args
     a.value =
     read_behind (words_in old.words) (words_in rows.words) old.nodes.entries rows.nodes.entries c.args.closed a.symbol
-    c.in-Ok.node a.args a.value c.known_behind.result (ap words_in c.reach.ensures.words) c.reach.ensures.grows at
-    c.known_behind.ensures in
+    c.in-Ok.node a.args (option_map lent_view c.lent_value-value.result) c.known_behind.result
+    (ap words_in c.reach.ensures.words) c.reach.ensures.grows at c.known_behind.ensures
+    ∙ ap (λ v. status_of (words_in old.words) old.nodes.entries c.args.closed a.symbol a.args v)
+    c.lent_value-value.ensures in
     (λ e. sym was ∙ c.in-No.is, λ e. refl)
 
 pub returns-in-None-clause-clash : goal.returns-in-None-clause-clash
@@ -52,8 +55,10 @@ returns-in-None-clause-clash c =
     let was : c.known_behind.result ≡ status_of (words_in old.words) old.nodes.entries c.args.closed a.symbol a.args
     a.value =
     read_behind (words_in old.words) (words_in rows.words) old.nodes.entries rows.nodes.entries c.args.closed a.symbol
-    c.in-Ok.node a.args a.value c.known_behind.result (ap words_in c.reach.ensures.words) c.reach.ensures.grows at
-    c.known_behind.ensures in (
+    c.in-Ok.node a.args (option_map lent_view c.lent_value-value.result) c.known_behind.result
+    (ap words_in c.reach.ensures.words) c.reach.ensures.grows at c.known_behind.ensures
+    ∙ ap (λ v. status_of (words_in old.words) old.nodes.entries c.args.closed a.symbol a.args v)
+    c.lent_value-value.ensures in (
       λ e. absurd (let n : ⊥ = cc in n),
       λ v. absurd (c.in_default-known_behind.not-No (was ∙ v)),
     )
@@ -69,8 +74,10 @@ returns-in-Some-clause-clash c =
     let was : c.known_behind.result ≡ status_of (words_in old.words) old.nodes.entries c.args.closed a.symbol a.args
     a.value =
     read_behind (words_in old.words) (words_in rows.words) old.nodes.entries rows.nodes.entries c.args.closed a.symbol
-    c.in-Ok.node a.args a.value c.known_behind.result (ap words_in c.reach.ensures.words) c.reach.ensures.grows at
-    c.known_behind.ensures in (
+    c.in-Ok.node a.args (option_map lent_view c.lent_value-value.result) c.known_behind.result
+    (ap words_in c.reach.ensures.words) c.reach.ensures.grows at c.known_behind.ensures
+    ∙ ap (λ v. status_of (words_in old.words) old.nodes.entries c.args.closed a.symbol a.args v)
+    c.lent_value-value.ensures in (
       λ e. absurd (let n : ⊥ = cc in n),
       λ v. absurd (c.in_default-known_behind.not-No (was ∙ v)),
     )
@@ -84,9 +91,10 @@ returns-in-Some-clause-ok c =
     ap (λ xs. node_of (words_in rows.words) rows.nodes.entries a.symbol (reverse xs)) (sym c.as_slice.ensures)
     ∙ c.in-Ok.ensures.node in
     grown_MadeTrue (words_in old.words) old.nodes.entries rows.nodes.entries c.affirm.new.rows.nodes.entries a.symbol
-    a.args a.value c.reach.ensures.grows (subst (λ w. MadeTrue (words_in w) rows.nodes.entries
-    c.affirm.new.rows.nodes.entries a.symbol a.args a.value) c.reach.ensures.words (c.affirm.ensures.made a.symbol
-    a.args at))
+    a.args a.value c.reach.ensures.grows (subst (λ v. MadeTrue (words_in old.words) rows.nodes.entries
+    c.affirm.new.rows.nodes.entries a.symbol a.args v) c.lent_value-value.ensures
+    (subst (λ w. MadeTrue (words_in w) rows.nodes.entries c.affirm.new.rows.nodes.entries a.symbol a.args
+    (option_map lent_view c.lent_value-value.result)) c.reach.ensures.words (c.affirm.ensures.made a.symbol a.args at)))
 
 pub returns-in-Some-clause-count : goal.returns-in-Some-clause-count
 returns-in-Some-clause-count c =
@@ -99,6 +107,8 @@ returns-in-Some-clause-count c =
     let was : c.known_behind.result ≡ status_of (words_in old.words) old.nodes.entries c.args.closed a.symbol a.args
     a.value =
     read_behind (words_in old.words) (words_in rows.words) old.nodes.entries rows.nodes.entries c.args.closed a.symbol
-    c.in-Ok.node a.args a.value c.known_behind.result (ap words_in c.reach.ensures.words) c.reach.ensures.grows at
-    c.known_behind.ensures in
+    c.in-Ok.node a.args (option_map lent_view c.lent_value-value.result) c.known_behind.result
+    (ap words_in c.reach.ensures.words) c.reach.ensures.grows at c.known_behind.ensures
+    ∙ ap (λ v. status_of (words_in old.words) old.nodes.entries c.args.closed a.symbol a.args v)
+    c.lent_value-value.ensures in
     c.in-Some.ensures ∙ ap (λ t. c.args.count + added_by t) was

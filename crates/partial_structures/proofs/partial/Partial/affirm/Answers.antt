@@ -1,0 +1,106 @@
+use Rattle.std.proofs.Common.{◌≡◌, ◌∙◌, refl, sym, ap, subst, All, IsTrue}
+use Rattle.partial_structures.specs.KnownAtoms.{IsAtomOver}
+use Rattle.partial_structures.specs.Elements.{labels_in, HasElements}
+use Rattle.partial_structures.specs.Words.{words_in}
+use Rattle.partial_structures.specs.Flags.{is_closed}
+use Rattle.partial_structures.specs.Lent.{lent_atom, lent_view}
+use Rattle.partial_structures.specs.Rows.{has_label, status_of}
+use Rattle.partial_structures.specs.Status.{status, known_atoms}
+use Rattle.partial_structures.specs.declared.truths.Truth.TheVariants.{No}
+use Rattle.partial_structures.proofs.Labelled.{args_labelled, each_seen}
+use Rattle.partial_structures.proofs.Views.{value_from, not_no, kept_all, set_true_after, true_count, same_count}
+use Rattle.partial_structures.proofs.partial.Partial.affirm.Goals as goal
+
+pub make_lent_true-requires : goal.make_lent_true-requires
+make_lent_true-requires c =
+    let p = c.self.inside in
+    let a = lent_atom c.args.symbol c.args.args.now c.args.value in
+    let over : IsAtomOver p.symbols p.domains a =
+    subst (λ k. IsAtomOver k.symbols k.domains a) (sym c.self.view_is) c.requires.over in
+    each_seen (λ x. IsTrue (has_label (words_in p.rows.words) x)) lent_view c.args.args.now
+    (subst (λ ws. All (λ x. IsTrue (has_label ws x)) a.args) (sym c.self.invariant.words)
+    (args_labelled p.symbols p.domains a over))
+
+pub invariant_of-self : goal.invariant_of-self
+invariant_of-self c =
+    let p = c.self.inside in
+    let a = lent_atom c.args.symbol c.args.args.now c.args.value in
+    let q = record p { rows = c.make_lent_true.new.rows; count = c.in-Ok.count } in
+    let t = status_of (words_in p.rows.words) p.rows.nodes.entries c.flag-closed.result a.symbol a.args a.value in
+    let is : t ≡ status p a =
+    ap (λ f. status_of (words_in p.rows.words) p.rows.nodes.entries f a.symbol a.args a.value)
+    (c.flag-closed.ensures ∙ ap (λ l. is_closed l a.symbol) c.deref.ensures.value) in
+    let said = value_from p c.args.self.now a t c.self.view_is c.requires.over is in
+    let free : t ≡ No → ⊥ = (λ v. c.requires.free (sym said ∙ v)) in
+    let clash = not_no (status p a) t is free in
+    let over : IsAtomOver p.symbols p.domains a = subst (λ k. IsAtomOver k.symbols k.domains a)
+    (sym c.self.view_is) c.requires.over in
+    let after = set_true_after p q (known_atoms p) refl (record {
+      symbols = refl;
+      domains = refl;
+      closed = refl;
+      words = c.make_lent_true.ensures.words;
+    }) a c.self.invariant.words over clash c.in-Ok.ensures.ok in
+    record {
+      distinct = c.self.invariant.distinct;
+      flags = c.self.invariant.flags;
+      words = ap words_in c.make_lent_true.ensures.words ∙ c.self.invariant.words;
+      elements = subst (λ ws. HasElements ws p.domains (labels_in p.elements))
+          (sym (ap words_in c.make_lent_true.ensures.words)) c.self.invariant.elements;
+      counted = true_count p q a t c.in-Ok.count c.self.invariant.distinct c.self.invariant.counted over after
+          is (not_no t t refl free) c.in-Ok.ensures.count;
+    }
+
+pub invariant_of-self-in-Err : goal.invariant_of-self-in-Err
+invariant_of-self-in-Err c =
+    let p = c.self.inside in
+    let q = record p { rows = c.make_lent_true.new.rows } in
+    let after = kept_all p q (known_atoms p) refl (record {
+      symbols = refl;
+      domains = refl;
+      closed = refl;
+      words = c.make_lent_true.ensures.words;
+    }) c.in-Err.ensures.err in
+    record {
+      distinct = c.self.invariant.distinct;
+      flags = c.self.invariant.flags;
+      words = ap words_in c.make_lent_true.ensures.words ∙ c.self.invariant.words;
+      elements = subst (λ ws. HasElements ws p.domains (labels_in p.elements))
+          (sym (ap words_in c.make_lent_true.ensures.words)) c.self.invariant.elements;
+      counted = same_count p q (known_atoms p) c.self.invariant.counted after refl;
+    }
+
+pub returns-in-Ok : goal.returns-in-Ok
+returns-in-Ok c =
+    let p = c.self.inside in
+    let a = lent_atom c.args.symbol c.args.args.now c.args.value in
+    let q = record p { rows = c.make_lent_true.new.rows; count = c.in-Ok.count } in
+    let t = status_of (words_in p.rows.words) p.rows.nodes.entries c.flag-closed.result a.symbol a.args a.value in
+    let is : t ≡ status p a =
+    ap (λ f. status_of (words_in p.rows.words) p.rows.nodes.entries f a.symbol a.args a.value)
+    (c.flag-closed.ensures ∙ ap (λ l. is_closed l a.symbol) c.deref.ensures.value) in
+    let said = value_from p c.args.self.now a t c.self.view_is c.requires.over is in
+    let clash = not_no (status p a) t is (λ v. c.requires.free (sym said ∙ v)) in
+    record {
+      ok = set_true_after p q c.args.self.now c.self.view_is (record {
+        symbols = refl;
+        domains = refl;
+        closed = refl;
+        words = c.make_lent_true.ensures.words;
+      }) a c.self.invariant.words c.requires.over clash c.in-Ok.ensures.ok;
+      err = tt;
+    }
+
+pub returns-in-Err : goal.returns-in-Err
+returns-in-Err c =
+    let p = c.self.inside in
+    let q = record p { rows = c.make_lent_true.new.rows } in
+    record {
+      ok = tt;
+      err = kept_all p q c.args.self.now c.self.view_is (record {
+        symbols = refl;
+        domains = refl;
+        closed = refl;
+        words = c.make_lent_true.ensures.words;
+      }) c.in-Err.ensures.err;
+    }
