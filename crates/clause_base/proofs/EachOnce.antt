@@ -94,3 +94,8 @@ module _ (E : Lit → Lit → Bool) (same : (x y : Lit) → E x y ≡ true → x
         (Contains-from_dedup E sorted l h);
     all = λ l h. Contains-dedup laws same sorted l (Contains-permutation lits sorted l moved h);
   }
+
+-- the variables of the literals before this place rise
+abbrev pub RisesTo : List Lit → ℕ → Type 0
+RisesTo lits n = (i j : ℕ) (l m : Lit) → i < j → j < n → slice_get lits i ≡ Some l → slice_get lits j ≡ Some m
+    → l.var.0 < m.var.0

@@ -1,11 +1,13 @@
 //! The clause database: the literals of all clauses stand in one arena, one clause after another.
 //!
 //! A clause is described by an entry of sixteen bytes, so that four of them fill a cache line, and its literals stand
-//! side by side, in 32 bits each. A push sorts its literals in a buffer, which keeps its memory from push to push.
+//! side by side, in 32 bits each. A push of literals that are not in order sorts them in a buffer, which keeps its
+//! memory from push to push.
 ghost use Rattle.std.specs.Prelude.{◌≡◌, ℕ, ◌<◌, ◌≤◌, ◌+◌, ◌*◌, ◌^◌, ◌++◌, ◌∷◌, [], length, max, Some, None, Option};
 ghost use Rattle.std.specs.Prelude.{List, IfSome, IsOk, IsTrue, OnOk, OnErr, MatchOption, ◌↔◌, slice_get, slice_set};
 ghost use Rattle.std.specs.Prelude.{All, vec_capacity};
 ghost use Rattle.lit_core.specs.declared.literals.Lit.{Lit};
+ghost use Rattle.lit_core.specs.Literals.{HasEachOnce};
 ghost use Rattle.lit_core.specs.Packing.{Fits};
 ghost use Rattle.clause_base.specs.ClauseDbFields.{AreRemoved, EndsAt};
 ghost use Rattle.clause_base.specs.StoreState.{IsEachOnceOf};
@@ -84,6 +86,43 @@ fn append(arena: &mut Vec<PackedLit>, lits: &[Lit])
     for lit in lits {
         arena.push_reserved(PackedLit::new(*lit));
     }
+}
+
+/// Whether each literal's variable is below that of the next one.
+fn is_rising(lits: &[Lit]) -> bool
+    ensures { IsTrue result → HasEachOnce lits.now }
+{
+    for place in 1..lits.len() {
+        if lits[place - 1].var.0 >= lits[place].var.0 {
+            return false;
+        }
+    }
+    true
+}
+
+/// Adds the literals, each once and in order, at the end of the arena, which has room for them, as the empty buffer
+/// has.
+///
+/// Literals that are in order, as those mostly are that a bound on a sum implies, are written as they come: to sort
+/// some hundred of them takes longer than all else that a push does.
+fn append_once(arena: &mut Vec<PackedLit>, buffer: &mut SmallVec<Lit, 3>, lits: &[Lit])
+    requires empty { buffer.old.items ≡ [] }
+    requires fits { All Fits lits.now }
+    requires buffer { length lits.now ≤ buffer.old.capacity }
+    requires room { length arena.old.items + length lits.now ≤ vec_capacity arena.old }
+    ensures once { (c : List Lit) × IsEachOnceOf lits.now c × (arena.new.items ≡ arena.old.items ++ c) }
+    ensures longer { length arena.old.items ≤ length arena.new.items }
+    ensures within { length arena.new.items ≤ length arena.old.items + length lits.now }
+    ensures empty { buffer.new.items ≡ [] }
+{
+    if is_rising(lits) {
+        append(arena, lits);
+        return;
+    }
+    fill(buffer, lits);
+    sort_once(buffer);
+    append(arena, buffer.as_slice());
+    buffer.clear();
 }
 
 /// The entry with another place for the search at this node.
@@ -204,12 +243,9 @@ impl ClauseDb {
           spare = 0;
         }) }
     {
-        fill(&mut self.buffer, lits);
-        sort_once(&mut self.buffer);
         let start = self.lits.len() as u32;
-        let size = self.buffer.len() as u32 + 1;
-        append(&mut self.lits, self.buffer.as_slice());
-        self.buffer.clear();
+        append_once(&mut self.lits, &mut self.buffer, lits);
+        let size = self.lits.len() as u32 - start + 1;
         self.entries.push_reserved(Entry {
             start,
             size,

@@ -1,5 +1,5 @@
 //! Unit propagation: what a visit of a clause leaves, and the walk over the clauses that watch a literal.
-ghost use Rattle.std.specs.Prelude.{◌≡◌, ℕ, ◌+◌, ◌*◌, ◌^◌, ◌<◌, length, Option, Some, None, All, Contains, IfNone};
+ghost use Rattle.std.specs.Prelude.{◌≡◌, ℕ, ◌+◌, ◌*◌, ◌^◌, ◌<◌, ◌≤◌, length, Option, Some, None, All, Contains, IfNone};
 ghost use Rattle.std.specs.Prelude.{IfSome};
 ghost use Rattle.lit_core.specs.declared.literals.Lit.{Lit};
 ghost use Rattle.clause_base.specs.ListsState.{nodes_of};
@@ -72,6 +72,28 @@ fn find_in(assignment: &Assignment, lits: &[PackedLit], other: Lit) -> Option<us
     None
 }
 
+/// A clause of more literals is long.
+const SHORT: usize = 128;
+
+/// How far ahead in a long clause a search for another literal to watch begins.
+const STRIDE: usize = 4;
+
+/// Where in a clause of this length a search for another literal to watch begins, where the last one ended here.
+///
+/// Literals side by side often become false one after another, as those of atoms that follow from one another, and a
+/// watch that goes from each to the next is moved by all of them. So in a clause that a bound implies, or that excludes
+/// a model, it goes some literals further, but not past the end: all before the place may be false, and would be passed
+/// over again at each of the last moves. A wider step would be into another cache line each time.
+fn search_start(from: usize, len: usize) -> usize
+    ensures { result ≤ len }
+{
+    if len > SHORT && from < len.saturating_sub(STRIDE) {
+        from + STRIDE
+    } else {
+        from.min(len)
+    }
+}
+
 /// The place of a literal that is not false and is not the other watched one, sought from this place on, round the
 /// clause.
 ///
@@ -87,7 +109,7 @@ pub fn find_replacement(
     requires { All (λ l. l.var.0 < length assignment.now) lits.now }
     ensures { ReplacesAt assignment.now lits.now other result }
 {
-    let (before, after) = lits.split_at(from.min(lits.len()));
+    let (before, after) = lits.split_at(search_start(from, lits.len()));
     match find_in(assignment, after, other) {
         Some(place) => Some(before.len() + place),
         None => find_in(assignment, before, other),

@@ -26,6 +26,25 @@ impl Model for NearSet {
     ghost view = { λ s. places (is_byte 1) s.marks.items };
 }
 
+/// How many marks are added at a time.
+const MORE: usize = 64;
+
+/// Adds marks of places that are not in the set, up to this place and some beyond it.
+///
+/// This is seldom done, and is kept out of where marks are set, so that to set one is a test and a write.
+#[inline(never)]
+fn lengthen(marks: &mut Vec<u8>, place: usize) -> Result<(), Memory>
+    requires { length marks.old.items ≤ place }
+    ensures same { (k : ℕ) → slice_index marks.new.items k ≡ slice_index marks.old.items k }
+    ensures longer { length marks.old.items ≤ length marks.new.items }
+    ensures enough { OnOk result (place < length marks.new.items) }
+{
+    let Some(len) = place.checked_add(MORE) else {
+        return Err(Memory);
+    };
+    marks.resize(len, 0)
+}
+
 /// Adds marks of places that are not in the set, so that there is one of this place.
 fn cover(marks: &mut Vec<u8>, place: usize) -> Result<(), Memory>
     ensures same { (k : ℕ) → slice_index marks.new.items k ≡ slice_index marks.old.items k }
@@ -33,8 +52,7 @@ fn cover(marks: &mut Vec<u8>, place: usize) -> Result<(), Memory>
     ensures enough { OnOk result (place < length marks.new.items) }
 {
     if marks.len() <= place {
-        marks.resize(place, 0)?;
-        marks.push(0)?;
+        lengthen(marks, place)?;
     }
     Ok(())
 }

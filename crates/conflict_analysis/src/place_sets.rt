@@ -63,6 +63,7 @@ fn last_far(far: &BTreeSet<usize>) -> Option<usize>
 }
 
 /// Adds a place.
+#[inline(never)]
 fn insert_far(far: &mut BTreeSet<usize>, place: usize) -> Result<(), Memory>
     ensures inserts { OnOk result (Inserts far.old.keys place far.new.keys) }
     ensures from { (k : ℕ) → Contains far.new.keys k → Contains far.old.keys k ⊎ (place ≡ k) }

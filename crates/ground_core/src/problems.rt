@@ -121,6 +121,16 @@ impl Problem {
         Ok(())
     }
 
+    /// Says one more clause, of these literals.
+    pub fn add_clause_of(&mut self, lits: &[Lit]) -> Result<(), Memory>
+        requires { AreLitsOf self.old.vars lits.now }
+        ensures ok { OnOk result (self.new ≡ with_clause self.old lits.now) }
+        ensures err { OnErr result (self.new ≡ self.old) }
+    {
+        self.clauses.push(lits)?;
+        Ok(())
+    }
+
     /// The positive literal of a new variable.
     fn next(&self) -> Result<Lit, Memory>
         ensures { IfOk result (λ l. l ≡ next_lit self.now) }

@@ -10,7 +10,7 @@ use crate::errors::ReadError;
 use crate::lines::{Header, header_of, is_passed_over, reads_clause};
 use ground_core::{AtomTable, Memory, Problem};
 use kb_logic::{ElemList, Literal, LiteralList};
-use lit_core::{Clause, Lit};
+use lit_core::Lit;
 use std::alloc::Global;
 
 /// So many propositions.
@@ -46,12 +46,7 @@ fn silent_lines(lines: &[&[u8]]) -> usize
 
 /// Adds what the line says, and answers false where it is not as it must be. Its literals are read into `lits`,
 /// whatever stood there.
-fn add_line(
-    alloc: Global,
-    line: &[u8],
-    lits: &mut Vec<Lit>,
-    problem: &mut Problem,
-) -> Result<bool, Memory>
+fn add_line(line: &[u8], lits: &mut Vec<Lit>, problem: &mut Problem) -> Result<bool, Memory>
     ensures { IfOk result (λ fine. MatchBool fine ((cs : List (List Lit)) × AddsOfLine problem.old.vars line.now cs
         × (problem.new ≡ with_clauses problem.old cs)) ((IsPassedOver line.now → ⊥)
         × ((c : List Lit) → IsClauseLine problem.old.vars c line.now → ⊥))) }
@@ -62,7 +57,7 @@ fn add_line(
     if !reads_clause(problem.vars(), line, lits)? {
         return Ok(false);
     }
-    problem.add_clause(Clause::from_slice(alloc, lits.as_slice())?)?;
+    problem.add_clause_of(lits.as_slice())?;
     Ok(true)
 }
 
@@ -74,7 +69,7 @@ fn add_lines(alloc: Global, lines: &[&[u8]], problem: &mut Problem) -> Result<Op
 {
     let mut lits = Vec::new(alloc);
     for place in 0..lines.len() {
-        if !add_line(alloc, lines[place], &mut lits, problem)? {
+        if !add_line(lines[place], &mut lits, problem)? {
             return Ok(Some(place as u64 + 1));
         }
     }

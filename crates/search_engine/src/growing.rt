@@ -4,8 +4,8 @@ ghost use Rattle.ground_core.specs.Problems.{AreLitsOf, IsProblem};
 ghost use Rattle.ground_core.specs.Growth.{next_lit};
 ghost use Rattle.ground_core.specs.Growing.{IsSelector, with_retired};
 ghost use Rattle.kept_problem.specs.Joining.{CanJoin, with_selected};
-ghost use Rattle.search_engine.specs.Resting.{Bounds, Excludes, Grows, IsHalfDone, IsNew, IsResting, Reserves};
-ghost use Rattle.search_engine.specs.Resting.{SameSearches, Stays};
+ghost use Rattle.search_engine.specs.Resting.{Bounds, Excludes, Grows, IsHalfDone, IsNew, IsResting, KeepsProblem};
+ghost use Rattle.search_engine.specs.Resting.{Reserves, SameSearches, Stays};
 
 use crate::engine::Engine;
 use crate::exclusions::exclusion;
@@ -61,6 +61,16 @@ impl Engine {
         self.problem.join(self.alloc, more)
     }
 
+    /// Watches the clauses that are not watched yet, and propagates what follows without assumptions, so that no
+    /// search pays for it. A clause that is false by it is found again by the next search.
+    fn watch(&mut self)
+        requires { IsResting self.old }
+        ensures resting { IsResting self.new }
+        ensures same { KeepsProblem self.old self.new }
+    {
+        let _ = self.store.propagate();
+    }
+
     /// Says all that another problem says, too.
     pub fn add_problem(&mut self, more: &Problem) -> Result<(), Memory>
         requires resting { IsResting self.old }
@@ -81,6 +91,7 @@ impl Engine {
         match self.hold(more) {
             Ok(()) => {
                 self.decider.phases.note_choices(&self.problem, known);
+                self.watch();
                 Ok(())
             }
             Err(error) => {

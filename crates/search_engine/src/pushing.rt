@@ -1,15 +1,40 @@
 //! Holding the clauses of a problem.
-ghost use Rattle.std.specs.Prelude.{◌≡◌, ◌≤◌, ◌<◌, [], length, flat_map, take, All, OnOk};
+ghost use Rattle.std.specs.Prelude.{◌≡◌, ◌≤◌, ◌<◌, [], length, flat_map, take, slice_get, All, OnOk, Some};
 ghost use Rattle.clause_store.specs.StoreState.{IsStore};
 ghost use Rattle.ground_core.specs.GateClauses.{clauses_of, gate_clauses};
 ghost use Rattle.search_engine.specs.Knowledge.{Pushes, RemovesAll, RemovesFrom};
 
 use clause_store::Store;
 use ground_core::{Gate, Memory, Problem, clauses_of_gate};
-use lit_core::ClauseList;
+use lit_core::{ClauseList, Lit, PackedLit};
 use std::alloc::Global;
 
+/// Writes the literals over what stood in the buffer.
+fn unpack(lits: &[PackedLit], buffer: &mut Vec<Lit>) -> Result<(), Memory>
+    ensures { OnOk result (buffer.new.items ≡ lits.now) }
+{
+    buffer.clear();
+    buffer.reserve(lits.len())?;
+    for lit in lits {
+        buffer.push_reserved(lit.lit());
+    }
+    Ok(())
+}
+
+/// Writes the literals of the clause at a place over what stood in the buffer.
+fn unpack_clause(clauses: &ClauseList, place: usize, buffer: &mut Vec<Lit>) -> Result<(), Memory>
+    requires { place < length clauses.now }
+    ensures { OnOk result (slice_get clauses.now place ≡ Some buffer.new.items) }
+{
+    match clauses.get(place) {
+        Some(lits) => unpack(lits, buffer),
+        None => unreachable!(),
+    }
+}
+
 /// Holds the clauses in order.
+///
+/// Their literals are unpacked into one buffer, which keeps its memory from clause to clause.
 fn push_clauses(alloc: Global, store: &mut Store, clauses: &ClauseList) -> Result<(), Memory>
     requires laws { IsStore store.old }
     requires in_range { All (All (λ l. l.var.0 < length store.old.trail.values)) clauses.now }
@@ -19,9 +44,10 @@ fn push_clauses(alloc: Global, store: &mut Store, clauses: &ClauseList) -> Resul
     ensures ok { OnOk result (Pushes store.old.clauses store.new.clauses clauses.now) }
     ensures laws { IsStore store.new }
 {
+    let mut buffer = Vec::new(alloc);
     for place in 0..clauses.len() {
-        let clause = clauses.clause(alloc, place)?;
-        store.push_clause(clause.as_slice())?;
+        unpack_clause(clauses, place, &mut buffer)?;
+        store.push_clause(buffer.as_slice())?;
     }
     Ok(())
 }

@@ -1,8 +1,8 @@
 -- Reasons, part by part.
 use Rattle.std.proofs.Common.{◌≡◌, ℕ, zero, suc, ◌+◌, ◌<◌, ℤ, pos, ◌+ℤ◌, ◌-ℤ◌, ◌≤ℤ◌, Bool, true, false, not, Option}
 use Rattle.std.proofs.Common.{Some, None, List, [], ◌∷◌, ◌++◌, length, drop, get_or, refl, sym, ap, ◌∙◌, inl}
-use Rattle.std.proofs.Common.{inr, ◌⊎◌, arith, All, Any, Contains}
-use Rattle.std.proofs.lemmas.List.Elements.{All-nil, All-cons, All-push, All-contains, Contains-push}
+use Rattle.std.proofs.Common.{inr, ◌⊎◌, arith, All, Any}
+use Rattle.std.proofs.lemmas.List.Elements.{All-nil, All-push, All-contains, Contains-push}
 use Rattle.std.proofs.lemmas.List.Elements.{Contains-append_left, Contains-get_or}
 use Rattle.std.proofs.lemmas.List.{at_drop_more}
 use Rattle.std.proofs.lemmas.Int.{ints}
@@ -13,7 +13,7 @@ use Rattle.lit_core.specs.Literals.{by_sign, by_sign_if_any, literal_value, nega
 use Rattle.lit_core.specs.Truth.{IsFalsified}
 use Rattle.ground_core.specs.declared.parts.Part.{Part}
 use Rattle.ground_core.specs.Meaning.{AreAllFalse}
-use Rattle.term_bounds.specs.Reasons.{IsReason, differ}
+use Rattle.term_bounds.specs.Reasons.{AreReasons, IsReason, differ}
 use Rattle.term_bounds.specs.Shares.{least_total, raised, share}
 use Rattle.term_bounds.specs.Totals.{counted_as, total, where_true}
 use Rattle.term_bounds.proofs.ShareFacts.{none-least}
@@ -73,39 +73,27 @@ get_or-itself (x ∷ xs) zero e l = refl
 get_or-itself (x ∷ xs) (suc j) e l = get_or-itself xs j e (omega arith)
 
 -- what was given so far, where these parts are left
-pub record SoFar (a : List (Option Bool)) (k : AggKind) (bound : ExtInt) (out : Lit) (ps rest : List Part)
-    (first spare : ℤ) (c : List Lit) : Type 0 where
+pub record SoFar (a : List (Option Bool)) (k : AggKind) (bound : ExtInt) (ps rest : List Part) (first spare : ℤ)
+    (c : List Lit) : Type 0 where
   pub falsified : IsFalsified a c
-  pub output : Contains c (negated out)
   pub low : pos 0 ≤ℤ spare
   pub total : (v : ℕ → Bool) → AreAllFalse v c → gap a v k bound ps ≤ℤ (gap a v k bound rest +ℤ (first -ℤ spare))
-  pub within : All (λ (l : Lit). (out.var.0 ≡ l.var.0) ⊎ Any (λ (u : Part). u.lit.var.0 ≡ l.var.0) ps) c
+  pub within : All (λ (l : Lit). Any (λ (u : Part). u.lit.var.0 ≡ l.var.0) ps) c
 
-module _ (a : List (Option Bool)) (k : AggKind) (bound : ExtInt) (out : Lit) (ps : List Part) (first : ℤ) where
+module _ (a : List (Option Bool)) (k : AggKind) (bound : ExtInt) (ps : List Part) (first : ℤ) where
   abbrev Within : Lit → Type 0
-  Within l = (out.var.0 ≡ l.var.0) ⊎ Any (λ (u : Part). u.lit.var.0 ≡ l.var.0) ps
+  Within l = Any (λ (u : Part). u.lit.var.0 ≡ l.var.0) ps
 
-  out-false : value_in a out ≡ Some true → value_in a (negated out) ≡ Some false
-  out-false e = negated-false out.positive (get_or a out.var.0 None) e
-    where
-      negated-false : (s : Bool) (o : Option Bool) → by_sign_if_any s o ≡ Some true
-          → by_sign_if_any (not s) o ≡ Some false
-      negated-false true o e = some-false true true o e
-      negated-false false o e = some-false false true o e
-
-  pub so-far-none : value_in a out ≡ Some true → pos 0 ≤ℤ first → SoFar a k bound out ps ps first first
-      (negated out ∷ [])
-  so-far-none e low = record {
-    falsified = All-cons (λ l. value_in a l ≡ Some false) (negated out) [] (out-false e)
-        (All-nil (λ l. value_in a l ≡ Some false));
-    output = (0, omega arith, refl);
+  pub so-far-none : pos 0 ≤ℤ first → SoFar a k bound ps ps first first []
+  so-far-none low = record {
+    falsified = All-nil (λ l. value_in a l ≡ Some false);
     low = low;
     total = λ v off. omega (arith, ints);
-    within = All-cons Within (negated out) [] (inl refl) (All-nil Within);
+    within = All-nil Within;
   }
 
   module _ (i : ℕ) (d : Part) (spare : ℤ) (c : List Lit) (lt : i < length ps)
-      (h : SoFar a k bound out ps (drop i ps) first spare c) where
+      (h : SoFar a k bound ps (drop i ps) first spare c) where
     abbrev p : Part
     p = get_or ps i d
 
@@ -125,11 +113,10 @@ module _ (a : List (Option Bool)) (k : AggKind) (bound : ExtInt) (out : Lit) (ps
     in-parts = (i, p, lt, get_or-itself ps i d lt, refl)
 
     -- the part's value is blamed
-    pub so-far-kept : (b : Bool) → value_in a p.lit ≡ Some b → SoFar a k bound out ps rest first spare
+    pub so-far-kept : (b : Bool) → value_in a p.lit ≡ Some b → SoFar a k bound ps rest first spare
         (c ++ false_lit p.lit b ∷ [])
     so-far-kept b e = record {
       falsified = All-push (λ l. value_in a l ≡ Some false) c (false_lit p.lit b) h.falsified (is-false a p.lit b e);
-      output = Contains-append_left c (false_lit p.lit b ∷ []) (negated out) h.output;
       low = h.low;
       total = λ v off.
           let more : List Lit = c ++ false_lit p.lit b ∷ [] in
@@ -144,15 +131,14 @@ module _ (a : List (Option Bool)) (k : AggKind) (bound : ExtInt) (out : Lit) (ps
           ∙ ap (λ x. share (Some b) w -ℤ where_true x w) same in
           let zero-is : share (Some b) w -ℤ where_true b w ≡ pos 0 = omega (arith, ints) in
           omega (arith, ints, h.total v before, gap-here v, none, zero-is);
-      within = All-push Within c (false_lit p.lit b) h.within (inr in-parts);
+      within = All-push Within c (false_lit p.lit b) h.within in-parts;
     }
 
     -- the part's value is not needed
     pub so-far-spared : (left : ℤ) → left ≡ spare -ℤ raised (value_in a p.lit) w → pos 0 ≤ℤ left
-        → SoFar a k bound out ps rest first left c
+        → SoFar a k bound ps rest first left c
     so-far-spared left e low = record {
       falsified = h.falsified;
-      output = h.output;
       low = low;
       total = λ v off.
           let least : share None w ≤ℤ where_true (literal_value v p.lit) w = none-least w (literal_value v p.lit) in
@@ -161,12 +147,35 @@ module _ (a : List (Option Bool)) (k : AggKind) (bound : ExtInt) (out : Lit) (ps
     }
 
   -- nothing is left
-  pub so-far-all : (spare : ℤ) (c : List Lit) → SoFar a k bound out ps [] first spare c
-      → IsReason a k bound out ps first c
+  pub so-far-all : (spare : ℤ) (c : List Lit) → SoFar a k bound ps [] first spare c → AreReasons a k bound ps first c
   so-far-all spare c h = record {
     falsified = h.falsified;
-    output = h.output;
     total = λ v off. let x : gap a v k bound ps ≤ℤ (gap a v k bound [] +ℤ (first -ℤ spare)) = h.total v off in
         let low : pos 0 ≤ℤ spare = h.low in omega (arith, ints, x, low);
     within = h.within;
+  }
+
+module _ (a : List (Option Bool)) (k : AggKind) (bound : ExtInt) (out : Lit) (ps : List Part) (spare : ℤ) where
+  out-false : value_in a out ≡ Some true → value_in a (negated out) ≡ Some false
+  out-false e = negated-false out.positive (get_or a out.var.0 None) e
+    where
+      negated-false : (s : Bool) (o : Option Bool) → by_sign_if_any s o ≡ Some true
+          → by_sign_if_any (not s) o ≡ Some false
+      negated-false true o e = some-false true true o e
+      negated-false false o e = some-false false true o e
+
+  abbrev OfEither : Lit → Type 0
+  OfEither l = (out.var.0 ≡ l.var.0) ⊎ Any (λ (u : Part). u.lit.var.0 ≡ l.var.0) ps
+
+  -- with the output's negation the literals are a reason
+  pub with-output : (c : List Lit) → value_in a out ≡ Some true → AreReasons a k bound ps spare c
+      → IsReason a k bound out ps spare (c ++ negated out ∷ [])
+  with-output c e h = record {
+    falsified = All-push (λ l. value_in a l ≡ Some false) c (negated out) h.falsified (out-false e);
+    output = Contains-push c (negated out);
+    total = λ v off.
+        let more : List Lit = c ++ negated out ∷ [] in
+        h.total v (λ j m less. All-contains (λ l. literal_value v l ≡ false) more (get_or c j m) off
+        (Contains-append_left c (negated out ∷ []) (get_or c j m) (Contains-get_or c j m less)));
+    within = All-push OfEither c (negated out) (λ j m less. inr (h.within j m less)) (inl refl);
   }

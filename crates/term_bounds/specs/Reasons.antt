@@ -10,6 +10,14 @@ use Rattle.ground_core.specs.Meaning.{AreAllFalse}
 use Rattle.term_bounds.specs.Shares.{least_total}
 use Rattle.term_bounds.specs.Totals.{total}
 
+-- the literals of parts are false now; wherever they are, the parts count at least the least that they may now, less
+-- the spare
+pub record AreReasons (a : List (Option Bool)) (k : AggKind) (bound : ExtInt) (ps : List Part) (spare : ℤ)
+    (c : List Lit) : Type 0 where
+  pub falsified : IsFalsified a c
+  pub total : (v : ℕ → Bool) → AreAllFalse v c → least_total a k bound ps ≤ℤ (total v k bound ps +ℤ spare)
+  pub within : All (λ (l : Lit). Any (λ (u : Part). u.lit.var.0 ≡ l.var.0) ps) c
+
 -- the clause is false now; wherever it is, the output is true and the parts count at least the least that they may now,
 -- less the spare
 pub record IsReason (a : List (Option Bool)) (k : AggKind) (bound : ExtInt) (out : Lit) (ps : List Part) (spare : ℤ)

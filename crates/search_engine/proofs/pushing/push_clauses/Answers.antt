@@ -15,13 +15,13 @@ loop-place-preserved c =
     let clauses : c.push_clause.new.self.clauses ≡ mid ++ Some w.1.0 ∷ [] = ap (λ (s : StoreState). s.clauses) w.1.2 in
     let front : List (List Lit) = take at c.args.clauses.now in
     let lt : at < length c.args.clauses.now = omega (arith, c.loop-place-test.true, c.len-place-end.ensures) in
-    let next = take-read c.args.clauses.now at c.in_ok-clause.clause lt
-    (sym (get_or_from_slice_get c.args.clauses.now at c.in_ok-clause.clause c.in_ok-clause.clause
-    c.in_ok-clause.ensures)) in
-    let once : IsEachOnceOf c.in_ok-clause.clause w.1.0 = subst (λ (lits : List Lit). IsEachOnceOf lits w.1.0)
-    c.as_slice.ensures w.1.1 in
-    let pushed : Pushes old (mid ++ Some w.1.0 ∷ []) (front ++ c.in_ok-clause.clause ∷ []) =
-    pushes-one old mid front c.in_ok-clause.clause w.1.0 c.loop-place.invariant.pushed once in
+    let lits : List Lit = c.unpack_clause.new.buffer.items in
+    let next = take-read c.args.clauses.now at lits lt
+    (sym (get_or_from_slice_get c.args.clauses.now at lits lits c.in_ok-unpack_clause.ensures)) in
+    let once : IsEachOnceOf lits w.1.0 = subst (λ (ls : List Lit). IsEachOnceOf ls w.1.0)
+    c.as_slice.ensures.value w.1.1 in
+    let pushed : Pushes old (mid ++ Some w.1.0 ∷ []) (front ++ lits ∷ []) =
+    pushes-one old mid front lits w.1.0 c.loop-place.invariant.pushed once in
     record {
       trail = ap (λ (s : StoreState). s.trail) w.1.2 ∙ c.loop-place.invariant.trail;
       within = omega (arith, lt);

@@ -1,4 +1,4 @@
-use Rattle.std.proofs.Common.{◌≡◌, ◌<◌, List, All, length, take, sym, ◌∙◌, subst, rules, flat_map, get_or}
+use Rattle.std.proofs.Common.{◌<◌, List, All, length, take, sym, ◌∙◌, subst, rules, flat_map, get_or}
 use Rattle.lit_core.specs.declared.literals.Lit.{Lit}
 use Rattle.clause_store.specs.TrailState.{TrailState}
 use Rattle.ground_core.specs.declared.parts.Gate.{Gate}

@@ -1,4 +1,4 @@
-use Rattle.std.proofs.Common.{◌≡◌, ◌<◌, ℕ, List, All, length, subst, arith, flat_map}
+use Rattle.std.proofs.Common.{◌<◌, ℕ, List, All, length, subst, arith, flat_map}
 use Rattle.std.proofs.lemmas.List.Elements.{All-weaker}
 use Rattle.std.proofs.lemmas.Result.{on_ok_weaker}
 use Rattle.lit_core.specs.declared.literals.Lit.{Lit}

@@ -8,7 +8,7 @@ use Rattle.term_bounds.specs.Amounts.{amount_of}
 use Rattle.term_bounds.specs.Shares.{least_total, share}
 use Rattle.term_bounds.specs.Totals.{counted_as}
 use Rattle.term_bounds.proofs.ListFacts.{no_part, sum-next}
-use Rattle.term_bounds.proofs.shares.least_of.Goals as goal
+use Rattle.term_bounds.proofs.shares.least_counts.Goals as goal
 
 pub loop-part-preserved : goal.loop-part-preserved
 loop-part-preserved c =
