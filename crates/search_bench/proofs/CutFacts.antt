@@ -1,9 +1,12 @@
 -- Cutting, byte by byte.
 use Rattle.std.proofs.Common.{◌≡◌, ℕ, ◌+◌, ◌-◌, ◌<◌, ◌≤◌, ◌==◌, Bool, true, false, List, [], ◌∷◌, ◌++◌, length, get_or}
 use Rattle.std.proofs.Common.{take, drop, refl, sym, ◌∙◌, ap, arith, append_assoc, cond, subst}
-use Rattle.std.proofs.Common.{inl, inr, ⊎_elim}
+use Rattle.std.proofs.Common.{inl, inr, All}
+use Rattle.std.proofs.Math.Seq.{take-add}
 use Rattle.std.proofs.lemmas.Bool.{eq-eqb, ne_eqb}
 use Rattle.std.proofs.lemmas.List.{drop_more, drop_all, take_more, append-nil, get_or-drop, length-drop}
+use Rattle.std.proofs.lemmas.List.{take-append-drop, drop-drop}
+use Rattle.std.proofs.lemmas.List.Elements.{All-head, All-tail}
 use Rattle.search_bench.specs.Cuts.{onto_first, cut_at, between, EndsPiece}
 
 -- bytes before the first piece
@@ -26,7 +29,7 @@ behind_byte : (front : List ℕ) (b : ℕ) (ps : List (List ℕ)) → behind fro
 behind_byte front b [] = refl
 behind_byte front b (p ∷ ps) = ap (λ (q : List ℕ). q ∷ ps) (sym (append_assoc front (b ∷ []) p))
 
-one_longer : (bytes : List ℕ) (start place : ℕ) → start ≤ place → place < length bytes → between bytes start (place + 1)
+pub one_longer : (bytes : List ℕ) (start place : ℕ) → start ≤ place → place < length bytes → between bytes start (place + 1)
     ≡ between bytes start place ++ get_or bytes place 0 ∷ []
 one_longer bytes start place low inside =
     let more : (place + 1) - start ≡ (place - start) + 1 = omega arith in
@@ -97,35 +100,6 @@ begins separator bytes start =
     ap (λ (n : ℕ). behind (take n (drop start bytes)) (cut_at separator (drop start bytes))) none
     ∙ behind_nothing separator (drop start bytes)
 
--- a piece behind which others stand
-pub goes_on : (separator : ℕ) (bytes : List ℕ) (start end : ℕ) → EndsPiece separator bytes start end
-    → (end ≡ length bytes → ⊥)
-    → cut_at separator (drop start bytes) ≡ between bytes start end ∷ cut_at separator (drop (end + 1) bytes)
-goes_on separator bytes start end ends early = ⊎_elim (λ h. h.1) (λ h. absurd (early h.0)) ends.2
-
--- the last piece
-pub is_last : (separator : ℕ) (bytes : List ℕ) (start end : ℕ) → EndsPiece separator bytes start end
-    → end ≡ length bytes → cut_at separator (drop start bytes) ≡ between bytes start end ∷ []
-is_last separator bytes start end ends whole =
-    ⊎_elim (λ h. absurd (omega (arith, h.0, whole))) (λ h. h.1) ends.2
-
--- one piece more, and the others behind it
-pub one_more : (separator : ℕ) (bytes : List ℕ) (start end : ℕ) (done : List (List ℕ))
-    → EndsPiece separator bytes start end → (end ≡ length bytes → ⊥)
-    → done ++ cut_at separator (drop start bytes) ≡ cut_at separator bytes
-    → (done ++ between bytes start end ∷ []) ++ cut_at separator (drop (end + 1) bytes) ≡ cut_at separator bytes
-one_more separator bytes start end done ends early so =
-    append_assoc done (between bytes start end ∷ []) (cut_at separator (drop (end + 1) bytes))
-    ∙ (ap (λ (ps : List (List ℕ)). done ++ ps) (sym (goes_on separator bytes start end ends early)) ∙ so)
-
--- the last piece behind the others
-pub one_last : (separator : ℕ) (bytes : List ℕ) (start end : ℕ) (done : List (List ℕ))
-    → EndsPiece separator bytes start end → end ≡ length bytes
-    → done ++ cut_at separator (drop start bytes) ≡ cut_at separator bytes
-    → done ++ between bytes start end ∷ [] ≡ cut_at separator bytes
-one_last separator bytes start end done ends whole so =
-    ap (λ (ps : List (List ℕ)). done ++ ps) (sym (is_last separator bytes start end ends whole)) ∙ so
-
 -- there is a piece
 pub some_piece : (separator : ℕ) (bytes : List ℕ) → (p : List ℕ) × (ps : List (List ℕ))
     × (cut_at separator bytes ≡ p ∷ ps)
@@ -137,3 +111,53 @@ some_piece separator (b ∷ bs) = by_test (b == separator) (cut_at separator bs)
     by_test true qs = ([], qs, refl)
     by_test false [] = (b ∷ [], [], refl)
     by_test false (q ∷ qs) = (b ∷ q, qs, refl)
+
+onto_behind : (b : ℕ) (front : List ℕ) (ps : List (List ℕ)) → onto_first b (behind front ps) ≡ behind (b ∷ front) ps
+onto_behind b front [] = refl
+onto_behind b front (p ∷ ps) = refl
+
+-- bytes without a separator stand before the first piece
+pub cut_behind : (separator : ℕ) (front rest : List ℕ) → All (λ b. b ≡ separator → ⊥) front
+    → cut_at separator (front ++ rest) ≡ behind front (cut_at separator rest)
+cut_behind separator [] rest none = sym (behind_nothing separator rest)
+cut_behind separator (b ∷ bs) rest none =
+    let more = cut_at separator (bs ++ rest) in
+    ap (λ (t : Bool). cond t ([] ∷ more) (onto_first b more))
+    (ne_eqb b separator (All-head (λ c. c ≡ separator → ⊥) b bs none))
+    ∙ (ap (onto_first b) (cut_behind separator bs rest (All-tail (λ c. c ≡ separator → ⊥) b bs none))
+    ∙ onto_behind b bs (cut_at separator rest))
+
+-- a piece and its separator
+pub piece_then : (separator : ℕ) (piece rest : List ℕ) → All (λ b. b ≡ separator → ⊥) piece
+    → cut_at separator (piece ++ separator ∷ rest) ≡ piece ∷ cut_at separator rest
+piece_then separator piece rest none =
+    let more = cut_at separator rest in
+    cut_behind separator piece (separator ∷ rest) none
+    ∙ (ap (λ (t : Bool). behind piece (cond t ([] ∷ more) (onto_first separator more)))
+    (eq-eqb separator separator refl) ∙ ap (λ (p : List ℕ). p ∷ more) (append-nil piece))
+
+-- a piece that is all there is
+pub piece_alone : (separator : ℕ) (piece : List ℕ) → All (λ b. b ≡ separator → ⊥) piece
+    → cut_at separator piece ≡ piece ∷ []
+piece_alone separator piece none =
+    ap (cut_at separator) (sym (append-nil piece))
+    ∙ (cut_behind separator piece [] none ∙ ap (λ (p : List ℕ). p ∷ []) (append-nil piece))
+
+-- the bytes from a place on, in two parts
+pub from_start : (bytes : List ℕ) (start place : ℕ) → start ≤ place → drop start bytes ≡ between bytes start place
+    ++ drop place bytes
+from_start bytes start place low =
+    let back : start + (place - start) ≡ place = omega arith in
+    sym (take-append-drop (place - start) (drop start bytes))
+    ∙ ap (λ (bs : List ℕ). between bytes start place ++ bs) (drop-drop (place - start) start bytes
+    ∙ ap (λ (n : ℕ). drop n bytes) back)
+
+pub between_joins : (bytes : List ℕ) (start place end : ℕ) → start ≤ place → place ≤ end → between bytes start end
+    ≡ between bytes start place ++ between bytes place end
+between_joins bytes start place end low high =
+    let whole : end - start ≡ (place - start) + (end - place) = omega arith in
+    let back : start + (place - start) ≡ place = omega arith in
+    ap (λ (n : ℕ). take n (drop start bytes)) whole
+    ∙ (take-add (place - start) (end - place) (drop start bytes)
+    ∙ ap (λ (bs : List ℕ). between bytes start place ++ take (end - place) bs) (drop-drop (place - start) start bytes
+    ∙ ap (λ (n : ℕ). drop n bytes) back))

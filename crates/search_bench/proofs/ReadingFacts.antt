@@ -1,60 +1,56 @@
 -- Reading line by line.
-use Rattle.std.proofs.Common.{◌≡◌, ℕ, zero, suc, ◌+◌, ◌-◌, ◌<◌, ◌≤◌, Bool, true, false, List, [], ◌∷◌, ◌++◌, map, take}
-use Rattle.std.proofs.Common.{drop, length, get_or, slice_get, Some, None, Option, Ok, Err, Bor, refl, sym, ◌∙◌, ap}
-use Rattle.std.proofs.Common.{subst, arith, append_assoc, inl, inr, All, MatchOption}
-use Rattle.std.specs.Bool.{MatchBool}
-use Rattle.std.proofs.lemmas.List.{take_more, take_all, get_or-map, length-map, length-drop}
+use Rattle.std.proofs.Common.{◌≡◌, ℕ, suc, ◌+◌, ◌<◌, ◌≤◌, List, [], ◌∷◌, ◌++◌, drop, length, slice_get}
+use Rattle.std.proofs.Common.{Option, Some, None, MatchOption, Ok, Err, refl, sym, ◌∙◌, ap, subst, arith, append_assoc, inl, inr, All}
+use Rattle.std.proofs.lemmas.List.{length-append, length-drop, take_at}
 use Rattle.std.proofs.lemmas.List.Elements.{All-push}
 use Rattle.std.proofs.lemmas.Option.{slice_get_within}
 use Rattle.lit_core.specs.declared.literals.Lit.{Lit}
 use Rattle.ground_core.specs.Problems.{ProblemState}
 use Rattle.ground_core.specs.declared.problems.Problem.{Problem}
 use Rattle.search_bench.specs.declared.lines.Header.{Header}
+use Rattle.search_bench.specs.Cuts.{between}
 use Rattle.search_bench.specs.Dimacs.{IsPassedOver, IsHeader, IsClauseLine, AddsOfLine, AreClauseLines, with_clauses}
 use Rattle.search_bench.specs.Dimacs.{AreLinesOf}
-use Rattle.search_bench.specs.Refusals.{HasNoClause, IsRefusedAt, AreReadBehind}
+use Rattle.search_bench.specs.Refusals.{HasNoClause, IsRefusedAt, AreReadBehind, SpeaksFirst}
+use Rattle.search_bench.specs.Words.{IsClosed, EndsLine, line_at, closed_lines}
+use Rattle.search_bench.proofs.ClosedFacts.{line_is, next_line, some_line, lines_few}
 
-abbrev pub shown : List (Bor (List ℕ)) → List (List ℕ)
-shown lines = map (λ l. l.now) lines
+-- the line that stands behind these
+stands_behind : (front : List (List ℕ)) (line : List ℕ) (rest : List (List ℕ))
+    → slice_get (front ++ line ∷ rest) (length front) ≡ Some line
+stands_behind [] line rest = refl
+stands_behind (f ∷ front) line rest = stands_behind front line rest
 
-pub when_true : (X Y : Type 0) (b : Bool) → MatchBool b X Y → b ≡ true → X
-when_true X Y true h e = h
-when_true X Y false h e = cc
+rest_behind : (front : List (List ℕ)) (line : List ℕ) (rest : List (List ℕ))
+    → drop (length front + 1) (front ++ line ∷ rest) ≡ rest
+rest_behind [] line rest = refl
+rest_behind (f ∷ front) line rest =
+    let more : length (f ∷ front) + 1 ≡ suc (length front + 1) = omega arith in
+    ap (λ (n : ℕ). drop n (f ∷ (front ++ line ∷ rest))) more ∙ rest_behind front line rest
 
-pub when_false : (X Y : Type 0) (b : Bool) → MatchBool b X Y → b ≡ false → Y
-when_false X Y true h e = cc
-when_false X Y false h e = h
+-- so many lines before this place say nothing
+pub record IsSilentTo (text : List ℕ) (before start : ℕ) : Type 0 where
+  pub silent : List (List ℕ)
+  pub number : length silent ≡ before
+  pub all : All IsPassedOver silent
+  pub few : before ≤ start
+  pub within : start ≤ length text
+  pub lines : closed_lines text ≡ silent ++ closed_lines (drop start text)
 
--- what the answer for a header line says
-abbrev HeaderAnswer : List ℕ → Option Header → Type 0
-HeaderAnswer line o = MatchOption o ((n m : ℕ) → IsHeader n m line → ⊥) (λ h. IsHeader h.vars h.clauses line)
-
-pub header_is : (line : List ℕ) (o : Option Header) (h : Header) → HeaderAnswer line o → o ≡ Some h
-    → IsHeader h.vars h.clauses line
-header_is line o h answer e = subst (HeaderAnswer line) e answer
-
-pub header_is_not : (line : List ℕ) (o : Option Header) → HeaderAnswer line o → o ≡ None → (n m : ℕ)
-    → IsHeader n m line → ⊥
-header_is_not line o answer e = subst (HeaderAnswer line) e answer
-
-pub stands_at : (lines : List (Bor (List ℕ))) (i : ℕ) (d : Bor (List ℕ)) → i < length lines → slice_get (shown lines) i
-    ≡ Some (get_or lines i d).now
-stands_at [] i d inside = absurd (omega arith)
-stands_at (l ∷ lines) zero d inside = refl
-stands_at (l ∷ lines) (suc i) d inside = stands_at lines i d (omega arith)
-
-pub none_there : (lines : List (Bor (List ℕ))) (line : List ℕ) (n : ℕ) → length lines ≤ n → slice_get (shown lines) n
-    ≡ Some line → ⊥
-none_there lines line n past e = omega (arith, slice_get_within (shown lines) n line e, length-map lines (λ l. l.now))
-
-pub silent_more : (lines : List (Bor (List ℕ))) (i : ℕ) (d : Bor (List ℕ)) → i < length lines
-    → All IsPassedOver (take i (shown lines)) → IsPassedOver (get_or lines i d).now
-    → All IsPassedOver (take (i + 1) (shown lines))
-silent_more lines i d inside all is =
-    let within : i < length (shown lines) = omega (arith, length-map lines (λ l. l.now)) in
-    subst (All IsPassedOver) (sym (take_more (shown lines) i [] within))
-    (All-push IsPassedOver (take i (shown lines)) (get_or (shown lines) i []) all
-    (subst IsPassedOver (sym (get_or-map (λ l. l.now) lines i d [] inside)) is))
+-- one silent line more
+pub silent_more : (text : List ℕ) (before start end : ℕ) → IsSilentTo text before start → EndsLine text start end
+    → IsPassedOver (line_at text start) → IsSilentTo text (before + 1) (end + 1)
+silent_more text before start end so ends passed =
+    let line = line_at text start in
+    record {
+      silent = so.silent ++ line ∷ [];
+      number = omega (arith, so.number, length-append so.silent (line ∷ []));
+      all = All-push IsPassedOver so.silent line so.all passed;
+      few = omega (arith, so.few, ends.low);
+      within = omega (arith, ends.high);
+      lines = so.lines ∙ (ap (λ (ls : List (List ℕ)). so.silent ++ ls) (next_line text start end ends)
+          ∙ sym (append_assoc so.silent (line ∷ []) (closed_lines (drop (end + 1) text))));
+    }
 
 -- the clauses of one line more
 lines_push : (n : ℕ) (ls : List (List ℕ)) (line : List ℕ) (cs ds : List (List Lit)) → AreClauseLines n ls cs
@@ -76,133 +72,156 @@ with_both : (p : ProblemState) (cs ds : List (List Lit)) → with_clauses (with_
     ≡ with_clauses p (cs ++ ds)
 with_both p cs ds = ap (λ (l : List (List Lit)). record p { clauses = l }) (append_assoc p.clauses cs ds)
 
--- what the lines so far have added
-abbrev pub Added : ProblemState → List (List ℕ) → ProblemState → Type 0
-Added p lines q = (cs : List (List Lit)) × AreClauseLines p.vars lines cs × (q ≡ with_clauses p cs)
+-- so many lines from start up to this place have added their clauses
+pub record AddsUpTo (p : ProblemState) (text : List ℕ) (start place count : ℕ) (q : ProblemState) : Type 0 where
+  pub done : List (List ℕ)
+  pub number : length done ≡ count
+  pub few : count ≤ place
+  pub within : place ≤ length text
+  pub lines : closed_lines (drop start text) ≡ done ++ closed_lines (drop place text)
+  pub clauses : List (List Lit)
+  pub written : AreClauseLines p.vars done clauses
+  pub adds : q ≡ with_clauses p clauses
 
-pub added_more : (p q r : ProblemState) (lines : List (Bor (List ℕ))) (i : ℕ) (d : Bor (List ℕ)) → i < length lines
-    → Added p (take i (shown lines)) q
-    → (ds : List (List Lit)) × AddsOfLine q.vars (get_or lines i d).now ds × (r ≡ with_clauses q ds)
-    → Added p (take (i + 1) (shown lines)) r
-added_more p q r lines i d inside so adds =
-    let within : i < length (shown lines) = omega (arith, length-map lines (λ l. l.now)) in
-    let vars : q.vars ≡ p.vars = ap (λ (s : ProblemState). s.vars) so.2 in
-    let more : take (i + 1) (shown lines) ≡ take i (shown lines) ++ (get_or lines i d).now ∷ [] =
-    take_more (shown lines) i [] within ∙ ap (λ (l : List ℕ). take i (shown lines) ++ l ∷ [])
-    (get_or-map (λ l. l.now) lines i d [] inside) in (
-      so.0 ++ adds.0,
-      subst (λ ls. AreClauseLines p.vars ls (so.0 ++ adds.0)) (sym more) (lines_push p.vars (take i (shown lines))
-          (get_or lines i d).now so.0 adds.0 so.1 (subst (λ n. AddsOfLine n (get_or lines i d).now adds.0)
-          vars adds.1)),
-      adds.2 ∙ (ap (λ (s : ProblemState). with_clauses s adds.0) so.2 ∙ with_both p so.0 adds.0),
-    )
+-- what is answered for the line at the place
+abbrev pub LineAnswer : ProblemState → List ℕ → ℕ → ProblemState → Option ℕ → Type 0
+LineAnswer p text place q o = MatchOption o ((IsPassedOver (line_at text place) → ⊥) × ((c : List Lit)
+    → IsClauseLine p.vars c (line_at text place) → ⊥)) (λ end. EndsLine text place end × ((ds : List (List Lit))
+    × AddsOfLine p.vars (line_at text place) ds × (q ≡ with_clauses p ds)))
 
-pub no_clause : (p q : ProblemState) (lines : List (Bor (List ℕ))) (i : ℕ) (d : Bor (List ℕ)) → i < length lines
-    → Added p (take i (shown lines)) q
-    → (IsPassedOver (get_or lines i d).now → ⊥) × ((c : List Lit) → IsClauseLine q.vars c (get_or lines i d).now → ⊥)
-    → HasNoClause p.vars (shown lines) (i + 1)
-no_clause p q lines i d inside so none =
-    let vars : q.vars ≡ p.vars = ap (λ (s : ProblemState). s.vars) so.2 in
+-- one line more
+pub adds_more : (p q r : ProblemState) (text : List ℕ) (start place count end : ℕ)
+    → AddsUpTo p text start place count q → LineAnswer q text place r (Some end)
+    → AddsUpTo p text start (end + 1) (count + 1) r
+adds_more p q r text start place count end so step =
+    let line = line_at text place in
+    let ends = step.0 in
+    let ds : List (List Lit) = step.1.0 in
+    let vars : q.vars ≡ p.vars = ap (λ (s : ProblemState). s.vars) so.adds in
     record {
-      before = i;
-      clauses = so.0;
-      written = so.1;
-      line = (get_or lines i d).now;
-      stands = stands_at lines i d inside;
-      speaks = none.0;
-      no_clause = λ c is. none.1 c (subst (λ n. IsClauseLine n c (get_or lines i d).now) (sym vars) is);
-      refused = refl;
+      done = so.done ++ line ∷ [];
+      number = omega (arith, so.number, length-append so.done (line ∷ []));
+      few = omega (arith, so.few, ends.low);
+      within = omega (arith, ends.high);
+      lines = so.lines ∙ (ap (λ (ls : List (List ℕ)). so.done ++ ls) (next_line text place end ends)
+          ∙ sym (append_assoc so.done (line ∷ []) (closed_lines (drop (end + 1) text))));
+      clauses = so.clauses ++ ds;
+      written = lines_push p.vars so.done line so.clauses ds so.written
+          (subst (λ n. AddsOfLine n line ds) vars step.1.1);
+      adds = step.1.2 ∙ (ap (λ (s : ProblemState). with_clauses s ds) so.adds ∙ with_both p so.clauses ds);
     }
 
--- no line says anything
-pub no_line : (lines : List (Bor (List ℕ))) (before : ℕ) → before ≡ length lines
-    → All IsPassedOver (take before (shown lines)) → IsRefusedAt (shown lines) before
-no_line lines before end silent =
-    let all : before ≡ length (shown lines) = omega (arith, end, length-map lines (λ l. l.now)) in
-    inl (subst (All IsPassedOver) (take_all before (shown lines) (omega arith)) silent, all)
+-- a line that is no clause
+pub adds_no_clause : (p q r : ProblemState) (text : List ℕ) (start place count : ℕ) → IsClosed text
+    → place < length text → AddsUpTo p text start place count q → LineAnswer q text place r None
+    → HasNoClause p.vars (closed_lines (drop start text)) (count + 1)
+adds_no_clause p q r text start place count closed inside so none =
+    let line = line_at text place in
+    let vars : q.vars ≡ p.vars = ap (λ (s : ProblemState). s.vars) so.adds in
+    let some = some_line text place closed inside in
+    let lines : closed_lines (drop start text) ≡ so.done ++ line ∷ some.0 =
+    so.lines ∙ ap (λ (ls : List (List ℕ)). so.done ++ ls) some.1 in
+    subst (λ ls. HasNoClause p.vars ls (count + 1)) (sym lines) (record {
+      before = length so.done;
+      clauses = so.clauses;
+      written = subst (λ ls. AreClauseLines p.vars ls so.clauses)
+          (sym (take_at so.done (line ∷ some.0) (length so.done) refl)) so.written;
+      line = line;
+      stands = stands_behind so.done line some.0;
+      speaks = none.0;
+      no_clause = λ c is. none.1 c (subst (λ n. IsClauseLine n c line) (sym vars) is);
+      refused = omega (arith, so.number);
+    })
+
+-- what the answer for a header line says
+abbrev pub HeaderAnswer : List ℕ → Option Header → Type 0
+HeaderAnswer line o = MatchOption o ((n m : ℕ) → IsHeader n m line → ⊥) (λ h. IsHeader h.vars h.clauses line)
+
+pub header_at : (text : List ℕ) (start end : ℕ) (o : Option Header) → EndsLine text start end
+    → HeaderAnswer (between text start end) o → HeaderAnswer (line_at text start) o
+header_at text start end o ends answer =
+    subst (λ line. HeaderAnswer line o) (sym (line_is text start end ends)) answer
 
 -- no header
-pub no_header : (lines : List (Bor (List ℕ))) (before : ℕ) (d : Bor (List ℕ)) → before < length lines
-    → All IsPassedOver (take before (shown lines))
-    → ((line : List ℕ) → slice_get (shown lines) before ≡ Some line → IsPassedOver line → ⊥)
-    → ((n m : ℕ) → IsHeader n m (get_or lines before d).now → ⊥) → IsRefusedAt (shown lines) (before + 1)
-no_header lines before d inside silent next none =
-    let stands = stands_at lines before d inside in
-    inr (inl (record {
-      before = before;
-      silent = silent;
-      line = (get_or lines before d).now;
-      stands = stands;
-      speaks =
-          next (get_or lines before d).now stands;
+pub no_header : (text : List ℕ) (before start : ℕ) → IsClosed text → SpeaksFirst text before start
+    → ((n m : ℕ) → IsHeader n m (line_at text start) → ⊥) → IsRefusedAt (closed_lines text) (before + 1)
+no_header text before start closed so none =
+    let line = line_at text start in
+    let some = some_line text start closed so.inside in
+    let lines : closed_lines text ≡ so.silent ++ line ∷ some.0 =
+    so.lines ∙ ap (λ (ls : List (List ℕ)). so.silent ++ ls) some.1 in
+    subst (λ ls. IsRefusedAt ls (before + 1)) (sym lines) (inr (inl (record {
+      before = length so.silent;
+      silent = subst (All IsPassedOver) (sym (take_at so.silent (line ∷ some.0) (length so.silent) refl)) so.all;
+      line = line;
+      stands = stands_behind so.silent line some.0;
+      speaks = so.speaks;
       no_header = none;
-      refused = refl;
-    }))
-
-shown_drop : (n : ℕ) (lines : List (Bor (List ℕ))) → shown (drop n lines) ≡ drop n (shown lines)
-shown_drop zero lines = refl
-shown_drop (suc n) [] = refl
-shown_drop (suc n) (l ∷ lines) = shown_drop n lines
-
--- the lines after this one
-abbrev pub behind : List (Bor (List ℕ)) → ℕ → List (List ℕ)
-behind lines before = shown (take (length lines - (before + 1)) (drop (before + 1) lines))
-
-behind_is : (lines : List (Bor (List ℕ))) (before : ℕ) → before < length lines → behind lines before ≡ drop (before + 1)
-    (shown lines)
-behind_is lines before inside =
-    ap shown (take_all (length lines - (before + 1)) (drop (before + 1) lines)
-    (omega (arith, length-drop (before + 1) lines))) ∙ shown_drop (before + 1) lines
+      refused = omega (arith, so.number);
+    })))
 
 -- the refused line is one of these
-pub late : (n m : ℕ) (lines : List (List ℕ)) (number : ℕ) → AreReadBehind n m lines (Err number) → number ≤ length lines
+late : (n m : ℕ) (lines : List (List ℕ)) (number : ℕ) → AreReadBehind n m lines (Err number) → number ≤ length lines
 late n m lines number (inl h) = omega (arith, h.refused, slice_get_within lines h.before h.line h.stands)
 late n m lines number (inr h) = omega (arith, h.refused)
 
-pub within_lines : (lines : List (Bor (List ℕ))) (before n m number : ℕ) → before < length lines
-    → AreReadBehind n m (behind lines before) (Err number) → before + 1 + number ≤ length lines
-within_lines lines before n m number inside wrong =
+pub within_text : (text : List ℕ) (before start end n m number : ℕ) → SpeaksFirst text before start
+    → EndsLine text start end → AreReadBehind n m (closed_lines (drop (end + 1) text)) (Err number)
+    → before + 1 + number ≤ length text
+within_text text before start end n m number so ends wrong =
+    let rest = drop (end + 1) text in
     omega (
       arith,
-      late n m (behind lines before) number wrong,
-      ap (λ (ls : List (List ℕ)). length ls)
-          (behind_is lines before inside),
-      length-drop (before + 1) (shown lines),
-      length-map lines (λ l. l.now),
+      late n m (closed_lines rest) number wrong,
+      lines_few rest,
+      length-drop (end + 1) text,
+      so.few,
+      ends.low,
+      ends.high,
     )
 
 -- something is wrong after the header
-pub no_end : (lines : List (Bor (List ℕ))) (before : ℕ) (d : Bor (List ℕ)) (n m number : ℕ) → before < length lines
-    → All IsPassedOver (take before (shown lines)) → IsHeader n m (get_or lines before d).now
-    → AreReadBehind n m (behind lines before) (Err number) → IsRefusedAt (shown lines) (before + 1 + number)
-no_end lines before d n m number inside silent is wrong =
-    inr (inr (record {
-      before = before;
-      silent = silent;
-      header = (get_or lines before d).now;
-      stands = stands_at lines before d inside;
+pub no_end : (text : List ℕ) (before start end n m number : ℕ) → SpeaksFirst text before start
+    → EndsLine text start end → IsHeader n m (line_at text start)
+    → AreReadBehind n m (closed_lines (drop (end + 1) text)) (Err number)
+    → IsRefusedAt (closed_lines text) (before + 1 + number)
+no_end text before start end n m number so ends is wrong =
+    let line = line_at text start in
+    let rest = closed_lines (drop (end + 1) text) in
+    let lines : closed_lines text ≡ so.silent ++ line ∷ rest =
+    so.lines ∙ ap (λ (ls : List (List ℕ)). so.silent ++ ls) (next_line text start end ends) in
+    subst (λ ls. IsRefusedAt ls (before + 1 + number)) (sym lines) (inr (inr (record {
+      before = length so.silent;
+      silent = subst (All IsPassedOver) (sym (take_at so.silent (line ∷ rest) (length so.silent) refl)) so.all;
+      header = line;
+      stands = stands_behind so.silent line rest;
       vars = n;
       count = m;
       tells = is;
       later = number;
-      wrong = subst (λ ls. AreReadBehind n m ls (Err number)) (behind_is lines before inside) wrong;
-      refused = refl;
-    }))
+      wrong = subst (λ ls. AreReadBehind n m ls (Err number)) (sym (rest_behind so.silent line rest)) wrong;
+      refused = omega (arith, so.number);
+    })))
 
 -- all is read
-pub all_read : (lines : List (Bor (List ℕ))) (before : ℕ) (d : Bor (List ℕ)) (n m : ℕ) (p : Problem)
-    → before < length lines → All IsPassedOver (take before (shown lines)) → IsHeader n m (get_or lines before d).now
-    → AreReadBehind n m (behind lines before) (Ok p) → AreLinesOf (shown lines) p
-all_read lines before d n m p inside silent is read = (
-  record {
-    before = before;
-    silent = silent;
-    header = (get_or lines before d).now;
-    stands = stands_at lines before d inside;
-    tells = subst (λ k. IsHeader k (length p.clauses) (get_or lines before d).now) (sym read.0)
-        (subst (λ k. IsHeader n k (get_or lines before d).now) (sym read.1) is);
-    clauses = subst (λ k. AreClauseLines k (drop (before + 1) (shown lines)) p.clauses) (sym read.0)
-        (subst (λ ls. AreClauseLines n ls p.clauses) (behind_is lines before inside) read.2);
-  },
-  read.3,
-)
+pub all_read : (text : List ℕ) (before start end n m : ℕ) (p : Problem) → SpeaksFirst text before start
+    → EndsLine text start end → IsHeader n m (line_at text start)
+    → AreReadBehind n m (closed_lines (drop (end + 1) text)) (Ok p) → AreLinesOf (closed_lines text) p
+all_read text before start end n m p so ends is read =
+    let line = line_at text start in
+    let rest = closed_lines (drop (end + 1) text) in
+    let lines : closed_lines text ≡ so.silent ++ line ∷ rest =
+    so.lines ∙ ap (λ (ls : List (List ℕ)). so.silent ++ ls) (next_line text start end ends) in
+    subst (λ ls. AreLinesOf ls p) (sym lines) (
+      record {
+        before = length so.silent;
+        silent = subst (All IsPassedOver) (sym (take_at so.silent (line ∷ rest) (length so.silent) refl)) so.all;
+        header = line;
+        stands = stands_behind so.silent line rest;
+        tells = subst (λ k. IsHeader k (length p.clauses) line) (sym read.0)
+            (subst (λ k. IsHeader n k line) (sym read.1) is);
+        clauses = subst (λ k. AreClauseLines k (drop (length so.silent + 1) (so.silent ++ line ∷ rest)) p.clauses)
+            (sym read.0) (subst (λ ls. AreClauseLines n ls p.clauses) (sym (rest_behind so.silent line rest)) read.2);
+      },
+      read.3,
+    )

@@ -5,3 +5,4 @@ pub mod Dimacs
 pub mod Forcing
 pub mod Refusals
 pub mod Verdicts
+pub mod Words

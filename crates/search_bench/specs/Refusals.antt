@@ -1,11 +1,12 @@
 -- Why a text is refused, at which line. Lines are counted from 1.
-use Rattle.std.specs.Prelude.{◌≡◌, ℕ, ◌+◌, List, length, take, drop, slice_get, Some, Result, Ok, Err, ◌⊎◌, All}
+use Rattle.std.specs.Prelude.{◌≡◌, ℕ, ◌+◌, ◌<◌, ◌≤◌, List, ◌++◌, length, take, drop, slice_get, Some, Result, Ok, Err, ◌⊎◌, All}
 use Rattle.lit_core.specs.declared.literals.Lit.{Lit}
 use Rattle.ground_core.specs.declared.problems.Problem.{Problem}
 use Rattle.search_bench.specs.declared.errors.ReadError.{ReadError}
 use Rattle.search_bench.specs.declared.errors.ReadError.TheVariants as errors
 use Rattle.search_bench.specs.Cuts.{cut_at}
 use Rattle.search_bench.specs.Dimacs.{IsPassedOver, IsHeader, IsClauseLine, AreClauseLines, HasClausesAlone, AreLinesOf}
+use Rattle.search_bench.specs.Words.{closed_lines, line_at}
 
 -- no line says anything, and the last one is refused
 abbrev pub HasNoLine : List (List ℕ) → ℕ → Type 0
@@ -73,3 +74,13 @@ abbrev pub AreReadBehind : ℕ → ℕ → List (List ℕ) → Result Problem �
 AreReadBehind n m lines (Ok p) = (p.vars ≡ n) × (length p.clauses ≡ m) × AreClauseLines n lines p.clauses
     × HasClausesAlone p
 AreReadBehind n m lines (Err number) = HasNoClause n lines number ⊎ HasOtherCount n m lines number
+
+-- behind so many lines that say nothing one that says something begins here, in a text whose last byte is a newline
+pub record SpeaksFirst (text : List ℕ) (before start : ℕ) : Type 0 where
+  pub silent : List (List ℕ)
+  pub number : length silent ≡ before
+  pub all : All IsPassedOver silent
+  pub few : before ≤ start
+  pub inside : start < length text
+  pub lines : closed_lines text ≡ silent ++ closed_lines (drop start text)
+  pub speaks : IsPassedOver (line_at text start) → ⊥

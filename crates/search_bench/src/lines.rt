@@ -1,55 +1,67 @@
-//! Reads single lines.
-ghost use Rattle.std.specs.Prelude.{◌≡◌, ◌<◌, ◌^◌, ℕ, pos, List, [], ◌∷◌, codes, map, IfOk, MatchBool, MatchOption};
+//! Reads single lines of a text whose last byte is a newline.
+ghost use Rattle.std.specs.Prelude.{◌≡◌, ◌<◌, ◌^◌, ℕ, pos, List, [], ◌∷◌, codes, map, length, IfOk, MatchBool};
+ghost use Rattle.std.specs.Prelude.{MatchOption};
 ghost use Rattle.lit_core.specs.declared.literals.Lit.{Lit};
 ghost use Rattle.search_bench.specs.Dimacs.{IsNumber, IsClauseLine, IsPassedOver, IsHeader};
+ghost use Rattle.search_bench.specs.Words.{IsClosed, EndsLine, line_at};
 
 use crate::cuts::{piece_end, pieces};
 use crate::numbers::{literal, number};
+use crate::words::word_at;
 use ground_core::Memory;
 use lit_core::Lit;
 use std::alloc::Global;
 
-/// Whether the line is empty or a comment.
-pub fn is_passed_over(line: &[u8]) -> bool
-    ensures { MatchBool result (IsPassedOver line.now) (IsPassedOver line.now → ⊥) }
+/// Where the line that begins here ends.
+pub fn line_end(text: &[u8], start: usize) -> usize
+    requires closed { IsClosed text.now }
+    requires inside { start < length text.now }
+    ensures { EndsLine text.now start result }
 {
-    match line {
-        [] => true,
-        [first, ..] => *first == b'c',
-    }
+    piece_end(text, start, b'\n')
 }
 
-/// Whether the word writes 0.
-fn is_zero(word: &[u8]) -> bool
-    ensures { MatchBool result (IsNumber word.now (pos 0)) (IsNumber word.now (pos 0) → ⊥) }
+/// Whether the line that begins here is empty or a comment.
+pub fn is_passed_over(text: &[u8], start: usize) -> bool
+    requires { start < length text.now }
+    ensures { MatchBool result (IsPassedOver (line_at text.now start)) (IsPassedOver (line_at text.now start) → ⊥) }
 {
-    match number(word) {
-        Some(number) => number == 0,
-        None => false,
-    }
+    text[start] == b'\n' || text[start] == b'c'
 }
 
-/// Whether the line writes a clause, whose literals then replace what stood in `clause`.
+/// Where the line that begins here ends, if it writes a clause, whose literals then replace what stood in `clause`.
 ///
 /// The words are read one after another where they stand, and `clause` keeps its memory from line to line, so that a
 /// line takes none.
-pub fn reads_clause(vars: u64, line: &[u8], clause: &mut Vec<Lit>) -> Result<bool, Memory>
-    ensures { IfOk result (λ fine. MatchBool fine (IsClauseLine vars clause.new.items line.now)
-        ((c : List Lit) → IsClauseLine vars c line.now → ⊥)) }
+pub fn reads_clause(
+    vars: u64,
+    text: &[u8],
+    start: usize,
+    clause: &mut Vec<Lit>,
+) -> Result<Option<usize>, Memory>
+    requires closed { IsClosed text.now }
+    requires inside { start < length text.now }
+    ensures { IfOk result (λ o. MatchOption o ((c : List Lit) → IsClauseLine vars c (line_at text.now start) → ⊥)
+        (λ end. EndsLine text.now start end × IsClauseLine vars clause.new.items (line_at text.now start))) }
 {
     clause.clear();
-    let mut start = 0;
+    let mut place = start;
     loop {
-        let end = piece_end(line, start, b' ');
-        let word = &line[start..end];
-        if end == line.len() {
-            return Ok(is_zero(word));
+        let word = word_at(text, place);
+        let Some(number) = word.number else {
+            return Ok(None);
+        };
+        if word.last {
+            if number.magnitude != 0 {
+                return Ok(None);
+            }
+            return Ok(Some(word.end));
         }
-        let Some(lit) = literal(vars, word) else {
-            return Ok(false);
+        let Some(lit) = literal(vars, number) else {
+            return Ok(None);
         };
         clause.push(lit)?;
-        start = end + 1;
+        place = word.end + 1;
     }
 }
 

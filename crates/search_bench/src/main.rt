@@ -12,6 +12,7 @@ mod questions;
 mod reading;
 mod solver;
 mod verdicts;
+mod words;
 
 use answers::answer;
 use questions::{Question, question_of};
