@@ -123,7 +123,8 @@ fn take(alloc: Global, input: &mut Input, word: &str) -> Result<(), Memory>
             input.task = Task::Least;
             input.section = Section::Weighted;
         }
-        _ => input.task = Task::Conflict,
+        "conflict" => input.task = Task::Conflict,
+        _ => {}
     }
     Ok(())
 }
