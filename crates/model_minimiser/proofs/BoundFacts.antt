@@ -182,6 +182,7 @@ module _ (assumed : List Lit) (term : ℕ) (r s t : SolveState) (ls : List Lit)
       }),
     )
 
-    pub end-least : (m : Minimum) → IsLeast r.problem assumed term s.cores m → IsLeast r.problem assumed term t.cores m
-    end-least m least = subst (λ (cs : List (List Lit)). IsLeast r.problem assumed term cs m)
-        (sym (ap (λ (q : SolveState). q.cores) e)) least
+    pub end-least : (m : Minimum) → IsLeast r.problem assumed term s.cores s.problem.bounds m
+        → IsLeast r.problem assumed term t.cores t.problem.bounds m
+    end-least m least = subst (λ (q : SolveState). IsLeast r.problem assumed term q.cores q.problem.bounds m) (sym e)
+        least

@@ -18,7 +18,7 @@ use Rattle.ground_core.proofs.GrowthFacts.{select, bound-restricts}
 use Rattle.model_minimiser.specs.declared.minimum.Found.{Found}
 use Rattle.ground_core.specs.Calls.{Stays}
 use Rattle.model_minimiser.specs.Bounds.{IsBelow, AddsAtMost}
-use Rattle.model_minimiser.specs.Minima.{IsFound, NothingBelow, Finds}
+use Rattle.model_minimiser.specs.Minima.{IsFound, NothingBelow, Finds, HasBound}
 
 -- the next variable is that of no literal of the problem
 fresh : (p : ProblemState) (ls : List Lit) → AreLitsOf p.vars ls → Contains ls (next_lit p) → ⊥
@@ -45,6 +45,7 @@ module _ (p : ProblemState) (term : ℕ) (n : ExtInt) (assume : List Lit) (fine 
       let on : literal_value v sel ≡ true = All-contains (λ l. literal_value v l ≡ true) (assume ++ sel ∷ []) sel
       h.assumes (Contains-push assume sel) in (
         record {
+          covers = let x : p.vars + 1 < length f.values = h.covers in omega (arith, x);
           satisfies = bound-restricts p term n v h.satisfies;
           assumes =
               All-front (λ l. literal_value v l ≡ true) assume (sel ∷ []) h.assumes;
@@ -90,13 +91,22 @@ module _ (s0 s1 s2 : SolveState) (term : ℕ) (n : ExtInt) (ls : List Lit) (sel 
   turn-found o f is h = found-below s0.problem term n ls fine lt lits f
       (plain (Some f) (subst (λ (x : Option Found). Finds s1.problem (ls ++ sel ∷ []) term s2.cores x) is h))
 
-  pub turn-nothing : (o : Option Found) → o ≡ None → Finds s1.problem (ls ++ sel ∷ []) term s2.cores o
+  turn-bound : Stays s1 s2 → HasBound s2.problem.bounds sel term n
+  turn-bound stays =
+      subst (λ (p : ProblemState). HasBound p.bounds sel term n)
+      (sym (stays.problem ∙ ap (λ (s : SolveState). s.problem) made))
+      (subst (λ (l : Lit). HasBound (with_bound s0.problem term n).bounds l term n) (sym is_next)
+      (Contains-push s0.problem.bounds (record { out = next_lit s0.problem; term = term; below = n })))
+
+  pub turn-nothing : (o : Option Found) → o ≡ None → Finds s1.problem (ls ++ sel ∷ []) term s2.cores o → Stays s1 s2
       → NothingBelow s0.problem ls term n × HasCoreWithin s2.cores (ls ++ sel ∷ [])
-  turn-nothing o is h =
+      × HasBound s2.problem.bounds sel term n
+  turn-nothing o is h stays =
       let none : Finds s1.problem (ls ++ sel ∷ []) term s2.cores None =
       subst (λ (x : Option Found). Finds s1.problem (ls ++ sel ∷ []) term s2.cores x) is h in (
         nothing-below s0.problem term n ls fine lt lits (plain None none).0,
         none.1,
+        turn-bound stays,
       )
 
 -- nothing was added

@@ -48,7 +48,7 @@ returns-in-Ok-None-clause-finds g c =
     let s2 : SolveState = g.S.Solve.state c.search_under.new.s in
     turn-nothing s0 s1 s2 c.args.term c.args.below c.args.assume.now c.in-Ok.selector c.requires.kept.problem
     c.requires.term c.requires.literals c.in-Ok.ensures.made.0 c.in-Ok.ensures.made.1
-    c.in-Ok-None.field-0 c.in-Ok-None.field-0-is c.in-Ok-None.ensures.finds
+    c.in-Ok-None.field-0 c.in-Ok-None.field-0-is c.in-Ok-None.ensures.finds c.search_under.ensures.stays
 
 pub returns-in-Ok-None-clause-adds : goal.returns-in-Ok-None-clause-adds
 returns-in-Ok-None-clause-adds g c =

@@ -28,7 +28,7 @@ loop-alloc-smaller g c =
     let s : SolveState = g.S.Solve.state c.loop-alloc.s in
     let t : SolveState = g.S.Solve.state c.lower.new.s in
     let finds = subst (λ (x : Step). FindsBelow s.problem c.args.assume.now c.args.term c.loop-alloc.best.value t.cores
-    x) c.in-Ok-Lower.field-0-is c.in-Ok-Lower.ensures.finds in
+    t.problem.bounds x) c.in-Ok-Lower.field-0-is c.in-Ok-Lower.ensures.finds in
     turn-falls c.args.assume.now c.args.term r s c.args.budget.now c.loop-alloc.budget c.loop-alloc.best
     c.loop-alloc.selectors.items
     c.loop-alloc.invariant.0 t c.lower.new.budget c.lower.new.selectors.items c.lower.ensures.adds c.lower.ensures.keeps
@@ -41,7 +41,7 @@ loop-alloc-preserved g c =
     let s : SolveState = g.S.Solve.state c.loop-alloc.s in
     let t : SolveState = g.S.Solve.state c.lower.new.s in
     let finds = subst (λ (x : Step). FindsBelow s.problem c.args.assume.now c.args.term c.loop-alloc.best.value t.cores
-    x) c.in-Ok-Lower.field-0-is c.in-Ok-Lower.ensures.finds in (
+    t.problem.bounds x) c.in-Ok-Lower.field-0-is c.in-Ok-Lower.ensures.finds in (
       turn-next c.args.assume.now c.args.term r s c.args.budget.now c.loop-alloc.budget c.loop-alloc.best
           c.loop-alloc.selectors.items
           c.loop-alloc.invariant.0 t c.lower.new.budget c.lower.new.selectors.items c.lower.ensures.adds
@@ -59,10 +59,10 @@ returns-in-Ok-Nothing-clause-least g c =
     let s : SolveState = g.S.Solve.state c.loop-alloc.s in
     let t : SolveState = g.S.Solve.state c.lower.new.s in
     let finds = subst (λ (x : Step). FindsBelow s.problem c.args.assume.now c.args.term c.loop-alloc.best.value t.cores
-    x) c.in-Ok-Nothing.field-0-is c.in-Ok-Nothing.ensures.finds in
+    t.problem.bounds x) c.in-Ok-Nothing.field-0-is c.in-Ok-Nothing.ensures.finds in
     least-here c.args.assume.now c.args.term r s c.args.budget.now c.loop-alloc.budget c.loop-alloc.best
     c.loop-alloc.selectors.items
-    c.loop-alloc.invariant.0 t.cores c.in-Ok-Nothing.bound c.requires.kept.problem c.requires.literals
+    c.loop-alloc.invariant.0 t.cores t.problem.bounds c.in-Ok-Nothing.bound c.requires.kept.problem c.requires.literals
     (c.loop-alloc-test.ensures.other refl) finds
 
 pub returns-in-Ok-Nothing-clause-bounds : goal.returns-in-Ok-Nothing-clause-bounds
