@@ -130,8 +130,8 @@ impl Engine {
         // So the sum below fits.
         let _count = self.store.assignment().len();
         let end = self.problem.vars() + 1;
-        // Other signs on ties after 32 conflicts: few enough to get away from a bad start where nothing is
-        // restarted, and enough for what was learnt under one choice of signs to be of use.
+        // Where no value was seen less, the sign goes another way in each search, and every 32 conflicts of one:
+        // without restarts some searches stuck to the signs of a bad start, and with this they ended.
         let salt = self.searches.wrapping_add(self.conflicts / 32);
         match self
             .decider
