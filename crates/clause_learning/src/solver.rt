@@ -22,11 +22,11 @@ use std::marker::Model;
 /// A solver that keeps a problem of gates, clauses and bounds on terms, the clauses that it learnt of it, and the
 /// cores that it found.
 ///
-/// It decides what is assumed, each at a level of its own, and then what its rule chooses by their scores: one of the
-/// unassigned ground atoms, or where there is none, of the other variables. They are listed in the order of their
-/// numbers; but a rule that says that it takes the first of falling scores gets the first unassigned variable of an
-/// order by falling score, where of equal scores those that rose first stand first. A conflict raises the score of
-/// each variable of its false clause by 1.
+/// It decides what is assumed, each at a level of its own, and then an unassigned ground atom, or where there is none,
+/// one of the other variables: the one that its rule chooses of all of these, listed with their scores in the order of
+/// their numbers. A rule that takes the first of falling scores is not asked: the first variable by falling score is
+/// decided, and of equal scores the one that rose first. A conflict raises the score of each variable of its false
+/// clause by 1.
 ///
 /// From a conflict it learns the clause of the first unique implication point without those literals that the others
 /// make false by one reason, if that clause still says something new once all else is propagated, and goes back to
