@@ -12,6 +12,7 @@ use Rattle.kb_logic.specs.Denotations.{Denotation, compared}
 use Rattle.lit_core.specs.declared.literals.Lit.{Lit}
 use Rattle.lit_core.specs.Literals.{valuation}
 use Rattle.ground_core.specs.declared.parts.GroundTerm.{GroundTerm}
+use Rattle.ground_core.specs.declared.parts.TermBound.{TermBound}
 use Rattle.ground_core.specs.declared.growing.Addition.{Addition}
 use Rattle.ground_core.specs.declared.growing.Addition.TheVariants.{Bound}
 use Rattle.ground_core.specs.declared.solving.Budget.{Budget}
@@ -28,7 +29,7 @@ use Rattle.model_minimiser.specs.declared.minimum.Found.{Found}
 use Rattle.model_minimiser.specs.Bounds.{AddsAtMost, AddsBounds, AddsOne, Fall, HasBounds, HoldsBounds, IsAttained}
 use Rattle.model_minimiser.specs.Bounds.{IsBelow, with_past_bounds}
 use Rattle.model_minimiser.proofs.BoundFacts.{bound-added, more-bounds, no-bounds, same-bounds}
-use Rattle.model_minimiser.specs.Minima.{IsFound, NothingBelow, IsLeast, Spans}
+use Rattle.model_minimiser.specs.Minima.{IsFound, NothingBelow, IsLeast, HasBound, Spans}
 use Rattle.ground_core.proofs.CallFacts.{none-yet, keeps-none, keeps-twice, counts-more, counts-twice}
 use Rattle.model_minimiser.proofs.Order.{below-trans, rank, rank-falls, IsReached, Paid, paid-begins, paid-ends}
 use Rattle.model_minimiser.proofs.Order.{paid-most, paid-next}
@@ -39,6 +40,9 @@ module _ (p q : ProblemState) (h : GrowsByAdditions p q) (assumed : List Lit) (l
 
   pub past-found : (term : ℕ) (f : Found) → IsFound q assumed term f → IsFound p assumed term f
   past-found term f is = record {
+    covers =
+        let x : q.vars < length f.values = is.covers in
+        let y : p.vars ≤ q.vars = h.conserves.grows in omega (arith, x, y);
     satisfies = h.conserves.restricts (valuation f.values) is.satisfies;
     assumes =
         is.assumes;
@@ -189,19 +193,20 @@ module _ (assumed : List Lit) (term : ℕ) (r s : SolveState) (a b : Budget) (be
     attained = h.adds.attained;
   }
 
-  pub least-here : (cores : List (List Lit)) (l : Lit) → IsProblem r.problem → AreLitsOf r.problem.vars assumed
-      → (best.value ≡ NegInf → ⊥) → NothingBelow s.problem assumed term best.value × HasCoreWithin cores
-      (assumed ++ l ∷ []) → IsLeast r.problem assumed term cores (record {
+  pub least-here : (cores : List (List Lit)) (bounds : List TermBound) (l : Lit) → IsProblem r.problem
+      → AreLitsOf r.problem.vars assumed → (best.value ≡ NegInf → ⊥) → NothingBelow s.problem assumed term best.value × HasCoreWithin cores
+      (assumed ++ l ∷ []) × HasBound bounds l term best.value → IsLeast r.problem assumed term cores bounds (record {
         values = best.values;
         value = best.value;
         bound = Some l;
       })
-  least-here cores l fine lits not none = record {
+  least-here cores bounds l fine lits not none = record {
+    covers = h.found.covers;
     satisfies = h.found.satisfies;
     assumes = h.found.assumes;
     attained = h.found.value;
     lowest = past-nothing r.problem s.problem h.past assumed lits term best.value fine none.0;
-    bound = (not, none.1);
+    bound = (not, none.1, none.2);
   }
 
   module _ (t : SolveState) (c : Budget) (ms : List Lit) (adds : AddsAtMost term best.value s t ls ms)

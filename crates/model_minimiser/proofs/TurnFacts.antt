@@ -11,14 +11,17 @@ use Rattle.ground_core.specs.Problems.{ProblemState, IsProblem, IsLitOf, AreLits
 use Rattle.ground_core.specs.Meaning.{Satisfies, MakesTrue, RefutesAll, value_of_bound}
 use Rattle.ground_core.specs.Growth.{with_bound, next_lit}
 use Rattle.ground_core.specs.Growing.{value_at, bounded}
-use Rattle.ground_core.specs.Solving.{SolveState, AreUnretired, HasCoreWithin}
+use Rattle.ground_core.specs.Solving.{SolveState, AreUnretired, HasCoreWithin, IsBudgetOf}
 use Rattle.ground_core.proofs.Fronts.{All-front}
 use Rattle.ground_core.proofs.Locals.{literal-local}
 use Rattle.ground_core.proofs.GrowthFacts.{select, bound-restricts}
 use Rattle.model_minimiser.specs.declared.minimum.Found.{Found}
-use Rattle.ground_core.specs.Calls.{Stays}
+use Rattle.ground_core.specs.declared.solving.Budget.{Budget}
+use Rattle.ground_core.specs.Calls.{Keeps, Stays}
+use Rattle.ground_core.proofs.CallFacts.{keeps-grown, keeps-none, keeps-twice}
+use Rattle.ground_core.proofs.MomentFacts.{moment-bounded}
 use Rattle.model_minimiser.specs.Bounds.{IsBelow, AddsAtMost}
-use Rattle.model_minimiser.specs.Minima.{IsFound, NothingBelow, Finds}
+use Rattle.model_minimiser.specs.Minima.{IsFound, NothingBelow, Finds, HasBound}
 
 -- the next variable is that of no literal of the problem
 fresh : (p : ProblemState) (ls : List Lit) → AreLitsOf p.vars ls → Contains ls (next_lit p) → ⊥
@@ -45,6 +48,7 @@ module _ (p : ProblemState) (term : ℕ) (n : ExtInt) (assume : List Lit) (fine 
       let on : literal_value v sel ≡ true = All-contains (λ l. literal_value v l ≡ true) (assume ++ sel ∷ []) sel
       h.assumes (Contains-push assume sel) in (
         record {
+          covers = let x : p.vars + 1 < length f.values = h.covers in omega (arith, x);
           satisfies = bound-restricts p term n v h.satisfies;
           assumes =
               All-front (λ l. literal_value v l ≡ true) assume (sel ∷ []) h.assumes;
@@ -90,13 +94,22 @@ module _ (s0 s1 s2 : SolveState) (term : ℕ) (n : ExtInt) (ls : List Lit) (sel 
   turn-found o f is h = found-below s0.problem term n ls fine lt lits f
       (plain (Some f) (subst (λ (x : Option Found). Finds s1.problem (ls ++ sel ∷ []) term s2.cores x) is h))
 
-  pub turn-nothing : (o : Option Found) → o ≡ None → Finds s1.problem (ls ++ sel ∷ []) term s2.cores o
+  turn-bound : Stays s1 s2 → HasBound s2.problem.bounds sel term n
+  turn-bound stays =
+      subst (λ (p : ProblemState). HasBound p.bounds sel term n)
+      (sym (stays.problem ∙ ap (λ (s : SolveState). s.problem) made))
+      (subst (λ (l : Lit). HasBound (with_bound s0.problem term n).bounds l term n) (sym is_next)
+      (Contains-push s0.problem.bounds (record { out = next_lit s0.problem; term = term; below = n })))
+
+  pub turn-nothing : (o : Option Found) → o ≡ None → Finds s1.problem (ls ++ sel ∷ []) term s2.cores o → Stays s1 s2
       → NothingBelow s0.problem ls term n × HasCoreWithin s2.cores (ls ++ sel ∷ [])
-  turn-nothing o is h =
+      × HasBound s2.problem.bounds sel term n
+  turn-nothing o is h stays =
       let none : Finds s1.problem (ls ++ sel ∷ []) term s2.cores None =
       subst (λ (x : Option Found). Finds s1.problem (ls ++ sel ∷ []) term s2.cores x) is h in (
         nothing-below s0.problem term n ls fine lt lits (plain None none).0,
         none.1,
+        turn-bound stays,
       )
 
 -- nothing was added
@@ -106,3 +119,12 @@ turn-none s t term n before after same lits = inl (
   subst (Stays s) (sym same) (record { problem = refl; additions = refl; free = refl }),
   lits,
 )
+
+-- a bound, and a search under it
+pub turn-keeps : (s0 s1 s2 : SolveState) (b c : Budget) (term : ℕ) (n : ExtInt) → s1 ≡ bounded s0 term n
+    → IsBudgetOf s0.learnt b → Keeps s1 s2 b c → Keeps s0 s2 b c
+turn-keeps s0 s1 s2 b c term n made budget k =
+    let bounds : Keeps s0 s1 b b = subst (λ (u : SolveState). Keeps s0 u b b) (sym made)
+    (keeps-grown s0 s0 b b (bounded s0 term n) (keeps-none s0 b budget) refl refl refl
+    (moment-bounded s0.problem term n)) in
+    keeps-twice s0 s1 s2 b b c bounds k

@@ -117,7 +117,8 @@ fn lower<S: Grow>(
     requires budget { IsBudgetOf (S.state s.old).learnt budget.old }
     requires kept { IsKept (S.state s.old) }
     requires below { below ≡ NegInf → ⊥ }
-    ensures finds { IfOk result (FindsBelow (S.state s.old).problem assume.now term below (S.state s.new).cores) }
+    ensures finds { IfOk result (FindsBelow (S.state s.old).problem assume.now term below (S.state s.new).cores
+        (S.state s.new).problem.bounds) }
     ensures halt { IfErr result (HaltedAt budget.new) }
     ensures adds { AddsAtMost term below (S.state s.old) (S.state s.new) selectors.old.items selectors.new.items }
     ensures keeps { Keeps (S.state s.old) (S.state s.new) budget.old budget.new }
@@ -164,7 +165,8 @@ fn lower_all<S: Grow>(
     requires kept { IsKept (S.state s.old) }
     requires none { selectors.old.items ≡ [] }
     requires found { IsFound (S.state s.old).problem assume.now term first }
-    ensures least { IfOk result (IsLeast (S.state s.old).problem assume.now term (S.state s.new).cores) }
+    ensures least { IfOk result (IsLeast (S.state s.old).problem assume.now term (S.state s.new).cores
+        (S.state s.new).problem.bounds) }
     ensures halt { IfErr result (HaltedAt budget.new) }
     ensures bounds { HoldsBounds assume.now term (S.state s.old) (S.state s.new) selectors.new.items }
     ensures keeps { Keeps (S.state s.old) (S.state s.new) budget.old budget.new }
@@ -209,7 +211,8 @@ fn descend<S: Grow>(
     requires budget { IsBudgetOf (S.state s.old).learnt budget.old }
     requires kept { IsKept (S.state s.old) }
     requires found { IsFound (S.state s.old).problem assume.now term first }
-    ensures least { IfOk result (IsLeast (S.state s.old).problem assume.now term (S.state s.new).cores) }
+    ensures least { IfOk result (IsLeast (S.state s.old).problem assume.now term (S.state s.new).cores
+        (S.state s.new).problem.bounds) }
     ensures halt { IfErr result (HaltedAt budget.new) }
     ensures adds { AddsBounds assume.now term (S.state s.old) (S.state s.new) }
     ensures keeps { Keeps (S.state s.old) (S.state s.new) budget.old budget.new }
@@ -238,7 +241,8 @@ pub fn least<S: Grow>(
     requires literals { AreLitsOf (S.state s.old).problem.vars assume.now }
     requires unretired { AreUnretired (S.state s.old).problem assume.now }
     requires budget { IsBudgetOf (S.state s.old).learnt budget.old }
-    ensures least { IfOk result (FindsLeast (S.state s.old).problem assume.now term (S.state s.new).cores) }
+    ensures least { IfOk result (FindsLeast (S.state s.old).problem assume.now term (S.state s.new).cores
+        (S.state s.new).problem.bounds) }
     ensures halt { IfErr result (HaltedAt budget.new) }
     ensures adds { AddsBounds assume.now term (S.state s.old) (S.state s.new) }
     ensures keeps { Keeps (S.state s.old) (S.state s.new) budget.old budget.new }

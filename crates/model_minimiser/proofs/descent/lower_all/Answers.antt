@@ -6,6 +6,7 @@ use Rattle.model_minimiser.proofs.DescentFacts.{so-far-begins, turn-ends-bounds,
 use Rattle.model_minimiser.proofs.DescentFacts.{turn-falls}
 use Rattle.model_minimiser.proofs.DescentFacts.{least-here, so-far-most}
 use Rattle.ground_core.proofs.AdditionFacts.{still-unretired}
+use Rattle.ground_core.proofs.CallFacts.{keeps-twice}
 use Rattle.model_minimiser.proofs.descent.lower_all.Goals as goal
 
 pub loop-alloc-init : goal.loop-alloc-init
@@ -28,7 +29,7 @@ loop-alloc-smaller g c =
     let s : SolveState = g.S.Solve.state c.loop-alloc.s in
     let t : SolveState = g.S.Solve.state c.lower.new.s in
     let finds = subst (λ (x : Step). FindsBelow s.problem c.args.assume.now c.args.term c.loop-alloc.best.value t.cores
-    x) c.in-Ok-Lower.field-0-is c.in-Ok-Lower.ensures.finds in
+    t.problem.bounds x) c.in-Ok-Lower.field-0-is c.in-Ok-Lower.ensures.finds in
     turn-falls c.args.assume.now c.args.term r s c.args.budget.now c.loop-alloc.budget c.loop-alloc.best
     c.loop-alloc.selectors.items
     c.loop-alloc.invariant.0 t c.lower.new.budget c.lower.new.selectors.items c.lower.ensures.adds c.lower.ensures.keeps
@@ -41,7 +42,7 @@ loop-alloc-preserved g c =
     let s : SolveState = g.S.Solve.state c.loop-alloc.s in
     let t : SolveState = g.S.Solve.state c.lower.new.s in
     let finds = subst (λ (x : Step). FindsBelow s.problem c.args.assume.now c.args.term c.loop-alloc.best.value t.cores
-    x) c.in-Ok-Lower.field-0-is c.in-Ok-Lower.ensures.finds in (
+    t.problem.bounds x) c.in-Ok-Lower.field-0-is c.in-Ok-Lower.ensures.finds in (
       turn-next c.args.assume.now c.args.term r s c.args.budget.now c.loop-alloc.budget c.loop-alloc.best
           c.loop-alloc.selectors.items
           c.loop-alloc.invariant.0 t c.lower.new.budget c.lower.new.selectors.items c.lower.ensures.adds
@@ -59,10 +60,10 @@ returns-in-Ok-Nothing-clause-least g c =
     let s : SolveState = g.S.Solve.state c.loop-alloc.s in
     let t : SolveState = g.S.Solve.state c.lower.new.s in
     let finds = subst (λ (x : Step). FindsBelow s.problem c.args.assume.now c.args.term c.loop-alloc.best.value t.cores
-    x) c.in-Ok-Nothing.field-0-is c.in-Ok-Nothing.ensures.finds in
+    t.problem.bounds x) c.in-Ok-Nothing.field-0-is c.in-Ok-Nothing.ensures.finds in
     least-here c.args.assume.now c.args.term r s c.args.budget.now c.loop-alloc.budget c.loop-alloc.best
     c.loop-alloc.selectors.items
-    c.loop-alloc.invariant.0 t.cores c.in-Ok-Nothing.bound c.requires.kept.problem c.requires.literals
+    c.loop-alloc.invariant.0 t.cores t.problem.bounds c.in-Ok-Nothing.bound c.requires.kept.problem c.requires.literals
     (c.loop-alloc-test.ensures.other refl) finds
 
 pub returns-in-Ok-Nothing-clause-bounds : goal.returns-in-Ok-Nothing-clause-bounds
@@ -111,3 +112,13 @@ pub returns-clause-counts : goal.returns-clause-counts
 returns-clause-counts g c = so-far-most c.args.assume.now c.args.term (g.S.Solve.state c.args.s.now)
     (g.S.Solve.state c.loop-alloc.s) c.args.budget.now c.loop-alloc.budget c.loop-alloc.best
     c.loop-alloc.selectors.items c.loop-alloc.invariant.0
+
+pub returns-in-Ok-Nothing-clause-keeps : goal.returns-in-Ok-Nothing-clause-keeps
+returns-in-Ok-Nothing-clause-keeps g c = keeps-twice (g.S.Solve.state c.args.s.now) (g.S.Solve.state c.loop-alloc.s)
+    (g.S.Solve.state c.lower.new.s) c.args.budget.now c.loop-alloc.budget c.lower.new.budget
+    c.loop-alloc.invariant.0.keeps c.lower.ensures.keeps
+
+pub returns-in-Err-clause-keeps : goal.returns-in-Err-clause-keeps
+returns-in-Err-clause-keeps g c = keeps-twice (g.S.Solve.state c.args.s.now) (g.S.Solve.state c.loop-alloc.s)
+    (g.S.Solve.state c.lower.new.s) c.args.budget.now c.loop-alloc.budget c.lower.new.budget
+    c.loop-alloc.invariant.0.keeps c.lower.ensures.keeps
