@@ -19,6 +19,7 @@ use Rattle.ground_core.specs.Growing.{HasValue, value_of_term}
 use Rattle.ground_core.specs.Problems.{ProblemState, IsProblem}
 use Rattle.ground_core.specs.Meaning.{HasTermsInRange, IsInRange, Satisfies, RefutesAll, term_value, value_of_bound}
 use Rattle.ground_core.specs.Moments.{moment_of}
+use Rattle.ground_core.specs.Selectors.{AreSelectors}
 use Rattle.ground_core.specs.Solving.{SolveState, Answers, Spends, IsPrefix, IsBudgetOf, IsSublist, HasCoreWithin}
 use Rattle.ground_core.specs.Solving.{KeepsCores}
 use Rattle.ground_core.proofs.CoreFacts.{within-trans, sublist-within}
@@ -148,6 +149,7 @@ module _ (a : Keeper) (f : Engine) (bs : Vec TermBound) (h : IsKeeper a) (restin
     few = subst (λ (p : ProblemState). length p.retired ≤ p.vars) (sym g.problem) (let le : a.engine.problem.vars
         ≤ q.vars = can.vars in let few : length a.engine.problem.retired ≤ a.engine.problem.vars = h.few in
         omega (arith, le, few));
+    selectors = subst (λ (p : ProblemState). AreSelectors p.retired) (sym g.problem) h.selectors;
     indexed = h.indexed;
     refuted = subst (λ (p : ProblemState). All (RefutesAll p) a.index.cores.items) (sym g.problem)
         (joined-refuted a.engine.problem q h.resting.engine.problem bounds can a.index.cores.items h.refuted);
@@ -161,6 +163,7 @@ module _ (a : Keeper) (f : Engine) (bs : Vec TermBound) (h : IsKeeper a) (restin
     resting = resting;
     terms = subst HasTermsInRange (sym problem) h.terms;
     few = subst (λ (p : ProblemState). length p.retired ≤ p.vars) (sym problem) h.few;
+    selectors = subst (λ (p : ProblemState). AreSelectors p.retired) (sym problem) h.selectors;
     indexed = h.indexed;
     refuted = subst (λ (p : ProblemState). All (RefutesAll p) a.index.cores.items) (sym problem) h.refuted;
     counted = counted;

@@ -72,6 +72,8 @@ kept-laws a h = record {
   learnt = h.resting.engine.learnt;
   refuted = h.refuted;
   counted = h.counted;
+  selectors = h.selectors;
+  free = omega arith;
 }
 
 pub solver-laws : (a : Keeper) → IsKeeper a → IsSolver (state_of a)

@@ -6,6 +6,7 @@ use Rattle.ground_core.specs.declared.solving.Budget.{Budget}
 use Rattle.ground_core.specs.declared.solving.Verdict.{Verdict}
 use Rattle.ground_core.specs.declared.solving.Verdict.TheVariants.{Sat, Unsat}
 use Rattle.ground_core.specs.Meaning.{HasTermsInRange, RefutesAll}
+use Rattle.ground_core.specs.Selectors.{AreSelectors}
 use Rattle.ground_core.specs.Solving.{Answers, SolveState, HasCoreWithin}
 use Rattle.search_engine.specs.Resting.{IsNew, IsResting, held_of}
 use Rattle.clause_learning.specs.declared.keeper.Keeper.{Keeper}
@@ -29,6 +30,7 @@ pub record IsKeeper (a : Keeper) : Type 0 where
   pub resting : IsResting a.engine
   pub terms : HasTermsInRange a.engine.problem
   pub few : length a.engine.problem.retired ≤ a.engine.problem.vars
+  pub selectors : AreSelectors a.engine.problem.retired
   pub indexed : IsIndexed a.index
   pub refuted : All (RefutesAll a.engine.problem) a.index.cores.items
   pub counted : a.engine.searches < 2 ^ 64

@@ -1,5 +1,5 @@
 //! A search engine with the cores that it found.
-ghost use Rattle.std.specs.Prelude.{◌≡◌, ◌≤◌, ◌<◌, ◌+◌, ℕ, [], length, Contains, IfOk, IfErr, OnErr};
+ghost use Rattle.std.specs.Prelude.{◌≡◌, ◌≤◌, ◌<◌, ◌+◌, ◌^◌, ℕ, [], length, Contains, IfOk, IfErr, OnErr};
 ghost use Rattle.ground_core.specs.declared.solving.Halt.TheVariants as halt;
 ghost use Rattle.ground_core.specs.Problems.{AreLitsOf};
 ghost use Rattle.ground_core.specs.Solving.{Answers, HaltedAt, HasCoreWithin, IsBudgetOf, IsKnown, KeepsCores, Spends};
@@ -81,6 +81,7 @@ impl Keeper {
         ensures searches { self.new.engine.searches ≡ counted (self.old.engine.searches + 1) }
         ensures spends { Spends (kept_of self.old) (kept_of self.new) budget.old budget.new }
         ensures counted { length self.new.engine.learnt ≤ length self.old.engine.learnt + self.new.engine.conflicts }
+        ensures fewer { self.new.engine.conflicts < 2 ^ (kept_of self.old).free }
     {
         let before = self.engine.learnt.len();
         let verdict = self.engine.solve(rule, assume, most_of(before, budget));
@@ -138,6 +139,7 @@ impl Keeper {
         ensures searches { self.new.engine.searches ≡ counted (self.old.engine.searches + 1) }
         ensures spends { Spends (kept_of self.old) (kept_of self.new) budget.old budget.new }
         ensures counted { length self.new.engine.learnt ≤ length self.old.engine.learnt + self.new.engine.conflicts }
+        ensures fewer { self.new.engine.conflicts < 2 ^ (kept_of self.old).free }
     {
         let Ok(list) = self.widened(assume) else {
             self.engine.count_search();
@@ -195,6 +197,7 @@ impl Keeper {
         ensures decided { HasCoreWithin self.old.index.cores.items assume.now
             → IsKnown self.old.engine.learnt self.new.engine.learnt budget.old budget.new result }
         ensures counted { length self.new.engine.learnt ≤ length self.old.engine.learnt + self.new.engine.conflicts }
+        ensures fewer { self.new.engine.conflicts < 2 ^ (kept_of self.old).free }
     {
         match self.index.contained(self.alloc, assume) {
             Ok(None) => match self.search_widened(rule, assume, budget) {

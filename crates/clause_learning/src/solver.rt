@@ -1,5 +1,5 @@
 //! The solver that callers keep.
-ghost use Rattle.std.specs.Prelude.{◌≡◌, ◌≤◌, ◌<◌, ◌+◌, ℕ, [], length, Contains, IfOk, IfErr, OnOk, OnErr};
+ghost use Rattle.std.specs.Prelude.{◌≡◌, ◌≤◌, ◌<◌, ◌+◌, ◌^◌, ℕ, [], length, Contains, IfOk, IfErr, OnOk, OnErr};
 ghost use Rattle.ground_core.specs.Problems.{AreLitsOf};
 ghost use Rattle.ground_core.specs.Solving.{Answers, AreUnretired, HaltedAt, HasCoreWithin, IsBudgetOf, IsKept};
 ghost use Rattle.ground_core.specs.Solving.{IsKnown, KeepsCores, Spends, counted};
@@ -22,12 +22,16 @@ use std::marker::Model;
 /// A solver that keeps a problem of gates, clauses and bounds on terms, the clauses that it learnt of it, and the
 /// cores that it found.
 ///
-/// It decides what is assumed, each at a level of its own, and then what its rule chooses: an unassigned ground atom
-/// by the scores of all of these, in the order of their numbers, or where there is none, one of the other variables. A
-/// conflict raises the score of each variable of its clause by 1.
-/// From a conflict it learns the clause of the first unique implication point, and goes back to
-/// where that clause is unit. There are no restarts. What follows without assumptions stays
-/// assigned between searches, and so do the watches.
+/// It decides what is assumed, each at a level of its own, and then an unassigned ground atom, or where there is none,
+/// one of the other variables: the one that its rule chooses of all of these, listed with their scores in the order of
+/// their numbers. A rule that takes the first of falling scores is not asked: the first variable by falling score is
+/// decided, and of equal scores the one that rose first. A conflict raises the score of each variable of its false
+/// clause by 1.
+///
+/// From a conflict it learns the clause of the first unique implication point without those literals that the others
+/// make false by one reason, if that clause still says something new once all else is propagated, and goes back to
+/// where it is unit. There are no restarts. What follows without assumptions stays assigned between searches, and so
+/// do the watches.
 #[derive(Drop)]
 pub struct Solver<C: Choose + Drop> {
     keeper: Keeper,
@@ -153,6 +157,8 @@ impl<C: Choose + Drop> Solve for Solver<C> {
         ensures kept { IsKept self.new.kept }
         ensures later { GoesOn self.old.kept self.new.kept }
         ensures counted { length self.new.kept.learnt ≤ length self.old.kept.learnt + self.new.conflicts }
+        ensures fewer { self.new.conflicts < 2 ^ self.old.kept.free }
+        ensures once { self.new.root_conflicts ≤ 1 }
         ensures laws { IsSolver self.new }
     {
         self.keeper.solve(&self.rule, assume, budget)

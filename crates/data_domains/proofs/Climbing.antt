@@ -1,6 +1,6 @@
 -- Steps up from a type.
-use Rattle.std.proofs.Common.{◌≡◌, ◌+◌, ◌<◌, ℕ, zero, suc, List, Option, None, Some, length, unwrap_or, slice_get, refl}
-use Rattle.std.proofs.Common.{sym, ap, ◌∙◌, arith}
+use Rattle.std.proofs.Common.{◌≡◌, ℕ, zero, suc, List, Option, None, Some, unwrap_or, slice_get, refl}
+use Rattle.std.proofs.Common.{ap}
 use Rattle.reading_stages.specs.Kinship.{climbed, climbed_on}
 
 abbrev goes : List (Option ℕ) → ℕ → Option ℕ

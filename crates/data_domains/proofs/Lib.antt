@@ -1,3 +1,4 @@
 pub mod Climbing
+pub mod Filled
 pub mod Looked
-pub mod Positions
+pub mod Wholes

@@ -1,22 +1,16 @@
 -- The type with a number, where there is one.
-use Rattle.std.proofs.Common.{◌≡◌, ◌<◌, ◌≤◌, ◌+◌, ℕ, zero, suc, Bool, false, List, [], ◌∷◌, ◌++◌, Option, None, Some}
-use Rattle.std.proofs.Common.{length, map, unwrap_or, slice_get, get_or, drop, filter, append_assoc, refl, sym, ap, ◌∙◌}
+use Rattle.std.proofs.Common.{◌≡◌, ◌<◌, ℕ, zero, suc, false, List, [], ◌∷◌, ◌++◌, Option, None, Some}
+use Rattle.std.proofs.Common.{length, unwrap_or, slice_get, get_or, refl, sym, ap, ◌∙◌}
 use Rattle.std.proofs.Common.{arith, subst, ◌⊎◌, inl, inr}
 use Rattle.std.specs.Option.{option_map}
-use Rattle.std.specs.List.{filter_map, flat_map}
 use Rattle.std.proofs.lemmas.Option.{slice_get-map, slice_get-get_or}
-use Rattle.std.proofs.lemmas.List.Elements.{filter_map-append, filter-append}
 use Rattle.kb_logic.specs.declared.vocabularies.TypeDecl.{TypeDecl}
 use Rattle.reading_stages.specs.Below.{type_above, type_parents}
 use Rattle.reading_stages.specs.Kinship.{is_under_a_number, top_of}
-use Rattle.reading_stages.specs.Elements.{Cell}
-use Rattle.reading_stages.specs.DataEntries.{Said, Spot, spots_of}
-use Rattle.reading_stages.specs.DataDomains.{cells_by, cells_if, cells_of, has_what_occurs, is_constructed}
-use Rattle.reading_stages.specs.DataDomains.{is_under_nat, occurring_cells, occurs_at}
+use Rattle.reading_stages.specs.DataEntries.{Said}
+use Rattle.reading_stages.specs.DataDomains.{cells_if, cells_of, has_what_occurs, is_constructed}
+use Rattle.reading_stages.specs.DataDomains.{is_under_nat}
 use Rattle.reading_stages.specs.DataStage.{type_is}
-use Rattle.data_entries.specs.SaidViews.{said_view}
-use Rattle.data_entries.specs.declared.written.Entry.{Entry}
-use Rattle.data_entries.proofs.Dropped.{front}
 use Rattle.element_sets.specs.Sets.{IsSetOf}
 use Rattle.data_domains.specs.Traits.{AreTraitsOf}
 use Rattle.data_domains.specs.Lookups.{AreTraitsAt}
@@ -25,7 +19,7 @@ use Rattle.data_domains.specs.declared.traits.Traits.{Traits}
 use Rattle.data_domains.specs.declared.types.TypeData.{TypeData}
 use Rattle.data_domains.proofs.Climbing.{stays}
 
-some_beside : {A B : Type 0} (xs : List A) (ys : List B) (t : ℕ) (x : A) → length xs ≡ length ys
+pub some_beside : {A B : Type 0} (xs : List A) (ys : List B) (t : ℕ) (x : A) → length xs ≡ length ys
     → slice_get xs t ≡ Some x → (y : B) × (slice_get ys t ≡ Some y)
 some_beside [] ys t x e h = let n : None ≡ Some x = h in absurd (cc)
 some_beside (z ∷ xs) [] t x e h = absurd (omega (arith, e))
@@ -113,21 +107,3 @@ pushed_each P types old new x i d len lt is more here before t e y h k =
           let type : d ≡ e = cc in
           subst (λ z. P t e z) o.1 (subst (λ z. P t z x) type (subst (λ n. P n d x) (sym at) here))
     ]
-
-filter-parts : (p : Spot → Bool) (xs ys : List Spot) → filter_map (λ (s : Spot). s.cell) (filter p (xs ++ ys))
-    ≡ filter_map (λ (s : Spot). s.cell) (filter p xs) ++ filter_map (λ (s : Spot). s.cell) (filter p ys)
-filter-parts p xs ys = ap (filter_map (λ (s : Spot). s.cell)) (filter-append p xs ys)
-    ∙ filter_map-append (λ (s : Spot). s.cell) (filter p xs) (filter p ys)
-
-pub next_occurring : (types : List TypeDecl) (t : ℕ) (es : List Entry) (i : ℕ) (e : Entry) (old new whole : List Cell)
-    → i < length es → e ≡ get_or es i e
-    → new ≡ old ++ filter_map (λ (s : Spot). s.cell) (filter (occurs_at types t) (spots_of (said_view e)))
-    → old ++ occurring_cells types (map said_view (drop i es)) t ≡ whole
-    → new ++ occurring_cells types (map said_view (drop (i + 1) es)) t ≡ whole
-next_occurring types t es i e old new whole lt is more inv =
-    let rest = map said_view (drop (i + 1) es) in
-    let first = filter_map (λ (s : Spot). s.cell) (filter (occurs_at types t) (spots_of (said_view e))) in
-    ap (λ xs. xs ++ occurring_cells types rest t) more ∙ append_assoc old first (occurring_cells types rest t)
-    ∙ sym (ap (λ xs. old ++ xs) (ap (λ xs. occurring_cells types (map said_view xs) t) (front es i e lt is)
-    ∙ filter-parts (occurs_at types t) (spots_of (said_view e)) (flat_map spots_of rest)))
-    ∙ inv

@@ -1,4 +1,4 @@
 pub mod Traits
 pub mod TypeSets
 pub mod Lookups
-pub mod Positions
+pub mod Shares

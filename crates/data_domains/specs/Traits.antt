@@ -1,5 +1,5 @@
 -- What is known of a type beside a structure.
-use Rattle.std.specs.Prelude.{◌≡◌, ℕ, List, slice_get, Some}
+use Rattle.std.specs.Prelude.{◌≡◌, ℕ, List}
 use Rattle.kb_logic.specs.declared.vocabularies.TypeDecl.{TypeDecl}
 use Rattle.reading_stages.specs.Kinship.{is_number_type}
 use Rattle.reading_stages.specs.DataEntries.{Said}

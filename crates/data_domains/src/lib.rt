@@ -2,6 +2,7 @@
 #![tactic(auto)]
 
 pub mod cells;
+mod filling;
 pub mod kinds;
 pub mod lookups;
 pub mod traits;

@@ -209,7 +209,8 @@ fn add_entry(alloc: Global, entry: &Entry<'_>, partial: &mut Partial) -> Result<
     requires open_to { IsOpenTo partial.old (facts_of (said_view entry.now)) }
     ensures { OnOk result (Adds partial.old partial.new (facts_of (said_view entry.now))) }
 {
-    if have_range(entry) {
+    // Only in a plain list may ranges stand, so the rows of all others are not looked at for them.
+    if entry.subject.is_plain_list() && have_range(entry) {
         return add_as_set(alloc, entry, partial);
     }
     match sense_of(entry.mark) {

@@ -117,8 +117,14 @@ fn is_idle(traits: Traits, spot: &Spot<'_>) -> bool
     spot.in_list && traits.constructed
 }
 
-/// Whether an element is not in its type.
-fn is_no_element<'a>(types: &[TypeData<'a>], traits: Traits, spot: &Spot<'a>) -> bool
+/// Whether an element is not in its type; the cell is what stands here.
+fn is_no_element<'a>(
+    types: &[TypeData<'a>],
+    traits: Traits,
+    spot: &Spot<'a>,
+    cell: Option<Cell<'a>>,
+) -> bool
+    requires { option_map cell_view cell ≡ (spot_view spot.now).cell }
     ensures { (all : List AType) (es : List said.Said) → AreTypesOf all es types.now
         → AreTraitsAt all es spot.now.ty traits → result ≡ stage.is_no_element all es
         (stage.spot (spot_view spot.now)) }
@@ -126,21 +132,22 @@ fn is_no_element<'a>(types: &[TypeData<'a>], traits: Traits, spot: &Spot<'a>) ->
     if is_idle(traits, spot) {
         return false;
     }
-    match spot.cell() {
+    match cell {
         None => false,
         Some(cell) => is_outside(types, traits, spot, cell),
     }
 }
 
-/// Whether an integer of a domain is out of range.
-fn is_out_of_range(traits: Traits, spot: &Spot<'_>) -> bool
+/// Whether an integer of a domain is out of range; the cell is what stands here.
+fn is_out_of_range(traits: Traits, spot: &Spot<'_>, cell: Option<Cell<'_>>) -> bool
+    requires { option_map cell_view cell ≡ (spot_view spot.now).cell }
     ensures { (all : List AType) (es : List said.Said) → AreTraitsAt all es spot.now.ty traits
         → result ≡ stage.is_out_of_range all es (stage.spot (spot_view spot.now)) }
 {
     if is_idle(traits, spot) || !gives(traits, spot) {
         return false;
     }
-    match spot.cell() {
+    match cell {
         None => false,
         Some(cell) => !is_in_range(cell),
     }
@@ -153,9 +160,14 @@ fn note_spot<'a>(earliest: &mut Earliest, types: &[TypeData<'a>], spot: &Spot<'a
 {
     let traits = traits_at(types, spot.ty);
     let place = spot.place();
-    earliest.note_if(is_no_element(types, traits, spot), K::NotAnElement, place);
-    earliest.note_if(spot.cell().is_none(), K::Unsupported, place);
-    earliest.note_if(is_out_of_range(traits, spot), K::OutOfRange, place);
+    let cell = spot.cell();
+    earliest.note_if(
+        is_no_element(types, traits, spot, cell),
+        K::NotAnElement,
+        place,
+    );
+    earliest.note_if(cell.is_none(), K::Unsupported, place);
+    earliest.note_if(is_out_of_range(traits, spot, cell), K::OutOfRange, place);
 }
 
 /// Notes what is refused of elements and ranges.

@@ -1,13 +1,22 @@
 -- What calls keep, one after another.
-use Rattle.std.proofs.Common.{◌≡◌, ℕ, ◌+◌, ◌*◌, ◌^◌, ◌<◌, ◌≤◌, List, [], ◌++◌, refl, sym, ap, ◌∙◌, subst, arith}
+use Rattle.std.proofs.Common.{◌≡◌, ℕ, ◌+◌, ◌-◌, ◌*◌, ◌^◌, ◌<◌, ◌≤◌, List, [], ◌∷◌, ◌++◌, length, refl, sym, ap, ◌∙◌}
+use Rattle.std.proofs.Common.{subst, arith, ⊎_elim}
+use Rattle.std.specs.Prelude.{Result, Ok, Err}
 use Rattle.std.proofs.lemmas.Int.{clamps}
 use Rattle.std.proofs.lemmas.Nat.{pow_pos, mul-le}
 use Rattle.std.proofs.Math.Nat.{mul-le-mul_left, pow-le-pow_right}
 use Rattle.std.proofs.lemmas.List.{append_assoc, append-nil}
 use Rattle.ground_core.specs.declared.solving.Budget.{Budget}
-use Rattle.ground_core.specs.Solving.{SolveState, IsPrefix, IsBudgetOf, counted}
+use Rattle.lit_core.specs.declared.literals.Lit.{Lit}
+use Rattle.ground_core.specs.declared.solving.Halt.{Halt}
+use Rattle.ground_core.specs.declared.solving.Verdict.{Verdict}
+use Rattle.ground_core.specs.declared.solving.Verdict.TheVariants.{Sat, Unsat}
+use Rattle.ground_core.specs.Problems.{ProblemState}
+use Rattle.ground_core.specs.Moments.{moment_of, IsNoLater}
+use Rattle.ground_core.specs.Solving.{SolveState, IsPrefix, IsBudgetOf, KeepsCores, Spends, counted}
 use Rattle.ground_core.specs.Laws.{CallsAddUp}
 use Rattle.ground_core.specs.Calls.{Keeps, Counts, CountsUpTo, Costs, Stays}
+use Rattle.ground_core.proofs.MomentFacts.{grows-none, grows-now, grows-twice, no-later-itself, no-later-twice}
 
 pub none-yet : (top : ℕ) (s : SolveState) (b : Budget) → s.searches < 2 ^ 64 → Counts top 0 s s b b
 none-yet top s b small = record { searches = omega (arith, small); fewer = omega arith }
@@ -26,9 +35,11 @@ keeps-twice r s t a b c k l = record {
   learnt = prefix-twice r.learnt s.learnt t.learnt k.learnt l.learnt;
   growth = let x : a.spent ≤ b.spent = k.rises in let y : b.spent ≤ c.spent = l.rises in
       omega (arith, k.growth, l.growth);
-  moments = prefix-twice r.moments s.moments t.moments k.moments l.moments;
+  moments = grows-twice (moment_of r.problem) (moment_of s.problem) r.moments s.moments t.moments k.problem k.moments
+      l.moments;
   cores = prefix-twice r.cores s.cores t.cores k.cores l.cores;
   within = l.within;
+  problem = no-later-twice (moment_of r.problem) (moment_of s.problem) (moment_of t.problem) k.problem l.problem;
 }
 
 counted-twice : (n k j : ℕ) → counted (counted (n + k) + j) ≡ counted (n + (k + j))
@@ -54,9 +65,47 @@ keeps-none s b h = record {
   rises = omega arith;
   learnt = ([], sym (append-nil s.learnt));
   growth = omega arith;
-  moments = ([], sym (append-nil s.moments));
+  moments = grows-none (moment_of s.problem) s.moments;
   cores = ([], sym (append-nil s.cores));
   within = h.within;
+  problem = no-later-itself (moment_of s.problem);
+}
+
+kept-cores : (before after : List (List Lit)) (r : Result Verdict Halt) → KeepsCores before r after
+    → IsPrefix before after
+kept-cores before after (Ok (Sat values)) h = ([], h ∙ sym (append-nil before))
+kept-cores before after (Ok (Unsat core)) h = ⊎_elim (λ w. ([], w.1 ∙ sym (append-nil before)))
+    (λ w. (core ∷ [], w.1)) h
+kept-cores before after (Err halt) h = ([], h ∙ sym (append-nil before))
+
+-- one search
+pub keeps-searched : (s t : SolveState) (b c : Budget) (r : Result Verdict Halt) → t.problem ≡ s.problem
+    → Spends s t b c → KeepsCores s.cores r t.cores → Keeps s t b c
+keeps-searched s t b c r same spends cores = record {
+  limit = spends.limit;
+  rises = spends.rises;
+  learnt = spends.prefix;
+  growth = spends.growth;
+  moments = grows-now (moment_of s.problem) (c.spent - b.spent) s.moments t.moments spends.moments;
+  cores = kept-cores s.cores t.cores r cores;
+  within = spends.within;
+  problem = subst (λ (p : ProblemState). IsNoLater (moment_of s.problem) (moment_of p)) (sym same)
+      (no-later-itself (moment_of s.problem));
+}
+
+-- of another problem whose lists are no shorter
+pub keeps-grown : (r s : SolveState) (a b : Budget) (t : SolveState) → Keeps r s a b → t.learnt ≡ s.learnt
+    → t.moments ≡ s.moments → t.cores ≡ s.cores → IsNoLater (moment_of s.problem) (moment_of t.problem)
+    → Keeps r t a b
+keeps-grown r s a b t k learnt moments cores more = record {
+  limit = k.limit;
+  rises = k.rises;
+  learnt = (k.learnt.0, learnt ∙ k.learnt.1);
+  growth = ap length learnt ∙ k.growth;
+  moments = (k.moments.0, moments ∙ k.moments.1, k.moments.2);
+  cores = (k.cores.0, cores ∙ k.cores.1);
+  within = k.within;
+  problem = no-later-twice (moment_of r.problem) (moment_of s.problem) (moment_of t.problem) k.problem more;
 }
 
 -- with more free variables

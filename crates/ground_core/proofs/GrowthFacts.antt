@@ -29,10 +29,11 @@ use Rattle.ground_core.specs.Solving.{IsLearntFrom}
 use Rattle.ground_core.specs.Laws.{BoundsSelect, BoundsSayNoMore, BoundsAreKept, ExclusionsAreKept, RetirementsAreKept}
 use Rattle.ground_core.specs.Laws.{Differs, ExclusionsSelect}
 use Rattle.ground_core.proofs.Fronts.{All-front}
+use Rattle.ground_core.proofs.SelectorFacts.{selectors-push}
 use Rattle.ground_core.proofs.Locals.{agree-trans, value-local, satisfies-local, bound-below}
 use Rattle.ground_core.proofs.Valuations.{with_value, with_value-old, with_value-new}
 
-item-of : {X : Type 0} (P : X → Type 0) (xs : List X) (k : ℕ) (x : X) → All P xs → slice_get xs k ≡ Some x → P x
+pub item-of : {X : Type 0} (P : X → Type 0) (xs : List X) (k : ℕ) (x : X) → All P xs → slice_get xs k ≡ Some x → P x
 item-of P xs k x h is = All-contains P xs x h (k, slice_get_within xs k x is, get_or_from_slice_get xs k x x is)
 
 module _ (p : ProblemState) (term : ℕ) (below : ExtInt) where
@@ -118,6 +119,41 @@ select p term below fine lt = record {
   );
 }
 
+pub retired-restricts : (p : ProblemState) (l : Lit) (v : ℕ → Bool) → Satisfies (with_retired p l) v → Satisfies p v
+retired-restricts p l v s = record {
+  gates = s.gates;
+  clauses = s.clauses;
+  sums = s.sums;
+  bounds = s.bounds;
+  retired =
+      All-front (λ k. literal_value v k ≡ false) p.retired (l ∷ []) s.retired;
+}
+
+-- a selector of what is new may be retired
+pub gone-conserves : (p q : ProblemState) (l : Lit) → Conserves p q → l.positive ≡ true → p.vars < l.var.0
+    → l.var.0 ≤ q.vars → Conserves p (with_retired q l)
+gone-conserves p q l c on new within = record {
+  grows = c.grows;
+  atoms = c.atoms;
+  terms = c.terms;
+  restricts = λ v s. c.restricts v (retired-restricts q l v s);
+  extends = λ v s.
+      let e = c.extends v s in (
+        e.0,
+        e.1,
+        e.2,
+        record {
+          gates = e.3.gates;
+          clauses = e.3.clauses;
+          sums = e.3.sums;
+          bounds = e.3.bounds;
+          retired =
+              All-push (λ k. literal_value e.0 k ≡ false) q.retired l e.3.retired
+              (ap (λ (b : Bool). by_sign b (e.0 l.var.0)) on ∙ e.2 l.var.0 new within);
+        },
+      );
+}
+
 -- a literal of the first n variables is of another variable than the next
 apart : (n : ℕ) (l k : Lit) → l.var.0 ≡ n + 1 → IsLitOf n k → IsApart l k
 apart n l k is h = λ e. let x : k.var.0 ≤ n = h.1 in omega (arith, e, is, x)
@@ -173,36 +209,8 @@ module _ (q : ProblemState) (term : ℕ) (below : ExtInt) (fine : IsProblem q) w
     }
 
     pub retired-conserves : Conserves p (with_retired (with_bound q term below) (next_lit q))
-    retired-conserves =
-        let more : Conserves p (with_bound q term below) = bound-conserves in record {
-          grows = more.grows;
-          atoms = c.atoms;
-          terms = c.terms;
-          restricts = λ v s. more.restricts v (record {
-            gates = s.gates;
-            clauses = s.clauses;
-            sums = s.sums;
-            bounds =
-                s.bounds;
-            retired = All-front (λ l. literal_value v l ≡ false) q.retired (sel ∷ []) s.retired;
-          });
-          extends = λ v s.
-              let e = more.extends v s in
-              let x : p.vars ≤ q.vars = c.grows in (
-                e.0,
-                e.1,
-                e.2,
-                record {
-                  gates = e.3.gates;
-                  clauses = e.3.clauses;
-                  sums = e.3.sums;
-                  bounds = e.3.bounds;
-                  retired =
-                      All-push (λ l. literal_value e.0 l ≡ false) q.retired sel e.3.retired
-                      (e.2 (q.vars + 1) (omega (arith, x)) (omega arith));
-                },
-              );
-        }
+    retired-conserves = let x : p.vars ≤ q.vars = c.grows in gone-conserves p (with_bound q term below) (next_lit q)
+        bound-conserves refl (omega (arith, x)) (omega arith)
 
 pub say-no-more : BoundsSayNoMore
 say-no-more p q term below fine c lt = record {
@@ -265,6 +273,8 @@ keep s term below lt kept = record {
   };
   refuted = λ k d l v sat t. kept.refuted k d l v (bound-restricts s.problem term below v sat) t;
   counted = kept.counted;
+  selectors = kept.selectors;
+  free = let x : s.problem.vars ≤ s.free + length s.problem.retired = kept.free in omega (arith, x);
 }
   where
     more : (m : Moment) → IsMomentOf s.problem m → IsMomentOf (with_bound s.problem term below) m
@@ -320,16 +330,6 @@ exclusion-restricts p values v s = record {
   sums = s.sums;
   bounds = s.bounds;
   retired = s.retired;
-}
-
-pub retired-restricts : (p : ProblemState) (l : Lit) (v : ℕ → Bool) → Satisfies (with_retired p l) v → Satisfies p v
-retired-restricts p l v s = record {
-  gates = s.gates;
-  clauses = s.clauses;
-  sums = s.sums;
-  bounds = s.bounds;
-  retired =
-      All-front (λ k. literal_value v k ≡ false) p.retired (l ∷ []) s.retired;
 }
 
 pub retired-problem : (p : ProblemState) (l : Lit) → IsLitOf p.vars l → IsProblem p → IsProblem (with_retired p l)
@@ -388,6 +388,8 @@ keep-exclusion s values kept = record {
   };
   refuted = λ k d l v sat t. kept.refuted k d l v (exclusion-restricts s.problem values v sat) t;
   counted = kept.counted;
+  selectors = kept.selectors;
+  free = let x : s.problem.vars ≤ s.free + length s.problem.retired = kept.free in omega (arith, x);
 }
   where
     more : (m : Moment) → IsMomentOf s.problem m → IsMomentOf (with_exclusion s.problem values) m
@@ -405,7 +407,7 @@ keep-exclusion s values kept = record {
     }
 
 pub keep-retired : RetirementsAreKept
-keep-retired s l within kept = record {
+keep-retired s l within on new kept = record {
   problem = retired-problem s.problem l within kept.problem;
   terms = λ v sat. kept.terms v (retired-restricts s.problem l v sat);
   learnt = record {
@@ -419,6 +421,10 @@ keep-retired s l within kept = record {
   };
   refuted = λ k d lt v sat t. kept.refuted k d lt v (retired-restricts s.problem l v sat) t;
   counted = kept.counted;
+  selectors = selectors-push s.problem.retired s.problem.vars l kept.selectors on new;
+  free = let x : s.problem.vars ≤ s.free + length s.problem.retired = kept.free in
+      let n : length (s.problem.retired ++ l ∷ []) ≡ length s.problem.retired + 1 = length_push s.problem.retired l in
+      omega (arith, x, n);
 }
   where
     more : (m : Moment) → IsMomentOf s.problem m → IsMomentOf (with_retired s.problem l) m
@@ -539,19 +545,9 @@ module _ (p : ProblemState) (values : List Bool) where
       nowhere (suc i) lt e = away (next_lit p) (All-contains (IsLitOf p.vars) others (next_lit p)
           (falsified-lits values (length p.atoms) p.vars fine.atoms) (i, omega (arith, lt), e)) refl
 
-pub exclusions-select : ExclusionsSelect
-exclusions-select p q values fine c = record {
-  means = λ v s on. let h = All-contains (IsSatisfied v) (q.clauses ++ (negated (next_lit q) ∷ falsified_by values
-      (length q.atoms)) ∷ []) (negated (next_lit q) ∷ falsified_by values (length q.atoms)) s.clauses
-      (Contains-push q.clauses (negated (next_lit q) ∷ falsified_by values (length q.atoms))) in
-      in-clause q values v h.0 h.1 h.2 h.3 h.4 on;
-  extends = λ v s d. (
-    with_value (q.vars + 1) true v,
-    with_value-old q.vars true v,
-    exclusion-made q values true v fine s (λ _. d),
-    with_value-new (q.vars + 1) true v,
-  );
-  added = record {
+module _ (p q : ProblemState) (values : List Bool) (fine : IsProblem q) (c : Conserves p q) where
+  exclusion-conserves : Conserves p (with_exclusion q values)
+  exclusion-conserves = record {
     grows = let x : p.vars ≤ q.vars = c.grows in omega arith;
     atoms = c.atoms;
     terms = c.terms;
@@ -569,6 +565,25 @@ exclusions-select p q values fine c = record {
               (cases_eq k (q.vars + 1))),
           exclusion-made q values false e.0 fine e.3 (λ f. absurd (both_ways false refl f)),
         );
-  };
+  }
+
+  exclusion-retired : Conserves p (with_retired (with_exclusion q values) (next_lit q))
+  exclusion-retired = let x : p.vars ≤ q.vars = c.grows in gone-conserves p (with_exclusion q values) (next_lit q)
+      exclusion-conserves refl (omega (arith, x)) (omega arith)
+
+pub exclusions-select : ExclusionsSelect
+exclusions-select p q values fine c = record {
+  means = λ v s on. let h = All-contains (IsSatisfied v) (q.clauses ++ (negated (next_lit q) ∷ falsified_by values
+      (length q.atoms)) ∷ []) (negated (next_lit q) ∷ falsified_by values (length q.atoms)) s.clauses
+      (Contains-push q.clauses (negated (next_lit q) ∷ falsified_by values (length q.atoms))) in
+      in-clause q values v h.0 h.1 h.2 h.3 h.4 on;
+  extends = λ v s d. (
+    with_value (q.vars + 1) true v,
+    with_value-old q.vars true v,
+    exclusion-made q values true v fine s (λ _. d),
+    with_value-new (q.vars + 1) true v,
+  );
+  added = exclusion-conserves p q values fine c;
   selector = exclusion-selector q values fine;
+  retired = exclusion-retired p q values fine c;
 }

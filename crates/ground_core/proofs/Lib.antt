@@ -1,9 +1,13 @@
+pub mod SameValues
 pub mod Locals
 pub mod Fronts
 pub mod Clauses
 pub mod Mores
 pub mod Valuations
+pub mod SelectorFacts
 pub mod GrowthFacts
+pub mod RetiredFacts
+pub mod MomentFacts
 pub mod CallFacts
 pub mod Whole
 pub mod Sublists

@@ -7,17 +7,21 @@ use Rattle.ground_core.specs.declared.solving.Halt.{Halt}
 use Rattle.ground_core.specs.declared.solving.Halt.TheVariants.{Spent, Memory}
 use Rattle.ground_core.specs.Problems.{ProblemState}
 use Rattle.ground_core.specs.Growing.{Conserves}
+use Rattle.ground_core.specs.Moments.{moment_of, GrowsFrom, IsNoLater}
 use Rattle.ground_core.specs.Solving.{SolveState, IsPrefix, counted}
 
--- the limit stays, the lists grow at their ends, and what was spent rises by what was learnt, up to the limit
+-- the limit stays, the lists grow at their ends, by clauses that were learnt in the call, and what was spent rises by
+-- what was learnt, up to the limit
 pub record Keeps (old new : SolveState) (b c : Budget) : Type 0 where
   pub limit : c.limit ≡ b.limit
   pub rises : b.spent ≤ c.spent
   pub learnt : IsPrefix old.learnt new.learnt
   pub growth : length new.learnt ≡ length old.learnt + (c.spent - b.spent)
-  pub moments : IsPrefix old.moments new.moments
+  pub moments : GrowsFrom (moment_of old.problem) old.moments new.moments
   pub cores : IsPrefix old.cores new.cores
   pub within : IfSome c.limit (λ most. c.spent ≤ most)
+  -- and the problem's lists do not get shorter
+  pub problem : IsNoLater (moment_of old.problem) (moment_of new.problem)
 
 -- so many searches were begun, none with more than so many free variables
 pub record Counts (top k : ℕ) (old new : SolveState) (b c : Budget) : Type 0 where

@@ -1,5 +1,5 @@
 -- Laws of ground problems, which small public functions promise.
-use Rattle.std.specs.Prelude.{◌≡◌, ◌↔◌, ◌+◌, ◌<◌, ◌≤◌, ℕ, Bool, true, not, List, [], All, Contains, length, Ok}
+use Rattle.std.specs.Prelude.{◌≡◌, ◌↔◌, ◌+◌, ◌<◌, ◌≤◌, ℕ, Bool, true, false, not, List, [], All, Contains, length, Ok}
 use Rattle.std.specs.List.{AllByRecursion}
 use Rattle.kb_logic.specs.declared.elements.Elem.{Elem}
 use Rattle.kb_logic.specs.declared.elements.ExtInt.{ExtInt}
@@ -9,7 +9,8 @@ use Rattle.kb_logic.specs.declared.vocabularies.Symbol.{Symbol}
 use Rattle.kb_logic.specs.Structures.{IsDistinct}
 use Rattle.kb_logic.specs.Denotations.{compared}
 use Rattle.lit_core.specs.declared.literals.Lit.{Lit}
-use Rattle.lit_core.specs.Literals.{valuation}
+use Rattle.lit_core.specs.Freshness.{FreshAgainst}
+use Rattle.lit_core.specs.Literals.{literal_value, negated, valuation}
 use Rattle.lit_core.specs.Truth.{IsSatisfied}
 use Rattle.ground_core.specs.declared.parts.Gate.{Gate}
 use Rattle.ground_core.specs.Problems.{ProblemState, IsProblem, IsLitOf, AreLitsOf}
@@ -19,6 +20,7 @@ use Rattle.ground_core.specs.More.{Agree, DefinesMore}
 use Rattle.ground_core.specs.GateClauses.{gate_clauses, clauses_of}
 use Rattle.ground_core.specs.Growth.{with_clause, with_bound, with_exclusion, next_lit}
 use Rattle.ground_core.specs.Growing.{value_at, Conserves, IsSelector, with_retired, bounded, excluded, retired}
+use Rattle.ground_core.specs.Selectors.{AreSelectors}
 use Rattle.ground_core.specs.Solving.{SolveState, IsKept, Answers, KeepsCores, HasCoreWithin}
 use Rattle.ground_core.specs.Calls.{Keeps, Counts, Costs, GrowsByAdditions}
 use Rattle.ground_core.specs.declared.solving.Budget.{Budget}
@@ -95,9 +97,24 @@ BoundsAreKept = (s : SolveState) (term : ℕ) (below : ExtInt) → term < length
 abbrev pub ExclusionsAreKept : Type 0
 ExclusionsAreKept = (s : SolveState) (values : List Bool) → IsKept s → IsKept (excluded s values)
 
--- and where a selector is retired
+-- and where a selector is retired that was not
 abbrev pub RetirementsAreKept : Type 0
-RetirementsAreKept = (s : SolveState) (l : Lit) → IsLitOf s.problem.vars l → IsKept s → IsKept (retired s l)
+RetirementsAreKept = (s : SolveState) (l : Lit) → IsLitOf s.problem.vars l → l.positive ≡ true
+    → (Contains s.problem.retired l → ⊥) → IsKept s → IsKept (retired s l)
+
+-- the second valuation is the first with this literal made false
+pub record IsMadeFalse (l : Lit) (v w : ℕ → Bool) : Type 0 where
+  pub made : literal_value w l ≡ false
+  pub others : (k : ℕ) → (k ≡ l.var.0 → ⊥) → w k ≡ v k
+
+-- with its selector retired a problem is satisfied where it was once the selector is made false, and only where it was
+-- and the selector is false
+pub record RetirementRestricts (p : ProblemState) (l : Lit) : Type 0 where
+  pub extends : (v w : ℕ → Bool) → Satisfies p v → IsMadeFalse l v w → Satisfies (with_retired p l) w
+  pub restricts : (v : ℕ → Bool) → Satisfies (with_retired p l) v → Satisfies p v × (literal_value v l ≡ false)
+
+abbrev pub RetirementsRestrict : Type 0
+RetirementsRestrict = (p : ProblemState) (l : Lit) → IsSelector p l → AreSelectors p.retired → RetirementRestricts p l
 
 -- a ground atom has another value than these
 abbrev pub Differs : ProblemState → List Bool → (ℕ → Bool) → Type 0
@@ -111,9 +128,20 @@ pub record ExclusionSelects (p q : ProblemState) (values : List Bool) : Type 0 w
       (with_exclusion q values) w × (w (next_lit q).var.0 ≡ true)
   pub added : Conserves p (with_exclusion q values)
   pub selector : IsSelector (with_exclusion q values) (next_lit q)
+  pub retired : Conserves p (with_retired (with_exclusion q values) (next_lit q))
 
 abbrev pub ExclusionsSelect : Type 0
 ExclusionsSelect = (p q : ProblemState) (values : List Bool) → IsProblem q → Conserves p q → ExclusionSelects p q values
+
+-- what is added under selectors changes no answer: the same literals are refuted
+abbrev pub AdditionsChangeNoAnswer : Type 0
+AdditionsChangeNoAnswer = (p q : ProblemState) (ls : List Lit) → Conserves p q → AreLitsOf p.vars ls
+    → (RefutesAll p ls ↔ RefutesAll q ls)
+
+-- a fresh clause has no literal together with its negation
+abbrev pub FreshClausesAreNoTautologies : Type 0
+FreshClausesAreNoTautologies = (cs : List (List Lit)) (c : List Lit) (l : Lit) → FreshAgainst cs c → Contains c l
+    → Contains c (negated l) → ⊥
 
 -- what each of two calls keeps, both keep, and their counts add up
 abbrev pub CallsAddUp : Type 0

@@ -2,6 +2,7 @@ pub mod ProblemFields
 pub mod Solving
 pub mod Moments
 pub mod Growing
+pub mod Selectors
 pub mod Calls
 pub mod Problems
 pub mod Meaning

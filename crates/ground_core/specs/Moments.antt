@@ -1,5 +1,5 @@
 -- When a clause was learnt.
-use Rattle.std.specs.Prelude.{◌≤◌, length, take}
+use Rattle.std.specs.Prelude.{◌≡◌, ◌≤◌, ◌++◌, List, All, length, take}
 use Rattle.ground_core.specs.declared.moments.Moment.{Moment}
 use Rattle.ground_core.specs.Problems.{ProblemState}
 
@@ -36,3 +36,16 @@ pub record IsMomentOf (p : ProblemState) (m : Moment) : Type 0 where
   pub sums : m.sums ≤ length p.sums
   pub bounds : m.bounds ≤ length p.bounds
   pub retired : m.retired ≤ length p.retired
+
+-- the first moment is no later than the second: at it no list was longer
+pub record IsNoLater (m n : Moment) : Type 0 where
+  pub vars : m.vars ≤ n.vars
+  pub gates : m.gates ≤ n.gates
+  pub clauses : m.clauses ≤ n.clauses
+  pub sums : m.sums ≤ n.sums
+  pub bounds : m.bounds ≤ n.bounds
+  pub retired : m.retired ≤ n.retired
+
+-- the second list is the first with more moments after it, of which none is earlier than this one
+abbrev pub GrowsFrom : Moment → List Moment → List Moment → Type 0
+GrowsFrom m old new = (more : List Moment) × (new ≡ old ++ more) × All (IsNoLater m) more

@@ -13,6 +13,7 @@ use Rattle.ground_core.specs.declared.solving.Verdict.{Verdict}
 use Rattle.ground_core.specs.declared.solving.Verdict.TheVariants.{Sat, Unsat}
 use Rattle.ground_core.specs.declared.moments.Moment.{Moment}
 use Rattle.ground_core.specs.Problems.{ProblemState, IsProblem}
+use Rattle.ground_core.specs.Selectors.{AreSelectors}
 use Rattle.ground_core.specs.Meaning.{Satisfies, MakesTrue, RefutesAll, HasTermsInRange}
 use Rattle.ground_core.specs.GateClauses.{clauses_of}
 use Rattle.ground_core.specs.Moments.{moment_of, problem_at, IsMomentOf}
@@ -138,3 +139,6 @@ pub record IsKept (s : SolveState) : Type 0 where
   pub learnt : IsLearnt s.problem s.learnt s.moments
   pub refuted : All (RefutesAll s.problem) s.cores
   pub counted : s.searches < 2 ^ 64
+  -- each retired selector fixes another variable, and those that none fixes are no more than are free
+  pub selectors : AreSelectors s.problem.retired
+  pub free : s.problem.vars ≤ s.free + length s.problem.retired

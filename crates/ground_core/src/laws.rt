@@ -4,6 +4,7 @@ ghost use Rattle.ground_core.specs.Laws.{ClauseIsAdded, ClausesSayTheProblem, Cl
 ghost use Rattle.ground_core.specs.Laws.{EachAtomStandsOnce, BoundsSelect, BoundsSayNoMore, BoundsAreKept};
 ghost use Rattle.ground_core.specs.Laws.{ExclusionsSelect, ExclusionsAreKept, RetirementsAreKept, CallsAddUp};
 ghost use Rattle.ground_core.specs.Laws.{CountsAreCosts, RefusalsAreKept, RetiredBoundsAreAdditions};
+ghost use Rattle.ground_core.specs.Laws.{AdditionsChangeNoAnswer, FreshClausesAreNoTautologies, RetirementsRestrict};
 
 /// A gate's clauses hold exactly where the gate does.
 pub fn clauses_say_the_gate()
@@ -62,7 +63,8 @@ pub fn bounds_are_kept()
     ensures { BoundsAreKept }
 {}
 
-/// Under an exclusion exactly the valuations remain that differ from its values; it says nothing else.
+/// Under an exclusion exactly the valuations remain that differ from its values; it says nothing else, also when its
+/// selector is retired.
 pub fn exclusions_select()
     ensures { ExclusionsSelect }
 {}
@@ -75,6 +77,21 @@ pub fn exclusions_are_kept()
 /// What holds of every solver holds of one with one more retired selector.
 pub fn retirements_are_kept()
     ensures { RetirementsAreKept }
+{}
+
+/// A retired selector leaves the valuations that satisfied the problem, with the selector made false.
+pub fn retirements_restrict()
+    ensures { RetirementsRestrict }
+{}
+
+/// Additions refute no literals that were not refuted, and leave all that were.
+pub fn additions_change_no_answer()
+    ensures { AdditionsChangeNoAnswer }
+{}
+
+/// A clause that is fresh against others has no literal together with its negation.
+pub fn fresh_clauses_are_no_tautologies()
+    ensures { FreshClausesAreNoTautologies }
 {}
 
 /// What two calls over a solver keep, and what they spend, put together.

@@ -1,3 +1,2 @@
 pub mod JoinLaws
 pub mod Prefixes
-pub mod SelectorFacts

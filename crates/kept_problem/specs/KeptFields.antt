@@ -3,7 +3,7 @@ use Rattle.std.specs.Prelude.{◌≤◌, []}
 use Rattle.std.specs.Vec.{vec_capacity}
 use Rattle.ground_core.specs.Problems.{ProblemState, IsProblem}
 use Rattle.kept_problem.specs.declared.kept.KeptProblem.TheInside.{Inside}
-use Rattle.kept_problem.specs.Selectors.{AreSelectors}
+use Rattle.ground_core.specs.Selectors.{AreSelectors}
 
 -- constraints on sums are not kept yet
 abbrev pub state_of : Inside → ProblemState

@@ -6,7 +6,7 @@ ghost use Rattle.ground_core.specs.Moments.{moment_of};
 ghost use Rattle.ground_core.specs.Growth.{empty_problem, next_lit, with_bound};
 ghost use Rattle.ground_core.specs.Growing.{IsSelector, with_retired};
 ghost use Rattle.kept_problem.specs.Joining.{CanJoin, joined_problem, with_selected};
-ghost use Rattle.kept_problem.specs.Selectors.{AreSelectors};
+ghost use Rattle.ground_core.specs.Selectors.{AreSelectors};
 
 use ground_core::{AtomTable, Gate, GroundTerm, Memory, Moment, Problem, TermBound};
 use kb_logic::{ExtInt, ListOf, LiteralList};

@@ -21,7 +21,8 @@ use Rattle.ground_core.specs.Growing.{Conserves, IsSelector, excluded}
 use Rattle.ground_core.specs.Laws.{Differs}
 use Rattle.ground_core.specs.Solving.{SolveState, AreUnretired, HasCoreWithin, IsBudgetOf, IsKept}
 use Rattle.ground_core.specs.Calls.{Keeps, Counts, CountsUpTo, Costs, Stays, IsAnsweredAtOnce, IsNone}
-use Rattle.ground_core.proofs.CallFacts.{none-yet, keeps-none, keeps-twice, counts-twice, counts-more}
+use Rattle.ground_core.proofs.CallFacts.{none-yet, keeps-none, keeps-twice, keeps-grown, counts-twice, counts-more}
+use Rattle.ground_core.proofs.MomentFacts.{moment-excluded, moment-retired}
 use Rattle.ground_core.proofs.AdditionFacts.{nothing-added}
 use Rattle.ground_core.proofs.GrowthFacts.{exclusions-select}
 use Rattle.model_search.specs.Models.{IsLeft}
@@ -180,15 +181,8 @@ module _ (assumed : List Lit) (n i : ℕ) (r s : SolveState) (a b : Budget) (ls 
           stays.problem
 
       next-keeps : Keeps r u a c
-      next-keeps = subst (λ (q : SolveState). Keeps r q a c) (sym made) (record {
-        limit = searched-keeps.limit;
-        rises = searched-keeps.rises;
-        learnt = searched-keeps.learnt;
-        growth = searched-keeps.growth;
-        moments = searched-keeps.moments;
-        cores = searched-keeps.cores;
-        within = searched-keeps.within;
-      })
+      next-keeps = subst (λ (q : SolveState). Keeps r q a c) (sym made)
+          (keeps-grown r t a c (excluded t values) searched-keeps refl refl refl (moment-excluded t.problem values))
 
       next-counts : Counts (r.free + n) (i + 1) r u a c
       next-counts =
@@ -305,16 +299,8 @@ module _ (assumed : List Lit) (n : ℕ) (r s t : SolveState) (ls sels : List Lit
 
   module _ (a b : Budget) (e : t ≡ retired_all s sels) where
     pub end-keeps : Keeps r s a b → Keeps r t a b
-    end-keeps k = subst (λ (q : SolveState). Keeps r q a b) (sym e) (record {
-      limit = k.limit;
-      rises = k.rises;
-      learnt =
-          k.learnt;
-      growth = k.growth;
-      moments = k.moments;
-      cores = k.cores;
-      within = k.within;
-    })
+    end-keeps k = subst (λ (q : SolveState). Keeps r q a b) (sym e)
+        (keeps-grown r s a b (retired_all s sels) k refl refl refl (moment-retired s.problem sels))
 
     pub end-costs : Keeps r s a b → CountsUpTo (r.free + n) (n + 1) r s a b → Costs (n + 1) r t a b
     end-costs k x = subst (λ (q : SolveState). Costs (n + 1) r q a b) (sym e) (record {

@@ -14,6 +14,8 @@ use Rattle.ground_core.specs.Growth.{with_bound, next_lit, retiring}
 use Rattle.ground_core.specs.Growing.{IsSelector}
 use Rattle.ground_core.specs.Solving.{SolveState}
 use Rattle.ground_core.specs.Calls.{Keeps, Counts, CountsUpTo, GrowsByAdditions, Stays}
+use Rattle.ground_core.proofs.CallFacts.{keeps-grown}
+use Rattle.ground_core.proofs.MomentFacts.{moment-retired}
 use Rattle.ground_core.proofs.GrowthFacts.{bound-conserves, bound-selector}
 use Rattle.model_search.specs.Retirements.{AreNew, retired_all}
 use Rattle.model_minimiser.specs.declared.minimum.Minimum.{Minimum}
@@ -162,15 +164,8 @@ module _ (assumed : List Lit) (term : ℕ) (r s t : SolveState) (ls : List Lit)
     end-adds = record { numbers = h.numbers; grows = end-grows; fall = h.fall; attained = h.attained }
 
     pub end-keeps : (a b : Budget) → Keeps r s a b → Keeps r t a b
-    end-keeps a b k = subst (λ (q : SolveState). Keeps r q a b) (sym e) (record {
-      limit = k.limit;
-      rises = k.rises;
-      learnt = k.learnt;
-      growth = k.growth;
-      moments = k.moments;
-      cores = k.cores;
-      within = k.within;
-    })
+    end-keeps a b k = subst (λ (q : SolveState). Keeps r q a b) (sym e)
+        (keeps-grown r s a b (retired_all s ls) k refl refl refl (moment-retired s.problem ls))
 
     pub end-counts : (a b : Budget) (top m : ℕ) → CountsUpTo top m r s a b → CountsUpTo top m r t a b
     end-counts a b top m c = (

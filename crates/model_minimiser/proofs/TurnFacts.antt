@@ -11,12 +11,15 @@ use Rattle.ground_core.specs.Problems.{ProblemState, IsProblem, IsLitOf, AreLits
 use Rattle.ground_core.specs.Meaning.{Satisfies, MakesTrue, RefutesAll, value_of_bound}
 use Rattle.ground_core.specs.Growth.{with_bound, next_lit}
 use Rattle.ground_core.specs.Growing.{value_at, bounded}
-use Rattle.ground_core.specs.Solving.{SolveState, AreUnretired, HasCoreWithin}
+use Rattle.ground_core.specs.Solving.{SolveState, AreUnretired, HasCoreWithin, IsBudgetOf}
 use Rattle.ground_core.proofs.Fronts.{All-front}
 use Rattle.ground_core.proofs.Locals.{literal-local}
 use Rattle.ground_core.proofs.GrowthFacts.{select, bound-restricts}
 use Rattle.model_minimiser.specs.declared.minimum.Found.{Found}
-use Rattle.ground_core.specs.Calls.{Stays}
+use Rattle.ground_core.specs.declared.solving.Budget.{Budget}
+use Rattle.ground_core.specs.Calls.{Keeps, Stays}
+use Rattle.ground_core.proofs.CallFacts.{keeps-grown, keeps-none, keeps-twice}
+use Rattle.ground_core.proofs.MomentFacts.{moment-bounded}
 use Rattle.model_minimiser.specs.Bounds.{IsBelow, AddsAtMost}
 use Rattle.model_minimiser.specs.Minima.{IsFound, NothingBelow, Finds, HasBound}
 
@@ -116,3 +119,12 @@ turn-none s t term n before after same lits = inl (
   subst (Stays s) (sym same) (record { problem = refl; additions = refl; free = refl }),
   lits,
 )
+
+-- a bound, and a search under it
+pub turn-keeps : (s0 s1 s2 : SolveState) (b c : Budget) (term : ℕ) (n : ExtInt) → s1 ≡ bounded s0 term n
+    → IsBudgetOf s0.learnt b → Keeps s1 s2 b c → Keeps s0 s2 b c
+turn-keeps s0 s1 s2 b c term n made budget k =
+    let bounds : Keeps s0 s1 b b = subst (λ (u : SolveState). Keeps s0 u b b) (sym made)
+    (keeps-grown s0 s0 b b (bounded s0 term n) (keeps-none s0 b budget) refl refl refl
+    (moment-bounded s0.problem term n)) in
+    keeps-twice s0 s1 s2 b b c bounds k

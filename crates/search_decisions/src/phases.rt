@@ -22,6 +22,10 @@ pub struct First {
 
 /// How often variables were true in answers, and the choice in which each stands.
 ///
+/// The value that was seen least makes each answer differ from earlier ones, so that a few answers
+/// tell which literals do not follow. One fixed sign, or the value of last time, makes answers much alike,
+/// and without restarts it keeps to a bad part of the search.
+///
 /// A choice is a clause of the problem that has ground atoms alone, none of them negated. The
 /// clauses here say what is counted and found. No verdict rests on them, and none says how ties
 /// are broken.
@@ -38,6 +42,9 @@ pub struct Phases {
 }
 
 /// A number that looks random, another one for each variable.
+///
+/// It is an output of SplitMix64 (Steele, Lea and Flood, 2014): its state is the variable's number after
+/// `salt` steps of its increment, and the two rounds of shift and product are its own.
 fn mixed(var: Var, salt: u64) -> u64 {
     let start = salt.wrapping_mul(0x9E37_79B9_7F4A_7C15).wrapping_add(var.0);
     let once = (start ^ (start >> 30)).wrapping_mul(0xBF58_476D_1CE4_E5B9);

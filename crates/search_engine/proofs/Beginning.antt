@@ -17,7 +17,7 @@ use Rattle.ground_core.specs.Problems.{AreLitsOf}
 use Rattle.ground_core.specs.Meaning.{RefutesAll}
 use Rattle.search_engine.specs.declared.engine.Engine.{Engine}
 use Rattle.search_engine.specs.Potential.{potential, implied_of, Ahead}
-use Rattle.kept_problem.specs.Selectors.{AreSelectors}
+use Rattle.ground_core.specs.Selectors.{AreSelectors}
 use Rattle.search_engine.specs.Searching.{AheadAt, AreClosed, Extends, IsOrderly, IsSearch, AreAssumed, paid_of}
 use Rattle.search_engine.specs.Resting.{IsResting}
 use Rattle.search_engine.proofs.Standing.{stands-fewer}

@@ -1,5 +1,5 @@
 -- Learning a clause that is unit.
-use Rattle.std.proofs.Common.{◌≡◌, ℕ, ◌<◌, Bool, true, false, Option, Some, None, List, [], ◌∷◌, ◌++◌, length}
+use Rattle.std.proofs.Common.{◌≡◌, ℕ, suc, ◌<◌, Bool, true, false, Option, Some, None, List, [], ◌∷◌, ◌++◌, length}
 use Rattle.std.proofs.Common.{slice_get, refl, sym, ap, ◌∙◌, subst, ◌⊎◌, inl, ⊎_elim, arith, All, Contains}
 use Rattle.std.specs.List.{AllZip}
 use Rattle.std.specs.Prelude.{IsSome}
@@ -19,6 +19,7 @@ use Rattle.ground_core.specs.Problems.{ProblemState, IsLitOf}
 use Rattle.ground_core.specs.GateClauses.{clauses_of}
 use Rattle.search_engine.specs.Knowledge.{Knows, IsHeldAs}
 use Rattle.ground_core.specs.Solving.{Entails, IsLearntFrom}
+use Rattle.search_engine.specs.Resting.{held_of}
 use Rattle.search_engine.specs.Searching.{AreClosed, IsOrderly, Extends, AreOthersFalse, IsFirstOpen}
 use Rattle.search_engine.proofs.Known.{once-all}
 use Rattle.search_engine.proofs.Pushed.{front-push}
@@ -41,6 +42,13 @@ zip-all P cl [] (c ∷ cs) z h = absurd z
 zip-all P cl (i ∷ ids) [] z h = absurd z
 zip-all P cl (i ∷ ids) (c ∷ cs) z h = All-cons P c cs (h i c z.0) (zip-all P cl ids cs z.1 h)
 
+held-settled : (a : List (Option Bool)) (cl : List (Option (List Lit)))
+    → ((id : ℕ) (k : List Lit) → slice_get cl id ≡ Some (Some k) → IsSettled a k) → All (IsSettled a) (held_of cl)
+held-settled a [] h = All-nil (IsSettled a)
+held-settled a (None ∷ cl) h = held-settled a cl (λ id k e. h (suc id) k e)
+held-settled a (Some c ∷ cl) h = All-cons (IsSettled a) c (held_of cl) (h 0 c refl)
+    (held-settled a cl (λ id k e. h (suc id) k e))
+
 -- where nothing is left to propagate, the problem's clauses and the learnt ones are settled
 module _ (p : ProblemState) (learnt : List (List Lit)) (ids : List ℕ) (s : StoreState)
     (knows : Knows p learnt ids s.clauses) (quiet : IsQuiet s) where
@@ -53,15 +61,23 @@ module _ (p : ProblemState) (learnt : List (List Lit)) (ids : List ℕ) (s : Sto
       (λ c w. settled-held w.0 c w.1) (clauses_of p) knows.problem)
       (zip-all (IsSettled s.trail.values) s.clauses ids learnt knows.learnt_held settled-held)
 
+  -- and so is all that is held: what constraints gave, too
+  abbrev all_held : List (List Lit)
+  all_held = (clauses_of p ++ learnt) ++ held_of s.clauses
+
+  all-held-settled : All (IsSettled s.trail.values) all_held
+  all-held-settled = All-append (IsSettled s.trail.values) (clauses_of p ++ learnt) (held_of s.clauses) all-settled
+      (held-settled s.trail.values s.clauses quiet)
+
   pub lesson-fresh : (c : List Lit) → AreOthersFalse s.trail.values c → IsFirstOpen s.trail.values c
-      → FreshAgainst (clauses_of p ++ learnt) c
+      → FreshAgainst all_held c
   lesson-fresh c others first =
       let l : Lit = others.0 in
       let same : first.0 ≡ l = same_Some first.0 l (sym first.1 ∙ others.1) in
       let none : value_in s.trail.values l ≡ None = subst (λ (x : Lit). value_in s.trail.values x ≡ None)
       same first.2 in
       let member : Contains c l = (0, slice_get_within c 0 l others.1, get_or_from_slice_get c 0 l l others.1) in
-      (l, fresh-from_quiet s.trail.values (clauses_of p ++ learnt) c l all-settled member none others.2)
+      (l, fresh-from_quiet s.trail.values all_held c l all-held-settled member none others.2)
 
 -- where nothing is left to propagate, a selector that is false by a clause is false
 pub closed-true : (s : StoreState) (ids : List ℕ) (ls : List Lit) → IsQuiet s → AreClosed s.clauses ids ls → (l : Lit)
@@ -97,17 +113,19 @@ lesson-live a c l others first on has =
     (λ (off : value_in a (negated l) ≡ Some false). let both : Some true ≡ Some false = sym on ∙ off in cc)
     (All-contains (λ m. (m ≡ others.0) ⊎ (value_in a m ≡ Some false)) c (negated l) others.2 has)
 
--- so that it is learnt from the problem
-pub lesson-learnt : (p : ProblemState) (learnt : List (List Lit)) (c : List Lit)
+-- so that it is learnt from the problem, and says something new beside all that is held
+pub lesson-learnt : (p : ProblemState) (learnt held : List (List Lit)) (c : List Lit)
     → ((l : Lit) → Contains p.retired l → Contains c (negated l) → ⊥) → Entails p c
-    → FreshAgainst (clauses_of p ++ learnt) c → IsLearntFrom p learnt c
-lesson-learnt p learnt c live entailed fresh = record {
+    → FreshAgainst ((clauses_of p ++ learnt) ++ held) c → IsLearntFrom p learnt c
+lesson-learnt p learnt held c live entailed fresh = record {
   entailed = entailed;
   live = live;
-  against = clauses_of p ++ learnt;
+  against = (clauses_of p ++ learnt) ++ held;
   fresh = fresh;
-  learnt = λ d has. Contains-append_right (clauses_of p) learnt d has;
-  said = λ d has live. Contains-append_left (clauses_of p) learnt d has;
+  learnt = λ d has. Contains-append_left (clauses_of p ++ learnt) held d
+      (Contains-append_right (clauses_of p) learnt d has);
+  said = λ d has live. Contains-append_left (clauses_of p ++ learnt) held d
+      (Contains-append_left (clauses_of p) learnt d has);
 }
 
 -- one more step that follows by a clause

@@ -17,6 +17,7 @@ use Rattle.search_engine.proofs.Closing.{closed-learnt}
 use Rattle.search_engine.proofs.SearchFacts.{paid-same}
 use Rattle.search_engine.proofs.Known.{known-learnt}
 use Rattle.search_engine.proofs.Pushed.{front-push}
+use Rattle.search_engine.specs.Resting.{held_of}
 use Rattle.search_engine.proofs.LearnFacts.{closed-true, lesson-implies, lesson-fresh, lesson-live, lesson-learnt}
 use Rattle.search_engine.proofs.LearnFacts.{orderly-push, extends-push}
 use Rattle.search_engine.proofs.LearntLists.{learnt-push}
@@ -86,7 +87,7 @@ module _ (e f : Engine) (h : IsSearch e) (quiet : IsQuiet e.store) (lits held : 
     closed = rw (problem, closed, ids, clauses) (closed-learnt e.store.clauses held e.ids.items
         (take e.closed e.problem.retired) h.engine.closed);
     learnt = rw (problem, learnt, moments) (learnt-push e.problem e.learnt e.moments.items lits h.engine.learnt
-        (lesson-learnt e.problem e.learnt lits live lesson.entailed
+        (lesson-learnt e.problem e.learnt (held_of e.store.clauses) lits live lesson.entailed
         (lesson-fresh e.problem e.learnt e.ids.items e.store h.engine.knows quiet lits lesson.others open-first)));
     knows = rw (problem, learnt, ids, clauses) (known-learnt e.problem e.learnt e.ids.items e.store.clauses lits held
         h.engine.knows lesson.entailed lesson.within lesson.occurs once);

@@ -9,8 +9,8 @@ use Rattle.std.proofs.lemmas.Option.{same_Some}
 use Rattle.std.proofs.lemmas.Bool.{cases_eq, ne_eqb}
 use Rattle.lit_core.specs.declared.literals.Lit.{Lit}
 use Rattle.clause_store.specs.declared.trails.Step.{Step}
-use Rattle.kept_problem.specs.Selectors.{AreSelectors, variables_of}
-use Rattle.kept_problem.proofs.SelectorFacts.{eqb-laws}
+use Rattle.ground_core.specs.Selectors.{AreSelectors, variables_of}
+use Rattle.ground_core.proofs.SelectorFacts.{eqb-laws}
 
 -- the variables of steps
 abbrev numbers_made : List Step → List ℕ

@@ -5,4 +5,3 @@ pub mod LitSets
 pub mod Cores
 pub mod Resting
 pub use Rattle.kept_problem.specs.Joining
-pub use Rattle.kept_problem.specs.Selectors

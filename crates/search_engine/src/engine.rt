@@ -15,7 +15,7 @@ use search_decisions::Decider;
 use std::alloc::Global;
 
 /// What became of a conflict.
-#[derive(Clone, Copy, Debug, PartialEq, Eq)]
+#[derive(Clone, Copy, PartialEq, Eq)]
 pub enum Turn {
     /// The problem is refuted.
     Refuted,
@@ -151,6 +151,8 @@ impl Engine {
         let Some(clause) = self.learn_from(conflict)? else {
             return Ok(Turn::Refuted);
         };
+        // Without the clause first: what is false then is learnt from in its turn, and only where nothing
+        // is does the clause say something new.
         match self.store.propagate() {
             Some(next) => Ok(Turn::Conflict(next)),
             None => {
@@ -174,6 +176,7 @@ impl Engine {
         ensures settled { IfOk result (SettleGives self.old self.new) }
     {
         let mut conflict = first;
+        // Each conflict takes back a level, so this ends.
         loop {
             match self.handle_conflict(conflict)? {
                 Turn::Refuted => return Ok(false),

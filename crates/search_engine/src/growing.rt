@@ -3,6 +3,7 @@ ghost use Rattle.std.specs.Prelude.{◌≡◌, ◌<◌, ◌≤◌, ◌+◌, [], 
 ghost use Rattle.ground_core.specs.Problems.{AreLitsOf, IsProblem};
 ghost use Rattle.ground_core.specs.Growth.{next_lit};
 ghost use Rattle.ground_core.specs.Growing.{IsSelector, with_retired};
+ghost use Rattle.ground_core.specs.Selectors.{AreSelectors};
 ghost use Rattle.kept_problem.specs.Joining.{CanJoin, with_selected};
 ghost use Rattle.search_engine.specs.Resting.{Bounds, Excludes, Grows, IsHalfDone, IsNew, IsResting, KeepsProblem};
 ghost use Rattle.search_engine.specs.Resting.{Reserves, SameSearches, Stays};
@@ -184,6 +185,7 @@ impl Engine {
         ensures retired { (Contains self.old.problem.retired selector → ⊥)
             → self.new.problem ≡ with_retired self.old.problem selector }
         ensures few { length self.new.problem.retired ≤ self.new.problem.vars }
+        ensures selectors { AreSelectors self.new.problem.retired }
         ensures same { SameSearches self.old self.new }
         ensures held { self.new.store ≡ self.old.store }
     {

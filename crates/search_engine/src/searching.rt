@@ -130,6 +130,8 @@ impl Engine {
         // So the sum below fits.
         let _count = self.store.assignment().len();
         let end = self.problem.vars() + 1;
+        // Where no value was seen less, the sign goes another way in each search, and every 32 conflicts of one:
+        // without restarts some searches stuck to the signs of a bad start, and with this they ended.
         let salt = self.searches.wrapping_add(self.conflicts / 32);
         match self
             .decider
@@ -321,6 +323,8 @@ impl Engine {
         ensures verdict { IfOk result (Answers self.old.problem assume.now) }
         ensures halt { IfErr result (HaltsAt most self.new) }
     {
+        // There are no restarts: each conflict leaves less to be tried, which is what bounds their number, and
+        // a restart would give that up.
         loop {
             match self.step(rule, assume, most)? {
                 Some(verdict) => return Ok(verdict),

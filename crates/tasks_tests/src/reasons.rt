@@ -82,8 +82,8 @@ fn the_kept_solver_leaves_out_as_much(rt: HostRuntime) -> Result<(), Fail> {
     Ok(())
 }
 
-/// How many literals the reason has; 97 where the target is free, 98 where what is assumed has no model, and 99 where the
-/// call halts.
+/// How many literals the reason has; 97 where the target is free, 98 where what is assumed has no model, and 99 where
+/// the call halts.
 fn support_of<S: Solve>(
     alloc: Global,
     solver: &mut S,

@@ -1,4 +1,4 @@
-use Rattle.std.proofs.Common.{◌≡◌, ◌+◌, ◌-◌, ◌∙◌, zero, suc, length, ap, sym, arith}
+use Rattle.std.proofs.Common.{◌≡◌, ◌-◌, ◌∙◌, zero, suc, length, ap, sym, arith}
 use Rattle.reading_stages.specs.Below.{type_parents}
 use Rattle.reading_stages.specs.Kinship.{climbed}
 use Rattle.data_domains.proofs.Climbing.{stays, goes_up}

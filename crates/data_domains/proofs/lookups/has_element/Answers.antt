@@ -1,4 +1,4 @@
-use Rattle.std.proofs.Common.{◌∙◌, sym, ap}
+use Rattle.std.proofs.Common.{sym, ap}
 use Rattle.reading_stages.specs.Elements as set
 use Rattle.reading_stages.specs.DataDomains.{cells_of}
 use Rattle.data_entries.specs.EntryViews.{elem_view}

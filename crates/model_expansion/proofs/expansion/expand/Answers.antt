@@ -1,4 +1,5 @@
 use Rattle.std.proofs.Common.{Ok, subst}
+use Rattle.ground_core.proofs.CallFacts.{keeps-searched}
 use Rattle.ground_core.specs.declared.solving.Verdict.{Verdict}
 use Rattle.ground_core.specs.Solving.{SolveState, Answers, KeepsCores}
 use Rattle.model_expansion.proofs.ExpansionFacts.{shows, cost-of-one}
@@ -25,3 +26,15 @@ returns-in-Ok-Unsat-clause-costs g c = cost-of-one (g.S.Solve.state c.args.s.now
 pub returns-in-Err-clause-costs : goal.returns-in-Err-clause-costs
 returns-in-Err-clause-costs g c = cost-of-one (g.S.Solve.state c.args.s.now) (g.S.Solve.state c.solve.new.self)
     c.args.budget.now c.solve.new.budget c.solve.ensures.searches c.solve.ensures.spends
+
+pub returns-in-Ok-Sat-clause-keeps : goal.returns-in-Ok-Sat-clause-keeps
+returns-in-Ok-Sat-clause-keeps g c = keeps-searched (g.S.Solve.state c.args.s.now) (g.S.Solve.state c.solve.new.self) c.args.budget.now
+    c.solve.new.budget c.solve.result c.solve.ensures.problem c.solve.ensures.spends c.solve.ensures.cores
+
+pub returns-in-Ok-Unsat-clause-keeps : goal.returns-in-Ok-Unsat-clause-keeps
+returns-in-Ok-Unsat-clause-keeps g c = keeps-searched (g.S.Solve.state c.args.s.now) (g.S.Solve.state c.solve.new.self) c.args.budget.now
+    c.solve.new.budget c.solve.result c.solve.ensures.problem c.solve.ensures.spends c.solve.ensures.cores
+
+pub returns-in-Err-clause-keeps : goal.returns-in-Err-clause-keeps
+returns-in-Err-clause-keeps g c = keeps-searched (g.S.Solve.state c.args.s.now) (g.S.Solve.state c.solve.new.self) c.args.budget.now
+    c.solve.new.budget c.solve.result c.solve.ensures.problem c.solve.ensures.spends c.solve.ensures.cores

@@ -2,9 +2,9 @@ use Rattle.std.proofs.Common.{◌+◌, ◌++◌, ◌∷◌, [], List, sym, subst
 use Rattle.lit_core.specs.declared.literals.Lit.{Lit}
 use Rattle.ground_core.specs.Growth.{next_lit}
 use Rattle.ground_core.specs.Solving.{SolveState, AreUnretired}
-use Rattle.ground_core.specs.Calls.{CountsUpTo}
-use Rattle.ground_core.proofs.CallFacts.{none-counted}
-use Rattle.model_minimiser.proofs.TurnFacts.{unretired, turn-adds, turn-found, turn-none, turn-nothing}
+use Rattle.ground_core.specs.Calls.{CountsUpTo, Keeps}
+use Rattle.ground_core.proofs.CallFacts.{keeps-none, none-counted}
+use Rattle.model_minimiser.proofs.TurnFacts.{unretired, turn-adds, turn-keeps, turn-found, turn-none, turn-nothing}
 use Rattle.model_minimiser.proofs.descent.lower.Goals as goal
 
 pub returns-in_default-clause-counts : goal.returns-in_default-clause-counts
@@ -72,3 +72,24 @@ pub returns-in_default-clause-adds : goal.returns-in_default-clause-adds
 returns-in_default-clause-adds g c = turn-none (g.S.Solve.state c.args.s.now) (g.S.Solve.state c.bound.new.s)
     c.args.term c.args.below c.args.selectors.now.items c.bound.new.selectors.items c.in_default.ensures.same.0
     c.in_default.ensures.same.1
+
+pub returns-in-Ok-Some-clause-keeps : goal.returns-in-Ok-Some-clause-keeps
+returns-in-Ok-Some-clause-keeps g c = turn-keeps (g.S.Solve.state c.args.s.now) (g.S.Solve.state c.bound.new.s)
+    (g.S.Solve.state c.search_under.new.s) c.args.budget.now c.search_under.new.budget c.args.term c.args.below
+    c.in-Ok.ensures.made.1 c.requires.budget c.search_under.ensures.keeps
+
+pub returns-in-Ok-None-clause-keeps : goal.returns-in-Ok-None-clause-keeps
+returns-in-Ok-None-clause-keeps g c = turn-keeps (g.S.Solve.state c.args.s.now) (g.S.Solve.state c.bound.new.s)
+    (g.S.Solve.state c.search_under.new.s) c.args.budget.now c.search_under.new.budget c.args.term c.args.below
+    c.in-Ok.ensures.made.1 c.requires.budget c.search_under.ensures.keeps
+
+pub returns-in-Err-clause-keeps : goal.returns-in-Err-clause-keeps
+returns-in-Err-clause-keeps g c = turn-keeps (g.S.Solve.state c.args.s.now) (g.S.Solve.state c.bound.new.s)
+    (g.S.Solve.state c.search_under.new.s) c.args.budget.now c.search_under.new.budget c.args.term c.args.below
+    c.in-Ok.ensures.made.1 c.requires.budget c.search_under.ensures.keeps
+
+pub returns-in_default-clause-keeps : goal.returns-in_default-clause-keeps
+returns-in_default-clause-keeps g c =
+    let s : SolveState = g.S.Solve.state c.args.s.now in
+    subst (λ (t : SolveState). Keeps s t c.args.budget.now c.args.budget.now) (sym c.in_default.ensures.same.0)
+    (keeps-none s c.args.budget.now c.requires.budget)

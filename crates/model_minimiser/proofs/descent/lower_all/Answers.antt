@@ -6,6 +6,7 @@ use Rattle.model_minimiser.proofs.DescentFacts.{so-far-begins, turn-ends-bounds,
 use Rattle.model_minimiser.proofs.DescentFacts.{turn-falls}
 use Rattle.model_minimiser.proofs.DescentFacts.{least-here, so-far-most}
 use Rattle.ground_core.proofs.AdditionFacts.{still-unretired}
+use Rattle.ground_core.proofs.CallFacts.{keeps-twice}
 use Rattle.model_minimiser.proofs.descent.lower_all.Goals as goal
 
 pub loop-alloc-init : goal.loop-alloc-init
@@ -111,3 +112,13 @@ pub returns-clause-counts : goal.returns-clause-counts
 returns-clause-counts g c = so-far-most c.args.assume.now c.args.term (g.S.Solve.state c.args.s.now)
     (g.S.Solve.state c.loop-alloc.s) c.args.budget.now c.loop-alloc.budget c.loop-alloc.best
     c.loop-alloc.selectors.items c.loop-alloc.invariant.0
+
+pub returns-in-Ok-Nothing-clause-keeps : goal.returns-in-Ok-Nothing-clause-keeps
+returns-in-Ok-Nothing-clause-keeps g c = keeps-twice (g.S.Solve.state c.args.s.now) (g.S.Solve.state c.loop-alloc.s)
+    (g.S.Solve.state c.lower.new.s) c.args.budget.now c.loop-alloc.budget c.lower.new.budget
+    c.loop-alloc.invariant.0.keeps c.lower.ensures.keeps
+
+pub returns-in-Err-clause-keeps : goal.returns-in-Err-clause-keeps
+returns-in-Err-clause-keeps g c = keeps-twice (g.S.Solve.state c.args.s.now) (g.S.Solve.state c.loop-alloc.s)
+    (g.S.Solve.state c.lower.new.s) c.args.budget.now c.loop-alloc.budget c.lower.new.budget
+    c.loop-alloc.invariant.0.keeps c.lower.ensures.keeps

@@ -1,4 +1,5 @@
 use Rattle.std.proofs.Common.{Ok, subst}
+use Rattle.ground_core.proofs.CallFacts.{keeps-searched}
 use Rattle.ground_core.specs.declared.solving.Verdict.{Verdict}
 use Rattle.ground_core.specs.Solving.{SolveState, Answers, KeepsCores}
 use Rattle.ground_core.proofs.CoreFacts.{refused}
@@ -14,3 +15,15 @@ returns-in-Ok-Unsat-clause-finds g c =
     let keeps = subst (λ (w : Verdict). KeepsCores before.cores (Ok w) after.cores) c.in-Ok-Unsat.field-0-is
     c.in-Ok-Unsat.ensures.cores in
     refused before.problem before.cores after.cores core c.args.assume.now answers keeps
+
+pub returns-in-Ok-Sat-clause-keeps : goal.returns-in-Ok-Sat-clause-keeps
+returns-in-Ok-Sat-clause-keeps g c = keeps-searched (g.S.Solve.state c.args.s.now) (g.S.Solve.state c.solve.new.self) c.args.budget.now
+    c.solve.new.budget c.solve.result c.solve.ensures.problem c.solve.ensures.spends c.solve.ensures.cores
+
+pub returns-in-Ok-Unsat-clause-keeps : goal.returns-in-Ok-Unsat-clause-keeps
+returns-in-Ok-Unsat-clause-keeps g c = keeps-searched (g.S.Solve.state c.args.s.now) (g.S.Solve.state c.solve.new.self) c.args.budget.now
+    c.solve.new.budget c.solve.result c.solve.ensures.problem c.solve.ensures.spends c.solve.ensures.cores
+
+pub returns-clause-keeps : goal.returns-clause-keeps
+returns-clause-keeps g c = keeps-searched (g.S.Solve.state c.args.s.now) (g.S.Solve.state c.solve.new.self) c.args.budget.now
+    c.solve.new.budget c.solve.result c.solve.ensures.problem c.solve.ensures.spends c.solve.ensures.cores

@@ -22,3 +22,4 @@ returns-clause-kept c =
     c.args.term c.args.below lt c.vars-vars.ensures.laws c.in_ok-out.ensures.ok.1 in
     kept-more (state_of c.self.inside) c.bound.new.self c.self.inside.cores c.push_reserved.new.self.items
     c.self.inside.kept m c.vars-vars.ensures.range c.self.invariant.refuted c.self.invariant.counted
+    c.vars-vars.ensures.selectors

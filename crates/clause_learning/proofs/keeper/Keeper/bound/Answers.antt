@@ -4,6 +4,7 @@ use Rattle.clause_learning.specs.LiveBounds.{IsLive}
 use Rattle.clause_learning.proofs.LiveGrowth.{live-with-bound}
 use Rattle.ground_core.specs.declared.parts.TermBound.{TermBound}
 use Rattle.ground_core.specs.Problems.{ProblemState}
+use Rattle.ground_core.specs.Selectors.{AreSelectors}
 use Rattle.ground_core.specs.Meaning.{HasTermsInRange, RefutesAll}
 use Rattle.ground_core.specs.Growth.{with_bound}
 use Rattle.ground_core.proofs.GrowthFacts.{bound-restricts}
@@ -25,6 +26,7 @@ returns-clause-keeper c =
       terms = subst HasTermsInRange (sym made.problem) (range-more p q refl less h.terms);
       few = subst (λ (r : ProblemState). length r.retired ≤ r.vars) (sym made.problem) (let more : length p.retired
           ≤ p.vars + 1 = omega (arith, few) in more);
+      selectors = subst (λ (r : ProblemState). AreSelectors r.retired) (sym made.problem) h.selectors;
       indexed = h.indexed;
       refuted = subst (λ (r : ProblemState). All (RefutesAll r) a.index.cores.items) (sym made.problem)
           (refuted-more p q less a.index.cores.items h.refuted);

@@ -3,6 +3,7 @@ use Rattle.std.proofs.lemmas.List.Elements.{All-weaker}
 use Rattle.clause_learning.specs.LiveBounds.{IsLive}
 use Rattle.clause_learning.proofs.LiveGrowth.{live-excluded}
 use Rattle.ground_core.specs.Problems.{ProblemState}
+use Rattle.ground_core.specs.Selectors.{AreSelectors}
 use Rattle.ground_core.specs.Meaning.{HasTermsInRange, RefutesAll}
 use Rattle.ground_core.specs.Growth.{with_exclusion}
 use Rattle.ground_core.proofs.GrowthFacts.{exclusion-restricts}
@@ -23,6 +24,7 @@ returns-clause-keeper c =
           (exclusion-restricts p c.args.values.now) h.terms);
       few = subst (λ (r : ProblemState). length r.retired ≤ r.vars) (sym made.problem) (let more : length p.retired
           ≤ p.vars + 1 = omega (arith, few) in more);
+      selectors = subst (λ (r : ProblemState). AreSelectors r.retired) (sym made.problem) h.selectors;
       indexed = h.indexed;
       refuted = subst (λ (r : ProblemState). All (RefutesAll r) a.index.cores.items) (sym made.problem)
           (refuted-more p (with_exclusion p c.args.values.now) (exclusion-restricts p c.args.values.now)

@@ -16,6 +16,7 @@ returns-in-Ok-clause-keeper c =
       resting = c.requires.keeper.resting;
       terms = c.requires.keeper.terms;
       few = c.requires.keeper.few;
+      selectors = c.requires.keeper.selectors;
       indexed = c.keep.ensures.indexed;
       refuted = subst (λ (cs : List (List Lit)). All (RefutesAll a.engine.problem) cs) (sym cores)
           (All-push (RefutesAll a.engine.problem) a.index.cores.items c.in-Unsat.core c.requires.keeper.refuted new.0);

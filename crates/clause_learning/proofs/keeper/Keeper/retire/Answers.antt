@@ -25,6 +25,7 @@ returns-clause-keeper c =
           (range-more p (with_retired p c.args.selector) refl (retired-first p c.args.selector) h.terms))
           (decide_member p.retired c.args.selector);
       few = c.retire.ensures.few;
+      selectors = c.retire.ensures.selectors;
       indexed = h.indexed;
       refuted = ⊎_elim
           (λ has. subst (λ (r : ProblemState). All (RefutesAll r) a.index.cores.items)

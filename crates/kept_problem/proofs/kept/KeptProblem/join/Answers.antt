@@ -2,7 +2,7 @@ use Rattle.std.proofs.Common.{◌≡◌, ◌++◌, sym, refl, subst, arith}
 use Rattle.ground_core.specs.Problems.{ProblemState, IsProblem}
 use Rattle.kept_problem.specs.Joining.{joined_problem, CanJoin}
 use Rattle.kept_problem.specs.KeptFields.{state_of}
-use Rattle.kept_problem.specs.Selectors.{AreSelectors}
+use Rattle.ground_core.specs.Selectors.{AreSelectors}
 use Rattle.kept_problem.proofs.JoinLaws.{joined-laws, same-both, one-has-none}
 use Rattle.kept_problem.proofs.kept.KeptProblem.join.Goals as goal
 

@@ -2,8 +2,8 @@ use Rattle.std.proofs.Common.{◌≡◌, [], true, sym, subst, arith}
 use Rattle.std.proofs.lemmas.List.Elements.{All-nil}
 use Rattle.lit_core.specs.declared.literals.Lit.{Lit}
 use Rattle.ground_core.specs.Problems.{IsLitOf, AreLitsOf, IsGateOf, IsSumOf, IsTermOf, IsBoundOf}
-use Rattle.kept_problem.specs.Selectors.{AreSelectors}
-use Rattle.kept_problem.proofs.SelectorFacts.{distinct-nil}
+use Rattle.ground_core.specs.Selectors.{AreSelectors}
+use Rattle.ground_core.proofs.SelectorFacts.{distinct-nil}
 use Rattle.kept_problem.proofs.kept.KeptProblem.new.Goals as goal
 
 no-selectors : AreSelectors []

@@ -5,8 +5,8 @@ use Rattle.ground_core.specs.Problems.{ProblemState, IsProblem}
 use Rattle.ground_core.specs.Growth.{retiring}
 use Rattle.ground_core.specs.Growing.{IsSelector}
 use Rattle.kept_problem.specs.KeptFields.{state_of}
-use Rattle.kept_problem.specs.Selectors.{AreSelectors}
-use Rattle.kept_problem.proofs.SelectorFacts.{room, selectors-push}
+use Rattle.ground_core.specs.Selectors.{AreSelectors}
+use Rattle.ground_core.proofs.SelectorFacts.{room, selectors-push}
 use Rattle.kept_problem.proofs.JoinLaws.{retired-laws}
 use Rattle.kept_problem.proofs.kept.KeptProblem.retire.Goals as goal
 

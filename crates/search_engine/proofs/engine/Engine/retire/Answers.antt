@@ -2,7 +2,7 @@ use Rattle.std.proofs.Common.{refl, ⊎_elim}
 use Rattle.lit_core.proofs.LiteralFacts.{decide_member}
 use Rattle.search_engine.specs.declared.engine.Engine.{Engine}
 use Rattle.search_engine.proofs.GrowFacts.{resting-same, resting-retired, same-itself}
-use Rattle.kept_problem.proofs.SelectorFacts.{few}
+use Rattle.ground_core.proofs.SelectorFacts.{few}
 use Rattle.search_engine.proofs.engine.Engine.retire.Goals as goal
 
 pub returns-clause-resting : goal.returns-clause-resting

@@ -14,7 +14,7 @@ use Rattle.std.proofs.lemmas.Bool.{cases_eq, cases_lt, ne_eqb, both_ways}
 use Rattle.lit_core.specs.declared.literals.Lit.{Lit}
 use Rattle.lit_core.proofs.LiteralFacts.{same_literal}
 use Rattle.ground_core.specs.Problems.{IsLitOf, AreLitsOf}
-use Rattle.kept_problem.specs.Selectors.{AreSelectors, variables_of}
+use Rattle.ground_core.specs.Selectors.{AreSelectors, variables_of}
 
 pub eqb-laws : IsEquivalence eqb
 eqb-laws = record {

@@ -1,0 +1,36 @@
+-- What an entry adds to the elements of a type.
+use Rattle.std.specs.Prelude.{◌≡◌, ℕ, Bool, not, ◌&&◌, List, [], ◌++◌, map, filter, if◌then◌else◌}
+use Rattle.std.specs.List.{filter_map}
+use Rattle.kb_logic.specs.declared.vocabularies.TypeDecl.{TypeDecl}
+use Rattle.reading_stages.specs.Elements.{Cell}
+use Rattle.reading_stages.specs.DataEntries.{Said, Spot, spots_of}
+use Rattle.reading_stages.specs.DataDomains.{cells_given, is_list_of, made_cells, occurs_at}
+use Rattle.data_entries.specs.EntryViews.{cell_view}
+use Rattle.data_domains.specs.Traits.{AreTraitsOf}
+use Rattle.data_domains.specs.declared.traits.Traits.{Traits}
+use Rattle.data_domains.specs.declared.types.TypeData.{TypeData}
+
+-- of each type its traits and the cells that it has so far
+abbrev pub given_in : List TypeData → List (Traits × List Cell)
+given_in xs = map (λ x. (x.traits, map cell_view x.cells.items)) xs
+
+-- all that stands in the entry, where it is a list of the type and the type's elements are not declared with it
+abbrev pub listed_share : ℕ → Traits → Said → List Cell
+listed_share t x e = if not x.constructed && is_list_of t e then cells_given e else []
+
+-- what is written here occurs at a position of the type, and the type has the elements that occur
+abbrev pub is_taken : List TypeDecl → ℕ → Traits → Spot → Bool
+is_taken types t x s = x.occurs && occurs_at types t s
+
+-- what stands in the entry at positions of the type, where it has the elements that occur
+abbrev pub occurring_share : List TypeDecl → ℕ → Traits → List Spot → List Cell
+occurring_share types t x ss = filter_map (λ s. s.cell) (filter (is_taken types t x) ss)
+
+-- both
+abbrev pub share : List TypeDecl → ℕ → Traits → Said → List Cell
+share types t x e = listed_share t x e ++ occurring_share types t x (spots_of e)
+
+-- the traits of the type, and of its elements those that are declared with it
+pub record IsDeclaredSo (types : List TypeDecl) (es : List Said) (t : ℕ) (d : TypeDecl) (x : TypeData) : Type 0 where
+  pub traits : AreTraitsOf types es t d x.traits
+  pub cells : map cell_view x.cells.items ≡ (if x.traits.constructed then made_cells d else [])
