@@ -2,22 +2,20 @@
 use Rattle.std.proofs.Common.{◌≡◌, ◌≤◌, ◌<◌, ℕ, Bool, List, [], ◌∷◌, ◌++◌, length, Option, fold, refl, ap, ◌∙◌, sym}
 use Rattle.std.proofs.Common.{map, take, arith, false}
 use Rattle.std.specs.List.{flat_map}
-use Rattle.std.specs.Prelude.{Result, Ok, Err, OnOk, IfOk}
+use Rattle.std.specs.Prelude.{Result, Ok, Err, OnOk}
 use Rattle.std.proofs.lemmas.Grind.{fold-append}
 use Rattle.std.proofs.lemmas.List.{append_assoc, take_all}
 use Rattle.kb_text.specs.declared.fault.KbFault.{KbFault}
 use Rattle.fo_syntax.specs.declared.terminal.Adding.{Adding}
-use Rattle.fo_syntax.specs.declared.terminal.Arrow.{Arrow}
 use Rattle.fo_syntax.specs.Trees as raw
 use Rattle.fo_syntax.specs.View.{or_of, and_of, term_of, product_of}
 use Rattle.reading_stages.specs.Scopes.{Text}
 use Rattle.reading_stages.specs.Names.{Names}
 use Rattle.reading_stages.specs.Uses.{Use}
 use Rattle.reading_stages.specs.NamedTrees as tree
-use Rattle.reading_stages.specs.Numbering.{grouped, named_or, named_and, named_unary, named_term, named_product}
-use Rattle.reading_stages.specs.Numbering.{named_factor, is_minus}
-use Rattle.reading_stages.specs.NamedViews.{formula_view}
-use Rattle.reading_stages.specs.declared.named.NamedFormula.{NamedFormula}
+use Rattle.reading_stages.specs.Numbering.{named_or, named_and, named_unary, named_term, named_product}
+use Rattle.reading_stages.specs.Numbering.{named_factor}
+use Rattle.formula_names.proofs.Operands.{disjunct_named, conjunct_named, summand_named, factor_named}
 use Rattle.formula_names.proofs.Chains.{disjuncts-is, conjuncts-is, summands-is, factors-is}
 
 -- ---- the operands that were pushed, and what was noted
@@ -56,29 +54,44 @@ noted_twice N start middle after first second e f = f ∙ rw e (sym (fold-append
 
 -- ---- the trees
 
-pub or_tree : {X : Type 0} (n : Names) (s : List Text) (a : raw.And) (V : X → ℕ × raw.And) (whole : List X)
+or_tree : {X : Type 0} (n : Names) (s : List Text) (a : raw.And) (V : X → ℕ × raw.And) (whole : List X)
     (fs : List tree.NamedFormula)
-    → 0 < length whole → fs ≡ named_and n s a ∷ map (λ (x : ℕ × raw.And). named_and n s x.1) (map V whole)
+    → 0 < length whole → fs ≡ named_and n s a ∷ map (disjunct_named n s) (map V whole)
     → tree.disjunction (tree.formulas_of fs) ≡ named_or n s (or_of a (map V whole))
 or_tree n s a V [] fs some e = absurd (omega arith)
 or_tree n s a V (y ∷ ys) fs some e =
     rw e (ap (λ (gs : tree.NamedFormulas). tree.disjunction (tree.more_formulas (named_and n s a) gs))
     (sym (disjuncts-is n s (V y).1 (map V ys))))
 
-pub and_tree : {X : Type 0} (n : Names) (s : List Text) (u : raw.Unary) (V : X → ℕ × raw.Unary) (whole : List X)
+pub or_built : {X : Type 0} (n : Names) (s : List Text) (a : raw.And) (V : X → ℕ × raw.And)
+    (items start : List tree.NamedFormula) (more whole : List X) (i : ℕ)
+    → items ≡ start ++ map (disjunct_named n s) (map V (take i more)) → start ≡ named_and n s a ∷ []
+    → length more ≤ i → more ≡ whole → 0 < length whole
+    → tree.disjunction (tree.formulas_of items) ≡ named_or n s (or_of a (map V whole))
+or_built n s a V items start more whole i e one le is some =
+    or_tree n s a V whole items some (pushed (disjunct_named n s) V items start _ more whole i e one le is)
+
+and_tree : {X : Type 0} (n : Names) (s : List Text) (u : raw.Unary) (V : X → ℕ × raw.Unary) (whole : List X)
     (fs : List tree.NamedFormula)
-    → 0 < length whole → fs ≡ named_unary n s u ∷ map (λ (x : ℕ × raw.Unary). named_unary n s x.1) (map V whole)
+    → 0 < length whole → fs ≡ named_unary n s u ∷ map (conjunct_named n s) (map V whole)
     → tree.conjunction (tree.formulas_of fs) ≡ named_and n s (and_of u (map V whole))
 and_tree n s u V [] fs some e = absurd (omega arith)
 and_tree n s u V (y ∷ ys) fs some e =
     rw e (ap (λ (gs : tree.NamedFormulas). tree.conjunction (tree.more_formulas (named_unary n s u) gs))
     (sym (conjuncts-is n s (V y).1 (map V ys))))
 
-pub sum_tree : {X : Type 0} (n : Names) (s : List Text) (p : raw.Product) (V : X → Adding × ℕ × raw.Product)
+pub and_built : {X : Type 0} (n : Names) (s : List Text) (a : raw.Unary) (V : X → ℕ × raw.Unary)
+    (items start : List tree.NamedFormula) (more whole : List X) (i : ℕ)
+    → items ≡ start ++ map (conjunct_named n s) (map V (take i more)) → start ≡ named_unary n s a ∷ []
+    → length more ≤ i → more ≡ whole → 0 < length whole
+    → tree.conjunction (tree.formulas_of items) ≡ named_and n s (and_of a (map V whole))
+and_built n s a V items start more whole i e one le is some =
+    and_tree n s a V whole items some (pushed (conjunct_named n s) V items start _ more whole i e one le is)
+
+sum_tree : {X : Type 0} (n : Names) (s : List Text) (p : raw.Product) (V : X → Adding × ℕ × raw.Product)
     (whole : List X) (place : ℕ) (ss : List (Bool × tree.NamedTerm))
     → 0 < length whole → place ≡ tree.place_of (named_product n s p)
-    → ss ≡ (false, named_product n s p) ∷ map (λ (x : Adding × ℕ × raw.Product). (is_minus x.0, named_product n s x.2))
-    (map V whole)
+    → ss ≡ (false, named_product n s p) ∷ map (summand_named n s) (map V whole)
     → tree.at place (tree.summation (tree.summands_of ss)) ≡ named_term n s (term_of p (map V whole))
 sum_tree n s p V [] place ss some at e = absurd (omega arith)
 sum_tree n s p V (y ∷ ys) place ss some at e =
@@ -86,15 +99,32 @@ sum_tree n s p V (y ∷ ys) place ss some at e =
     (tree.summation (tree.more_summands false (named_product n s p) ts)))
     (sym (summands-is n s (V y).0 (V y).2 (map V ys))))
 
-pub product_tree : {X : Type 0} (n : Names) (s : List Text) (f : raw.Factor) (V : X → ℕ × raw.Factor) (whole : List X)
+pub sum_built : {X : Type 0} (n : Names) (s : List Text) (a : raw.Product) (V : X → Adding × ℕ × raw.Product) (place :
+    ℕ)
+    (items start : List (Bool × tree.NamedTerm)) (more whole : List X) (i : ℕ)
+    → items ≡ start ++ map (summand_named n s) (map V (take i more)) → start ≡ (false, named_product n s a) ∷ []
+    → length more ≤ i → more ≡ whole → 0 < length whole → place ≡ tree.place_of (named_product n s a)
+    → tree.at place (tree.summation (tree.summands_of items)) ≡ named_term n s (term_of a (map V whole))
+sum_built n s a V place items start more whole i e one le is some at =
+    sum_tree n s a V whole place items some at (pushed (summand_named n s) V items start _ more whole i e one le is)
+
+product_tree : {X : Type 0} (n : Names) (s : List Text) (f : raw.Factor) (V : X → ℕ × raw.Factor) (whole : List X)
     (place : ℕ) (ts : List tree.NamedTerm)
     → 0 < length whole → place ≡ tree.place_of (named_factor n s f)
-    → ts ≡ named_factor n s f ∷ map (λ (x : ℕ × raw.Factor). named_factor n s x.1) (map V whole)
+    → ts ≡ named_factor n s f ∷ map (factor_named n s) (map V whole)
     → tree.at place (tree.product (tree.terms_of ts)) ≡ named_product n s (product_of f (map V whole))
 product_tree n s f V [] place ts some at e = absurd (omega arith)
 product_tree n s f V (y ∷ ys) place ts some at e =
     rw (e, at) (ap (λ (us : tree.NamedTerms). tree.at (tree.place_of (named_factor n s f))
     (tree.product (tree.more_terms (named_factor n s f) us))) (sym (factors-is n s (V y).1 (map V ys))))
+
+pub product_built : {X : Type 0} (n : Names) (s : List Text) (a : raw.Factor) (V : X → ℕ × raw.Factor) (place : ℕ)
+    (items start : List tree.NamedTerm) (more whole : List X) (i : ℕ)
+    → items ≡ start ++ map (factor_named n s) (map V (take i more)) → start ≡ named_factor n s a ∷ []
+    → length more ≤ i → more ≡ whole → 0 < length whole → place ≡ tree.place_of (named_factor n s a)
+    → tree.at place (tree.product (tree.terms_of items)) ≡ named_product n s (product_of a (map V whole))
+product_built n s a V place items start more whole i e one le is some at =
+    product_tree n s a V whole place items some at (pushed (factor_named n s) V items start _ more whole i e one le is)
 
 -- ---- aggregates
 
@@ -108,14 +138,6 @@ opened_noted N start a b c u vs us e f g = g ∙ rw (f, e) (sym (fold-append N (
 pub always_on_ok : {T E : Type 0} (r : Result T E) (P : Type 0) → P → OnOk r P
 always_on_ok (Ok x) P p = p
 always_on_ok (Err e) P p = tt
-
--- a chain of arrows whose first operand is seen as another one
-pub same_grouped : {E : Type 0} (r : Result NamedFormula E) (a : Arrow) (f : NamedFormula) (gs : List tree.NamedFormula)
-    (first whole : tree.NamedFormula)
-    → IfOk r (λ h. formula_view h ≡ grouped a (formula_view f) gs) → formula_view f ≡ first → grouped a first gs ≡ whole
-    → IfOk r (λ h. formula_view h ≡ whole)
-same_grouped (Ok h) a f gs first whole e is w = e ∙ (rw is w)
-same_grouped (Err x) a f gs first whole e is w = tt
 
 -- one outcome for another
 pub on_ok_map : {T E : Type 0} (r : Result T E) (P Q : Type 0) → OnOk r P → (P → Q) → OnOk r Q

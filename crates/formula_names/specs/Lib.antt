@@ -2,3 +2,4 @@ pub mod Meanings
 pub mod Levels
 pub mod Tails
 pub mod LaterLinks
+pub mod Steps

@@ -7,6 +7,7 @@ mod closing;
 pub mod formulas;
 mod nodes;
 pub mod positions;
+mod resolver;
 pub mod scopes;
 pub mod tables;
 pub mod uses;

@@ -21,6 +21,9 @@ pub struct Levels<'a> {
 }
 
 /// The names in scope.
+// Shallow binding: the table has the innermost variable of each name, and the stack keeps with each variable the one
+// that it hides, which leaving it writes back. So a look-up is one hash however deep the scope is, and entering or
+// leaving costs one write, where a list of variables, searched from its end, would make each word cost the depth.
 #[derive(Drop)]
 pub struct Scope<'a> {
     bindings: Vec<Binding<'a>>,

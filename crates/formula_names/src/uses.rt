@@ -1,5 +1,5 @@
 //! One use of a word: what it means there, and whether it is refused.
-ghost use Rattle.std.specs.Prelude.{◌≡◌, ◌<◌};
+ghost use Rattle.std.specs.Prelude.{◌≡◌, [], ◌∷◌};
 ghost use Rattle.reading_stages.specs.Names.{meaning_at, meaning_of};
 ghost use Rattle.reading_stages.specs.NamesStage as stage;
 ghost use Rattle.reading_stages.specs.NamesStage.{name_noted};
@@ -9,7 +9,9 @@ ghost use Rattle.fo_syntax.specs.View.{name_view};
 ghost use Rattle.reading_stages.specs.Earliest.{noted_if};
 ghost use Rattle.kb_text.specs.declared.fault.K.TheVariants.{UnknownName, WrongArity, Unsupported};
 ghost use Rattle.formula_names.specs.Meanings.{meaning_view, names_in};
+ghost use Rattle.formula_names.specs.Steps.{IsStep, names_known};
 
+use crate::resolver::Resolver;
 use crate::scopes::Scope;
 use crate::tables::{Meaning, Table, declared_meaning};
 use fo_syntax::RawName;
@@ -174,51 +176,40 @@ fn note_word(
     earliest.note_if(is_unsupported, K::Unsupported, place);
 }
 
-/// A word as a formula: the number of its predicate.
-pub fn formula_word<'a>(
-    table: &Table<'a>,
-    scope: &Scope<'a>,
-    word: &'a RawName,
-    count: usize,
-    earliest: &mut Earliest,
-) -> u32
-    ensures number { result ≡ numbers.predicate_number (meaning_at (names_in table.now) scope.now
-        (name_view word.now) count) }
-    ensures noted { earliest.new.first ≡ name_noted (names_in table.now) earliest.old.first
-        (use_of.formula_word scope.now (name_view word.now) count) }
-{
-    let meaning = meaning_at(table, scope, word, count);
-    note_word(
-        earliest,
-        word.place,
-        is_undeclared(meaning),
-        is_no_formula(meaning, count),
-        is_type(meaning),
-    );
-    predicate_number(meaning)
-}
+impl<'r, 'a> Resolver<'r, 'a> {
+    /// A word as a formula: the number of its predicate.
+    pub fn formula_word(&mut self, word: &'a RawName, count: usize) -> u32
+        ensures { IsStep self.old self.new result (numbers.predicate_number (meaning_at (names_known self.old)
+            self.old.scope (name_view word.now) count))
+            self.old.scope (use_of.formula_word self.old.scope (name_view word.now) count ∷ []) }
+    {
+        let meaning = meaning_at(self.table, &self.scope, word, count);
+        note_word(
+            &mut self.earliest,
+            word.place,
+            is_undeclared(meaning),
+            is_no_formula(meaning, count),
+            is_type(meaning),
+        );
+        predicate_number(meaning)
+    }
 
-/// A word as a term: what it means there.
-pub fn term_word<'a>(
-    table: &Table<'a>,
-    scope: &Scope<'a>,
-    word: &'a RawName,
-    count: usize,
-    earliest: &mut Earliest,
-) -> Meaning
-    ensures meaning { meaning_view result ≡ meaning_at (names_in table.now) scope.now (name_view word.now) count }
-    ensures noted { earliest.new.first ≡ name_noted (names_in table.now) earliest.old.first
-        (use_of.term_word scope.now (name_view word.now) count) }
-{
-    let meaning = meaning_at(table, scope, word, count);
-    note_word(
-        earliest,
-        word.place,
-        is_undeclared(meaning),
-        is_no_term(meaning, count),
-        is_type(meaning),
-    );
-    meaning
+    /// A word as a term: what it means there.
+    pub fn term_word(&mut self, word: &'a RawName, count: usize) -> Meaning
+        ensures { IsStep self.old self.new (meaning_view result) (meaning_at (names_known self.old) self.old.scope
+            (name_view word.now) count)
+            self.old.scope (use_of.term_word self.old.scope (name_view word.now) count ∷ []) }
+    {
+        let meaning = meaning_at(self.table, &self.scope, word, count);
+        note_word(
+            &mut self.earliest,
+            word.place,
+            is_undeclared(meaning),
+            is_no_term(meaning, count),
+            is_type(meaning),
+        );
+        meaning
+    }
 }
 
 /// The type of an argument, a value or a variable.

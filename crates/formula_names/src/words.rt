@@ -11,7 +11,7 @@ ghost use Rattle.reading_stages.specs.NamedViews.{formula_view, node_view, term_
 
 use crate::tables::Meaning;
 use crate::uses::within_count;
-use fo_syntax::{Aggregation, Comparison, RawApp, RawName, RawNumber, RawTerms};
+use fo_syntax::{Adding, Aggregation, Comparison, RawApp, RawName, RawNumber, RawTerms};
 use kb_logic::{AggKind, Cmp, Memory};
 use kb_text::K;
 use reading_stages::{Earliest, NamedFormula, NamedNode, NamedTerm, NamedVar};
@@ -74,6 +74,15 @@ pub fn comparison_of(sign: Comparison) -> Cmp
         Comparison::Greater => Cmp::Gt,
         Comparison::AtMost => Cmp::Le,
         Comparison::AtLeast => Cmp::Ge,
+    }
+}
+
+pub fn is_minus(sign: Adding) -> bool
+    ensures { result ≡ numbers.is_minus sign }
+{
+    match sign {
+        Adding::Minus => true,
+        Adding::Plus => false,
     }
 }
 
