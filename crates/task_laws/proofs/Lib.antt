@@ -1,1 +1,2 @@
+mod AtomLists
 mod Outlasting
