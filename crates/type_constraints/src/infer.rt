@@ -1,4 +1,9 @@
-//! The types of variables by their places, and by the other sides of comparisons.
+//! The types of variables by their argument positions, and by the other sides of comparisons.
+//!
+//! Two passes over the constraints, and no iteration to a fixpoint: the first settles variables by the positions at which
+//! they stand, the second those that are still open by the other sides of their comparisons. The second reads types as
+//! they were before it, since a type that came from a side gives no other variable its type; so the order of the
+//! constraints does not matter.
 ghost use Rattle.std.specs.Prelude.{◌≡◌, ◌+◌, ◌++◌, drop, length, map, replicate, take, IfOk, OnOk};
 ghost use Rattle.reading_stages.specs.Below.{HasNoCycle, type_parents};
 ghost use Rattle.reading_stages.specs.Demands as said;
@@ -13,7 +18,7 @@ use crate::constraints::{Binding, Demand, Finding, Kind, Part, TermType};
 use kb_logic::{Memory, TypeDecl};
 use std::alloc::Global;
 
-/// What gives a variable its type.
+/// What gives a variable its type: which pass it is.
 #[derive(Clone, Copy)]
 pub enum Source {
     Places,
