@@ -1,26 +1,37 @@
 -- Types that are given cells one entry after another.
-use Rattle.std.proofs.Common.{◌≡◌, ◌==◌, ◌≤◌, ◌<◌, ℕ, Bool, true, false, not, ◌&&◌, List, [], ◌∷◌, ◌++◌}
-use Rattle.std.proofs.Common.{None, Some, length, map, filter, slice_get, get_or, if◌then◌else◌, refl, sym, ap}
+use Rattle.std.proofs.Common.{◌≡◌, ◌==◌, ◌≤◌, ◌<◌, ◌+◌, ℕ, drop, Bool, true, false, not, ◌&&◌, List, [], ◌∷◌, ◌++◌}
+use Rattle.std.proofs.Common.{Option, None, Some, length, map, filter, fold, slice_get, get_or, if◌then◌else◌, refl, sym, ap}
 use Rattle.std.proofs.Common.{◌∙◌, subst, append_assoc, ◌⊎◌, inl, inr}
 use Rattle.std.specs.Prelude.{slice_set}
-use Rattle.std.specs.Option.{option_map}
 use Rattle.std.specs.List.{filter_map}
 use Rattle.std.proofs.lemmas.Bool.{eqb-false, eqb-true, true≢false}
 use Rattle.std.proofs.lemmas.Grind.{get_or-set_at}
-use Rattle.std.proofs.lemmas.List.{append-nil, get_or-set_other, length-set, map-set}
-use Rattle.std.proofs.lemmas.Option.{get_or_from_slice_get, slice_get-get_or, slice_get-map, slice_get_past, slice_get_within}
+use Rattle.std.proofs.lemmas.List.{append-nil, get_or-set_other, length-set}
+use Rattle.std.proofs.lemmas.Option.{get_or_from_slice_get, slice_get-get_or, slice_get_past, slice_get_within}
 use Rattle.std.proofs.lemmas.List.Elements.{filter_map-append, filter-append}
 use Rattle.kb_logic.specs.declared.vocabularies.TypeDecl.{TypeDecl}
-use Rattle.reading_stages.specs.Elements.{Cell}
-use Rattle.reading_stages.specs.DataEntries.{Said, Spot}
+use Rattle.reading_stages.specs.Elements.{Cell, listed, members, with_element}
+use Rattle.reading_stages.specs.DataEntries.{Said, Spot, Subject}
+use Rattle.data_entries.specs.declared.rows.Row.{Row}
+use Rattle.data_entries.specs.EntryViews.{row_view, spots_in}
+use Rattle.data_entries.proofs.Dropped.{front}
+use Rattle.data_entries.proofs.Spotted.{spots_next}
 use Rattle.reading_stages.specs.DataDomains.{cells_given, is_list_of, occurs_at}
-use Rattle.data_entries.specs.EntryViews.{cell_view}
-use Rattle.data_domains.specs.Shares.{given_in, is_taken, listed_share, occurring_share}
+use Rattle.element_sets.proofs.Gathering.{listed_more}
+use Rattle.data_domains.specs.Shares.{is_taken, listed_share, occurring_share, IsGiven, StandsFor, Takes}
 use Rattle.data_domains.specs.declared.traits.Traits.{Traits}
 use Rattle.data_domains.specs.declared.types.TypeData.{TypeData}
 
-abbrev pub known : TypeData → Traits × List Cell
-known x = (x.traits, map cell_view x.cells.items)
+none_beside : {X : Type 0} (xs ys : List X) (t : ℕ) → length xs ≡ length ys → slice_get xs t ≡ None
+    → slice_get ys t ≡ None
+none_beside {X = X} xs ys t len h = by (slice_get ys t) refl
+  where
+    by : (o : Option X) → slice_get ys t ≡ o → o ≡ None
+    by None e = refl
+    by (Some y) e =
+        let within : t < length xs = subst (λ n. t < n) (sym len) (slice_get_within ys t y e) in
+        let both : None ≡ Some (get_or xs t y) = sym h ∙ slice_get-get_or xs t y within in
+        absurd (cc)
 
 pub changed_at : {X : Type 0} (xs : List X) (i t : ℕ) (y x : X) → slice_get xs t ≡ Some x
     → slice_get (slice_set xs i y) t ≡ Some (if i == t then y else x)
@@ -35,47 +46,91 @@ changed_at xs i t y x h =
         get_or-set_at xs i t y x (sym at) (subst (λ n. n < length xs) (sym at) lt)
     by false e lt = get_or-set_other xs i t y x (λ at. eqb-false i t e (sym at)) ∙ get_or_from_slice_get xs t x x h
 
+-- the others stay
+pub unchanged_at : {X : Type 0} (xs : List X) (i t : ℕ) (y : X) → (i == t) ≡ false
+    → slice_get (slice_set xs i y) t ≡ slice_get xs t
+unchanged_at {X = X} xs i t y ne = by (slice_get xs t) refl
+  where
+    by : (o : Option X) → slice_get xs t ≡ o → slice_get (slice_set xs i y) t ≡ o
+    by None e = none_beside xs (slice_set xs i y) t (sym (length-set xs i y)) e
+    by (Some z) e = changed_at xs i t y z e ∙ ap (λ b. Some (if b then y else z)) ne
+
 -- nothing more is given
 pub none_given : (xs : List TypeData) (t : ℕ) (x : Traits) (cs more : List Cell)
-    → slice_get (given_in xs) t ≡ Some (x, cs) → more ≡ [] → slice_get (given_in xs) t ≡ Some (x, cs ++ more)
-none_given xs t x cs more h none = h ∙ ap (λ ds. Some (x, ds)) (sym (append-nil cs) ∙ ap (λ ds. cs ++ ds) (sym none))
+    → IsGiven xs t x cs → more ≡ [] → IsGiven xs t x (cs ++ more)
+none_given xs t x cs more h none = subst (IsGiven xs t x) (sym (ap (λ ds. cs ++ ds) none ∙ append-nil cs)) h
 
--- the type with this number is given more, and no other one
+-- the type with this number takes more, and no other one
 pub given_to : (xs : List TypeData) (i : ℕ) (y z : TypeData) (extra : List Cell) (more : ℕ → Traits → List Cell)
-    → slice_get xs i ≡ Some z → y.traits ≡ z.traits
-    → map cell_view y.cells.items ≡ map cell_view z.cells.items ++ extra → more i z.traits ≡ extra
+    → slice_get xs i ≡ Some z → Takes z y extra → more i z.traits ≡ extra
     → ((t : ℕ) (x : Traits) → (i == t) ≡ false → more t x ≡ [])
-    → (t : ℕ) (x : Traits) (cs : List Cell) → slice_get (given_in xs) t ≡ Some (x, cs)
-    → slice_get (given_in (slice_set xs i y)) t ≡ Some (x, cs ++ more t x)
-given_to xs i y z extra more there same longer here elsewhere t x cs h =
-    ap (λ gs. slice_get gs t) (map-set known xs i y)
-    ∙ changed_at (given_in xs) i t (known y) (x, cs) h ∙ by (i == t) refl
+    → (t : ℕ) (x : Traits) (cs : List Cell) → IsGiven xs t x cs → IsGiven (slice_set xs i y) t x (cs ++ more t x)
+given_to xs i y z extra more there taken here elsewhere t x cs h = by (i == t) refl
   where
-    by : (b : Bool) → (i == t) ≡ b → Some (if b then known y else (x, cs)) ≡ Some (x, cs ++ more t x)
+    now : slice_get (slice_set xs i y) t ≡ Some (if i == t then y else h.known)
+    now = changed_at xs i t y h.known h.there
+
+    by : (b : Bool) → (i == t) ≡ b → IsGiven (slice_set xs i y) t x (cs ++ more t x)
     by true e =
         let at : i ≡ t = eqb-true i t e in
-        let both : Some (known z) ≡ Some (x, cs) =
-        sym (slice_get-map known xs i ∙ ap (option_map known) there) ∙ ap (slice_get (given_in xs)) at ∙ h in
-        let pair : known z ≡ (x, cs) = cc in
-        let traits : z.traits ≡ x = ap (λ (k : Traits × List Cell). k.0) pair in
-        let cells : map cell_view z.cells.items ≡ cs = ap (λ (k : Traits × List Cell). k.1) pair in
-        let all : map cell_view y.cells.items ≡ cs ++ more t x =
-        longer ∙ ap (λ ds. ds ++ extra) cells ∙ ap (λ ds. cs ++ ds) (sym here)
-        ∙ ap (λ k. cs ++ more k z.traits) at ∙ ap (λ k. cs ++ more t k) traits in
-        ap (λ k. Some (k, map cell_view y.cells.items)) (same ∙ traits) ∙ ap (λ ds. Some (x, ds)) all
-    by false e = ap (λ ds. Some (x, ds)) (sym (append-nil cs) ∙ ap (λ ds. cs ++ ds) (sym (elsewhere t x e)))
+        let both : Some h.known ≡ Some z = sym h.there ∙ sym (ap (slice_get xs) at) ∙ there in
+        let same : h.known ≡ z = cc in
+        let traits : z.traits ≡ x = ap (λ (k : TypeData). k.traits) (sym same) ∙ h.traits in
+        let own : extra ≡ more t x = sym here ∙ ap (λ k. more k z.traits) at ∙ ap (more t) traits in
+        record {
+          known = y;
+          there = now ∙ ap (λ b. Some (if b then y else h.known)) e;
+          traits = taken.traits ∙ traits;
+          stands = subst (λ ds. StandsFor (cs ++ ds) y) own (taken.stands cs (subst (StandsFor cs) same h.stands));
+        }
+    by false e = record {
+      known = h.known;
+      there = now ∙ ap (λ b. Some (if b then y else h.known)) e;
+      traits = h.traits;
+      stands = subst (λ ds. StandsFor ds h.known) (sym (ap (λ ds. cs ++ ds) (elsewhere t x e) ∙ append-nil cs))
+          h.stands;
+    }
 
 -- a type is there, so its number is no other than those of types
-pub is_not_past : (xs : List TypeData) (i t : ℕ) (k : Traits × List Cell) → length xs ≤ i
-    → slice_get (given_in xs) t ≡ Some k → (i == t) ≡ false
-is_not_past xs i t k past h = by (i == t) refl
+pub is_not_past : (xs : List TypeData) (i t : ℕ) (x : Traits) (cs : List Cell) → length xs ≤ i → IsGiven xs t x cs
+    → (i == t) ≡ false
+is_not_past xs i t x cs past h = by (i == t) refl
   where
     by : (b : Bool) → (i == t) ≡ b → b ≡ false
     by false e = refl
     by true e =
-        let both : None ≡ Some k = sym (slice_get-map known xs i ∙ ap (option_map known) (slice_get_past xs i past))
-        ∙ ap (slice_get (given_in xs)) (eqb-true i t e) ∙ h in
+        let both : None ≡ Some h.known = sym (slice_get_past xs i past) ∙ ap (slice_get xs) (eqb-true i t e)
+        ∙ h.there in
         absurd (cc)
+
+-- ---- what one type takes
+
+pub takes_nothing : (x : TypeData) → Takes x x []
+takes_nothing x = record {
+  traits = refl;
+  stands = λ cs h. subst (λ ds. StandsFor ds x) (sym (append-nil cs)) h;
+}
+
+pub takes_both : (x y z : TypeData) (as' bs : List Cell) → Takes x y as' → Takes y z bs → Takes x z (as' ++ bs)
+takes_both x y z as' bs p q = record {
+  traits = q.traits ∙ p.traits;
+  stands = λ cs h. subst (λ ds. StandsFor ds z) (append_assoc cs as' bs) (q.stands (cs ++ as') (p.stands cs h));
+}
+
+pub cell_more : (xs cs : List Cell) (c : Cell) → listed xs ≡ listed cs → listed (xs ++ c ∷ []) ≡ listed (cs ++ c ∷ [])
+cell_more xs cs c h = listed_more xs c ∙ ap (λ ls. fold with_element ls (members c)) h ∙ sym (listed_more cs c)
+
+-- what one turn of a loop takes comes before the rest
+pub taken_next : (x y z : TypeData) (before piece rest whole : List Cell) → Takes x y before → Takes y z piece
+    → before ++ (piece ++ rest) ≡ whole
+    → (all : List Cell) × Takes x z all × (all ++ rest ≡ whole)
+taken_next x y z before piece rest whole p q sum =
+    (before ++ piece, takes_both x y z before piece p q, append_assoc before piece rest ∙ sum)
+
+pub taken_all : (x y : TypeData) (before rest whole : List Cell) → Takes x y before → rest ≡ []
+    → before ++ rest ≡ whole → Takes x y whole
+taken_all x y before rest whole p none sum = subst (Takes x y) (sym (append-nil before) ∙ ap (λ ds. before ++ ds)
+    (sym none) ∙ sum) p
 
 -- ---- what an entry that is a list gives
 
@@ -113,6 +168,14 @@ pub takes_none : (types : List TypeDecl) (t : ℕ) (x : Traits) (s : Spot) → x
     → occurring_share types t x (s ∷ []) ≡ []
 takes_none types t x s h = ap (λ b. if_taken s (b && occurs_at types t s)) h
 
+taken_or_not : (s : Spot) (b : Bool) → s.cell ≡ None → if_taken s b ≡ []
+taken_or_not s true h = rw h refl
+taken_or_not s false h = refl
+
+pub no_cell : (types : List TypeDecl) (t : ℕ) (x : Traits) (s : Spot) → s.cell ≡ None
+    → occurring_share types t x (s ∷ []) ≡ []
+no_cell types t x s h = taken_or_not s (is_taken types t x s) h
+
 cell_there : (s : Spot) (c : Cell) → s.cell ≡ Some c → if_taken s true ≡ c ∷ []
 cell_there s c h = rw h refl
 
@@ -125,23 +188,48 @@ takes_cell types t x s c o at h = ap (λ b. if_taken s (b && occurs_at types t s
 
 -- what is given by a first step and then by what is left
 pub given_next : (mid new : List TypeData) (t : ℕ) (x : Traits) (ds first rest whole : List Cell)
-    → slice_get (given_in mid) t ≡ Some (x, ds)
-    → (slice_get (given_in mid) t ≡ Some (x, ds) → slice_get (given_in new) t ≡ Some (x, ds ++ first))
-    → ds ++ (first ++ rest) ≡ whole
-    → (es : List Cell) × (slice_get (given_in new) t ≡ Some (x, es)) × (es ++ rest ≡ whole)
+    → IsGiven mid t x ds → (IsGiven mid t x ds → IsGiven new t x (ds ++ first)) → ds ++ (first ++ rest) ≡ whole
+    → (es : List Cell) × IsGiven new t x es × (es ++ rest ≡ whole)
 given_next mid new t x ds first rest whole here step sum = (ds ++ first, step here, append_assoc ds first rest ∙ sum)
 
 -- in all, once nothing is left
 pub given_all : (all : List TypeData) (t : ℕ) (x : Traits) (ds rest whole : List Cell)
-    → slice_get (given_in all) t ≡ Some (x, ds) → rest ≡ [] → ds ++ rest ≡ whole
-    → slice_get (given_in all) t ≡ Some (x, whole)
-given_all all t x ds rest whole here none sum = here ∙ ap (λ es. Some (x, es))
-    (sym (append-nil ds) ∙ ap (λ es. ds ++ es) (sym none) ∙ sum)
+    → IsGiven all t x ds → rest ≡ [] → ds ++ rest ≡ whole → IsGiven all t x whole
+given_all all t x ds rest whole here none sum = subst (IsGiven all t x)
+    (sym (append-nil ds) ∙ ap (λ es. ds ++ es) (sym none) ∙ sum) here
 
-pub share_next : (types : List TypeDecl) (t : ℕ) (x : Traits) (s : Spot) (ss : List Spot)
-    → occurring_share types t x (s ∷ ss) ≡ occurring_share types t x (s ∷ []) ++ occurring_share types t x ss
-share_next types t x s ss = ap (filter_map (λ (k : Spot). k.cell)) (filter-append (is_taken types t x) (s ∷ []) ss)
-    ∙ filter_map-append (λ (k : Spot). k.cell) (filter (is_taken types t x) (s ∷ [])) (filter (is_taken types t x) ss)
+pub share_next : (types : List TypeDecl) (t : ℕ) (x : Traits) (ss us : List Spot)
+    → occurring_share types t x (ss ++ us) ≡ occurring_share types t x ss ++ occurring_share types t x us
+share_next types t x ss us = ap (filter_map (λ (k : Spot). k.cell)) (filter-append (is_taken types t x) ss us)
+    ∙ filter_map-append (λ (k : Spot). k.cell) (filter (is_taken types t x) ss) (filter (is_taken types t x) us)
+
+pub cell_written : (x y : TypeData) (s : Spot) (c : Cell) → s.cell ≡ Some c → Takes x y (c ∷ [])
+    → Takes x y (if_taken s true)
+cell_written x y s c h taken = subst (Takes x y) (sym (cell_there s c h)) taken
+
+pub none_written : (x : TypeData) (s : Spot) → s.cell ≡ None → Takes x x (if_taken s true)
+none_written x s h = subst (Takes x x) (sym (taken_or_not s true h)) (takes_nothing x)
+
+-- ---- rows one after another
+
+abbrev cells_in : Subject → List Row → List Cell
+cells_in x rows = filter_map (λ (s : Spot). s.cell) (spots_in x (map row_view rows))
+
+pub cells_first : (x : Subject) (rows : List Row) (i : ℕ) (r : Row) → i < length rows → r ≡ get_or rows i r
+    → cells_in x (drop i rows) ≡ cells_in x (r ∷ []) ++ cells_in x (drop (i + 1) rows)
+cells_first x rows i r lt is =
+    ap (cells_in x) (front rows i r lt is)
+    ∙ ap (filter_map (λ (s : Spot). s.cell)) (spots_next x (row_view r) (map row_view (drop (i + 1) rows)))
+    ∙ filter_map-append (λ (s : Spot). s.cell) (spots_in x (row_view r ∷ []))
+    (spots_in x (map row_view (drop (i + 1) rows)))
+
+pub cells_next : (x : Subject) (rows : List Row) (i : ℕ) (r : Row) (old new whole : List Cell)
+    → i < length rows → r ≡ get_or rows i r → new ≡ old ++ cells_in x (r ∷ [])
+    → old ++ cells_in x (drop i rows) ≡ whole → new ++ cells_in x (drop (i + 1) rows) ≡ whole
+cells_next x rows i r old new whole lt is more inv =
+    ap (λ cs. cs ++ cells_in x (drop (i + 1) rows)) more
+    ∙ append_assoc old (cells_in x (r ∷ [])) (cells_in x (drop (i + 1) rows))
+    ∙ ap (λ cs. old ++ cs) (sym (cells_first x rows i r lt is)) ∙ inv
 
 -- what was looked up is there
 pub found_there : {X : Type 0} (xs : List X) (i : ℕ) (x : X) → i < length xs → x ≡ get_or xs i x

@@ -3,27 +3,26 @@ use Rattle.std.proofs.Common.{◌≡◌, ◌<◌, ◌≤◌, ◌+◌, ◌==◌, 
 use Rattle.std.proofs.Common.{Some, length, map, filter, slice_get, if◌then◌else◌, refl, sym, ap, ◌∙◌, subst}
 use Rattle.std.proofs.Common.{arith}
 use Rattle.std.specs.Prelude.{slice_set, is_none}
-use Rattle.std.specs.Option.{option_map}
-use Rattle.std.specs.List.{filter_map, flat_map}
-use Rattle.std.proofs.lemmas.Bool.{eqb-false, true≢false}
-use Rattle.std.proofs.Math.Seq as Seq
-use Rattle.std.proofs.lemmas.List.{append-nil, length-map, length-set}
-use Rattle.std.proofs.lemmas.Option.{get_or_from_slice_get, slice_get-map, slice_get_within}
+use Rattle.std.specs.List.{filter_map, flat_map, list_any}
+use Rattle.std.proofs.lemmas.Bool.{eqb-false, eqb-true, true≢false}
+use Rattle.std.proofs.lemmas.List.{append-nil}
+use Rattle.std.proofs.lemmas.Option.{slice_get_within}
 use Rattle.std.proofs.lemmas.List.Elements.{filter_map-append, filter-append}
 use Rattle.kb_logic.specs.declared.vocabularies.TypeDecl.{TypeDecl}
 use Rattle.reading_stages.specs.Below.{type_above}
-use Rattle.reading_stages.specs.Elements.{Cell}
+use Rattle.reading_stages.specs.Elements.{Cell, listed}
 use Rattle.reading_stages.specs.DataEntries.{Said, Spot, spots_of}
 use Rattle.reading_stages.specs.DataDomains.{cells_by, cells_given, is_constructed, is_list_of, is_listed}
 use Rattle.reading_stages.specs.DataDomains.{listed_cells, made_cells, occurring_cells, occurs_at}
 use Rattle.data_entries.specs.EntryViews.{cell_view}
-use Rattle.element_sets.specs.Sets.{IsSetOf}
-use Rattle.data_domains.specs.Shares.{given_in, share, IsDeclaredSo}
+use Rattle.element_sets.specs.Runs.{is_hollow}
+use Rattle.element_sets.specs.Sets.{runs_in, IsGathered, IsSetOf}
+use Rattle.data_domains.specs.Shares.{share, IsDeclaredSo, IsGiven, IsSettled, StandsFor, Takes}
 use Rattle.data_domains.specs.Traits.{AreTraitsOf}
 use Rattle.data_domains.specs.TypeSets.{AreTypesOf}
 use Rattle.data_domains.specs.declared.traits.Traits.{Traits}
 use Rattle.data_domains.specs.declared.types.TypeData.{TypeData}
-use Rattle.data_domains.proofs.Filled.{changed_at, known}
+use Rattle.data_domains.proofs.Filled.{changed_at, unchanged_at}
 use Rattle.data_domains.proofs.Looked.{some_beside}
 
 -- the share of an entry, by what is known of the type: whether it is constructed, whether it has what occurs, and
@@ -100,6 +99,21 @@ all_shared types es t d false true n h = lists_shared types t es
 all_shared types es t d false false true h = occurrences_shared types t es h
 all_shared types es t d false false false h = lists_shared types t es ∙ no_listed_cells t es h
 
+pub made_stand : (b : Bool) (x y : TypeData) (d : TypeDecl) → b ≡ true → StandsFor [] x → Takes x y (made_cells d)
+    → StandsFor (if b then made_cells d else []) y
+made_stand true x y d e h taken = taken.stands [] h
+made_stand false x y d e h taken = absurd (true≢false (sym e))
+
+pub none_stand : (b : Bool) (x : TypeData) (d : TypeDecl) → b ≡ false → StandsFor [] x
+    → StandsFor (if b then made_cells d else []) x
+none_stand true x d e h = absurd (true≢false e)
+none_stand false x d e h = h
+
+-- of each type there is what was declared with it
+given_first : (xs : List TypeData) (t : ℕ) (y : TypeData) (cs : List Cell) → slice_get xs t ≡ Some y → StandsFor cs y
+    → IsGiven xs t y.traits cs
+given_first xs t y cs there stands = record { known = y; there = there; traits = refl; stands = stands }
+
 by_traits : (types : List TypeDecl) (es : List Said) (t : ℕ) (d : TypeDecl) (x : Traits) → AreTraitsOf types es t d x
     → (if x.constructed then made_cells d else []) ++ flat_map (share types t x) es ≡ cells_by types es t d
 by_traits types es t d x h =
@@ -109,80 +123,118 @@ by_traits types es t d x h =
     ++ flat_map (λ e. share_by types t (is_constructed d) b (is_list_of t e) e) es) h.occurs
     ∙ all_shared types es t d (is_constructed d) (is_listed es t) (is_none (type_above d.parent)) refl
 
-pub kept : (xs ys : List TypeData) → given_in xs ≡ given_in ys → length xs ≡ length ys
-kept xs ys h = sym (length-map xs known) ∙ ap length h ∙ length-map ys known
-
 -- what is there at the end, by what was there at the beginning
 pub all_given : (types : List TypeDecl) (es : List Said) (first mid last : List TypeData)
-    → length first ≡ length types → length mid ≡ length first → given_in last ≡ given_in mid
+    → length first ≡ length types → length mid ≡ length first → length last ≡ length mid
     → ((t : ℕ) (d : TypeDecl) (x : TypeData) → slice_get types t ≡ Some d → slice_get first t ≡ Some x
     → IsDeclaredSo types es t d x)
-    → ((t : ℕ) (x : Traits) (cs : List Cell) → slice_get (given_in first) t ≡ Some (x, cs)
-    → slice_get (given_in mid) t ≡ Some (x, cs ++ flat_map (share types t x) es))
-    → ((t : ℕ) (x : TypeData) → slice_get last t ≡ Some x → IsSetOf (map cell_view x.cells.items) x.elements)
+    → ((t : ℕ) (x : Traits) (cs : List Cell) → IsGiven first t x cs
+    → IsGiven mid t x (cs ++ flat_map (share types t x) es))
+    → ((t : ℕ) (x : Traits) (cs : List Cell) → IsGiven mid t x cs → IsSettled last t x cs)
     → AreTypesOf types es last
-all_given types es first mid last count same given declared filled sets = record {
-  count = kept last mid given ∙ same ∙ count;
+all_given types es first mid last count same kept declared filled settled = record {
+  count = kept ∙ same ∙ count;
   traits = λ t d x p q. (at t d x p q).0;
   cells = λ t d x p q. (at t d x p q).1;
-  elements = λ t d x p q. subst (λ cs. IsSetOf cs x.elements) (at t d x p q).1 (sets t x q);
+  elements = λ t d x p q. (at t d x p q).2;
 }
   where
     at : (t : ℕ) (d : TypeDecl) (x : TypeData) → slice_get types t ≡ Some d → slice_get last t ≡ Some x
-        → AreTraitsOf types es t d x.traits × (map cell_view x.cells.items ≡ cells_by types es t d)
+        → AreTraitsOf types es t d x.traits × (listed (map cell_view x.cells.items) ≡ listed (cells_by types es t d))
+        × IsSetOf (cells_by types es t d) x.elements
     at t d x p q =
-        let y = some_beside last first t x (kept last mid given ∙ same) q in
+        let y = some_beside last first t x (kept ∙ same) q in
         let own = declared t d y.0 p y.1 in
-        let start : slice_get (given_in first) t ≡ Some (known y.0) =
-        slice_get-map known first t ∙ ap (option_map known) y.1 in
-        let both : Some (known x) ≡ Some (y.0.traits, map cell_view y.0.cells.items ++ flat_map (share types t y.0.traits) es) =
-        sym (slice_get-map known last t ∙ ap (option_map known) q) ∙ ap (λ gs. slice_get gs t) given
-        ∙ filled t y.0.traits (map cell_view y.0.cells.items) start in
-        let pair : known x ≡ (y.0.traits, map cell_view y.0.cells.items ++ flat_map (share types t y.0.traits) es) = cc in
-        let traits : x.traits ≡ y.0.traits = ap (λ (k : Traits × List Cell). k.0) pair in
-        let cells = ap (λ (k : Traits × List Cell). k.1) pair in (
-          subst (AreTraitsOf types es t d) (sym traits) own.traits,
-          cells ∙ ap (λ cs. cs ++ flat_map (share types t y.0.traits) es) own.cells
-              ∙ by_traits types es t d y.0.traits own.traits,
+        let start : List Cell = if y.0.traits.constructed then made_cells d else [] in
+        let whole : List Cell = start ++ flat_map (share types t y.0.traits) es in
+        let all = settled t y.0.traits whole (filled t y.0.traits start (given_first first t y.0 start y.1 own.stands)) in
+        let both : Some all.known ≡ Some x = sym all.there ∙ q in
+        let is : all.known ≡ x = cc in
+        let cells = by_traits types es t d y.0.traits own.traits in
+        let elements : IsSetOf whole x.elements = subst (λ (k : TypeData). IsSetOf whole k.elements) is all.elements in (
+          subst (AreTraitsOf types es t d) (sym all.traits ∙ ap (λ (k : TypeData). k.traits) is) own.traits,
+          ap (λ (k : TypeData). listed (map cell_view k.cells.items)) (sym is) ∙ all.cells ∙ ap listed cells,
+          subst (λ cs. IsSetOf cs x.elements) cells elements,
         )
+
+-- the sets were gathered, so that they can be settled
+pub all_full : (types : List TypeDecl) (es : List Said) (first mid : List TypeData)
+    → length first ≡ length types → length mid ≡ length first
+    → ((t : ℕ) (d : TypeDecl) (x : TypeData) → slice_get types t ≡ Some d → slice_get first t ≡ Some x
+    → IsDeclaredSo types es t d x)
+    → ((t : ℕ) (x : Traits) (cs : List Cell) → IsGiven first t x cs
+    → IsGiven mid t x (cs ++ flat_map (share types t x) es))
+    → (t : ℕ) (x : TypeData) → slice_get mid t ≡ Some x → list_any is_hollow (runs_in x.elements) ≡ false
+all_full types es first mid count same declared filled t x q =
+    let y = some_beside mid first t x same q in
+    let d = some_beside first types t y.0 count y.1 in
+    let own = declared t d.0 y.0 d.1 y.1 in
+    let start : List Cell = if y.0.traits.constructed then made_cells d.0 else [] in
+    let all = filled t y.0.traits start (given_first first t y.0 start y.1 own.stands) in
+    let both : Some all.known ≡ Some x = sym all.there ∙ q in
+    let is : all.known ≡ x = cc in
+    ap (λ (k : TypeData). list_any is_hollow (runs_in k.elements)) (sym is) ∙ all.stands.gathered.full
 
 -- ---- the sets, one after another
 
--- a type whose traits and cells stay the same is put back
-pub put_back : (xs : List TypeData) (i : ℕ) (y x : TypeData) → slice_get xs i ≡ Some x → known y ≡ known x
-    → given_in (slice_set xs i y) ≡ given_in xs
-put_back xs i y x h same = Seq.map-set_same known xs i y x (same ∙ sym (ap known (get_or_from_slice_get xs i x x h)))
+-- the types from this one on are as they were, and those before it are settled
+pub record IsSettledBelow (old new : List TypeData) (i : ℕ) : Type 0 where
+  pub rest : (t : ℕ) → i ≤ t → slice_get new t ≡ slice_get old t
+  pub done : (t : ℕ) (x : Traits) (cs : List Cell) → t < i → IsGiven old t x cs → IsSettled new t x cs
+
+pub nothing_settled : (xs : List TypeData) → IsSettledBelow xs xs 0
+nothing_settled xs = record { rest = λ t le. refl; done = λ t x cs lt h. absurd (omega (arith, lt)) }
+
+not_this : (i t : ℕ) → i + 1 ≤ t → (i == t) ≡ false
+not_this i t le = by (i == t) refl
+  where
+    by : (b : Bool) → (i == t) ≡ b → b ≡ false
+    by false e = refl
+    by true e = let at : i ≡ t = eqb-true i t e in absurd (omega (arith, le, at))
 
 below : (t i : ℕ) → t < i + 1 → (t ≡ i → ⊥) → t < i
 below t i lt apart = omega (arith, lt, apart)
 
 -- one set more
-pub one_more : (P : TypeData → Type 0) (xs : List TypeData) (i : ℕ) (y : TypeData)
-    → ((t : ℕ) (x : TypeData) → t < i → slice_get xs t ≡ Some x → P x) → P y
-    → (t : ℕ) (x : TypeData) → t < i + 1 → slice_get (slice_set xs i y) t ≡ Some x → P x
-one_more P xs i y before here t x lt h = by (i == t) refl
+pub one_settled : (old xs : List TypeData) (i : ℕ) (y z : TypeData) → slice_get xs i ≡ Some z → y.traits ≡ z.traits
+    → y.cells ≡ z.cells → ((cs : List Cell) → IsGathered cs z.elements → IsSetOf cs y.elements)
+    → IsSettledBelow old xs i → IsSettledBelow old (slice_set xs i y) (i + 1)
+one_settled old xs i y z there traits cells sets before = record { rest = rest; done = done }
   where
-    was : (z : TypeData) × (slice_get xs t ≡ Some z)
-    was = some_beside (slice_set xs i y) xs t x (length-set xs i y) h
+    rest : (t : ℕ) → i + 1 ≤ t → slice_get (slice_set xs i y) t ≡ slice_get old t
+    rest t le = unchanged_at xs i t y (not_this i t le) ∙ before.rest t (omega (arith, le))
 
-    now : Some (if i == t then y else was.0) ≡ Some x
-    now = sym (changed_at xs i t y was.0 was.1) ∙ h
+    by : (t : ℕ) (x : Traits) (cs : List Cell) (b : Bool) → (i == t) ≡ b → t < i + 1 → IsGiven old t x cs
+        → IsSettled (slice_set xs i y) t x cs
+    by t x cs true e lt h =
+        let at : i ≡ t = eqb-true i t e in
+        let here : slice_get xs t ≡ Some h.known = before.rest t (omega (arith, at)) ∙ h.there in
+        let both : Some h.known ≡ Some z = sym here ∙ sym (ap (slice_get xs) at) ∙ there in
+        let is : h.known ≡ z = cc in
+        let stands : StandsFor cs z = subst (StandsFor cs) is h.stands in
+        record {
+          known = y;
+          there = changed_at xs i t y h.known here ∙ ap (λ b. Some (if b then y else h.known)) e;
+          traits = traits ∙ ap (λ (k : TypeData). k.traits) (sym is) ∙ h.traits;
+          cells = ap (λ v. listed (map cell_view v.items)) cells ∙ stands.cells;
+          elements = sets cs stands.gathered;
+        }
+    by t x cs false e lt h =
+        let g = before.done t x cs (below t i lt (λ k. eqb-false i t e (sym k))) h in
+        record {
+          known = g.known;
+          there = changed_at xs i t y g.known g.there ∙ ap (λ b. Some (if b then y else g.known)) e;
+          traits = g.traits;
+          cells = g.cells;
+          elements = g.elements;
+        }
 
-    by : (b : Bool) → (i == t) ≡ b → P x
-    by true e =
-        let both : Some y ≡ Some x = ap (λ b. Some (if b then y else was.0)) (sym e) ∙ now in
-        let same : y ≡ x = cc in
-        subst P same here
-    by false e =
-        let both : Some was.0 ≡ Some x = ap (λ b. Some (if b then y else was.0)) (sym e) ∙ now in
-        let same : was.0 ≡ x = cc in
-        let less = below t i lt (λ k. eqb-false i t e (sym k)) in
-        subst P same (before t was.0 less was.1)
+    done : (t : ℕ) (x : Traits) (cs : List Cell) → t < i + 1 → IsGiven old t x cs → IsSettled (slice_set xs i y) t x cs
+    done t x cs lt h = by t x cs (i == t) refl lt h
 
--- no type is past the end
-pub none_past : (xs : List TypeData) (i t : ℕ) (x : TypeData) → length xs ≤ i → slice_get xs t ≡ Some x → t < i
-none_past xs i t x past h = let within = slice_get_within xs t x h in omega (arith, past, within)
-
-pub same_known : (x y : TypeData) → x.traits ≡ y.traits → x.cells ≡ y.cells → known x ≡ known y
-same_known x y t c = ap (λ k. (k, map cell_view x.cells.items)) t
-    ∙ ap (λ v. (y.traits, map cell_view v.items)) c
+-- none is left
+pub all_settled : (old new : List TypeData) (i : ℕ) → length old ≤ i → IsSettledBelow old new i
+    → (t : ℕ) (x : Traits) (cs : List Cell) → IsGiven old t x cs → IsSettled new t x cs
+all_settled old new i past h t x cs g =
+    let within = slice_get_within old t g.known g.there in
+    h.done t x cs (omega (arith, past, within)) g

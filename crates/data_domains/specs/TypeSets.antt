@@ -1,6 +1,7 @@
 -- The elements of all types in memory.
 use Rattle.std.specs.Prelude.{◌≡◌, ℕ, List, length, map, slice_get, Some}
 use Rattle.kb_logic.specs.declared.vocabularies.TypeDecl.{TypeDecl}
+use Rattle.reading_stages.specs.Elements.{listed}
 use Rattle.reading_stages.specs.DataEntries.{Said}
 use Rattle.reading_stages.specs.DataDomains.{cells_by}
 use Rattle.data_entries.specs.EntryViews.{cell_view}
@@ -8,12 +9,12 @@ use Rattle.element_sets.specs.Sets.{IsSetOf}
 use Rattle.data_domains.specs.Traits.{AreTraitsOf}
 use Rattle.data_domains.specs.declared.types.TypeData.{TypeData}
 
--- one item for each type, with its traits, and with its elements as they are written and as a set
+-- one item for each type, with its traits, and with its elements as cells, in which a word stands once, and as a set
 pub record AreTypesOf (types : List TypeDecl) (es : List Said) (xs : List TypeData) : Type 0 where
   pub count : length xs ≡ length types
   pub traits : (t : ℕ) (d : TypeDecl) (x : TypeData) → slice_get types t ≡ Some d → slice_get xs t ≡ Some x
       → AreTraitsOf types es t d x.traits
   pub cells : (t : ℕ) (d : TypeDecl) (x : TypeData) → slice_get types t ≡ Some d → slice_get xs t ≡ Some x
-      → map cell_view x.cells.items ≡ cells_by types es t d
+      → listed (map cell_view x.cells.items) ≡ listed (cells_by types es t d)
   pub elements : (t : ℕ) (d : TypeDecl) (x : TypeData) → slice_get types t ≡ Some d → slice_get xs t ≡ Some x
       → IsSetOf (cells_by types es t d) x.elements

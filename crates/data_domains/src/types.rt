@@ -1,19 +1,23 @@
 //! The traits and the elements of all types.
-ghost use Rattle.std.specs.Prelude.{◌≡◌, ◌<◌, ℕ, List, [], get_or, false, length, map, slice_get, Some, IfOk, OnOk};
+ghost use Rattle.std.specs.Prelude.{◌≡◌, ◌++◌, ◌∷◌, ◌<◌, ℕ, List, [], get_or, false, length, map, slice_get, Some};
+ghost use Rattle.std.specs.Prelude.{IfOk, OnOk};
+ghost use Rattle.std.specs.List.{list_any};
 ghost use Rattle.std.specs.Prelude.{if◌then◌else◌};
 ghost use Rattle.kb_logic.specs.declared.vocabularies.TypeDecl.{TypeDecl as AType};
+ghost use Rattle.reading_stages.specs.Elements as set;
 ghost use Rattle.reading_stages.specs.DataEntries as said;
 ghost use Rattle.reading_stages.specs.DataDomains as domain;
 ghost use Rattle.data_entries.specs.EntryViews.{cell_view};
 ghost use Rattle.data_entries.specs.SaidViews.{said_view};
-ghost use Rattle.element_sets.specs.Sets.{IsSetOf};
-ghost use Rattle.data_domains.specs.Shares.{given_in, IsDeclaredSo};
+ghost use Rattle.element_sets.specs.Runs.{is_hollow};
+ghost use Rattle.element_sets.specs.Sets.{runs_in, IsGathered, IsSetOf};
+ghost use Rattle.data_domains.specs.Shares.{IsDeclaredSo, IsGiven, IsSettled, StandsFor, Takes};
+ghost use Rattle.data_domains.specs.declared.traits.Traits.{Traits as TheTraits};
 ghost use Rattle.data_domains.specs.declared.types.TypeData.{TypeData as Data};
 ghost use Rattle.data_domains.specs.Traits.{AreTraitsOf};
 ghost use Rattle.data_domains.specs.TypeSets.{AreTypesOf};
 
-use crate::cells::add_made;
-use crate::filling::add_entries;
+use crate::filling::{add_declared, add_entries};
 use crate::kinds::{is_natural_type, is_number_type, parent_of, type_above};
 use crate::traits::{Traits, listed_types};
 use data_entries::elements::Cell;
@@ -22,12 +26,40 @@ use element_sets::sets::ElementSet;
 use kb_logic::{Memory, TypeDecl};
 use std::alloc::Global;
 
-/// A type beside a structure: its traits, and its elements as they are written and as a set.
+/// A type beside a structure: its traits, and its elements as cells and as a set.
+///
+/// A word stands once among the cells, however often it is written: the set that is made anyhow says at the first sight
+/// of a word whether it is new, and neither the domain nor anything else looks at the others again.
 #[derive(Drop)]
 pub struct TypeData<'a> {
     pub traits: Traits,
     pub cells: Vec<Cell<'a>>,
     pub elements: ElementSet<'a>,
+}
+
+impl<'a> TypeData<'a> {
+    /// A type without elements.
+    fn new(alloc: Global, traits: Traits) -> TypeData<'a>
+        ensures traits { result.traits ≡ traits }
+        ensures stands { StandsFor [] result }
+    {
+        TypeData {
+            traits,
+            cells: Vec::new(alloc),
+            elements: ElementSet::new(alloc),
+        }
+    }
+
+    /// One more cell, which may be the word at this place of the set or the next one; the place of its word.
+    pub fn add(&mut self, cell: Cell<'a>, near: usize) -> Result<usize, Memory>
+        ensures { OnOk result (Takes self.old self.new (cell_view cell.entry ∷ [])) }
+    {
+        let (is_more, place) = self.elements.add(cell, near)?;
+        if is_more {
+            self.cells.push(cell)?;
+        }
+        Ok(place)
+    }
 }
 
 fn traits_of(types: &[TypeDecl], ty: usize, decl: &TypeDecl, listed: bool) -> Traits
@@ -47,19 +79,13 @@ fn traits_of(types: &[TypeDecl], ty: usize, decl: &TypeDecl, listed: bool) -> Tr
 /// A type with the elements that are declared with it.
 fn declared<'a>(alloc: Global, traits: Traits, decl: &'a TypeDecl) -> Result<TypeData<'a>, Memory>
     ensures traits { IfOk result (λ x. x.traits ≡ traits) }
-    ensures cells { IfOk result (λ x. map cell_view x.cells.items ≡ (if traits.constructed
-        then domain.made_cells decl.now else [])) }
+    ensures stands { IfOk result (StandsFor (if traits.constructed then domain.made_cells decl.now else [])) }
 {
-    let mut cells = Vec::new(alloc);
+    let mut data = TypeData::new(alloc, traits);
     if traits.constructed {
-        add_made(decl, &mut cells)?;
+        add_declared(decl, &mut data)?;
     }
-    let elements = ElementSet::of(alloc, &cells)?;
-    Ok(TypeData {
-        traits,
-        cells,
-        elements,
-    })
+    Ok(data)
 }
 
 fn flag_at(flags: &[bool], at: usize) -> bool
@@ -91,28 +117,29 @@ fn declared_types<'a>(
     Ok(all)
 }
 
-/// A type's elements as a set.
-fn set_elements(alloc: Global, data: &mut TypeData<'_>) -> Result<(), Memory>
+/// Settles a type's set, after all cells.
+fn settle(alloc: Global, data: &mut TypeData<'_>) -> Result<(), Memory>
+    requires { list_any is_hollow (runs_in data.old.elements) ≡ false }
     ensures traits { data.new.traits ≡ data.old.traits }
     ensures cells { data.new.cells ≡ data.old.cells }
-    ensures elements { OnOk result (IsSetOf (map cell_view data.new.cells.items) data.new.elements) }
+    ensures elements { OnOk result ((cs : List set.Cell) → IsGathered cs data.old.elements
+        → IsSetOf cs data.new.elements) }
 {
-    let elements = ElementSet::of(alloc, &data.cells)?;
-    data.elements = elements;
-    Ok(())
+    data.elements.settle(alloc)
 }
 
-/// The elements of each type as a set.
-fn set_all(alloc: Global, all: &mut Vec<TypeData<'_>>) -> Result<(), Memory>
-    ensures given { given_in all.new.items ≡ given_in all.old.items }
-    ensures elements { OnOk result ((t : ℕ) (x : Data) → slice_get all.new.items t ≡ Some x → IsSetOf
-        (map cell_view x.cells.items) x.elements) }
+/// Settles the set of each type.
+fn settle_all(alloc: Global, all: &mut Vec<TypeData<'_>>) -> Result<(), Memory>
+    requires { (t : ℕ) (x : Data) → slice_get all.old.items t ≡ Some x → list_any is_hollow (runs_in x.elements) ≡ false }
+    ensures count { length all.new.items ≡ length all.old.items }
+    ensures settled { OnOk result ((t : ℕ) (x : TheTraits) (cs : List set.Cell) → IsGiven all.old.items t x cs
+        → IsSettled all.new.items t x cs) }
 {
     for ty in 0..all.len() {
         let Some(data) = all.get_mut(ty) else {
             continue;
         };
-        set_elements(alloc, data)?;
+        settle(alloc, data)?;
     }
     Ok(())
 }
@@ -126,7 +153,7 @@ pub fn types_of<'a>(
     ensures { IfOk result (λ xs. AreTypesOf types.now (map said_view entries.now) xs.items) }
 {
     let mut all = declared_types(alloc, types, entries)?;
-    add_entries(types, entries, &mut all)?;
-    set_all(alloc, &mut all)?;
+    add_entries(alloc, types, entries, &mut all)?;
+    settle_all(alloc, &mut all)?;
     Ok(all)
 }

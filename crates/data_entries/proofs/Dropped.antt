@@ -1,7 +1,6 @@
 -- What is left of a list from an item on.
-use Rattle.std.proofs.Common.{◌≡◌, ◌<◌, ◌≤◌, ◌+◌, ℕ, zero, suc, List, [], ◌∷◌, ◌++◌, Option, None, Some, drop, get_or}
-use Rattle.std.proofs.Common.{length, map, refl, sym, ap, ◌∙◌, add-one, drop-cons, arith, slice_get}
-use Rattle.std.proofs.lemmas.List.{drop_all}
+use Rattle.std.proofs.Common.{◌≡◌, ◌<◌, ◌+◌, ℕ, zero, suc, List, [], ◌∷◌, None, Some, drop, get_or}
+use Rattle.std.proofs.Common.{length, map, refl, ap, ◌∙◌, add-one, drop-cons, arith, slice_get}
 
 pub front : {X : Type 0} (xs : List X) (i : ℕ) (x : X) → i < length xs → x ≡ get_or xs i x
     → drop i xs ≡ x ∷ drop (i + 1) xs

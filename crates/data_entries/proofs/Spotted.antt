@@ -2,7 +2,13 @@
 use Rattle.std.proofs.Common.{◌≡◌, ◌+◌, ℕ, List, [], ◌∷◌, ◌++◌, None, Some, drop}
 use Rattle.std.proofs.Common.{refl, sym, ap, ◌∙◌, append_assoc, append-nil, slice_get}
 use Rattle.fo_syntax.specs.BlockTrees as raw
-use Rattle.reading_stages.specs.DataEntries.{Subject, Spot, item_spots, is_a_type, is_plain_list, cell_of}
+use Rattle.std.specs.Prelude.{filter}
+use Rattle.std.specs.List.{flat_map}
+use Rattle.std.proofs.lemmas.Grind.{flat_map-append}
+use Rattle.std.proofs.lemmas.List.Elements.{filter-append}
+use Rattle.reading_stages.specs.DataEntries.{Subject, Spot, WrittenRow, fits_in, row_spots}
+use Rattle.reading_stages.specs.DataEntries.{item_spots, is_a_type, is_plain_list, cell_of}
+use Rattle.data_entries.specs.EntryViews.{spots_in}
 use Rattle.reading_stages.specs.DataEntries.{place_of_item}
 use Rattle.data_entries.proofs.Dropped.{drop_some, drop_none}
 
@@ -37,3 +43,10 @@ next_item x ts items rest one i t old new whole at there more h =
     ∙ sym (ap (λ us. old ++ item_spots x us items) (drop_some ts i t at)
     ∙ ap (λ is. old ++ item_spots x (t ∷ drop (i + 1) ts) is) there)
     ∙ h
+
+-- what stands in a row comes before what stands in the rows after it
+pub spots_next : (x : Subject) (r : WrittenRow) (rs : List WrittenRow) → spots_in x (r ∷ rs) ≡ spots_in x (r ∷ [])
+    ++ spots_in x rs
+spots_next x r rs =
+    ap (flat_map (row_spots x)) (filter-append (fits_in x) (r ∷ []) rs)
+    ∙ flat_map-append (row_spots x) (filter (fits_in x) (r ∷ [])) (filter (fits_in x) rs)

@@ -1,6 +1,7 @@
 -- What elements, rows and entries in memory say.
 use Rattle.std.specs.Borrow.{Bor}
-use Rattle.std.specs.Prelude.{ℕ, Bool, List, [], ◌∷◌, Option, None, Some, map, option_map, if◌then◌else◌}
+use Rattle.std.specs.Prelude.{ℕ, Bool, List, [], ◌∷◌, Option, None, Some, filter, map, option_map, if◌then◌else◌}
+use Rattle.std.specs.List.{flat_map}
 use Rattle.std.specs.Str.{bytes_eq}
 use Rattle.kb_logic.specs.declared.elements.Elem.{Elem}
 use Rattle.kb_logic.specs.declared.elements.Elem.TheVariants as elem
@@ -103,3 +104,7 @@ fact_view f = record {
   args = map cell_view f.args.items;
   value = option_map elem_view f.value;
 }
+
+-- what stands in the rows that fit, in the order of the text
+abbrev pub spots_in : said.Subject → List said.WrittenRow → List said.Spot
+spots_in x rows = flat_map (said.row_spots x) (filter (said.fits_in x) rows)

@@ -11,7 +11,6 @@ ghost use Rattle.data_entries.specs.Naming.{AreSubjectsOf};
 use crate::forms::has_form;
 use crate::rows::written_rows;
 use crate::senses::{mark_name, sense_of};
-use crate::spots::spots_of;
 use crate::subjects::Subjects;
 use crate::written::Entry;
 use fo_syntax::{RawEntry, RawName, RawStructure};
@@ -39,14 +38,12 @@ fn entry<'a>(alloc: Global, subjects: &Subjects<'a>, raw: &'a RawEntry) -> Resul
     if !fits {
         rows.clear();
     }
-    let spots = spots_of(alloc, subject, &rows)?;
     Ok(Entry {
         word: &raw.name,
         subject,
         mark,
         fits,
         rows,
-        spots,
     })
 }
 

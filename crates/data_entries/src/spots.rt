@@ -1,17 +1,16 @@
 //! What stands in rows, and where.
-ghost use Rattle.std.specs.Prelude.{◌≡◌, ◌++◌, ◌∷◌, [], filter, map, IfOk, OnOk};
+ghost use Rattle.std.specs.Prelude.{◌≡◌, ◌++◌, ◌∷◌, [], filter, map, OnOk};
 ghost use Rattle.std.specs.List.{flat_map};
 ghost use Rattle.std.specs.Option.{option_map};
 ghost use Rattle.fo_syntax.specs.BlockView.{element_view};
 ghost use Rattle.reading_stages.specs.DataEntries as said;
-ghost use Rattle.data_entries.specs.EntryViews.{cell_view, row_view, spot_view, subject_view};
+ghost use Rattle.data_entries.specs.EntryViews.{cell_view, row_view, spot_view, spots_in, subject_view};
 
 use crate::elements::{Cell, cell_of, element_of, place_of_element, place_of_item};
 use crate::rows::Row;
 use crate::subjects::Subject;
 use fo_syntax::{RawElement, RawItem};
 use kb_logic::Memory;
-use std::alloc::Global;
 
 /// What is written: an item of a row, or a row's value.
 #[derive(Clone, Copy)]
@@ -22,7 +21,7 @@ pub enum Written<'a> {
 
 /// An element or a range where it is written: its type, whether it stands in the type's own list, whether in a list
 /// where ranges may stand, and the tree's part, of which its place and what it stands for are read when they are asked
-/// for. There is one for each element of each row, and so it takes half the memory.
+/// for.
 #[derive(Clone, Copy)]
 pub struct Spot<'a> {
     pub ty: usize,
@@ -134,18 +133,16 @@ fn add_row<'a>(subject: Subject<'a>, row: &Row<'a>, spots: &mut Vec<Spot<'a>>) -
     add_value(subject.value_type(), row.value, spots)
 }
 
-/// What stands in the rows that fit, in the order of the text.
-pub fn spots_of<'a>(
-    alloc: Global,
+/// What stands in a row that fits, in the order of the text, in place of what was in the list; nothing, where the row
+/// does not fit. One list serves all rows of an entry, so that none is made of all that stands in it.
+pub fn set_spots<'a>(
     subject: Subject<'a>,
-    rows: &[Row<'a>],
-) -> Result<Vec<Spot<'a>>, Memory>
-    ensures { IfOk result (λ spots. map spot_view spots.items ≡ flat_map (said.row_spots (subject_view subject.entry))
-        (filter (said.fits_in (subject_view subject.entry)) (map row_view rows.now))) }
+    row: &Row<'a>,
+    spots: &mut Vec<Spot<'a>>,
+) -> Result<(), Memory>
+    ensures { OnOk result (map spot_view spots.new.items ≡ spots_in (subject_view subject.entry)
+        (row_view row.now ∷ [])) }
 {
-    let mut spots = Vec::new(alloc);
-    for row in rows {
-        add_row(subject, row, &mut spots)?;
-    }
-    Ok(spots)
+    spots.clear();
+    add_row(subject, row, spots)
 }

@@ -1,3 +1,4 @@
 pub mod Capped
 pub mod Noting
 pub mod TupleSets
+pub mod WordRows

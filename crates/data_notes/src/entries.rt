@@ -18,7 +18,7 @@ ghost use Rattle.data_entries.specs.SaidViews.{said_view};
 ghost use Rattle.element_sets.specs.Sets.{IsSetOf};
 ghost use Rattle.data_domains.specs.TypeSets.{AreTypesOf};
 
-use crate::spots::note_spots;
+use crate::spots::note_written;
 use crate::tuples::misses_a_tuple;
 use crate::types::ELEMENT_LIMIT;
 use data_domains::cells::{add_given, add_made};
@@ -123,7 +123,7 @@ fn given_by<'a>(alloc: Global, entry: &Entry<'a>) -> Result<Vec<Cell<'a>>, Memor
     ensures { IfOk result (λ cells. map cell_view cells.items ≡ domain.cells_given (said_view entry.now)) }
 {
     let mut cells = Vec::new(alloc);
-    add_given(entry, &mut cells)?;
+    add_given(alloc, entry, &mut cells)?;
     Ok(cells)
 }
 
@@ -272,8 +272,7 @@ fn note_whole<'a>(
     note_entry(alloc, earliest, types, before, entry)?;
     note_mark(earliest, entry.subject, entry.mark);
     note_rows(earliest, entry.subject, &entry.rows);
-    note_spots(earliest, types, &entry.spots);
-    Ok(())
+    note_written(alloc, earliest, types, entry)
 }
 
 /// Notes each entry.

@@ -7,3 +7,4 @@ pub mod labels;
 pub mod spots;
 pub mod tuples;
 pub mod types;
+pub mod words;

@@ -1,24 +1,31 @@
 //! What is noted of elements and ranges where they are written.
-ghost use Rattle.std.specs.Prelude.{◌≡◌, ℕ, List, fold, map, negsuc, option_map, pos};
+ghost use Rattle.std.specs.Prelude.{◌≡◌, ◌&&◌, ℕ, List, fold, map, negsuc, option_map, pos, OnOk};
 ghost use Rattle.data_entries.specs.WholeViews.{whole_view};
 ghost use Rattle.kb_logic.specs.declared.vocabularies.TypeDecl.{TypeDecl as AType};
 ghost use Rattle.reading_stages.specs.Elements as set;
 ghost use Rattle.reading_stages.specs.DataEntries as said;
 ghost use Rattle.reading_stages.specs.DataDomains as domain;
 ghost use Rattle.reading_stages.specs.DataStage as stage;
-ghost use Rattle.data_entries.specs.EntryViews.{cell_view, spot_view};
+ghost use Rattle.data_entries.specs.EntryViews.{cell_view, row_view, spot_view};
+ghost use Rattle.data_entries.specs.SaidViews.{said_view};
 ghost use Rattle.data_domains.specs.Lookups.{AreTraitsAt};
 ghost use Rattle.data_domains.specs.TypeSets.{AreTypesOf};
+ghost use Rattle.data_notes.specs.Words.{has_words_alone};
 
+use crate::words::{are_open, has_words_alone};
 use data_domains::lookups::{covers, traits_at};
 use data_domains::traits::Traits;
 use data_domains::types::TypeData;
 use data_entries::elements::{Cell, Element};
-use data_entries::spots::Spot;
+use data_entries::rows::Row;
+use data_entries::spots::{Spot, set_spots};
 use data_entries::wholes::Whole;
+use data_entries::written::Entry;
 use element_sets::intervals::Interval;
+use kb_logic::Memory;
 use kb_text::K;
 use reading_stages::Earliest;
+use std::alloc::Global;
 
 /// From the least to the greatest integer of a domain.
 const LEAST: i128 = -1_000_000;
@@ -171,11 +178,40 @@ fn note_spot<'a>(earliest: &mut Earliest, types: &[TypeData<'a>], spot: &Spot<'a
 }
 
 /// Notes what is refused of elements and ranges.
-pub fn note_spots<'a>(earliest: &mut Earliest, types: &[TypeData<'a>], spots: &[Spot<'a>])
+fn note_spots<'a>(earliest: &mut Earliest, types: &[TypeData<'a>], spots: &[Spot<'a>])
     ensures { (all : List AType) (es : List said.Said) → AreTypesOf all es types.now → earliest.new.first
         ≡ fold (stage.data_noted all es) earliest.old.first (map stage.spot (map spot_view spots.now)) }
 {
     for i in 0..spots.len() {
         note_spot(earliest, types, &spots[i]);
     }
+}
+
+/// Whether a row is of words alone where these are taken, so that nothing is refused of what stands in it.
+fn is_fine(takes_words: bool, row: &Row<'_>) -> bool
+    ensures { result ≡ (takes_words && has_words_alone (row_view row.now)) }
+{
+    takes_words && has_words_alone(row)
+}
+
+/// Notes what is refused of what stands in an entry.
+pub fn note_written<'a>(
+    alloc: Global,
+    earliest: &mut Earliest,
+    types: &[TypeData<'a>],
+    entry: &Entry<'a>,
+) -> Result<(), Memory>
+    ensures { OnOk result ((all : List AType) (es : List said.Said) → AreTypesOf all es types.now → earliest.new.first
+        ≡ fold (stage.data_noted all es) earliest.old.first (map stage.spot (said.spots_of (said_view entry.now)))) }
+{
+    let takes_words = are_open(types, entry.subject);
+    let mut spots = Vec::new(alloc);
+    for row in &entry.rows {
+        if is_fine(takes_words, row) {
+            continue;
+        }
+        set_spots(entry.subject, row, &mut spots)?;
+        note_spots(earliest, types, &spots);
+    }
+    Ok(())
 }

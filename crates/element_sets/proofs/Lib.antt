@@ -5,3 +5,4 @@ pub mod WordSets
 pub mod RunFacts
 pub mod Sorting
 pub mod CellRuns
+pub mod Gathering

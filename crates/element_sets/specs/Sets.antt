@@ -1,13 +1,13 @@
 -- Sets of elements in memory.
-use Rattle.std.specs.Prelude.{◌≡◌, ℤ, List, map, length}
+use Rattle.std.specs.Prelude.{◌≡◌, ℤ, List, map, length, true, false}
 use Rattle.std.specs.List.{list_any}
 use Rattle.std.specs.Str.{bytes_eq}
-use Rattle.kb_logic.specs.declared.elements.Elem.TheVariants.{Num}
+use Rattle.kb_logic.specs.declared.elements.Elem.TheVariants.{Named, Num}
 use Rattle.kb_logic.specs.Bounds.{Interval as AnInterval}
 use Rattle.reading_stages.specs.Scopes.{Text}
-use Rattle.reading_stages.specs.Elements.{Cell, as_interval, is_among, words_of}
+use Rattle.reading_stages.specs.Elements.{Cell, one, span, as_interval, is_among, words_of}
 use Rattle.data_entries.specs.WholeViews.{whole_view}
-use Rattle.element_sets.specs.Runs.{is_inside, AreApart}
+use Rattle.element_sets.specs.Runs.{is_hollow, is_inside, AreApart}
 use Rattle.element_sets.specs.declared.intervals.Interval.{Interval}
 use Rattle.element_sets.specs.declared.sets.ElementSet.{ElementSet}
 
@@ -32,3 +32,15 @@ pub record IsSetOf (cells : List Cell) (s : ElementSet) : Type 0 where
   pub words : AreSameWords (words_in s) (words_of cells)
   pub integers : (z : ℤ) → is_inside (runs_in s) z ≡ is_among cells (Num z)
   pub apart : AreApart (runs_in s)
+
+-- the same, while cells are added one by one: none of its intervals is empty, but they lie in any order
+pub record IsGathered (cells : List Cell) (s : ElementSet) : Type 0 where
+  pub words : AreSameWords (words_in s) (words_of cells)
+  pub integers : (z : ℤ) → is_inside (runs_in s) z ≡ is_among cells (Num z)
+  pub full : list_any is_hollow (runs_in s) ≡ false
+
+-- the cell is one of these words
+abbrev pub IsKnownWord : List Text → Cell → Type 0
+IsKnownWord ws (one (Named n)) = list_any (bytes_eq n) ws ≡ true
+IsKnownWord ws (one (Num z)) = ⊥
+IsKnownWord ws (span a b) = ⊥

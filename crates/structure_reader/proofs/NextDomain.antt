@@ -38,7 +38,7 @@ pub all_domains : (decls : List TypeDecl) (es : List Said) (xs : List TypeData) 
     → map (λ (x : TypeData). set.listed (map cell_view x.cells.items)) xs ≡ domains_of decls es
 all_domains decls es xs all = each_domain (λ (x : TypeData). set.listed (map cell_view x.cells.items))
     (λ (t : ℕ × TypeDecl). set.listed (cells_by decls es t.0 t.1)) 0 xs decls all.count
-    (λ t d x p q. ap set.listed (all.cells t d x p q) ∙ from_zero t d)
+    (λ t d x p q. all.cells t d x p q ∙ from_zero t d)
   where
     from_zero : (t : ℕ) (d : TypeDecl) → set.listed (cells_by decls es t d) ≡ set.listed (cells_by decls es (0 + t) d)
     from_zero t d = let at : t ≡ 0 + t = omega arith in ap (λ k. set.listed (cells_by decls es k d)) at

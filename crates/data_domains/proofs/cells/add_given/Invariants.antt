@@ -2,11 +2,11 @@ use Rattle.std.proofs.Common.{◌≡◌, ◌++◌, drop, map}
 use Rattle.std.specs.List.{filter_map}
 use Rattle.reading_stages.specs.DataEntries.{Spot}
 use Rattle.reading_stages.specs.DataDomains.{cells_given}
-use Rattle.data_entries.specs.EntryViews.{cell_view, spot_view}
+use Rattle.data_entries.specs.EntryViews.{cell_view, row_view, spots_in, subject_view}
 use Rattle.data_entries.specs.SaidViews.{said_view}
 use Rattle.data_domains.proofs.cells.add_given.Given as goal
 
-abbrev pub invariant-loop-spot : goal.invariant-loop-spot
-invariant-loop-spot l = map cell_view l.cells.items ++ filter_map (λ (s : Spot). s.cell)
-    (map spot_view (drop l.spot-index l.entry.spots.items))
+abbrev pub invariant-loop-row : goal.invariant-loop-row
+invariant-loop-row l = map cell_view l.cells.items ++ filter_map (λ (s : Spot). s.cell)
+    (spots_in (subject_view l.entry.subject) (map row_view (drop l.row-index l.entry.rows.items)))
     ≡ map cell_view l.fn.cells.items ++ cells_given (said_view l.entry)

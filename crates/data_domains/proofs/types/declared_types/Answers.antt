@@ -2,7 +2,7 @@ use Rattle.std.proofs.Common.{◌+◌, ◌∙◌, ap, sym, length, map}
 use Rattle.std.proofs.lemmas.List.{length_push}
 use Rattle.data_entries.specs.SaidViews.{said_view}
 use Rattle.reading_stages.specs.DataDomains.{made_cells}
-use Rattle.data_domains.specs.Shares.{IsDeclaredSo}
+use Rattle.data_domains.specs.Shares.{IsDeclaredSo, StandsFor}
 use Rattle.data_domains.specs.Traits.{AreTraitsOf}
 use Rattle.std.proofs.Common.{[], false, get_or, if◌then◌else◌, subst}
 use Rattle.data_domains.proofs.Looked.{pushed_each}
@@ -23,7 +23,7 @@ loop-ty-preserved c =
       each = pushed_each (IsDeclaredSo types es) types c.loop-ty.all.items _ x ty d c.loop-ty.invariant.count
           c.loop-ty-test.true c.index-types-ty.is more (record {
             traits = subst (AreTraitsOf types es ty d) (sym c.in_ok-declared.ensures.traits) traits;
-            cells = c.in_ok-declared.ensures.cells
-                ∙ ap (λ k. if k.constructed then made_cells d else []) (sym c.in_ok-declared.ensures.traits);
+            stands = subst (λ k. StandsFor (if k.constructed then made_cells d else []) x)
+                (sym c.in_ok-declared.ensures.traits) c.in_ok-declared.ensures.stands;
           }) c.loop-ty.invariant.each;
     }

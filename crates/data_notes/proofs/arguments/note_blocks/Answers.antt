@@ -1,4 +1,4 @@
-use Rattle.std.proofs.Common.{◌≡◌, ◌≤◌, ◌<◌, ◌∙◌, drop, fold, length, map, sym, ap, arith}
+use Rattle.std.proofs.Common.{◌≤◌, ◌∙◌, drop, fold, length, map, sym, ap}
 use Rattle.std.specs.List.{flat_map}
 use Rattle.reading_stages.specs.DataStage as stage
 use Rattle.type_derivation.specs.TypedViews.{named_term_view}

@@ -1,4 +1,4 @@
-use Rattle.std.proofs.Common.{◌∙◌, ap, fold, map, sym, List}
+use Rattle.std.proofs.Common.{◌∙◌, ap, fold, map, sym}
 use Rattle.std.specs.List.{flat_map}
 use Rattle.reading_stages.specs.DataStage as stage
 use Rattle.type_derivation.specs.TypedViews.{named_theory_view}

@@ -1,4 +1,4 @@
-use Rattle.std.proofs.Common.{◌≡◌, ◌∙◌, ◌&&◌, not, map, ap, sym, subst}
+use Rattle.std.proofs.Common.{◌≡◌, ◌∙◌, ◌&&◌, not, map, ap, subst}
 use Rattle.std.specs.List.{list_all}
 use Rattle.reading_stages.specs.Elements as set
 use Rattle.reading_stages.specs.DataDomains as domain

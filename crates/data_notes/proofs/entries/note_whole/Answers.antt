@@ -1,13 +1,14 @@
 use Rattle.std.proofs.Common.{◌∙◌, fold, map, ap}
+use Rattle.std.proofs.lemmas.Result.{on_ok_weaker}
 use Rattle.reading_stages.specs.DataEntries.{spots_of}
 use Rattle.reading_stages.specs.DataStage as stage
-use Rattle.data_entries.specs.EntryViews.{row_view, spot_view}
+use Rattle.data_entries.specs.EntryViews.{row_view}
 use Rattle.data_entries.specs.SaidViews.{said_view}
 use Rattle.data_notes.proofs.Noting.{four_parts}
 use Rattle.data_notes.proofs.entries.note_whole.Goals as goal
 
 pub returns : goal.returns
-returns c = λ all es h.
+returns c = on_ok_weaker c.note_written.result (λ written all es h.
     let note = stage.data_noted all es in
     let e = said_view c.args.entry.now in
     four_parts note (stage.entry (map said_view c.args.before.now) e) (stage.mark_uses e.subject e.mark)
@@ -17,5 +18,4 @@ returns c = λ all es h.
     (c.in_ok-note_entry.ensures all es h) (c.note_mark.ensures all es)
     (c.note_rows.ensures all es ∙ ap (λ rs. fold note c.note_mark.new.earliest.first
     (map (stage.row e.subject) (map row_view rs))) c.deref.ensures.value)
-    (c.note_spots.ensures all es h ∙ ap (λ ss. fold note c.note_rows.new.earliest.first (map stage.spot ss))
-    (ap (map spot_view) c.deref-2.ensures.value ∙ c.args.entry.now.in_rows))
+    (written all es h)) c.note_written.ensures

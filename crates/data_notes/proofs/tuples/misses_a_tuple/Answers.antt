@@ -1,4 +1,4 @@
-use Rattle.std.proofs.Common.{◌≡◌, ◌+◌, ◌∙◌, [], ◌∷◌, List, drop, fold, length, map, nat_lt, sym, ap, arith, Vec}
+use Rattle.std.proofs.Common.{◌≡◌, ◌+◌, ◌∙◌, [], ◌∷◌, List, drop, fold, length, map, nat_lt, sym, ap, Vec}
 use Rattle.std.specs.declared.alloc.Global.{Global}
 use Rattle.std.proofs.lemmas.List.{drop_all, length-map}
 use Rattle.reading_stages.specs.DataFacts.{is_over, tuple_count, tuples_given, with_tuple}

@@ -1,4 +1,4 @@
-use Rattle.std.proofs.Common.{◌≡◌, ◌*◌, ◌+◌, ◌∙◌, ℕ, drop, fold, length, sym, ap}
+use Rattle.std.proofs.Common.{◌*◌, ◌∙◌, ℕ, fold, sym, ap}
 use Rattle.std.proofs.lemmas.List.{at_drop_more, at_drop_all}
 use Rattle.reading_stages.specs.Elements.{count_of}
 use Rattle.reading_stages.specs.DataDomains.{cells_of}

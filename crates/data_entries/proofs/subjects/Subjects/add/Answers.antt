@@ -1,4 +1,4 @@
-use Rattle.std.proofs.Common.{◌∙◌, ◌≡◌, None, sym, is_some, false, true, not, rules}
+use Rattle.std.proofs.Common.{◌∙◌, ◌≡◌, is_some, false, true, rules}
 use Rattle.std.specs.Map.{lookup}
 use Rattle.std.specs.Str.{bytes_eq}
 use Rattle.indexmap.proofs.CallerLemmas.{insert_entry-new}
