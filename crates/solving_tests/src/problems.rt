@@ -1,8 +1,7 @@
-//! Ground problems.
-ghost use Rattle.std.specs.Prelude.{◌≡◌, [], IsTrue, IfOk};
-ghost use Rattle.ground_core.specs.Problems.{AreLitsOf, IsLitOf};
+//! Ground problems, normal forms and the order of ground atoms.
+ghost use Rattle.std.specs.Prelude.{IsTrue};
+ghost use Rattle.ground_core.specs.Problems.{IsLitOf};
 
-use crate::fixtures::blamed_by_force;
 use ground_core::{
     AtomTable, Gate, GroundTerm, LitList, Memory, Part, PartList, Problem, clauses_of_gate,
     has_small_terms,
@@ -12,7 +11,7 @@ use kb_logic::{
 };
 use lit_core::{ClauseList, Lit};
 use normal_forms::nnf;
-use problem_fixtures::{are_over, no, problem_of, say, yes};
+use problem_fixtures::{no, problem_of, yes};
 use std::alloc::Global;
 use std::test::Fail;
 
@@ -21,34 +20,6 @@ fn is_over(problem: &Problem, lit: Lit) -> bool
     ensures { IsTrue result → IsLitOf problem.now.vars lit }
 {
     1 <= lit.var.0 && lit.var.0 <= problem.vars()
-}
-
-/// Adds a gate, if it is one of the problem.
-fn add_gate(alloc: Global, problem: &mut Problem, all: bool, lits: &[Lit]) -> Result<Lit, Memory>
-    ensures sums { problem.new.sums ≡ problem.old.sums }
-    ensures bounds { problem.new.bounds ≡ problem.old.bounds }
-    ensures terms { problem.new.terms ≡ problem.old.terms }
-    ensures retired { problem.new.retired ≡ problem.old.retired }
-{
-    if !are_over(problem.vars(), lits) {
-        return Err(Memory);
-    }
-    problem.add_gate(all, LitList::from_vec(Vec::from_slice(alloc, lits)?))
-}
-
-/// A gate of 1 and 2, whose output has this sign.
-fn gate_problem(alloc: Global, all: bool, sign: bool) -> Result<Problem, Memory>
-    ensures plain { IfOk result (λ p. (p.sums ≡ []) × (p.bounds ≡ [])) }
-    ensures unnamed { IfOk result (λ p. (p.terms ≡ []) × (p.retired ≡ [])) }
-{
-    let mut problem = problem_of(alloc, 2)?;
-    let out = add_gate(alloc, &mut problem, all, &[yes(1), yes(2)])?;
-    say(
-        alloc,
-        &mut problem,
-        &[if sign { out } else { out.negated() }],
-    )?;
-    Ok(problem)
 }
 
 /// The clauses of the gate 3, of 1 and 2.
@@ -69,78 +40,6 @@ fn a_gate_has_three_clauses(rt: HostRuntime) -> Result<(), Fail> {
     let last = clauses.clause(rt.alloc(), 2)?;
     assert_eq!(rt; second.as_slice(), [no(3), yes(2)].as_slice());
     assert_eq!(rt; last.as_slice(), [yes(3), no(1), no(2)].as_slice());
-    Ok(())
-}
-
-#[test]
-fn both_parts_of_a_gate_are_true(rt: HostRuntime) -> Result<(), Fail> {
-    assert_eq!(rt;
-        blamed_by_force(rt.alloc(), gate_problem(rt.alloc(), true, true)?, &[yes(1)])?,
-        None
-    );
-    assert_eq!(rt;
-        blamed_by_force(
-            rt.alloc(),
-            gate_problem(rt.alloc(), true, true)?,
-            &[yes(1), no(2)]
-        )?,
-        Some(2)
-    );
-    Ok(())
-}
-
-#[test]
-fn no_part_of_a_gate_is_true(rt: HostRuntime) -> Result<(), Fail> {
-    assert_eq!(rt;
-        blamed_by_force(
-            rt.alloc(),
-            gate_problem(rt.alloc(), false, false)?,
-            &[no(1)]
-        )?,
-        None
-    );
-    assert_eq!(rt;
-        blamed_by_force(
-            rt.alloc(),
-            gate_problem(rt.alloc(), false, false)?,
-            &[yes(2)]
-        )?,
-        Some(1)
-    );
-    Ok(())
-}
-
-/// 3 is true exactly where 1 and 2 are equal.
-fn equality_problem(alloc: Global) -> Result<Problem, Memory>
-    ensures plain { IfOk result (λ p. (p.sums ≡ []) × (p.bounds ≡ [])) }
-    ensures unnamed { IfOk result (λ p. (p.terms ≡ []) × (p.retired ≡ [])) }
-{
-    let mut problem = problem_of(alloc, 2)?;
-    let (a, b) = (yes(1), yes(2));
-    if is_over(&problem, a) && is_over(&problem, b) {
-        let _ = problem.add_same(alloc, a, b)?;
-    }
-    Ok(problem)
-}
-
-#[test]
-fn equal_literals_have_one_value(rt: HostRuntime) -> Result<(), Fail> {
-    assert_eq!(rt;
-        blamed_by_force(
-            rt.alloc(),
-            equality_problem(rt.alloc())?,
-            &[no(1), no(2), yes(3)]
-        )?,
-        None
-    );
-    assert_eq!(rt;
-        blamed_by_force(
-            rt.alloc(),
-            equality_problem(rt.alloc())?,
-            &[no(1), yes(2), yes(3)]
-        )?,
-        Some(3)
-    );
     Ok(())
 }
 

@@ -1,0 +1,10 @@
+use Rattle.std.proofs.Common.{◌≡◌, []}
+use Rattle.solving_cases.proofs.problems.made.Given as goal
+
+-- nothing is said of sums and bounds
+abbrev pub invariant-loop-it : goal.invariant-loop-it
+invariant-loop-it l = record {
+  sums : l.problem.sums ≡ [];
+  bounds : l.problem.bounds ≡ [];
+  retired : l.problem.retired ≡ [];
+}

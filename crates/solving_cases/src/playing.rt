@@ -1,0 +1,244 @@
+//! Plays the lines of a case.
+use crate::additions::Event;
+use crate::asking::{Outcome, Sides, change, exclude, limits, question, sides_of};
+use crate::drawing::drawn;
+use crate::faults::Fault;
+use crate::lines::{Draw, Line, Step};
+use crate::listing::{count, turns};
+use crate::problems::{Said, Spoken};
+use crate::rules::Rule;
+use crate::stores::{blamed, learnt, refutation};
+use crate::texts::{learnt_text, numbers_text, outcome_text, refuted_text, tally_text};
+use lit_core::Lit;
+use std::alloc::{AllocError, Global};
+
+/// The most atoms of a problem, since brute force tries all values of them.
+const MOST_ATOMS: u32 = 24;
+
+/// A case: what is said, and those who are asked once something is.
+#[derive(Drop)]
+pub struct Play {
+    spoken: Spoken,
+    sides: Option<Sides>,
+}
+
+impl Play {
+    /// Nothing is said.
+    pub fn new(alloc: Global) -> Play {
+        Play {
+            spoken: Spoken {
+                rule: Rule::Greatest,
+                atoms: 0,
+                said: Vec::new(alloc),
+            },
+            sides: None,
+        }
+    }
+}
+
+fn number_text(alloc: Global, number: u64) -> Result<String, AllocError> {
+    format!(in alloc; "{number}")
+}
+
+/// What is asked of a question's outcome: how many assumptions are blamed, or the verdict alone.
+fn asked(
+    alloc: Global,
+    spoken: &Spoken,
+    sides: &mut Sides,
+    lits: &[Lit],
+    limit: Option<u64>,
+    blame: bool,
+) -> Result<String, Fault> {
+    let outcome = question(alloc, spoken, sides, lits, limit)?;
+    Ok(outcome_text(alloc, outcome, blame)?)
+}
+
+fn limits_text(
+    alloc: Global,
+    spoken: &Spoken,
+    sides: &mut Sides,
+    most: u64,
+    lits: &[Lit],
+) -> Result<String, Fault> {
+    let outcome = limits(alloc, spoken, sides, most, lits)?;
+    Ok(outcome_text(alloc, outcome, false)?)
+}
+
+/// The number of the selector that is new.
+fn added(alloc: Global, sides: &mut Sides, event: Event) -> Result<String, Fault> {
+    change(sides, event)?;
+    Ok(number_text(alloc, sides.kept.vars())?)
+}
+
+fn excluded(alloc: Global, sides: &mut Sides, by_force: bool) -> Result<String, Fault> {
+    exclude(alloc, sides, by_force)?;
+    Ok(number_text(alloc, sides.kept.vars())?)
+}
+
+fn done(alloc: Global) -> Result<String, Fault> {
+    Ok(String::from_str(alloc, "done")?)
+}
+
+fn count_text(alloc: Global, spoken: &Spoken) -> Result<String, Fault> {
+    match count(alloc, spoken)? {
+        Some(models) => Ok(format!(in alloc; "{models} models")?),
+        None => Ok(String::from_str(alloc, "wrong: no model, or too many")?),
+    }
+}
+
+fn nothing(alloc: Global) -> Result<String, Fault> {
+    Ok(String::from_str(alloc, "nothing")?)
+}
+
+/// The first literal is made false by the others, which are decided.
+fn core_text(alloc: Global, spoken: &Spoken, lits: &[Lit]) -> Result<String, Fault> {
+    let Some((lit, decisions)) = lits.split_first() else {
+        return Err(Fault::Literal);
+    };
+    match blamed(alloc, spoken, *lit, decisions)? {
+        Some(refuted) => Ok(refuted_text(alloc, &refuted)?),
+        None => nothing(alloc),
+    }
+}
+
+fn learn_text(alloc: Global, spoken: &Spoken, decisions: &[Lit]) -> Result<String, Fault> {
+    match learnt(alloc, spoken, decisions)? {
+        Some(analysis) => Ok(learnt_text(alloc, &analysis)?),
+        None => nothing(alloc),
+    }
+}
+
+fn root_text(alloc: Global, spoken: &Spoken) -> Result<String, Fault> {
+    match refutation(alloc, spoken)? {
+        Some(hints) => Ok(numbers_text(alloc, &hints)?),
+        None => nothing(alloc),
+    }
+}
+
+fn turns_text(alloc: Global, spoken: &Spoken, times: u64) -> Result<String, Fault> {
+    let counts = turns(alloc, spoken, times)?;
+    Ok(numbers_text(alloc, &counts)?)
+}
+
+fn retired(alloc: Global, sides: &mut Sides, var: u64) -> Result<String, Fault> {
+    change(sides, Event::Retired(var))?;
+    done(alloc)
+}
+
+fn forgotten(alloc: Global, sides: &mut Sides) -> Result<String, Fault> {
+    sides.kept.forget();
+    done(alloc)
+}
+
+/// What a step prints that needs no solver that is kept.
+fn lone_text(alloc: Global, spoken: &Spoken, step: &Step) -> Result<String, Fault> {
+    match step {
+        Step::Count => count_text(alloc, spoken),
+        Step::Turns(times) => turns_text(alloc, spoken, *times),
+        Step::Learn(lits) => learn_text(alloc, spoken, lits),
+        Step::Core(lits) => core_text(alloc, spoken, lits),
+        Step::Root => root_text(alloc, spoken),
+        _ => nothing(alloc),
+    }
+}
+
+/// What a step prints.
+fn step_text(
+    alloc: Global,
+    spoken: &Spoken,
+    sides: &mut Sides,
+    step: &Step,
+) -> Result<String, Fault> {
+    match step {
+        Step::Solve(lits) => asked(alloc, spoken, sides, lits, None, false),
+        Step::Blame(lits) => asked(alloc, spoken, sides, lits, None, true),
+        Step::Within(most, lits) => asked(alloc, spoken, sides, lits, Some(*most), false),
+        Step::Limits(most, lits) => limits_text(alloc, spoken, sides, *most, lits),
+        Step::Bound(term, below) => added(alloc, sides, Event::Bound(*term, *below)),
+        Step::Exclude(by_force) => excluded(alloc, sides, *by_force),
+        Step::Retire(var) => retired(alloc, sides, *var),
+        Step::Forget => forgotten(alloc, sides),
+        _ => lone_text(alloc, spoken, step),
+    }
+}
+
+/// Makes those who are asked at the first step.
+fn begin(alloc: Global, play: &mut Play) -> Result<(), Fault> {
+    if play.sides.is_none() {
+        let sides = sides_of(alloc, &play.spoken)?;
+        play.sides = Some(sides);
+    }
+    Ok(())
+}
+
+/// Plays a step; who is asked is made at the first one.
+fn stepped(alloc: Global, play: &mut Play, step: &Step) -> Result<String, Fault> {
+    begin(alloc, play)?;
+    match &mut play.sides {
+        Some(sides) => step_text(alloc, &play.spoken, sides, step),
+        None => nothing(alloc),
+    }
+}
+
+fn drawn_text(alloc: Global, rule: Rule, draw: Draw) -> Result<String, Fault> {
+    if draw.atoms == 0 || draw.atoms > MOST_ATOMS {
+        return Err(Fault::Size);
+    }
+    let tally = drawn(alloc, rule, draw)?;
+    Ok(tally_text(alloc, tally)?)
+}
+
+fn set_atoms(play: &mut Play, atoms: u32) -> Result<(), Fault> {
+    if play.sides.is_some() {
+        return Err(Fault::Late);
+    }
+    if atoms > MOST_ATOMS {
+        return Err(Fault::Size);
+    }
+    play.spoken.atoms = atoms;
+    Ok(())
+}
+
+fn set_rule(play: &mut Play, rule: Rule) -> Result<(), Fault> {
+    if play.sides.is_some() {
+        return Err(Fault::Late);
+    }
+    play.spoken.rule = rule;
+    Ok(())
+}
+
+fn say(play: &mut Play, said: Said) -> Result<(), Fault> {
+    if play.sides.is_some() {
+        return Err(Fault::Late);
+    }
+    play.spoken.said.push(said)?;
+    Ok(())
+}
+
+/// Nothing is printed of a line that only says something.
+fn silent(said: Result<(), Fault>) -> Result<Option<String>, Fault> {
+    match said {
+        Ok(()) => Ok(None),
+        Err(fault) => Err(fault),
+    }
+}
+
+fn spoken_of(text: Result<String, Fault>) -> Result<Option<String>, Fault> {
+    match text {
+        Ok(text) => Ok(Some(text)),
+        Err(fault) => Err(fault),
+    }
+}
+
+/// Plays a line, and hands back what it prints.
+pub fn played(alloc: Global, play: &mut Play, line: Line) -> Result<Option<String>, Fault> {
+    match line {
+        Line::Empty => Ok(None),
+        Line::Case => Ok(None),
+        Line::Rule(rule) => silent(set_rule(play, rule)),
+        Line::Atoms(atoms) => silent(set_atoms(play, atoms)),
+        Line::Said(said) => silent(say(play, said)),
+        Line::Step(step) => spoken_of(stepped(alloc, play, &step)),
+        Line::Random(draw) => spoken_of(drawn_text(alloc, play.spoken.rule, draw)),
+    }
+}
