@@ -1,12 +1,12 @@
 //! Problems and questions that are drawn from a number.
 ghost use Rattle.std.specs.Prelude.{◌≤◌};
 
-use crate::additions::Event;
-use crate::asking::{Outcome, Sides, Wrong, change, exclude, question, sides_of};
-use crate::faults::Fault;
 use crate::lines::Draw;
-use crate::problems::{Said, Spoken};
-use crate::rules::Rule;
+use compared_solvers::additions::Event;
+use compared_solvers::asking::{Outcome, Sides, Wrong, change, exclude, question, sides_of};
+use compared_solvers::faults::Fault;
+use compared_solvers::problems::{Said, Spoken};
+use compared_solvers::rules::Rule;
 use ground_core::Part;
 use kb_logic::AggKind;
 use lit_core::{Lit, Var};

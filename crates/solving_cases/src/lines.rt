@@ -1,8 +1,8 @@
 //! What a line says.
-use crate::faults::Fault;
-use crate::problems::Said;
-use crate::rules::{Rule, rule_of};
 use crate::words::{lits_of, numbers_of, parts_of, words_of};
+use compared_solvers::faults::Fault;
+use compared_solvers::problems::Said;
+use compared_solvers::rules::{Rule, rule_of};
 use kb_logic::AggKind;
 use lit_core::Lit;
 use std::alloc::Global;

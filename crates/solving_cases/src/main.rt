@@ -2,18 +2,11 @@
 //! and prints the verdicts.
 #![tactic(auto)]
 
-mod additions;
-mod asking;
 mod drawing;
-mod faults;
-mod holding;
 mod lines;
 mod listing;
 mod playing;
-mod problems;
 mod report;
-mod rules;
-mod sides;
 mod stores;
 mod texts;
 mod words;

@@ -1,14 +1,14 @@
 //! Plays the lines of a case.
-use crate::additions::Event;
-use crate::asking::{Outcome, Sides, change, exclude, limits, question, sides_of};
 use crate::drawing::drawn;
-use crate::faults::Fault;
 use crate::lines::{Draw, Line, Step};
 use crate::listing::{count, turns};
-use crate::problems::{Said, Spoken};
-use crate::rules::Rule;
 use crate::stores::{blamed, learnt, refutation};
 use crate::texts::{learnt_text, numbers_text, outcome_text, refuted_text, tally_text};
+use compared_solvers::additions::Event;
+use compared_solvers::asking::{Outcome, Sides, change, exclude, limits, question, sides_of};
+use compared_solvers::faults::Fault;
+use compared_solvers::problems::{Said, Spoken};
+use compared_solvers::rules::Rule;
 use lit_core::Lit;
 use std::alloc::{AllocError, Global};
 

@@ -5,9 +5,9 @@ ghost use Rattle.clause_store.specs.TrailLaws.{IsFixed};
 ghost use Rattle.clause_store.specs.StoreState.{IsConflict};
 ghost use Rattle.conflict_analysis.specs.Analyses.{HasCurrent};
 
-use crate::faults::Fault;
-use crate::problems::{Said, Spoken};
 use clause_store::Store;
+use compared_solvers::faults::Fault;
+use compared_solvers::problems::{Said, Spoken};
 use conflict_analysis::{Analysis, Refuted, analyse, final_core, root_hints};
 use lit_core::Lit;
 use std::alloc::Global;

@@ -1,6 +1,6 @@
 //! What is printed.
-use crate::asking::{Outcome, Wrong};
 use crate::drawing::Tally;
+use compared_solvers::asking::{Outcome, Wrong};
 use conflict_analysis::{Analysis, Refuted};
 use lit_core::Lit;
 use std::alloc::{AllocError, Global};

@@ -1,5 +1,5 @@
 //! Words, numbers and literals of a line.
-use crate::faults::Fault;
+use compared_solvers::faults::Fault;
 use ground_core::Part;
 use lit_core::{Lit, Var};
 use std::alloc::{AllocError, Global};

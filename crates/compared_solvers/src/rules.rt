@@ -1,5 +1,5 @@
 //! The rules by which a search chooses what it decides.
-ghost use Rattle.solving_cases.specs.Rules.{IsChosen};
+ghost use Rattle.compared_solvers.specs.Rules.{IsChosen};
 
 use chooser::{Choose, first_greatest};
 

@@ -1,5 +1,5 @@
 use Rattle.std.proofs.Common.{◌≡◌, []}
-use Rattle.solving_cases.proofs.problems.made.Given as goal
+use Rattle.compared_solvers.proofs.problems.made.Given as goal
 
 -- nothing is said of sums and bounds
 abbrev pub invariant-loop-it : goal.invariant-loop-it

@@ -2,9 +2,9 @@ use Rattle.std.proofs.Common.{◌≡◌, refl, ap}
 use Rattle.lit_core.specs.declared.literals.Lit.{Lit}
 use Rattle.ground_core.specs.Problems.{ProblemState}
 use Rattle.ground_core.specs.Solving.{SolveState}
-use Rattle.solving_cases.specs.declared.additions.Marks.{Marks}
-use Rattle.solving_cases.proofs.MarkFacts.{excluded-marks}
-use Rattle.solving_cases.proofs.additions.exclude.Goals as goal
+use Rattle.compared_solvers.specs.declared.additions.Marks.{Marks}
+use Rattle.compared_solvers.proofs.MarkFacts.{excluded-marks}
+use Rattle.compared_solvers.proofs.additions.exclude.Goals as goal
 
 pub returns : goal.returns
 returns g c =

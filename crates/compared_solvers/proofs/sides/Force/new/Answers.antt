@@ -1,8 +1,8 @@
 use Rattle.std.proofs.Common.{sym, ap, subst}
 use Rattle.ground_core.specs.Problems.{ProblemState}
 use Rattle.brute_force.specs.Trials.{TrialState}
-use Rattle.solving_cases.specs.Marking.{AreMarks}
-use Rattle.solving_cases.proofs.sides.Force.new.Goals as goal
+use Rattle.compared_solvers.specs.Marking.{AreMarks}
+use Rattle.compared_solvers.proofs.sides.Force.new.Goals as goal
 
 pub invariant_of-result : goal.invariant_of-result
 invariant_of-result c = subst (λ (p : ProblemState). AreMarks p c.marks_of-marks.result)

@@ -2,9 +2,9 @@ use Rattle.std.proofs.Common.{◌≡◌, List, Contains, refl, sym, ap, ◌∙�
 use Rattle.lit_core.specs.declared.literals.Lit.{Lit}
 use Rattle.ground_core.specs.Problems.{ProblemState}
 use Rattle.ground_core.specs.Solving.{SolveState}
-use Rattle.solving_cases.specs.declared.additions.Marks.{Marks}
-use Rattle.solving_cases.proofs.MarkFacts.{retired-marks, same-marks}
-use Rattle.solving_cases.proofs.additions.retire.Goals as goal
+use Rattle.compared_solvers.specs.declared.additions.Marks.{Marks}
+use Rattle.compared_solvers.proofs.MarkFacts.{retired-marks, same-marks}
+use Rattle.compared_solvers.proofs.additions.retire.Goals as goal
 
 pub returns-then-not-is_among : goal.returns-then-not-is_among
 returns-then-not-is_among g c =

@@ -4,9 +4,9 @@ use Rattle.kb_logic.specs.declared.elements.ExtInt.TheVariants.{Num}
 use Rattle.lit_core.specs.declared.literals.Lit.{Lit}
 use Rattle.ground_core.specs.Problems.{ProblemState}
 use Rattle.ground_core.specs.Solving.{SolveState}
-use Rattle.solving_cases.specs.declared.additions.Marks.{Marks}
-use Rattle.solving_cases.proofs.MarkFacts.{bounded-marks}
-use Rattle.solving_cases.proofs.additions.bound.Goals as goal
+use Rattle.compared_solvers.specs.declared.additions.Marks.{Marks}
+use Rattle.compared_solvers.proofs.MarkFacts.{bounded-marks}
+use Rattle.compared_solvers.proofs.additions.bound.Goals as goal
 
 pub returns : goal.returns
 returns g c =

@@ -2,7 +2,7 @@
 ghost use Rattle.std.specs.Prelude.{◌≡◌, false, IsTrue, IfSome, Contains};
 ghost use Rattle.lit_core.specs.Literals.{valuation};
 ghost use Rattle.ground_core.specs.Meaning.{Satisfies};
-ghost use Rattle.solving_cases.specs.Marking.{AreMarks};
+ghost use Rattle.compared_solvers.specs.Marking.{AreMarks};
 
 use crate::faults::Fault;
 use ground_core::{Budget, Grow, Halt, LitList, Verdict};

@@ -2,7 +2,7 @@
 use Rattle.std.specs.Prelude.{◌≡◌, All, length}
 use Rattle.ground_core.specs.Problems.{ProblemState}
 use Rattle.ground_core.specs.Growing.{IsSelector}
-use Rattle.solving_cases.specs.declared.additions.Marks.{Marks}
+use Rattle.compared_solvers.specs.declared.additions.Marks.{Marks}
 
 -- its counts, selectors that may be retired, and those that are
 pub record AreMarks (p : ProblemState) (m : Marks) : Type 0 where

@@ -1,6 +1,6 @@
 //! The solver that callers keep, and brute force, each beside what is known of its problem.
 ghost use Rattle.std.specs.Prelude.{◌≡◌, [], IfOk};
-ghost use Rattle.solving_cases.specs.Marking.{AreMarks};
+ghost use Rattle.compared_solvers.specs.Marking.{AreMarks};
 
 use crate::additions::{Answer, Event, Marks, apply, ask};
 use crate::faults::Fault;
@@ -21,7 +21,7 @@ pub struct Kept {
 
 impl Model for Kept {
     ghost use Rattle.ground_core.specs.Problems.{ProblemState};
-    ghost use Rattle.solving_cases.specs.Marking.{AreMarks};
+    ghost use Rattle.compared_solvers.specs.Marking.{AreMarks};
 
     ghost Value = { ProblemState };
 
@@ -39,7 +39,7 @@ pub struct Force {
 
 impl Model for Force {
     ghost use Rattle.ground_core.specs.Problems.{ProblemState};
-    ghost use Rattle.solving_cases.specs.Marking.{AreMarks};
+    ghost use Rattle.compared_solvers.specs.Marking.{AreMarks};
 
     ghost Value = { ProblemState };
 

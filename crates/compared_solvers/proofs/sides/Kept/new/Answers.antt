@@ -1,6 +1,6 @@
 use Rattle.std.proofs.Common.{sym, ◌∙◌}
-use Rattle.solving_cases.proofs.MarkFacts.{alike-marks}
-use Rattle.solving_cases.proofs.sides.Kept.new.Goals as goal
+use Rattle.compared_solvers.proofs.MarkFacts.{alike-marks}
+use Rattle.compared_solvers.proofs.sides.Kept.new.Goals as goal
 
 pub invariant_of-result : goal.invariant_of-result
 invariant_of-result c = alike-marks c.args.problem.now c.in_ok-solver.solver.kept.problem c.marks_of.result

@@ -1,8 +1,8 @@
 -- Rules of decisions.
 use Rattle.std.specs.Prelude.{◌≡◌, ℕ, ◌+◌, List, length}
 use Rattle.chooser.specs.Choosing.{IsFirstGreatest}
-use Rattle.solving_cases.specs.declared.rules.Rule.{Rule}
-use Rattle.solving_cases.specs.declared.rules.Rule.TheVariants.{Greatest, First, Last}
+use Rattle.compared_solvers.specs.declared.rules.Rule.{Rule}
+use Rattle.compared_solvers.specs.declared.rules.Rule.TheVariants.{Greatest, First, Last}
 
 -- of these scores the rule chooses the one at this place
 abbrev pub IsChosen : Rule → List ℕ → ℕ → Type 0

@@ -12,8 +12,8 @@ use Rattle.ground_core.specs.Growth.{next_lit, with_bound, with_exclusion, falsi
 use Rattle.ground_core.specs.Growing.{IsSelector, with_retired}
 use Rattle.ground_core.proofs.AdditionFacts.{nothing-added}
 use Rattle.ground_core.proofs.GrowthFacts.{exclusions-select, say-no-more}
-use Rattle.solving_cases.specs.declared.additions.Marks.{Marks}
-use Rattle.solving_cases.specs.Marking.{AreMarks}
+use Rattle.compared_solvers.specs.declared.additions.Marks.{Marks}
+use Rattle.compared_solvers.specs.Marking.{AreMarks}
 
 one-more : (n : ℕ) (ls : List Lit) → AreLitsOf n ls → AreLitsOf (n + 1) ls
 one-more n ls h = λ k d lt. let x = h k d lt in let y : (get_or ls k d).var.0 ≤ n = x.1 in (x.0, omega (arith, y))
