@@ -4,3 +4,5 @@ mod Steps
 mod Widening
 mod Walks
 mod Noting
+mod Reaching
+mod Counting

@@ -1,3 +1,4 @@
 pub mod Ranges
 pub mod Notes
 pub mod Measures
+pub mod Counted

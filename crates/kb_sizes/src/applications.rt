@@ -7,10 +7,11 @@ ghost use Rattle.reading_stages.specs.SizesStage.{capped};
 
 use crate::capped::times;
 use crate::counts::values;
-use kb_logic::{DomainList, Signed, Term, Vocabulary};
+use crate::domains::Domains;
+use kb_logic::{Signed, Term, Vocabulary};
 
 #[cycle(applications)]
-pub fn in_term(vocab: &Vocabulary, domains: &DomainList, term: &Term) -> u64
+pub fn in_term(vocab: &Vocabulary, domains: &Domains<'_, '_>, term: &Term) -> u64
     ensures { result ≡ capped (application_count vocab.now domains.now (term_view term.now)) }
 {
     match term {
@@ -28,7 +29,7 @@ pub fn in_term(vocab: &Vocabulary, domains: &DomainList, term: &Term) -> u64
 }
 
 #[cycle(applications)]
-pub fn in_terms(vocab: &Vocabulary, domains: &DomainList, terms: &[Term]) -> u64
+pub fn in_terms(vocab: &Vocabulary, domains: &Domains<'_, '_>, terms: &[Term]) -> u64
     ensures { result ≡ capped (applications_count vocab.now domains.now (terms_of (map term_view terms.now))) }
 {
     let mut count = 1u64;
@@ -39,7 +40,7 @@ pub fn in_terms(vocab: &Vocabulary, domains: &DomainList, terms: &[Term]) -> u64
 }
 
 #[cycle(applications)]
-fn in_summands(vocab: &Vocabulary, domains: &DomainList, parts: &[Signed]) -> u64
+fn in_summands(vocab: &Vocabulary, domains: &Domains<'_, '_>, parts: &[Signed]) -> u64
     ensures { result ≡ capped (summands_count vocab.now domains.now (summands_of (map signed_view parts.now))) }
 {
     let mut count = 1u64;

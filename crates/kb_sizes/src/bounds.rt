@@ -27,9 +27,10 @@ ghost use Rattle.kb_sizes.specs.Ranges.{is_wide, part_bounds, range_view, ranges
 
 use crate::counts::{assignments, value_type};
 use crate::domain_integers::{range_if, type_range};
+use crate::domains::Domains;
 use crate::ranges::Range;
 use crate::scopes::enter;
-use kb_logic::{Bound, DomainList, Formula, Memory, Signed, Term, Vocabulary};
+use kb_logic::{Bound, Formula, Memory, Signed, Term, Vocabulary};
 
 /// The bounds of a term, and whether these or those of a prefix of it are too wide.
 #[derive(Clone, Copy)]
@@ -69,7 +70,7 @@ fn or_wide(wide: bool, range: Range) -> bool
 #[cycle(bounds)]
 pub fn term(
     vocab: &Vocabulary,
-    domains: &DomainList,
+    domains: &Domains<'_, '_>,
     ranges: &[Range],
     scope: &mut Vec<u32>,
     wide: &mut Vec<bool>,
@@ -93,7 +94,7 @@ pub fn term(
 #[cycle(bounds)]
 fn node(
     vocab: &Vocabulary,
-    domains: &DomainList,
+    domains: &Domains<'_, '_>,
     ranges: &[Range],
     scope: &mut Vec<u32>,
     wide: &mut Vec<bool>,
@@ -132,7 +133,7 @@ fn node(
 #[cycle(bounds)]
 fn sum(
     vocab: &Vocabulary,
-    domains: &DomainList,
+    domains: &Domains<'_, '_>,
     ranges: &[Range],
     scope: &mut Vec<u32>,
     wide: &mut Vec<bool>,
@@ -163,7 +164,7 @@ fn sum(
 #[cycle(bounds)]
 fn product(
     vocab: &Vocabulary,
-    domains: &DomainList,
+    domains: &Domains<'_, '_>,
     ranges: &[Range],
     scope: &mut Vec<u32>,
     wide: &mut Vec<bool>,
@@ -194,7 +195,7 @@ fn product(
 #[cycle(bounds)]
 fn terms(
     vocab: &Vocabulary,
-    domains: &DomainList,
+    domains: &Domains<'_, '_>,
     ranges: &[Range],
     scope: &mut Vec<u32>,
     wide: &mut Vec<bool>,
@@ -216,7 +217,7 @@ fn terms(
 #[cycle(bounds)]
 pub fn formula(
     vocab: &Vocabulary,
-    domains: &DomainList,
+    domains: &Domains<'_, '_>,
     ranges: &[Range],
     scope: &mut Vec<u32>,
     wide: &mut Vec<bool>,
@@ -260,7 +261,7 @@ pub fn formula(
 #[cycle(bounds)]
 fn under(
     vocab: &Vocabulary,
-    domains: &DomainList,
+    domains: &Domains<'_, '_>,
     ranges: &[Range],
     scope: &mut Vec<u32>,
     wide: &mut Vec<bool>,
@@ -283,7 +284,7 @@ fn under(
 #[cycle(bounds)]
 fn formulas(
     vocab: &Vocabulary,
-    domains: &DomainList,
+    domains: &Domains<'_, '_>,
     ranges: &[Range],
     scope: &mut Vec<u32>,
     wide: &mut Vec<bool>,

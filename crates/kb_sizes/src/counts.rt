@@ -5,18 +5,16 @@ ghost use Rattle.kb_logic.specs.Structures.{choices, domain_at};
 ghost use Rattle.reading_stages.specs.SizesStage.{capped};
 
 use crate::capped::times;
-use kb_logic::{Bound, DomainList, Vocabulary};
+use crate::domains::Domains;
+use kb_logic::{Bound, Vocabulary};
 
-pub fn elements(domains: &DomainList, ty: u32) -> u64
+pub fn elements(domains: &Domains<'_, '_>, ty: u32) -> u64
     ensures { result ≡ length (domain_at domains.now ty) }
 {
-    match domains.get(ty as usize) {
-        Some(domain) => domain.len() as u64,
-        None => 0,
-    }
+    domains.count(ty as usize)
 }
 
-fn elements_if(domains: &DomainList, ty: Option<u32>) -> u64
+fn elements_if(domains: &Domains<'_, '_>, ty: Option<u32>) -> u64
     ensures { result ≡ length (domain_if domains.now ty) }
 {
     match ty {
@@ -36,14 +34,14 @@ pub fn value_type(vocab: &Vocabulary, symbol: u32) -> Option<u32>
 }
 
 /// How many values a function may have.
-pub fn values(vocab: &Vocabulary, domains: &DomainList, symbol: u32) -> u64
+pub fn values(vocab: &Vocabulary, domains: &Domains<'_, '_>, symbol: u32) -> u64
     ensures { result ≡ length (domain_if domains.now (value_type_of vocab.now symbol)) }
 {
     elements_if(domains, value_type(vocab, symbol))
 }
 
 /// How many assignments of elements to these variables there are.
-pub fn assignments(domains: &DomainList, bounds: &[Bound]) -> u64
+pub fn assignments(domains: &Domains<'_, '_>, bounds: &[Bound]) -> u64
     ensures { result ≡ capped (length (choices domains.now bounds.now)) }
 {
     let mut count = 1u64;

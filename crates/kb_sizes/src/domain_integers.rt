@@ -5,6 +5,7 @@ ghost use Rattle.kb_logic.specs.Structures.{domain_at};
 ghost use Rattle.kb_sizes.specs.Ranges.{range_view, ranges_in};
 ghost use Rattle.std.specs.Option.{option_map};
 
+use crate::domains::Domains;
 use crate::ranges::Range;
 use kb_logic::{DomainList, Elem, Memory};
 use std::alloc::Global;
@@ -64,7 +65,7 @@ fn range_at(ranges: &[Range], ty: u32) -> Option<Range>
 }
 
 /// The range of a type.
-pub fn type_range(domains: &DomainList, ranges: &[Range], ty: u32) -> Range
+pub fn type_range(domains: &Domains<'_, '_>, ranges: &[Range], ty: u32) -> Range
     requires { map range_view ranges.now ≡ ranges_in domains.now }
     ensures { range_view result ≡ range_of (domain_at domains.now ty) }
 {
@@ -75,7 +76,7 @@ pub fn type_range(domains: &DomainList, ranges: &[Range], ty: u32) -> Range
 }
 
 /// The range of a type that may be missing.
-pub fn range_if(domains: &DomainList, ranges: &[Range], ty: Option<u32>) -> Range
+pub fn range_if(domains: &Domains<'_, '_>, ranges: &[Range], ty: Option<u32>) -> Range
     requires { map range_view ranges.now ≡ ranges_in domains.now }
     ensures { range_view result ≡ range_of (domain_if domains.now ty) }
 {

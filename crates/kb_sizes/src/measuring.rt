@@ -1,14 +1,21 @@
 //! The stage of sizes.
-ghost use Rattle.std.specs.Prelude.{◌≡◌, fold, slice_get, IfErr, IfOk, OnOk, Some};
+ghost use Rattle.std.specs.Prelude.{◌≡◌, fold, map, slice_get, IfErr, IfOk, OnOk, Some};
+ghost use Rattle.std.specs.List.{AllByRecursion};
+ghost use Rattle.kb_sizes.specs.Counted.{elements_of, IsCountable};
 ghost use Rattle.kb_sizes.specs.Measures.{FailsWith, measure_view};
+ghost use Rattle.kb_sizes.specs.Ranges.{range_view, ranges_in};
 ghost use Rattle.reading_stages.specs.SizesStage.{capped, size_noted, size_uses, weight_in, AreSizesOf};
 ghost use Rattle.reading_stages.specs.TypedFiles.{TypedTheoryTree};
 ghost use Rattle.type_derivation.specs.TypedViews.{typed_view};
 
 use crate::domain_integers::domain_ranges;
+use crate::domains::Domains;
 use crate::measures::Measure;
 use crate::notes::{note_blocks, note_symbols, note_theory, note_weight};
+use crate::ranges::Range;
+use crate::type_sizes::{counts_of, ranges_of};
 use crate::weights::{atoms, weight};
+use data_domains::types::TypeData;
 use fo_syntax::KbError;
 use kb_logic::{DomainList, Memory};
 use reading_stages::Earliest;
@@ -19,9 +26,11 @@ fn note_all(
     alloc: Global,
     kb: &TypedKb,
     theory: usize,
-    domains: &DomainList,
+    domains: &Domains<'_, '_>,
+    ranges: &[Range],
     earliest: &mut Earliest,
 ) -> Result<(), Memory>
+    requires known { map range_view ranges.now ≡ ranges_in domains.now }
     ensures { OnOk result (earliest.new.first ≡ fold size_noted earliest.old.first (size_uses (typed_view kb.now) theory
         domains.now)) }
 {
@@ -31,15 +40,14 @@ fn note_all(
         domains,
         kb.vocab.symbols.as_slice(),
     );
-    let ranges = domain_ranges(alloc, domains)?;
-    note_theory(alloc, kb, theory, domains, &ranges, earliest)?;
-    note_blocks(alloc, kb, domains, &ranges, earliest)?;
+    note_theory(alloc, kb, theory, domains, ranges, earliest)?;
+    note_blocks(alloc, kb, domains, ranges, earliest)?;
     note_weight(kb, theory, domains, earliest);
     Ok(())
 }
 
 /// The weight of the theory with this number, where there is one.
-fn theory_weight(kb: &TypedKb, theory: usize, domains: &DomainList) -> u64
+fn theory_weight(kb: &TypedKb, theory: usize, domains: &Domains<'_, '_>) -> u64
     ensures { (t : TypedTheoryTree) → slice_get (typed_view kb.now).theories theory ≡ Some t → result
         ≡ capped (weight_in
         (typed_view kb.now) domains.now t) }
@@ -47,6 +55,31 @@ fn theory_weight(kb: &TypedKb, theory: usize, domains: &DomainList) -> u64
     match kb.theories.get(theory) {
         Some(named) => weight(&kb.vocab, domains, &named.value, kb.terms.as_slice()),
         None => 0,
+    }
+}
+
+/// The same over domains of which the numbers of elements and the ranges are known.
+fn measure_over(
+    alloc: Global,
+    kb: &TypedKb,
+    theory: usize,
+    domains: &Domains<'_, '_>,
+    ranges: &[Range],
+) -> Result<Measure, KbError>
+    requires known { map range_view ranges.now ≡ ranges_in domains.now }
+    ensures ok { IfOk result (λ m. AreSizesOf (typed_view kb.now) theory domains.now (measure_view m)) }
+    ensures err { IfErr result (FailsWith (typed_view kb.now) theory domains.now) }
+{
+    let mut earliest = Earliest::new();
+    match note_all(alloc, kb, theory, domains, ranges, &mut earliest) {
+        Ok(()) => match earliest.first {
+            None => Ok(Measure {
+                atoms: atoms(&kb.vocab, domains),
+                weight: theory_weight(kb, theory, domains),
+            }),
+            Some(fault) => Err(KbError::Refused(fault)),
+        },
+        Err(_) => Err(KbError::Memory),
     }
 }
 
@@ -61,15 +94,28 @@ pub fn measure(
     ensures ok { IfOk result (λ m. AreSizesOf (typed_view kb.now) theory domains.now (measure_view m)) }
     ensures err { IfErr result (FailsWith (typed_view kb.now) theory domains.now) }
 {
-    let mut earliest = Earliest::new();
-    match note_all(alloc, kb, theory, domains, &mut earliest) {
-        Ok(()) => match earliest.first {
-            None => Ok(Measure {
-                atoms: atoms(&kb.vocab, domains),
-                weight: theory_weight(kb, theory, domains),
-            }),
-            Some(fault) => Err(KbError::Refused(fault)),
-        },
-        Err(_) => Err(KbError::Memory),
-    }
+    let Ok(ranges) = domain_ranges(alloc, domains) else {
+        return Err(KbError::Memory);
+    };
+    measure_over(alloc, kb, theory, &Domains::listed(domains), &ranges)
+}
+
+/// The same over the elements of types, which are counted by their sets and not listed.
+pub fn measure_types(
+    alloc: Global,
+    kb: &TypedKb,
+    theory: usize,
+    types: &[TypeData<'_>],
+) -> Result<Measure, KbError>
+    requires { AllByRecursion IsCountable types.now }
+    ensures ok { IfOk result (λ m. AreSizesOf (typed_view kb.now) theory (map elements_of types.now) (measure_view m)) }
+    ensures err { IfErr result (FailsWith (typed_view kb.now) theory (map elements_of types.now)) }
+{
+    let Ok(counts) = counts_of(alloc, types) else {
+        return Err(KbError::Memory);
+    };
+    let Ok(ranges) = ranges_of(alloc, types) else {
+        return Err(KbError::Memory);
+    };
+    measure_over(alloc, kb, theory, &Domains::counted(types, counts), &ranges)
 }

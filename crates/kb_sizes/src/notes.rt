@@ -18,9 +18,10 @@ ghost use Rattle.type_derivation.specs.TypedViews.{named_term_view, named_theory
 
 use crate::bounds::{formula, term};
 use crate::capped::plus;
+use crate::domains::Domains;
 use crate::ranges::Range;
 use crate::weights::{atoms_of, weight};
-use kb_logic::{DomainList, Formula, Memory, Symbol, Term, Theory, Vocabulary};
+use kb_logic::{Formula, Memory, Symbol, Term, Theory, Vocabulary};
 use kb_text::K;
 use reading_stages::Earliest;
 use std::alloc::Global;
@@ -42,7 +43,7 @@ fn passes_limit(before: u64, after: u64) -> bool
 pub fn note_symbols(
     earliest: &mut Earliest,
     places: &[usize],
-    domains: &DomainList,
+    domains: &Domains<'_, '_>,
     symbols: &[Symbol],
 )
     ensures { earliest.new.first ≡ fold size_noted earliest.old.first (uses_of_symbols domains.now 0 (zip places.now
@@ -75,7 +76,7 @@ fn note_terms(earliest: &mut Earliest, places: &[usize], wide: &[bool])
 fn wide_in_sentences(
     alloc: Global,
     vocab: &Vocabulary,
-    domains: &DomainList,
+    domains: &Domains<'_, '_>,
     ranges: &[Range],
     sentences: &[Formula],
 ) -> Result<Vec<bool>, Memory>
@@ -95,7 +96,7 @@ fn wide_in_sentences(
 fn wide_in_term(
     alloc: Global,
     vocab: &Vocabulary,
-    domains: &DomainList,
+    domains: &Domains<'_, '_>,
     ranges: &[Range],
     of: &Term,
 ) -> Result<Vec<bool>, Memory>
@@ -112,7 +113,7 @@ fn wide_in_term(
 fn note_sentences(
     alloc: Global,
     vocab: &Vocabulary,
-    domains: &DomainList,
+    domains: &Domains<'_, '_>,
     ranges: &[Range],
     theory: &Named<Theory>,
     places: &[usize],
@@ -133,7 +134,7 @@ pub fn note_theory(
     alloc: Global,
     kb: &TypedKb,
     theory: usize,
-    domains: &DomainList,
+    domains: &Domains<'_, '_>,
     ranges: &[Range],
     earliest: &mut Earliest,
 ) -> Result<(), Memory>
@@ -163,7 +164,7 @@ pub fn note_theory(
 fn note_block(
     alloc: Global,
     vocab: &Vocabulary,
-    domains: &DomainList,
+    domains: &Domains<'_, '_>,
     ranges: &[Range],
     block: &Named<Term>,
     places: &[usize],
@@ -182,7 +183,7 @@ fn note_block(
 pub fn note_blocks(
     alloc: Global,
     kb: &TypedKb,
-    domains: &DomainList,
+    domains: &Domains<'_, '_>,
     ranges: &[Range],
     earliest: &mut Earliest,
 ) -> Result<(), Memory>
@@ -210,7 +211,7 @@ pub fn note_blocks(
 }
 
 /// Notes the weight of the theory with this number, where there is one.
-pub fn note_weight(kb: &TypedKb, theory: usize, domains: &DomainList, earliest: &mut Earliest)
+pub fn note_weight(kb: &TypedKb, theory: usize, domains: &Domains<'_, '_>, earliest: &mut Earliest)
     ensures { earliest.new.first ≡ fold size_noted earliest.old.first (flat_map (weight_uses (typed_view kb.now)
         domains.now) (chosen_of (typed_view kb.now).theories (typed_view kb.now).places.theories theory)) }
 {

@@ -15,11 +15,12 @@ ghost use Rattle.reading_stages.specs.SizesStage.{capped};
 use crate::applications::{in_term, in_terms};
 use crate::capped::{plus, times};
 use crate::counts::assignments;
-use kb_logic::{DomainList, Formula, Signed, Term, Vocabulary};
+use crate::domains::Domains;
+use kb_logic::{Formula, Signed, Term, Vocabulary};
 
 /// The occurrences in a term, where the variables in scope have `n` assignments.
 #[cycle(occurrences)]
-fn term(vocab: &Vocabulary, domains: &DomainList, of: &Term, n: u64) -> u64
+fn term(vocab: &Vocabulary, domains: &Domains<'_, '_>, of: &Term, n: u64) -> u64
     ensures { result ≡ capped (term_occurrences vocab.now domains.now (term_view of.now) n) }
 {
     match of {
@@ -41,7 +42,7 @@ fn term(vocab: &Vocabulary, domains: &DomainList, of: &Term, n: u64) -> u64
 }
 
 #[cycle(occurrences)]
-fn terms(vocab: &Vocabulary, domains: &DomainList, all: &[Term], n: u64) -> u64
+fn terms(vocab: &Vocabulary, domains: &Domains<'_, '_>, all: &[Term], n: u64) -> u64
     ensures { result ≡ capped (terms_occurrences vocab.now domains.now (terms_of (map term_view all.now)) n) }
 {
     let mut count = 0u64;
@@ -52,7 +53,7 @@ fn terms(vocab: &Vocabulary, domains: &DomainList, all: &[Term], n: u64) -> u64
 }
 
 #[cycle(occurrences)]
-fn summands(vocab: &Vocabulary, domains: &DomainList, parts: &[Signed], n: u64) -> u64
+fn summands(vocab: &Vocabulary, domains: &Domains<'_, '_>, parts: &[Signed], n: u64) -> u64
     ensures { result ≡ capped (summands_occurrences vocab.now domains.now (summands_of (map signed_view parts.now)) n) }
 {
     let mut count = 0u64;
@@ -64,7 +65,7 @@ fn summands(vocab: &Vocabulary, domains: &DomainList, parts: &[Signed], n: u64) 
 
 /// The occurrences in a formula, where the variables in scope have `n` assignments.
 #[cycle(occurrences)]
-fn formula(vocab: &Vocabulary, domains: &DomainList, of: &Formula, n: u64) -> u64
+fn formula(vocab: &Vocabulary, domains: &Domains<'_, '_>, of: &Formula, n: u64) -> u64
     ensures { result ≡ capped (occurrences vocab.now domains.now (formula_view of.now) n) }
 {
     match of {
@@ -133,7 +134,7 @@ fn formula(vocab: &Vocabulary, domains: &DomainList, of: &Formula, n: u64) -> u6
 }
 
 #[cycle(occurrences)]
-fn formulas(vocab: &Vocabulary, domains: &DomainList, all: &[Formula], n: u64) -> u64
+fn formulas(vocab: &Vocabulary, domains: &Domains<'_, '_>, all: &[Formula], n: u64) -> u64
     ensures { result ≡ capped (all_occurrences vocab.now domains.now (formulas_of (map formula_view all.now)) n) }
 {
     let mut count = 0u64;
@@ -144,21 +145,21 @@ fn formulas(vocab: &Vocabulary, domains: &DomainList, all: &[Formula], n: u64) -
 }
 
 /// The occurrences in a formula under so many assignments.
-pub fn formula_in(vocab: &Vocabulary, domains: &DomainList, of: &Formula, n: u64) -> u64
+pub fn formula_in(vocab: &Vocabulary, domains: &Domains<'_, '_>, of: &Formula, n: u64) -> u64
     ensures { result ≡ capped (occurrences vocab.now domains.now (formula_view of.now) n) }
 {
     formula(vocab, domains, of, n)
 }
 
 /// The occurrences in a sentence.
-pub fn formula_occurrences(vocab: &Vocabulary, domains: &DomainList, of: &Formula) -> u64
+pub fn formula_occurrences(vocab: &Vocabulary, domains: &Domains<'_, '_>, of: &Formula) -> u64
     ensures { result ≡ capped (occurrences vocab.now domains.now (formula_view of.now) 1) }
 {
     formula(vocab, domains, of, 1)
 }
 
 /// The occurrences in a term that may be asked for.
-pub fn asked(vocab: &Vocabulary, domains: &DomainList, of: &Term) -> u64
+pub fn asked(vocab: &Vocabulary, domains: &Domains<'_, '_>, of: &Term) -> u64
     ensures { result ≡ capped (asked_occurrences vocab.now domains.now (term_view of.now)) }
 {
     plus(in_term(vocab, domains, of), term(vocab, domains, of, 1))

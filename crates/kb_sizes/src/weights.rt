@@ -17,18 +17,19 @@ ghost use Rattle.reading_stages.specs.SizesStage.{capped};
 
 use crate::capped::{plus, times};
 use crate::counts::{assignments, elements};
+use crate::domains::Domains;
 use crate::occurrences::{asked, formula_in, formula_occurrences};
-use kb_logic::{Definition, DomainList, Formula, Rule, Symbol, Term, Theory, Vocabulary};
+use kb_logic::{Definition, Formula, Rule, Symbol, Term, Theory, Vocabulary};
 use type_derivation::Named;
 
-fn type_size(domains: &DomainList, ty: &u32) -> u64
+fn type_size(domains: &Domains<'_, '_>, ty: &u32) -> u64
     ensures { result ≡ length (domain_at domains.now ty.now) }
 {
     elements(domains, *ty)
 }
 
 /// How many tuples of elements of these types there are.
-fn tuples(domains: &DomainList, types: &[u32]) -> u64
+fn tuples(domains: &Domains<'_, '_>, types: &[u32]) -> u64
     ensures { result ≡ capped (length (tuples_of domains.now types.now)) }
 {
     let mut count = 1u64;
@@ -38,7 +39,7 @@ fn tuples(domains: &DomainList, types: &[u32]) -> u64
     count
 }
 
-fn values_of(domains: &DomainList, value: Option<u32>) -> u64
+fn values_of(domains: &Domains<'_, '_>, value: Option<u32>) -> u64
     ensures { result ≡ value_count domains.now value }
 {
     match value {
@@ -48,7 +49,7 @@ fn values_of(domains: &DomainList, value: Option<u32>) -> u64
 }
 
 /// The ground atoms of a symbol.
-pub fn atoms_of(domains: &DomainList, symbol: &Symbol) -> u64
+pub fn atoms_of(domains: &Domains<'_, '_>, symbol: &Symbol) -> u64
     ensures { result ≡ capped (length (tuples_of domains.now symbol.now.args) * value_count domains.now
         symbol.now.value) }
 {
@@ -59,7 +60,7 @@ pub fn atoms_of(domains: &DomainList, symbol: &Symbol) -> u64
 }
 
 /// The ground atoms of all symbols.
-pub fn atoms(vocab: &Vocabulary, domains: &DomainList) -> u64
+pub fn atoms(vocab: &Vocabulary, domains: &Domains<'_, '_>) -> u64
     ensures { result ≡ capped (atom_count vocab.now domains.now) }
 {
     let mut count = 0u64;
@@ -69,7 +70,7 @@ pub fn atoms(vocab: &Vocabulary, domains: &DomainList) -> u64
     count
 }
 
-fn sentences(vocab: &Vocabulary, domains: &DomainList, all: &[Formula]) -> u64
+fn sentences(vocab: &Vocabulary, domains: &Domains<'_, '_>, all: &[Formula]) -> u64
     ensures { result ≡ capped (sum_by (λ f. occurrences vocab.now domains.now f 1) (map formula_view all.now)) }
 {
     let mut count = 0u64;
@@ -79,7 +80,7 @@ fn sentences(vocab: &Vocabulary, domains: &DomainList, all: &[Formula]) -> u64
     count
 }
 
-fn body(vocab: &Vocabulary, domains: &DomainList, rule: &Rule, n: u64) -> u64
+fn body(vocab: &Vocabulary, domains: &Domains<'_, '_>, rule: &Rule, n: u64) -> u64
     ensures { result ≡ capped (body_occurrences vocab.now domains.now (rule_view rule.now) n) }
 {
     if rule.has_body {
@@ -89,7 +90,7 @@ fn body(vocab: &Vocabulary, domains: &DomainList, rule: &Rule, n: u64) -> u64
     }
 }
 
-fn terms(vocab: &Vocabulary, domains: &DomainList, all: &[Named<Term>]) -> u64
+fn terms(vocab: &Vocabulary, domains: &Domains<'_, '_>, all: &[Named<Term>]) -> u64
     ensures { result ≡ capped (sum_by (asked_occurrences vocab.now domains.now) (map (λ t. t.term) (map named_term_view
         all.now))) }
 {
@@ -100,14 +101,14 @@ fn terms(vocab: &Vocabulary, domains: &DomainList, all: &[Named<Term>]) -> u64
     count
 }
 
-fn rule_weight(vocab: &Vocabulary, domains: &DomainList, rule: &Rule) -> u64
+fn rule_weight(vocab: &Vocabulary, domains: &Domains<'_, '_>, rule: &Rule) -> u64
     ensures { result ≡ capped (rule_occurrences vocab.now domains.now (rule_view rule.now)) }
 {
     let heads = assignments(domains, rule.vars.as_slice());
     plus(plus(1, heads), body(vocab, domains, rule, heads))
 }
 
-fn rules(vocab: &Vocabulary, domains: &DomainList, all: &[Rule]) -> u64
+fn rules(vocab: &Vocabulary, domains: &Domains<'_, '_>, all: &[Rule]) -> u64
     ensures { result ≡ capped (sum_by (rule_occurrences vocab.now domains.now) (map rule_view all.now)) }
 {
     let mut count = 0u64;
@@ -117,7 +118,7 @@ fn rules(vocab: &Vocabulary, domains: &DomainList, all: &[Rule]) -> u64
     count
 }
 
-fn definitions(vocab: &Vocabulary, domains: &DomainList, all: &[Definition]) -> u64
+fn definitions(vocab: &Vocabulary, domains: &Domains<'_, '_>, all: &[Definition]) -> u64
     ensures { result ≡ capped (sum_by (definition_occurrences vocab.now domains.now) (map definition_view all.now)) }
 {
     let mut count = 0u64;
@@ -130,7 +131,7 @@ fn definitions(vocab: &Vocabulary, domains: &DomainList, all: &[Definition]) -> 
 /// The weight of a theory, with all term blocks.
 pub fn weight(
     vocab: &Vocabulary,
-    domains: &DomainList,
+    domains: &Domains<'_, '_>,
     theory: &Theory,
     blocks: &[Named<Term>],
 ) -> u64

@@ -1,18 +1,48 @@
--- What an accepted structure says is filled without a clash.
-use Rattle.std.proofs.Common.{ℕ, List, inl}
-use Rattle.kb_logic.specs.declared.elements.Elem.{Elem}
+-- What an accepted structure says is filled without a clash, and its sizes are those of what it means.
+use Rattle.std.proofs.Common.{◌≡◌, ℕ, List, refl, sym, ap, ◌∙◌, subst, inl, inr}
+use Rattle.kb_logic.specs.KnownAtoms.{KnownAtoms}
 use Rattle.fo_syntax.specs.BlockTrees as raw
+use Rattle.fo_syntax.specs.declared.error.KbError.{KbError}
+use Rattle.fo_syntax.specs.declared.error.KbError.TheVariants.{Refused, Memory}
+use Rattle.reading_stages.specs.DataAnswer.{given_by, IsDataOf}
+use Rattle.reading_stages.specs.DataDomains.{domains_of}
 use Rattle.reading_stages.specs.DataEntries.{Said}
+use Rattle.reading_stages.specs.SizesStage.{Sizes, AreSizesOf}
 use Rattle.reading_stages.specs.TypedFiles.{TypedFile}
 use Rattle.structure_laws.proofs.Rows.{refusals_are_parted}
+use Rattle.data_domains.specs.declared.types.TypeData.{TypeData}
 use Rattle.data_filling.specs.Filling.{AreAccepted}
-use Rattle.structure_reader.specs.DataReads.{IsAccepted}
+use Rattle.kb_sizes.specs.Measures.{FailsWith}
+use Rattle.structure_reader.specs.DataReads.{DataOrSizesFail, IsAccepted, IsMeasuredData}
 
-pub can_be_filled : (f : TypedFile) (theory : ℕ) (s : raw.Structure) (es : List Said) (domains : List (List Elem))
-    → IsAccepted f theory s es domains → AreAccepted f.vocabulary es
-can_be_filled f theory s es domains h = record {
+pub can_be_filled : (f : TypedFile) (theory : ℕ) (s : raw.Structure) (es : List Said) (types : List TypeData)
+    → IsAccepted f theory s es types → AreAccepted f.vocabulary es
+can_be_filled f theory s es types h = record {
   structure = s;
   places = f.places.types;
   said = h.said;
   accepted = λ q r. h.accepted q ((refusals_are_parted f theory s q).1 (inl r));
 }
+
+is_meant : (f : TypedFile) (theory : ℕ) (s : raw.Structure) (es : List Said) (types : List TypeData)
+    → IsAccepted f theory s es types → (known : KnownAtoms) → known ≡ given_by f.vocabulary es
+    → IsDataOf f theory s known
+is_meant f theory s es types h known is = record {
+  accepted = h.accepted;
+  given = is ∙ ap (given_by f.vocabulary) h.said;
+}
+
+pub is_measured : (f : TypedFile) (theory : ℕ) (s : raw.Structure) (es : List Said) (types : List TypeData)
+    → IsAccepted f theory s es types → (known : KnownAtoms) → known ≡ given_by f.vocabulary es → (sizes : Sizes)
+    → AreSizesOf f theory (domains_of f.vocabulary.types es) sizes → IsMeasuredData f theory s known sizes
+is_measured f theory s es types h known is sizes sized = record {
+  given = is_meant f theory s es types h known is;
+  sized = subst (λ (k : KnownAtoms). AreSizesOf f theory k.domains sizes) (sym is) sized;
+}
+
+pub sizes_refused : (f : TypedFile) (theory : ℕ) (s : raw.Structure) (es : List Said) (types : List TypeData)
+    → IsAccepted f theory s es types → (e : KbError) → FailsWith f theory (domains_of f.vocabulary.types es) e
+    → DataOrSizesFail f theory s e
+sizes_refused f theory s es types h Memory refused = tt
+sizes_refused f theory s es types h (Refused q) refused =
+    inr (given_by f.vocabulary es, is_meant f theory s es types h (given_by f.vocabulary es) refl, refused)

@@ -11,6 +11,8 @@ use Rattle.reading_stages.specs.DataDomains.{cells_by, domains_of}
 use Rattle.data_entries.specs.EntryViews.{cell_view}
 use Rattle.data_domains.specs.TypeSets.{AreTypesOf}
 use Rattle.data_domains.specs.declared.types.TypeData.{TypeData}
+use Rattle.data_domains.proofs.Looked.{some_beside}
+use Rattle.kb_sizes.specs.Counted.{IsCountable}
 
 -- one item more of which each one after it makes all
 pub next_all : {X : Type 0} (P : X → Type 0) (xs : List X) (i : ℕ) (d : X) → i < length xs → P (get_or xs i d)
@@ -51,3 +53,21 @@ nothing_more (x ∷ xs) = ap (λ ys. x ∷ ys) (nothing_more xs)
 pub at_end : (F : TypeData → List Elem) (old : List (List Elem)) (xs : List TypeData) (i : ℕ) → length xs ≤ i
     → old ++ map F (drop i xs) ≡ map F xs → old ≡ map F xs
 at_end F old xs i past inv = sym (nothing_more old) ∙ sym (ap (λ ys. old ++ map F ys) (drop_all i xs past)) ∙ inv
+
+-- ---- sets
+
+each_item : {X : Type 0} (P : X → Type 0) (xs : List X) → ((t : ℕ) (x : X) → slice_get xs t ≡ Some x → P x)
+    → AllByRecursion P xs
+each_item P [] h = tt
+each_item P (x ∷ xs) h = (h 0 x refl, each_item P xs (λ t y e. h (suc t) y e))
+
+-- each type's set has its elements
+pub all_countable : (decls : List TypeDecl) (es : List Said) (xs : List TypeData) → AreTypesOf decls es xs
+    → AllByRecursion IsCountable xs
+all_countable decls es xs all = each_item IsCountable xs (λ t x h.
+    let d = some_beside xs decls t x all.count h in
+    record {
+      cells = cells_by decls es t d.0;
+      same = all.cells t d.0 x d.1 h;
+      elements = all.elements t d.0 x d.1 h;
+    })

@@ -1,18 +1,18 @@
 -- What reading a structure returns.
 use Rattle.std.specs.Prelude.{◌≡◌, ◌⊎◌, ℕ, List, ⊤}
 use Rattle.kb_text.specs.declared.fault.KbFault.{KbFault}
-use Rattle.kb_logic.specs.declared.elements.Elem.{Elem}
 use Rattle.kb_logic.specs.KnownAtoms.{KnownAtoms}
 use Rattle.fo_syntax.specs.BlockTrees as raw
 use Rattle.fo_syntax.specs.declared.error.KbError.{KbError}
 use Rattle.fo_syntax.specs.declared.error.KbError.TheVariants.{Refused, Memory}
 use Rattle.reading_stages.specs.DataAnswer.{IsDataOf}
-use Rattle.reading_stages.specs.DataDomains.{domains_of}
 use Rattle.reading_stages.specs.DataEntries.{Said, said_in}
 use Rattle.reading_stages.specs.DataStage.{StructureRefuses}
 use Rattle.reading_stages.specs.Earliest.{IsEarliest}
 use Rattle.reading_stages.specs.SizesStage.{Sizes, AreSizesOf, SizesRefuse, size_uses}
 use Rattle.reading_stages.specs.TypedFiles.{TypedFile}
+use Rattle.data_domains.specs.TypeSets.{AreTypesOf}
+use Rattle.data_domains.specs.declared.types.TypeData.{TypeData}
 
 -- there was no memory, or the refusal is the earliest one of the stage of data
 abbrev pub DataFailsWith : TypedFile → ℕ → raw.Structure → KbError → Type 0
@@ -34,9 +34,9 @@ pub record IsMeasuredData (f : TypedFile) (theory : ℕ) (s : raw.Structure) (kn
   pub given : IsDataOf f theory s known
   pub sized : AreSizesOf f theory known.domains sizes
 
--- nothing of the structure is refused; it says this, and these are the domains that it gives
-pub record IsAccepted (f : TypedFile) (theory : ℕ) (s : raw.Structure) (es : List Said) (domains : List (List Elem))
+-- nothing of the structure is refused; it says this, and these are the types with the elements that it gives them
+pub record IsAccepted (f : TypedFile) (theory : ℕ) (s : raw.Structure) (es : List Said) (types : List TypeData)
     : Type 0 where
   pub accepted : (q : KbFault) → StructureRefuses f theory s q → ⊥
   pub said : es ≡ said_in f.vocabulary s
-  pub domains_are : domains ≡ domains_of f.vocabulary.types es
+  pub types_are : AreTypesOf f.vocabulary.types es types

@@ -39,7 +39,7 @@ fn elements_of(alloc: Global, cells: &[Cell<'_>]) -> Result<ElemList, Memory>
 }
 
 /// The elements of each type.
-pub fn domains_of(alloc: Global, types: &[TypeData<'_>]) -> Result<DomainList, Memory>
+fn domains_of(alloc: Global, types: &[TypeData<'_>]) -> Result<DomainList, Memory>
     ensures { IfOk result (λ ds. (decls : List AType) (es : List said.Said) → AreTypesOf decls es types.now
         → ds ≡ domain.domains_of decls es) }
 {
@@ -48,4 +48,12 @@ pub fn domains_of(alloc: Global, types: &[TypeData<'_>]) -> Result<DomainList, M
         domains.push(elements_of(alloc, &data.cells)?)?;
     }
     Ok(domains)
+}
+
+/// The same, after which the types are no longer in memory.
+pub fn domains_from(alloc: Global, types: Vec<TypeData<'_>>) -> Result<DomainList, Memory>
+    ensures { IfOk result (λ ds. (decls : List AType) (es : List said.Said) → AreTypesOf decls es types.entry.items
+        → ds ≡ domain.domains_of decls es) }
+{
+    domains_of(alloc, &types)
 }

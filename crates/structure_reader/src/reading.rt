@@ -7,30 +7,30 @@ ghost use Rattle.data_entries.specs.SaidViews.{said_view};
 ghost use Rattle.structure_reader.specs.DataReads.{DataFailsWith, DataOrSizesFail, IsAccepted, IsMeasuredData};
 ghost use Rattle.type_derivation.specs.TypedViews.{typed_view};
 
-use crate::domains::domains_of;
+use crate::domains::domains_from;
 use crate::noting::note_all;
-use data_domains::types::types_of;
+use crate::sizes::sizes_of;
+use data_domains::types::{TypeData, types_of};
 use data_entries::entries::entries;
 use data_entries::written::Entry;
 use data_filling::fill;
 use fo_syntax::{KbError, RawStructure};
-use kb_logic::DomainList;
-use kb_sizes::{Measure, measure};
+use kb_sizes::Measure;
 use partial_structures::Partial;
 use reading_stages::Earliest;
 use std::alloc::Global;
 use type_derivation::TypedKb;
 
-/// What a structure says beside the theory with this number, and the domains that it gives; or the earliest refusal of
-/// the stage of data.
+/// What a structure says beside the theory with this number, and the types with the elements that it gives them, which
+/// are not listed yet; or the earliest refusal of the stage of data.
 fn accepted<'a>(
     alloc: Global,
     kb: &'a TypedKb,
     theory: usize,
     raw: &'a RawStructure,
-) -> Result<(Vec<Entry<'a>>, DomainList), KbError>
+) -> Result<(Vec<Entry<'a>>, Vec<TypeData<'a>>), KbError>
     ensures ok { IfOk result (λ g. IsAccepted (typed_view kb.now) theory (structure_view raw.now)
-        (map said_view g.0.items) g.1) }
+        (map said_view g.0.items) g.1.items) }
     ensures err { IfErr result (DataFailsWith (typed_view kb.now) theory (structure_view raw.now)) }
 {
     let Ok(entries) = entries(alloc, &kb.vocab, raw) else {
@@ -46,10 +46,7 @@ fn accepted<'a>(
     if let Some(fault) = earliest.first {
         return Err(KbError::Refused(fault));
     }
-    let Ok(domains) = domains_of(alloc, &types) else {
-        return Err(KbError::Memory);
-    };
-    Ok((entries, domains))
+    Ok((entries, types))
 }
 
 /// The partial structure that the text of a structure means beside the theory with this number, or the earliest
@@ -63,9 +60,12 @@ pub fn read_structure(
     ensures ok { IfOk result (λ p. IsDataOf (typed_view kb.now) theory (structure_view raw.now) p) }
     ensures err { IfErr result (DataFailsWith (typed_view kb.now) theory (structure_view raw.now)) }
 {
-    let (entries, domains) = match accepted(alloc, kb, theory, raw) {
+    let (entries, types) = match accepted(alloc, kb, theory, raw) {
         Ok(given) => given,
         Err(e) => return Err(e),
+    };
+    let Ok(domains) = domains_from(alloc, types) else {
+        return Err(KbError::Memory);
     };
     match fill(alloc, &kb.vocab, domains, &entries) {
         Ok(partial) => Ok(partial),
@@ -74,8 +74,8 @@ pub fn read_structure(
 }
 
 /// The same, with the number of ground atoms over the structure's domains and the weight of the theory with this
-/// number; or the earliest refusal of the stage of data or, where that refuses nothing, of the stage of sizes. No atom
-/// is made known before all were counted.
+/// number; or the earliest refusal of the stage of data or, where that refuses nothing, of the stage of sizes. No
+/// element is listed, and no atom is made known, before all were counted.
 pub fn read_data(
     alloc: Global,
     kb: &TypedKb,
@@ -86,13 +86,16 @@ pub fn read_data(
         (measure_view r.1)) }
     ensures err { IfErr result (DataOrSizesFail (typed_view kb.now) theory (structure_view raw.now)) }
 {
-    let (entries, domains) = match accepted(alloc, kb, theory, raw) {
+    let (entries, types) = match accepted(alloc, kb, theory, raw) {
         Ok(given) => given,
         Err(e) => return Err(e),
     };
-    let sizes = match measure(alloc, kb, theory, &domains) {
+    let sizes = match sizes_of(alloc, kb, theory, &types) {
         Ok(sizes) => sizes,
         Err(e) => return Err(e),
+    };
+    let Ok(domains) = domains_from(alloc, types) else {
+        return Err(KbError::Memory);
     };
     match fill(alloc, &kb.vocab, domains, &entries) {
         Ok(partial) => Ok((partial, sizes)),

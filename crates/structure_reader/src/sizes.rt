@@ -1,9 +1,15 @@
-//! The stage of sizes, over a partial structure.
-ghost use Rattle.std.specs.Prelude.{IfErr, IfOk};
+//! The stage of sizes, over a partial structure, and over types whose elements are not listed yet.
+ghost use Rattle.std.specs.Prelude.{List, IfErr, IfOk};
+ghost use Rattle.std.specs.List.{AllByRecursion};
+ghost use Rattle.data_domains.specs.TypeSets.{AreTypesOf};
+ghost use Rattle.kb_sizes.specs.Counted.{IsCountable};
 ghost use Rattle.kb_sizes.specs.Measures.{FailsWith, measure_view};
+ghost use Rattle.reading_stages.specs.DataDomains.{domains_of};
+ghost use Rattle.reading_stages.specs.DataEntries.{Said};
 ghost use Rattle.reading_stages.specs.SizesStage.{AreSizesOf};
 ghost use Rattle.type_derivation.specs.TypedViews.{typed_view};
 
+use data_domains::types::TypeData;
 use fo_syntax::KbError;
 use kb_sizes::Measure;
 use partial_structures::Partial;
@@ -17,4 +23,20 @@ pub fn measure(alloc: Global, kb: &TypedKb, theory: usize, s: &Partial) -> Resul
     ensures err { IfErr result (FailsWith (typed_view kb.now) theory s.now.domains) }
 {
     kb_sizes::measure(alloc, kb, theory, s.domains())
+}
+
+/// The same over the domains that some entries give types, which are counted and not listed.
+pub fn sizes_of(
+    alloc: Global,
+    kb: &TypedKb,
+    theory: usize,
+    types: &[TypeData<'_>],
+) -> Result<Measure, KbError>
+    requires { AllByRecursion IsCountable types.now }
+    ensures ok { IfOk result (λ m. (es : List Said) → AreTypesOf kb.now.vocab.types es types.now
+        → AreSizesOf (typed_view kb.now) theory (domains_of kb.now.vocab.types es) (measure_view m)) }
+    ensures err { IfErr result (λ e. (es : List Said) → AreTypesOf kb.now.vocab.types es types.now
+        → FailsWith (typed_view kb.now) theory (domains_of kb.now.vocab.types es) e) }
+{
+    kb_sizes::measure_types(alloc, kb, theory, types)
 }

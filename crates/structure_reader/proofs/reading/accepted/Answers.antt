@@ -5,7 +5,6 @@ use Rattle.reading_stages.specs.DataEntries.{Said, said_in}
 use Rattle.reading_stages.specs.DataStage.{data_causes, data_noted, data_uses, is_data_refused, place_of_data_use}
 use Rattle.reading_stages.proofs.EarliestLaws.{earliest_noted, nothing_noted}
 use Rattle.data_domains.specs.TypeSets.{AreTypesOf}
-use Rattle.data_domains.specs.declared.types.TypeData.{TypeData}
 use Rattle.data_entries.specs.SaidViews.{said_view}
 use Rattle.type_derivation.specs.TypedViews.{typed_view}
 use Rattle.structure_reader.proofs.reading.accepted.Goals as goal
@@ -39,11 +38,9 @@ returns-clause-ok c =
     (ap (map said_view) c.deref.ensures.value) c.in-Ok-types_of.ensures in
     let declared_there = subst (λ (ds : List TypeDecl). AreTypesOf ds (map said_view entries) types)
     c.as_slice.ensures said_there in
-    let types_are = subst (λ (ts : List TypeData). AreTypesOf kb.vocab.types (map said_view entries) ts)
-    (sym c.deref-4.ensures.value) declared_there in
     record {
       accepted = nothing_noted (is_data_refused kb.vocab.types es) place_of_data_use data_causes us (sym noted
           ∙ c.in_default-first.is);
       said = c.in-Ok.ensures;
-      domains_are = c.in-Ok-domains_of.ensures kb.vocab.types (map said_view entries) types_are;
+      types_are = declared_there;
     }

@@ -11,4 +11,4 @@ fill-requires-clause-accepted c =
     let entries = c.in-Ok.given.0.items in
     subst (AreAccepted c.args.kb.now.vocab) (sym (ap (map said_view) c.deref.ensures.value))
     (can_be_filled (typed_view c.args.kb.now) c.args.theory (structure_view c.args.raw.now) (map said_view entries)
-    c.in-Ok.given.1 c.in-Ok.ensures.ok)
+    c.in-Ok.given.1.items c.in-Ok.ensures.ok)

@@ -2,7 +2,7 @@ use Rattle.std.proofs.Common.{◌≡◌, ◌∙◌, None, fold, sym}
 use Rattle.reading_stages.specs.SizesStage.{is_size_refused, place_of_size_use, size_causes, size_noted, size_uses}
 use Rattle.reading_stages.proofs.EarliestLaws.{earliest_noted, nothing_noted}
 use Rattle.type_derivation.specs.TypedViews.{typed_view}
-use Rattle.kb_sizes.proofs.measuring.measure.Goals as goal
+use Rattle.kb_sizes.proofs.measuring.measure_over.Goals as goal
 
 pub returns-in-None-clause-ok : goal.returns-in-None-clause-ok
 returns-in-None-clause-ok c =
