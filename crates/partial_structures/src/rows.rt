@@ -14,6 +14,7 @@ use crate::lent::LentElem;
 use crate::truths::Truth;
 use crate::words::Words;
 use indexmap::IndexMap;
+use indexmap::map::Entry;
 use kb_logic::values::Value;
 use kb_logic::{Elem, Memory};
 use std::alloc::Global;
@@ -185,18 +186,21 @@ impl Rows {
         }
     }
 
+    /// The node to which the edge leads, which is made where there is none.
+    ///
+    /// The edge is hashed once: its entry keeps the hash where the edge is new.
     fn child_or_new(&mut self, parent: usize, label: Label) -> Result<usize, Memory>
         requires { (is_symbol label || nat_lt parent (length self.old.nodes.entries)) ≡ true }
         ensures child { IfOk result (λ n. child_of self.new.nodes.entries parent label ≡ Some n) }
         ensures grows { Grows self.old.nodes.entries self.new.nodes.entries }
         ensures words { self.new.words ≡ self.old.words }
     {
-        match self.child(parent, label) {
-            Some(node) => Ok(node),
-            None => {
-                let node = self.nodes.len();
-                self.nodes.insert(Edge { parent, label }, Mark::BLANK)?;
-                Ok(node)
+        let next = self.nodes.len();
+        match self.nodes.entry(Edge { parent, label })? {
+            Entry::Occupied(entry) => Ok(entry.index()),
+            Entry::Vacant(entry) => {
+                entry.insert(Mark::BLANK);
+                Ok(next)
             }
         }
     }
