@@ -283,7 +283,7 @@ fn reach_lent_atom(
     let node = rows.reach_lent(symbol, args)?;
     match value {
         None => Ok(node),
-        Some(value) => Ok(rows.reach_lent_child(node, value, args.len())?),
+        Some(value) => Ok(rows.reach_lent_child(node, value)?),
     }
 }
 

@@ -306,7 +306,7 @@ impl Rows {
         let mut node = self.reach_root(symbol)?;
         let mut column: usize = 0;
         for elem in args {
-            node = self.reach_lent_child(node, *elem, column)?;
+            node = self.reach_near_child(node, *elem, column)?;
             column = column.saturating_add(1);
         }
         Ok(node)
@@ -330,8 +330,8 @@ impl Rows {
         }
     }
 
-    /// As `reach_child`, of an element that is lent, in this column.
-    pub fn reach_lent_child(
+    /// As `reach_lent_child`, of an element in this column.
+    fn reach_near_child(
         &mut self,
         node: usize,
         elem: LentElem<'_>,
@@ -345,6 +345,21 @@ impl Rows {
         ensures words { self.new.words ≡ self.old.words }
     {
         match self.near_label(elem, column) {
+            Some(label) => self.child_or_new(node, label),
+            None => unreachable!(),
+        }
+    }
+
+    /// As `reach_child`, of an element that is lent.
+    pub fn reach_lent_child(&mut self, node: usize, elem: LentElem<'_>) -> Result<usize, Memory>
+        requires parent { node < length self.old.nodes.entries }
+        requires label { IsTrue (has_label (words_in self.old.words) (lent_view elem)) }
+        ensures child { IfOk result (λ n. child_by self.new.nodes.entries (Some node)
+            (label_of (words_in self.new.words) (lent_view elem.entry)) ≡ Some n) }
+        ensures grows { Grows self.old.nodes.entries self.new.nodes.entries }
+        ensures words { self.new.words ≡ self.old.words }
+    {
+        match self.lent_label(elem) {
             Some(label) => self.child_or_new(node, label),
             None => unreachable!(),
         }
