@@ -3,7 +3,6 @@ use Rattle.std.proofs.Common.{◌≡◌, ℕ, suc, zero, ◌<◌, List, [], ◌�
 use Rattle.std.proofs.Common.{nat_lt, Option, None, Some, if◌then◌else◌, refl, sym, ap, ◌∙◌, arith, slice_get, ◌⊎◌, inl}
 use Rattle.std.proofs.Common.{inr, length-append, subst}
 use Rattle.std.specs.Option.{option_map, option_map_or}
-use Rattle.std.specs.Prelude.{Result, Ok, Err, OnOk, OnErr}
 use Rattle.std.specs.List.{list_all}
 use Rattle.std.proofs.lemmas.Bool.{eqb-true, and_parts, true≢false, or_cases, false_from_ne_true, ltb-true, lt-ltb}
 use Rattle.std.proofs.lemmas.Bool.{or_left, or_right, and_from, eq-eqb}
@@ -214,16 +213,14 @@ grown_child es p l none =
     new_place (λ (e : Edge × Mark). same_edge p l e.0) es (record { parent = p; label = l }, blank) none
     ∙ ap (λ b. if b then Some (length es) else None) (same_edge_refl p l)
 
--- what the insertion left is a tree, also where there was no memory
-pub inserted_tree : {A E : Type 0} (r : Result A E) (eq : Edge → Edge → Bool) (es new : List (Edge × Mark))
-    (p : ℕ) (l : Label)
-    → OnOk r (new ≡ insert_entry eq es (record { parent = p; label = l }) blank) → OnErr r (new ≡ es)
+-- what the insertion left is a tree
+pub inserted_tree : (eq : Edge → Edge → Bool) (es new : List (Edge × Mark)) (p : ℕ) (l : Label)
+    → new ≡ insert_entry eq es (record { parent = p; label = l }) blank
     → ((e : Edge) → eq (record { parent = p; label = l }) e ≡ same_edge p l e)
     → child_of es p l ≡ None → is_tree es ≡ true → (is_symbol l || nat_lt p (length es)) ≡ true → is_tree new ≡ true
-inserted_tree (Ok a) eq es new p l ok err test none tree placed =
+inserted_tree eq es new p l ok test none tree placed =
     ap is_tree (ok ∙ insert_new eq (same_edge p l) (record { parent = p; label = l }) blank test es none)
     ∙ grown_tree es p l tree placed
-inserted_tree (Err e) eq es new p l ok err test none tree placed = ap is_tree err ∙ tree
 
 pub inserted_child : (eq : Edge → Edge → Bool) (es new : List (Edge × Mark)) (p : ℕ) (l : Label) (n : ℕ)
     → new ≡ insert_entry eq es (record { parent = p; label = l }) blank

@@ -18,3 +18,4 @@ pub mod Consistent
 pub mod Contained
 pub mod KnownHold
 pub mod ElementLemmas
+mod Entered

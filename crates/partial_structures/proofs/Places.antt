@@ -1,13 +1,16 @@
 -- The place of the first item that passes a test.
 use Rattle.std.proofs.Common.{◌≡◌, ℕ, suc, List, [], ◌∷◌, ◌++◌, map, length, Bool, true, false, Option, None, Some}
 use Rattle.std.proofs.Common.{if◌then◌else◌, refl, sym, ap, ◌∙◌, arith, position, slice_get}
+use Rattle.std.proofs.Common.{zero, subst}
 use Rattle.std.specs.Option.{option_map}
+use Rattle.std.specs.List.{AllByRecursion, IsDistinct}
+use Rattle.std.proofs.lemmas.Bool.{false_from_ne_true, true≢false}
 use Rattle.std.proofs.lemmas.Bool.Decides.{nat_tests}
 use Rattle.std.proofs.lemmas.Grind.{common_steps}
 use Rattle.partial_structures.specs.Words.{place}
 
 -- the items tell a test of what f makes of them
-place-map : {X Y : Type 0} (f : X → Y) (p : Y → Bool) (q : X → Bool) → ((x : X) → p (f x) ≡ q x) → (xs : List X)
+pub place-map : {X Y : Type 0} (f : X → Y) (p : Y → Bool) (q : X → Bool) → ((x : X) → p (f x) ≡ q x) → (xs : List X)
     → place p (map f xs) ≡ place q xs
 place-map f p q h [] = refl
 place-map f p q h (x ∷ xs) = ap (λ b. if b then Some 0 else option_map (λ n. suc n) (place p (map f xs))) (h x)
@@ -97,3 +100,25 @@ stays test xs y n h = place-push test xs y ∙ ap (λ o. first_of_both o (if tes
 pub new_place : {X : Type 0} (test : X → Bool) (xs : List X) (y : X) → place test xs ≡ None → place test (xs ++ y ∷ [])
     ≡ (if test y then Some (length xs) else None)
 new_place test xs y h = place-push test xs y ∙ ap (λ o. first_of_both o (if test y then Some (length xs) else None)) h
+
+-- what holds of each item holds of the one at a place
+each_at : {X : Type 0} (P : X → Type 0) (xs : List X) (n : ℕ) (x : X) → AllByRecursion P xs → slice_get xs n ≡ Some x
+    → P x
+each_at P [] n x all at = absurd (cc)
+each_at P (y ∷ ys) zero x all at = let is : y ≡ x = cc in subst P is all.0
+each_at P (y ∷ ys) (suc n) x all at = each_at P ys n x all.1 at
+
+-- where no two items are equal, and those that pass are, one that passes is the first that does
+pub own_place : {X : Type 0} (eq : X → X → Bool) (test : X → Bool)
+    → ((x y : X) → test x ≡ true → test y ≡ true → eq x y ≡ true) → (xs : List X) (n : ℕ) (x : X) → IsDistinct eq xs
+    → slice_get xs n ≡ Some x → test x ≡ true → place test xs ≡ Some n
+unfolding IsDistinct
+own_place eq test same [] n x distinct at passes = absurd (cc)
+own_place eq test same (y ∷ ys) zero x distinct at passes =
+    let is : y ≡ x = cc in
+    ap (λ b. if b then Some 0 else option_map (λ n. suc n) (place test ys)) (ap test is ∙ passes)
+own_place eq test same (y ∷ ys) (suc n) x distinct at passes =
+    let apart = each_at (λ z. eq y z ≡ false) ys n x distinct.0 at in
+    let other : test y ≡ false = false_from_ne_true (test y) (λ t. true≢false (sym (same y x t passes) ∙ apart)) in
+    ap (λ b. if b then Some 0 else option_map (λ m. suc m) (place test ys)) other
+    ∙ ap (option_map (λ m. suc m)) (own_place eq test same ys n x distinct.1 at passes)

@@ -13,6 +13,7 @@ mod known;
 pub mod laws;
 mod lent;
 pub mod lookups;
+mod near;
 mod ordered;
 mod partial;
 mod rows;

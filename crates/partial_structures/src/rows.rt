@@ -11,9 +11,11 @@ ghost use Rattle.partial_structures.specs.Values.{IsValueOf, value_label};
 ghost use Rattle.kb_logic.specs.Values.{value_view};
 
 use crate::lent::LentElem;
+use crate::near::Near;
 use crate::truths::Truth;
 use crate::words::Words;
 use indexmap::IndexMap;
+use indexmap::map::Entry;
 use kb_logic::values::Value;
 use kb_logic::{Elem, Memory};
 use std::alloc::Global;
@@ -53,6 +55,7 @@ impl Mark {
 pub(crate) struct Rows {
     pub words: Words,
     pub nodes: IndexMap<Edge, Mark>,
+    near: Near,
     ghost tree: { is_tree nodes.entries ≡ true },
 }
 
@@ -65,6 +68,7 @@ impl Rows {
         Rows {
             words,
             nodes: IndexMap::new(alloc),
+            near: Near::new(),
         }
     }
 
@@ -76,6 +80,7 @@ impl Rows {
         Ok(Rows {
             words,
             nodes: self.nodes.clone()?,
+            near: Near::new(),
         })
     }
 
@@ -185,18 +190,21 @@ impl Rows {
         }
     }
 
+    /// The node to which the edge leads, which is made where there is none.
+    ///
+    /// The edge is hashed once: its entry keeps the hash where the edge is new.
     fn child_or_new(&mut self, parent: usize, label: Label) -> Result<usize, Memory>
         requires { (is_symbol label || nat_lt parent (length self.old.nodes.entries)) ≡ true }
         ensures child { IfOk result (λ n. child_of self.new.nodes.entries parent label ≡ Some n) }
         ensures grows { Grows self.old.nodes.entries self.new.nodes.entries }
         ensures words { self.new.words ≡ self.old.words }
     {
-        match self.child(parent, label) {
-            Some(node) => Ok(node),
-            None => {
-                let node = self.nodes.len();
-                self.nodes.insert(Edge { parent, label }, Mark::BLANK)?;
-                Ok(node)
+        let next = self.nodes.len();
+        match self.nodes.entry(Edge { parent, label })? {
+            Entry::Occupied(entry) => Ok(entry.index()),
+            Entry::Vacant(entry) => {
+                entry.insert(Mark::BLANK);
+                Ok(next)
             }
         }
     }
@@ -258,6 +266,35 @@ impl Rows {
         }
     }
 
+    /// Whether the edge leads to the node.
+    fn is_child(&self, parent: usize, label: Label, node: usize) -> bool
+        ensures { IsTrue result → child_of self.now.nodes.entries parent label ≡ Some node }
+    {
+        // Says that no edge stands twice.
+        let _count = self.nodes.len();
+        match self.nodes.get_index(node) {
+            Some((edge, _)) => Edge { parent, label } == *edge,
+            None => false,
+        }
+    }
+
+    /// The node of a symbol's empty row, which is made where there is none.
+    ///
+    /// The root of the row before is compared before one is sought, since most rows have the same symbol.
+    fn reach_root(&mut self, symbol: u32) -> Result<usize, Memory>
+        ensures node { IfOk result (λ n. node_of (words_in self.new.words) self.new.nodes.entries symbol [] ≡ Some n) }
+        ensures grows { Grows self.old.nodes.entries self.new.nodes.entries }
+        ensures words { self.new.words ≡ self.old.words }
+    {
+        let near = self.near.root;
+        if self.is_child(0, Label::Symbol(symbol), near) {
+            return Ok(near);
+        }
+        let node = self.child_or_new(0, Label::Symbol(symbol))?;
+        self.near.root = node;
+        Ok(node)
+    }
+
     /// As `reach`, of elements that are lent.
     pub fn reach_lent(&mut self, symbol: u32, args: &[LentElem<'_>]) -> Result<usize, Memory>
         requires { All (λ x. IsTrue (has_label (words_in self.old.words) (lent_view x))) args.now }
@@ -266,11 +303,51 @@ impl Rows {
         ensures grows { Grows self.old.nodes.entries self.new.nodes.entries }
         ensures words { self.new.words ≡ self.old.words }
     {
-        let mut node = self.child_or_new(0, Label::Symbol(symbol))?;
+        let mut node = self.reach_root(symbol)?;
+        let mut column: usize = 0;
         for elem in args {
-            node = self.reach_lent_child(node, *elem)?;
+            node = self.reach_near_child(node, *elem, column)?;
+            column = column.saturating_add(1);
         }
         Ok(node)
+    }
+
+    /// As `lent_label`, of an element in this column, whose word is first compared with that of the row before.
+    fn near_label(&mut self, elem: LentElem<'_>, column: usize) -> Option<Label>
+        ensures label { result ≡ label_of (words_in self.old.words) (lent_view elem.entry) }
+        ensures nodes { self.new.nodes.entries ≡ self.old.nodes.entries }
+        ensures words { self.new.words ≡ self.old.words }
+    {
+        match elem {
+            LentElem::Named(name) => match self.words.number_near(name, self.near.word(column)) {
+                Some(number) => {
+                    self.near.note_word(column, number);
+                    Some(Label::Word(number))
+                }
+                None => None,
+            },
+            LentElem::Num(n) => Some(Label::Number(n)),
+        }
+    }
+
+    /// As `reach_lent_child`, of an element in this column.
+    fn reach_near_child(
+        &mut self,
+        node: usize,
+        elem: LentElem<'_>,
+        column: usize,
+    ) -> Result<usize, Memory>
+        requires parent { node < length self.old.nodes.entries }
+        requires label { IsTrue (has_label (words_in self.old.words) (lent_view elem)) }
+        ensures child { IfOk result (λ n. child_by self.new.nodes.entries (Some node)
+            (label_of (words_in self.new.words) (lent_view elem.entry)) ≡ Some n) }
+        ensures grows { Grows self.old.nodes.entries self.new.nodes.entries }
+        ensures words { self.new.words ≡ self.old.words }
+    {
+        match self.near_label(elem, column) {
+            Some(label) => self.child_or_new(node, label),
+            None => unreachable!(),
+        }
     }
 
     /// As `reach_child`, of an element that is lent.

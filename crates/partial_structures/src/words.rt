@@ -1,5 +1,5 @@
 //! The names among the elements, each with a number.
-ghost use Rattle.std.specs.Prelude.{◌≡◌, [], IfOk, OnOk, OnErr, slice_get, option_map};
+ghost use Rattle.std.specs.Prelude.{◌≡◌, [], Some, IfOk, IsTrue, OnOk, OnErr, slice_get, option_map};
 ghost use Rattle.partial_structures.specs.Words.{place, words_in, words_of, with_word, with_element};
 ghost use Rattle.std.specs.Str.{bytes_eq};
 
@@ -56,6 +56,36 @@ impl Words {
     {
         self.words.get_index_of(word)
     }
+
+    /// Whether the word has this number.
+    fn is_word(&self, word: &[u8], number: usize) -> bool
+        ensures { IsTrue result → place (bytes_eq word.now) (words_in self.now) ≡ Some number }
+    {
+        // Says that no word stands twice.
+        let _count = self.words.len();
+        match self.words.get_index(number) {
+            Some(there) => there.as_slice() == word,
+            None => false,
+        }
+    }
+
+    /// The number of a word, which may be this one or the next.
+    ///
+    /// The word is compared with both before it is hashed: rows are mostly written in order, so that a word is that of
+    /// the row before it, or the one that came after that.
+    pub fn number_near(&self, word: &[u8], near: usize) -> Option<usize>
+        ensures { result ≡ place (bytes_eq word.now) (words_in self.now) }
+    {
+        if self.is_word(word, near) {
+            return Some(near);
+        }
+        let next = near.saturating_add(1);
+        if self.is_word(word, next) {
+            return Some(next);
+        }
+        self.number(word)
+    }
+
     /// The word with this number.
     pub fn word(&self, number: usize) -> Option<&[u8]>
         ensures { option_map (λ w. w.now) result ≡ slice_get (words_in self.now) number }

@@ -1,28 +1,50 @@
-use Rattle.std.proofs.Common.{◌≡◌, ◌∙◌, None, sym}
-use Rattle.partial_structures.specs.Rows.{child_of}
+use Rattle.std.proofs.Common.{rules, ◌≡◌, ◌∙◌, ap, sym, true, List, None}
+use Rattle.std.specs.Prelude.{is_some}
+use Rattle.indexmap.specs.IndexMap.{get, insert_entry}
+use Rattle.indexmap.specs.Entry.{entry_index}
+use Rattle.partial_structures.specs.Rows.{child_of, blank, is_tree}
+use Rattle.partial_structures.specs.contracts.rows.EdgePartialEq.TheImpl.{ghosts as edge_equality}
+use Rattle.partial_structures.specs.declared.rows.Edge.{Edge}
+use Rattle.partial_structures.specs.declared.rows.Mark.{Mark}
 use Rattle.partial_structures.proofs.Labels.{edge_test}
+use Rattle.partial_structures.proofs.Entered.{entered_child, no_child}
 use Rattle.partial_structures.proofs.Growth.{inserted_tree, inserted_child, inserted_Grows}
 use Rattle.partial_structures.proofs.rows.Rows.child_or_new.Goals as goal
 
-pub invariant_of-self : goal.invariant_of-self
-invariant_of-self c =
+pub invariant_of-self-in-Vacant : goal.invariant_of-self-in-Vacant
+invariant_of-self-in-Vacant c =
     let es = c.args.self.now.nodes.entries in
-    let none : child_of es c.args.parent c.args.label ≡ None = sym c.child.ensures ∙ c.in-None.is in
-    record {
-      tree = inserted_tree _ _ es c.insert.new.self.entries c.args.parent c.args.label c.insert.ensures.entries
-          c.insert.ensures.err (λ e. edge_test _ e) none c.args.self.now.tree c.requires;
-    }
+    let none : get edge_equality.eq c.args.self.now.nodes (record { parent = c.args.parent; label = c.args.label })
+    ≡ None = search rules in
+    let tree : (new : List (Edge × Mark)) → new ≡ insert_entry edge_equality.eq es
+    (record { parent = c.args.parent; label = c.args.label }) blank → is_tree new ≡ true = λ new is.
+    inserted_tree edge_equality.eq es new c.args.parent c.args.label is (λ e. edge_test _ e)
+    (no_child edge_equality.eq es c.args.parent c.args.label (λ e. edge_test _ e) none)
+    c.args.self.now.tree c.requires in
+    record { tree = search (rules, tree) }
 
-pub returns-in_ok-insert-in-None-clause-child : goal.returns-in_ok-insert-in-None-clause-child
-returns-in_ok-insert-in-None-clause-child c =
+pub returns-in-Occupied-clause-child : goal.returns-in-Occupied-clause-child
+returns-in-Occupied-clause-child c =
     let es = c.args.self.now.nodes.entries in
-    let none : child_of es c.args.parent c.args.label ≡ None = sym c.child.ensures ∙ c.in-None.is in
-    inserted_child _ es c.insert.new.self.entries c.args.parent c.args.label _ c.in_ok-insert-in-None.ensures.entries
-    (λ e. edge_test _ e) none c.len-node.ensures.len
+    let there : is_some (get edge_equality.eq c.args.self.now.nodes
+    (record { parent = c.args.parent; label = c.args.label })) ≡ true = search rules in
+    ap (λ ds. child_of ds c.args.parent c.args.label) (search rules)
+    ∙ entered_child edge_equality.eq es c.args.parent c.args.label (λ e. edge_test _ e) c.index.result there
+    (c.index.ensures ∙ ap entry_index (sym c.in-Occupied.is) ∙ c.in_ok-entry.ensures.index)
 
-pub returns-in_ok-insert-in-None-clause-grows : goal.returns-in_ok-insert-in-None-clause-grows
-returns-in_ok-insert-in-None-clause-grows c =
+pub returns-in-Vacant-clause-child : goal.returns-in-Vacant-clause-child
+returns-in-Vacant-clause-child c =
     let es = c.args.self.now.nodes.entries in
-    let none : child_of es c.args.parent c.args.label ≡ None = sym c.child.ensures ∙ c.in-None.is in
-    inserted_Grows _ es c.insert.new.self.entries c.args.parent c.args.label c.in_ok-insert-in-None.ensures.entries
-    (λ e. edge_test _ e) none c.args.self.now.tree c.requires
+    let none : get edge_equality.eq c.args.self.now.nodes (record { parent = c.args.parent; label = c.args.label })
+    ≡ None = search rules in
+    inserted_child edge_equality.eq es _ c.args.parent c.args.label _ (search rules) (λ e. edge_test _ e)
+    (no_child edge_equality.eq es c.args.parent c.args.label (λ e. edge_test _ e) none) c.len-next.ensures.len
+
+pub returns-in-Vacant-clause-grows : goal.returns-in-Vacant-clause-grows
+returns-in-Vacant-clause-grows c =
+    let es = c.args.self.now.nodes.entries in
+    let none : get edge_equality.eq c.args.self.now.nodes (record { parent = c.args.parent; label = c.args.label })
+    ≡ None = search rules in
+    inserted_Grows edge_equality.eq es _ c.args.parent c.args.label (search rules) (λ e. edge_test _ e)
+    (no_child edge_equality.eq es c.args.parent c.args.label (λ e. edge_test _ e) none)
+    c.args.self.now.tree c.requires

@@ -5,8 +5,8 @@ use Rattle.partial_structures.specs.Words.{words_in}
 use Rattle.partial_structures.proofs.Growth.{node_there}
 use Rattle.partial_structures.proofs.rows.Rows.reach_lent.Goals as goal
 
-pub reach_lent_child-requires-clause-parent : goal.reach_lent_child-requires-clause-parent
-reach_lent_child-requires-clause-parent c =
+pub reach_near_child-requires-clause-parent : goal.reach_near_child-requires-clause-parent
+reach_near_child-requires-clause-parent c =
     let rows = c.loop-elem.self in
     let there = node_there (words_in rows.words) rows.nodes.entries c.args.symbol
     (reverse (map lent_view (take c.loop-elem.elem-index c.args.args.now))) c.loop-elem.node
