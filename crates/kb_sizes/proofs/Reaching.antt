@@ -1,5 +1,6 @@
 -- How far the integers of a domain reach, by what is listed.
-use Rattle.std.proofs.Common.{◌≡◌, ◌≤ℤ◌, ◌+ℤ◌, ℤ, pos, Bool, true, false, ◌||◌, List, [], ◌∷◌, Option, None, Some, unwrap_or}
+use Rattle.std.proofs.Common.{◌≡◌, ◌≤ℤ◌, ◌+ℤ◌, ℤ, pos, Bool, true, false, ◌||◌}
+use Rattle.std.proofs.Common.{List, [], ◌∷◌, Option, None, Some, unwrap_or}
 use Rattle.std.proofs.Common.{refl, sym, ap, ◌∙◌, subst, arith, inl, inr}
 use Rattle.std.specs.Int.{int_min, int_max}
 use Rattle.std.specs.List.{list_any}
@@ -147,7 +148,8 @@ runs_reach y i (j ∷ js) a =
       ];
     }
 
-in_list : (cells : List Cell) (s : ElementSet) → IsSetOf cells s → (z : ℤ) → is_inside (runs_in s) z ≡ has (listed cells) z
+in_list : (cells : List Cell) (s : ElementSet) → IsSetOf cells s
+    → (z : ℤ) → is_inside (runs_in s) z ≡ has (listed cells) z
 in_list cells s h z = h.integers z ∙ listed_are_among cells (Num z)
 
 pub no_integers : (cells : List Cell) (s : ElementSet) → IsSetOf cells s → runs_in s ≡ []
