@@ -1,4 +1,9 @@
 //! Answers that are joined by what a problem defines.
+//!
+//! Formulas become clauses by Tseitin's encoding: what an operator with two operands and more comes to is a new
+//! variable, a gate, which is defined in both directions. So the clauses stay linear in the formula, where multiplying
+//! out `|` over `&` can double them at each level, and each model has exactly one valuation of the gates. Constants and
+//! single literals are their own answers and make no gate.
 ghost use Rattle.std.specs.Prelude.{◌≡◌, IfOk};
 ghost use Rattle.def_ground.specs.Answers.{gate_of, AnswerWithin, Makes, Grows};
 ghost use Rattle.def_ground.specs.Forms.{settles, with_answer, close_parts, same_of};
