@@ -1,2 +1,1 @@
-mod AtomLists
 mod Outlasting

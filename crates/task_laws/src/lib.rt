@@ -1,6 +1,6 @@
-//! Laws of tasks: which atoms their problems have, and what stays of a task while its solver grows.
+//! Laws of tasks: what stays of a task while its solver grows.
 #![tactic(auto)]
 
 mod laws;
 
-pub use laws::{ground_atoms_are_atoms, task_outlasts_additions};
+pub use laws::task_outlasts_additions;
