@@ -1,3 +1,4 @@
+//! What the readers answer where they read no knowledge base.
 ghost use Rattle.std.specs.Prelude.{◌≡◌};
 ghost use Rattle.fo_syntax.specs.Whole.{refusal_of};
 ghost use Rattle.fo_syntax.specs.declared.error.KbError.TheVariants.{Memory};

@@ -1,3 +1,4 @@
+//! Why a reader stopped: the tokens are no text of the grammar from a place on, or memory ran out.
 ghost use Rattle.std.specs.Prelude.{◌≡◌};
 ghost use Rattle.fo_syntax.specs.declared.stops.ReadError.TheVariants.{Memory};
 

@@ -1,4 +1,7 @@
 //! The clauses that say what a gate says.
+//!
+//! This is Tseitin's encoding: a gate's output stands for the conjunction or disjunction of its parts, in both
+//! directions. So a formula takes a number of clauses linear in its operators, where multiplying out doubles with each.
 ghost use Rattle.std.specs.Prelude.{◌≡◌, ◌∷◌, [], ◌++◌, not, map, IfOk};
 ghost use Rattle.lit_core.specs.declared.literals.Lit.{Lit};
 ghost use Rattle.ground_core.specs.GateClauses.{with_sign, gate_clauses};

@@ -1,3 +1,4 @@
+//! Clauses: disjunctions of literals.
 ghost use Rattle.std.specs.Prelude.{◌≡◌, ◌↔◌, ◌++◌, ◌∷◌, [], length, IsTrue, IfOk, OnOk, OnErr};
 
 use crate::literals::Lit;

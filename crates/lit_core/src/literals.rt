@@ -1,3 +1,4 @@
+//! Variables and literals.
 ghost use Rattle.std.specs.Prelude.{◌≡◌};
 ghost use Rattle.lit_core.specs.Literals.{negated};
 

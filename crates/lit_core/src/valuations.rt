@@ -1,3 +1,4 @@
+//! Valuations, which give each variable a truth value, and assignments, which give one to some of them.
 ghost use Rattle.std.specs.Prelude.{◌≡◌, ◌<◌, ◌-◌, ◌↔◌, ◌++◌, [], length, replicate, slice_set, None, Some, Option};
 ghost use Rattle.std.specs.Prelude.{IsTrue, IfOk, OnOk, OnErr, All};
 ghost use Rattle.lit_core.specs.Literals.{literal_value, valuation, value_in};
