@@ -4,18 +4,9 @@ ghost use Rattle.kb_logic.specs.Structures.{domain_at};
 ghost use Rattle.ground_core.specs.Atoms.{atom_of, atoms_at, atoms_of_symbol, ground_atoms};
 
 use kb_logic::tuples::all_tuples;
+use kb_logic::values::domain_in;
 use kb_logic::{Elem, ElemList, Literal, LiteralList, Symbol};
 use std::alloc::{AllocError as Memory, Global};
-
-/// The domain of a type.
-fn domain_of(domains: &[ElemList], ty: u32) -> &[Elem]
-    ensures { result.now ≡ domain_at domains.now ty }
-{
-    match domains.get(ty as usize) {
-        Some(domain) => domain.as_slice(),
-        None => &[],
-    }
-}
 
 fn atom(number: u32, args: ElemList, value: Option<Elem>) -> Literal
     ensures { result ≡ atom_of number args value }
@@ -61,7 +52,7 @@ fn push_at(
     ensures { OnOk result (atoms.new.items ≡ atoms.old.items ++ atoms_at domains.now number value args) }
 {
     match value {
-        Some(ty) => push_values(alloc, number, args, domain_of(domains, ty), atoms),
+        Some(ty) => push_values(alloc, number, args, domain_in(domains, ty), atoms),
         None => {
             atoms.push(atom(number, args, None))?;
             Ok(())
@@ -74,7 +65,7 @@ fn has_no_value(domains: &[ElemList], value: Option<u32>) -> bool
     ensures { result ≡ true → IfSome value (λ ty. domain_at domains.now ty ≡ []) × IsSome value }
 {
     match value {
-        Some(ty) => domain_of(domains, ty).is_empty(),
+        Some(ty) => domain_in(domains, ty).is_empty(),
         None => false,
     }
 }

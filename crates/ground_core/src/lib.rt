@@ -5,6 +5,7 @@
 mod atom_counts;
 mod atom_tables;
 mod atoms;
+mod exclusions;
 mod gate_clauses;
 mod growing;
 mod laws;
@@ -15,6 +16,7 @@ mod ranges;
 mod solving;
 
 pub use atom_tables::AtomTable;
+pub use exclusions::exclusion;
 pub use gate_clauses::clauses_of_gate;
 pub use growing::{Addition, Grow};
 pub use laws::{

@@ -1,12 +1,12 @@
 //! Ground problems, and how they grow.
-ghost use Rattle.std.specs.Prelude.{◌≡◌, ◌≤◌, ◌<◌, ◌^◌, not, [], ◌∷◌, ◌++◌, length, take, IfOk, OnErr, OnOk};
-ghost use Rattle.lit_core.specs.Literals.{negated, valuation};
+ghost use Rattle.std.specs.Prelude.{◌≡◌, ◌≤◌, ◌<◌, ◌^◌, [], ◌∷◌, ◌++◌, length, take, IfOk, OnErr, OnOk};
 ghost use Rattle.ground_core.specs.Problems.{IsProblem, IsLitOf, AreLitsOf, ArePartsOf, IsTermOf};
 ghost use Rattle.ground_core.specs.Growth.{empty_problem, next_lit, with_var, with_clause, with_gate, with_sum};
-ghost use Rattle.ground_core.specs.Growth.{with_term, with_same, with_exclusion, falsified_by, clauses_of_same};
+ghost use Rattle.ground_core.specs.Growth.{with_term, with_same, with_exclusion, clauses_of_same};
 ghost use Rattle.ground_core.specs.Growth.{AddsGate, AddsSum, AddsSame};
 
 use crate::atom_tables::AtomTable;
+use crate::exclusions::exclusion;
 use crate::parts::{AggCon, Gate, GroundTerm, LitList, PartList, TermBound};
 use kb_logic::{AggKind, ExtInt, ListOf};
 use lit_core::{Clause, ClauseList, Lit, Values, Var};
@@ -231,34 +231,6 @@ impl Problem {
         self.clauses.push(clause.as_slice())?;
         self.vars = out.var.0;
         Ok(out)
-    }
-}
-
-/// Under the literal one of the first variables has another value.
-fn exclusion(alloc: Global, out: Lit, values: &Values, atoms: usize) -> Result<Clause, Memory>
-    requires { atoms < length values.now }
-    ensures { IfOk result (λ c. c ≡ negated out ∷ falsified_by values.now atoms) }
-{
-    let mut clause = Clause::new(alloc);
-    clause.push(out.negated())?;
-    for i in 0..atoms {
-        clause.push(falsified(values, i as u64 + 1))?;
-    }
-    Ok(clause)
-}
-
-/// The variable's literal that the values make false.
-fn falsified(values: &Values, var: u64) -> Lit
-    requires { var < length values.now }
-    ensures { result ≡ record { var = record { 0 = var }; positive = not (valuation values.now var) } }
-{
-    let lit = Lit {
-        var: Var(var),
-        positive: true,
-    };
-    Lit {
-        var: Var(var),
-        positive: !values.holds(lit),
     }
 }
 

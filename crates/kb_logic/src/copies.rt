@@ -120,7 +120,8 @@ fn copy_value(alloc: Global, value: &Option<Term>) -> Result<Option<Term>, Memor
     }
 }
 
-fn copy_bounds(alloc: Global, bounds: &[Bound]) -> Result<Vec<Bound>, Memory>
+/// The bounds of a quantifier, copied.
+pub fn copy_bounds(alloc: Global, bounds: &[Bound]) -> Result<Vec<Bound>, Memory>
     ensures { IfOk result (λ v. v.items ≡ bounds.now) }
 {
     let mut copies = Vec::with_capacity(alloc, bounds.len())?;

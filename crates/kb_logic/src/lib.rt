@@ -16,6 +16,7 @@ pub mod tuples;
 pub mod values;
 mod vocabularies;
 
+pub use copies::copy_bounds;
 pub use decimals::decimal;
 pub use elements::{Elem, ExtInt};
 pub use lists::{Copied, DomainList, ElemList, ListOf, NameList, NumberList, RowList};

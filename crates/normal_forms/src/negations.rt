@@ -4,7 +4,7 @@ ghost use Rattle.kb_logic.specs.Trees.{formulas_of};
 ghost use Rattle.kb_logic.specs.Views.{formula_view};
 ghost use Rattle.normal_forms.specs.NormalForms.{normal_form, joined_by, quantified_by, constant, signed};
 
-use kb_logic::{Bound, Formula, Memory};
+use kb_logic::{Bound, Formula, Memory, copy_bounds};
 use std::alloc::Global;
 
 /// The formula with negations only before atoms, comparisons and number quantifiers.
@@ -42,16 +42,6 @@ fn join(parts: Vec<Formula>, all: bool) -> Formula
     } else {
         Formula::Or(parts)
     }
-}
-
-fn copy_bounds(alloc: Global, bounds: &[Bound]) -> Result<Vec<Bound>, Memory>
-    ensures { IfOk result (λ v. v.items ≡ bounds.now) }
-{
-    let mut copies = Vec::with_capacity(alloc, bounds.len())?;
-    for bound in bounds {
-        copies.push(bound.copy(alloc)?)?;
-    }
-    Ok(copies)
 }
 
 /// All assignments, or some.

@@ -9,10 +9,9 @@ ghost use Rattle.search_engine.specs.Resting.{Bounds, Excludes, Grows, IsHalfDon
 ghost use Rattle.search_engine.specs.Resting.{Reserves, SameSearches, Stays};
 
 use crate::engine::Engine;
-use crate::exclusions::exclusion;
 use crate::pushing::{push_problem, remove_all, remove_from};
 use clause_store::Store;
-use ground_core::{Memory, Problem};
+use ground_core::{Memory, Problem, exclusion};
 use kb_logic::ExtInt;
 use kept_problem::KeptProblem;
 use lit_core::{ClauseList, Lit, Values, Var};

@@ -4,7 +4,6 @@
 
 mod cores;
 mod engine;
-mod exclusions;
 mod growing;
 mod levels;
 mod lit_sets;

@@ -3,7 +3,7 @@ use Rattle.lit_core.specs.declared.literals.Lit.{Lit}
 use Rattle.lit_core.specs.Literals.{negated}
 use Rattle.ground_core.specs.Growth.{falsified_by}
 use Rattle.ground_core.proofs.GrowthFacts.{falsified-more}
-use Rattle.search_engine.proofs.exclusions.exclusion.Goals as goal
+use Rattle.ground_core.proofs.exclusions.exclusion.Goals as goal
 
 pub loop-i-preserved : goal.loop-i-preserved
 loop-i-preserved c =

@@ -3,9 +3,8 @@ ghost use Rattle.std.specs.Prelude.{◌≡◌, ◌<◌, ◌∷◌, not, length, 
 ghost use Rattle.lit_core.specs.Literals.{negated, valuation};
 ghost use Rattle.ground_core.specs.Growth.{falsified_by};
 
-use ground_core::Memory;
 use lit_core::{Clause, Lit, Values, Var};
-use std::alloc::Global;
+use std::alloc::{AllocError as Memory, Global};
 
 /// The variable's literal that the values make false.
 fn falsified(values: &Values, var: u64) -> Lit
