@@ -4,6 +4,7 @@ pub mod BlockRows
 pub mod Forest
 pub mod Ranks
 pub mod Climbs
+pub mod ChainEnds
 pub mod NamedTypes
 pub mod Groups
 pub mod Rows

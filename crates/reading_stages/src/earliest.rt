@@ -1,6 +1,7 @@
 //! The earliest refusal of a stage.
-ghost use Rattle.std.specs.Prelude.{◌≡◌, None};
-ghost use Rattle.reading_stages.specs.Earliest.{earlier, refusal, comes_before, comes_first, noted_if};
+ghost use Rattle.std.specs.Prelude.{◌≡◌, Bool, IsTrue, None};
+ghost use Rattle.kb_text.specs.declared.fault.K.{K as AK};
+ghost use Rattle.reading_stages.specs.Earliest.{earlier, refusal, comes_before, comes_first, noted_if, stands_before};
 
 use kb_text::{K, KbFault};
 
@@ -44,6 +45,18 @@ impl Earliest {
         match self.first {
             None => true,
             Some(first) => is_before(KbFault { cause, place }, first),
+        }
+    }
+
+    /// Whether what was noted stands before this place, so that nothing noted there counts.
+    pub fn stands_before(&self, place: usize) -> bool
+        ensures answered { result ≡ stands_before self.now.first place }
+        ensures settled { IsTrue result → (holds : Bool) (cause : AK) → noted_if holds cause place self.now.first
+            ≡ self.now.first }
+    {
+        match self.first {
+            None => false,
+            Some(first) => first.place < place,
         }
     }
 

@@ -8,6 +8,8 @@ mod isa_laws;
 mod laws;
 mod named;
 mod stage_examples;
+mod symbol_types;
+mod types_above;
 
 pub use earliest::Earliest;
 pub use file_laws::files_are_their_blocks;
@@ -17,3 +19,5 @@ pub use named::{
     NamedFormula, NamedKb, NamedNode, NamedSigned, NamedTerm, NamedTermBlock, NamedTheory, NamedVar,
 };
 pub use stage_examples::{below_worked_out, blocks_worked_out};
+pub use symbol_types::argument_types;
+pub use types_above::{is_number_type, parent_of, top_of, type_above};
