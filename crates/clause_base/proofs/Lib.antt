@@ -5,6 +5,7 @@ pub mod LinkFacts
 pub mod ListFacts
 pub mod ListsChange
 pub mod PropagateFacts
+pub mod ShortFacts
 pub mod StoreFacts
 pub mod TrailCut
 pub mod TrailFacts

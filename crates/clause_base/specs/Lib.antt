@@ -3,6 +3,8 @@ pub mod ClauseDbState
 pub mod Links
 pub mod ListsFields
 pub mod ListsState
+pub mod ShortFields
+pub mod ShortState
 pub mod StoreState
 pub mod TrailFields
 pub mod TrailLaws
