@@ -1,5 +1,5 @@
 -- One term more.
-use Rattle.std.proofs.Common.{◌≡◌, ◌<◌, ◌≤◌, ◌+◌, ℕ, zero, suc, Bool, List, [], ◌∷◌, ◌++◌, Option, None, Some, drop}
+use Rattle.std.proofs.Common.{◌≡◌, ◌<◌, ◌≤◌, ◌+◌, ℕ, zero, suc, Bool, List, [], ◌∷◌, ◌++◌, Option, None, drop}
 use Rattle.std.proofs.Common.{get_or, length, map, refl, sym, ap, ◌∙◌, append_assoc, arith, slice_get}
 use Rattle.std.proofs.Common.{Vec, rules}
 use Rattle.std.specs.declared.alloc.Global.{Global}

@@ -2,12 +2,12 @@
 ghost use Rattle.std.specs.Prelude.{◌≡◌, ◌++◌, map, slice_get, None, OnOk};
 ghost use Rattle.kb_logic.specs.Trees.{formulas_of, summands_of, terms_of};
 ghost use Rattle.kb_logic.specs.Views.{formula_view, signed_view, term_view};
-ghost use Rattle.reading_stages.specs.Demands.{argument_types};
 ghost use Rattle.reading_stages.specs.IntegerArguments as said;
 ghost use Rattle.integer_arguments.specs.PlacedViews.{placed_views};
 
 use crate::placed::{Placed, placed_at};
 use kb_logic::{Formula, Memory, Signed, Symbol, Term};
+use reading_stages::argument_types;
 
 /// The type of the position with this number.
 fn position(types: &[u32], i: usize) -> Option<u32>
@@ -16,16 +16,6 @@ fn position(types: &[u32], i: usize) -> Option<u32>
     match types.get(i) {
         Some(ty) => Some(*ty),
         None => None,
-    }
-}
-
-/// The types of a symbol's arguments.
-fn types_of(symbols: &[Symbol], symbol: u32) -> &[u32]
-    ensures { result.now ≡ argument_types (slice_get symbols.now symbol) }
-{
-    match symbols.get(symbol as usize) {
-        Some(symbol) => symbol.args.as_slice(),
-        None => &[],
     }
 }
 
@@ -45,7 +35,7 @@ pub fn term(
         Term::Var(_) => Ok(()),
         Term::Int(_) => Ok(()),
         Term::Made(_, _) => Ok(()),
-        Term::Apply(symbol, args) => terms(symbols, types_of(symbols, *symbol), args, found),
+        Term::Apply(symbol, args) => terms(symbols, argument_types(symbols, *symbol), args, found),
         Term::Sum(parts) => summands(symbols, parts, found),
         Term::Product(factors) => terms(symbols, &[], factors, found),
         Term::Agg(_, _, condition, weight) => {

@@ -1,15 +1,13 @@
--- The ways up from a type, step by step.
+-- The walk up from a type that looks for another one.
 use Rattle.std.proofs.Common.{◌≡◌, ◌<◌, ◌==◌, ℕ, zero, suc, ◌+◌, ◌-◌, Bool, true, false, List, Option, None, Some}
-use Rattle.std.proofs.Common.{length, slice_get, refl, ap, ◌∙◌, sym, arith}
-use Rattle.std.specs.Option.{option_map}
+use Rattle.std.proofs.Common.{unwrap_or, length, slice_get, refl, ap, ◌∙◌, sym, arith}
 use Rattle.std.proofs.lemmas.List.{length-map}
-use Rattle.std.proofs.lemmas.Option.{slice_get-map}
 use Rattle.kb_logic.specs.declared.vocabularies.TypeDecl.{TypeDecl}
 use Rattle.reading_stages.specs.Below.{Parents, reaches, type_parents, type_above}
-use Rattle.reading_stages.specs.Kinship.{is_under, climbed, climbed_on, top_of}
+use Rattle.reading_stages.specs.Kinship.{is_under}
+use Rattle.reading_stages.specs.DataDomains.{parent_of_type}
 use Rattle.reading_stages.specs.NamesStage.{stepped}
 use Rattle.reading_stages.proofs.Forest.{equal, same_here}
-use Rattle.type_constraints.specs.Above.{above}
 
 pub apart : (a b : ℕ) → (a ≡ b → ⊥) → (a == b) ≡ false
 apart a b differ =
@@ -17,27 +15,12 @@ apart a b differ =
     elim c as (λ c. (a == b) ≡ c → c ≡ false) [ true ↦ λ e. absurd (differ (equal a b e)) | false ↦ λ e. refl ] is in
     by (a == b) refl
 
--- ---- what stands above a type
-
-pub none_above : (types : List TypeDecl) (t : ℕ) → slice_get types t ≡ None
-    → None ≡ above (slice_get (type_parents types) t)
-none_above types t e = sym (ap above (slice_get-map (λ (d : TypeDecl). type_above d.parent) types t
-    ∙ ap (option_map (λ (d : TypeDecl). type_above d.parent)) e))
-
-pub some_above : (types : List TypeDecl) (t : ℕ) (d : TypeDecl) (o : Option ℕ) → slice_get types t ≡ Some d
-    → type_above d.parent ≡ o → o ≡ above (slice_get (type_parents types) t)
-some_above types t d o e is =
-    sym (ap above (slice_get-map (λ (d : TypeDecl). type_above d.parent) types t
-    ∙ ap (option_map (λ (d : TypeDecl). type_above d.parent)) e) ∙ is)
-
--- ---- whether one type is under another
-
-step_none : (o : Option (Option ℕ)) (test : ℕ → Bool) → above o ≡ None → stepped o test ≡ false
+step_none : (o : Option (Option ℕ)) (test : ℕ → Bool) → unwrap_or o None ≡ None → stepped o test ≡ false
 step_none None test e = refl
 step_none (Some None) test e = refl
 step_none (Some (Some p)) test e = absurd (let no : ⊥ = cc in no)
 
-step_some : (o : Option (Option ℕ)) (test : ℕ → Bool) (p : ℕ) → above o ≡ Some p → stepped o test ≡ test p
+step_some : (o : Option (Option ℕ)) (test : ℕ → Bool) (p : ℕ) → unwrap_or o None ≡ Some p → stepped o test ≡ test p
 step_some None test p e = absurd (let no : ⊥ = cc in no)
 step_some (Some None) test p e = absurd (let no : ⊥ = cc in no)
 step_some (Some (Some q)) test p e = let same : q ≡ p = cc in ap test same
@@ -46,12 +29,13 @@ here : (m : ℕ) (ps : Parents) (t u : ℕ) → t ≡ u → reaches m ps t u ≡
 here zero ps t u e = same_here t u e
 here (suc m) ps t u e = rw (same_here t u e) refl
 
-no_way : (m : ℕ) (ps : Parents) (t u : ℕ) → (t ≡ u → ⊥) → above (slice_get ps t) ≡ None → reaches m ps t u ≡ false
+no_way : (m : ℕ) (ps : Parents) (t u : ℕ) → (t ≡ u → ⊥) → unwrap_or (slice_get ps t) None ≡ None
+    → reaches m ps t u ≡ false
 no_way zero ps t u differ e = apart t u differ
 no_way (suc m) ps t u differ e = rw (apart t u differ) (step_none (slice_get ps t) (λ p. reaches m ps p u) e)
 
-one_up : (m : ℕ) (ps : Parents) (t p u : ℕ) → (t ≡ u → ⊥) → above (slice_get ps t) ≡ Some p → reaches (suc m) ps t u
-    ≡ reaches m ps p u
+one_up : (m : ℕ) (ps : Parents) (t p u : ℕ) → (t ≡ u → ⊥) → unwrap_or (slice_get ps t) None ≡ Some p
+    → reaches (suc m) ps t u ≡ reaches m ps p u
 one_up m ps t p u differ e = rw (apart t u differ) (step_some (slice_get ps t) (λ q. reaches m ps q u) p e)
 
 -- the walk, where so many steps are left
@@ -60,11 +44,11 @@ module _ (types : List TypeDecl) (at u i : ℕ) (whole : Bool)
   pub is_here : i < length types → at ≡ u → true ≡ whole
   is_here lt e = sym (here (length types - i) (type_parents types) at u e) ∙ so_far (length types - i) (omega arith)
 
-  pub is_nowhere : i < length types → (at ≡ u → ⊥) → None ≡ above (slice_get (type_parents types) at) → false ≡ whole
+  pub is_nowhere : i < length types → (at ≡ u → ⊥) → None ≡ parent_of_type types at → false ≡ whole
   is_nowhere lt differ e = sym (no_way (length types - i) (type_parents types) at u differ (sym e))
       ∙ so_far (length types - i) (omega arith)
 
-  pub is_further : (p : ℕ) → (at ≡ u → ⊥) → Some p ≡ above (slice_get (type_parents types) at) → (m : ℕ)
+  pub is_further : (p : ℕ) → (at ≡ u → ⊥) → Some p ≡ parent_of_type types at → (m : ℕ)
       → m + suc i ≡ length types
       → reaches m (type_parents types) p u ≡ whole
   is_further p differ e m sum = sym (one_up m (type_parents types) at p u differ (sym e)) ∙ so_far (suc m) (omega arith)
@@ -75,34 +59,3 @@ begins types t u m e =
     let same : m ≡ length (type_parents types) = (let plain : m ≡ length types = omega arith in plain)
     ∙ sym (length-map types (λ (d : TypeDecl). type_above d.parent)) in
     ap (λ k. reaches k (type_parents types) t u) same
-
--- ---- the end of a chain
-
-climb_none : (o : Option (Option ℕ)) (t : ℕ) (on : ℕ → ℕ) → above o ≡ None → climbed_on o t on ≡ t
-climb_none None t on e = refl
-climb_none (Some None) t on e = refl
-climb_none (Some (Some p)) t on e = absurd (let no : ⊥ = cc in no)
-
-climb_some : (o : Option (Option ℕ)) (t p : ℕ) (on : ℕ → ℕ) → above o ≡ Some p → climbed_on o t on ≡ on p
-climb_some None t p on e = absurd (let no : ⊥ = cc in no)
-climb_some (Some None) t p on e = absurd (let no : ⊥ = cc in no)
-climb_some (Some (Some q)) t p on e = let same : q ≡ p = cc in ap on same
-
-ended : (m : ℕ) (ps : Parents) (t : ℕ) → above (slice_get ps t) ≡ None → climbed m ps t ≡ t
-ended zero ps t e = refl
-ended (suc m) ps t e = climb_none (slice_get ps t) t (climbed m ps) e
-
-module _ (types : List TypeDecl) (at i top : ℕ)
-    (so_far : (m : ℕ) → m + i ≡ length types → climbed m (type_parents types) at ≡ top) where
-  pub is_top : i < length types → None ≡ above (slice_get (type_parents types) at) → at ≡ top
-  is_top lt e = sym (ended (length types - i) (type_parents types) at (sym e)) ∙ so_far (length types - i) (omega arith)
-
-  pub is_higher : (p : ℕ) → Some p ≡ above (slice_get (type_parents types) at) → (m : ℕ) → m + suc i ≡ length types
-      → climbed m (type_parents types) p ≡ top
-  is_higher p e m sum = sym (climb_some (slice_get (type_parents types) at) at p (climbed m (type_parents types))
-      (sym e)) ∙ so_far (suc m) (omega arith)
-
-pub begins_to_climb : (types : List TypeDecl) (t m : ℕ) → m + 0 ≡ length types → climbed m (type_parents types) t
-    ≡ top_of types t
-begins_to_climb types t m e =
-    ap (λ k. climbed k (type_parents types) t) (let plain : m ≡ length types = omega arith in plain)

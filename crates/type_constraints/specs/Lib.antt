@@ -1,4 +1,3 @@
 pub mod PartViews
-pub mod Above
 pub mod Gathering
 pub mod ChosenTypes

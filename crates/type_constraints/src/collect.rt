@@ -6,9 +6,9 @@ ghost use Rattle.reading_stages.specs.NamedViews.{formula_view, node_view, signe
 ghost use Rattle.type_constraints.specs.PartViews.{binding_view, part_view};
 
 use crate::constraints::{Binding, Finding, Part};
-use crate::term_kinds::{argument_types, demand_comparison, demand_number, demand_position};
+use crate::term_kinds::{demand_comparison, demand_number, demand_position};
 use kb_logic::{Memory, Symbol};
-use reading_stages::{NamedFormula, NamedNode, NamedSigned, NamedTerm, NamedVar};
+use reading_stages::{NamedFormula, NamedNode, NamedSigned, NamedTerm, NamedVar, argument_types};
 use std::alloc::Global;
 
 fn binding(var: &NamedVar) -> Binding

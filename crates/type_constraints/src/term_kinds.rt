@@ -21,16 +21,6 @@ fn value_type(symbols: &[Symbol], function: u32) -> TermType
     }
 }
 
-/// The types of a symbol's arguments.
-pub fn argument_types(symbols: &[Symbol], symbol: u32) -> &[u32]
-    ensures { result.now ≡ said.argument_types (slice_get symbols.now symbol) }
-{
-    match symbols.get(symbol as usize) {
-        Some(symbol) => symbol.args.as_slice(),
-        None => &[],
-    }
-}
-
 fn kind_of(symbols: &[Symbol], term: &NamedTerm) -> Kind
     ensures { kind_view result ≡ said.kind_of symbols.now (term_view term.now) }
 {
