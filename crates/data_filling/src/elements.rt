@@ -2,7 +2,7 @@
 ghost use Rattle.std.specs.Prelude.{◌≡◌, map, IfOk, IfSome};
 ghost use Rattle.std.specs.Option.{option_map};
 ghost use Rattle.kb_logic.specs.declared.elements.Elem.TheVariants as elem;
-ghost use Rattle.partial_structures.specs.Lent.{lent_view};
+ghost use Rattle.row_tries.specs.Lent.{lent_view};
 ghost use Rattle.reading_stages.specs.Elements.{one};
 ghost use Rattle.data_entries.specs.EntryViews.{cell_view, elem_view};
 

@@ -5,7 +5,7 @@
 ghost use Rattle.std.specs.Prelude.{◌≡◌, ◌∷◌, [], map, option_map, true, Some, IfOk, OnOk};
 ghost use Rattle.std.specs.List.{AllByRecursion};
 ghost use Rattle.fo_syntax.specs.BlockView.{element_view};
-ghost use Rattle.partial_structures.specs.Lent.{lent_view};
+ghost use Rattle.row_tries.specs.Lent.{lent_view};
 ghost use Rattle.reading_stages.specs.DataEntries as said;
 ghost use Rattle.reading_stages.specs.DataFacts as stated;
 ghost use Rattle.data_entries.specs.EntryViews.{items_of, row_view, subject_view};

@@ -14,17 +14,17 @@ use Rattle.partial_structures.specs.KnownAtoms.{IsAtomOver, atoms_over, same_row
 use Rattle.partial_structures.specs.KnownAtoms.{is_rival}
 use Rattle.partial_structures.specs.Consistency.{IsConsistent, IsListed}
 use Rattle.partial_structures.specs.Flags.{is_closed}
-use Rattle.partial_structures.specs.Rows.{mark_of, label_of, status_of, value_status, same_optional_label, settled}
-use Rattle.partial_structures.specs.Rows.{denied}
+use Rattle.row_tries.specs.Rows.{mark_of, label_of, same_optional_label}
+use Rattle.partial_structures.specs.AtomRows.{status_of, value_status, settled, denied}
 use Rattle.partial_structures.specs.Status.{is_yes, is_no, status, known_atoms}
-use Rattle.partial_structures.specs.Words.{words_in}
-use Rattle.partial_structures.specs.declared.rows.Label.{Label}
-use Rattle.partial_structures.specs.declared.truths.Truth.{Truth}
-use Rattle.partial_structures.specs.declared.truths.Truth.TheVariants.{Yes, No, Unknown}
+use Rattle.row_tries.specs.Words.{words_in}
+use Rattle.row_tries.specs.declared.rows.Label.{Label}
+use Rattle.row_tries.specs.declared.truths.Truth.{Truth}
+use Rattle.row_tries.specs.declared.truths.Truth.TheVariants.{Yes, No, Unknown}
 use Rattle.partial_structures.specs.declared.partial.Partial.TheInside.{Inside}
 use Rattle.kb_logic.proofs.Has.{has_from, contains_from, filter-same}
 use Rattle.partial_structures.proofs.Listed.{listed}
-use Rattle.partial_structures.proofs.Nodes.{label_injective, same_label_is}
+use Rattle.row_tries.proofs.Nodes.{label_injective, same_label_is}
 use Rattle.partial_structures.proofs.Sames.{atom_by, row_is, element_itself}
 use Rattle.partial_structures.proofs.Statuses.{never_yes}
 use Rattle.kb_logic.proofs.Tables.{passes_filter, has_filter}

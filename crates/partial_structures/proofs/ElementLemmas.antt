@@ -14,17 +14,17 @@ use Rattle.kb_logic.proofs.Members.{some_one, one_is_some}
 use Rattle.partial_structures.specs.Applications.{stands_in}
 use Rattle.partial_structures.specs.Elements.{AreLabelsOf, HasElements, TellsElements, has_label_of, labels_at}
 use Rattle.partial_structures.specs.Elements.{stands_for}
-use Rattle.partial_structures.specs.Rows.{same_label, same_optional_label, label_of, has_label}
-use Rattle.partial_structures.specs.Values.{value_label}
-use Rattle.partial_structures.specs.Words.{words_of}
-use Rattle.partial_structures.specs.declared.rows.Label.{Label}
-use Rattle.partial_structures.specs.contracts.rows.LabelPartialEq.TheImpl.{ghosts as label_equality}
-use Rattle.partial_structures.proofs.Growth.{same_label_refl}
+use Rattle.row_tries.specs.Rows.{same_label, same_optional_label, label_of, has_label}
+use Rattle.row_tries.specs.Values.{value_label}
+use Rattle.row_tries.specs.Words.{words_of}
+use Rattle.row_tries.specs.declared.rows.Label.{Label}
+use Rattle.row_tries.specs.contracts.rows.LabelPartialEq.TheImpl.{ghosts as label_equality}
+use Rattle.row_tries.proofs.Growth.{same_label_refl}
 use Rattle.partial_structures.proofs.Labelled.{typed_labelled}
-use Rattle.partial_structures.proofs.Labels.{label_test}
+use Rattle.row_tries.proofs.Labels.{label_test}
 use Rattle.kb_logic.proofs.Atoms.{denotes_one}
 use Rattle.kb_logic.proofs.Has.{has_from}
-use Rattle.partial_structures.proofs.Nodes.{same_label_is}
+use Rattle.row_tries.proofs.Nodes.{same_label_is}
 use Rattle.partial_structures.proofs.Walks.{stands, stands_is, value_injective, label_same}
 
 -- ---- tests

@@ -16,10 +16,10 @@ use Rattle.partial_structures.specs.KnownAtoms.{IsAtomOver, atoms_over}
 use Rattle.partial_structures.specs.Extension.{ExtendsData}
 use Rattle.partial_structures.specs.Status.{is_yes, is_no, status, known_atoms}
 use Rattle.partial_structures.specs.Tally.{parts_of, left_after, tables_left}
-use Rattle.partial_structures.specs.Words.{words_in}
+use Rattle.row_tries.specs.Words.{words_in}
 use Rattle.partial_structures.specs.declared.partial.Partial.TheInside.{Inside}
-use Rattle.partial_structures.specs.declared.truths.Truth.{Truth}
-use Rattle.partial_structures.specs.declared.truths.Truth.TheVariants.{Yes, No, Unknown}
+use Rattle.row_tries.specs.declared.truths.Truth.{Truth}
+use Rattle.row_tries.specs.declared.truths.Truth.TheVariants.{Yes, No, Unknown}
 use Rattle.kb_logic.proofs.Has.{Has, has_from, has_left, has_right, has_either, has_flat_map, flat_map_has}
 use Rattle.kb_logic.proofs.Has.{contains_from}
 use Rattle.kb_logic.proofs.DistinctAtoms.{mapped, tuples_distinct, atoms_distinct}

@@ -5,7 +5,7 @@ use Rattle.std.proofs.lemmas.Bool.{or_cases, true≢false}
 use Rattle.kb_logic.specs.Models.{GroundAtom}
 use Rattle.partial_structures.specs.KnownAtoms.{same_atom}
 use Rattle.partial_structures.specs.Laws.{KnownAtomsHold}
-use Rattle.partial_structures.specs.declared.truths.Truth.TheVariants.{Yes, No, Unknown}
+use Rattle.row_tries.specs.declared.truths.Truth.TheVariants.{Yes, No, Unknown}
 use Rattle.partial_structures.proofs.Sames.{atom_is}
 
 at_listed : (a : GroundAtom) (P : GroundAtom → Type 0) (xs : List GroundAtom) → list_any (same_atom a) xs ≡ true

@@ -15,9 +15,9 @@ use Rattle.kb_logic.specs.declared.vocabularies.Symbol.{Symbol}
 use Rattle.kb_logic.specs.Structures.{domain_at, tuples_of}
 use Rattle.kb_logic.specs.Models.{GroundAtom, HasValueIn}
 use Rattle.partial_structures.specs.KnownAtoms.{IsAtomOver}
-use Rattle.partial_structures.specs.Words.{place, with_element, words_of}
-use Rattle.partial_structures.specs.Rows.{has_label}
-use Rattle.partial_structures.specs.declared.rows.Label.TheVariants.{Word}
+use Rattle.row_tries.specs.Words.{place, with_element, words_of}
+use Rattle.row_tries.specs.Rows.{has_label}
+use Rattle.row_tries.specs.declared.rows.Label.TheVariants.{Word}
 use Rattle.kb_logic.proofs.Has.{Has, has_from, has_get, flat_map_has, map_has}
 
 abbrev knows : List (List ℕ) → List ℕ → Bool

@@ -1,10 +1,4 @@
 pub mod Ordering
-pub mod Places
-pub mod Labels
-pub mod Nodes
-pub mod Growth
-pub mod Changes
-pub mod WordLemmas
 pub mod Sames
 pub mod Listed
 pub mod Labelled
@@ -18,4 +12,3 @@ pub mod Consistent
 pub mod Contained
 pub mod KnownHold
 pub mod ElementLemmas
-mod Entered

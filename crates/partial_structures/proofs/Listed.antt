@@ -6,8 +6,8 @@ use Rattle.kb_logic.specs.declared.vocabularies.Symbol.{Symbol}
 use Rattle.kb_logic.specs.Models.{GroundAtom}
 use Rattle.partial_structures.specs.KnownAtoms.{atoms_over, same_atom, value_at}
 use Rattle.partial_structures.specs.Status.{is_yes, is_no}
-use Rattle.partial_structures.specs.declared.truths.Truth.{Truth}
-use Rattle.partial_structures.specs.declared.truths.Truth.TheVariants as truth
+use Rattle.row_tries.specs.declared.truths.Truth.{Truth}
+use Rattle.row_tries.specs.declared.truths.Truth.TheVariants as truth
 use Rattle.kb_logic.proofs.Has.{Has, any_kept}
 use Rattle.partial_structures.proofs.Sames.{atom_is, atom_itself}
 

@@ -14,13 +14,14 @@ use Rattle.kb_logic.proofs.TupleLists.{map-map}
 use Rattle.partial_structures.specs.KnownAtoms.{KnownAtoms, atoms_of, atoms_over, atoms_with, value_at}
 use Rattle.partial_structures.specs.Flags.{is_closed}
 use Rattle.partial_structures.specs.Ordered.{beyond, ending}
-use Rattle.partial_structures.specs.Rows.{child_by, label_of, node_of, status_of}
+use Rattle.row_tries.specs.Rows.{child_by, label_of, node_of}
+use Rattle.partial_structures.specs.AtomRows.{status_of}
 use Rattle.partial_structures.specs.Known.{known_in, status_in}
-use Rattle.partial_structures.specs.Words.{words_in}
+use Rattle.row_tries.specs.Words.{words_in}
 use Rattle.partial_structures.specs.declared.known.Known.{Known}
-use Rattle.partial_structures.specs.declared.rows.Edge.{Edge}
-use Rattle.partial_structures.specs.declared.rows.Mark.{Mark}
-use Rattle.partial_structures.specs.declared.truths.Truth.{Truth}
+use Rattle.row_tries.specs.declared.rows.Edge.{Edge}
+use Rattle.row_tries.specs.declared.rows.Mark.{Mark}
+use Rattle.row_tries.specs.declared.truths.Truth.{Truth}
 use Rattle.partial_structures.proofs.Listed.{value_is}
 
 map-same : {X Y : Type 0} (f g : X → Y) (xs : List X) → ((x : X) → Has xs x → f x ≡ g x) → map f xs ≡ map g xs

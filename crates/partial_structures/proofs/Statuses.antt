@@ -9,19 +9,19 @@ use Rattle.kb_logic.specs.declared.elements.Elem.{Elem}
 use Rattle.kb_logic.specs.Denotations.{denotation_of, same_value}
 use Rattle.kb_logic.specs.Models.{GroundAtom}
 use Rattle.partial_structures.specs.KnownAtoms.{same_row, same_option, same_atom, both_values, is_rival}
-use Rattle.partial_structures.specs.Rows.{same_label, label_of, has_label, blank, child_by, node_of, mark_at, mark_of}
-use Rattle.partial_structures.specs.Rows.{Grows, row_of, Marks, MadeTrue, MadeFalse, settled, denied}
-use Rattle.partial_structures.specs.Rows.{same_optional_label}
-use Rattle.partial_structures.specs.Rows.{value_status, status_of}
+use Rattle.row_tries.specs.Rows.{same_label, label_of, has_label, blank, child_by, node_of, mark_at, mark_of, Grows}
+use Rattle.row_tries.specs.Rows.{Marks, same_optional_label}
+use Rattle.partial_structures.specs.AtomRows.{row_of, MadeTrue, MadeFalse, settled, denied, value_status, status_of}
 use Rattle.partial_structures.specs.Flags.{is_closed}
 use Rattle.partial_structures.specs.Status.{is_yes, is_no}
-use Rattle.partial_structures.specs.declared.rows.Edge.{Edge}
-use Rattle.partial_structures.specs.declared.rows.Mark.{Mark}
-use Rattle.partial_structures.specs.declared.rows.Label.{Label}
-use Rattle.partial_structures.specs.declared.truths.Truth.{Truth}
-use Rattle.partial_structures.specs.declared.truths.Truth.TheVariants.{Yes, No, Unknown}
-use Rattle.partial_structures.proofs.Nodes.{same_label_is, label_injective}
-use Rattle.partial_structures.proofs.Growth.{same_label_refl}
+use Rattle.row_tries.specs.declared.rows.Edge.{Edge}
+use Rattle.row_tries.specs.declared.rows.Mark.{Mark}
+use Rattle.row_tries.specs.declared.rows.Label.{Label}
+use Rattle.row_tries.specs.declared.truths.Truth.{Truth}
+use Rattle.row_tries.specs.declared.truths.Truth.TheVariants.{Yes, No, Unknown}
+use Rattle.row_tries.proofs.Nodes.{same_label_is, label_injective}
+use Rattle.row_tries.proofs.Growth.{same_label_refl}
+use Rattle.row_tries.proofs.Changes.{grown_Marks}
 use Rattle.partial_structures.proofs.Sames.{same_element, element_itself, row_is, row_itself, atom_by, atom_is}
 use Rattle.partial_structures.proofs.Sames.{atom_itself, row_cases}
 
@@ -492,3 +492,11 @@ flag_after ws es closed s within b = elim (cases_Bool (b.symbol == s)) [
             is_no (status_of ws es (is_closed closed b.symbol) b.symbol b.args b.value)) (sym h);
       }
 ]
+
+-- an atom was made true after the rows grew
+pub grown_MadeTrue : (ws : List (List ℕ)) (es fs gs : List (Edge × Mark)) (s : ℕ) (args : List Elem)
+    (v : Option Elem) → Grows es fs → MadeTrue ws fs gs s args v → MadeTrue ws es gs s args v
+grown_MadeTrue ws es fs gs s args None grows m = grown_Marks ws es fs gs s (reverse args)
+    (λ k. record k { known = Yes }) grows m
+grown_MadeTrue ws es fs gs s args (Some x) grows m = grown_Marks ws es fs gs s (reverse args)
+    (λ k. record k { value = label_of ws x }) grows m

@@ -8,15 +8,15 @@ use Rattle.kb_logic.specs.declared.elements.Elem.{Elem}
 use Rattle.kb_logic.specs.declared.structures.Table.{Table}
 use Rattle.kb_logic.specs.Structures.{IsDistinct}
 use Rattle.kb_logic.specs.Models.{GroundAtom}
-use Rattle.partial_structures.specs.Rows.{status_of}
+use Rattle.partial_structures.specs.AtomRows.{status_of}
 use Rattle.partial_structures.specs.Flags.{is_closed}
 use Rattle.partial_structures.specs.Status.{is_yes}
 use Rattle.partial_structures.specs.Tally.{before_last, parts_of, parts_status, row_status, taken, left_after}
 use Rattle.partial_structures.specs.Tally.{tables_left}
-use Rattle.partial_structures.specs.declared.rows.Edge.{Edge}
-use Rattle.partial_structures.specs.declared.rows.Mark.{Mark}
-use Rattle.partial_structures.specs.declared.truths.Truth.{Truth}
-use Rattle.partial_structures.specs.declared.truths.Truth.TheVariants.{Yes, No, Unknown}
+use Rattle.row_tries.specs.declared.rows.Edge.{Edge}
+use Rattle.row_tries.specs.declared.rows.Mark.{Mark}
+use Rattle.row_tries.specs.declared.truths.Truth.{Truth}
+use Rattle.row_tries.specs.declared.truths.Truth.TheVariants.{Yes, No, Unknown}
 use Rattle.kb_logic.proofs.Has.{Has, contains_from}
 
 pub parts_are : (args : List Elem) (x : Elem) → parts_of (args ++ x ∷ []) ≡ Some (args, x)

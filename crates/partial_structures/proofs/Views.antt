@@ -7,14 +7,15 @@ use Rattle.kb_logic.specs.Models.{GroundAtom}
 use Rattle.kb_logic.specs.Structures.{IsDistinct}
 use Rattle.partial_structures.specs.KnownAtoms.{KnownAtoms, IsAtomOver, atoms_over, same_atom, is_rival, value_at}
 use Rattle.partial_structures.specs.KnownAtoms.{with_true, with_false, with_closed, nothing_known}
-use Rattle.partial_structures.specs.Words.{words_in, words_of}
-use Rattle.partial_structures.specs.Rows.{has_label, mark_of, MadeTrue, MadeFalse, status_of}
+use Rattle.row_tries.specs.Words.{words_in, words_of}
+use Rattle.row_tries.specs.Rows.{has_label, mark_of}
+use Rattle.partial_structures.specs.AtomRows.{MadeTrue, MadeFalse, status_of}
 use Rattle.partial_structures.specs.Flags.{is_closed}
 use Rattle.partial_structures.specs.Counts.{added_by}
 use Rattle.partial_structures.specs.Status.{is_yes, is_no, status, known_atoms}
 use Rattle.partial_structures.specs.declared.partial.Partial.TheInside.{Inside}
-use Rattle.partial_structures.specs.declared.truths.Truth.{Truth}
-use Rattle.partial_structures.specs.declared.truths.Truth.TheVariants.{Yes, No, Unknown}
+use Rattle.row_tries.specs.declared.truths.Truth.{Truth}
+use Rattle.row_tries.specs.declared.truths.Truth.TheVariants.{Yes, No, Unknown}
 use Rattle.kb_logic.proofs.Has.{Has, filter-same, filter-none}
 use Rattle.kb_logic.proofs.AllAtoms.{atom_listed, atom_kind, is_function}
 use Rattle.partial_structures.proofs.Listed.{listed, value_is}

@@ -4,7 +4,6 @@ use Rattle.std.proofs.Common.{if◌then◌else◌, Option, None, Some, is_some, 
 use Rattle.std.proofs.Common.{subst, slice_get}
 use Rattle.std.specs.List.{list_any, Contains}
 use Rattle.std.specs.Option.{option_map, option_map_or, option_eq}
-use Rattle.std.specs.Str.{bytes_eq}
 use Rattle.std.proofs.lemmas.Bool.{cases_Bool, true≢false, or_cases, or_left, or_right, and_parts, and_from, eqb-true}
 use Rattle.std.proofs.lemmas.Bool.{eq-eqb, and_left, and_right, false_from_ne_true}
 use Rattle.kb_logic.specs.declared.elements.Elem.{Elem}
@@ -17,30 +16,27 @@ use Rattle.kb_logic.specs.Models.{GroundAtom, HasValueIn}
 use Rattle.kb_logic.proofs.Atoms.{same_is, tuple_elements}
 use Rattle.partial_structures.specs.KnownAtoms.{IsAtomOver, atoms_over, same_row, same_option, value_of_row}
 use Rattle.partial_structures.specs.Applications.{stands_in, are_typed, arguments_typed, given_value}
-use Rattle.partial_structures.specs.Rows.{child_by, node_of, label_of}
-use Rattle.partial_structures.specs.Words.{words_in, place}
-use Rattle.partial_structures.specs.Values.{value_label}
+use Rattle.row_tries.specs.Rows.{child_by, node_of, label_of, mark_at, same_label, same_optional_label}
+use Rattle.row_tries.specs.Words.{words_in}
+use Rattle.row_tries.specs.Values.{value_label}
 use Rattle.partial_structures.specs.Known.{Spot, known_in, status_in, rest_of, is_of_first, first_spot, start_of}
 use Rattle.partial_structures.specs.Known.{stepped, spot_of, is_none_left, is_whole}
 use Rattle.partial_structures.specs.declared.known.Known.{Known}
-use Rattle.partial_structures.specs.declared.truths.Truth.{Truth}
-use Rattle.partial_structures.specs.declared.truths.Truth.TheVariants.{Yes, No, Unknown}
+use Rattle.row_tries.specs.declared.truths.Truth.{Truth}
+use Rattle.row_tries.specs.declared.truths.Truth.TheVariants.{Yes, No, Unknown}
 use Rattle.partial_structures.specs.Applications.{result_typed, value_typed}
 use Rattle.partial_structures.specs.KnownAtoms.{is_atom}
-use Rattle.partial_structures.specs.Rows.{mark_at, settled, denied, value_status, same_label, same_optional_label}
+use Rattle.partial_structures.specs.AtomRows.{settled, denied, value_status}
 use Rattle.partial_structures.specs.Flags.{is_closed}
 use Rattle.partial_structures.specs.Status.{is_yes, is_no}
 use Rattle.partial_structures.specs.Known.{is_function_of}
-use Rattle.partial_structures.specs.declared.rows.Label.{Label}
-use Rattle.partial_structures.specs.declared.rows.Label.TheVariants.{Word}
-use Rattle.std.proofs.lemmas.Slice.Eq.{bytes_eq-Decides}
-use Rattle.partial_structures.proofs.Places.{found}
-use Rattle.partial_structures.proofs.Labels.{label_test}
-use Rattle.partial_structures.specs.contracts.rows.LabelPartialEq.TheImpl.{ghosts as label_equality}
+use Rattle.row_tries.specs.declared.rows.Label.{Label}
+use Rattle.row_tries.proofs.Labels.{label_test}
+use Rattle.row_tries.specs.contracts.rows.LabelPartialEq.TheImpl.{ghosts as label_equality}
 use Rattle.kb_logic.specs.Structures.{EachWith}
 use Rattle.kb_logic.proofs.Members.{from_filter}
-use Rattle.partial_structures.proofs.Nodes.{same_label_is, label_injective}
-use Rattle.partial_structures.proofs.Growth.{same_label_refl}
+use Rattle.row_tries.proofs.Nodes.{same_label_is, label_injective}
+use Rattle.row_tries.proofs.Growth.{same_label_refl}
 use Rattle.partial_structures.proofs.Sames.{row_itself, atom_by, element_itself}
 use Rattle.partial_structures.proofs.Statuses.{never_yes}
 use Rattle.kb_logic.proofs.Tables.{passes_filter}
@@ -486,25 +482,6 @@ label_other s symbol n k l h ne =
     (denied (mark_at s.rows.now.nodes.entries (child_by s.rows.now.nodes.entries n l)).known))) h
     ∙ ap (λ b. if b then Yes else No) (other_than k l ne)
 
--- which word a label stands for
-word_by : (ws : List (List ℕ)) (q : List ℕ) (o : Option ℕ) (n : ℕ) → place (bytes_eq q) ws ≡ o
-    → option_map Word o ≡ Some (Word n) → (place (bytes_eq q) ws ≡ Some n) × (slice_get ws n ≡ Some q)
-word_by ws q None n e h = cc
-word_by ws q (Some m) n e h =
-    let same : m ≡ n = cc in
-    let at : place (bytes_eq q) ws ≡ Some n = e ∙ ap Some same in
-    let f = found (bytes_eq q) ws n at in
-    let is : q ≡ f.item = (bytes_eq-Decides q f.item).0 f.passes in
-    (at, f.at ∙ ap Some (sym is))
-
-pub word_is : (ws : List (List ℕ)) (v : Denotation) (n : ℕ) → value_label ws v ≡ Some (Word n)
-    → (q : List ℕ) × (place (bytes_eq q) ws ≡ Some n) × (slice_get ws n ≡ Some q)
-word_is ws (named q) n h = let r = word_by ws q (place (bytes_eq q) ws) n refl h in (q, r.0, r.1)
-word_is ws (number z) n h = cc
-word_is ws minus_infinity n h = cc
-word_is ws plus_infinity n h = cc
-word_is ws undefined n h = cc
-
 an_element : (ws : List (List ℕ)) (v : Denotation) (l : Label) → value_label ws v ≡ Some l
     → (x : Elem) × (denotation_of x ≡ v)
 an_element ws (named q) l h = (Named q, refl)
@@ -575,9 +552,6 @@ given_there s symbol vs l v typed h i result =
     ∙ ap Some (value_injective (words_in s.rows.now.words) (denotation_of g.0) v l
     (r.2 ∙ ap Some (same_label_at (mark_at s.rows.now.nodes.entries (spot_of s symbol vs).node).value r.0 l r.1 h)) i)
 
-pub equal_some : (o : Option ℕ) (n : ℕ) → o ≡ Some n → option_eq ◌==◌ o (Some n) ≡ true
-equal_some o n e = ap (λ u. option_eq ◌==◌ u (Some n)) e ∙ eq-eqb n n refl
-
 -- equality of an optional label with a label, as the code tests it
 abbrev pub option_label : Option Label → Label → Bool
 option_label o l = option_eq label_equality.eq o (Some l)
@@ -588,10 +562,3 @@ option_equal (Some k) l h = ap Some (same_label_is k l (sym (label_test k l) ∙
 
 pub equal_option : (o : Option Label) (l : Label) → o ≡ Some l → option_label o l ≡ true
 equal_option o l e = ap (λ u. option_label u l) e ∙ label_test l l ∙ same_label_refl l
-
-some_word : (q r : List ℕ) → Some q ≡ Some r → q ≡ r
-some_word q r e = cc
-
-pub same_word : (ws : List (List ℕ)) (q r : List ℕ) (n : ℕ) → Some q ≡ Some r → place (bytes_eq r) ws ≡ Some n
-    → place (bytes_eq q) ws ≡ Some n
-same_word ws q r n e h = ap (λ t. place (bytes_eq t) ws) (some_word q r e) ∙ h

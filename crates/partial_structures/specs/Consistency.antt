@@ -4,7 +4,7 @@ use Rattle.std.specs.List.{AllByRecursion, list_any}
 use Rattle.kb_logic.specs.Models.{GroundAtom}
 use Rattle.kb_logic.specs.Structures.{IsDistinct}
 use Rattle.partial_structures.specs.KnownAtoms.{KnownAtoms, IsAtomOver, atoms_over, same_atom, is_rival, value_at}
-use Rattle.partial_structures.specs.declared.truths.Truth.TheVariants as truth
+use Rattle.row_tries.specs.declared.truths.Truth.TheVariants as truth
 
 -- each true atom is one over the domains, a function has at most one value at its arguments, and no atom is both true
 -- and false

@@ -1,7 +1,7 @@
 -- Counts of true atoms.
 use Rattle.std.specs.Prelude.{ℕ}
-use Rattle.partial_structures.specs.declared.truths.Truth.{Truth}
-use Rattle.partial_structures.specs.declared.truths.Truth.TheVariants.{Yes, No, Unknown}
+use Rattle.row_tries.specs.declared.truths.Truth.{Truth}
+use Rattle.row_tries.specs.declared.truths.Truth.TheVariants.{Yes, No, Unknown}
 
 -- how many more true atoms there are once an atom has been made true
 abbrev pub added_by : Truth → ℕ

@@ -5,9 +5,9 @@ use Rattle.kb_logic.specs.declared.elements.Elem.{Elem}
 use Rattle.kb_logic.specs.Structures.{domain_at}
 use Rattle.kb_logic.specs.Denotations.{Denotation}
 use Rattle.partial_structures.specs.Applications.{stands_in}
-use Rattle.partial_structures.specs.Rows.{same_label, same_optional_label, label_of}
-use Rattle.partial_structures.specs.Values.{value_label}
-use Rattle.partial_structures.specs.declared.rows.Label.{Label}
+use Rattle.row_tries.specs.Rows.{same_label, same_optional_label, label_of}
+use Rattle.row_tries.specs.Values.{value_label}
+use Rattle.row_tries.specs.declared.rows.Label.{Label}
 use Rattle.partial_structures.specs.declared.elements.Elements.{Elements}
 
 -- the labels of a type; there are none past the last type

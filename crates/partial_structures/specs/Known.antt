@@ -9,12 +9,13 @@ use Rattle.kb_logic.specs.Denotations.{Denotation}
 use Rattle.kb_logic.specs.Models.{GroundAtom}
 use Rattle.partial_structures.specs.KnownAtoms.{KnownAtoms, atoms_over}
 use Rattle.partial_structures.specs.Applications.{stands_in}
-use Rattle.partial_structures.specs.Words.{words_in}
-use Rattle.partial_structures.specs.Rows.{child_by, node_of, status_of}
+use Rattle.row_tries.specs.Words.{words_in}
+use Rattle.row_tries.specs.Rows.{child_by, node_of}
+use Rattle.partial_structures.specs.AtomRows.{status_of}
 use Rattle.partial_structures.specs.Flags.{is_closed}
 use Rattle.partial_structures.specs.Status.{is_yes, is_no}
-use Rattle.partial_structures.specs.Values.{value_label}
-use Rattle.partial_structures.specs.declared.truths.Truth.{Truth}
+use Rattle.row_tries.specs.Values.{value_label}
+use Rattle.row_tries.specs.declared.truths.Truth.{Truth}
 use Rattle.partial_structures.specs.declared.known.Known.{Known}
 use Rattle.partial_structures.specs.declared.spots.Place.{Place}
 

@@ -10,8 +10,8 @@ use Rattle.kb_logic.specs.Structures.{tuples_of}
 use Rattle.kb_logic.specs.Models.{GroundAtom}
 pub use Rattle.kb_logic.specs.Models.{IsAtomOver, atom_of}
 pub use Rattle.kb_logic.specs.KnownAtoms.{KnownAtoms, atoms_with, atoms_over}
-use Rattle.partial_structures.specs.declared.truths.Truth.{Truth}
-use Rattle.partial_structures.specs.declared.truths.Truth.TheVariants as truth
+use Rattle.row_tries.specs.declared.truths.Truth.{Truth}
+use Rattle.row_tries.specs.declared.truths.Truth.TheVariants as truth
 
 -- these elements are these values, one by one
 abbrev pub same_row : List Elem → List Denotation → Bool

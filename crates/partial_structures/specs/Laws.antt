@@ -4,7 +4,7 @@ use Rattle.kb_logic.specs.declared.structures.Structure.{Structure}
 use Rattle.kb_logic.specs.Models.{GroundAtom, AtomHolds}
 use Rattle.partial_structures.specs.KnownAtoms.{KnownAtoms, value_at}
 use Rattle.partial_structures.specs.Extension.{ExtendsData}
-use Rattle.partial_structures.specs.declared.truths.Truth.TheVariants as truth
+use Rattle.row_tries.specs.declared.truths.Truth.TheVariants as truth
 
 -- what is known of an atom is so in every structure that extends the data
 abbrev pub KnownAtomsHold : Type 0

@@ -1,6 +1,5 @@
 pub mod KnownAtoms
-pub mod Words
-pub mod Rows
+pub mod AtomRows
 pub mod Flags
 pub mod Ordered
 pub mod Status

@@ -2,10 +2,11 @@
 use Rattle.std.specs.Prelude.{ℕ, List, [], ◌∷◌, map, flat_map, Bool, Option, None, Some}
 use Rattle.kb_logic.specs.declared.elements.Elem.{Elem}
 use Rattle.kb_logic.specs.Structures.{domain_at}
-use Rattle.partial_structures.specs.Rows.{child_by, denied, label_of, mark_at, settled, value_status}
-use Rattle.partial_structures.specs.declared.rows.Edge.{Edge}
-use Rattle.partial_structures.specs.declared.rows.Mark.{Mark}
-use Rattle.partial_structures.specs.declared.truths.Truth.{Truth}
+use Rattle.row_tries.specs.Rows.{child_by, label_of, mark_at}
+use Rattle.partial_structures.specs.AtomRows.{denied, settled, value_status}
+use Rattle.row_tries.specs.declared.rows.Edge.{Edge}
+use Rattle.row_tries.specs.declared.rows.Mark.{Mark}
+use Rattle.row_tries.specs.declared.truths.Truth.{Truth}
 
 -- what is known of a function's having this value where its arguments lead to the node
 abbrev pub value_behind : List (List ℕ) → List (Edge × Mark) → Bool → Option ℕ → Elem → Truth

@@ -2,14 +2,14 @@
 use Rattle.std.specs.Prelude.{◌≡◌, length, filter, Bool, true, false}
 use Rattle.kb_logic.specs.Models.{GroundAtom}
 use Rattle.partial_structures.specs.KnownAtoms.{KnownAtoms, atoms_over}
-use Rattle.partial_structures.specs.Words.{words_in, words_of}
+use Rattle.row_tries.specs.Words.{words_in, words_of}
 use Rattle.std.specs.List.{AllByRecursion}
 use Rattle.kb_logic.specs.Structures.{IsDistinct}
-use Rattle.partial_structures.specs.Rows.{status_of}
+use Rattle.partial_structures.specs.AtomRows.{status_of}
 use Rattle.partial_structures.specs.Flags.{is_closed}
 use Rattle.partial_structures.specs.Elements.{labels_in, HasElements}
-use Rattle.partial_structures.specs.declared.truths.Truth.{Truth}
-use Rattle.partial_structures.specs.declared.truths.Truth.TheVariants as truth
+use Rattle.row_tries.specs.declared.truths.Truth.{Truth}
+use Rattle.row_tries.specs.declared.truths.Truth.TheVariants as truth
 use Rattle.partial_structures.specs.declared.partial.Partial.TheInside.{Inside}
 
 abbrev pub is_yes : Truth → Bool

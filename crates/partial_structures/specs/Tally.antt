@@ -3,12 +3,12 @@ use Rattle.std.specs.Prelude.{ℕ, ◌-◌, List, [], ◌∷◌, Bool, true, fal
 use Rattle.std.specs.Option.{option_and_then}
 use Rattle.kb_logic.specs.declared.elements.Elem.{Elem}
 use Rattle.kb_logic.specs.declared.structures.Table.{Table}
-use Rattle.partial_structures.specs.Rows.{status_of}
+use Rattle.partial_structures.specs.AtomRows.{status_of}
 use Rattle.partial_structures.specs.Flags.{is_closed}
-use Rattle.partial_structures.specs.declared.rows.Edge.{Edge}
-use Rattle.partial_structures.specs.declared.rows.Mark.{Mark}
-use Rattle.partial_structures.specs.declared.truths.Truth.{Truth}
-use Rattle.partial_structures.specs.declared.truths.Truth.TheVariants.{Yes, No, Unknown}
+use Rattle.row_tries.specs.declared.rows.Edge.{Edge}
+use Rattle.row_tries.specs.declared.rows.Mark.{Mark}
+use Rattle.row_tries.specs.declared.truths.Truth.{Truth}
+use Rattle.row_tries.specs.declared.truths.Truth.TheVariants.{Yes, No, Unknown}
 
 abbrev pub before_last : Elem → Option (List Elem × Elem) → Option (List Elem × Elem)
 before_last x None = Some ([], x)

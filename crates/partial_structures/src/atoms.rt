@@ -2,20 +2,19 @@
 ghost use Rattle.std.specs.Prelude.{IfOk, Some, ◌≡◌, ◌↔◌, ◌<◌, ◌+◌, List, ℕ, All, IfSome, IsTrue, IsErrOf, OnOk, OnErr};
 ghost use Rattle.std.specs.Prelude.{length, map, option_map, reverse};
 ghost use Rattle.kb_logic.specs.declared.elements.Elem.{Elem as Element};
-ghost use Rattle.partial_structures.specs.Lent.{lent_view};
-ghost use Rattle.partial_structures.specs.Words.{words_in};
+ghost use Rattle.row_tries.specs.Lent.{lent_view};
+ghost use Rattle.row_tries.specs.Words.{words_in};
 ghost use Rattle.partial_structures.specs.Ordered.{value_behind};
-ghost use Rattle.partial_structures.specs.Rows.{Grows, MadeFalse, MadeTrue, node_of, row_of, denied, has_label};
-ghost use Rattle.partial_structures.specs.Rows.{mark_of, settled, status_of};
+ghost use Rattle.row_tries.specs.Rows.{Grows, node_of, has_label, mark_of};
+ghost use Rattle.partial_structures.specs.AtomRows.{MadeFalse, MadeTrue, row_of, denied, settled, status_of};
 ghost use Rattle.partial_structures.specs.Counts.{added_by};
-ghost use Rattle.partial_structures.specs.declared.truths.Truth.TheVariants.{No};
+ghost use Rattle.row_tries.specs.declared.truths.Truth.TheVariants.{No};
 ghost use Rattle.partial_structures.specs.declared.errors.SetError.TheVariants.{DataClash};
 
 use crate::errors::SetError;
-use crate::lent::{LentElem, lent, lent_value};
-use crate::rows::{Mark, Rows};
-use crate::truths::Truth;
 use kb_logic::{Elem, Literal, Memory};
+use row_tries::lent::{lent, lent_value};
+use row_tries::{LentElem, Mark, Rows, Truth};
 
 /// What is known where `closed` says that the rest is false.
 pub(crate) fn if_closed(closed: bool, known: Truth) -> Truth

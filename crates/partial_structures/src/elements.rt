@@ -2,14 +2,14 @@
 ghost use Rattle.std.specs.Prelude.{◌≡◌, ◌||◌, slice_get, IfOk, OnOk};
 ghost use Rattle.std.specs.Option.{option_copied};
 ghost use Rattle.std.specs.List.{list_any};
-ghost use Rattle.partial_structures.specs.declared.rows.Label.{Label as ALabel};
+ghost use Rattle.row_tries.specs.declared.rows.Label.{Label as ALabel};
 ghost use Rattle.partial_structures.specs.Elements.{AreLabelsOf, HasElements, has_label_of, labels_in};
-ghost use Rattle.partial_structures.specs.Rows.{same_label, same_optional_label};
-ghost use Rattle.partial_structures.specs.Words.{words_in};
+ghost use Rattle.row_tries.specs.Rows.{same_label, same_optional_label};
+ghost use Rattle.row_tries.specs.Words.{words_in};
 
-use crate::rows::{Label, Rows};
 use indexmap::IndexSet;
 use kb_logic::{Elem, ElemList, Memory};
+use row_tries::{Label, Rows};
 use std::alloc::Global;
 
 /// The labels of each type's elements.

@@ -3,15 +3,14 @@
 //! Each row of the structure is looked up once. A row of a false atom refutes the extension; the rows of true
 //! atoms are counted, and where there are as many as true atoms, none is missing.
 ghost use Rattle.std.specs.Prelude.{◌≡◌, ◌↔◌, IsTrue};
-ghost use Rattle.partial_structures.specs.Words.{words_in};
+ghost use Rattle.row_tries.specs.Words.{words_in};
 ghost use Rattle.partial_structures.specs.Flags.{is_closed};
 ghost use Rattle.partial_structures.specs.Tally.{row_status as status_of_row, taken, left_after, tables_left};
 
 use crate::atoms::{function_status, predicate_status};
 use crate::flags::flag;
-use crate::rows::Rows;
-use crate::truths::Truth;
 use kb_logic::{Elem, ElemList, Table};
+use row_tries::{Rows, Truth};
 
 fn row_status(rows: &Rows, closed: bool, function: bool, symbol: u32, row: &[Elem]) -> Truth
     ensures { result ≡ status_of_row (words_in rows.now.words) rows.now.nodes.entries closed function symbol row.now }

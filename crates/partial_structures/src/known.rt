@@ -1,10 +1,10 @@
 //! What is known, as it is lent to an evaluator.
 ghost use Rattle.partial_structures.specs.Elements.{labels_in, TellsElements};
-ghost use Rattle.partial_structures.specs.Words.{words_in};
+ghost use Rattle.row_tries.specs.Words.{words_in};
 
 use crate::elements::Elements;
-use crate::rows::Rows;
 use kb_logic::{ElemList, Symbol};
+use row_tries::Rows;
 
 /// The parts of a partial structure that say what is known.
 #[derive(Clone, Copy)]

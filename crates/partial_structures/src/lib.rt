@@ -11,20 +11,20 @@ mod extension;
 mod flags;
 mod known;
 pub mod laws;
-mod lent;
 pub mod lookups;
-mod near;
 mod ordered;
 mod partial;
-mod rows;
 mod spots;
-mod truths;
-mod words;
 
 pub use errors::SetError;
 pub use kb_logic::Memory;
 pub use known::Known;
-pub use lent::LentElem;
 pub use partial::{Partial, extends};
+pub use row_tries::LentElem;
 pub use spots::Place;
 pub use truths::Truth;
+
+/// The path by which the crates above name a truth value in their clauses.
+pub mod truths {
+    pub use row_tries::Truth;
+}

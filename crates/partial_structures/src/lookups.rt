@@ -13,8 +13,8 @@ use crate::atoms::{denial, if_closed};
 use crate::flags::flag;
 use crate::known::Known;
 use crate::spots::Place;
-use crate::truths::Truth;
 use kb_logic::values::Value;
+use row_tries::Truth;
 
 /// Whether the value is an element of the type.
 fn is_element(s: Known<'_>, ty: u32, value: Value<'_>) -> bool

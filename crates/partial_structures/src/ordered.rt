@@ -3,15 +3,14 @@
 //! The walk goes down the trie once a prefix. Where a prefix stands in no row, nothing is looked up below it.
 ghost use Rattle.std.specs.Prelude.{◌≡◌, ◌++◌, map, OnOk};
 ghost use Rattle.partial_structures.specs.Ordered.{beyond, ending, value_behind};
-ghost use Rattle.partial_structures.specs.Words.{words_in};
+ghost use Rattle.row_tries.specs.Words.{words_in};
 
 use crate::atoms::{if_closed, value_known};
 use crate::known::Known;
-use crate::lent::lent;
-use crate::rows::Rows;
-use crate::truths::Truth;
 use kb_logic::values::domain_in;
 use kb_logic::{Elem, Memory};
+use row_tries::lent::lent;
+use row_tries::{Rows, Truth};
 
 /// Pushes what is known of a function's atoms with these values, where its arguments lead to the node.
 fn push_each(

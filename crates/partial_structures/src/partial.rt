@@ -9,7 +9,7 @@ ghost use Rattle.partial_structures.specs.KnownAtoms.{with_closed, with_false, w
 ghost use Rattle.partial_structures.specs.Consistency.{IsConsistent, IsListed};
 ghost use Rattle.partial_structures.specs.Lent.{lent_atom};
 ghost use Rattle.partial_structures.specs.Extension.{ExtendsData, IsStructureOver};
-ghost use Rattle.partial_structures.specs.declared.truths.Truth.TheVariants.{Yes, No};
+ghost use Rattle.row_tries.specs.declared.truths.Truth.TheVariants.{Yes, No};
 ghost use Rattle.partial_structures.specs.declared.errors.SetError.TheVariants.{DataClash};
 
 use crate::atoms::{make_false, make_lent_false, make_lent_true, make_true, status};
@@ -18,12 +18,9 @@ use crate::errors::SetError;
 use crate::extension::{are_same_domains, left_over};
 use crate::flags::flag;
 use crate::known::Known;
-use crate::lent::LentElem;
 use crate::ordered::push_beyond;
-use crate::rows::{Mark, Rows};
-use crate::truths::Truth;
-use crate::words::Words;
 use kb_logic::{DomainList, Elem, Literal, Memory, Structure, SymbolList, Vocabulary};
+use row_tries::{LentElem, Rows, Truth, Words};
 use std::alloc::Global;
 use std::marker::Model;
 

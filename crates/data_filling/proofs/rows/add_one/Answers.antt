@@ -1,7 +1,7 @@
 use Rattle.std.proofs.Common.{◌≡◌, List, Some, false, true, ap, map, sym, subst, ◌∙◌, rules}
 use Rattle.std.proofs.lemmas.Result.{on_ok_weaker}
 use Rattle.std.specs.List.{AllByRecursion}
-use Rattle.partial_structures.specs.Lent.{lent_view}
+use Rattle.row_tries.specs.Lent.{lent_view}
 use Rattle.reading_stages.specs.DataFacts.{Fact}
 use Rattle.data_entries.specs.EntryViews.{row_view, subject_view}
 use Rattle.data_filling.specs.Filling.{Adds, IsFactOver, IsOpenTo}

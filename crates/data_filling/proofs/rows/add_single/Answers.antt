@@ -2,7 +2,7 @@ use Rattle.std.proofs.Common.{Bool, sym, ap, map, option_map, subst, ◌∙◌}
 use Rattle.std.proofs.lemmas.Result.{on_ok_weaker}
 use Rattle.kb_logic.specs.Models.{GroundAtom, IsAtomOver}
 use Rattle.partial_structures.specs.KnownAtoms.{value_at, with_true, with_false}
-use Rattle.partial_structures.specs.Lent.{lent_view}
+use Rattle.row_tries.specs.Lent.{lent_view}
 use Rattle.data_entries.specs.EntryViews.{row_view}
 use Rattle.data_filling.specs.Filling.{atom_with, single_fact}
 use Rattle.data_filling.proofs.RowsOver.{row_atom}

@@ -1,7 +1,7 @@
 use Rattle.std.proofs.Common.{◌≡◌, ◌++◌, List, length, map}
 use Rattle.std.specs.Option.{option_map}
 use Rattle.kb_logic.specs.declared.elements.Elem.{Elem}
-use Rattle.partial_structures.specs.Lent.{lent_view}
+use Rattle.row_tries.specs.Lent.{lent_view}
 use Rattle.reading_stages.specs.DataFacts.{single_elements}
 use Rattle.data_entries.specs.EntryViews.{items_of}
 use Rattle.data_filling.proofs.rows.set_args.Given as goal

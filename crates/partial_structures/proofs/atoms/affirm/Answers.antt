@@ -1,7 +1,7 @@
 use Rattle.std.proofs.Common.{refl, reverse}
-use Rattle.partial_structures.specs.Words.{words_in}
-use Rattle.partial_structures.specs.declared.truths.Truth.TheVariants.{Yes}
-use Rattle.partial_structures.proofs.Changes.{Grows-refl, set_after}
+use Rattle.row_tries.specs.Words.{words_in}
+use Rattle.row_tries.specs.declared.truths.Truth.TheVariants.{Yes}
+use Rattle.row_tries.proofs.Changes.{Grows-refl, set_after}
 use Rattle.partial_structures.proofs.atoms.affirm.Goals as goal
 
 pub returns-in-None-clause-made : goal.returns-in-None-clause-made

@@ -1,10 +1,10 @@
 use Rattle.std.proofs.Common.{ap, map, option_map, refl}
-use Rattle.partial_structures.specs.Lent.{lent_view}
-use Rattle.partial_structures.specs.Words.{words_in}
-use Rattle.partial_structures.specs.Rows.{row_of}
-use Rattle.partial_structures.specs.declared.truths.Truth.TheVariants.{No}
-use Rattle.partial_structures.proofs.Growth.{node_within}
-use Rattle.partial_structures.proofs.Changes.{set_after}
+use Rattle.row_tries.specs.Lent.{lent_view}
+use Rattle.row_tries.specs.Words.{words_in}
+use Rattle.partial_structures.specs.AtomRows.{row_of}
+use Rattle.row_tries.specs.declared.truths.Truth.TheVariants.{No}
+use Rattle.row_tries.proofs.Growth.{node_within}
+use Rattle.row_tries.proofs.Changes.{set_after}
 use Rattle.partial_structures.proofs.atoms.make_lent_false.Goals as goal
 
 pub set_mark-requires : goal.set_mark-requires

@@ -1,10 +1,10 @@
 use Rattle.std.proofs.Common.{◌≡◌, ◌∙◌, ◌+◌, ap, subst, map, option_map, reverse}
-use Rattle.partial_structures.specs.Lent.{lent_view}
-use Rattle.partial_structures.specs.Words.{words_in}
-use Rattle.partial_structures.specs.Rows.{MadeTrue, status_of}
+use Rattle.row_tries.specs.Lent.{lent_view}
+use Rattle.row_tries.specs.Words.{words_in}
+use Rattle.partial_structures.specs.AtomRows.{MadeTrue, status_of}
 use Rattle.partial_structures.specs.Counts.{added_by}
-use Rattle.partial_structures.proofs.Growth.{node_within}
-use Rattle.partial_structures.proofs.Changes.{grown_MadeTrue}
+use Rattle.row_tries.proofs.Growth.{node_within}
+use Rattle.partial_structures.proofs.Statuses.{grown_MadeTrue}
 use Rattle.partial_structures.proofs.Statuses.{read_behind}
 use Rattle.partial_structures.proofs.atoms.make_lent_true.Goals as goal
 

@@ -1,11 +1,12 @@
 use Rattle.std.proofs.Common.{◌≡◌, ◌∙◌, ◌+◌, Err, Some, option_map, refl, sym, ap, subst, reverse}
-use Rattle.partial_structures.specs.Lent.{lent_view}
-use Rattle.partial_structures.specs.Words.{words_in}
-use Rattle.partial_structures.specs.Rows.{MadeTrue, node_of, status_of}
+use Rattle.row_tries.specs.Lent.{lent_view}
+use Rattle.row_tries.specs.Words.{words_in}
+use Rattle.partial_structures.specs.AtomRows.{MadeTrue, status_of}
+use Rattle.row_tries.specs.Rows.{node_of}
 use Rattle.partial_structures.specs.Counts.{added_by}
 use Rattle.partial_structures.specs.declared.errors.SetError.TheVariants.{DataClash}
-use Rattle.partial_structures.proofs.Growth.{node_within}
-use Rattle.partial_structures.proofs.Changes.{grown_MadeTrue}
+use Rattle.row_tries.proofs.Growth.{node_within}
+use Rattle.partial_structures.proofs.Statuses.{grown_MadeTrue}
 use Rattle.partial_structures.proofs.Statuses.{read_behind, status_kept}
 use Rattle.partial_structures.proofs.atoms.make_true.Goals as goal
 

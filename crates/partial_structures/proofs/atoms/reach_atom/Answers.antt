@@ -1,6 +1,6 @@
 use Rattle.std.proofs.Common.{reverse}
-use Rattle.partial_structures.specs.Words.{words_in}
-use Rattle.partial_structures.proofs.Growth.{node_within}
+use Rattle.row_tries.specs.Words.{words_in}
+use Rattle.row_tries.proofs.Growth.{node_within}
 use Rattle.partial_structures.proofs.atoms.reach_atom.Goals as goal
 
 pub reach_child-requires-clause-parent : goal.reach_child-requires-clause-parent

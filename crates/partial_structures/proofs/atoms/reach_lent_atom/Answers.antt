@@ -1,7 +1,7 @@
 use Rattle.std.proofs.Common.{map, reverse}
-use Rattle.partial_structures.specs.Lent.{lent_view}
-use Rattle.partial_structures.specs.Words.{words_in}
-use Rattle.partial_structures.proofs.Growth.{node_within}
+use Rattle.row_tries.specs.Lent.{lent_view}
+use Rattle.row_tries.specs.Words.{words_in}
+use Rattle.row_tries.proofs.Growth.{node_within}
 use Rattle.partial_structures.proofs.atoms.reach_lent_atom.Goals as goal
 
 pub reach_lent_child-requires-clause-parent : goal.reach_lent_child-requires-clause-parent

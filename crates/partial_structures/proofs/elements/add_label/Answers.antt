@@ -1,6 +1,6 @@
 use Rattle.std.proofs.Common.{◌∙◌, ◌||◌, ap, sym}
 use Rattle.std.specs.List.{list_any}
-use Rattle.partial_structures.specs.Rows.{same_label, same_optional_label}
+use Rattle.row_tries.specs.Rows.{same_label, same_optional_label}
 use Rattle.partial_structures.proofs.ElementLemmas.{added_label, nothing_added}
 use Rattle.partial_structures.proofs.elements.add_label.Goals as goal
 

@@ -2,7 +2,7 @@ use Rattle.std.proofs.Common.{◌∙◌, ap}
 use Rattle.std.specs.List.{list_any}
 use Rattle.std.proofs.lemmas.List.{take_all}
 use Rattle.partial_structures.specs.Elements.{stands_for}
-use Rattle.partial_structures.specs.Words.{words_in}
+use Rattle.row_tries.specs.Words.{words_in}
 use Rattle.partial_structures.proofs.ElementLemmas.{next_label}
 use Rattle.partial_structures.proofs.elements.labels_of.Goals as goal
 

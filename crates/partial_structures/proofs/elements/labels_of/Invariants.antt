@@ -1,6 +1,6 @@
 use Rattle.std.proofs.Common.{take}
 use Rattle.partial_structures.specs.Elements.{AreLabelsOf}
-use Rattle.partial_structures.specs.Words.{words_in}
+use Rattle.row_tries.specs.Words.{words_in}
 use Rattle.partial_structures.proofs.elements.labels_of.Given as goal
 
 abbrev pub invariant-loop-elem : goal.invariant-loop-elem

@@ -1,5 +1,5 @@
 use Rattle.std.proofs.Common.{◌≡◌, Bool, ◌∙◌, sym, ap}
-use Rattle.partial_structures.specs.Words.{words_in}
+use Rattle.row_tries.specs.Words.{words_in}
 use Rattle.partial_structures.specs.Tally.{row_status as status_of_row, left_after}
 use Rattle.partial_structures.proofs.Tallies.{next_table}
 use Rattle.partial_structures.proofs.extension.left_over.Goals as goal

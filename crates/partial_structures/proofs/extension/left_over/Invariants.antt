@@ -1,5 +1,5 @@
 use Rattle.std.proofs.Common.{◌≡◌, drop}
-use Rattle.partial_structures.specs.Words.{words_in}
+use Rattle.row_tries.specs.Words.{words_in}
 use Rattle.partial_structures.specs.Tally.{tables_left}
 use Rattle.partial_structures.proofs.extension.left_over.Given as goal
 

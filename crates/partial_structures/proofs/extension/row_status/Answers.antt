@@ -1,5 +1,5 @@
 use Rattle.std.proofs.Common.{◌≡◌, ◌∙◌, true, Some, sym, ap, rules}
-use Rattle.partial_structures.specs.Words.{words_in}
+use Rattle.row_tries.specs.Words.{words_in}
 use Rattle.partial_structures.specs.Tally.{row_status as status_of_row, parts_status, parts_of}
 use Rattle.partial_structures.proofs.Tallies.{parts_are}
 use Rattle.partial_structures.proofs.extension.row_status.Goals as goal

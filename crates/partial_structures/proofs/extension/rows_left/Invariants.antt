@@ -1,5 +1,5 @@
 use Rattle.std.proofs.Common.{◌≡◌, drop}
-use Rattle.partial_structures.specs.Words.{words_in}
+use Rattle.row_tries.specs.Words.{words_in}
 use Rattle.partial_structures.specs.Tally.{row_status as status_of_row, left_after}
 use Rattle.partial_structures.proofs.extension.rows_left.Given as goal
 

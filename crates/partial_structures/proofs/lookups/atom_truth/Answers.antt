@@ -2,9 +2,10 @@ use Rattle.std.proofs.Common.{◌≡◌, ◌∙◌, true, false, if◌then◌els
 use Rattle.partial_structures.specs.Applications.{arguments_typed}
 use Rattle.partial_structures.specs.KnownAtoms.{value_of_row}
 use Rattle.partial_structures.specs.Known.{Spot, known_in, is_whole, spot_of}
-use Rattle.partial_structures.specs.Rows.{mark_at, settled}
+use Rattle.row_tries.specs.Rows.{mark_at}
+use Rattle.partial_structures.specs.AtomRows.{settled}
 use Rattle.partial_structures.specs.Flags.{is_closed}
-use Rattle.partial_structures.specs.declared.truths.Truth.TheVariants.{No}
+use Rattle.row_tries.specs.declared.truths.Truth.TheVariants.{No}
 use Rattle.partial_structures.proofs.Walks.{whole_is, predicate_row, function_row}
 use Rattle.partial_structures.proofs.lookups.atom_truth.Goals as goal
 

@@ -3,7 +3,7 @@ use Rattle.std.specs.Option.{option_map}
 use Rattle.kb_logic.specs.Denotations.{denotation_of}
 use Rattle.partial_structures.specs.Applications.{arguments_typed, result_typed}
 use Rattle.partial_structures.specs.Known.{Spot, known_in, is_whole, spot_of}
-use Rattle.partial_structures.specs.Rows.{mark_at}
+use Rattle.row_tries.specs.Rows.{mark_at}
 use Rattle.partial_structures.specs.Values.{value_view}
 use Rattle.partial_structures.proofs.Walks.{whole_is, given_untyped, given_unmarked, given_unnamed, given_outside}
 use Rattle.partial_structures.proofs.Walks.{given_there}

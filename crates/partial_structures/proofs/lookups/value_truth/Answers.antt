@@ -2,11 +2,13 @@ use Rattle.std.proofs.Common.{◌≡◌, ◌∙◌, true, false, if◌then◌els
 use Rattle.partial_structures.specs.Applications.{arguments_typed, result_typed, outside_value}
 use Rattle.partial_structures.specs.KnownAtoms.{value_of_row}
 use Rattle.partial_structures.specs.Known.{Spot, known_in, is_whole, spot_of}
-use Rattle.partial_structures.specs.Rows.{child_by, denied, mark_at, settled, value_status}
+use Rattle.row_tries.specs.Rows.{child_by, mark_at}
+use Rattle.partial_structures.specs.AtomRows.{denied, settled, value_status}
 use Rattle.partial_structures.specs.Flags.{is_closed}
-use Rattle.partial_structures.specs.Words.{words_in}
-use Rattle.partial_structures.specs.Values.{value_view, value_label}
-use Rattle.partial_structures.specs.declared.truths.Truth.TheVariants.{Unknown}
+use Rattle.row_tries.specs.Words.{words_in}
+use Rattle.partial_structures.specs.Values.{value_view}
+use Rattle.row_tries.specs.Values.{value_label}
+use Rattle.row_tries.specs.declared.truths.Truth.TheVariants.{Unknown}
 use Rattle.partial_structures.proofs.Walks.{whole_is, value_row_known, status_at, label_status, label_other}
 use Rattle.partial_structures.proofs.Walks.{option_label, option_equal, equal_option}
 use Rattle.std.proofs.lemmas.Bool.{true≢false}

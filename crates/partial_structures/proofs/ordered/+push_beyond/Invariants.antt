@@ -1,8 +1,8 @@
 use Rattle.std.proofs.Common.{◌≡◌, ◌++◌, take, length}
 use Rattle.std.specs.List.{flat_map}
 use Rattle.partial_structures.specs.Ordered.{beyond}
-use Rattle.partial_structures.specs.Rows.{child_by, label_of}
-use Rattle.partial_structures.specs.Words.{words_in}
+use Rattle.row_tries.specs.Rows.{child_by, label_of}
+use Rattle.row_tries.specs.Words.{words_in}
 use Rattle.partial_structures.proofs.ordered.+push_beyond.Given as goal
 
 abbrev pub invariant-loop-elem : goal.invariant-loop-elem

@@ -1,6 +1,6 @@
 use Rattle.std.proofs.Common.{◌≡◌, ◌++◌, take, map}
 use Rattle.partial_structures.specs.Ordered.{value_behind}
-use Rattle.partial_structures.specs.Words.{words_in}
+use Rattle.row_tries.specs.Words.{words_in}
 use Rattle.partial_structures.proofs.ordered.push_each.Given as goal
 
 abbrev pub invariant-loop-value : goal.invariant-loop-value

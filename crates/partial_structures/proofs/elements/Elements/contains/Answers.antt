@@ -1,7 +1,7 @@
 use Rattle.std.proofs.Common.{◌∙◌, ap, sym}
 use Rattle.std.specs.List.{list_any}
 use Rattle.partial_structures.specs.Elements.{has_label_of, labels_in}
-use Rattle.partial_structures.specs.Rows.{same_label}
+use Rattle.row_tries.specs.Rows.{same_label}
 use Rattle.partial_structures.proofs.ElementLemmas.{label_found, labels_of_none, labels_of_some}
 use Rattle.partial_structures.proofs.elements.Elements.contains.Goals as goal
 

@@ -2,8 +2,8 @@ use Rattle.std.proofs.Common.{◌∙◌, ◌+◌, ◌++◌, ◌∷◌, [], List,
 use Rattle.std.proofs.lemmas.List.{map-append, take_all, take_more}
 use Rattle.kb_logic.specs.declared.elements.Elem.{Elem}
 use Rattle.partial_structures.specs.Elements.{AreLabelsOf}
-use Rattle.partial_structures.specs.Words.{words_in}
-use Rattle.partial_structures.specs.declared.rows.Label.{Label}
+use Rattle.row_tries.specs.Words.{words_in}
+use Rattle.row_tries.specs.declared.rows.Label.{Label}
 use Rattle.partial_structures.proofs.ElementLemmas.{each_type, one_table_more, EachLabels}
 use Rattle.partial_structures.proofs.elements.Elements.of.Goals as goal
 

@@ -1,5 +1,5 @@
 use Rattle.std.proofs.Common.{map, take}
-use Rattle.partial_structures.specs.Words.{words_in}
+use Rattle.row_tries.specs.Words.{words_in}
 use Rattle.partial_structures.proofs.ElementLemmas.{EachLabels}
 use Rattle.partial_structures.proofs.elements.Elements.of.Given as goal
 

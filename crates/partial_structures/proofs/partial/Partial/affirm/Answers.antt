@@ -1,12 +1,14 @@
 use Rattle.std.proofs.Common.{◌≡◌, ◌∙◌, refl, sym, ap, subst, All, IsTrue}
 use Rattle.partial_structures.specs.KnownAtoms.{IsAtomOver}
 use Rattle.partial_structures.specs.Elements.{labels_in, HasElements}
-use Rattle.partial_structures.specs.Words.{words_in}
+use Rattle.row_tries.specs.Words.{words_in}
 use Rattle.partial_structures.specs.Flags.{is_closed}
-use Rattle.partial_structures.specs.Lent.{lent_atom, lent_view}
-use Rattle.partial_structures.specs.Rows.{has_label, status_of}
+use Rattle.partial_structures.specs.Lent.{lent_atom}
+use Rattle.row_tries.specs.Lent.{lent_view}
+use Rattle.row_tries.specs.Rows.{has_label}
+use Rattle.partial_structures.specs.AtomRows.{status_of}
 use Rattle.partial_structures.specs.Status.{status, known_atoms}
-use Rattle.partial_structures.specs.declared.truths.Truth.TheVariants.{No}
+use Rattle.row_tries.specs.declared.truths.Truth.TheVariants.{No}
 use Rattle.partial_structures.proofs.Labelled.{args_labelled, each_seen}
 use Rattle.partial_structures.proofs.Views.{value_from, not_no, kept_all, set_true_after, true_count, same_count}
 use Rattle.partial_structures.proofs.partial.Partial.affirm.Goals as goal

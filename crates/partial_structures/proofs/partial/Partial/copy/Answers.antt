@@ -2,7 +2,7 @@ use Rattle.std.proofs.Common.{◌≡◌, ◌∙◌, length, subst, sym, ap, rule
 use Rattle.std.specs.List.{AllByRecursion}
 use Rattle.kb_logic.specs.Structures.{IsDistinct}
 use Rattle.partial_structures.specs.Elements.{labels_in, HasElements}
-use Rattle.partial_structures.specs.Words.{words_in, words_of}
+use Rattle.row_tries.specs.Words.{words_in, words_of}
 use Rattle.partial_structures.specs.Status.{known_atoms}
 use Rattle.partial_structures.proofs.Views.{copied, same_count}
 use Rattle.partial_structures.proofs.partial.Partial.copy.Goals as goal

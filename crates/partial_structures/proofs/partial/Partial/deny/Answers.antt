@@ -4,11 +4,13 @@ use Rattle.kb_logic.specs.declared.elements.Elem.{Elem}
 use Rattle.kb_logic.specs.Models.{GroundAtom}
 use Rattle.partial_structures.specs.KnownAtoms.{KnownAtoms, IsAtomOver, value_at, with_false}
 use Rattle.partial_structures.specs.Elements.{labels_in, HasElements}
-use Rattle.partial_structures.specs.Words.{words_in}
-use Rattle.partial_structures.specs.Lent.{lent_atom, lent_view}
-use Rattle.partial_structures.specs.Rows.{MadeFalse, has_label, mark_of}
+use Rattle.row_tries.specs.Words.{words_in}
+use Rattle.partial_structures.specs.Lent.{lent_atom}
+use Rattle.row_tries.specs.Lent.{lent_view}
+use Rattle.partial_structures.specs.AtomRows.{MadeFalse}
+use Rattle.row_tries.specs.Rows.{has_label, mark_of}
 use Rattle.partial_structures.specs.Status.{status, known_atoms}
-use Rattle.partial_structures.specs.declared.truths.Truth.TheVariants.{Yes}
+use Rattle.row_tries.specs.declared.truths.Truth.TheVariants.{Yes}
 use Rattle.partial_structures.proofs.Labelled.{args_labelled, atom_labelled, each_seen}
 use Rattle.partial_structures.specs.declared.partial.Partial.TheInside.{Inside}
 use Rattle.partial_structures.proofs.Views.{RowsChange, value_from, not_yes, kept_all, set_false_after}

@@ -1,4 +1,4 @@
-use Rattle.partial_structures.specs.Words.{words_in}
+use Rattle.row_tries.specs.Words.{words_in}
 use Rattle.std.proofs.Common.{◌∙◌, ap, subst, sym}
 use Rattle.std.specs.Prelude.{Contains, MatchBool}
 use Rattle.kb_logic.specs.Structures.{domain_at}

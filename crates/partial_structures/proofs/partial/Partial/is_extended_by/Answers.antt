@@ -2,7 +2,7 @@ use Rattle.std.proofs.Common.{◌≡◌, ◌∙◌, true, false, sym, ap, subst,
 use Rattle.std.proofs.lemmas.Bool.{true≢false}
 use Rattle.partial_structures.specs.Extension.{ExtendsData}
 use Rattle.partial_structures.specs.Tally.{tables_left}
-use Rattle.partial_structures.specs.Words.{words_in}
+use Rattle.row_tries.specs.Words.{words_in}
 use Rattle.partial_structures.proofs.Extensions.{extends_left, left_extends, left_both, left_none, is_zero, zero_is}
 use Rattle.partial_structures.proofs.partial.Partial.is_extended_by.Goals as goal
 

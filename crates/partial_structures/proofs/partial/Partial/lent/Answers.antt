@@ -1,6 +1,6 @@
 use Rattle.std.proofs.Common.{subst, sym}
 use Rattle.partial_structures.specs.Elements.{labels_in, TellsElements}
-use Rattle.partial_structures.specs.Words.{words_in}
+use Rattle.row_tries.specs.Words.{words_in}
 use Rattle.partial_structures.proofs.ElementLemmas.{tells_elements}
 use Rattle.partial_structures.proofs.partial.Partial.lent.Goals as goal
 

@@ -1,7 +1,7 @@
 use Rattle.std.proofs.Common.{◌≡◌, ◌∙◌, length, sym, ap, subst, rules}
 use Rattle.partial_structures.specs.KnownAtoms.{KnownAtoms, nothing_known}
 use Rattle.partial_structures.specs.Elements.{labels_in, HasElements}
-use Rattle.partial_structures.specs.Words.{words_in}
+use Rattle.row_tries.specs.Words.{words_in}
 use Rattle.partial_structures.proofs.Views.{nothing, all_down}
 use Rattle.partial_structures.proofs.partial.Partial.new.Goals as goal
 

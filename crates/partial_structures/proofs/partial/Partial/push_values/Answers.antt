@@ -4,8 +4,8 @@ use Rattle.std.proofs.lemmas.Result.{on_ok_weaker}
 use Rattle.partial_structures.specs.KnownAtoms.{KnownAtoms}
 use Rattle.partial_structures.specs.Flags.{is_closed}
 use Rattle.partial_structures.specs.Ordered.{beyond}
-use Rattle.partial_structures.specs.Rows.{node_of}
-use Rattle.partial_structures.specs.Words.{words_in}
+use Rattle.row_tries.specs.Rows.{node_of}
+use Rattle.row_tries.specs.Words.{words_in}
 use Rattle.std.proofs.lemmas.List.{append-nil}
 use Rattle.partial_structures.proofs.Ordering.{all_known, none_known}
 use Rattle.partial_structures.proofs.partial.Partial.push_values.Goals as goal

@@ -1,11 +1,12 @@
 use Rattle.std.proofs.Common.{◌≡◌, ◌∙◌, Err, refl, sym, ap, subst, All, IsTrue}
 use Rattle.partial_structures.specs.KnownAtoms.{IsAtomOver, atom_of}
 use Rattle.partial_structures.specs.Elements.{labels_in, HasElements}
-use Rattle.partial_structures.specs.Words.{words_in}
+use Rattle.row_tries.specs.Words.{words_in}
 use Rattle.partial_structures.specs.Flags.{is_closed}
-use Rattle.partial_structures.specs.Rows.{has_label, status_of}
+use Rattle.row_tries.specs.Rows.{has_label}
+use Rattle.partial_structures.specs.AtomRows.{status_of}
 use Rattle.partial_structures.specs.Status.{status, known_atoms}
-use Rattle.partial_structures.specs.declared.truths.Truth.TheVariants.{No}
+use Rattle.row_tries.specs.declared.truths.Truth.TheVariants.{No}
 use Rattle.partial_structures.specs.declared.errors.SetError.TheVariants.{DataClash}
 use Rattle.partial_structures.proofs.Labelled.{args_labelled}
 use Rattle.partial_structures.proofs.Views.{value_from, not_no, kept_all, set_true_after, true_count, same_count}

@@ -1,8 +1,8 @@
 use Rattle.std.proofs.Common.{◌∙◌, ap}
 use Rattle.partial_structures.specs.KnownAtoms.{atom_of}
 use Rattle.partial_structures.specs.Flags.{is_closed}
-use Rattle.partial_structures.specs.Words.{words_in}
-use Rattle.partial_structures.specs.Rows.{status_of}
+use Rattle.row_tries.specs.Words.{words_in}
+use Rattle.partial_structures.specs.AtomRows.{status_of}
 use Rattle.partial_structures.proofs.Views.{value_from}
 use Rattle.partial_structures.proofs.partial.Partial.value.Goals as goal
 

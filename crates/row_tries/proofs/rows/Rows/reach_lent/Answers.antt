@@ -1,0 +1,14 @@
+use Rattle.std.proofs.Common.{map, take, reverse}
+use Rattle.std.proofs.lemmas.Option.{slice_get_within}
+use Rattle.row_tries.specs.Lent.{lent_view}
+use Rattle.row_tries.specs.Words.{words_in}
+use Rattle.row_tries.proofs.Growth.{node_there}
+use Rattle.row_tries.proofs.rows.Rows.reach_lent.Goals as goal
+
+pub reach_near_child-requires-clause-parent : goal.reach_near_child-requires-clause-parent
+reach_near_child-requires-clause-parent c =
+    let rows = c.loop-elem.self in
+    let there = node_there (words_in rows.words) rows.nodes.entries c.args.symbol
+    (reverse (map lent_view (take c.loop-elem.elem-index c.args.args.now))) c.loop-elem.node
+    c.loop-elem.invariant.node in
+    slice_get_within rows.nodes.entries c.loop-elem.node there.item there.at
