@@ -11,8 +11,8 @@ use Rattle.clause_store.specs.declared.attachment.WatchChoice.TheVariants.{Two}
 use Rattle.clause_base.specs.ListsState.{ListsState, HasLaws, nodes_of}
 use Rattle.clause_base.specs.StoreState.{IsHeld}
 use Rattle.clause_base.specs.TrailLaws.{IsMade}
-use Rattle.clause_store.specs.Watching.{code_of, store_of, HasWatch, IsWatcher, IsWatchNode, IsListed, IsNodeOf}
-use Rattle.clause_store.specs.Watching.{IsWatched}
+use Rattle.clause_store.specs.Watching.{code_of, store_of, HasWatch, IsLong, IsWatcher, IsWatchNode, IsListed}
+use Rattle.clause_store.specs.Watching.{IsNodeOf, IsWatched}
 use Rattle.clause_store.specs.Visits.{CanAttach, IsPartner, WatchChoiceGives}
 use Rattle.clause_store.proofs.WatchFacts.{guards-unfalse, same-held}
 use Rattle.clause_store.proofs.NodeFacts.{same-node}
@@ -58,6 +58,7 @@ module _ (e : Watcher) (h : IsWatcher e) (more : e.checked < length e.held.claus
   abbrev after-attach : Watcher
   after-attach = record {
     held = e.held;
+    short = e.short;
     lists = lists;
     trail = e.trail;
     queue = e.queue;
@@ -91,6 +92,7 @@ module _ (e : Watcher) (h : IsWatcher e) (more : e.checked < length e.held.claus
         id = e.checked;
         of = of;
         checked = omega arith;
+        long = λ c held. (can c held).0;
         watch = w;
         is_watch = mine;
         first = in_first;
@@ -103,6 +105,7 @@ module _ (e : Watcher) (h : IsWatcher e) (more : e.checked < length e.held.claus
         id = g.id;
         of = g.of;
         checked = omega arith;
+        long = g.long;
         watch = g.watch;
         is_watch =
             theirs g.id g.watch (λ x. let y : g.id ≡ e.checked = x in omega arith) g.is_watch;
@@ -119,18 +122,20 @@ module _ (e : Watcher) (h : IsWatcher e) (more : e.checked < length e.held.claus
         count = let k : 2 * length e.trail.values ≤ length e.lists.lists = h.count in omega arith;
         small = h.small;
         room = λ spare. let k : 2 * length e.held.clauses + 2 ≤ length e.lists.labels = h.room spare in omega arith;
-        guarded = λ i c lt held. ⊎_elim
+        short = h.short;
+        closed = h.closed;
+        guarded = λ i c lt held long. ⊎_elim
             (λ same. (
               w,
               subst (λ (n : ℕ). HasWatch lists.labels n w) (sym same) mine,
-              can c (subst (λ (n : ℕ). IsHeld (store_of e) n c) same held),
+              (can c (subst (λ (n : ℕ). IsHeld (store_of e) n c) same held)).1,
             ))
-            (λ ne. let g = h.guarded i c (omega arith) held in (g.0, theirs i g.0 ne g.1, g.2))
+            (λ ne. let g = h.guarded i c (omega arith) held long in (g.0, theirs i g.0 ne g.1, g.2))
             (cases_eq i e.checked);
         current = h.current;
-        listed = λ i c lt held. ⊎_elim
+        listed = λ i c lt held long. ⊎_elim
             (λ same. subst (IsListed after-attach) (sym same) listed-next)
-            (λ ne. listed-before i ne (h.listed i c (omega arith) held))
+            (λ ne. listed-before i ne (h.listed i c (omega arith) held long))
             (cases_eq i e.checked);
         owned = λ j n has. ⊎_elim
             (λ is. owned-next n (inr is))
@@ -138,18 +143,19 @@ module _ (e : Watcher) (h : IsWatcher e) (more : e.checked < length e.held.claus
             (second.was j n has);
       }
 
--- a removed clause is passed over
+-- a clause that was removed or is listed with the short ones is passed over
 pub skip-watcher : (e : Watcher) → IsWatcher e → e.checked < length e.held.clauses
-    → ((c : List Lit) → IsHeld (store_of e) e.checked c → ⊥) → IsWatcher
+    → ((c : List Lit) → IsHeld (store_of e) e.checked c → IsLong e e.checked c → ⊥) → IsWatcher
     (record {
       held = e.held;
+      short = e.short;
       lists = e.lists;
       trail = e.trail;
       queue = e.queue;
       checked = e.checked + 1;
       stale = e.stale;
     })
-skip-watcher e h more gone = record {
+skip-watcher e h more passed = record {
   store = h.store;
   lists = h.lists;
   queue = h.queue;
@@ -158,14 +164,18 @@ skip-watcher e h more gone = record {
   count = h.count;
   small = h.small;
   room = h.room;
-  guarded = λ i c lt held. ⊎_elim
-      (λ same. absurd (gone c (subst (λ (n : ℕ). IsHeld (store_of e) n c) same held)))
-      (λ ne. h.guarded i c (omega arith) held)
+  short = h.short;
+  closed = h.closed;
+  guarded = λ i c lt held long. ⊎_elim
+      (λ same. absurd (passed c (subst (λ (n : ℕ). IsHeld (store_of e) n c) same held)
+      (subst (λ (n : ℕ). IsLong e n c) same long)))
+      (λ ne. h.guarded i c (omega arith) held long)
       (cases_eq i e.checked);
   current = h.current;
-  listed = λ i c lt held. ⊎_elim
-      (λ same. absurd (gone c (subst (λ (n : ℕ). IsHeld (store_of e) n c) same held)))
-      (λ ne. let g = h.listed i c (omega arith) held in record {
+  listed = λ i c lt held long. ⊎_elim
+      (λ same. absurd (passed c (subst (λ (n : ℕ). IsHeld (store_of e) n c) same held)
+      (subst (λ (n : ℕ). IsLong e n c) same long)))
+      (λ ne. let g = h.listed i c (omega arith) held long in record {
         watch = g.watch;
         is_watch = g.is_watch;
         first =
@@ -178,6 +188,7 @@ skip-watcher e h more gone = record {
         id = g.id;
         of = g.of;
         checked = omega arith;
+        long = g.long;
         watch = g.watch;
         is_watch = g.is_watch;
         first = g.first;
@@ -190,6 +201,7 @@ pub rest-watcher : (e : Watcher) (n : ℕ) → IsWatcher e → n ≡ length e.he
     → ((id : ℕ) (c : List Lit) → e.checked ≤ id → IsHeld (store_of e) id c → ⊥)
     → IsWatcher (record {
       held = e.held;
+      short = e.short;
       lists = e.lists;
       trail = e.trail;
       queue = e.queue;
@@ -207,11 +219,13 @@ rest-watcher e n h all gone =
       count = h.count;
       small = h.small;
       room = h.room;
-      guarded = λ i c lt held. ⊎_elim (λ before. h.guarded i c before held) (λ ge. absurd (gone i c ge held))
-          (cases_lt i e.checked);
+      short = h.short;
+      closed = h.closed;
+      guarded = λ i c lt held long. ⊎_elim (λ before. h.guarded i c before held long)
+          (λ ge. absurd (gone i c ge held)) (cases_lt i e.checked);
       current = h.current;
-      listed = λ i c lt held. ⊎_elim
-          (λ before. let g = h.listed i c before held in record {
+      listed = λ i c lt held long. ⊎_elim
+          (λ before. let g = h.listed i c before held long in record {
             watch = g.watch;
             is_watch = g.is_watch;
             first =
@@ -225,6 +239,7 @@ rest-watcher e n h all gone =
             id = g.id;
             of = g.of;
             checked = omega arith;
+            long = g.long;
             watch = g.watch;
             is_watch = g.is_watch;
             first = g.first;
@@ -235,47 +250,54 @@ rest-watcher e n h all gone =
 -- two literals that are not false may be watched
 pub two-attach : (e : Watcher) (w : Watch) → IsWatcher e → WatchChoiceGives e e.checked (Two w) → CanAttach e w
 two-attach e w h p c held =
-    subst (λ (x : List Lit). IsWatched e.trail.steps e.queue e.stale x w)
-    (same-held (store_of e) e.checked p.0 c p.1 held) (record {
-      has_first = p.2;
-      has_second = p.3;
-      ways = inr (record {
-        distinct = λ y. p.4 (sym y);
-        first = guards-unfalse e.trail.values e.trail.steps e.queue e.stale w.first w.second h.store.trail.coherent p.5;
-        second = guards-unfalse e.trail.values e.trail.steps e.queue e.stale w.second w.first
-            h.store.trail.coherent p.6;
-      });
-    })
+    let same : p.0 ≡ c = same-held (store_of e) e.checked p.0 c p.1 held in (
+      subst (IsLong e e.checked) same p.7,
+      subst (λ (x : List Lit). IsWatched e.trail.steps e.queue e.stale x w) same (record {
+        has_first = p.2;
+        has_second = p.3;
+        ways = inr (record {
+          distinct = λ y. p.4 (sym y);
+          first = guards-unfalse e.trail.values e.trail.steps e.queue e.stale w.first w.second
+              h.store.trail.coherent p.5;
+          second = guards-unfalse e.trail.values e.trail.steps e.queue e.stale w.second w.first
+              h.store.trail.coherent p.6;
+        });
+      }),
+    )
 
 -- a true literal may be watched with one that became false at no lower level
 pub pair-attach : (e : Watcher) (l m : Lit) (c : List Lit) → IsWatcher e → IsHeld (store_of e) e.checked c
-    → Contains c l → value_in e.trail.values l ≡ Some true → IsPartner e e.checked l m
+    → IsLong e e.checked c → Contains c l → value_in e.trail.values l ≡ Some true → IsPartner e e.checked l m
     → CanAttach e (record { first = l; second = m })
-pair-attach e l m c h held has t p d k =
+pair-attach e l m c h held long has t p d k =
     let w : Watch = record { first = l; second = m } in
-    subst (λ (x : List Lit). IsWatched e.trail.steps e.queue e.stale x w)
-    (same-held (store_of e) e.checked c d held k) (record {
-      has_first = has;
-      has_second = p.member c held;
-      ways = inr (record {
-        distinct = p.distinct;
-        first = guards-unfalse e.trail.values e.trail.steps e.queue e.stale l m h.store.trail.coherent
-            (λ f. let y : Some true ≡ Some false = sym t ∙ f in cc);
-        second = λ i u lt eu is. (p.at, p.step, p.is_step, p.made, inr (p.later i u eu is));
-      });
-    })
+    let same : c ≡ d = same-held (store_of e) e.checked c d held k in (
+      subst (IsLong e e.checked) same long,
+      subst (λ (x : List Lit). IsWatched e.trail.steps e.queue e.stale x w) same (record {
+        has_first = has;
+        has_second = p.member c held;
+        ways = inr (record {
+          distinct = p.distinct;
+          first = guards-unfalse e.trail.values e.trail.steps e.queue e.stale l m h.store.trail.coherent
+              (λ f. let y : Some true ≡ Some false = sym t ∙ f in cc);
+          second = λ i u lt eu is. (p.at, p.step, p.is_step, p.made, inr (p.later i u eu is));
+        });
+      }),
+    )
 
 -- a clause with a true literal may be watched by it, at level 0 or where levels are passed over
-pub one-attach : (e : Watcher) (l : Lit) (c : List Lit) → IsWatcher e → IsHeld (store_of e) e.checked c → Contains c l
-    → value_in e.trail.values l ≡ Some true → ((e.stale ≡ true) ⊎ (e.trail.level ≡ 0))
-    → CanAttach e (record { first = l; second = l })
-one-attach e l c h held has t low d k =
+pub one-attach : (e : Watcher) (l : Lit) (c : List Lit) → IsWatcher e → IsHeld (store_of e) e.checked c
+    → IsLong e e.checked c → Contains c l → value_in e.trail.values l ≡ Some true
+    → ((e.stale ≡ true) ⊎ (e.trail.level ≡ 0)) → CanAttach e (record { first = l; second = l })
+one-attach e l c h held long has t low d k =
     let m : IsMade e.trail.steps l = h.store.trail.coherent.was_made l t in
     let w : Watch = record { first = l; second = l } in
     let top : m.1.level ≤ e.trail.level = h.store.trail.top m.0 m.1 m.2 in
-    subst (λ (x : List Lit). IsWatched e.trail.steps e.queue e.stale x w)
-    (same-held (store_of e) e.checked c d held k) (record {
-      has_first = has;
-      has_second = has;
-      ways = inl (m.0, m.1, m.2, subst (Contains c) (sym m.3) has, ⊎_elim (λ s. inl s) (λ z. inr (omega arith)) low);
-    })
+    let same : c ≡ d = same-held (store_of e) e.checked c d held k in (
+      subst (IsLong e e.checked) same long,
+      subst (λ (x : List Lit). IsWatched e.trail.steps e.queue e.stale x w) same (record {
+        has_first = has;
+        has_second = has;
+        ways = inl (m.0, m.1, m.2, subst (Contains c) (sym m.3) has, ⊎_elim (λ s. inl s) (λ z. inr (omega arith)) low);
+      }),
+    )

@@ -16,11 +16,12 @@ use Rattle.clause_base.specs.ListsState.{ListsState, HasLaws, nodes_of}
 use Rattle.clause_base.specs.StoreState.{IsStore, IsHeld, Implies, with_trail}
 use Rattle.clause_store.specs.declared.watched.Watch.{Watch}
 use Rattle.clause_store.specs.declared.watched.Watcher.{Watcher}
-use Rattle.clause_store.specs.Watching.{store_of, Guards, IsWatched, IsWatcher}
+use Rattle.clause_store.specs.Watching.{store_of, Guards, IsClosed, IsWatched, IsWatcher}
 use Rattle.clause_store.specs.Visits.{MayAssign}
 use Rattle.clause_base.proofs.ListFacts.{slice_get-push_cases, slice_get-take, slice_get-take-below}
 use Rattle.clause_base.proofs.StoreFacts.{store-assign, store-cut, store-cleared, store-fix}
 use Rattle.clause_store.proofs.WatchFacts.{watched-push}
+use Rattle.clause_store.proofs.ClosedFacts.{closed-none, closed-push, closed-stale}
 use Rattle.clause_store.proofs.ImplyFacts.{owned-sized}
 
 guards-stale : (steps : List Step) (q : ℕ) (stale : Bool) (a b : Lit) → Guards steps q stale a b
@@ -43,6 +44,7 @@ watched-stale steps q stale c w h = record {
 
 pub watcher-stale : (e : Watcher) → IsWatcher e → IsWatcher (record {
   held = e.held;
+  short = e.short;
   lists = e.lists;
   trail = e.trail;
   queue = e.queue;
@@ -58,10 +60,12 @@ watcher-stale e h = record {
   count = h.count;
   small = h.small;
   room = h.room;
-  guarded = λ id c lt held. let g = h.guarded id c lt held in
+  short = h.short;
+  closed = λ id c lt held short. closed-stale e.trail.steps e.queue e.stale c (h.closed id c lt held short);
+  guarded = λ id c lt held long. let g = h.guarded id c lt held long in
       (g.0, g.1, watched-stale e.trail.steps e.queue e.stale c g.0 g.2);
   current = λ n. cc;
-  listed = λ i c lt held. let g = h.listed i c lt held in record {
+  listed = λ i c lt held long. let g = h.listed i c lt held long in record {
     watch = g.watch;
     is_watch = g.is_watch;
     first =
@@ -72,6 +76,7 @@ watcher-stale e h = record {
     id = g.id;
     of = g.of;
     checked = g.checked;
+    long = g.long;
     watch = g.watch;
     is_watch = g.is_watch;
     first = g.first;
@@ -84,6 +89,7 @@ pub watcher-step : (e : Watcher) (t : Step) → IsWatcher e → IsStore (with_tr
     → (e.stale ≡ false → (k : ℕ) (u : Step) → e.queue ≤ k → slice_get e.trail.steps k ≡ Some u → u.level ≡ t.level)
     → IsWatcher (record {
       held = e.held;
+      short = e.short;
       lists = e.lists;
       trail = with_step e.trail t;
       queue = e.queue;
@@ -103,11 +109,13 @@ watcher-step e t h store current =
       count = rw length-set h.count;
       small = rw length-set h.small;
       room = h.room;
-      guarded = λ i c lt held. let g = h.guarded i c lt held in
+      short = rw length-set h.short;
+      closed = λ i c lt held short. closed-push e.trail.steps t e.queue e.stale c h.queue (h.closed i c lt held short);
+      guarded = λ i c lt held long. let g = h.guarded i c lt held long in
           (g.0, g.1, watched-push e.trail.steps t e.queue e.stale c g.0 h.queue g.2);
       current = λ n k u le eu. ⊎_elim (λ o. current n k u le o) (λ x. ap (λ (y : Step). y.level) x.1)
           (slice_get-push_cases e.trail.steps t k u eu);
-      listed = λ i c lt held. let g = h.listed i c lt held in record {
+      listed = λ i c lt held long. let g = h.listed i c lt held long in record {
         watch = g.watch;
         is_watch = g.is_watch;
         first =
@@ -121,6 +129,7 @@ pub watcher-assign : (e : Watcher) (l : Lit) (r : Option ℕ) → IsWatcher e �
     → value_in e.trail.values l ≡ None → ForSome r (λ id. Implies (store_of e) id l) → MayAssign e r
     → IsWatcher (record {
       held = e.held;
+      short = e.short;
       lists = e.lists;
       trail =
           with_step e.trail (record { lit = l; level = level_after e.trail.level r; reason = r });
@@ -143,6 +152,7 @@ pub watcher-fix : (e : Watcher) (l : Lit) → IsWatcher e → e.trail.level ≡ 
     → value_in e.trail.values l ≡ None → ((id : ℕ) (c : List Lit) → IsHeld (store_of e) id c → Contains c (negated l)
     → ⊥) → IsWatcher (record {
       held = e.held;
+      short = e.short;
       lists = e.lists;
       trail =
           with_step e.trail (record { lit = l; level = 0; reason = None });
@@ -160,6 +170,7 @@ pub watcher-emptied : (e : Watcher) (lists : ListsState) (t : TrailState) (stale
     → lists.labels ≡ e.lists.labels → length lists.lists ≡ length e.lists.lists → ((j : ℕ) → nodes_of lists j ≡ [])
     → (stale ≡ false → t.level ≡ 0) → IsWatcher (record {
       held = e.held;
+      short = e.short;
       lists = lists;
       trail = t;
       queue = 0;
@@ -178,17 +189,27 @@ watcher-emptied e lists t stale h store size laws nodes count empty low = record
   small = let k : length e.trail.values ≤ 2 ^ 31 = h.small in omega arith;
   room = λ spare. let k : 2 * length e.held.clauses + 2 ≤ length e.lists.labels = h.room spare in
       let n : length lists.labels ≡ length e.lists.labels = ap length nodes in omega arith;
-  guarded = λ i c lt held. absurd (omega arith);
+  short = rw size h.short;
+  closed = λ i c lt held short. closed-none t.steps stale c short (store.once i c held);
+  guarded = λ i c lt held long. absurd (omega arith);
   current = λ n k u le eu. let a : u.level ≤ t.level = store.trail.top k u eu in let z : t.level ≡ 0 =
       low n in omega arith;
-  listed = λ i c lt held. absurd (omega arith);
+  listed = λ i c lt held long. absurd (omega arith);
   owned = λ j n has. absurd (nothing_in_none n (subst (λ (xs : List ℕ). Contains xs n) (empty j) has));
 }
 
 pub watcher-reset : (e : Watcher) (level : ℕ) (lists : ListsState) (t : TrailState) (stale : Bool) → IsWatcher e
     → CutsAt level e.trail t → IsTrail t → HasLaws lists → lists.labels ≡ e.lists.labels → length lists.lists
     ≡ length e.lists.lists → ((j : ℕ) → nodes_of lists j ≡ []) → (stale ≡ false → level ≡ 0)
-    → IsWatcher (record { held = e.held; lists = lists; trail = t; queue = 0; checked = 0; stale = stale })
+    → IsWatcher (record {
+      held = e.held;
+      short = e.short;
+      lists = lists;
+      trail = t;
+      queue = 0;
+      checked = 0;
+      stale = stale;
+    })
 watcher-reset e level lists t stale h cut trail laws nodes count empty low =
     watcher-emptied e lists t stale h (store-cut (store_of e) level t h.store cut trail) cut.size laws nodes count empty
     (λ n. cut.level_is ∙ low n)
@@ -197,6 +218,7 @@ pub watcher-cleared : (e : Watcher) (lists : ListsState) (t : TrailState) → Is
     → HasLaws lists → lists.labels ≡ e.lists.labels → length lists.lists ≡ length e.lists.lists
     → ((j : ℕ) → nodes_of lists j ≡ []) → IsWatcher (record {
       held = e.held;
+      short = e.short;
       lists = lists;
       trail = t;
       queue = 0;
@@ -256,9 +278,25 @@ module _ (e : Watcher) (level : ℕ) (t : TrailState) (h : IsWatcher e) (fresh :
         p.ways;
   }
 
+  closed-cut : (c : List Lit) (q : ℕ) → q ≤ e.queue → IsClosed e.trail.steps e.queue e.stale c
+      → IsClosed t.steps q e.stale c
+  closed-cut c q qle p m has top others =
+      let w = p m has (min top level) (λ l member ne.
+      let o = others l member ne in
+      let lt : o.0 < q = o.2 in
+      let high : o.1.level ≤ top = o.5 in
+      let low : o.1.level ≤ level = cut.below o.0 o.1 o.3 in
+      (o.0, o.1, omega arith, was o.0 o.1 o.3, o.4, omega arith)) in
+      ⊎_elim
+      (λ s. absurd (both_ways e.stale fresh s))
+      (λ le. let both : w.1.level ≤ min top level = le in
+      (w.0, w.1, kept-low w.0 w.1 w.2 (omega arith), w.3, inr (omega arith)))
+      w.4
+
   pub watcher-cut : (q : ℕ) → q ≡ min e.queue (length t.steps)
       → IsWatcher (record {
         held = e.held;
+        short = e.short;
         lists = e.lists;
         trail = t;
         queue = q;
@@ -274,14 +312,17 @@ module _ (e : Watcher) (level : ℕ) (t : TrailState) (h : IsWatcher e) (fresh :
     count = rw cut.size h.count;
     small = rw cut.size h.small;
     room = h.room;
-    guarded = λ i c lt held. let g = h.guarded i c lt held in (g.0, g.1, watched-cut c g.0 q (omega arith) g.2);
+    short = rw cut.size h.short;
+    closed = λ i c lt held short. closed-cut c q (omega arith) (h.closed i c lt held short);
+    guarded = λ i c lt held long. let g = h.guarded i c lt held long in
+        (g.0, g.1, watched-cut c g.0 q (omega arith) g.2);
     current = λ n k u kle eu.
         let within : k < length t.steps = slice_get_within t.steps k u eu in
         let old : u.level ≡ e.trail.level = h.current n k u (omega arith) (was k u eu) in
         let low : u.level ≤ level = cut.below k u eu in
         let lv : t.level ≡ level = cut.level_is in
         omega arith;
-    listed = λ i c lt held. let g = h.listed i c lt held in record {
+    listed = λ i c lt held long. let g = h.listed i c lt held long in record {
       watch = g.watch;
       is_watch = g.is_watch;
       first =
@@ -292,6 +333,7 @@ module _ (e : Watcher) (level : ℕ) (t : TrailState) (h : IsWatcher e) (fresh :
       id = g.id;
       of = g.of;
       checked = g.checked;
+      long = g.long;
       watch = g.watch;
       is_watch = g.is_watch;
       first = rw cut.size g.first;

@@ -1,17 +1,22 @@
 -- The watcher with more room, more variables, and other clauses.
 use Rattle.std.proofs.Common.{◌≡◌, ℕ, ◌<◌, ◌≤◌, ◌+◌, ◌*◌, ◌^◌, Some, List, [], length, sym, ap, ◌∙◌, arith, slice_get}
 use Rattle.std.proofs.Common.{subst, Contains}
+use Rattle.std.proofs.lemmas.List.Elements.{All-weaker}
 use Rattle.lit_core.specs.declared.literals.Lit.{Lit}
 use Rattle.lit_core.proofs.LiteralFacts.{nothing_in_none}
 use Rattle.clause_base.specs.TrailState.{TrailState}
 use Rattle.clause_base.specs.TrailLaws.{IsTrail, empty_trail}
 use Rattle.clause_base.specs.ListsState.{ListsState, HasLaws, nodes_of}
+use Rattle.clause_base.specs.ShortState.{ShortState, HaveLists, IsPacked, IsShort}
 use Rattle.clause_base.specs.StoreState.{IsStore, IsHeld}
 use Rattle.clause_base.specs.declared.trail.Step.{Step}
 use Rattle.clause_store.specs.declared.watched.Watch.{Watch}
 use Rattle.clause_store.specs.declared.watched.Watcher.{Watcher}
-use Rattle.clause_store.specs.Watching.{code_of, store_of, HasWatch, IsWatcher, IsWatched}
+use Rattle.clause_store.specs.Watching.{code_of, store_of, HasWatch, IsClosed, IsLong, IsWatcher, IsWatched}
+use Rattle.clause_base.proofs.ShortFacts.{packed-empty}
 use Rattle.clause_base.proofs.StoreFacts.{store-longer}
+use Rattle.clause_store.proofs.ClosedFacts.{closed-none}
+use Rattle.clause_store.proofs.NodeFacts.{short-within}
 
 -- what is written on nodes stays where there are more of them
 pub watch-kept : (labels more : List ℕ) → ((k x : ℕ) → slice_get labels k ≡ Some x → slice_get more k ≡ Some x)
@@ -22,15 +27,25 @@ watch-kept labels more kept id w h = record {
       kept (2 * id) (code_of w.second) h.second;
 }
 
+-- what is not listed with the short ones is not in the same lists
+packed-same : (a b : ShortState) → a ≡ b → (id : ℕ) (c : List Lit) → (id < a.packed → IsShort c → ⊥)
+    → id < b.packed → IsShort c → ⊥
+packed-same a b same id c long below short = long (subst (λ (s : ShortState). id < s.packed) (sym same) below) short
+
 -- more nodes and other clauses, of which those that are watched were held before
 pub watcher-held : (e : Watcher) (b : Watcher) → IsWatcher e → IsStore (store_of b) → b.trail ≡ e.trail
-    → b.queue ≡ e.queue → b.checked ≡ e.checked → b.stale ≡ e.stale → e.checked ≤ length b.held.clauses
+    → b.queue ≡ e.queue → b.checked ≡ e.checked → b.stale ≡ e.stale → b.short ≡ e.short
+    → IsPacked b.held.clauses (length e.trail.values) e.short → e.checked ≤ length b.held.clauses
     → 2 * length b.held.clauses ≤ length b.lists.labels → (0 < b.held.spare → 2 * length b.held.clauses + 2
-    ≤ length b.lists.labels) → ((id : ℕ) (c : List Lit) → id < e.checked → IsHeld (store_of b) id c
+    ≤ length b.lists.labels) → ((id : ℕ) (c : List Lit) → id < length e.held.clauses → IsHeld (store_of b) id c
     → IsHeld (store_of e) id c) → ((k x : ℕ) → slice_get e.lists.labels k ≡ Some x → slice_get b.lists.labels k
     ≡ Some x) → HasLaws b.lists → length e.lists.lists ≤ length b.lists.lists
     → ((j : ℕ) → nodes_of b.lists j ≡ nodes_of e.lists j) → IsWatcher b
-watcher-held e b h store trail queue checked stale shorter nodes room was kept laws count lists =
+watcher-held e b h store trail queue checked stale short packed shorter nodes room was kept laws count lists =
+    let all : e.checked ≤ length e.held.clauses = h.checked in
+    let some : e.short.packed ≤ length e.held.clauses = h.short.within in
+    let was_long : (id : ℕ) (c : List Lit) → IsLong b id c → IsLong e id c =
+    λ id c long. packed-same b.short e.short short id c long in
     record {
       store = store;
       lists = laws;
@@ -40,14 +55,18 @@ watcher-held e b h store trail queue checked stale shorter nodes room was kept l
       count = let k : 2 * length e.trail.values ≤ length e.lists.lists = h.count in rw trail (omega arith);
       small = rw trail h.small;
       room = room;
-      guarded = λ id c lt held.
+      short = rw (trail, short) packed;
+      closed = λ id c lt held small.
+          let same : b.short.packed ≡ e.short.packed = ap (λ (s : ShortState). s.packed) short in
+          rw (trail, queue, stale) (h.closed id c (omega arith) (was id c (omega arith) held) small);
+      guarded = λ id c lt held long.
           let lto : id < e.checked = omega arith in
-          let g = h.guarded id c lto (was id c lto held) in
+          let g = h.guarded id c lto (was id c (omega arith) held) (was_long id c long) in
           (g.0, watch-kept e.lists.labels b.lists.labels kept id g.0 g.1, rw (trail, queue, stale) g.2);
       current = rw (trail, queue, stale) h.current;
-      listed = λ id c lt held.
+      listed = λ id c lt held long.
           let lto : id < e.checked = omega arith in
-          let g = h.listed id c lto (was id c lto held) in
+          let g = h.listed id c lto (was id c (omega arith) held) (was_long id c long) in
           record {
             watch = g.watch;
             is_watch = watch-kept e.lists.labels b.lists.labels kept id g.watch g.is_watch;
@@ -60,6 +79,9 @@ watcher-held e b h store trail queue checked stale shorter nodes room was kept l
             id = g.id;
             of = g.of;
             checked = rw checked g.checked;
+            long = λ c held.
+                let lt : g.id < e.checked = g.checked in
+                packed-same e.short b.short (sym short) g.id c (g.long c (was g.id c (omega arith) held));
             watch = g.watch;
             is_watch = watch-kept e.lists.labels b.lists.labels kept g.id g.watch g.is_watch;
             first = rw trail g.first;
@@ -68,18 +90,20 @@ watcher-held e b h store trail queue checked stale shorter nodes room was kept l
     }
 
 -- more variables, and more lists
-pub watcher-longer : (e : Watcher) (lists : ListsState) (t : TrailState) → IsWatcher e → t.steps ≡ e.trail.steps
+pub watcher-longer : (e : Watcher) (lists : ListsState) (short : ShortState) (t : TrailState) → IsWatcher e
+    → IsPacked e.held.clauses (length t.values) short → short.packed ≡ e.short.packed → t.steps ≡ e.trail.steps
     → t.level ≡ e.trail.level → length e.trail.values ≤ length t.values → IsTrail t → HasLaws lists
     → lists.labels ≡ e.lists.labels → 2 * length t.values ≤ length lists.lists → length t.values ≤ 2 ^ 31
     → ((j : ℕ) → nodes_of lists j ≡ nodes_of e.lists j) → IsWatcher (record {
       held = e.held;
+      short = short;
       lists = lists;
       trail = t;
       queue = e.queue;
       checked = e.checked;
       stale = e.stale;
     })
-watcher-longer e lists t h steps level longer trail laws nodes count small same =
+watcher-longer e lists short t h packed below steps level longer trail laws nodes count small same =
     record {
       store = store-longer (store_of e) t h.store steps longer trail;
       lists = laws;
@@ -91,15 +115,18 @@ watcher-longer e lists t h steps level longer trail laws nodes count small same 
       small = small;
       room = λ spare. let k : 2 * length e.held.clauses + 2 ≤ length e.lists.labels = h.room spare in
           let n : length lists.labels ≡ length e.lists.labels = ap length nodes in omega arith;
-      guarded = λ id c lt held. let g = h.guarded id c lt held in (
+      short = packed;
+      closed = λ id c lt held small. subst (λ (xs : List Step). IsClosed xs e.queue e.stale c) (sym steps)
+          (h.closed id c (omega arith) held small);
+      guarded = λ id c lt held long. let g = h.guarded id c lt held (λ p s. long (omega arith) s) in (
         g.0,
         subst (λ (ls : List ℕ). HasWatch ls id g.0) (sym nodes) g.1,
         subst (λ (xs : List Step). IsWatched xs e.queue e.stale c g.0) (sym steps) g.2,
       );
       current = λ n k u le eu. h.current n k u le (subst (λ (xs : List Step). slice_get xs k ≡ Some u) steps eu)
           ∙ sym level;
-      listed = λ id c lt held.
-          let g = h.listed id c lt held in
+      listed = λ id c lt held long.
+          let g = h.listed id c lt held (λ p s. long (omega arith) s) in
           record {
             watch = g.watch;
             is_watch = subst (λ (ls : List ℕ). HasWatch ls id g.watch) (sym nodes) g.is_watch;
@@ -114,6 +141,7 @@ watcher-longer e lists t h steps level longer trail laws nodes count small same 
             id = g.id;
             of = g.of;
             checked = g.checked;
+            long = λ c held p s. g.long c held (omega arith) s;
             watch = g.watch;
             is_watch =
                 subst (λ (ls : List ℕ). HasWatch ls g.id g.watch) (sym nodes) g.is_watch;
@@ -123,10 +151,51 @@ watcher-longer e lists t h steps level longer trail laws nodes count small same 
           };
     }
 
+-- there is a list of short clauses for each literal of the clauses
+pub have-lists : (e : Watcher) → IsWatcher e → HaveLists (length e.short.lists) e.held.clauses
+have-lists e h id c held = All-weaker (λ l. l.var.0 < length e.trail.values) (λ l. code_of l < length e.short.lists)
+    (short-within e h) c (h.store.in_range id c held)
+
+-- nothing is assigned and no clause is watched, and more short clauses may be listed
+pub watcher-packed : (e : Watcher) (lists : ListsState) (short : ShortState) → IsWatcher e → e.trail.steps ≡ []
+    → HasLaws lists → lists.labels ≡ e.lists.labels → length lists.lists ≡ length e.lists.lists
+    → ((j : ℕ) → nodes_of lists j ≡ []) → IsPacked e.held.clauses (length e.trail.values) short → IsWatcher (record {
+      held = e.held;
+      short = short;
+      lists = lists;
+      trail = e.trail;
+      queue = e.queue;
+      checked = 0;
+      stale = e.stale;
+    })
+watcher-packed e lists short h none laws nodes count empty packed =
+    let q : e.queue ≤ length e.trail.steps = h.queue in
+    let zero_steps : length e.trail.steps ≡ 0 = ap length none in
+    let start : e.queue ≡ 0 = omega arith in
+    record {
+      store = h.store;
+      lists = laws;
+      queue = h.queue;
+      checked = omega arith;
+      nodes = let k : 2 * length e.held.clauses ≤ length e.lists.labels = h.nodes in let n : length lists.labels
+          ≡ length e.lists.labels = ap length nodes in omega arith;
+      count = let k : 2 * length e.trail.values ≤ length e.lists.lists = h.count in omega arith;
+      small = h.small;
+      room = λ spare. let k : 2 * length e.held.clauses + 2 ≤ length e.lists.labels = h.room spare in
+          let n : length lists.labels ≡ length e.lists.labels = ap length nodes in omega arith;
+      short = packed;
+      closed = λ i c lt held small. rw start (closed-none e.trail.steps e.stale c small (h.store.once i c held));
+      guarded = λ i c lt held long. absurd (omega arith);
+      current = h.current;
+      listed = λ i c lt held long. absurd (omega arith);
+      owned = λ j n has. absurd (nothing_in_none n (subst (λ (xs : List ℕ). Contains xs n) (empty j) has));
+    }
+
 pub watcher-empty : (e : Watcher) → IsStore (store_of e) → e.held.clauses ≡ [] → e.held.spare ≡ 0
-    → e.trail ≡ empty_trail → e.queue ≡ 0 → e.checked ≡ 0 → HasLaws e.lists → ((j : ℕ) → nodes_of e.lists j ≡ [])
+    → e.trail ≡ empty_trail → e.queue ≡ 0 → e.checked ≡ 0 → e.short ≡ record { lists = []; packed = 0 }
+    → HasLaws e.lists → ((j : ℕ) → nodes_of e.lists j ≡ [])
     → IsWatcher e
-watcher-empty e store clauses spare trail queue checked laws empty =
+watcher-empty e store clauses spare trail queue checked short laws empty =
     let none : length e.held.clauses ≡ 0 = ap length clauses in
     let no_values : length e.trail.values ≡ 0 = ap (λ (t : TrailState). length t.values) trail in
     record {
@@ -138,9 +207,12 @@ watcher-empty e store clauses spare trail queue checked laws empty =
       count = omega arith;
       small = omega arith;
       room = λ pos. absurd (omega arith);
-      guarded = λ id c lt held. absurd (omega arith);
+      short = rw (clauses, short, no_values) packed-empty;
+      closed = λ id c lt held small. let z : e.short.packed ≡ 0 = ap (λ (s : ShortState). s.packed) short in
+          absurd (omega arith);
+      guarded = λ id c lt held long. absurd (omega arith);
       current = λ n k t le et. (let x : slice_get [] k ≡ Some t =
           subst (λ (y : TrailState). slice_get y.steps k ≡ Some t) trail et in cc);
-      listed = λ id c lt held. absurd (omega arith);
+      listed = λ id c lt held long. absurd (omega arith);
       owned = λ j n has. absurd (nothing_in_none n (subst (λ (xs : List ℕ). Contains xs n) (empty j) has));
     }

@@ -19,6 +19,7 @@ use Rattle.clause_base.proofs.ListFacts.{slice_get-push_cases}
 use Rattle.clause_base.proofs.PropagateFacts.{propagates-refl, propagates-step}
 use Rattle.clause_base.proofs.StoreFacts.{store-assign}
 use Rattle.clause_store.proofs.WatchFacts.{good-push, pair-implied, pair-swap, same-held, watched-push}
+use Rattle.clause_store.proofs.ClosedFacts.{closed-push}
 use Rattle.clause_store.proofs.NodeFacts.{literal-within, same-node}
 
 pub last-push : (front : List ℕ) (n : ℕ) → last_of (front ++ n ∷ []) ≡ Some n
@@ -39,6 +40,7 @@ passes-node old new node f before same front rest is last = (
 pub owned-sized : (e : Watcher) (t : Step) (n : ℕ) → IsWatchNode e n
     → IsWatchNode (record {
       held = e.held;
+      short = e.short;
       lists = e.lists;
       trail = with_step e.trail t;
       queue = e.queue;
@@ -50,6 +52,7 @@ owned-sized e t n h = record {
   id = h.id;
   of = h.of;
   checked = h.checked;
+  long = h.long;
   watch = h.watch;
   is_watch = h.is_watch;
   first = rw length-set h.first;
@@ -61,6 +64,7 @@ module _ (e : Watcher) (h : IsWatcher e) (node : ℕ) (f : Lit) (next : IsNext e
   abbrev after-imply : Watcher
   after-imply = record {
     held = e.held;
+    short = e.short;
     lists = e.lists;
     trail =
         with_step e.trail (record { lit = other; level = e.trail.level; reason = Some m.id });
@@ -94,11 +98,14 @@ module _ (e : Watcher) (h : IsWatcher e) (node : ℕ) (f : Lit) (next : IsNext e
         count = rw length-set h.count;
         small = rw length-set h.small;
         room = h.room;
-        guarded = λ i c lt held. let g = h.guarded i c lt held in
+        short = rw length-set h.short;
+        closed = λ i c lt held short. closed-push e.trail.steps t e.queue e.stale c h.queue
+            (h.closed i c lt held short);
+        guarded = λ i c lt held long. let g = h.guarded i c lt held long in
             (g.0, g.1, watched-push e.trail.steps t e.queue e.stale c g.0 h.queue g.2);
         current = λ n k u le eu. ⊎_elim (λ o. h.current n k u le o) (λ x. ap (λ (y : Step). y.level) x.1)
             (slice_get-push_cases e.trail.steps t k u eu);
-        listed = λ i c lt held. let g = h.listed i c lt held in record {
+        listed = λ i c lt held long. let g = h.listed i c lt held long in record {
           watch = g.watch;
           is_watch = g.is_watch;
           first =
@@ -119,6 +126,7 @@ module _ (e : Watcher) (h : IsWatcher e) (node : ℕ) (f : Lit) (next : IsNext e
   pub imply-keeps : Keeps e after-imply node
   imply-keeps = record {
     held = refl;
+    short = refl;
     queue = refl;
     checked = refl;
     stale = refl;

@@ -1,10 +1,13 @@
 pub mod AttachFacts
 pub mod ChangeFacts
+pub mod ClosedFacts
 pub mod GrowthFacts
 pub mod ImplyFacts
+pub mod MeetFacts
 pub mod MoveFacts
 pub mod NodeFacts
 pub mod QuietFacts
+pub mod ShortWalk
 pub mod WalkFacts
 pub mod WatchFacts
 pub use Rattle.clause_base.proofs.DecisionFacts

@@ -10,14 +10,15 @@ use Rattle.clause_store.specs.declared.watched.Watch.{Watch}
 use Rattle.clause_store.specs.declared.watched.Watcher.{Watcher}
 use Rattle.clause_base.specs.ListsState.{ListsState, HasLaws, nodes_of}
 use Rattle.clause_base.specs.StoreState.{IsHeld, Propagates}
-use Rattle.clause_store.specs.Watching.{code_of, store_of, HasWatch, IsWatcher, IsWatchNode, IsListed, IsNodeOf, IsPair}
-use Rattle.clause_store.specs.Watching.{IsWatched}
+use Rattle.clause_store.specs.Watching.{code_of, store_of, HasWatch, IsLong, IsWatcher, IsWatchNode, IsListed}
+use Rattle.clause_store.specs.Watching.{IsNodeOf, IsPair, IsWatched}
 use Rattle.clause_store.specs.Visits.{CanMove, IsAt, IsNext, Keeps, VisitGives}
 use Rattle.clause_base.proofs.LinkFacts.{contains-cut, cut-contains}
 use Rattle.clause_base.proofs.ListFacts.{slice_get-set_same, slice_get-set_other}
 use Rattle.clause_base.proofs.PropagateFacts.{propagates-refl}
+use Rattle.clause_base.proofs.ShortFacts.{number-same}
 use Rattle.clause_store.proofs.WatchFacts.{pair-moved, pair-swap, same-held, next-false}
-use Rattle.clause_store.proofs.NodeFacts.{same-watch, code-same, literal-within, same-node}
+use Rattle.clause_store.proofs.NodeFacts.{same-watch, literal-within, same-node}
 
 -- a node that left one list and was listed in another
 pub record Moves (old new : ListsState) (from to node : ℕ) : Type 0 where
@@ -111,8 +112,11 @@ module _ (e : Watcher) (h : IsWatcher e) (f : Lit) (next : IsNext e f) (node : �
     (m : CanMove e node f l) where
   -- the literal that is watched now is another one
   pub move-apart : code_of f ≡ code_of l → ⊥
-  move-apart same = m.unfalse (subst (λ (x : Lit). value_in e.trail.values x ≡ Some false) (code-same f l same)
+  move-apart same = m.unfalse (subst (λ (x : Lit). value_in e.trail.values x ≡ Some false) (number-same f l same)
       (next-false e h f next))
+
+  move-long : (c : List Lit) → IsHeld (store_of e) m.id c → IsLong e m.id c
+  move-long c held = subst (IsLong e m.id) (same-held (store_of e) m.id m.clause c m.loose.held held) m.loose.long
 
   module _ (w : Watch) (lists : ListsState) (mine : HasWatch lists.labels m.id w) (theirs : (i : ℕ) (v : Watch)
       → (i ≡ m.id → ⊥) → HasWatch e.lists.labels i v → HasWatch lists.labels i v)
@@ -123,6 +127,7 @@ module _ (e : Watcher) (h : IsWatcher e) (f : Lit) (next : IsNext e f) (node : �
     abbrev after-move : Watcher
     after-move = record {
       held = e.held;
+      short = e.short;
       lists = lists;
       trail = e.trail;
       queue = e.queue;
@@ -169,7 +174,7 @@ module _ (e : Watcher) (h : IsWatcher e) (f : Lit) (next : IsNext e f) (node : �
     -- the clause's two nodes link where they should
     listed-id : (c : List Lit) → IsHeld (store_of e) m.id c → IsListed after-move m.id
     listed-id c held =
-        let old = h.listed m.id c m.checked held in
+        let old = h.listed m.id c m.checked held (move-long c held) in
         let same : old.watch ≡ m.loose.watch = same-watch e.lists.labels m.id old.watch m.loose.watch old.is_watch
         m.loose.is_watch in
         ⊎_elim
@@ -221,6 +226,7 @@ module _ (e : Watcher) (h : IsWatcher e) (f : Lit) (next : IsNext e f) (node : �
           id = m.id;
           of = subst (IsNodeOf n) same old.of;
           checked = m.checked;
+          long = move-long;
           watch = w;
           is_watch = mine;
           first = w-first;
@@ -230,6 +236,7 @@ module _ (e : Watcher) (h : IsWatcher e) (f : Lit) (next : IsNext e f) (node : �
           id = old.id;
           of = old.of;
           checked = old.checked;
+          long = old.long;
           watch = old.watch;
           is_watch = theirs old.id old.watch ne old.is_watch;
           first = old.first;
@@ -248,25 +255,28 @@ module _ (e : Watcher) (h : IsWatcher e) (f : Lit) (next : IsNext e f) (node : �
           ≤ length e.lists.lists = h.count in omega arith;
       small = h.small;
       room = λ spare. let k : 2 * length e.held.clauses + 2 ≤ length e.lists.labels = h.room spare in omega arith;
-      guarded = λ i c lt held. ⊎_elim
+      short = h.short;
+      closed = h.closed;
+      guarded = λ i c lt held long. ⊎_elim
           (λ same. (
             w,
             subst (λ (n : ℕ). HasWatch lists.labels n w) (sym same) mine,
             watched-held e.queue (omega arith) c (subst (λ (n : ℕ). IsHeld (store_of e) n c) same held),
           ))
-          (λ ne. let g = h.guarded i c lt held in (g.0, theirs i g.0 ne g.1, g.2))
+          (λ ne. let g = h.guarded i c lt held long in (g.0, theirs i g.0 ne g.1, g.2))
           (cases_eq i m.id);
       current = h.current;
-      listed = λ i c lt held. ⊎_elim
+      listed = λ i c lt held long. ⊎_elim
           (λ same. subst (IsListed after-move) (sym same) (listed-id c
           (subst (λ (n : ℕ). IsHeld (store_of e) n c) same held)))
-          (λ ne. listed-other i ne (h.listed i c lt held))
+          (λ ne. listed-other i ne (h.listed i c lt held long))
           (cases_eq i m.id);
       owned = λ j n has. ⊎_elim
           (λ same. subst (IsWatchNode after-move) (sym same) (record {
             id = m.id;
             of = m.of;
             checked = m.checked;
+            long = move-long;
             watch = w;
             is_watch = mine;
             first = w-first;
@@ -282,6 +292,7 @@ module _ (e : Watcher) (h : IsWatcher e) (f : Lit) (next : IsNext e f) (node : �
     pub move-keeps : Keeps e after-move node
     move-keeps = record {
       held = refl;
+      short = refl;
       queue = refl;
       checked = refl;
       stale = refl;

@@ -1,5 +1,5 @@
 -- Where the nodes of clauses link.
-use Rattle.std.proofs.Common.{◌≡◌, ℕ, ◌<◌, ◌≤◌, ◌+◌, ◌*◌, ◌^◌, Bool, true, false, cond, Some, List, length, set, refl}
+use Rattle.std.proofs.Common.{◌≡◌, ℕ, ◌<◌, ◌≤◌, ◌+◌, ◌*◌, ◌^◌, Bool, true, false, cond, Some, List, length, set}
 use Rattle.std.proofs.Common.{sym, ap, ◌∙◌, ◌⊎◌, inl, inr, ⊎_elim, arith, subst, Contains}
 use Rattle.std.proofs.lemmas.Option.{same_Some}
 use Rattle.std.proofs.lemmas.List.{length-set}
@@ -7,27 +7,15 @@ use Rattle.clause_base.proofs.ListFacts.{slice_get-set_same, slice_get-set_other
 use Rattle.std.proofs.lemmas.List.Elements.{All-contains}
 use Rattle.lit_core.specs.declared.literals.Lit.{Lit}
 use Rattle.lit_core.specs.Literals.{value_in}
-use Rattle.lit_core.proofs.LiteralFacts.{same_literal}
+use Rattle.clause_base.proofs.ShortFacts.{number-same}
 use Rattle.clause_store.specs.declared.watched.Watch.{Watch}
 use Rattle.clause_store.specs.declared.watched.Watcher.{Watcher}
 use Rattle.clause_store.specs.declared.propagation.Look.TheVariants.{Satisfied, Unsatisfied}
 use Rattle.clause_base.specs.ListsState.{nodes_of}
 use Rattle.clause_base.specs.StoreState.{IsHeld}
-use Rattle.clause_store.specs.Watching.{code_of, store_of, HasWatch, IsWatcher, IsNodeOf, IsPair, IsWatched}
+use Rattle.clause_store.specs.Watching.{code_of, store_of, HasWatch, IsLong, IsWatcher, IsNodeOf, IsPair, IsWatched}
 use Rattle.clause_store.specs.Visits.{IsNext, LookGives}
 use Rattle.clause_store.proofs.WatchFacts.{pair-swap, pair-true}
-
--- different literals have different lists
-pub code-same : (l m : Lit) → code_of l ≡ code_of m → l ≡ m
-code-same l m e = by_sign l.positive m.positive refl refl
-  where
-    by_sign : (p q : Bool) → l.positive ≡ p → m.positive ≡ q → l ≡ m
-    by_sign true true ep eq = let x : 2 * l.var.0 + 1 ≡ 2 * m.var.0 + 1 = rw (ep, eq) at e in
-        same_literal l m (omega arith) (ep ∙ sym eq)
-    by_sign true false ep eq = absurd (let x : 2 * l.var.0 + 1 ≡ 2 * m.var.0 + 0 = rw (ep, eq) at e in omega arith)
-    by_sign false true ep eq = absurd (let x : 2 * l.var.0 + 0 ≡ 2 * m.var.0 + 1 = rw (ep, eq) at e in omega arith)
-    by_sign false false ep eq = let x : 2 * l.var.0 + 0 ≡ 2 * m.var.0 + 0 = rw (ep, eq) at e in
-        same_literal l m (omega arith) (ep ∙ sym eq)
 
 pub code-le : (l : Lit) → code_of l ≤ 2 * l.var.0 + 1
 code-le l = by_sign l.positive
@@ -39,9 +27,9 @@ code-le l = by_sign l.positive
 -- a clause watches just two literals
 pub same-watch : (labels : List ℕ) (id : ℕ) (v w : Watch) → HasWatch labels id v → HasWatch labels id w → v ≡ w
 same-watch labels id v w hv hw =
-    let first : v.first ≡ w.first = code-same v.first w.first (same_Some (code_of v.first) (code_of w.first)
+    let first : v.first ≡ w.first = number-same v.first w.first (same_Some (code_of v.first) (code_of w.first)
     (sym hv.first ∙ hw.first)) in
-    let second : v.second ≡ w.second = code-same v.second w.second (same_Some (code_of v.second) (code_of w.second)
+    let second : v.second ≡ w.second = number-same v.second w.second (same_Some (code_of v.second) (code_of w.second)
     (sym hv.second ∙ hw.second)) in
     let make : Lit → Lit → Watch = λ a b. record { first = a; second = b } in
     ap (λ (a : Lit). make a v.second) first ∙ ap (λ (b : Lit). make w.first b) second
@@ -73,6 +61,14 @@ pub code-within : (e : Watcher) → IsWatcher e → (l : Lit) → l.var.0 < leng
 code-within e h l lt =
     let le : code_of l ≤ 2 * l.var.0 + 1 = code-le l in
     let all : 2 * length e.trail.values ≤ length e.lists.lists = h.count in
+    omega arith
+
+-- and one of short clauses
+pub short-within : (e : Watcher) → IsWatcher e → (l : Lit) → l.var.0 < length e.trail.values
+    → code_of l < length e.short.lists
+short-within e h l lt =
+    let le : code_of l ≤ 2 * l.var.0 + 1 = code-le l in
+    let all : 2 * length e.trail.values ≤ length e.short.lists = h.short.count in
     omega arith
 
 -- and its number fits
@@ -111,11 +107,18 @@ module _ (e : Watcher) (h : IsWatcher e) (f : Lit) (node : ℕ)
       let lt : w.id < e.checked = w.checked in
       omega arith
 
+  pub node-long : (id : ℕ) (c : List Lit) → IsNodeOf node id → IsHeld (store_of e) id c → IsLong e id c
+  node-long id c of held =
+      let w = h.owned (code_of f) node listed in
+      let same : w.id ≡ id = same-node node w.id id w.of of in
+      subst (λ (n : ℕ). IsLong e n c) same (w.long c (subst (λ (n : ℕ). IsHeld (store_of e) n c) (sym same) held))
+
   pub sides : (id : ℕ) (c : List Lit) → IsNodeOf node id → IsHeld (store_of e) id c → Sides e node id f c
   sides id c of held =
       let lt = node-checked id of in
-      let g = h.guarded id c lt held in
-      let w = h.listed id c lt held in
+      let long = node-long id c of held in
+      let g = h.guarded id c lt held long in
+      let w = h.listed id c lt held long in
       let same : w.watch ≡ g.0 = same-watch e.lists.labels id w.watch g.0 w.is_watch g.1 in
       record {
         watch = g.0;
@@ -124,13 +127,13 @@ module _ (e : Watcher) (h : IsWatcher e) (f : Lit) (node : ℕ)
         side = ⊎_elim
             (λ a. inl (
               a,
-              code-same g.0.first f (h.lists.apart (code_of g.0.first) (code_of f) node
+              number-same g.0.first f (h.lists.apart (code_of g.0.first) (code_of f) node
                   (subst (λ (x : ℕ). Contains (nodes_of e.lists (code_of g.0.first)) x) (sym a)
                   (subst (λ (x : Watch). Contains (nodes_of e.lists (code_of x.first)) (2 * id)) same w.first)) listed),
             ))
             (λ a. inr (
               a,
-              code-same g.0.second f (h.lists.apart (code_of g.0.second) (code_of f) node
+              number-same g.0.second f (h.lists.apart (code_of g.0.second) (code_of f) node
                   (subst (λ (x : ℕ). Contains (nodes_of e.lists (code_of g.0.second)) x) (sym a)
                   (subst (λ (x : Watch). Contains (nodes_of e.lists (code_of x.second)) (2 * id + 1)) same w.second))
                   listed),
@@ -189,6 +192,7 @@ module _ (e : Watcher) (h : IsWatcher e) (f : Lit) (node : ℕ)
             let is : s.watch.second ≡ other = sym (first id a.0 ∙ ap (λ (x : Watch). x.second) same) in
             record {
               held = held;
+              long = node-long id c of held;
               has_false = subst (Contains c) a.1 s.watched.has_first;
               has_other = subst (Contains c) is s.watched.has_second;
               untrue = untrue;
@@ -202,6 +206,7 @@ module _ (e : Watcher) (h : IsWatcher e) (f : Lit) (node : ℕ)
             let is : s.watch.first ≡ other = sym (second id a.0 ∙ ap (λ (x : Watch). x.first) same) in
             record {
               held = held;
+              long = node-long id c of held;
               has_false = subst (Contains c) a.1 s.watched.has_second;
               has_other = subst (Contains c) is s.watched.has_first;
               untrue = untrue;

@@ -4,13 +4,15 @@ use Rattle.std.proofs.Common.{◌⊎◌, ⊎_elim, arith, Contains}
 use Rattle.std.proofs.lemmas.Option.{slice_get_within}
 use Rattle.std.proofs.lemmas.List.Elements.{All-contains}
 use Rattle.lit_core.specs.declared.literals.Lit.{Lit}
-use Rattle.lit_core.specs.Literals.{value_in, negated}
+use Rattle.lit_core.specs.Literals.{value_in, negated, HasEachOnce}
 use Rattle.lit_core.specs.Truth.{IsSettled}
+use Rattle.clause_base.specs.ShortState.{IsShort}
 use Rattle.clause_base.specs.TrailLaws.{IsCoherent, IsMade}
 use Rattle.clause_base.specs.StoreState.{IsQuiet, Propagates}
 use Rattle.clause_store.specs.declared.watched.Watcher.{Watcher}
-use Rattle.clause_store.specs.Watching.{store_of, Guards, IsPair, IsWatcher}
+use Rattle.clause_store.specs.Watching.{store_of, Guards, IsClosed, IsPair, IsWatcher}
 use Rattle.clause_base.proofs.StoreFacts.{negated-true}
+use Rattle.clause_store.proofs.ClosedFacts.{decide_long, other_member}
 
 pub record Drains (old e : Watcher) : Type 0 where
   pub watcher : IsWatcher e
@@ -73,11 +75,47 @@ module _ (e : Watcher) (h : IsWatcher e) (done : length e.trail.steps ≤ e.queu
       by_values None (Some false) ea eb = let x : Some true ≡ None = sym (guarded-true b a p.second eb) ∙ ea in cc
       by_values None None ea eb = settled-two e.trail.values c a b ha hb p.distinct ea eb
 
+  -- a literal of a short clause is true where the others are false
+  follows : (c : List Lit) → IsClosed e.trail.steps e.queue e.stale c → (m : Lit) → Contains c m
+      → ((l : Lit) → Contains c l → (l ≡ m → ⊥) → value_in e.trail.values l ≡ Some false)
+      → value_in e.trail.values m ≡ Some true
+  follows c closed m has others =
+      let w = closed m has e.trail.level (λ l member ne.
+      let k : IsMade e.trail.steps (negated l) = coherent.was_made (negated l)
+      (negated-true e.trail.values l (others l member ne)) in
+      let lt : k.0 < length e.trail.steps = slice_get_within e.trail.steps k.0 k.1 k.2 in
+      (k.0, k.1, omega arith, k.2, k.3, h.store.trail.top k.0 k.1 k.2)) in
+      ap (value_in e.trail.values) (sym w.3) ∙ coherent.are_true w.0 w.1 w.2
+
+  short-settled : (c : List Lit) → IsShort c → HasEachOnce c → IsClosed e.trail.steps e.queue e.stale c
+      → IsSettled e.trail.values c
+  short-settled c short once closed = record {
+    not_false = λ f.
+        let all : (l : Lit) → Contains c l → value_in e.trail.values l ≡ Some false =
+        λ l member. All-contains (λ m. value_in e.trail.values m ≡ Some false) c l f member in
+        let o = other_member c nowhere short.0 once in
+        let y : Some true ≡ Some false = sym (follows c closed o.0 o.1 (λ l member ne. all l member)) ∙ all o.0 o.1 in
+        cc;
+    not_unit = λ m u.
+        let t = follows c closed m u.member (λ l member ne. ⊎_elim
+        (λ is. absurd (ne is))
+        (λ x. x)
+        (All-contains (λ n. (n ≡ m) ⊎ (value_in e.trail.values n ≡ Some false)) c l u.others member)) in
+        let y : Some true ≡ None = sym t ∙ u.unassigned in
+        cc;
+  }
+    where
+      nowhere : Lit
+      nowhere = record { var = record { 0 = 0 }; positive = true }
+
   pub watcher-quiet : e.checked ≡ length e.held.clauses → IsQuiet (store_of e)
   watcher-quiet all id c held =
       let lt : id < length e.held.clauses = slice_get_within e.held.clauses id (Some c) held in
-      let g = h.guarded id c (omega arith) held in
+      ⊎_elim
+      (λ long. let g = h.guarded id c (omega arith) held long in
       ⊎_elim
       (λ good. settled-true e.trail.values c good.1.lit good.3 (coherent.are_true good.0 good.1 good.2))
       (λ p. pair-settled c g.0.first g.0.second g.2.has_first g.2.has_second p)
-      g.2.ways
+      g.2.ways)
+      (λ short. short-settled c short.1 (h.store.once id c held) (h.closed id c short.0 held short.1))
+      (decide_long e id c)

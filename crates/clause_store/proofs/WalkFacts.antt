@@ -13,14 +13,15 @@ use Rattle.clause_store.specs.declared.propagation.Visit.TheVariants.{Done}
 use Rattle.clause_store.specs.declared.watched.Watcher.{Watcher}
 use Rattle.clause_base.specs.Links.{first_of, last_of, IsOnce}
 use Rattle.clause_base.specs.ListsState.{nodes_of}
+use Rattle.clause_base.specs.ShortState.{ShortState}
 use Rattle.clause_base.specs.StoreState.{IsHeld, Propagates}
 use Rattle.clause_base.specs.TrailLaws.{lits_of}
-use Rattle.clause_store.specs.Watching.{code_of, store_of, Guarded, IsWatcher, IsNodeOf}
+use Rattle.clause_store.specs.Watching.{code_of, store_of, AreClosed, Guarded, IsLong, IsWatcher, IsNodeOf}
 use Rattle.clause_store.specs.Visits.{IsAt, IsNext, Keeps, VisitGives}
-use Rattle.clause_base.proofs.ListFacts.{slice_get-take-below}
-use Rattle.clause_base.proofs.PropagateFacts.{propagates-trans, propagates-refl}
+use Rattle.clause_base.proofs.PropagateFacts.{propagates-trans}
+use Rattle.clause_store.proofs.ClosedFacts.{closed-grown}
 use Rattle.clause_store.proofs.NodeFacts.{same-watch}
-use Rattle.clause_store.proofs.WatchFacts.{pair-untouched, next-within}
+use Rattle.clause_store.proofs.WatchFacts.{next-grown, next-within, pair-untouched}
 
 -- how many nodes of a list are from this one on
 abbrev pub left : List ℕ → Option ℕ → ℕ
@@ -47,14 +48,15 @@ pub record Walks (old e : Watcher) (f : Lit) (at before : Option ℕ) : Type 0 w
   pub queue : e.queue ≡ old.queue
   pub checked : e.checked ≡ old.checked
   pub next : IsNext e f
+  pub closed : AreClosed e (e.queue + 1)
   -- the part of the list that is walked, and the rest
   pub front : List ℕ
   pub back : List ℕ
   pub is : nodes_of e.lists (code_of f) ≡ front ++ back
   pub at_is : at ≡ first_of back
   pub before_is : last_of front ≡ before
-  pub walked : (id : ℕ) (c : List Lit) → id < e.checked → IsHeld (store_of e) id c → Guarded e (e.queue + 1) id c
-      ⊎ ((n : ℕ) × IsNodeOf n id × Contains back n)
+  pub walked : (id : ℕ) (c : List Lit) → id < e.checked → IsHeld (store_of e) id c → IsLong e id c
+      → Guarded e (e.queue + 1) id c ⊎ ((n : ℕ) × IsNodeOf n id × Contains back n)
 
 -- where the walk is at a node, the rest begins with it
 pub back-is : (back : List ℕ) (n : ℕ) → Some n ≡ first_of back → (rest : List ℕ) × (back ≡ n ∷ rest)
@@ -66,22 +68,24 @@ back-none [] e = refl
 back-none (m ∷ rest) e = cc
 
 -- a clause that watches other literals stays watched
-pub walk-start : (e : Watcher) → IsWatcher e → (f : Lit) → IsNext e f → (at : Option ℕ)
-    → at ≡ first_of (nodes_of e.lists (code_of f)) → Walks e e f at None
-walk-start e h f next at first = record {
+pub walk-start : (old e : Watcher) → IsWatcher e → Propagates (store_of old) (store_of e) → e.queue ≡ old.queue
+    → e.checked ≡ old.checked → (f : Lit) → IsNext e f → AreClosed e (e.queue + 1) → (at : Option ℕ)
+    → at ≡ first_of (nodes_of e.lists (code_of f)) → Walks old e f at None
+walk-start old e h same_store same_queue same_checked f next closed at first = record {
   watcher = h;
-  same = propagates-refl (store_of e);
-  queue = refl;
-  checked = refl;
+  same = same_store;
+  queue = same_queue;
+  checked = same_checked;
   next = next;
+  closed = closed;
   front = [];
   back = nodes_of e.lists (code_of f);
   is = refl;
   at_is = first;
   before_is = refl;
-  walked = λ id c lt held.
-      let g = h.guarded id c lt held in
-      let w = h.listed id c lt held in
+  walked = λ id c lt held long.
+      let g = h.guarded id c lt held long in
+      let w = h.listed id c lt held long in
       let same : w.watch ≡ g.0 = same-watch e.lists.labels id w.watch g.0 w.is_watch g.1 in
       ⊎_elim
       (λ af. inr (2 * id, inl refl, subst (λ (x : Lit). Contains (nodes_of e.lists (code_of x)) (2 * id)) af w.first))
@@ -133,17 +137,19 @@ module _ (old e new : Watcher) (f : Lit) (n : ℕ) (at before last : Option ℕ)
   list-is : nodes_of e.lists (code_of f) ≡ h.front ++ n ∷ rest
   list-is = h.is ∙ ap (λ (xs : List ℕ). h.front ++ xs) rest-is
 
-  next-kept : IsNext new f
-  next-kept =
-      let within : e.queue < length e.trail.steps = next-within e h.watcher f h.next in
-      let kept : slice_get new.trail.steps e.queue ≡ Some h.next.0 =
-      sym (slice_get-take-below (length e.trail.steps) new.trail.steps e.queue within)
-      ∙ ap (λ (xs : List Step). slice_get xs e.queue) (sym same.kept) ∙ h.next.1 in
-      (h.next.0, ap (slice_get new.trail.steps) keeps.queue ∙ kept, h.next.2)
+  -- a clause that is held now was held before
+  was-held : (id : ℕ) (c : List Lit) → IsHeld (store_of new) id c → IsHeld (store_of e) id c
+  was-held id c held = ap (λ (xs : List (Option (List Lit))). slice_get xs id) (sym same.clauses) ∙ held
 
-  walked-on : (id : ℕ) (c : List Lit) → id < new.checked → IsHeld (store_of new) id c → Guarded new (new.queue + 1) id c
-      ⊎ ((m : ℕ) × IsNodeOf m id × Contains rest m)
-  walked-on id c lt held = by_node (is_of id)
+  closed-on : AreClosed new (new.queue + 1)
+  closed-on id c lt held small =
+      let below : id < e.short.packed = subst (λ (s : ShortState). id < s.packed) keeps.short lt in
+      closed-grown e new c (next-within e h.watcher f h.next) same keeps.queue keeps.stale
+      (h.closed id c below (was-held id c held) small)
+
+  walked-on : (id : ℕ) (c : List Lit) → id < new.checked → IsHeld (store_of new) id c → IsLong new id c
+      → Guarded new (new.queue + 1) id c ⊎ ((m : ℕ) × IsNodeOf m id × Contains rest m)
+  walked-on id c lt held long = by_node (is_of id)
     where
       nq : e.queue + 1 ≡ new.queue + 1
       nq = ap (λ (x : ℕ). x + 1) (sym keeps.queue)
@@ -156,7 +162,10 @@ module _ (old e new : Watcher) (f : Lit) (n : ℕ) (at before last : Option ℕ)
           (cases_eq n (2 * i + 1))) (cases_eq n (2 * i))
 
       heldo : IsHeld (store_of e) id c
-      heldo = ap (λ (xs : List (Option (List Lit))). slice_get xs id) (sym same.clauses) ∙ held
+      heldo = was-held id c held
+
+      longo : IsLong e id c
+      longo below short = long (subst (λ (s : ShortState). id < s.packed) (sym keeps.short) below) short
 
       lto : id < e.checked
       lto = let x : new.checked ≡ e.checked = keeps.checked in omega arith
@@ -175,7 +184,7 @@ module _ (old e new : Watcher) (f : Lit) (n : ℕ) (at before last : Option ℕ)
                 (λ r. r)
                 (Contains-cons_cases n rest w.0 (subst (λ (xs : List ℕ). Contains xs w.0) rest-is w.2)),
           ))
-          (h.walked id c lto heldo)
+          (h.walked id c lto heldo longo)
 
   pub walk-step : Walks old new f at last
   walk-step =
@@ -185,7 +194,8 @@ module _ (old e new : Watcher) (f : Lit) (n : ℕ) (at before last : Option ℕ)
         same = propagates-trans (store_of old) (store_of e) (store_of new) h.same same;
         queue = keeps.queue ∙ h.queue;
         checked = keeps.checked ∙ h.checked;
-        next = next-kept;
+        next = next-grown e new f h.watcher h.next same keeps.queue;
+        closed = closed-on;
         front = passed.0;
         back = rest;
         is = passed.1;
@@ -206,6 +216,7 @@ module _ (old e new : Watcher) (f : Lit) (n : ℕ) (at before last : Option ℕ)
 module _ (old e : Watcher) (f : Lit) (before : Option ℕ) (h : Walks old e f None before) where
   pub walk-watcher : IsWatcher (record {
     held = e.held;
+    short = e.short;
     lists = e.lists;
     trail = e.trail;
     queue = e.queue + 1;
@@ -225,10 +236,12 @@ module _ (old e : Watcher) (f : Lit) (before : Option ℕ) (h : Walks old e f No
         count = h.watcher.count;
         small = h.watcher.small;
         room = h.watcher.room;
-        guarded = λ id c lt held. ⊎_elim (λ g. g) (λ w. absurd (nothing_in_none w.0
-            (subst (λ (xs : List ℕ). Contains xs w.0) none w.2))) (h.walked id c lt held);
+        short = h.watcher.short;
+        closed = h.closed;
+        guarded = λ id c lt held long. ⊎_elim (λ g. g) (λ w. absurd (nothing_in_none w.0
+            (subst (λ (xs : List ℕ). Contains xs w.0) none w.2))) (h.walked id c lt held long);
         current = λ n k t le et. h.watcher.current n k t (omega arith) et;
-        listed = λ i c lt held. let g = h.watcher.listed i c lt held in record {
+        listed = λ i c lt held long. let g = h.watcher.listed i c lt held long in record {
           watch = g.watch;
           is_watch = g.is_watch;
           first = g.first;
@@ -238,6 +251,7 @@ module _ (old e : Watcher) (f : Lit) (before : Option ℕ) (h : Walks old e f No
           id = g.id;
           of = g.of;
           checked = g.checked;
+          long = g.long;
           watch = g.watch;
           is_watch = g.is_watch;
           first = g.first;

@@ -7,12 +7,13 @@ use Rattle.lit_core.specs.declared.literals.Lit.{Lit}
 use Rattle.lit_core.specs.Literals.{value_in, by_sign_if_any, negated}
 use Rattle.clause_base.specs.declared.trail.Step.{Step}
 use Rattle.clause_base.specs.TrailLaws.{IsCoherent, IsMade}
-use Rattle.clause_base.specs.StoreState.{StoreState, IsHeld}
+use Rattle.clause_base.specs.StoreState.{StoreState, IsHeld, Propagates}
 use Rattle.clause_store.specs.declared.watched.Watch.{Watch}
 use Rattle.clause_store.specs.declared.watched.Watcher.{Watcher}
-use Rattle.clause_store.specs.Watching.{Guards, IsGood, IsPair, IsWatched, IsWatcher}
+use Rattle.clause_store.specs.Watching.{store_of, Guards, IsGood, IsPair, IsWatched, IsWatcher}
 use Rattle.clause_store.specs.Visits.{IsNext}
 use Rattle.clause_base.proofs.ListFacts.{slice_get-push_old, slice_get-push_new, slice_get-push_cases}
+use Rattle.clause_base.proofs.ListFacts.{slice_get-take-below}
 use Rattle.lit_core.proofs.LiteralFacts.{negated-negated}
 
 -- where a literal is true, its negation is false
@@ -171,6 +172,16 @@ module _ (e : Watcher) (h : IsWatcher e) (f : Lit) (next : IsNext e f) where
         absurd (omega arith))
         (slice_get-push_cases e.trail.steps v k t et);
   }
+
+-- the literal became false by the same step while the trail grows
+pub next-grown : (e new : Watcher) (f : Lit) → IsWatcher e → IsNext e f → Propagates (store_of e) (store_of new)
+    → new.queue ≡ e.queue → IsNext new f
+next-grown e new f h next same queue =
+    let within : e.queue < length e.trail.steps = next-within e h f next in
+    let kept : slice_get new.trail.steps e.queue ≡ Some next.0 =
+    sym (slice_get-take-below (length e.trail.steps) new.trail.steps e.queue within)
+    ∙ ap (λ (xs : List Step). slice_get xs e.queue) (sym same.kept) ∙ next.1 in
+    (next.0, ap (slice_get new.trail.steps) queue ∙ kept, next.2)
 
 -- a pair the other way round
 pub pair-swap : (steps : List Step) (q : ℕ) (stale : Bool) (a b : Lit) → IsPair steps q stale a b

@@ -12,7 +12,7 @@ use Rattle.clause_store.specs.declared.propagation.Replacement.{Replacement}
 use Rattle.clause_store.specs.declared.propagation.Replacement.TheVariants.{Deleted, Literal, Unit as UnitLeft}
 use Rattle.clause_store.specs.declared.propagation.Replacement.TheVariants.{Conflict as AllFalse}
 use Rattle.clause_store.specs.declared.attachment.WatchChoice.{WatchChoice}
-use Rattle.clause_store.specs.declared.attachment.WatchChoice.TheVariants.{Deleted as NoClause, Two, One}
+use Rattle.clause_store.specs.declared.attachment.WatchChoice.TheVariants.{Unwatched, Two, One}
 use Rattle.clause_store.specs.declared.attachment.WatchChoice.TheVariants.{Conflict as NoChoice}
 use Rattle.clause_store.specs.declared.watched.Watch.{Watch}
 use Rattle.clause_store.specs.declared.watched.Watcher.{Watcher}
@@ -20,7 +20,9 @@ use Rattle.clause_base.specs.declared.trail.Step.{Step}
 use Rattle.clause_base.specs.Links.{last_of}
 use Rattle.clause_base.specs.ListsState.{ListsState, nodes_of}
 use Rattle.clause_base.specs.StoreState.{IsHeld, IsConflict}
-use Rattle.clause_store.specs.Watching.{code_of, Guarded, HasWatch, IsGood, IsNodeOf, IsPair, IsWatched, store_of}
+use Rattle.clause_base.specs.declared.occurrences.Occurrence.{Occurrence}
+use Rattle.clause_store.specs.Watching.{code_of, AreClosed, Guarded, HasWatch, IsClosed, IsGood, IsLong, IsNodeOf}
+use Rattle.clause_store.specs.Watching.{IsPair, IsWatched, store_of}
 
 -- the literal at this place may stand in for a watched one beside the other, or no literal may
 abbrev pub ReplacesAt : List (Option Bool) → List Lit → Lit → Option ℕ → Type 0
@@ -39,6 +41,7 @@ IsAt s j before node = (front : List ℕ) × (back : List ℕ) × (nodes_of s j 
 -- the clause watches a literal that is false, and another that is not true
 pub record IsLoose (e : Watcher) (node id : ℕ) (f other : Lit) (c : List Lit) : Type 0 where
   pub held : IsHeld (store_of e) id c
+  pub long : IsLong e id c
   pub has_false : Contains c f
   pub has_other : Contains c other
   pub untrue : value_in e.trail.values other ≢ Some true
@@ -91,11 +94,37 @@ ReplacementGives e id other AllFalse = (c : List Lit) × IsHeld (store_of e) id 
 -- clauses of other nodes stay watched
 pub record Keeps (old new : Watcher) (node : ℕ) : Type 0 where
   pub held : new.held ≡ old.held
+  pub short : new.short ≡ old.short
   pub queue : new.queue ≡ old.queue
   pub checked : new.checked ≡ old.checked
   pub stale : new.stale ≡ old.stale
   pub others : (q i : ℕ) (c : List Lit) → (IsNodeOf node i → ⊥) → q ≤ length old.trail.steps → Guarded old q i c
       → Guarded new q i c
+
+-- nothing but the trail changes
+pub record KeepsLists (old new : Watcher) : Type 0 where
+  pub held : new.held ≡ old.held
+  pub short : new.short ≡ old.short
+  pub lists : new.lists ≡ old.lists
+  pub queue : new.queue ≡ old.queue
+  pub checked : new.checked ≡ old.checked
+  pub stale : new.stale ≡ old.stale
+
+-- the occurrence stands in the list of the literal
+abbrev pub OccursUnder : Watcher → Lit → Occurrence → Type 0
+OccursUnder e f o = (os : List Occurrence) × (slice_get e.short.lists (code_of f) ≡ Some os) × Contains os o
+
+-- the clause of the occurrence, if it was listed with the short ones, is closed over one step more; or this clause is
+-- false
+abbrev pub OccurrenceGives : Watcher → Occurrence → Option ℕ → Type 0
+OccurrenceGives new o None = (c : List Lit) → o.id < new.short.packed → IsHeld (store_of new) o.id c
+    → IsClosed new.trail.steps (new.queue + 1) new.stale c
+OccurrenceGives new o (Some id) = IsConflict (store_of new) id
+
+-- the short clauses that are listed are closed over one step more, or this clause is false
+abbrev pub ShortGives : Watcher → Option ℕ → Type 0
+ShortGives new None = AreClosed new (new.queue + 1)
+ShortGives new (Some id) = IsConflict (store_of new) id
 
 -- the rest of the list stays, after the last of these nodes
 abbrev pub Passes : Watcher → Watcher → ℕ → Lit → Option ℕ → Option ℕ → Type 0
@@ -119,23 +148,26 @@ abbrev pub MayAssign : Watcher → Option ℕ → Type 0
 MayAssign e None = (e.stale ≡ true) ⊎ (length e.trail.steps ≤ e.queue)
 MayAssign e (Some id) = Unit {0}
 
--- the next clause may be watched so
+-- the next clause is not listed with the short ones, and may be watched so
 abbrev pub CanAttach : Watcher → Watch → Type 0
-CanAttach e w = (c : List Lit) → IsHeld (store_of e) e.checked c → IsWatched e.trail.steps e.queue e.stale c w
+CanAttach e w = (c : List Lit) → IsHeld (store_of e) e.checked c → IsLong e e.checked c
+    × IsWatched e.trail.steps e.queue e.stale c w
 
 -- the literal is one of the clause that is not false, or all are false
 abbrev pub OpensAt : List (Option Bool) → List Lit → Option Lit → Type 0
 OpensAt a c None = All (λ m. value_in a m ≡ Some false) c
 OpensAt a c (Some l) = Contains c l × (value_in a l ≢ Some false)
 
--- which literals of the clause with this number are not false: it was removed, or two at least, or one alone, or none
+-- which literals of the clause with this number are not false: two at least, or one alone, or none; or the clause was
+-- removed or is listed with the short ones
 abbrev pub WatchChoiceGives : Watcher → ℕ → WatchChoice → Type 0
-WatchChoiceGives e id NoClause = (c : List Lit) → IsHeld (store_of e) id c → ⊥
+WatchChoiceGives e id Unwatched = (c : List Lit) → IsHeld (store_of e) id c → IsLong e id c → ⊥
 WatchChoiceGives e id (Two w) = (c : List Lit) × IsHeld (store_of e) id c × Contains c w.first × Contains c w.second
     × (w.second ≢ w.first) × (value_in e.trail.values w.first ≢ Some false)
-    × (value_in e.trail.values w.second ≢ Some false)
+    × (value_in e.trail.values w.second ≢ Some false) × IsLong e id c
 WatchChoiceGives e id (One l) = (c : List Lit) × IsHeld (store_of e) id c × Contains c l
     × (value_in e.trail.values l ≢ Some false) × All (λ m. (m ≡ l) ⊎ (value_in e.trail.values m ≡ Some false)) c
+    × IsLong e id c
 WatchChoiceGives e id NoChoice = IsConflict (store_of e) id
 
 -- another literal of the clause, which became false at no lower level than this one became true

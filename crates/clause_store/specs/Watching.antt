@@ -1,12 +1,14 @@
 -- What the watches of the clauses keep.
-use Rattle.std.specs.Prelude.{◌≡◌, ◌≢◌, ℕ, ◌<◌, ◌≤◌, ◌+◌, ◌*◌, ◌^◌, Bool, true, false, cond, Some, List, length}
-use Rattle.std.specs.Prelude.{slice_get, Contains, ◌⊎◌}
+use Rattle.std.specs.Prelude.{◌≡◌, ◌≢◌, ℕ, ◌<◌, ◌≤◌, ◌+◌, ◌*◌, ◌^◌, Bool, true, false, Some, List, length, slice_get}
+use Rattle.std.specs.Prelude.{Contains, ◌⊎◌}
 use Rattle.lit_core.specs.declared.literals.Lit.{Lit}
 use Rattle.lit_core.specs.Literals.{negated}
+use Rattle.lit_core.specs.Packing.{number_of}
 use Rattle.clause_base.specs.declared.trail.Step.{Step}
 use Rattle.clause_store.specs.declared.watched.Watch.{Watch}
 use Rattle.clause_store.specs.declared.watched.Watcher.{Watcher}
 use Rattle.clause_base.specs.ListsState.{HasLaws, nodes_of}
+use Rattle.clause_base.specs.ShortState.{IsPacked, IsShort}
 use Rattle.clause_base.specs.StoreState.{StoreState, IsStore, IsHeld}
 
 abbrev pub store_of : Watcher → StoreState
@@ -14,7 +16,7 @@ store_of e = record { clauses = e.held.clauses; trail = e.trail; spare = e.held.
 
 -- the number of the list of a literal
 abbrev pub code_of : Lit → ℕ
-code_of l = 2 * l.var.0 + cond l.positive 1 0
+code_of l = number_of l
 
 -- a clause has two nodes
 abbrev pub IsNodeOf : ℕ → ℕ → Type 0
@@ -51,6 +53,26 @@ pub record IsWatched (steps : List Step) (q : ℕ) (stale : Bool) (c : List Lit)
 abbrev pub Guarded : Watcher → ℕ → ℕ → List Lit → Type 0
 Guarded e q id c = (w : Watch) × HasWatch e.lists.labels id w × IsWatched e.trail.steps q e.stale c w
 
+-- if all literals of the clause but this one became false by the first q steps, at levels of at most this one, then it
+-- is true, and was so at a level of at most this one, unless levels are passed over
+abbrev pub Follows : List Step → ℕ → Bool → List Lit → Lit → ℕ → Type 0
+Follows steps q stale c m level = ((l : Lit) → Contains c l → l ≢ m → (k : ℕ) × (t : Step) × (k < q)
+    × (slice_get steps k ≡ Some t) × (t.lit ≡ negated l) × (t.level ≤ level))
+    → (j : ℕ) × (u : Step) × (slice_get steps j ≡ Some u) × (u.lit ≡ m) × ((stale ≡ true) ⊎ (u.level ≤ level))
+
+-- each literal of the clause follows
+abbrev pub IsClosed : List Step → ℕ → Bool → List Lit → Type 0
+IsClosed steps q stale c = (m : Lit) → Contains c m → (level : ℕ) → Follows steps q stale c m level
+
+-- each literal of the short clauses that are listed follows
+abbrev pub AreClosed : Watcher → ℕ → Type 0
+AreClosed e q = (id : ℕ) (c : List Lit) → id < e.short.packed → IsHeld (store_of e) id c → IsShort c
+    → IsClosed e.trail.steps q e.stale c
+
+-- the clause is not listed with the short ones
+abbrev pub IsLong : Watcher → ℕ → List Lit → Type 0
+IsLong e id c = id < e.short.packed → IsShort c → ⊥
+
 -- the nodes of the clause link in the lists of its watched literals
 pub record IsListed (e : Watcher) (id : ℕ) : Type 0 where
   pub watch : Watch
@@ -58,11 +80,12 @@ pub record IsListed (e : Watcher) (id : ℕ) : Type 0 where
   pub first : Contains (nodes_of e.lists (code_of watch.first)) (2 * id)
   pub second : Contains (nodes_of e.lists (code_of watch.second)) (2 * id + 1)
 
--- the clause of a node that enlists was watched, by literals of the store
+-- the clause of a node that enlists was watched, by literals of the store, and is not listed with the short ones
 pub record IsWatchNode (e : Watcher) (node : ℕ) : Type 0 where
   pub id : ℕ
   pub of : IsNodeOf node id
   pub checked : id < e.checked
+  pub long : (c : List Lit) → IsHeld (store_of e) id c → IsLong e id c
   pub watch : Watch
   pub is_watch : HasWatch e.lists.labels id watch
   pub first : watch.first.var.0 < length e.trail.values
@@ -79,9 +102,13 @@ pub record IsWatcher (e : Watcher) : Type 0 where
   pub small : length e.trail.values ≤ 2 ^ 31
   -- room for the nodes of the next clause
   pub room : 0 < e.held.spare → 2 * length e.held.clauses + 2 ≤ length e.lists.labels
-  pub guarded : (id : ℕ) (c : List Lit) → id < e.checked → IsHeld (store_of e) id c → Guarded e e.queue id c
+  -- the short clauses that are listed are closed over what is propagated, and the others are watched
+  pub short : IsPacked e.held.clauses (length e.trail.values) e.short
+  pub closed : AreClosed e e.queue
+  pub guarded : (id : ℕ) (c : List Lit) → id < e.checked → IsHeld (store_of e) id c → IsLong e id c
+      → Guarded e e.queue id c
   -- while levels are not passed over, what is not yet propagated is of the current level
   pub current : e.stale ≡ false → (k : ℕ) (t : Step) → e.queue ≤ k → slice_get e.trail.steps k ≡ Some t
       → t.level ≡ e.trail.level
-  pub listed : (id : ℕ) (c : List Lit) → id < e.checked → IsHeld (store_of e) id c → IsListed e id
+  pub listed : (id : ℕ) (c : List Lit) → id < e.checked → IsHeld (store_of e) id c → IsLong e id c → IsListed e id
   pub owned : (j node : ℕ) → Contains (nodes_of e.lists j) node → IsWatchNode e node

@@ -6,17 +6,18 @@ ghost use Rattle.lit_core.specs.Literals.{value_in};
 ghost use Rattle.clause_base.specs.StoreState.{IsHeld, IsConflict, Propagates};
 ghost use Rattle.clause_store.specs.declared.attachment.WatchChoice.TheVariants.{One};
 ghost use Rattle.clause_store.specs.Visits.{AttachGives, CanAttach, IsPartner, OpensAt, WatchChoiceGives};
-ghost use Rattle.clause_store.specs.Watching.{store_of, IsWatcher};
+ghost use Rattle.clause_store.specs.Watching.{store_of, IsLong, IsWatcher};
 
 use crate::propagation::find_replacement;
 use crate::watched::{Watch, Watcher, label_of, list_of};
+use clause_base::is_short;
 use lit_core::{Assignment, Lit, PackedLit};
 
 /// Which literals of a clause are not false.
 #[derive(Clone, Copy)]
 pub enum WatchChoice {
-    /// The clause was removed.
-    Deleted,
+    /// The clause needs no watch: it was removed, or is listed with the short ones.
+    Unwatched,
     /// These two at least.
     Two(Watch),
     /// This one alone.
@@ -62,11 +63,12 @@ impl Watcher {
         self.checked += 1;
     }
 
-    /// Passes over the next clause, which was removed.
+    /// Passes over the next clause, which was removed or is listed with the short ones.
     fn skip(&mut self)
         requires watcher { IsWatcher self.old }
         requires more { self.old.checked < length self.old.held.clauses }
-        requires gone { (c : List Lit) → IsHeld (store_of self.old) self.old.checked c → ⊥ }
+        requires passed { (c : List Lit) → IsHeld (store_of self.old) self.old.checked c
+            → IsLong self.old self.old.checked c → ⊥ }
         ensures watcher { IsWatcher self.new }
         ensures store { store_of self.new ≡ store_of self.old }
         ensures checked { self.new.checked ≡ self.old.checked + 1 }
@@ -92,8 +94,11 @@ impl Watcher {
         ensures { WatchChoiceGives self.now id result }
     {
         let Some(lits) = self.held.get(id) else {
-            return WatchChoice::Deleted;
+            return WatchChoice::Unwatched;
         };
+        if id < self.short.packed() && is_short(lits.len()) {
+            return WatchChoice::Unwatched;
+        }
         match open_literal(self.trail.assignment(), lits) {
             None => WatchChoice::Conflict,
             Some(first) => match find_replacement(self.trail.assignment(), lits, 0, first) {
@@ -115,7 +120,7 @@ impl Watcher {
         ensures next { AttachGives self.old self.new result }
     {
         match self.pick(self.checked) {
-            WatchChoice::Deleted => {
+            WatchChoice::Unwatched => {
                 self.skip();
                 None
             }
@@ -138,6 +143,7 @@ impl Watcher {
         ensures watcher { IsWatcher self.new }
         ensures same { Propagates (store_of self.old) (store_of self.new) }
         ensures checked { self.new.checked ≡ self.old.checked }
+        ensures short { self.new.short ≡ self.old.short }
         ensures is_true { value_in self.new.trail.values lit ≡ Some true }
     {
         match self.trail.assignment().value(lit) {
@@ -152,6 +158,7 @@ impl Watcher {
         ensures watcher { IsWatcher self.new }
         ensures store { store_of self.new ≡ store_of self.old }
         ensures checked { self.new.checked ≡ self.old.checked }
+        ensures short { self.new.short ≡ self.old.short }
         ensures low { (self.new.stale ≡ true) ⊎ (self.new.trail.level ≡ 0) }
     {
         if self.trail.level() > 0 {

@@ -3,6 +3,7 @@
 
 mod attachment;
 mod propagation;
+mod short_visits;
 mod store;
 mod watched;
 

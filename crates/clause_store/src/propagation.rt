@@ -235,6 +235,9 @@ impl Watcher {
         ensures one { OneGives self.old self.new result }
     {
         let falsified = self.trail.lits()[self.queue].negated();
+        if let Some(id) = self.visit_short(falsified) {
+            return Some(id);
+        }
         let mut before = None;
         let mut at = self.lists.first(list_of(falsified));
         while let Some(node) = at {

@@ -20,8 +20,8 @@ use std::marker::Model;
 /// A clause database and a trail, with unit propagation by watched literals.
 ///
 /// A search pushes clauses, makes decisions by `assign`, propagates, and on a false clause goes back to a lower
-/// level. Only `new`, the two `reserve` calls and `push_clause` take memory: a clause of at most the length that
-/// `reserve_clause` was given is pushed without. More than 2^31 variables or clauses, or 2^32 literals of all
+/// level. Only `new`, the two `reserve` calls, `push_clause` and `pack` take memory: a clause of at most the length
+/// that `reserve_clause` was given is pushed without. More than 2^31 variables or clauses, or 2^32 literals of all
 /// clauses, are answered as out of memory.
 #[derive(Debug, Drop)]
 pub struct Store {
@@ -240,6 +240,19 @@ impl Store {
         ensures laws { IsStore self.new }
     {
         self.watcher.clear();
+    }
+
+    /// Lists the short clauses that are held, where nothing is assigned, so that propagation reads them in order.
+    ///
+    /// It is for clauses that stay, and for a caller that asks many questions: a listed clause is looked at without a
+    /// cache miss of its own and moves nothing, but it is listed for good, and all others are watched anew by the next
+    /// `propagate`. Clauses that are pushed later are watched. Where memory runs out, fewer are listed.
+    pub fn pack(&mut self) -> Result<(), Memory>
+        requires unassigned { self.old.trail.steps ≡ [] }
+        ensures same { self.new ≡ self.old }
+        ensures laws { IsStore self.new }
+    {
+        self.watcher.pack()
     }
 
     /// Removes a clause where nothing is assigned. The other numbers stay.

@@ -13,6 +13,10 @@
 //! watched by that one and by a literal that became false at the same level or later. A learnt clause that is pushed
 //! after the backtrack has such a literal, so that the search pays nothing for it.
 //!
+//! Clauses of two to four literals that were packed are not watched: each stands in the lists of all of its literals,
+//! with the others beside its number (short_visits.rt). A walk reads such a list in order, where a visit of a watch
+//! costs a cache miss or two, and moves nothing. Later clauses are watched, so that a push takes no memory for lists.
+//!
 //! Where a decision was made before all was propagated, or a pushed clause has no such literal, a literal may become
 //! true at a higher level than the one at which its clause forced it, and what holds of the levels is lost. `stale`
 //! says so: levels are compared no more, and the next backtrack empties the lists, after which each clause is
@@ -29,7 +33,7 @@ ghost use Rattle.clause_base.specs.TrailLaws.{CutsAt, IsFixed, IsStepOf, cleared
 ghost use Rattle.clause_store.specs.Visits.{MayAssign};
 ghost use Rattle.clause_store.specs.Watching.{code_of, store_of, IsWatcher};
 
-use clause_base::{ClauseDb, LinkedLists, Trail};
+use clause_base::{ClauseDb, LinkedLists, ShortClauses, Trail};
 use lit_core::{Lit, Memory, Var};
 use std::alloc::Global;
 
@@ -44,6 +48,8 @@ pub struct Watch {
 #[derive(Debug, Drop)]
 pub struct Watcher {
     pub held: ClauseDb,
+    /// The short clauses that were packed, each under all of its literals.
+    pub short: ShortClauses,
     /// For each literal the clauses that watch it. Clause n has the nodes 2n and 2n + 1, one for each literal that it
     /// watches, and each is labelled with the number of the other one's literal.
     pub lists: LinkedLists,
@@ -94,6 +100,7 @@ impl Watcher {
     {
         Watcher {
             held: ClauseDb::new(alloc),
+            short: ShortClauses::new(alloc),
             lists: LinkedLists::new(alloc),
             trail: Trail::new(alloc),
             queue: 0,
@@ -114,6 +121,7 @@ impl Watcher {
             return Err(Memory);
         }
         self.lists.add_lists(2 * n as usize)?;
+        self.short.add_lists(2 * n as usize)?;
         self.trail.grow(n as usize)
     }
 
@@ -162,6 +170,18 @@ impl Watcher {
         self.held.remove(id);
     }
 
+    /// Lists the short clauses that are held, where nothing is assigned. The others are watched anew later.
+    pub fn pack(&mut self) -> Result<(), Memory>
+        requires watcher { IsWatcher self.old }
+        requires unassigned { self.old.trail.steps ≡ [] }
+        ensures watcher { IsWatcher self.new }
+        ensures store { store_of self.new ≡ store_of self.old }
+    {
+        self.lists.clear();
+        self.checked = 0;
+        self.short.pack(&self.held)
+    }
+
     /// Remembers that a decision was made before all was propagated.
     pub fn mark_stale(&mut self)
         requires watcher { IsWatcher self.old }
@@ -169,6 +189,7 @@ impl Watcher {
         ensures store { store_of self.new ≡ store_of self.old }
         ensures stale { self.new.stale ≡ true }
         ensures checked { self.new.checked ≡ self.old.checked }
+        ensures short { self.new.short ≡ self.old.short }
     {
         self.stale = true;
     }
@@ -200,6 +221,7 @@ impl Watcher {
               reason = reason;
             })) }
         ensures checked { self.new.checked ≡ self.old.checked }
+        ensures short { self.new.short ≡ self.old.short }
     {
         self.trail.assign(lit, reason);
     }

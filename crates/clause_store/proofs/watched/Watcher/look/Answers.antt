@@ -6,7 +6,8 @@ use Rattle.lit_core.specs.Literals.{value_in}
 use Rattle.clause_base.specs.ListsState.{nodes_of}
 use Rattle.clause_store.specs.declared.watched.Watcher.{Watcher}
 use Rattle.clause_store.specs.Watching.{code_of, HasWatch, IsNodeOf, IsWatcher, IsWatchNode}
-use Rattle.clause_store.proofs.NodeFacts.{code-same, look-fine, look-loose, same-node}
+use Rattle.clause_base.proofs.ShortFacts.{number-same}
+use Rattle.clause_store.proofs.NodeFacts.{look-fine, look-loose, same-node}
 use Rattle.clause_store.proofs.watched.Watcher.look.Goals as goal
 
 -- the literal whose number stands on the node is the other one that its clause watches
@@ -20,7 +21,7 @@ module _ (e : Watcher) (h : IsWatcher e) (f : Lit) (node : ℕ) (listed : Contai
       node-is.is_watch
 
   labelled : (l : Lit) (n : ℕ) → node ≡ n → slice_get e.lists.labels n ≡ Some (code_of l) → other ≡ l
-  labelled l n same k = code-same other l (is ∙ same_Some label (code_of l) (sym read
+  labelled l n same k = number-same other l (is ∙ same_Some label (code_of l) (sym read
       ∙ ap (slice_get e.lists.labels) same ∙ k))
 
   first : (id : ℕ) → node ≡ 2 * id → other ≡ node-is.watch.second

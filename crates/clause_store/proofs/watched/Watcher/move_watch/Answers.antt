@@ -138,6 +138,7 @@ module _ (c : goal.After-set_place) where
   -- what holds after a place in the clause is remembered
   placed : (P : Watcher → Type 0) → P (record {
     held = e.held;
+    short = e.short;
     lists = new;
     trail = e.trail;
     queue = e.queue;
@@ -146,6 +147,7 @@ module _ (c : goal.After-set_place) where
     stale = e.stale;
   }) → P (record {
     held = c.set_place.new.self;
+    short = e.short;
     lists = new;
     trail = e.trail;
     queue =
@@ -155,6 +157,7 @@ module _ (c : goal.After-set_place) where
   })
   placed P h = subst (λ (x : ClauseDbState). P (record {
     held = x;
+    short = e.short;
     lists = new;
     trail = e.trail;
     queue = e.queue;

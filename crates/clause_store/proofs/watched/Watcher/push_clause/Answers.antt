@@ -10,12 +10,14 @@ use Rattle.clause_store.specs.declared.watched.Watcher.{Watcher}
 use Rattle.clause_store.specs.Watching.{store_of, IsWatcher}
 use Rattle.clause_base.proofs.ListFacts.{slice_get-push_cases}
 use Rattle.clause_store.proofs.GrowthFacts.{watcher-held}
+use Rattle.clause_base.proofs.ShortFacts.{packed-push}
 use Rattle.clause_base.proofs.StoreFacts.{store-push}
 use Rattle.clause_store.proofs.watched.Watcher.push_clause.Goals as goal
 
 with_held : Watcher → ClauseDbState → Watcher
 with_held e x = record {
   held = x;
+  short = e.short;
   lists = e.lists;
   trail = e.trail;
   queue = e.queue;
@@ -39,7 +41,8 @@ pushed s e lits d n h is pos within unopposed each =
     length_push e.held.clauses (Some d) in
     let a : e.checked ≤ length e.held.clauses = h.checked in
     watcher-held e (with_held e (record { clauses = e.held.clauses ++ Some d ∷ []; spare = 0 })) h
-    (store-push (store_of e) lits d h.store each within2 unopposed2) refl refl refl refl
+    (store-push (store_of e) lits d h.store each within2 unopposed2) refl refl refl refl refl
+    (packed-push e.held.clauses d (length e.trail.values) e.short h.short)
     (omega arith) (omega arith)
     (λ some. absurd (omega arith))
     (λ id x lt held. ⊎_elim (λ old. old) (λ new. absurd (let at : id ≡ length e.held.clauses = new.0 in omega arith))

@@ -1,5 +1,6 @@
-use Rattle.std.proofs.Common.{◌≡◌, ◌≤◌, ◌+◌, ◌*◌, length, List, Option, Some, refl, ap, subst, arith, slice_get}
+use Rattle.std.proofs.Common.{◌≡◌, ◌≤◌, ◌+◌, ◌*◌, length, List, Option, Some, refl, sym, ap, subst, arith, slice_get}
 use Rattle.lit_core.specs.declared.literals.Lit.{Lit}
+use Rattle.clause_base.specs.ShortState.{IsPacked}
 use Rattle.clause_store.specs.declared.watched.Watcher.{Watcher}
 use Rattle.clause_store.specs.Watching.{store_of}
 use Rattle.clause_store.proofs.GrowthFacts.{watcher-held}
@@ -12,6 +13,7 @@ returns-in_err-add_nodes-clause-watcher c =
     let h = c.requires.watcher in
     let b : Watcher = record {
       held = e.held;
+      short = e.short;
       lists = c.add_nodes.new.self;
       trail = e.trail;
       queue = e.queue;
@@ -22,7 +24,7 @@ returns-in_err-add_nodes-clause-watcher c =
     let more : length e.lists.labels ≤ length c.add_nodes.new.self.labels = c.add_nodes.ensures.longer in
     let count : length c.add_nodes.new.self.lists ≡ length e.lists.lists = c.add_nodes.ensures.count in
     let n : 2 * length e.held.clauses ≤ length e.lists.labels = h.nodes in
-    watcher-held e b h h.store refl refl refl refl h.checked (omega arith)
+    watcher-held e b h h.store refl refl refl refl refl h.short h.checked (omega arith)
     (λ pos. let r : 2 * length e.held.clauses + 2 ≤ length e.lists.labels = h.room pos in omega arith)
     (λ id d lt held. held) c.add_nodes.ensures.kept c.add_nodes.ensures.laws (omega arith) c.add_nodes.ensures.lists
 
@@ -32,6 +34,7 @@ returns-clause-watcher c =
     let h = c.requires.watcher in
     let b : Watcher = record {
       held = c.reserve.new.self;
+      short = e.short;
       lists = c.add_nodes.new.self;
       trail = e.trail;
       queue =
@@ -45,8 +48,10 @@ returns-clause-watcher c =
     let nodes : 2 * (c.len-count.result + 1) ≤ length c.add_nodes.new.self.labels = c.in_ok-add_nodes.ensures.enough in
     let count : length c.add_nodes.new.self.lists ≡ length e.lists.lists = c.add_nodes.ensures.count in
     let a : e.checked ≤ length e.held.clauses = h.checked in
-    watcher-held e b h (store-same (store_of e) (store_of b) same refl h.store) refl refl refl refl (omega arith)
-    (omega arith)
+    let packed : IsPacked c.reserve.new.self.clauses (length e.trail.values) e.short =
+    subst (λ (xs : List (Option (List Lit))). IsPacked xs (length e.trail.values) e.short) (sym same) h.short in
+    watcher-held e b h (store-same (store_of e) (store_of b) same refl h.store) refl refl refl refl refl packed
+    (omega arith) (omega arith)
     (λ pos. omega arith)
     (λ id d lt held. subst (λ (xs : List (Option (List Lit))). slice_get xs id ≡ Some (Some d)) same held)
     c.add_nodes.ensures.kept c.add_nodes.ensures.laws (omega arith) c.add_nodes.ensures.lists
