@@ -1,9 +1,7 @@
 //! What is noted of rows that clash.
-ghost use Rattle.std.specs.Prelude.{◌≡◌, ◌++◌, ◌∷◌, [], Bool, Contains, IfSome, IsTrue, List, None, false, fold, map};
+ghost use Rattle.std.specs.Prelude.{◌≡◌, ◌++◌, ◌∷◌, [], Contains, IfSome, IsTrue, List, None, false, fold, map};
 ghost use Rattle.std.specs.Prelude.{OnOk};
-ghost use Rattle.kb_text.specs.declared.fault.K.{K as AK};
 ghost use Rattle.kb_logic.specs.declared.vocabularies.TypeDecl.{TypeDecl as AType};
-ghost use Rattle.reading_stages.specs.Earliest.{noted_if};
 ghost use Rattle.reading_stages.specs.DataEntries as said;
 ghost use Rattle.reading_stages.specs.DataFacts as stated;
 ghost use Rattle.reading_stages.specs.DataStage as stage;
@@ -21,23 +19,12 @@ use kb_text::K;
 use reading_stages::Earliest;
 use std::alloc::Global;
 
-/// Whether what was noted stands before this place, so that nothing noted there counts.
-fn is_later(earliest: &Earliest, place: usize) -> bool
-    ensures { IsTrue result → (holds : Bool) (cause : AK) → noted_if holds cause place earliest.now.first
-        ≡ earliest.now.first }
-{
-    match earliest.first {
-        None => false,
-        Some(first) => first.place < place,
-    }
-}
-
 /// Notes a fact that clashes with one of these; where it would not count, none is sought.
 fn note_fact(earliest: &mut Earliest, before: &[Fact<'_>], fact: &Fact<'_>)
     ensures { (all : List AType) (es : List said.Said) → earliest.new.first ≡ stage.data_noted all es earliest.old.first
         (stage.fact (map fact_view before.now) (fact_view fact.now)) }
 {
-    if !is_later(earliest, fact.place) {
+    if !earliest.stands_before(fact.place) {
         earliest.note_if(clashes_with(before, fact), K::DataClash, fact.place);
     }
 }
@@ -83,7 +70,7 @@ fn note_single<'a>(
     ensures kept { OnOk result ((before : List stated.Fact) → AreSinglesOf before singles.old
         → AreSinglesOf before singles.new) }
 {
-    if is_later(earliest, fact.place) {
+    if earliest.stands_before(fact.place) {
         return Ok(());
     }
     let clash = singles.do_clash(alloc, fact, cell)?;

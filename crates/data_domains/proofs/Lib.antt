@@ -1,4 +1,3 @@
-pub mod Climbing
 pub mod Filled
 pub mod Looked
 pub mod Wholes

@@ -11,13 +11,13 @@ use Rattle.reading_stages.specs.DataEntries.{Said}
 use Rattle.reading_stages.specs.DataDomains.{cells_if, cells_of, has_what_occurs, is_constructed}
 use Rattle.reading_stages.specs.DataDomains.{is_under_nat}
 use Rattle.reading_stages.specs.DataStage.{type_is}
+use Rattle.reading_stages.proofs.ChainEnds.{stays}
 use Rattle.element_sets.specs.Sets.{IsSetOf}
 use Rattle.data_domains.specs.Traits.{AreTraitsOf}
 use Rattle.data_domains.specs.Lookups.{AreTraitsAt}
 use Rattle.data_domains.specs.TypeSets.{AreTypesOf}
 use Rattle.data_domains.specs.declared.traits.Traits.{Traits}
 use Rattle.data_domains.specs.declared.types.TypeData.{TypeData}
-use Rattle.data_domains.proofs.Climbing.{stays}
 
 pub some_beside : {A B : Type 0} (xs : List A) (ys : List B) (t : ℕ) (x : A) → length xs ≡ length ys
     → slice_get xs t ≡ Some x → (y : B) × (slice_get ys t ≡ Some y)

@@ -9,13 +9,13 @@ ghost use Rattle.data_entries.specs.SaidViews.{said_view};
 ghost use Rattle.data_domains.specs.Shares.{listed_share, occurring_share, share, IsGiven, Takes};
 ghost use Rattle.data_domains.specs.declared.traits.Traits.{Traits as TheTraits};
 
-use crate::kinds::parent_of;
 use crate::traits::list_type;
 use crate::types::TypeData;
 use data_entries::elements::{Cell, Element};
 use data_entries::spots::{Spot, set_spots};
 use data_entries::written::Entry;
 use kb_logic::{Memory, TypeDecl};
+use reading_stages::parent_of;
 use std::alloc::Global;
 
 /// The type at a position of which something is written: the list of a type is a table of its parent.

@@ -18,12 +18,13 @@ ghost use Rattle.data_domains.specs.Traits.{AreTraitsOf};
 ghost use Rattle.data_domains.specs.TypeSets.{AreTypesOf};
 
 use crate::filling::{add_declared, add_entries};
-use crate::kinds::{is_natural_type, is_number_type, parent_of, type_above};
+use crate::kinds::is_natural_type;
 use crate::traits::{Traits, listed_types};
 use data_entries::elements::Cell;
 use data_entries::written::Entry;
 use element_sets::sets::ElementSet;
 use kb_logic::{Memory, TypeDecl};
+use reading_stages::{is_number_type, parent_of, type_above};
 use std::alloc::Global;
 
 /// A type beside a structure: its traits, and its elements as cells and as a set.

@@ -1,7 +1,6 @@
 //! What is noted of entries, of their marks and of their rows.
-ghost use Rattle.std.specs.Prelude.{◌≡◌, ◌&&◌, ◌∷◌, ◌++◌, [], Bool, IsTrue, List, fold, map, nat_lt, not, IfOk, OnOk};
+ghost use Rattle.std.specs.Prelude.{◌≡◌, ◌&&◌, ◌∷◌, ◌++◌, [], List, fold, map, nat_lt, not, IfOk, OnOk};
 ghost use Rattle.std.specs.List.{list_all};
-ghost use Rattle.kb_text.specs.declared.fault.K.{K as AK};
 ghost use Rattle.kb_text.specs.declared.fault.K.TheVariants as k;
 ghost use Rattle.reading_stages.specs.Earliest.{noted_if};
 ghost use Rattle.reading_stages.specs.Elements as set;
@@ -214,24 +213,13 @@ fn is_too_large(alloc: Global, entry: &Entry<'_>) -> Result<bool, Memory>
     }
 }
 
-/// Whether what was noted stands before this place, so that nothing noted there counts.
-fn is_later(earliest: &Earliest, place: usize) -> bool
-    ensures { IsTrue result → (holds : Bool) (cause : AK) → noted_if holds cause place earliest.now.first
-        ≡ earliest.now.first }
-{
-    match earliest.first {
-        None => false,
-        Some(first) => first.place < place,
-    }
-}
-
 /// Notes a second entry; where it would not count, none is sought.
 fn note_again(earliest: &mut Earliest, before: &[Entry<'_>], entry: &Entry<'_>)
     ensures { earliest.new.first ≡ noted_if (stage.is_again (stage.entry (map said_view before.now)
         (said_view entry.now))) k.Redeclared (place_of_name (said_view entry.now).word) earliest.old.first }
 {
     let place = entry.word.place;
-    if !is_later(earliest, place) {
+    if !earliest.stands_before(place) {
         earliest.note_if(is_again(before, entry), K::Redeclared, place);
     }
 }

@@ -8,11 +8,10 @@ ghost use Rattle.element_sets.specs.Sets.{IsSetOf};
 ghost use Rattle.data_domains.specs.Traits.{AreTraitsOf};
 ghost use Rattle.data_domains.specs.TypeSets.{AreTypesOf};
 
-use data_domains::kinds::type_above;
 use data_domains::types::TypeData;
 use kb_logic::TypeDecl;
 use kb_text::K;
-use reading_stages::Earliest;
+use reading_stages::{Earliest, type_above};
 
 /// The most elements that a type may have.
 pub const ELEMENT_LIMIT: u64 = 65_536;
