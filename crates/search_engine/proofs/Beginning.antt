@@ -1,16 +1,17 @@
 -- How a search begins.
-use Rattle.std.proofs.Common.{◌≡◌, ℕ, zero, suc, ◌+◌, ◌-◌, ◌*◌, ◌^◌, ◌<◌, ◌≤◌, true, Some, None, Option, is_some, List}
-use Rattle.std.proofs.Common.{[], ◌∷◌, length, take, replicate, slice_get, get_or, refl, sym, ap, ◌∙◌, subst, inl}
+use Rattle.std.proofs.Common.{◌≡◌, ℕ, zero, suc, ◌+◌, ◌-◌, ◌*◌, ◌^◌, ◌<◌, ◌≤◌, Bool, true, Some, None, Option, is_some}
+use Rattle.std.proofs.Common.{List, [], ◌∷◌, length, take, replicate, slice_get, get_or, refl, sym, ap, ◌∙◌, subst, inl}
 use Rattle.std.proofs.Common.{⊎_elim, arith}
 use Rattle.std.proofs.Math.Nat.{pow-suc}
 use Rattle.std.proofs.lemmas.Bool.{cases_lt}
-use Rattle.std.proofs.lemmas.List.{take_all}
+use Rattle.std.proofs.lemmas.List.{length-replicate, take_all}
 use Rattle.lit_core.specs.declared.literals.Lit.{Lit}
 use Rattle.lit_core.specs.Literals.{negated}
 use Rattle.clause_store.specs.declared.trails.Step.{Step}
 use Rattle.clause_store.specs.TrailState.{TrailState}
-use Rattle.clause_store.specs.TrailLaws.{IsTrail, IsMade}
+use Rattle.clause_store.specs.TrailLaws.{IsTrail, IsMade, cleared}
 use Rattle.clause_store.specs.StoreState.{StoreState, IsConflict, IsHeld, IsQuiet, IsStore, Propagates}
+use Rattle.clause_store.specs.StoreState.{with_trail}
 use Rattle.clause_store.proofs.ListFacts.{slice_get-take-below}
 use Rattle.clause_store.proofs.StoreFacts.{negated-true}
 use Rattle.ground_core.specs.Problems.{AreLitsOf}
@@ -28,7 +29,7 @@ use Rattle.search_engine.proofs.SearchFacts.{satisfies-held}
 use Rattle.search_engine.proofs.DecideFacts.{bits-length, with_store}
 use Rattle.search_engine.proofs.LearnFacts.{closed-true}
 use Rattle.search_engine.proofs.SelectorSteps.{few-made}
-use Rattle.search_engine.proofs.GrowFacts.{pow-le, resting-moves, same-itself}
+use Rattle.search_engine.proofs.GrowFacts.{orderly-none, pow-le, resting-moves, same-itself}
 
 -- so much is a trail worth on which all follows
 pub base-worth : (v b m : ℕ) → b + m ≡ v → potential v (replicate b true) + 2 ^ m ≡ 2 ^ v
@@ -102,6 +103,21 @@ retired-follow e h quiet all selectors =
     let w : IsMade e.store.trail.steps (negated l) = h.engine.store.trail.coherent.was_made (negated l)
     (closed-true e.store e.ids.items e.problem.retired quiet closed l has) in
     (w.0, w.1, w.2, ap (λ (m : Lit). m.var.0) (sym w.3)))
+
+-- nothing is assigned any more
+pub resting-cleared : (e : Engine) (s : StoreState) → IsResting e → s ≡ with_trail e.store (cleared e.store.trail)
+    → IsStore s → IsResting (with_store e s)
+resting-cleared e s h is laws =
+    let values : s.trail.values ≡ replicate (length e.store.trail.values) None =
+    ap (λ (x : StoreState). x.trail.values) is in
+    let size : length s.trail.values ≡ length e.store.trail.values =
+    ap length values ∙ length-replicate {A = Option Bool} (length e.store.trail.values) None in
+    let sized : e.problem.vars < length e.store.trail.values = h.engine.sized in
+    resting-moves e (with_store e s) h
+    (record { same = same-itself e (with_store e s) refl refl refl refl refl; ids = refl; closed = refl }) refl
+    (ap (λ (x : StoreState). x.clauses) is)
+    (orderly-none e.problem.vars s.trail.steps (ap (λ (x : StoreState). x.trail.steps) is))
+    (ap (λ (x : StoreState). x.trail.level) is) laws (omega (arith, size, sized))
 
 -- propagation at rest
 module _ (e : Engine) (t : StoreState) (h : IsResting e) (p : Propagates e.store t) (laws : IsStore t) where

@@ -71,6 +71,19 @@ impl Engine {
         let _ = self.store.propagate();
     }
 
+    /// Lists the short clauses that are held, for a caller that asks many questions: a search then takes some 0.4 of
+    /// the time, and this call as long as some eight searches. Where memory runs out, less is listed.
+    pub fn prepare(&mut self) -> Result<(), Memory>
+        requires resting { IsResting self.old }
+        ensures resting { IsResting self.new }
+        ensures same { Stays self.old self.new }
+    {
+        self.store.clear();
+        let packed = self.store.pack();
+        let _ = self.store.propagate();
+        packed
+    }
+
     /// Says all that another problem says, too.
     pub fn add_problem(&mut self, more: &Problem) -> Result<(), Memory>
         requires resting { IsResting self.old }

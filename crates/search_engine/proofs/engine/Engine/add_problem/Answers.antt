@@ -1,4 +1,4 @@
-use Rattle.std.proofs.Common.{◌≡◌, ◌<◌, Bool, None, Option, List, [], length, take, replicate, refl, ap, ◌∙◌, subst}
+use Rattle.std.proofs.Common.{◌≡◌, ◌<◌, Bool, None, Option, List, [], length, take, replicate, ap, ◌∙◌, subst}
 use Rattle.std.proofs.Common.{arith}
 use Rattle.std.proofs.lemmas.List.{length-replicate}
 use Rattle.lit_core.specs.declared.literals.Lit.{Lit}
@@ -8,8 +8,8 @@ use Rattle.search_engine.specs.declared.engine.Engine.{Engine}
 use Rattle.search_engine.specs.Knowledge.{RemovesFrom}
 use Rattle.search_engine.specs.Resting.{held_of}
 use Rattle.search_engine.proofs.DecideFacts.{with_store}
-use Rattle.search_engine.proofs.GrowFacts.{orderly-none, removed-held, resting-back, resting-moves, same-itself}
-use Rattle.search_engine.proofs.GrowFacts.{same-twice}
+use Rattle.search_engine.proofs.Beginning.{resting-cleared}
+use Rattle.search_engine.proofs.GrowFacts.{removed-held, resting-back, same-itself, same-twice}
 use Rattle.search_engine.proofs.engine.Engine.add_problem.Goals as goal
 
 cleared-size : (mid : Engine) (clear : StoreState) → clear.trail.values ≡ replicate (length mid.store.trail.values) None
@@ -17,18 +17,8 @@ cleared-size : (mid : Engine) (clear : StoreState) → clear.trail.values ≡ re
 cleared-size mid clear is = ap length is ∙ length-replicate {A = Option Bool} (length mid.store.trail.values) None
 
 pub hold-requires-clause-resting : goal.hold-requires-clause-resting
-hold-requires-clause-resting c =
-    let mid : Engine = c.make_room.new.self in
-    let s : StoreState = c.clear.new.self in
-    let size : length s.trail.values ≡ length mid.store.trail.values =
-    cleared-size mid s (ap (λ (s : StoreState). s.trail.values) c.clear.ensures.cleared) in
-    let sized : mid.problem.vars < length mid.store.trail.values = c.make_room.ensures.resting.engine.sized in
-    resting-moves mid (with_store mid s) c.make_room.ensures.resting
-    (record { same = same-itself mid (with_store mid s) refl refl refl refl refl; ids = refl; closed = refl }) refl
-    (ap (λ (s : StoreState). s.clauses) c.clear.ensures.cleared) (orderly-none mid.problem.vars s.trail.steps
-    (ap (λ (s : StoreState). s.trail.steps) c.clear.ensures.cleared))
-    (ap (λ (s : StoreState). s.trail.level) c.clear.ensures.cleared) c.clear.ensures.laws
-    (omega (arith, size, sized))
+hold-requires-clause-resting c = resting-cleared c.make_room.new.self c.clear.new.self c.make_room.ensures.resting
+    c.clear.ensures.cleared c.clear.ensures.laws
 
 module _ (c : goal.After-remove_from) where
   -- the engine with room for the variables
