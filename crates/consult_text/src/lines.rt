@@ -18,7 +18,7 @@ use kb_text::{LexError, one_answer, tokens};
 use std::alloc::Global;
 
 /// Why a line has no command.
-#[derive(Clone, Copy, Debug)]
+#[derive(Clone, Copy)]
 pub enum CommandError {
     Refused(F),
     Memory,
