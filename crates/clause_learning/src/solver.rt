@@ -119,6 +119,16 @@ impl<C: Choose + Drop> Solver<C> {
         self.keeper.engine.root_conflicts
     }
 
+    /// Lists the short clauses that are held, for a caller that asks many questions: a search then reads them in order,
+    /// which takes less than half of the time on problems with many of them. This call takes as long as some eight
+    /// searches. Where memory runs out searches go on as before.
+    pub fn prepare(&mut self) -> Result<(), Memory>
+        ensures same { self.new ≡ self.old }
+        ensures laws { IsSolver self.new }
+    {
+        self.keeper.engine.prepare()
+    }
+
     /// Gives up what was learnt, and the kept cores.
     pub fn forget(&mut self)
         ensures forgotten { Forgets self.old self.new }

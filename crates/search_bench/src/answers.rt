@@ -8,7 +8,7 @@ use crate::errors::ReadError;
 use crate::forcing::forced_of;
 use crate::questions::Question;
 use crate::reading::read_problem;
-use crate::solver::solver_of;
+use crate::solver::{prepare_for, solver_of};
 use crate::verdicts::verdict;
 use ground_core::{Grow, Memory, Problem};
 use std::alloc::Global;
@@ -41,6 +41,7 @@ fn answer_of(alloc: Global, question: Question, problem: Problem) -> Result<Vec<
     let vars = problem.vars();
     let atoms = problem.atoms().len() as u64;
     let mut solver = solver_of(alloc, problem)?;
+    prepare_for(question, &mut solver)?;
     asked(alloc, question, &mut solver, vars, atoms)
 }
 

@@ -3,12 +3,12 @@ ghost use Rattle.std.specs.Prelude.{◌≡◌, [], length, None};
 
 use crate::input::{Input, Task};
 use consequences::forced;
-use ground_core::{Budget, Grow};
+use ground_core::{Budget, Grow, Memory};
 use kb_logic::ExtInt;
 use lit_core::{Lit, Values};
 use model_expansion::several;
 use model_minimiser::least;
-use problem_fixtures::{are_over, name_sum, solver_of};
+use problem_fixtures::{Kept, are_over, name_sum, solver_of};
 use std::alloc::Global;
 use std::mem;
 use support_explainer::conflict;
@@ -141,6 +141,18 @@ fn ask<S: Grow>(alloc: Global, solver: &mut S, input: &Input) -> Found
     }
 }
 
+/// Prepares the solver for the task of many searches: few literals are left to be asked where models are seen.
+fn prepare_for(task: Task, solver: &mut Kept) -> Result<(), Memory>
+    ensures { solver.new ≡ solver.old }
+{
+    match task {
+        Task::Several => solver.prepare(),
+        Task::Forced => Ok(()),
+        Task::Least => Ok(()),
+        Task::Conflict => Ok(()),
+    }
+}
+
 /// What the kept solver answers. Its problem names one term, the sum, which has no parts where none is minimised.
 pub fn answer(alloc: Global, input: &mut Input) -> Found
     requires plain { (input.old.problem.sums ≡ []) × (input.old.problem.bounds ≡ []) }
@@ -151,6 +163,9 @@ pub fn answer(alloc: Global, input: &mut Input) -> Found
         return Found::Halted;
     };
     let Ok(mut solver) = solver_of(alloc, &input.problem) else {
+        return Found::Halted;
+    };
+    let Ok(()) = prepare_for(input.task, &mut solver) else {
         return Found::Halted;
     };
     ask(alloc, &mut solver, input)
