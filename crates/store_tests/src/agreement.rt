@@ -3,7 +3,7 @@ ghost use Rattle.std.specs.Prelude.{◌<◌};
 
 use crate::plain::{Plain, value_of};
 use crate::random::Random;
-use crate::use_of_store::{decide, go_back, is_free, push};
+use crate::use_of_store::{decide, go_back, is_free, pack, push};
 use clause_store::Store;
 use lit_core::{Assignment, ClauseList, Lit, Var};
 use std::alloc::Global;
@@ -83,11 +83,15 @@ fn agree(alloc: Global, pair: &mut Pair) -> Result<bool, Fail> {
 }
 
 fn change(alloc: Global, pair: &mut Pair, random: &mut Random) -> Result<(), Fail> {
-    match random.below(6) {
+    match random.below(8) {
         0 => push_both(pair, &[random.lit(VARS), random.lit(VARS)])?,
         1 => go_back_both(pair, random.below(4)),
         2 => {
             pair.store.clear();
+            pair.plain.decisions.clear();
+        }
+        3 => {
+            pack(&mut pair.store)?;
             pair.plain.decisions.clear();
         }
         _ => decide_both(pair, random.lit(VARS))?,

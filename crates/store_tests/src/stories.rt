@@ -1,7 +1,7 @@
 //! Hand-written stories.
 
 use crate::story::Act::{
-    BackTo, Clear, Decide, Fix, Found, Propagate, Push, Remove, Trail, Untrue,
+    BackTo, Clear, Decide, Fix, Found, Pack, Propagate, Push, Remove, Trail, Untrue,
 };
 use crate::story::{Act, play};
 use std::test::Fail;
@@ -111,6 +111,28 @@ const REMOVED: [Act; 9] = [
 #[test]
 fn a_removed_clause_is_forgotten(rt: HostRuntime) -> Result<(), Fail> {
     play(&rt, rt.alloc(), 4, &REMOVED)
+}
+
+const PACKED: [Act; 14] = [
+    Push(&[-1, 2], 2),
+    Push(&[-1, -2, 3], 3),
+    Push(&[-1, -2, -3, 4], 4),
+    Push(&[-4, 5], 2),
+    Pack,
+    Remove(3),
+    Push(&[-4, 6], 2),
+    Decide(1),
+    Propagate(true),
+    Trail(&[1, 2, 3, 4, 6]),
+    Found(4, 1, Some(2)),
+    Push(&[-1, -6], 2),
+    Propagate(false),
+    BackTo(0),
+];
+
+#[test]
+fn listed_clauses_propagate_until_they_are_removed(rt: HostRuntime) -> Result<(), Fail> {
+    play(&rt, rt.alloc(), 7, &PACKED)
 }
 
 const REMOVED_LAST: [Act; 11] = [

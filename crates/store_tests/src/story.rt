@@ -1,6 +1,6 @@
 //! Stories: what is done to a store, and what must be seen of it then, as data.
 
-use crate::use_of_store::{decide, fix_in_empty, found, go_back, push, remove};
+use crate::use_of_store::{decide, fix_in_empty, found, go_back, pack, push, remove};
 use clause_store::Store;
 use lit_core::{Lit, Var};
 use std::alloc::Global;
@@ -17,6 +17,8 @@ pub enum Act {
     Fix(i64),
     BackTo(u64),
     Clear,
+    /// Lists the short clauses where nothing is assigned.
+    Pack,
     /// Removes the clause with this number where nothing is assigned.
     Remove(u64),
     /// Propagates; whether no clause is false then.
@@ -65,6 +67,7 @@ fn do_act(alloc: Global, store: &mut Store, act: Act) -> Result<bool, Fail> {
         Act::Fix(number) => fix_in_empty(store, lit_of(number)),
         Act::BackTo(level) => go_back(store, level),
         Act::Clear => store.clear(),
+        Act::Pack => pack(store)?,
         Act::Remove(id) => remove(store, id),
         Act::Propagate(quiet) => return Ok(store.propagate().is_none() == quiet),
         Act::Trail(numbers) => return Ok(are(store.trail(), numbers)),

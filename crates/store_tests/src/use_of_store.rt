@@ -4,7 +4,7 @@ ghost use Rattle.lit_core.specs.Literals.{negated};
 ghost use Rattle.clause_store.specs.TrailLaws.{IsFixed};
 
 use clause_store::Store;
-use lit_core::Lit;
+use lit_core::{Lit, Memory};
 use std::test::Fail;
 
 /// Whether the negation of the literal may be fixed.
@@ -77,6 +77,12 @@ pub fn go_back(store: &mut Store, level: u64) {
     if level <= store.level() {
         store.back_to(level);
     }
+}
+
+/// Lists the short clauses where nothing is assigned.
+pub fn pack(store: &mut Store) -> Result<(), Memory> {
+    store.clear();
+    store.pack()
 }
 
 /// Removes a clause where nothing is assigned.
