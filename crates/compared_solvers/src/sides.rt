@@ -113,6 +113,14 @@ impl Kept {
         apply(&mut self.solver, &mut self.marks, event)
     }
 
+    /// Prepares the solver for many questions.
+    pub fn prepare(&mut self) -> Result<(), Fault>
+        ensures { self.new ≡ self.old }
+    {
+        self.solver.prepare()?;
+        Ok(())
+    }
+
     /// Gives up what was learnt.
     pub fn forget(&mut self) {
         self.solver.forget();

@@ -139,6 +139,7 @@ fn prepare(
         }
         5 => sides.kept.forget(),
         6 => assume_all(spoken, sides, lits)?,
+        7 => sides.kept.prepare()?,
         _ => {}
     }
     Ok(None)

@@ -148,6 +148,10 @@ fn step_text(
             sides.kept.forget();
             word(alloc, "done")
         }
+        Step::Prepare => {
+            sides.kept.prepare()?;
+            word(alloc, "done")
+        }
         _ => lone_text(alloc, spoken, step),
     }
 }
