@@ -7,7 +7,6 @@ ghost use Rattle.ground_task.specs.Tasks.{IsTaskOf};
 use crate::task::Task;
 use chooser::Choose;
 use clause_learning::Solver;
-use ground_core::Memory as NoMemory;
 use lit_core::ClauseList;
 
 impl<C: Choose + Drop> Task<Solver<C>> {
@@ -23,13 +22,6 @@ impl<C: Choose + Drop> Task<Solver<C>> {
         ensures { result ≡ self.now.solver.kept.searches }
     {
         self.solver.searches()
-    }
-
-    /// Makes the solver ready for many searches, as many questions take them: `Solver::prepare`.
-    pub fn prepare(&mut self) -> Result<(), NoMemory>
-        ensures same { self.new ≡ self.old }
-    {
-        self.solver.prepare()
     }
 
     /// Gives up what was learnt, and what was found to have no model. It stays a task of the same knowledge bases.
