@@ -1,11 +1,14 @@
 -- What is printed of a text.
-use Rattle.std.specs.Prelude.{◌≡◌, ◌+◌, ◌++◌, ◌⊎◌, ℕ, List, take, codes}
+use Rattle.std.specs.Prelude.{◌≡◌, ◌==◌, ◌+◌, ◌++◌, ◌⊎◌, ℕ, List, count_by, take, codes}
 use Rattle.std.specs.Fmt.{decimal}
-use Rattle.kb_io.specs.Lines.{newlines}
 use Rattle.kb_text.specs.Refusals.{text_of}
 use Rattle.kb_text.specs.declared.fault.KbFault.{KbFault}
 use Rattle.reading_bench.specs.declared.parts.Part.{Part}
 use Rattle.reading_bench.specs.Parts.{IsPart, IsRefused}
+
+-- how many newlines there are
+abbrev pub newlines : List ℕ → ℕ
+newlines bytes = count_by (λ b. b == 10) bytes
 
 -- the line of a place: one more than the newlines before it
 abbrev pub line_of : ℕ → List ℕ → ℕ

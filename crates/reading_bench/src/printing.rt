@@ -1,12 +1,17 @@
 //! What is printed of a text.
 ghost use Rattle.std.specs.Prelude.{◌≡◌, IfOk, IfSome};
 ghost use Rattle.std.specs.String.{string_bytes};
-ghost use Rattle.reading_bench.specs.Printing.{IsPrinted, line_of, refusal_text};
+ghost use Rattle.reading_bench.specs.Printing.{IsPrinted, line_of, newlines, refusal_text};
 
 use crate::parts::{Part, read};
 use fo_reader::{KbError, KbFault};
-use kb_io::newlines_in;
 use std::alloc::{AllocError, Global};
+
+fn newlines_in(bytes: &[u8]) -> usize
+    ensures { result ≡ newlines bytes.now }
+{
+    bytes.iter().filter(|byte| **byte == b'\n').count()
+}
 
 // The line of a place in the text.
 fn line_at(text: &[u8], place: usize) -> usize
