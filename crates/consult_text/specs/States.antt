@@ -5,7 +5,6 @@ use Rattle.kb_logic.specs.declared.elements.Elem.{Elem}
 use Rattle.kb_logic.specs.declared.structures.Literal.{Literal}
 use Rattle.kb_logic.specs.Bases.{Base}
 use Rattle.kb_logic.specs.Models.{atom_of}
-use Rattle.reading_stages.specs.Elements.{same_element}
 use Rattle.partial_structures.specs.KnownAtoms.{value_at}
 use Rattle.partial_structures.specs.declared.truths.Truth.{Truth}
 use Rattle.partial_structures.specs.declared.truths.Truth.TheVariants as truth
@@ -14,6 +13,7 @@ use Rattle.consult_text.specs.declared.commands.Command.TheVariants as command
 use Rattle.consult_text.specs.declared.refusals.F.{F}
 use Rattle.consult_text.specs.declared.refusals.F.TheVariants as refusal
 use Rattle.std.specs.Cmp.Lexicographic.{pointwise}
+use Rattle.kb_logic.specs.Denotations.{denotation_of, same_value}
 
 -- what a session's replies depend on, beside the knowledge base: the choices, and how many conflicts a command may
 -- meet, without a limit where there is no number
@@ -25,9 +25,13 @@ pub record State : Type 0 where
 abbrev pub first_state : Option ℕ → State
 first_state budget = record { choices = []; budget = budget }
 
+-- the elements are the same word or the same integer
+abbrev pub same_elem : Elem → Elem → Bool
+same_elem x y = same_value (denotation_of x) (denotation_of y)
+
 -- the rows have the same elements
 abbrev pub same_row : List Elem → List Elem → Bool
-same_row = pointwise same_element
+same_row = pointwise same_elem
 
 abbrev pub same_sign : Bool → Bool → Bool
 same_sign true b = b
@@ -37,7 +41,7 @@ abbrev pub same_given_value : Option Elem → Option Elem → Bool
 same_given_value None None = true
 same_given_value None (Some y) = false
 same_given_value (Some x) None = false
-same_given_value (Some x) (Some y) = same_element x y
+same_given_value (Some x) (Some y) = same_elem x y
 
 -- the literals have the same sign, symbol, arguments and value
 abbrev pub same_literal : Literal → Literal → Bool

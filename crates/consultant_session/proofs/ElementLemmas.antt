@@ -6,18 +6,17 @@ use Rattle.std.proofs.lemmas.Bool.Decides.{Decides-int_eq}
 use Rattle.std.proofs.lemmas.Slice.Eq.{bytes_eq-Decides, slice_eq-Decides}
 use Rattle.kb_logic.specs.declared.elements.Elem.{Elem}
 use Rattle.kb_logic.specs.declared.elements.Elem.TheVariants.{Named, Num}
-use Rattle.reading_stages.specs.Elements.{same_element}
-use Rattle.consult_text.specs.States.{same_row}
+use Rattle.consult_text.specs.States.{same_elem, same_row}
 
-pub same_element_decides : (x y : Elem) → Decides (same_element x y) (x ≡ y)
-same_element_decides (Named a) (Named b) = (
+pub same_elem_decides : (x y : Elem) → Decides (same_elem x y) (x ≡ y)
+same_elem_decides (Named a) (Named b) = (
   (λ same. ap (λ (n : List ℕ). Named n) ((bytes_eq-Decides a b).0 same)),
   (λ same. (bytes_eq-Decides a b).1 (cc same)),
 )
-same_element_decides (Named a) (Num b) = ((λ same. absurd (false≢true same)), (λ same. cc same))
-same_element_decides (Num a) (Named b) = ((λ same. absurd (false≢true same)), (λ same. cc same))
-same_element_decides (Num a) (Num b) =
+same_elem_decides (Named a) (Num b) = ((λ same. absurd (false≢true same)), (λ same. cc same))
+same_elem_decides (Num a) (Named b) = ((λ same. absurd (false≢true same)), (λ same. cc same))
+same_elem_decides (Num a) (Num b) =
     ((λ same. ap (λ (n : ℤ). Num n) ((Decides-int_eq a b).0 same)), (λ same. (Decides-int_eq a b).1 (cc same)))
 
 pub same_row_decides : (r t : List Elem) → Decides (same_row r t) (r ≡ t)
-same_row_decides r t = slice_eq-Decides same_element_decides r t (same_row r t) refl
+same_row_decides r t = slice_eq-Decides same_elem_decides r t (same_row r t) refl

@@ -8,7 +8,7 @@ use Rattle.kb_logic.specs.declared.structures.Structure.{Structure}
 use Rattle.kb_logic.specs.declared.structures.Literal.{Literal}
 use Rattle.kb_logic.specs.Models.{AtomHolds, atom_of, HoldsWithSign, HoldsIn}
 use Rattle.consult_text.specs.States.{same_row, same_sign, same_given_value, same_literal}
-use Rattle.consultant_session.proofs.ElementLemmas.{same_element_decides, same_row_decides}
+use Rattle.consultant_session.proofs.ElementLemmas.{same_elem_decides, same_row_decides}
 
 same_sign_decides : (a b : Bool) → Decides (same_sign a b) (a ≡ b)
 same_sign_decides true b = ((λ is. sym is), (λ is. sym is))
@@ -20,7 +20,7 @@ same_value_decides None None = ((λ is. refl), (λ is. refl))
 same_value_decides None (Some y) = ((λ is. absurd (false≢true is)), (λ is. cc))
 same_value_decides (Some x) None = ((λ is. absurd (false≢true is)), (λ is. cc))
 same_value_decides (Some x) (Some y) =
-    ((λ is. ap (λ (z : Elem). Some z) ((same_element_decides x y).0 is)), (λ is. (same_element_decides x y).1 (cc is)))
+    ((λ is. ap (λ (z : Elem). Some z) ((same_elem_decides x y).0 is)), (λ is. (same_elem_decides x y).1 (cc is)))
 
 parts_are_same : (a b : Literal) → ((a.positive ≡ b.positive) × (a.symbol ≡ b.symbol))
     × ((a.args ≡ b.args) × (a.value ≡ b.value)) → a ≡ b

@@ -1,12 +1,11 @@
 //! Elements and rows.
 ghost use Rattle.std.specs.Prelude.{◌≡◌};
-ghost use Rattle.reading_stages.specs.Elements.{same_element};
-ghost use Rattle.consult_text.specs.States.{same_row};
+ghost use Rattle.consult_text.specs.States.{same_elem, same_row};
 
 use kb_logic::Elem;
 
 pub(crate) fn are_same(a: &Elem, b: &Elem) -> bool
-    ensures { result ≡ same_element a.now b.now }
+    ensures { result ≡ same_elem a.now b.now }
 {
     match (a, b) {
         (Elem::Named(x), Elem::Named(y)) => x.text() == y.text(),
