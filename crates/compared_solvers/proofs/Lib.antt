@@ -1,1 +1,4 @@
+pub mod AskFacts
 pub mod MarkFacts
+pub mod SuitFacts
+pub mod TermFacts

@@ -1,2 +1,7 @@
+pub mod Answering
 pub mod Marking
 pub mod Rules
+pub mod Sayings
+pub mod Suiting
+pub mod Telling
+pub mod Totals

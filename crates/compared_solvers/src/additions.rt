@@ -1,8 +1,10 @@
 //! Questions to a solver, and what is added to it, whichever it is.
-ghost use Rattle.std.specs.Prelude.{◌≡◌, false, IsTrue, IfSome, Contains};
+ghost use Rattle.std.specs.Prelude.{◌≡◌, false, IsTrue, IfOk, IfSome, Contains};
 ghost use Rattle.lit_core.specs.Literals.{valuation};
 ghost use Rattle.ground_core.specs.Meaning.{Satisfies};
+ghost use Rattle.compared_solvers.specs.Answering.{IsFound};
 ghost use Rattle.compared_solvers.specs.Marking.{AreMarks};
+ghost use Rattle.compared_solvers.specs.Sayings.{IsFirstValue};
 
 use crate::faults::Fault;
 use ground_core::{Budget, Grow, Halt, LitList, Verdict};
@@ -60,6 +62,7 @@ fn are_apart(lits: &[Lit], others: &[Lit]) -> bool
 fn first_value<S: Grow>(solver: &S, marks: &Marks, values: &Values) -> Option<ExtInt>
     requires marks { AreMarks (S.state solver.now).problem marks.now }
     requires satisfied { Satisfies (S.state solver.now).problem (valuation values.now) }
+    ensures { IsFirstValue (S.state solver.now).problem (valuation values.now) result }
 {
     if marks.terms == 0 {
         return None;
@@ -75,6 +78,7 @@ pub fn ask<S: Grow>(
     limit: Option<u64>,
 ) -> Result<Answer, Fault>
     requires marks { AreMarks (S.state solver.old).problem marks.now }
+    ensures found { IfOk result (λ a. IsFound (S.state solver.old).problem assume.now a.found) }
     ensures problem { (S.state solver.new).problem ≡ (S.state solver.old).problem }
 {
     if !are_over(marks.vars, assume) {

@@ -1,4 +1,16 @@
 //! Questions to the kept solver, to one made anew and to brute force, and whether they agree.
+ghost use Rattle.std.specs.Prelude.{◌≡◌, ◌↔◌, ◌∷◌, List, length, IsTrue, IfOk};
+ghost use Rattle.kb_logic.specs.declared.structures.Literal.{Literal};
+ghost use Rattle.lit_core.specs.declared.literals.Lit.{Lit as LitRow};
+ghost use Rattle.lit_core.specs.Literals.{valuation};
+ghost use Rattle.ground_core.specs.declared.solving.Verdict.TheVariants as verdict;
+ghost use Rattle.ground_core.specs.Problems.{ProblemState};
+ghost use Rattle.ground_core.specs.Solving.{Answers, IsSublist};
+ghost use Rattle.compared_solvers.specs.declared.asking.Outcome.TheVariants.{Sat};
+ghost use Rattle.compared_solvers.specs.Answering.{IsFound};
+ghost use Rattle.compared_solvers.specs.Sayings.{IsFirstValue, problem_changed};
+ghost use Rattle.compared_solvers.specs.Telling.{Tells, Told};
+
 use crate::additions::{Answer, Event, Found};
 use crate::faults::Fault;
 use crate::holding::{are_right, is_first_value};
@@ -78,38 +90,39 @@ fn anew(alloc: Global, spoken: &Spoken, events: &[Event]) -> Result<Kept, Fault>
     Ok(kept)
 }
 
+/// The literals, without the first one where it is this one.
+fn without_first(lits: &[Lit], lit: Lit) -> &[Lit]
+    ensures { (others : List LitRow) → IsSublist result.now others ↔ IsSublist lits.now (lit ∷ others) }
+{
+    match lits.split_first() {
+        Some((first, further)) if *first == lit => further,
+        _ => lits,
+    }
+}
+
 /// Whether the literals stand among the others in the same order.
-fn is_sublist(lits: &[Lit], others: &[Lit]) -> bool {
+fn is_sublist(lits: &[Lit], others: &[Lit]) -> bool
+    ensures { IsTrue result ↔ IsSublist lits.now others.now }
+{
     let mut rest = lits;
     for other in others {
-        if let Some((first, further)) = rest.split_first() {
-            if *first == *other {
-                rest = further;
-            }
-        }
+        rest = without_first(rest, *other);
     }
     rest.is_empty()
 }
 
-/// Whether what was found is a core.
-fn is_core(answer: &Answer) -> bool {
-    match &answer.found {
-        Found::Core(_) => true,
-        _ => false,
-    }
-}
-
 /// What a core gives: it stands among the assumptions, and brute force refutes it.
-fn of_core(force: &mut Force, core: &[Lit], assume: &[Lit]) -> Result<Outcome, Fault> {
+fn of_core(force: &mut Force, core: &[Lit], assume: &[Lit]) -> Result<Outcome, Fault>
+    ensures told { IfOk result (λ o. (said : ProblemState) → Tells said force.old assume.now o) }
+    ensures problem { force.new ≡ force.old }
+{
     if !is_sublist(core, assume) {
         return Ok(Outcome::Wrong(Wrong::Core));
     }
-    let right = force.ask(core)?;
-    Ok(if is_core(&right) {
-        Outcome::Unsat(core.len())
-    } else {
-        Outcome::Wrong(Wrong::Refutation)
-    })
+    match force.ask(core)?.found {
+        Found::Core(_) => Ok(Outcome::Unsat(core.len())),
+        _ => Ok(Outcome::Wrong(Wrong::Refutation)),
+    }
 }
 
 /// What values give: they are as was said and added, and so is what the first term comes to.
@@ -119,7 +132,13 @@ fn of_values(
     values: &Values,
     value: Option<ExtInt>,
     assume: &[Lit],
-) -> Outcome {
+) -> Outcome
+    ensures right { (given : List Literal) → length given ≡ spoken.now.atoms → (result ≡ Sat) ↔ (Answers
+        (problem_changed given spoken.now.said.items events.now) assume.now (verdict.Sat values.now)
+        × IsFirstValue (problem_changed given spoken.now.said.items events.now) (valuation values.now) value) }
+    ensures told { (given : List Literal) (tried : ProblemState) → length given ≡ spoken.now.atoms
+        → Tells (problem_changed given spoken.now.said.items events.now) tried assume.now result }
+{
     if !are_right(values, spoken.atoms, &spoken.said, events, assume) {
         return Outcome::Wrong(Wrong::Values);
     }
@@ -137,7 +156,11 @@ fn compared(
     limit: Option<u64>,
     answer: &Answer,
     right: &Answer,
-) -> Result<Outcome, Fault> {
+) -> Result<Outcome, Fault>
+    ensures told { IfOk result (Told spoken.now sides.old assume.now) }
+    ensures events { sides.new.events ≡ sides.old.events }
+    ensures force { sides.new.force ≡ sides.old.force }
+{
     if limit.is_some_and(|most| most < answer.spent) {
         return Ok(Outcome::Wrong(Wrong::Limit));
     }
@@ -153,7 +176,10 @@ fn compared(
 }
 
 /// What comes of an outcome beside the one of a solver made anew.
-fn joined(outcome: Outcome, other: Outcome) -> Outcome {
+fn joined(outcome: Outcome, other: Outcome) -> Outcome
+    ensures { (said tried : ProblemState) (assumed : List LitRow) → Tells said tried assumed outcome
+        → Tells said tried assumed other → Tells said tried assumed result }
+{
     match (outcome, other) {
         (Outcome::Wrong(_), _) => outcome,
         (_, Outcome::Wrong(_)) => other,
@@ -172,7 +198,11 @@ fn given_anew(
     assume: &[Lit],
     limit: Option<u64>,
     right: &Answer,
-) -> Result<Outcome, Fault> {
+) -> Result<Outcome, Fault>
+    ensures told { IfOk result (Told spoken.now sides.old assume.now) }
+    ensures events { sides.new.events ≡ sides.old.events }
+    ensures force { sides.new.force ≡ sides.old.force }
+{
     let mut kept = anew(alloc, spoken, &sides.events)?;
     let answer = kept.ask(assume, limit)?;
     compared(spoken, sides, assume, limit, &answer, right)
@@ -187,7 +217,11 @@ fn judged(
     limit: Option<u64>,
     answer: &Answer,
     right: &Answer,
-) -> Result<Outcome, Fault> {
+) -> Result<Outcome, Fault>
+    ensures told { IfOk result (Told spoken.now sides.old assume.now) }
+    ensures events { sides.new.events ≡ sides.old.events }
+    ensures force { sides.new.force ≡ sides.old.force }
+{
     let outcome = compared(spoken, sides, assume, limit, answer, right)?;
     let other = given_anew(alloc, spoken, sides, assume, None, right)?;
     Ok(joined(outcome, other))
@@ -208,7 +242,11 @@ fn confirmed(
     assume: &[Lit],
     limit: Option<u64>,
     answer: Answer,
-) -> Result<Outcome, Fault> {
+) -> Result<Outcome, Fault>
+    ensures told { IfOk result (Told spoken.now sides.old assume.now) }
+    ensures events { sides.new.events ≡ sides.old.events }
+    ensures force { sides.new.force ≡ sides.old.force }
+{
     let right = sides.force.ask(assume)?;
     let outcome = judged(alloc, spoken, sides, assume, limit, &answer, &right);
     keep(&mut sides.found, answer);
@@ -223,7 +261,11 @@ pub fn question(
     sides: &mut Sides,
     assume: &[Lit],
     limit: Option<u64>,
-) -> Result<Outcome, Fault> {
+) -> Result<Outcome, Fault>
+    ensures told { IfOk result (Told spoken.now sides.old assume.now) }
+    ensures events { sides.new.events ≡ sides.old.events }
+    ensures force { sides.new.force ≡ sides.old.force }
+{
     let answer = sides.kept.ask(assume, limit)?;
     confirmed(alloc, spoken, sides, assume, limit, answer)
 }
@@ -256,7 +298,10 @@ fn wrong_within(
     most: u64,
     assume: &[Lit],
     right: &Answer,
-) -> Result<Option<Wrong>, Fault> {
+) -> Result<Option<Wrong>, Fault>
+    ensures events { sides.new.events ≡ sides.old.events }
+    ensures force { sides.new.force ≡ sides.old.force }
+{
     let mut ended = false;
     for limit in 0..most.saturating_add(1) {
         match given_anew(alloc, spoken, sides, assume, Some(limit), right)? {
@@ -277,7 +322,11 @@ pub fn limits(
     sides: &mut Sides,
     most: u64,
     assume: &[Lit],
-) -> Result<Outcome, Fault> {
+) -> Result<Outcome, Fault>
+    ensures told { IfOk result (Told spoken.now sides.old assume.now) }
+    ensures events { sides.new.events ≡ sides.old.events }
+    ensures force { sides.new.force ≡ sides.old.force }
+{
     let right = sides.force.ask(assume)?;
     match wrong_within(alloc, spoken, sides, most, assume, &right)? {
         Some(why) => Ok(Outcome::Wrong(why)),

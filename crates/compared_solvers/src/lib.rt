@@ -8,3 +8,5 @@ pub mod holding;
 pub mod problems;
 pub mod rules;
 pub mod sides;
+pub mod totals;
+pub mod truths;

@@ -17,7 +17,7 @@ pub enum Said {
     /// Whether all of the parts, or any, make the next variable true.
     Gate(bool, Vec<Lit>),
     /// The next variable is true where the two literals have one value.
-    Same(Vec<Lit>),
+    Same(Lit, Lit),
     Term(AggKind, i64, Vec<Part>),
 }
 
@@ -51,19 +51,16 @@ fn add_gate(alloc: Global, problem: &mut Problem, all: bool, lits: &[Lit]) -> Re
     Ok(())
 }
 
-fn add_same(alloc: Global, problem: &mut Problem, lits: &[Lit]) -> Result<(), Fault>
+fn add_same(alloc: Global, problem: &mut Problem, a: Lit, b: Lit) -> Result<(), Fault>
     ensures sums { problem.new.sums ≡ problem.old.sums }
     ensures bounds { problem.new.bounds ≡ problem.old.bounds }
     ensures retired { problem.new.retired ≡ problem.old.retired }
 {
-    let [a, b] = lits else {
-        return Err(Fault::Number);
-    };
     let vars = problem.vars();
     if a.var.0 == 0 || b.var.0 == 0 || a.var.0 > vars || b.var.0 > vars {
         return Err(Fault::Literal);
     }
-    let _out = problem.add_same(alloc, *a, *b)?;
+    let _out = problem.add_same(alloc, a, b)?;
     Ok(())
 }
 
@@ -113,7 +110,7 @@ pub fn add(alloc: Global, problem: &mut Problem, said: &Said) -> Result<(), Faul
     match said {
         Said::Clause(lits) => add_clause(problem, lits),
         Said::Gate(all, parts) => add_gate(alloc, problem, *all, parts),
-        Said::Same(lits) => add_same(alloc, problem, lits),
+        Said::Same(a, b) => add_same(alloc, problem, *a, *b),
         Said::Term(kind, base, parts) => add_term(alloc, problem, *kind, *base, parts),
     }
 }

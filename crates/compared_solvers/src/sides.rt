@@ -1,5 +1,6 @@
 //! The solver that callers keep, and brute force, each beside what is known of its problem.
 ghost use Rattle.std.specs.Prelude.{◌≡◌, [], IfOk};
+ghost use Rattle.compared_solvers.specs.Answering.{IsFound};
 ghost use Rattle.compared_solvers.specs.Marking.{AreMarks};
 
 use crate::additions::{Answer, Event, Marks, apply, ask};
@@ -100,7 +101,10 @@ impl Kept {
     }
 
     /// Asks a question.
-    pub fn ask(&mut self, assume: &[Lit], limit: Option<u64>) -> Result<Answer, Fault> {
+    pub fn ask(&mut self, assume: &[Lit], limit: Option<u64>) -> Result<Answer, Fault>
+        ensures found { IfOk result (λ a. IsFound self.old assume.now a.found) }
+        ensures problem { self.new ≡ self.old }
+    {
         ask(&mut self.solver, &self.marks, assume, limit)
     }
 
@@ -136,7 +140,10 @@ impl Force {
     }
 
     /// Asks a question.
-    pub fn ask(&mut self, assume: &[Lit]) -> Result<Answer, Fault> {
+    pub fn ask(&mut self, assume: &[Lit]) -> Result<Answer, Fault>
+        ensures found { IfOk result (λ a. IsFound self.old assume.now a.found) }
+        ensures problem { self.new ≡ self.old }
+    {
         ask(&mut self.solver, &self.marks, assume, None)
     }
 

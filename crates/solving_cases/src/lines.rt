@@ -1,5 +1,5 @@
 //! What a line says.
-use crate::words::{lits_of, numbers_of, parts_of, words_of};
+use crate::words::{lit_of, lits_of, numbers_of, parts_of, words_of};
 use compared_solvers::faults::Fault;
 use compared_solvers::problems::Said;
 use compared_solvers::rules::{Rule, rule_of};
@@ -79,9 +79,9 @@ fn term_line(alloc: Global, kind: AggKind, numbers: &[i64]) -> Result<Line, Faul
     Ok(Line::Said(Said::Term(kind, *base, parts_of(alloc, parts)?)))
 }
 
-fn same_line(alloc: Global, numbers: &[i64]) -> Result<Line, Fault> {
+fn same_line(numbers: &[i64]) -> Result<Line, Fault> {
     match numbers {
-        [_, _] => Ok(Line::Said(Said::Same(lits_of(alloc, numbers)?))),
+        [a, b] => Ok(Line::Said(Said::Same(lit_of(*a), lit_of(*b)))),
         _ => Err(Fault::Number),
     }
 }
@@ -165,7 +165,7 @@ fn number_line(alloc: Global, word: &str, numbers: &[i64]) -> Result<Line, Fault
         "clause" => Ok(Line::Said(Said::Clause(lits_of(alloc, numbers)?))),
         "all" => Ok(Line::Said(Said::Gate(true, lits_of(alloc, numbers)?))),
         "any" => Ok(Line::Said(Said::Gate(false, lits_of(alloc, numbers)?))),
-        "same" => same_line(alloc, numbers),
+        "same" => same_line(numbers),
         _ => step_line(alloc, word, numbers),
     }
 }

@@ -1,4 +1,4 @@
-use Rattle.std.proofs.Common.{◌≡◌, List, Contains, refl, sym, ◌∙◌, subst}
+use Rattle.std.proofs.Common.{List, Contains, refl, sym, ◌∙◌, subst}
 use Rattle.lit_core.specs.declared.literals.Lit.{Lit}
 use Rattle.compared_solvers.proofs.additions.ask.Goals as goal
 
