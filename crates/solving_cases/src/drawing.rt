@@ -10,6 +10,7 @@ use compared_solvers::rules::Rule;
 use ground_core::Part;
 use kb_logic::AggKind;
 use lit_core::{Lit, Var};
+use problem_fixtures::yes;
 use std::alloc::{AllocError, Global};
 
 /// How many additions brute force is given beside the atoms.
@@ -68,10 +69,7 @@ fn drawn_sum(alloc: Global, source: &mut Source, atoms: u32) -> Result<Said, All
     for atom in 0..atoms {
         let weight = source.below(9) as i64 - 4;
         parts.push(Part {
-            lit: Lit {
-                var: Var(u64::from(atom) + 1),
-                positive: true,
-            },
+            lit: yes(u64::from(atom) + 1),
             weight,
         })?;
     }
@@ -96,7 +94,7 @@ fn assume_all(spoken: &Spoken, sides: &Sides, lits: &mut Vec<Lit>) -> Result<(),
     let first = u64::from(spoken.atoms).saturating_add(1);
     for var in first..sides.kept.vars().saturating_add(1) {
         if !is_retired(&sides.events, var) {
-            lits.push(selector(var))?;
+            lits.push(yes(var))?;
         }
     }
     Ok(())
@@ -113,13 +111,6 @@ fn is_retired(events: &[Event], var: u64) -> bool {
     false
 }
 
-fn selector(var: u64) -> Lit {
-    Lit {
-        var: Var(var),
-        positive: true,
-    }
-}
-
 /// Changes what is asked before a question: the selector of what is added is assumed.
 fn prepare(
     alloc: Global,
@@ -134,11 +125,11 @@ fn prepare(
         2 if added < MOST_ADDITIONS => {
             let below = source.below(13) as i64 - 6;
             change(sides, Event::Bound(0, below))?;
-            lits.push(selector(sides.kept.vars()))?;
+            lits.push(yes(sides.kept.vars()))?;
         }
         3 if added < MOST_ADDITIONS && sides.first.is_some() => {
             exclude(alloc, sides, true)?;
-            lits.push(selector(sides.kept.vars()))?;
+            lits.push(yes(sides.kept.vars()))?;
         }
         4 if added > 0 => {
             let var = u64::from(spoken.atoms)

@@ -7,10 +7,10 @@ use crate::texts::{learnt_text, numbers_text, outcome_text, refuted_text, tally_
 use compared_solvers::additions::Event;
 use compared_solvers::asking::{Outcome, Sides, change, exclude, limits, question, sides_of};
 use compared_solvers::faults::Fault;
-use compared_solvers::problems::{Said, Spoken};
+use compared_solvers::problems::Spoken;
 use compared_solvers::rules::Rule;
 use lit_core::Lit;
-use std::alloc::{AllocError, Global};
+use std::alloc::Global;
 
 /// The most atoms of a problem, since brute force tries all values of them.
 const MOST_ATOMS: u32 = 24;
@@ -36,8 +36,15 @@ impl Play {
     }
 }
 
-fn number_text(alloc: Global, number: u64) -> Result<String, AllocError> {
-    format!(in alloc; "{number}")
+/// The number of the selector that is new.
+fn selector_text(alloc: Global, sides: &Sides) -> Result<String, Fault> {
+    let selector = sides.kept.vars();
+    Ok(format!(in alloc; "{selector}")?)
+}
+
+/// A text of one word.
+fn word(alloc: Global, text: &str) -> Result<String, Fault> {
+    Ok(String::from_str(alloc, text)?)
 }
 
 /// What is asked of a question's outcome: how many assumptions are blamed, or the verdict alone.
@@ -64,30 +71,11 @@ fn limits_text(
     Ok(outcome_text(alloc, outcome, false)?)
 }
 
-/// The number of the selector that is new.
-fn added(alloc: Global, sides: &mut Sides, event: Event) -> Result<String, Fault> {
-    change(sides, event)?;
-    Ok(number_text(alloc, sides.kept.vars())?)
-}
-
-fn excluded(alloc: Global, sides: &mut Sides, by_force: bool) -> Result<String, Fault> {
-    exclude(alloc, sides, by_force)?;
-    Ok(number_text(alloc, sides.kept.vars())?)
-}
-
-fn done(alloc: Global) -> Result<String, Fault> {
-    Ok(String::from_str(alloc, "done")?)
-}
-
 fn count_text(alloc: Global, spoken: &Spoken) -> Result<String, Fault> {
     match count(alloc, spoken)? {
         Some(models) => Ok(format!(in alloc; "{models} models")?),
         None => Ok(String::from_str(alloc, "wrong: no model, or too many")?),
     }
-}
-
-fn nothing(alloc: Global) -> Result<String, Fault> {
-    Ok(String::from_str(alloc, "nothing")?)
 }
 
 /// The first literal is made false by the others, which are decided.
@@ -97,37 +85,27 @@ fn core_text(alloc: Global, spoken: &Spoken, lits: &[Lit]) -> Result<String, Fau
     };
     match blamed(alloc, spoken, *lit, decisions)? {
         Some(refuted) => Ok(refuted_text(alloc, &refuted)?),
-        None => nothing(alloc),
+        None => word(alloc, "nothing"),
     }
 }
 
 fn learn_text(alloc: Global, spoken: &Spoken, decisions: &[Lit]) -> Result<String, Fault> {
     match learnt(alloc, spoken, decisions)? {
         Some(analysis) => Ok(learnt_text(alloc, &analysis)?),
-        None => nothing(alloc),
+        None => word(alloc, "nothing"),
     }
 }
 
 fn root_text(alloc: Global, spoken: &Spoken) -> Result<String, Fault> {
     match refutation(alloc, spoken)? {
         Some(hints) => Ok(numbers_text(alloc, &hints)?),
-        None => nothing(alloc),
+        None => word(alloc, "nothing"),
     }
 }
 
 fn turns_text(alloc: Global, spoken: &Spoken, times: u64) -> Result<String, Fault> {
     let counts = turns(alloc, spoken, times)?;
     Ok(numbers_text(alloc, &counts)?)
-}
-
-fn retired(alloc: Global, sides: &mut Sides, var: u64) -> Result<String, Fault> {
-    change(sides, Event::Retired(var))?;
-    done(alloc)
-}
-
-fn forgotten(alloc: Global, sides: &mut Sides) -> Result<String, Fault> {
-    sides.kept.forget();
-    done(alloc)
 }
 
 /// What a step prints that needs no solver that is kept.
@@ -138,7 +116,7 @@ fn lone_text(alloc: Global, spoken: &Spoken, step: &Step) -> Result<String, Faul
         Step::Learn(lits) => learn_text(alloc, spoken, lits),
         Step::Core(lits) => core_text(alloc, spoken, lits),
         Step::Root => root_text(alloc, spoken),
-        _ => nothing(alloc),
+        _ => word(alloc, "nothing"),
     }
 }
 
@@ -154,10 +132,22 @@ fn step_text(
         Step::Blame(lits) => asked(alloc, spoken, sides, lits, None, true),
         Step::Within(most, lits) => asked(alloc, spoken, sides, lits, Some(*most), false),
         Step::Limits(most, lits) => limits_text(alloc, spoken, sides, *most, lits),
-        Step::Bound(term, below) => added(alloc, sides, Event::Bound(*term, *below)),
-        Step::Exclude(by_force) => excluded(alloc, sides, *by_force),
-        Step::Retire(var) => retired(alloc, sides, *var),
-        Step::Forget => forgotten(alloc, sides),
+        Step::Bound(term, below) => {
+            change(sides, Event::Bound(*term, *below))?;
+            selector_text(alloc, sides)
+        }
+        Step::Exclude(by_force) => {
+            exclude(alloc, sides, *by_force)?;
+            selector_text(alloc, sides)
+        }
+        Step::Retire(var) => {
+            change(sides, Event::Retired(*var))?;
+            word(alloc, "done")
+        }
+        Step::Forget => {
+            sides.kept.forget();
+            word(alloc, "done")
+        }
         _ => lone_text(alloc, spoken, step),
     }
 }
@@ -176,7 +166,7 @@ fn stepped(alloc: Global, play: &mut Play, step: &Step) -> Result<String, Fault>
     begin(alloc, play)?;
     match &mut play.sides {
         Some(sides) => step_text(alloc, &play.spoken, sides, step),
-        None => nothing(alloc),
+        None => word(alloc, "nothing"),
     }
 }
 
@@ -188,45 +178,11 @@ fn drawn_text(alloc: Global, rule: Rule, draw: Draw) -> Result<String, Fault> {
     Ok(tally_text(alloc, tally)?)
 }
 
-fn set_atoms(play: &mut Play, atoms: u32) -> Result<(), Fault> {
-    if play.sides.is_some() {
-        return Err(Fault::Late);
-    }
-    if atoms > MOST_ATOMS {
-        return Err(Fault::Size);
-    }
-    play.spoken.atoms = atoms;
-    Ok(())
-}
-
-fn set_rule(play: &mut Play, rule: Rule) -> Result<(), Fault> {
-    if play.sides.is_some() {
-        return Err(Fault::Late);
-    }
-    play.spoken.rule = rule;
-    Ok(())
-}
-
-fn say(play: &mut Play, said: Said) -> Result<(), Fault> {
-    if play.sides.is_some() {
-        return Err(Fault::Late);
-    }
-    play.spoken.said.push(said)?;
-    Ok(())
-}
-
-/// Nothing is printed of a line that only says something.
-fn silent(said: Result<(), Fault>) -> Result<Option<String>, Fault> {
-    match said {
-        Ok(()) => Ok(None),
-        Err(fault) => Err(fault),
-    }
-}
-
-fn spoken_of(text: Result<String, Fault>) -> Result<Option<String>, Fault> {
-    match text {
-        Ok(text) => Ok(Some(text)),
-        Err(fault) => Err(fault),
+/// Refuses what is said once something was asked.
+fn unasked(play: &Play) -> Result<(), Fault> {
+    match &play.sides {
+        Some(_) => Err(Fault::Late),
+        None => Ok(()),
     }
 }
 
@@ -235,10 +191,25 @@ pub fn played(alloc: Global, play: &mut Play, line: Line) -> Result<Option<Strin
     match line {
         Line::Empty => Ok(None),
         Line::Case => Ok(None),
-        Line::Rule(rule) => silent(set_rule(play, rule)),
-        Line::Atoms(atoms) => silent(set_atoms(play, atoms)),
-        Line::Said(said) => silent(say(play, said)),
-        Line::Step(step) => spoken_of(stepped(alloc, play, &step)),
-        Line::Random(draw) => spoken_of(drawn_text(alloc, play.spoken.rule, draw)),
+        Line::Rule(rule) => {
+            unasked(play)?;
+            play.spoken.rule = rule;
+            Ok(None)
+        }
+        Line::Atoms(atoms) => {
+            unasked(play)?;
+            if atoms > MOST_ATOMS {
+                return Err(Fault::Size);
+            }
+            play.spoken.atoms = atoms;
+            Ok(None)
+        }
+        Line::Said(said) => {
+            unasked(play)?;
+            play.spoken.said.push(said)?;
+            Ok(None)
+        }
+        Line::Step(step) => Ok(Some(stepped(alloc, play, &step)?)),
+        Line::Random(draw) => Ok(Some(drawn_text(alloc, play.spoken.rule, draw)?)),
     }
 }
