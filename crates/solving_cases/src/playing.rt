@@ -182,19 +182,12 @@ fn drawn_text(alloc: Global, rule: Rule, draw: Draw) -> Result<String, Fault> {
     Ok(tally_text(alloc, tally)?)
 }
 
-/// Says something of the problem, as long as nothing was asked.
-fn say(play: &mut Play, line: Line) -> Result<(), Fault> {
-    if play.sides.is_some() {
-        return Err(Fault::Late);
+/// Refuses what is said once something was asked.
+fn unasked(play: &Play) -> Result<(), Fault> {
+    match &play.sides {
+        Some(_) => Err(Fault::Late),
+        None => Ok(()),
     }
-    match line {
-        Line::Rule(rule) => play.spoken.rule = rule,
-        Line::Atoms(atoms) if atoms > MOST_ATOMS => return Err(Fault::Size),
-        Line::Atoms(atoms) => play.spoken.atoms = atoms,
-        Line::Said(said) => play.spoken.said.push(said)?,
-        _ => {}
-    }
-    Ok(())
 }
 
 /// Plays a line, and hands back what it prints.
@@ -202,11 +195,25 @@ pub fn played(alloc: Global, play: &mut Play, line: Line) -> Result<Option<Strin
     match line {
         Line::Empty => Ok(None),
         Line::Case => Ok(None),
-        Line::Step(step) => Ok(Some(stepped(alloc, play, &step)?)),
-        Line::Random(draw) => Ok(Some(drawn_text(alloc, play.spoken.rule, draw)?)),
-        _ => {
-            say(play, line)?;
+        Line::Rule(rule) => {
+            unasked(play)?;
+            play.spoken.rule = rule;
             Ok(None)
         }
+        Line::Atoms(atoms) => {
+            unasked(play)?;
+            if atoms > MOST_ATOMS {
+                return Err(Fault::Size);
+            }
+            play.spoken.atoms = atoms;
+            Ok(None)
+        }
+        Line::Said(said) => {
+            unasked(play)?;
+            play.spoken.said.push(said)?;
+            Ok(None)
+        }
+        Line::Step(step) => Ok(Some(stepped(alloc, play, &step)?)),
+        Line::Random(draw) => Ok(Some(drawn_text(alloc, play.spoken.rule, draw)?)),
     }
 }
