@@ -17,7 +17,7 @@ use Rattle.kb_logic.specs.declared.elements.ExtInt.{ExtInt}
 use Rattle.ground_core.specs.declared.parts.GroundTerm.{GroundTerm}
 use Rattle.ground_core.specs.Growing.{HasValue, value_of_term}
 use Rattle.ground_core.specs.Problems.{ProblemState, IsProblem}
-use Rattle.ground_core.specs.Meaning.{HasTermsInRange, IsInRange, Satisfies, RefutesAll, term_value, value_of_bound}
+use Rattle.ground_core.specs.Meaning.{HasTermsInRange, IsInRange, Satisfies, RefutesAll, term_value, denotation_of_bound}
 use Rattle.ground_core.specs.Moments.{moment_of}
 use Rattle.ground_core.specs.Selectors.{AreSelectors}
 use Rattle.ground_core.specs.Solving.{SolveState, Answers, Spends, IsPrefix, IsBudgetOf, IsSublist, HasCoreWithin}
@@ -188,7 +188,7 @@ none-in-range p none v sat = subst (All (λ t. IsInRange (term_value v t))) (sym
 
 -- a term of the problem has the value of this term
 pub value-at : (p : ProblemState) (term : ℕ) (t : GroundTerm) (v : ℕ → Bool) (n : ExtInt) → slice_get p.terms term
-    ≡ Some t → value_of_bound n ≡ term_value v t → HasValue p term v n
+    ≡ Some t → denotation_of_bound n ≡ term_value v t → HasValue p term v n
 value-at p term t v n at is = ap (λ o. value_of_term o v) at ∙ sym is
 
 -- and it is in range

@@ -22,7 +22,7 @@ use Rattle.lit_core.proofs.Soundness.{value-negated}
 use Rattle.ground_core.specs.declared.parts.GroundTerm.{GroundTerm}
 use Rattle.ground_core.specs.declared.parts.TermBound.{TermBound}
 use Rattle.ground_core.specs.Problems.{ProblemState}
-use Rattle.ground_core.specs.Meaning.{joined, GateHolds, BoundHolds, term_value, value_of_bound}
+use Rattle.ground_core.specs.Meaning.{joined, GateHolds, BoundHolds, term_value, denotation_of_bound}
 use Rattle.ground_core.specs.Growth.{clauses_of_same, falsified_by, next_lit, with_clause, with_gate, with_same}
 use Rattle.ground_core.specs.Growth.{with_term, with_bound, with_exclusion}
 use Rattle.ground_core.specs.Growing.{with_retired}
@@ -205,7 +205,7 @@ module _ (values : List Bool) where
 
   -- bounds
   abbrev IsBelow : ProblemState → ℕ → ExtInt → Type 0
-  IsBelow p term n = IfSome (slice_get p.terms term) (λ t. compared cmp.Lt (term_value v t) (value_of_bound n) ≡ true)
+  IsBelow p term n = IfSome (slice_get p.terms term) (λ t. compared cmp.Lt (term_value v t) (denotation_of_bound n) ≡ true)
 
   pub bound-made : (p : ProblemState) (term : ℕ) (n : ExtInt) → Suits p values → p.vars + 1 < length values
       → (v (p.vars + 1) ≡ true → IsBelow p term n) → Suits (with_bound p term n) values

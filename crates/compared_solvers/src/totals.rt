@@ -5,7 +5,7 @@ ghost use Rattle.kb_logic.specs.declared.syntax.Cmp.TheVariants as cmp;
 ghost use Rattle.kb_logic.specs.Arithmetic.{combined, start};
 ghost use Rattle.kb_logic.specs.Denotations.{compared, greater, lesser, number};
 ghost use Rattle.lit_core.specs.Literals.{literal_value, valuation};
-ghost use Rattle.ground_core.specs.Meaning.{parts_value, shifted, value_of_bound};
+ghost use Rattle.ground_core.specs.Meaning.{parts_value, shifted, denotation_of_bound};
 ghost use Rattle.compared_solvers.specs.Totals.{denoted, IsOf, IsWithin};
 
 use crate::truths::is_true;
@@ -130,7 +130,7 @@ pub fn is_below(total: Total, below: i64) -> bool
 
 /// Whether the total is the value.
 pub fn is_value(total: Total, value: ExtInt) -> bool
-    ensures { IsTrue result ↔ (denoted total ≡ value_of_bound value) }
+    ensures { IsTrue result ↔ (denoted total ≡ denotation_of_bound value) }
 {
     match (total, value) {
         (Total::NegInf, ExtInt::NegInf) => true,

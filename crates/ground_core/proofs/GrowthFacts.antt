@@ -20,7 +20,7 @@ use Rattle.ground_core.specs.declared.parts.TermBound.{TermBound}
 use Rattle.ground_core.specs.declared.moments.Moment.{Moment}
 use Rattle.ground_core.specs.Problems.{ProblemState, IsProblem, IsLitOf, AreLitsOf, IsTermOf}
 use Rattle.ground_core.specs.Meaning.{HasTermsInRange, IsInRange, shifted, Satisfies, BoundHolds, term_value}
-use Rattle.ground_core.specs.Meaning.{value_of_bound}
+use Rattle.ground_core.specs.Meaning.{denotation_of_bound}
 use Rattle.ground_core.specs.More.{Agree}
 use Rattle.ground_core.specs.Moments.{IsMomentOf}
 use Rattle.ground_core.specs.Growth.{with_bound, with_exclusion, next_lit, falsified_by}
@@ -41,7 +41,7 @@ module _ (p : ProblemState) (term : ℕ) (below : ExtInt) where
   new_bound = record { out = next_lit p; term = term; below = below }
 
   abbrev IsBelow : (ℕ → Bool) → Type 0
-  IsBelow v = IfSome (slice_get p.terms term) (λ t. compared cmp.Lt (term_value v t) (value_of_bound below) ≡ true)
+  IsBelow v = IfSome (slice_get p.terms term) (λ t. compared cmp.Lt (term_value v t) (denotation_of_bound below) ≡ true)
 
   pub bound-restricts : (v : ℕ → Bool) → Satisfies (with_bound p term below) v → Satisfies p v
   bound-restricts v s = record {
@@ -98,13 +98,13 @@ term-in-range p term v h s lt =
     (item-of (λ t. IsInRange (term_value v t)) p.terms term x.0 (h v s) x.1)
 
 below-none : (o : Option GroundTerm) (v : ℕ → Bool) (b : ExtInt) → compared cmp.Lt (value_of_term o v)
-    (value_of_bound b) ≡ true → IfSome o (λ x. compared cmp.Lt (term_value v x) (value_of_bound b) ≡ true)
+    (denotation_of_bound b) ≡ true → IfSome o (λ x. compared cmp.Lt (term_value v x) (denotation_of_bound b) ≡ true)
 below-none None v b h = tt
 below-none (Some x) v b h = h
 
 below-some : (o : Option GroundTerm) (v : ℕ → Bool) (b : ExtInt) → ((x : GroundTerm) × (o ≡ Some x))
-    → IfSome o (λ x. compared cmp.Lt (term_value v x) (value_of_bound b) ≡ true) → compared cmp.Lt (value_of_term o v)
-    (value_of_bound b) ≡ true
+    → IfSome o (λ x. compared cmp.Lt (term_value v x) (denotation_of_bound b) ≡ true) → compared cmp.Lt (value_of_term o v)
+    (denotation_of_bound b) ≡ true
 below-some None v b s h = absurd (none-some s.0 s.1)
 below-some (Some x) v b s h = h
 

@@ -16,7 +16,7 @@ use Rattle.kb_logic.specs.declared.syntax.AggKind.{AggKind}
 use Rattle.kb_logic.specs.declared.syntax.Cmp.TheVariants as cmp
 use Rattle.kb_logic.specs.Denotations.{compared}
 use Rattle.ground_core.specs.Problems.{ProblemState, IsProblem, IsLitOf, AreLitsOf, ArePartsOf}
-use Rattle.ground_core.specs.Meaning.{joined, parts_value, value_of_bound, GateHolds, SumHolds, Satisfies}
+use Rattle.ground_core.specs.Meaning.{joined, parts_value, denotation_of_bound, GateHolds, SumHolds, Satisfies}
 use Rattle.ground_core.specs.More.{Agree, DefinesMore, Adds}
 use Rattle.ground_core.specs.Growth.{next_lit, with_gate, with_sum, with_same, clauses_of_same}
 use Rattle.ground_core.proofs.Locals.{agree-trans, literal-local, joined-local, value-local, satisfies-local}
@@ -105,10 +105,10 @@ module _ (p : ProblemState) (kind : AggKind) (parts : List Part) (least : ExtInt
   sum = record { out = next_lit p; kind = kind; parts = parts; least = least }
 
   pub sum-added : Adds p (with_sum p kind parts least) (λ v. compared cmp.Ge (parts_value v kind parts)
-      (value_of_bound least)) (next_lit p)
+      (denotation_of_bound least)) (next_lit p)
   sum-added = added p (with_sum p kind parts least) (λ v. compared cmp.Ge (parts_value v kind parts)
-      (value_of_bound least)) fine refl
-      (λ v w e. ap (λ d. compared cmp.Ge d (value_of_bound least)) (value-local p.vars v w e kind parts within))
+      (denotation_of_bound least)) fine refl
+      (λ v w e. ap (λ d. compared cmp.Ge d (denotation_of_bound least)) (value-local p.vars v w e kind parts within))
       (λ v s. (
         record {
           gates = s.gates;

@@ -14,7 +14,7 @@ use Rattle.ground_core.specs.declared.parts.GroundTerm.{GroundTerm}
 use Rattle.ground_core.specs.declared.parts.Part.{Part}
 use Rattle.ground_core.specs.declared.parts.TermBound.{TermBound}
 use Rattle.ground_core.specs.Problems.{ProblemState, AreLitsOf}
-use Rattle.ground_core.specs.Meaning.{BoundHolds, Satisfies, term_value, value_of_bound}
+use Rattle.ground_core.specs.Meaning.{BoundHolds, Satisfies, term_value, denotation_of_bound}
 use Rattle.ground_core.specs.Growing.{IsApart, IsSelector, with_retired}
 use Rattle.ground_core.specs.Selectors.{AreSelectors}
 use Rattle.ground_core.specs.Laws.{AdditionsChangeNoAnswer, FreshClausesAreNoTautologies, IsMadeFalse}

@@ -14,7 +14,7 @@ use Rattle.ground_core.specs.declared.parts.Part.{Part}
 use Rattle.ground_core.specs.declared.parts.AggCon.{AggCon}
 use Rattle.ground_core.specs.declared.parts.GroundTerm.{GroundTerm}
 use Rattle.ground_core.specs.declared.parts.TermBound.{TermBound}
-use Rattle.ground_core.specs.Meaning.{joined, weights_of, parts_value, value_of_bound, shifted, term_value, GateHolds}
+use Rattle.ground_core.specs.Meaning.{joined, weights_of, parts_value, denotation_of_bound, shifted, term_value, GateHolds}
 use Rattle.ground_core.specs.Meaning.{SumHolds}
 
 module _ (P : Lit → Type 0) (v w : ℕ → Bool) (same : (l : Lit) → P l → literal_value v l ≡ literal_value w l) where
@@ -64,14 +64,14 @@ module _ (P : Lit → Type 0) (v w : ℕ → Bool) (same : (l : Lit) → P l →
 
   pub sum-same : (s : AggCon) → P s.out → All (λ (p : Part). P p.lit) s.parts → SumHolds v s → SumHolds w s
   sum-same s out parts t =
-      sym (same s.out out) ∙ t ∙ ap (λ d. compared cmp.Ge d (value_of_bound s.least))
+      sym (same s.out out) ∙ t ∙ ap (λ d. compared cmp.Ge d (denotation_of_bound s.least))
       (value-same s.kind s.parts parts)
 
   pub below-same : (b : TermBound) (o : Option GroundTerm)
       → ((t : GroundTerm) → o ≡ Some t → All (λ (p : Part). P p.lit) t.parts)
-      → IfSome o (λ t. compared cmp.Lt (term_value v t) (value_of_bound b.below) ≡ true)
-      → IfSome o (λ t. compared cmp.Lt (term_value w t) (value_of_bound b.below) ≡ true)
+      → IfSome o (λ t. compared cmp.Lt (term_value v t) (denotation_of_bound b.below) ≡ true)
+      → IfSome o (λ t. compared cmp.Lt (term_value w t) (denotation_of_bound b.below) ≡ true)
   below-same b None h s = s
   below-same b (Some t) h s =
       let e : parts_value v t.kind t.parts ≡ parts_value w t.kind t.parts = value-same t.kind t.parts (h t refl) in
-      ap (λ d. compared cmp.Lt (shifted t.base d) (value_of_bound b.below)) (sym e) ∙ s
+      ap (λ d. compared cmp.Lt (shifted t.base d) (denotation_of_bound b.below)) (sym e) ∙ s

@@ -8,7 +8,7 @@ use Rattle.ground_core.specs.declared.solving.Halt.TheVariants.{Spent, Memory}
 use Rattle.ground_core.specs.Problems.{ProblemState}
 use Rattle.ground_core.specs.Growing.{Conserves}
 use Rattle.ground_core.specs.Moments.{moment_of, GrowsFrom, IsNoLater}
-use Rattle.ground_core.specs.Solving.{SolveState, IsPrefix, counted}
+use Rattle.ground_core.specs.Solving.{SolveState, IsPrefix, IsKept, counted}
 
 -- the limit stays, the lists grow at their ends, by clauses that were learnt in the call, and what was spent rises by
 -- what was learnt, up to the limit
@@ -42,6 +42,14 @@ pub record Stays (old new : SolveState) : Type 0 where
 pub record Costs (m : ℕ) (old new : SolveState) (b c : Budget) : Type 0 where
   pub searches : (k : ℕ) × (k ≤ m) × (new.searches ≡ counted (old.searches + k))
   pub spent : c.spent - b.spent < m * 2 ^ (old.free + m)
+
+-- how a call of at most m searches ends: what it learnt and spent, that what is kept of the solver holds again, and that
+-- no more variables are free
+pub record CallEnds (m : ℕ) (old new : SolveState) (b c : Budget) : Type 0 where
+  pub keeps : Keeps old new b c
+  pub costs : Costs m old new b c
+  pub kept : IsKept new
+  pub free : new.free ≡ old.free
 
 -- the problem grew by additions, and only selectors of these were retired
 pub record GrowsByAdditions (p q : ProblemState) : Type 0 where

@@ -12,7 +12,7 @@ use Rattle.ground_core.specs.declared.parts.AggCon.{AggCon}
 use Rattle.ground_core.specs.declared.parts.GroundTerm.{GroundTerm}
 use Rattle.ground_core.specs.declared.parts.TermBound.{TermBound}
 use Rattle.ground_core.specs.Problems.{ProblemState, IsLitOf}
-use Rattle.ground_core.specs.Meaning.{Satisfies, term_value, value_of_bound}
+use Rattle.ground_core.specs.Meaning.{Satisfies, term_value, denotation_of_bound}
 use Rattle.ground_core.specs.More.{Agree}
 use Rattle.ground_core.specs.Growth.{with_bound, with_exclusion, retiring}
 use Rattle.ground_core.specs.Solving.{SolveState}
@@ -28,7 +28,7 @@ value_at p term v = value_of_term (slice_get p.terms term) v
 
 -- the number is the value of the term at this place
 abbrev pub HasValue : ProblemState → ℕ → (ℕ → Bool) → ExtInt → Type 0
-HasValue p term v n = value_at p term v ≡ value_of_bound n
+HasValue p term v n = value_at p term v ≡ denotation_of_bound n
 
 -- the solver of another problem, which has one more variable
 abbrev pub with_addition : SolveState → ProblemState → Addition → SolveState

@@ -10,7 +10,7 @@ use Rattle.lit_core.specs.Literals.{literal_value, negated, by_sign, valuation}
 use Rattle.ground_core.specs.declared.parts.Part.{Part}
 use Rattle.ground_core.specs.declared.parts.GroundTerm.{GroundTerm}
 use Rattle.ground_core.specs.Problems.{ProblemState}
-use Rattle.ground_core.specs.Meaning.{joined, parts_value, value_of_bound}
+use Rattle.ground_core.specs.Meaning.{joined, parts_value, denotation_of_bound}
 use Rattle.ground_core.specs.More.{Adds}
 
 -- a variable for each ground atom, and nothing said
@@ -172,7 +172,7 @@ AddsGate p q all parts out = Adds p q (λ v. joined all v parts) out
 
 -- the new literal is true exactly where the parts come to at least the bound
 abbrev pub AddsSum : ProblemState → ProblemState → AggKind → List Part → ExtInt → Lit → Type 0
-AddsSum p q kind parts least out = Adds p q (λ v. compared cmp.Ge (parts_value v kind parts) (value_of_bound least)) out
+AddsSum p q kind parts least out = Adds p q (λ v. compared cmp.Ge (parts_value v kind parts) (denotation_of_bound least)) out
 
 -- the new literal is true exactly where the two literals have one value
 abbrev pub AddsSame : ProblemState → ProblemState → Lit → Lit → Lit → Type 0

@@ -14,7 +14,7 @@ use Rattle.lit_core.specs.Literals.{literal_value, negated, valuation}
 use Rattle.lit_core.specs.Truth.{IsSatisfied}
 use Rattle.ground_core.specs.declared.parts.Gate.{Gate}
 use Rattle.ground_core.specs.Problems.{ProblemState, IsProblem, IsLitOf, AreLitsOf}
-use Rattle.ground_core.specs.Meaning.{GateHolds, Satisfies, RefutesAll, AreAllFalse, value_of_bound}
+use Rattle.ground_core.specs.Meaning.{GateHolds, Satisfies, RefutesAll, AreAllFalse, denotation_of_bound}
 use Rattle.ground_core.specs.Atoms.{ground_atoms, IsGroundAtom}
 use Rattle.ground_core.specs.More.{Agree, DefinesMore}
 use Rattle.ground_core.specs.GateClauses.{gate_clauses, clauses_of}
@@ -70,8 +70,8 @@ EachAtomStandsOnce =
 -- under a bound exactly the valuations remain in which the term is below the number
 pub record BoundSelects (p : ProblemState) (term : ℕ) (below : ExtInt) : Type 0 where
   pub means : (v : ℕ → Bool) → Satisfies (with_bound p term below) v → v (next_lit p).var.0 ≡ true
-      → compared cmp.Lt (value_at p term v) (value_of_bound below) ≡ true
-  pub extends : (v : ℕ → Bool) → Satisfies p v → compared cmp.Lt (value_at p term v) (value_of_bound below) ≡ true
+      → compared cmp.Lt (value_at p term v) (denotation_of_bound below) ≡ true
+  pub extends : (v : ℕ → Bool) → Satisfies p v → compared cmp.Lt (value_at p term v) (denotation_of_bound below) ≡ true
       → (w : ℕ → Bool) × Agree p.vars v w × Satisfies (with_bound p term below) w × (w (next_lit p).var.0 ≡ true)
 
 abbrev pub BoundsSelect : Type 0

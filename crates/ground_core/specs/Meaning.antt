@@ -8,6 +8,7 @@ use Rattle.kb_logic.specs.declared.syntax.AggKind.{AggKind}
 use Rattle.kb_logic.specs.declared.syntax.Cmp.TheVariants as cmp
 use Rattle.kb_logic.specs.Denotations.{Denotation, number, minus_infinity, plus_infinity, undefined, named}
 use Rattle.kb_logic.specs.Denotations.{aggregate_value, compared}
+pub use Rattle.kb_logic.specs.Denotations.{denotation_of_bound}
 use Rattle.lit_core.specs.declared.literals.Lit.{Lit}
 use Rattle.lit_core.specs.Literals.{literal_value}
 use Rattle.lit_core.specs.Truth.{IsSatisfied}
@@ -35,15 +36,9 @@ weights_of v ps = map (λ (p : Part). number p.weight) (filter (λ (p : Part). l
 abbrev pub parts_value : (ℕ → Bool) → AggKind → List Part → Denotation
 parts_value v kind ps = aggregate_value kind (weights_of v ps)
 
--- the number, or infinity, as a value
-abbrev pub value_of_bound : ExtInt → Denotation
-value_of_bound NegInf = minus_infinity
-value_of_bound (Num z) = number z
-value_of_bound PosInf = plus_infinity
-
 -- a constraint's output is true exactly where the value of its parts is at least its bound
 abbrev pub SumHolds : (ℕ → Bool) → AggCon → Type 0
-SumHolds v s = literal_value v s.out ≡ compared cmp.Ge (parts_value v s.kind s.parts) (value_of_bound s.least)
+SumHolds v s = literal_value v s.out ≡ compared cmp.Ge (parts_value v s.kind s.parts) (denotation_of_bound s.least)
 
 -- a number more, where there is a number
 abbrev pub shifted : ℤ → Denotation → Denotation
@@ -68,7 +63,7 @@ IsInRange undefined = ⊥
 -- where a bound's output is true, its term is below the number
 abbrev pub BoundHolds : (ℕ → Bool) → List GroundTerm → TermBound → Type 0
 BoundHolds v terms b = literal_value v b.out ≡ true → IfSome (slice_get terms b.term)
-    (λ t. compared cmp.Lt (term_value v t) (value_of_bound b.below) ≡ true)
+    (λ t. compared cmp.Lt (term_value v t) (denotation_of_bound b.below) ≡ true)
 
 -- every one of these literals is false
 abbrev pub AreAllFalse : (ℕ → Bool) → List Lit → Type 0

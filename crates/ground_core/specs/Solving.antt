@@ -1,6 +1,7 @@
 -- What a solver promises.
 use Rattle.std.specs.Prelude.{◌≡◌, ℕ, ◌+◌, ◌-◌, ◌^◌, ◌<◌, ◌≤◌, Bool, min, Some, Result, Ok, Err, List, [], ◌∷◌, ◌++◌}
 use Rattle.std.specs.Prelude.{length, take, replicate, slice_get, All, Any, Contains, IfSome, ◌⊎◌}
+pub use Rattle.kb_logic.specs.Lists.{IsSublist, IsPrefix}
 use Rattle.lit_core.specs.declared.literals.Lit.{Lit}
 use Rattle.lit_core.specs.Literals.{valuation, negated}
 use Rattle.lit_core.specs.Truth.{IsSatisfied}
@@ -32,16 +33,6 @@ pub record SolveState : Type 0 where
   pub searches : ℕ
   -- the bounds and exclusions that were added
   pub additions : List Addition
-
--- the first list is the second with some of its items left out
-abbrev pub IsSublist : {A : Type 0} → List A → List A → Type 0
-IsSublist [] ys = Unit {0}
-IsSublist (x ∷ xs) [] = ⊥
-IsSublist (x ∷ xs) (y ∷ ys) = ((x ≡ y) × IsSublist xs ys) ⊎ IsSublist (x ∷ xs) ys
-
--- the second list is the first with more items after it
-abbrev pub IsPrefix : {A : Type 0} → List A → List A → Type 0
-IsPrefix {A} xs ys = (more : List A) × (ys ≡ xs ++ more)
 
 -- the values satisfy the problem and make the literals true, or some of the literals, in their order, are refuted
 abbrev pub Answers : ProblemState → List Lit → Verdict → Type 0

@@ -4,6 +4,9 @@ use Rattle.std.specs.Str.{bytes_eq}
 use Rattle.std.specs.Ordering.{int_eq}
 use Rattle.kb_logic.specs.declared.elements.Elem.{Elem}
 use Rattle.kb_logic.specs.declared.elements.Elem.TheVariants.{Named, Num}
+use Rattle.kb_logic.specs.declared.elements.ExtInt.{ExtInt}
+use Rattle.kb_logic.specs.declared.elements.ExtInt.TheVariants as ext
+use Rattle.kb_logic.specs.declared.elements.ExtInt.TheVariants.{NegInf, PosInf}
 use Rattle.kb_logic.specs.declared.syntax.Cmp.{Cmp}
 use Rattle.kb_logic.specs.declared.syntax.Cmp.TheVariants as cmp
 use Rattle.kb_logic.specs.declared.syntax.AggKind.{AggKind}
@@ -21,6 +24,12 @@ pub data Denotation : Type 0 where
 abbrev pub denotation_of : Elem → Denotation
 denotation_of (Named n) = named n
 denotation_of (Num z) = number z
+
+-- the number, or infinity, as a value
+abbrev pub denotation_of_bound : ExtInt → Denotation
+denotation_of_bound NegInf = minus_infinity
+denotation_of_bound (ext.Num z) = number z
+denotation_of_bound PosInf = plus_infinity
 
 abbrev pub same_value : Denotation → Denotation → Bool
 same_value (named a) (named b) = bytes_eq a b

@@ -11,6 +11,9 @@ pub mod Weights
 pub mod Laws
 pub mod Models
 pub mod KnownAtoms
+pub mod Lists
 pub mod Bases
+pub mod InForce
+pub mod Answers
 pub mod Domains
 pub mod Decimals

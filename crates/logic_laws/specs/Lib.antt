@@ -1,4 +1,5 @@
 pub mod Derivations
 pub mod DomainExamples
 pub mod Examples
+pub mod QueryLaws
 pub mod TypingExamples

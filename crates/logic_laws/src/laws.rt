@@ -4,6 +4,8 @@ ghost use Rattle.kb_logic.specs.Bounds.{ValuesLieWithinBounds, SmallBoundsFit, S
 ghost use Rattle.logic_laws.specs.Derivations.{DerivedIsDecided, DefinitionExamples};
 ghost use Rattle.logic_laws.specs.DomainExamples.{DomainExamples};
 ghost use Rattle.logic_laws.specs.Examples.{WorkedExamples};
+ghost use Rattle.logic_laws.specs.QueryLaws.{LessAllowsMore, MoreForcesMore, ShownAreExactlyThose, CompleteHasEach};
+ghost use Rattle.logic_laws.specs.QueryLaws.{LeastIsOne};
 ghost use Rattle.logic_laws.specs.TypingExamples.{TypingExamples};
 ghost use Rattle.kb_logic.specs.Laws.{EveryIsForAll, SomeIsThereIs, NumberComparesCount, AssignmentsAreChoices};
 ghost use Rattle.kb_logic.specs.Laws.{AssignmentsAreDistinct, AggregateIsOverAssignments, CountIsLength, SumAddsEach};
@@ -109,4 +111,26 @@ pub fn definitions_derive()
 /// Which formulas are well typed, as worked out by hand.
 pub fn typing_examples()
     ensures { TypingExamples }
+{}
+
+/// With less in force there are the models that there were, and perhaps more; and what some of it forces, all of it
+/// forces.
+pub fn less_allows_more()
+    ensures models { LessAllowsMore }
+    ensures forced { MoreForcesMore }
+{}
+
+/// A literal is shown exactly where it is true in all models and not left out.
+pub fn shown_are_exactly_those()
+    ensures { ShownAreExactlyThose }
+{}
+
+/// A list of models that is complete has exactly the models.
+pub fn complete_has_each()
+    ensures { CompleteHasEach }
+{}
+
+/// A term has one least value.
+pub fn least_is_one()
+    ensures { LeastIsOne }
 {}

@@ -17,7 +17,7 @@ use Rattle.ground_core.specs.declared.growing.Addition.{Addition}
 use Rattle.ground_core.specs.declared.growing.Addition.TheVariants.{Bound}
 use Rattle.ground_core.specs.declared.solving.Budget.{Budget}
 use Rattle.ground_core.specs.Problems.{ProblemState, IsProblem, AreLitsOf}
-use Rattle.ground_core.specs.Meaning.{value_of_bound, IsInRange}
+use Rattle.ground_core.specs.Meaning.{denotation_of_bound, IsInRange}
 use Rattle.ground_core.specs.Growth.{retiring}
 use Rattle.ground_core.specs.Growing.{value_at, value_of_term}
 use Rattle.ground_core.specs.Solving.{SolveState, IsBudgetOf, IsKept, HasCoreWithin}
@@ -55,7 +55,7 @@ module _ (p q : ProblemState) (h : GrowsByAdditions p q) (assumed : List Lit) (l
       let e = h.conserves.extends v s in
       let same : value_at q term e.0 ≡ value_at p term v = past-value term e.0
       ∙ sym (term-local p term v e.0 fine e.1) in
-      subst (λ (d : Denotation). compared cmp.Lt d (value_of_bound n) ≡ false) same
+      subst (λ (d : Denotation). compared cmp.Lt d (denotation_of_bound n) ≡ false) same
       (none e.0 e.3 (λ k d less. sym (literal-local p.vars v e.0 e.1 (get_or assumed k d) (lits k d less))
       ∙ t k d less))
 

@@ -8,7 +8,7 @@ use Rattle.kb_logic.specs.Denotations.{Denotation, compared}
 use Rattle.lit_core.specs.declared.literals.Lit.{Lit}
 use Rattle.lit_core.specs.Literals.{literal_value, valuation}
 use Rattle.ground_core.specs.Problems.{ProblemState, IsProblem, IsLitOf, AreLitsOf}
-use Rattle.ground_core.specs.Meaning.{Satisfies, MakesTrue, RefutesAll, value_of_bound}
+use Rattle.ground_core.specs.Meaning.{Satisfies, MakesTrue, RefutesAll, denotation_of_bound}
 use Rattle.ground_core.specs.Growth.{with_bound, next_lit}
 use Rattle.ground_core.specs.Growing.{value_at, bounded}
 use Rattle.ground_core.specs.Solving.{SolveState, AreUnretired, HasCoreWithin, IsBudgetOf}
@@ -54,15 +54,15 @@ module _ (p : ProblemState) (term : ℕ) (n : ExtInt) (assume : List Lit) (fine 
               All-front (λ l. literal_value v l ≡ true) assume (sel ∷ []) h.assumes;
           value = h.value;
         },
-        subst (λ (d : Denotation). compared cmp.Lt d (value_of_bound n) ≡ true) h.value
+        subst (λ (d : Denotation). compared cmp.Lt d (denotation_of_bound n) ≡ true) h.value
             ((select p term n fine lt).means v h.satisfies on),
       )
 
   pub nothing-below : RefutesAll q (assume ++ sel ∷ []) → NothingBelow p assume term n
-  nothing-below refuted = λ v s t. step v s t (compared cmp.Lt (value_at p term v) (value_of_bound n)) refl
+  nothing-below refuted = λ v s t. step v s t (compared cmp.Lt (value_at p term v) (denotation_of_bound n)) refl
     where
       step : (v : ℕ → Bool) → Satisfies p v → MakesTrue v assume → (b : Bool) → compared cmp.Lt (value_at p term v)
-          (value_of_bound n) ≡ b → compared cmp.Lt (value_at p term v) (value_of_bound n) ≡ false
+          (denotation_of_bound n) ≡ b → compared cmp.Lt (value_at p term v) (denotation_of_bound n) ≡ false
       step v s t false is = is
       step v s t true is =
           let e = (select p term n fine lt).extends v s is in

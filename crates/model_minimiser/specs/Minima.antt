@@ -9,7 +9,7 @@ use Rattle.lit_core.specs.declared.literals.Lit.{Lit}
 use Rattle.lit_core.specs.Literals.{valuation}
 use Rattle.ground_core.specs.declared.parts.TermBound.{TermBound}
 use Rattle.ground_core.specs.Problems.{ProblemState}
-use Rattle.ground_core.specs.Meaning.{Satisfies, MakesTrue, RefutesAll, value_of_bound}
+use Rattle.ground_core.specs.Meaning.{Satisfies, MakesTrue, RefutesAll, denotation_of_bound}
 use Rattle.ground_core.specs.Growing.{HasValue, value_at}
 use Rattle.ground_core.specs.Solving.{HasCoreWithin}
 use Rattle.model_minimiser.specs.declared.minimum.Found.{Found}
@@ -28,7 +28,7 @@ pub record IsFound (p : ProblemState) (assumed : List Lit) (term : ℕ) (f : Fou
 -- no valuation that satisfies the problem and makes the literals true gives the term a value below the number
 abbrev pub NothingBelow : ProblemState → List Lit → ℕ → ExtInt → Type 0
 NothingBelow p assumed term n = (v : ℕ → Bool) → Satisfies p v → MakesTrue v assumed
-    → compared cmp.Lt (value_at p term v) (value_of_bound n) ≡ false
+    → compared cmp.Lt (value_at p term v) (denotation_of_bound n) ≡ false
 
 -- what a search found: nothing, which a kept core shows, or values
 abbrev pub Finds : ProblemState → List Lit → ℕ → List (List Lit) → Option Found → Type 0

@@ -15,7 +15,7 @@ use Rattle.std.specs.Prelude.{IfSome}
 use Rattle.kb_logic.specs.declared.syntax.Cmp.TheVariants as cmp
 use Rattle.kb_logic.specs.Denotations.{compared}
 use Rattle.ground_core.specs.Meaning.{Satisfies, GateHolds, SumHolds, BoundHolds, AreAllFalse, term_value}
-use Rattle.ground_core.specs.Meaning.{value_of_bound}
+use Rattle.ground_core.specs.Meaning.{denotation_of_bound}
 use Rattle.ground_core.specs.GateClauses.{clauses_of, gate_clauses}
 use Rattle.ground_core.proofs.Fronts.{All-front, All-back}
 use Rattle.search_engine.specs.Knowledge.{IsOfConstraint, IsOfSum, IsConstrained, Occurs}
@@ -31,7 +31,7 @@ slice_get-front (x ∷ xs) ys (suc i) lt = slice_get-front xs ys i (omega (arith
 pub bound-shorter : (v : ℕ → Bool) (terms more : List GroundTerm) (b : TermBound) → b.term < length terms
     → BoundHolds v (terms ++ more) b → BoundHolds v terms b
 bound-shorter v terms more b lt h on = subst (λ o. IfSome o (λ t. compared cmp.Lt (term_value v t)
-    (value_of_bound b.below) ≡ true)) (slice_get-front terms more b.term lt) (h on)
+    (denotation_of_bound b.below) ≡ true)) (slice_get-front terms more b.term lt) (h on)
 
 module _ (p q : ProblemState) (fine : IsProblem p) (more-bounds : q.bounds ≡ []) where
   -- what satisfies both satisfies each

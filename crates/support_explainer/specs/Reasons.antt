@@ -1,6 +1,7 @@
 -- Why no valuation is left, or why a literal is true in all that are left.
 use Rattle.std.specs.Prelude.{◌≡◌, ℕ, zero, suc, ◌<◌, Bool, false, Option, Some, None, Result, Ok, Err, List, [], ◌∷◌}
 use Rattle.std.specs.Prelude.{◌++◌, length}
+pub use Rattle.kb_logic.specs.Lists.{without_item}
 use Rattle.lit_core.specs.declared.literals.Lit.{Lit}
 use Rattle.lit_core.specs.Literals.{valuation, literal_value, negated}
 use Rattle.ground_core.specs.declared.solving.Halt.{Halt}
@@ -16,12 +17,6 @@ use Rattle.support_explainer.specs.declared.reason.Support.TheVariants.{Free, In
 abbrev pub FindsCore : ProblemState → List Lit → List (List Lit) → Option (List Lit) → Type 0
 FindsCore p ls cores None = IsConsistent p ls
 FindsCore p ls cores (Some core) = IsSublist core ls × IsRefuted p cores core
-
--- the list without the item at this index
-abbrev pub without_item : List Lit → ℕ → List Lit
-without_item [] k = []
-without_item (x ∷ xs) zero = xs
-without_item (x ∷ xs) (suc k) = x ∷ without_item xs k
 
 -- the items without this one are refuted together with the last ones, or they are not
 abbrev pub IsToldAt : ProblemState → List Lit → List Lit → ℕ → List (List Lit) → Option (List Lit) → Type 0

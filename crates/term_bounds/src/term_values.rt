@@ -2,7 +2,7 @@
 ghost use Rattle.std.specs.Prelude.{◌≡◌};
 ghost use Rattle.kb_logic.specs.Denotations.{greater, lesser, number};
 ghost use Rattle.lit_core.specs.Literals.{literal_value, valuation};
-ghost use Rattle.ground_core.specs.Meaning.{IsInRange, parts_value, shifted, term_value, value_of_bound};
+ghost use Rattle.ground_core.specs.Meaning.{IsInRange, parts_value, shifted, term_value, denotation_of_bound};
 ghost use Rattle.term_bounds.specs.Amounts.{amount_of};
 ghost use Rattle.term_bounds.specs.Totals.{total};
 ghost use Rattle.term_bounds.specs.Extremes.{extreme_value, extreme_with, first_extreme, more_extreme};
@@ -39,7 +39,7 @@ fn total_of(line: Line, parts: &[Part], values: &Values) -> i128
 
 /// The least or the greatest of nothing.
 fn first_of(greatest: bool) -> Amount
-    ensures { value_of_bound (amount_of result) ≡ first_extreme greatest }
+    ensures { denotation_of_bound (amount_of result) ≡ first_extreme greatest }
 {
     if greatest {
         Amount::NegInf
@@ -50,7 +50,7 @@ fn first_of(greatest: bool) -> Amount
 
 /// The greater of what was found and one weight more.
 fn greater_of(found: Amount, weight: i64) -> Amount
-    ensures { value_of_bound (amount_of result) ≡ greater (value_of_bound (amount_of found)) (number weight) }
+    ensures { denotation_of_bound (amount_of result) ≡ greater (denotation_of_bound (amount_of found)) (number weight) }
 {
     let weight = i128::from(weight);
     match found {
@@ -68,7 +68,7 @@ fn greater_of(found: Amount, weight: i64) -> Amount
 
 /// The lesser of what was found and one weight more.
 fn lesser_of(found: Amount, weight: i64) -> Amount
-    ensures { value_of_bound (amount_of result) ≡ lesser (value_of_bound (amount_of found)) (number weight) }
+    ensures { denotation_of_bound (amount_of result) ≡ lesser (denotation_of_bound (amount_of found)) (number weight) }
 {
     let weight = i128::from(weight);
     match found {
@@ -86,7 +86,7 @@ fn lesser_of(found: Amount, weight: i64) -> Amount
 
 /// The lesser or the greater of what was found and one weight more.
 fn further(greatest: bool, found: Amount, weight: i64) -> Amount
-    ensures { value_of_bound (amount_of result) ≡ more_extreme greatest (value_of_bound (amount_of found)) weight }
+    ensures { denotation_of_bound (amount_of result) ≡ more_extreme greatest (denotation_of_bound (amount_of found)) weight }
 {
     if greatest {
         greater_of(found, weight)
@@ -97,8 +97,8 @@ fn further(greatest: bool, found: Amount, weight: i64) -> Amount
 
 /// What was found, and the part's weight where its literal is true.
 fn with_part(greatest: bool, found: Amount, part: &Part, values: &Values) -> Amount
-    ensures { value_of_bound (amount_of result) ≡ extreme_with greatest
-        (literal_value (valuation values.now) part.now.lit) (value_of_bound (amount_of found)) part.now.weight }
+    ensures { denotation_of_bound (amount_of result) ≡ extreme_with greatest
+        (literal_value (valuation values.now) part.now.lit) (denotation_of_bound (amount_of found)) part.now.weight }
 {
     if value_of_lit(values, part.lit) {
         further(greatest, found, part.weight)
@@ -109,7 +109,7 @@ fn with_part(greatest: bool, found: Amount, part: &Part, values: &Values) -> Amo
 
 /// The least or the greatest weight of the true parts.
 fn extreme_of(greatest: bool, parts: &[Part], values: &Values) -> Amount
-    ensures { value_of_bound (amount_of result) ≡ extreme_value greatest (valuation values.now) parts.now }
+    ensures { denotation_of_bound (amount_of result) ≡ extreme_value greatest (valuation values.now) parts.now }
 {
     let mut found = first_of(greatest);
     for part in parts {
@@ -120,7 +120,7 @@ fn extreme_of(greatest: bool, parts: &[Part], values: &Values) -> Amount
 
 /// What the parts come to without the base.
 fn parts_value_of(term: &GroundTerm, values: &Values) -> Amount
-    ensures { value_of_bound (amount_of result) ≡ parts_value (valuation values.now) term.now.kind term.now.parts }
+    ensures { denotation_of_bound (amount_of result) ≡ parts_value (valuation values.now) term.now.kind term.now.parts }
 {
     let parts = term.parts.as_slice();
     let line = Line {
@@ -137,8 +137,8 @@ fn parts_value_of(term: &GroundTerm, values: &Values) -> Amount
 
 /// The amount with the base added.
 fn with_base(base: i64, amount: Amount) -> ExtInt
-    requires { IsInRange (shifted base (value_of_bound (amount_of amount))) }
-    ensures { value_of_bound result ≡ shifted base (value_of_bound (amount_of amount)) }
+    requires { IsInRange (shifted base (denotation_of_bound (amount_of amount))) }
+    ensures { denotation_of_bound result ≡ shifted base (denotation_of_bound (amount_of amount)) }
 {
     match amount {
         Amount::NegInf => ExtInt::NegInf,
@@ -150,7 +150,7 @@ fn with_base(base: i64, amount: Amount) -> ExtInt
 /// The term's value under values that keep it in range.
 pub fn value_of(term: &GroundTerm, values: &Values) -> ExtInt
     requires { IsInRange (term_value (valuation values.now) term.now) }
-    ensures { value_of_bound result ≡ term_value (valuation values.now) term.now }
+    ensures { denotation_of_bound result ≡ term_value (valuation values.now) term.now }
 {
     with_base(term.base, parts_value_of(term, values))
 }
