@@ -4,7 +4,7 @@ use Rattle.kb_logic.specs.declared.elements.ExtInt.{ExtInt}
 use Rattle.kb_logic.specs.declared.structures.Literal.{Literal}
 use Rattle.kb_logic.specs.declared.structures.Structure.{Structure}
 use Rattle.kb_logic.specs.Bases.{Base}
-use Rattle.kb_logic.specs.InForce.{InForce, IsModelOf, HasModel, HasNoModel, Forces, LeavesFalse, IsSomeOf}
+use Rattle.kb_logic.specs.InForce.{InForce, IsModelOf, Forces, IsSomeOf}
 use Rattle.kb_logic.specs.InForce.{literals_over}
 use Rattle.kb_logic.specs.Answers.{AreModels, AreShown, IsLeftOut, IsLeast}
 

@@ -1,3 +1,5 @@
+use Rattle.std.proofs.Common.{arith}
+use Rattle.std.proofs.lemmas.Grind.{elements}
 use Rattle.std.proofs.Common.{◌≡◌, ◌⊎◌, ◌++◌, ℕ, Bool, Option, None, Some, List, false, sym, subst}
 use Rattle.std.proofs.lemmas.List.Elements.{All-append}
 use Rattle.lit_core.specs.declared.literals.Lit.{Lit}
@@ -19,3 +21,9 @@ returns-in-None c =
     c.in-None.ensures c.find_in-in-None.ensures in
     subst (λ (xs : List Lit). ReplacesAt a xs c.args.other c.find_in-in-None.result)
     (sym c.split_at.ensures.by_index.0) both
+
+pub overflow_add-result : goal.overflow_add-result
+overflow_add-result c = grind (arith, elements)
+
+pub returns-in-Some : goal.returns-in-Some
+returns-in-Some c = grind (arith, elements)

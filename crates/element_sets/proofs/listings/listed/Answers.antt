@@ -1,3 +1,5 @@
+use Rattle.std.proofs.Common.{arith}
+use Rattle.std.proofs.lemmas.Grind.{common_steps}
 use Rattle.std.proofs.Common.{◌≡◌, ◌+ℤ◌, ◌≤ℤ◌, ◌+◌, pos, negsuc, drop, fold, map, length, sym, ap, subst}
 use Rattle.std.specs.List.{flat_map, AllByRecursion}
 use Rattle.std.proofs.lemmas.List.{drop_more}
@@ -72,3 +74,6 @@ loop-cell-preserved c =
           more.0);
       elems = more.1;
     }
+
+pub returns : goal.returns
+returns c = grind (arith, common_steps)

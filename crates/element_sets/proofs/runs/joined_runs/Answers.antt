@@ -1,3 +1,5 @@
+use Rattle.std.proofs.Common.{arith}
+use Rattle.std.proofs.lemmas.Grind.{common_steps}
 use Rattle.std.proofs.Common.{◌≡◌, ◌+ℤ◌, ◌∙◌, pos, true, false, map, sym, ap, rules}
 use Rattle.std.proofs.lemmas.List.{drop_more}
 use Rattle.data_entries.specs.WholeViews.{whole_view}
@@ -43,3 +45,15 @@ loop-one-preserved c =
       same = ended_same rest i _ last next inv.rising inv.full c.loop-one.runs.items c.push.new.self.items
           (map interval_view c.args.rising.now) c.in_ok-push.ensures.items inv.same;
     }
+
+pub returns-in_default-clause-same : goal.returns-in_default-clause-same
+returns-in_default-clause-same c = grind (arith, common_steps)
+
+pub loop-one-init : goal.loop-one-init
+loop-one-init c = grind (arith, common_steps)
+
+pub returns-clause-apart : goal.returns-clause-apart
+returns-clause-apart c = grind (arith, common_steps)
+
+pub returns-clause-same : goal.returns-clause-same
+returns-clause-same c = grind (arith, common_steps)

@@ -1,3 +1,6 @@
+use Rattle.std.proofs.Common.{arith}
+use Rattle.std.proofs.lemmas.Grind.{common_steps}
+use Rattle.std.proofs.lemmas.Grind.{elements}
 use Rattle.std.proofs.Common.{◌≡◌, ℕ, ◌≤◌, length, ap, sym, ◌∙◌, subst}
 use Rattle.std.proofs.lemmas.List.{length-map}
 use Rattle.clause_base.specs.declared.trail.Step.{Step}
@@ -27,3 +30,12 @@ returns-clause-quiet c =
     ∙ length-map e.trail.steps (λ (t : Step). t.lit) in
     let done : length e.trail.steps ≤ e.queue = subst (λ (n : ℕ). n ≤ e.queue) len c.loop-self-test.false in
     watcher-quiet e c.loop-self.invariant.watcher done c.loop-self.invariant.checked
+
+pub propagate_one-requires-clause-more : goal.propagate_one-requires-clause-more
+propagate_one-requires-clause-more c = grind (arith, common_steps)
+
+pub loop-self-smaller : goal.loop-self-smaller
+loop-self-smaller c = grind (arith, common_steps)
+
+pub loop-self-init : goal.loop-self-init
+loop-self-init c = grind (arith, elements)

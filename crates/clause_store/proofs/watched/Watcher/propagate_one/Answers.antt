@@ -1,3 +1,5 @@
+use Rattle.std.proofs.Common.{arith}
+use Rattle.std.proofs.lemmas.Grind.{common_steps}
 use Rattle.std.proofs.Common.{◌≡◌, ℕ, ◌<◌, ◌++◌, ◌∷◌, List, Option, Some, None, false, sym, ap, ◌∙◌, subst}
 use Rattle.lit_core.specs.declared.literals.Lit.{Lit}
 use Rattle.clause_store.specs.declared.watched.Watcher.{Watcher}
@@ -87,3 +89,12 @@ returns-clause-watcher c =
     subst (λ (o : Option ℕ). Walks c.args.self.now c.loop-at.self f o c.loop-at.before) c.in_default-at.is
     c.loop-at.invariant in
     walk-watcher c.args.self.now c.loop-at.self f c.loop-at.before w
+
+pub offset_bounds-lits-self : goal.offset_bounds-lits-self
+offset_bounds-lits-self c = grind (arith, common_steps)
+
+pub bounds-lits-self : goal.bounds-lits-self
+bounds-lits-self c = grind (arith, common_steps)
+
+pub overflow_add-self : goal.overflow_add-self
+overflow_add-self c = grind (arith, common_steps)

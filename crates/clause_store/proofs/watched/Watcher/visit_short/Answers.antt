@@ -1,3 +1,5 @@
+use Rattle.std.proofs.Common.{arith}
+use Rattle.std.proofs.lemmas.Grind.{elements}
 use Rattle.std.proofs.Common.{◌≡◌, length, List, Some, slice_get, sym, ap, ◌∙◌}
 use Rattle.std.proofs.lemmas.Option.{same_Some, slice_get_read}
 use Rattle.clause_base.specs.declared.occurrences.Occurrence.{Occurrence}
@@ -36,3 +38,6 @@ returns-clause-visits c =
     let list : slice_get e.short.lists (code_of c.args.falsified) ≡ Some c.of-count.result.now =
     ap (λ (s : ShortState). slice_get s.lists (code_of c.args.falsified)) h.keeps.short ∙ c.of-count.ensures in
     meets-end c.args.self.now e c.args.falsified c.loop-place.place c.of-count.result.now h list c.loop-place-test.false
+
+pub returns-then-packed-eq0-clause-same : goal.returns-then-packed-eq0-clause-same
+returns-then-packed-eq0-clause-same c = grind (arith, elements)

@@ -1,3 +1,5 @@
+use Rattle.std.proofs.Common.{arith}
+use Rattle.std.proofs.lemmas.Grind.{common_steps}
 use Rattle.std.proofs.Common.{◌≡◌, ◌∙◌, true, false, Bor, List, ℕ, ◌++◌, ◌∷◌, [], ap, refl, sym, rules}
 use Rattle.std.specs.Str.{bytes_eq}
 use Rattle.kb_logic.specs.declared.elements.Elem.TheVariants as elem
@@ -25,3 +27,6 @@ returns-clause-elems c =
     s.words.keys ∙ sym c.contains.ensures ∙ missing in
     c.in_ok-push.ensures.ok ∙ ap (λ x. s.elems ++ elem.Named x ∷ []) c.in_ok-new.ensures
     ∙ new_element s.elems (elem.Named w) unlisted
+
+pub returns-clause-listing : goal.returns-clause-listing
+returns-clause-listing c = grind (arith, common_steps)

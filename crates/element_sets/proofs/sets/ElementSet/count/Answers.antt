@@ -1,3 +1,4 @@
+use Rattle.std.proofs.lemmas.Grind.{common_steps}
 use Rattle.std.proofs.Common.{◌≡◌, ◌≤◌, ◌+◌, drop, length, map, ap, arith}
 use Rattle.std.specs.List.{sum_by}
 use Rattle.std.proofs.lemmas.List.{drop_all}
@@ -22,3 +23,9 @@ returns c = λ cells s.
     ≡ capped (length (words_in c.args.self.now) + sum_by size_of (runs_in c.args.self.now)) =
     c.loop-interval.invariant.sum in
     omega (arith, rest, words, areas, small, sum)
+
+pub loop-interval-init : goal.loop-interval-init
+loop-interval-init c = grind (arith, common_steps)
+
+pub loop-interval-preserved : goal.loop-interval-preserved
+loop-interval-preserved c = grind (arith, common_steps)

@@ -1,3 +1,5 @@
+use Rattle.std.proofs.Common.{arith}
+use Rattle.std.proofs.lemmas.Grind.{common_steps}
 use Rattle.std.proofs.Common.{map, take, reverse}
 use Rattle.std.proofs.lemmas.Option.{slice_get_within}
 use Rattle.row_tries.specs.Lent.{lent_view}
@@ -12,3 +14,9 @@ reach_near_child-requires-clause-parent c =
     (reverse (map lent_view (take c.loop-elem.elem-index c.args.args.now))) c.loop-elem.node
     c.loop-elem.invariant.node in
     slice_get_within rows.nodes.entries c.loop-elem.node there.item there.at
+
+pub loop-elem-preserved : goal.loop-elem-preserved
+loop-elem-preserved c = grind (arith, common_steps)
+
+pub returns-clause-node : goal.returns-clause-node
+returns-clause-node c = grind (arith, common_steps)
