@@ -9,14 +9,18 @@ use Rattle.consult_text.specs.Refusals.{text_of}
 use Rattle.consult_text.specs.declared.replies.Reply.{Reply}
 use Rattle.consult_text.specs.declared.replies.Reply.TheVariants as reply
 
--- the line `choice P(a,b)`
-abbrev pub choice_line : Vocabulary → Literal → List ℕ
-choice_line vocab l = codes "choice " ++ (literal_text vocab l ++ codes "\n")
+-- the line of a literal after a label, as `choice P(a,b)`
+abbrev pub labelled_line : List ℕ → Vocabulary → Literal → List ℕ
+labelled_line label vocab l = label ++ (literal_text vocab l ++ codes "\n")
+
+-- a line for each literal, and `done`
+abbrev pub labelled_lines : List ℕ → Vocabulary → List Literal → List ℕ
+labelled_lines label vocab ls = flat_map (labelled_line label vocab) ls ++ codes "done\n"
 
 abbrev pub reply_text : Vocabulary → Reply → List ℕ
 reply_text vocab reply.Fine = codes "ok\n"
 reply_text vocab (reply.Refused f) = codes "refused " ++ (text_of f ++ codes "\n")
-reply_text vocab (reply.Choices ls) = flat_map (choice_line vocab) ls ++ codes "done\n"
+reply_text vocab (reply.Choices ls) = labelled_lines (codes "choice ") vocab ls
 reply_text vocab (reply.Model m) = codes "model\n" ++ (symbol_lines vocab m ++ codes "done\n")
 reply_text vocab reply.Inconsistent = codes "inconsistent\n"
 reply_text vocab (reply.Undecided k) = codes "undecided " ++ (decimal k ++ codes "\n")

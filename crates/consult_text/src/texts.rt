@@ -1,9 +1,9 @@
 //! The texts of replies.
-ghost use Rattle.std.specs.Prelude.{◌≡◌, ◌++◌, OnOk, OnErr, IfOk, codes, flat_map};
+ghost use Rattle.std.specs.Prelude.{◌≡◌, ◌++◌, OnOk, OnErr, IfOk, codes};
 ghost use Rattle.std.specs.Fmt.{decimal};
 ghost use Rattle.std.specs.String.{string_bytes};
 ghost use Rattle.consult_text.specs.Refusals.{text_of};
-ghost use Rattle.consult_text.specs.Texts.{choice_line, reply_text};
+ghost use Rattle.consult_text.specs.Texts.{labelled_lines, reply_text};
 ghost use Rattle.literal_printer.specs.Tables.{symbol_lines};
 
 use crate::refusals::F;
@@ -40,7 +40,7 @@ fn push_reply(
     match reply {
         Reply::Fine => push_bytes(out, b"ok\n"),
         Reply::Refused(cause) => push_refusal(out, *cause),
-        Reply::Choices(choices) => push_choices(out, vocab, choices.as_slice()),
+        Reply::Choices(choices) => push_labelled(out, vocab, b"choice ", choices.as_slice()),
         Reply::Model(m) => push_model(out, vocab, m),
         Reply::Inconsistent => push_bytes(out, b"inconsistent\n"),
         Reply::Undecided(budget) => push_bytes(out, undecided_line(alloc, *budget)?.as_bytes()),
@@ -63,12 +63,17 @@ fn push_refusal(out: &mut Vec<u8>, cause: F) -> Result<(), Memory>
     push_bytes(out, b"\n")
 }
 
-fn push_choices(out: &mut Vec<u8>, vocab: &Vocabulary, choices: &[Literal]) -> Result<(), Memory>
-    ensures { OnOk result (out.new.items ≡ out.old.items ++ (flat_map
-        (choice_line vocab.now) choices.now ++ codes "done\n")) }
+/// Appends a line for each literal, with the label before it, and `done`.
+fn push_labelled(
+    out: &mut Vec<u8>,
+    vocab: &Vocabulary,
+    label: &[u8],
+    literals: &[Literal],
+) -> Result<(), Memory>
+    ensures { OnOk result (out.new.items ≡ out.old.items ++ labelled_lines label.now vocab.now literals.now) }
 {
-    for literal in choices {
-        push_bytes(out, b"choice ")?;
+    for literal in literals {
+        push_bytes(out, label)?;
         push_literal(out, vocab, literal)?;
         push_bytes(out, b"\n")?;
     }
