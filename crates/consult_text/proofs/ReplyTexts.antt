@@ -1,7 +1,9 @@
 -- No two replies over a knowledge base have one text.
 use Rattle.std.proofs.Common.{◌≡◌, ◌≢◌, ℕ, zero, suc, ◌+◌, ◌<◌, ◌^◌, ◌⊎◌, inl, inr, List, [], ◌∷◌, ◌++◌, refl, sym, ap}
+use Rattle.std.proofs.Common.{flat_map, Bool, true, false}
 use Rattle.std.proofs.Common.{◌∙◌, codes, append_assoc, arith}
 use Rattle.std.specs.Prelude.{⊤}
+use Rattle.std.specs.List.{AllByRecursion}
 use Rattle.std.proofs.lemmas.List.{append_cancel_left}
 use Rattle.std.proofs.lemmas.Fmt.{decimal_digit, decimal_injective}
 use Rattle.std.specs.Fmt.{decimal}
@@ -18,9 +20,9 @@ use Rattle.consult_text.specs.Refusals.{number_of, name_of, text_of}
 use Rattle.kb_logic.specs.Bases.{Base}
 use Rattle.literal_printer.specs.Tables.{symbol_lines}
 use Rattle.consult_text.specs.Replies.{IsRefusal, IsAnswerTo, IsReplyTo}
-use Rattle.consult_text.specs.Texts.{labelled_lines, reply_text}
-use Rattle.consult_text.specs.OneText.{HasWordNames, IsReplyOver, NoTwoRepliesHaveOneText}
-use Rattle.consult_text.proofs.RowTexts.{byte_same, rest_same}
+use Rattle.consult_text.specs.Texts.{labelled_lines, model_block, end_line, models_text, reply_text}
+use Rattle.consult_text.specs.OneText.{HasWordNames, IsStructureOver, IsReplyOver, NoTwoRepliesHaveOneText}
+use Rattle.consult_text.proofs.RowTexts.{byte_above, byte_same, rest_same}
 use Rattle.consult_text.proofs.InnerBytes.{split_same, decimal_inner}
 use Rattle.consult_text.proofs.LabelledTexts.{labelled_same, line_stops}
 use Rattle.consult_text.proofs.ModelTexts.{models_same}
@@ -73,33 +75,39 @@ refusals_same f g a b q =
           (ap (λ (x : F). (text_of x ++ codes "\n") ++ a) (sym same) ∙ q),
     )
 
--- the first byte of a reply's text, where that is not `done`
-abbrev letter : Reply → ℕ
-letter reply.Fine = 111
-letter (reply.Refused f) = 114
-letter (reply.Choices ls) = 99
-letter (reply.Model m) = 109
-letter reply.Inconsistent = 105
-letter (reply.Undecided k) = 117
+-- the bytes with which a reply's text may begin: its first line's, or the last one's where there is no other
+abbrev letters : Reply → ℕ × ℕ
+letters reply.Fine = (111, 111)
+letters (reply.Refused f) = (114, 114)
+letters (reply.Choices ls) = (99, 100)
+letters (reply.Model m) = (109, 109)
+letters (reply.Models ms all) = (109, 99)
+letters (reply.Forced ls) = (102, 100)
+letters reply.Inconsistent = (105, 105)
+letters (reply.Undecided k) = (117, 117)
 
 labelled_first : (byte : ℕ) (rest : List ℕ) (vocab : Vocabulary) (ls : List Literal) (a b : List ℕ) (x : ℕ)
     → labelled_lines (byte ∷ rest) vocab ls ++ a ≡ x ∷ b → (x ≡ byte) ⊎ (x ≡ 100)
 labelled_first byte rest vocab [] a b x q = inr (sym (byte_same q))
 labelled_first byte rest vocab (l ∷ ls) a b x q = inl (sym (byte_same q))
 
-letter_first : (vocab : Vocabulary) (r : Reply) (a b : List ℕ) (x : ℕ) → reply_text vocab r ++ a ≡ x ∷ b
-    → (x ≡ letter r) ⊎ (x ≡ 100)
-letter_first vocab (reply.Choices ls) a b x q = labelled_first 99 (codes "hoice ") vocab ls a b x q
-letter_first vocab r a b x q = inl (sym (byte_same q))
+first_letter : (vocab : Vocabulary) (r : Reply) (a b : List ℕ) (x : ℕ) → reply_text vocab r ++ a ≡ x ∷ b
+    → (x ≡ (letters r).0) ⊎ (x ≡ (letters r).1)
+first_letter vocab (reply.Choices ls) a b x q = labelled_first 99 (codes "hoice ") vocab ls a b x q
+first_letter vocab (reply.Models [] true) a b x q = inr (sym (byte_same q))
+first_letter vocab (reply.Models [] false) a b x q = inl (sym (byte_same q))
+first_letter vocab (reply.Models (m ∷ ms) all) a b x q = inl (sym (byte_same q))
+first_letter vocab (reply.Forced ls) a b x q = labelled_first 102 (codes "orced ") vocab ls a b x q
+first_letter vocab r a b x q = inl (sym (byte_same q))
 
--- no text of a reply begins with a byte that is neither its letter nor that of `done`
-not_first : (vocab : Vocabulary) (r : Reply) (a b : List ℕ) (x : ℕ) → x ≢ letter r → x ≢ 100
+-- no text of a reply begins with any other byte
+not_first : (vocab : Vocabulary) (r : Reply) (a b : List ℕ) (x : ℕ) → x ≢ (letters r).0 → x ≢ (letters r).1
     → reply_text vocab r ++ a ≡ x ∷ b → ⊥
-not_first vocab r a b x other none q = by (letter_first vocab r a b x q)
+not_first vocab r a b x other last q = by (first_letter vocab r a b x q)
   where
-    by : (x ≡ letter r) ⊎ (x ≡ 100) → ⊥
+    by : (x ≡ (letters r).0) ⊎ (x ≡ (letters r).1) → ⊥
     by (inl e) = other e
-    by (inr e) = none e
+    by (inr e) = last e
 
 -- the replies that more than one kind of command has
 abbrev IsShared : Reply → Type 0
@@ -113,11 +121,15 @@ abbrev kind : Reply → ℕ
 kind reply.Fine = 0
 kind (reply.Choices ls) = 1
 kind (reply.Model m) = 2
+kind (reply.Models ms all) = 3
+kind (reply.Forced ls) = 4
 kind _ = 0
 
 abbrev kind_of : Command → ℕ
 kind_of command.Choices = 1
 kind_of command.Model = 2
+kind_of (command.Models n) = 3
+kind_of command.Propagate = 4
 kind_of _ = 0
 
 refusal_shared : (r : Reply) → IsRefusal r → IsShared r
@@ -135,6 +147,8 @@ answer_kind (command.Budget b) reply.Fine h = inr refl
 answer_kind command.Forget reply.Fine h = inr refl
 answer_kind command.Choices (reply.Choices ls) h = inr refl
 answer_kind command.Model (reply.Model m) h = inr refl
+answer_kind (command.Models n) (reply.Models ms all) h = inr refl
+answer_kind command.Propagate (reply.Forced ls) h = inr refl
 answer_kind c r h = absurd h
 
 reply_kind : (c : Command) (r : Reply) → IsReplyTo c r → IsShared r ⊎ (kind r ≡ kind_of c)
@@ -156,16 +170,47 @@ unlike other (inr (inl h)) = h
 unlike other (inr (inr e)) = other e
 
 module _ (kb : Base) (names : HasWordNames kb) where
-  two_models : (m m' : Structure) (a b : List ℕ) → IsReplyOver kb (reply.Model m) → IsReplyOver kb (reply.Model m')
-      → reply_text kb.vocabulary (reply.Model m) ++ a ≡ reply_text kb.vocabulary (reply.Model m') ++ b
-      → (reply.Model m ≡ reply.Model m') × (a ≡ b)
-  two_models m m' a b h k q =
+  -- the first block, before the others
+  front : (m : Structure) (ms : List Structure) (d : Bool) (a : List ℕ)
+      → models_text kb.vocabulary (m ∷ ms) d ++ a ≡ model_block kb.vocabulary m ++ (models_text kb.vocabulary ms d ++ a)
+  front m ms d a =
+      let block = model_block kb.vocabulary m in
+      let others = flat_map (model_block kb.vocabulary) ms in
+      ap (λ (t : List ℕ). t ++ a) (append_assoc block others (end_line d))
+      ∙ append_assoc block (others ++ end_line d) a
+
+  blocks_same : (m m' : Structure) (a b : List ℕ) → IsStructureOver kb m → IsStructureOver kb m'
+      → model_block kb.vocabulary m ++ a ≡ model_block kb.vocabulary m' ++ b → (m ≡ m') × (a ≡ b)
+  blocks_same m m' a b h k q =
       let tails = append_cancel_left (codes "model\n") ((symbol_lines kb.vocabulary m ++ codes "done\n") ++ a)
       ((symbol_lines kb.vocabulary m' ++ codes "done\n") ++ b) q in
-      let cut = models_same kb m m' names h k a b
+      models_same kb m m' names h k a b
       (sym (append_assoc (symbol_lines kb.vocabulary m) (codes "done\n") a)
-      ∙ (tails ∙ append_assoc (symbol_lines kb.vocabulary m') (codes "done\n") b)) in
-      (ap (λ (x : Structure). reply.Model x) cut.0, cut.1)
+      ∙ (tails ∙ append_assoc (symbol_lines kb.vocabulary m') (codes "done\n") b))
+
+  ends_same : (d e : Bool) (a b : List ℕ) → end_line d ++ a ≡ end_line e ++ b → (d ≡ e) × (a ≡ b)
+  ends_same true true a b q = (refl, append_cancel_left (codes "complete\n") a b q)
+  ends_same true false a b q = absurd (byte_above 109 99 (omega arith) (sym q))
+  ends_same false true a b q = absurd (byte_above 109 99 (omega arith) q)
+  ends_same false false a b q = (refl, append_cancel_left (codes "more\n") a b q)
+
+  no_block : (d : Bool) (m : Structure) (a b : List ℕ) → end_line d ++ a ≡ model_block kb.vocabulary m ++ b → ⊥
+  no_block true m a b q = byte_above 109 99 (omega arith) (sym q)
+  no_block false m a b q = byte_above 114 100 (omega arith) (rest_same (rest_same q))
+
+  several_same : (ms ns : List Structure) (d e : Bool) (a b : List ℕ) → AllByRecursion (IsStructureOver kb) ms
+      → AllByRecursion (IsStructureOver kb) ns
+      → models_text kb.vocabulary ms d ++ a ≡ models_text kb.vocabulary ns e ++ b → (ms ≡ ns) × (d ≡ e) × (a ≡ b)
+  several_same [] [] d e a b h k q = let end = ends_same d e a b q in (refl, end.0, end.1)
+  several_same [] (n ∷ ns) d e a b h k q =
+      absurd (no_block d n a (models_text kb.vocabulary ns e ++ b) (q ∙ front n ns e b))
+  several_same (m ∷ ms) [] d e a b h k q =
+      absurd (no_block e m b (models_text kb.vocabulary ms d ++ a) (sym q ∙ front m ms d a))
+  several_same (m ∷ ms) (n ∷ ns) d e a b h k q =
+      let cut = blocks_same m n (models_text kb.vocabulary ms d ++ a) (models_text kb.vocabulary ns e ++ b) h.0 k.0
+      (sym (front m ms d a) ∙ (q ∙ front n ns e b)) in
+      let more = several_same ms ns d e a b h.1 k.1 cut.1 in
+      (λ i. cut.0 i ∷ more.0 i, more.1, more.2)
 
   two_refusals : (f g : F) (a b : List ℕ)
       → reply_text kb.vocabulary (reply.Refused f) ++ a ≡ reply_text kb.vocabulary (reply.Refused g) ++ b
@@ -223,7 +268,15 @@ module _ (kb : Base) (names : HasWordNames kb) where
   same (reply.Choices ls) (reply.Choices ks) a b alike h k q =
       let cut = labelled_same 99 (codes "hoice ") (λ e. omega (arith, e)) kb names ls ks a b h k q in
       (ap (λ (x : List Literal). reply.Choices x) cut.0, cut.1)
-  same (reply.Model m) (reply.Model m') a b alike h k q = two_models m m' a b h k q
+  same (reply.Model m) (reply.Model m') a b alike h k q =
+      let cut = blocks_same m m' a b h k q in
+      (ap (λ (x : Structure). reply.Model x) cut.0, cut.1)
+  same (reply.Models ms d) (reply.Models ns e) a b alike h k q =
+      let cut = several_same ms ns d e a b h k q in
+      (λ i. reply.Models (cut.0 i) (cut.1 i), cut.2)
+  same (reply.Forced ls) (reply.Forced ks) a b alike h k q =
+      let cut = labelled_same 102 (codes "orced ") (λ e. omega (arith, e)) kb names ls ks a b h k q in
+      (ap (λ (x : List Literal). reply.Forced x) cut.0, cut.1)
   same r s a b alike h k q = absurd (unlike (λ e. omega (arith, e)) alike)
 
 pub replies_same : NoTwoRepliesHaveOneText

@@ -3,6 +3,7 @@ use Rattle.std.specs.Prelude.{◌≡◌, ◌<◌, ◌^◌, ◌++◌, ℕ, List, 
 use Rattle.std.specs.List.{AllByRecursion}
 use Rattle.kb_logic.specs.declared.elements.Elem.{Elem}
 use Rattle.kb_logic.specs.declared.elements.Elem.TheVariants.{Named, Num}
+use Rattle.kb_logic.specs.declared.structures.Structure.{Structure}
 use Rattle.kb_logic.specs.Bases.{Base}
 use Rattle.kb_logic.specs.Structures.{IsDistinct, IsStructure}
 use Rattle.kb_text.specs.Pieces.{IsPiece, WordText}
@@ -24,13 +25,18 @@ pub record HasWordNames (kb : Base) : Type 0 where
   pub apart : IsDistinct (map (λ s. s.name) kb.vocabulary.symbols)
   pub elements : AllByRecursion (AllByRecursion CanBeWritten) kb.known.domains
 
--- a reply over the knowledge base: choices are literals over it, a model is a structure over its domains, and a budget
--- has 64 bits
+-- a structure over the knowledge base's domains
+abbrev pub IsStructureOver : Base → Structure → Type 0
+IsStructureOver kb m = IsStructure kb.vocabulary m × (m.domains ≡ kb.known.domains)
+
+-- a reply over the knowledge base: its literals and models are over it, and a budget has 64 bits
 abbrev pub IsReplyOver : Base → Reply → Type 0
 IsReplyOver kb reply.Fine = ⊤
 IsReplyOver kb (reply.Refused f) = ⊤
 IsReplyOver kb (reply.Choices ls) = AllByRecursion (IsLiteralOver kb) ls
-IsReplyOver kb (reply.Model m) = IsStructure kb.vocabulary m × (m.domains ≡ kb.known.domains)
+IsReplyOver kb (reply.Model m) = IsStructureOver kb m
+IsReplyOver kb (reply.Models ms all) = AllByRecursion (IsStructureOver kb) ms
+IsReplyOver kb (reply.Forced ls) = AllByRecursion (IsLiteralOver kb) ls
 IsReplyOver kb reply.Inconsistent = ⊤
 IsReplyOver kb (reply.Undecided k) = k < 2 ^ 64
 

@@ -17,6 +17,8 @@ IsChange _ = ⊥
 -- it asks about the models under what is in force
 abbrev pub IsQuery : Command → Type 0
 IsQuery command.Model = ⊤
+IsQuery (command.Models n) = ⊤
+IsQuery command.Propagate = ⊤
 IsQuery _ = ⊥
 
 -- the replies to a command that is not refused: a change is answered by `ok`, and the others by what they ask for
@@ -26,6 +28,8 @@ IsAnswerTo c reply.Inconsistent = IsQuery c
 IsAnswerTo c (reply.Undecided k) = IsQuery c
 IsAnswerTo command.Choices (reply.Choices ls) = ⊤
 IsAnswerTo command.Model (reply.Model m) = ⊤
+IsAnswerTo (command.Models n) (reply.Models ms all) = ⊤
+IsAnswerTo command.Propagate (reply.Forced ls) = ⊤
 IsAnswerTo _ _ = ⊥
 
 -- it says that a command is refused

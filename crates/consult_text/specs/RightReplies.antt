@@ -2,8 +2,10 @@
 use Rattle.std.specs.Prelude.{◌≡◌, ◌<◌, Option, Some, None, ⊤}
 use Rattle.kb_logic.specs.Bases.{Base}
 use Rattle.kb_logic.specs.InForce.{InForce, IsModelOf, HasNoModel}
+use Rattle.kb_logic.specs.Answers.{AreModels, AreShown}
 use Rattle.consult_text.specs.declared.refusals.F.{F}
 use Rattle.consult_text.specs.declared.commands.Command.{Command}
+use Rattle.consult_text.specs.declared.commands.Command.TheVariants as command
 use Rattle.consult_text.specs.declared.replies.Reply.{Reply}
 use Rattle.consult_text.specs.declared.replies.Reply.TheVariants as reply
 use Rattle.consult_text.specs.States.{State, command_refusal}
@@ -20,6 +22,9 @@ IsSo kb s c reply.Fine = ⊤
 IsSo kb s c (reply.Refused f) = ⊥
 IsSo kb s c (reply.Choices ls) = ls ≡ s.choices
 IsSo kb s c (reply.Model m) = IsModelOf kb (in_force s) m
+IsSo kb s (command.Models n) (reply.Models ms all) = AreModels kb (in_force s) n ms all
+IsSo kb s _ (reply.Models ms all) = ⊥
+IsSo kb s c (reply.Forced ls) = AreShown kb (in_force s) ls
 IsSo kb s c reply.Inconsistent = HasNoModel kb (in_force s)
 IsSo kb s c (reply.Undecided k) = (s.budget ≡ Some k) × (k < enough kb s c)
 

@@ -1,6 +1,7 @@
 -- How many conflicts a query may meet at most, whatever its budget.
-use Rattle.std.specs.Prelude.{ℕ, ◌+◌, ◌*◌, ◌^◌, map}
+use Rattle.std.specs.Prelude.{ℕ, ◌+◌, ◌*◌, ◌^◌, length, map}
 use Rattle.kb_logic.specs.Bases.{Base, NamedTerm}
+use Rattle.kb_logic.specs.KnownAtoms.{atoms_over}
 use Rattle.kb_logic.specs.Weights.{weight_of}
 use Rattle.consult_text.specs.declared.commands.Command.{Command}
 use Rattle.consult_text.specs.declared.commands.Command.TheVariants as command
@@ -13,6 +14,8 @@ weight kb = weight_of kb.vocabulary kb.known.domains kb.theory (map (λ (t : Nam
 -- how many searches a command takes at most in a state
 abbrev pub searches : Base → State → Command → ℕ
 searches kb s command.Model = 1
+searches kb s (command.Models n) = n + 1
+searches kb s command.Propagate = length (atoms_over kb.vocabulary.symbols kb.known.domains) + 1
 searches kb s _ = 0
 
 -- a budget of so many conflicts lets every search of the command come to its end

@@ -3,8 +3,7 @@ ghost use Rattle.std.specs.Prelude.{◌≡◌, ◌++◌, OnOk, OnErr, IfOk, code
 ghost use Rattle.std.specs.Fmt.{decimal};
 ghost use Rattle.std.specs.String.{string_bytes};
 ghost use Rattle.consult_text.specs.Refusals.{text_of};
-ghost use Rattle.consult_text.specs.Texts.{labelled_lines, reply_text};
-ghost use Rattle.literal_printer.specs.Tables.{symbol_lines};
+ghost use Rattle.consult_text.specs.Texts.{end_line, labelled_lines, model_block, models_text, reply_text};
 
 use crate::refusals::F;
 use crate::replies::Reply;
@@ -42,6 +41,8 @@ fn push_reply(
         Reply::Refused(cause) => push_refusal(out, *cause),
         Reply::Choices(choices) => push_labelled(out, vocab, b"choice ", choices.as_slice()),
         Reply::Model(m) => push_model(out, vocab, m),
+        Reply::Models(models, all) => push_models(out, vocab, models.as_slice(), *all),
+        Reply::Forced(literals) => push_labelled(out, vocab, b"forced ", literals.as_slice()),
         Reply::Inconsistent => push_bytes(out, b"inconsistent\n"),
         Reply::Undecided(budget) => push_bytes(out, undecided_line(alloc, *budget)?.as_bytes()),
     }
@@ -81,10 +82,31 @@ fn push_labelled(
 }
 
 fn push_model(out: &mut Vec<u8>, vocab: &Vocabulary, m: &Structure) -> Result<(), Memory>
-    ensures { OnOk result (out.new.items ≡ out.old.items ++ (codes "model\n" ++
-        (symbol_lines vocab.now m.now ++ codes "done\n"))) }
+    ensures { OnOk result (out.new.items ≡ out.old.items ++ model_block vocab.now m.now) }
 {
     push_bytes(out, b"model\n")?;
     push_symbols(out, vocab, m)?;
     push_bytes(out, b"done\n")
+}
+
+/// Appends a block for each model, and whether there are no others.
+fn push_models(
+    out: &mut Vec<u8>,
+    vocab: &Vocabulary,
+    models: &[Structure],
+    all: bool,
+) -> Result<(), Memory>
+    ensures { OnOk result (out.new.items ≡ out.old.items ++ models_text vocab.now models.now all) }
+{
+    for m in models {
+        push_model(out, vocab, m)?;
+    }
+    push_bytes(out, end(all))
+}
+
+/// The last line after models.
+fn end(all: bool) -> &'static [u8]
+    ensures { result.now ≡ end_line all }
+{
+    if all { b"complete\n" } else { b"more\n" }
 }
