@@ -10,4 +10,5 @@ pub mod InnerBytes
 pub mod RowTexts
 pub mod LabelledTexts
 pub mod ModelTexts
+pub mod ValueTexts
 pub mod ReplyTexts

@@ -7,6 +7,8 @@ use Rattle.std.specs.List.{AllByRecursion}
 use Rattle.std.proofs.lemmas.List.{append_cancel_left}
 use Rattle.std.proofs.lemmas.Fmt.{decimal_digit, decimal_injective}
 use Rattle.std.specs.Fmt.{decimal}
+use Rattle.kb_logic.specs.declared.elements.ExtInt.{ExtInt}
+use Rattle.kb_logic.specs.Decimals.{decimal_text}
 use Rattle.kb_logic.specs.declared.structures.Literal.{Literal}
 use Rattle.kb_logic.specs.declared.structures.Structure.{Structure}
 use Rattle.kb_logic.specs.declared.vocabularies.Vocabulary.{Vocabulary}
@@ -20,11 +22,13 @@ use Rattle.consult_text.specs.Refusals.{number_of, name_of, text_of}
 use Rattle.kb_logic.specs.Bases.{Base}
 use Rattle.literal_printer.specs.Tables.{symbol_lines}
 use Rattle.consult_text.specs.Replies.{IsRefusal, IsAnswerTo, IsReplyTo}
-use Rattle.consult_text.specs.Texts.{labelled_lines, model_block, end_line, models_text, reply_text}
-use Rattle.consult_text.specs.OneText.{HasWordNames, IsStructureOver, IsReplyOver, NoTwoRepliesHaveOneText}
+use Rattle.consult_text.specs.Texts.{labelled_lines, model_block, end_line, models_text, minimum_text, reply_text}
+use Rattle.consult_text.specs.OneText.{HasWordNames, IsStructureOver, IsShortValue, IsReplyOver}
+use Rattle.consult_text.specs.OneText.{NoTwoRepliesHaveOneText}
 use Rattle.consult_text.proofs.RowTexts.{byte_above, byte_same, rest_same}
 use Rattle.consult_text.proofs.InnerBytes.{split_same, decimal_inner}
-use Rattle.consult_text.proofs.LabelledTexts.{labelled_same, line_stops}
+use Rattle.consult_text.proofs.LabelledTexts.{labelled_same, line_end, line_stops}
+use Rattle.consult_text.proofs.ValueTexts.{values_same}
 use Rattle.consult_text.proofs.ModelTexts.{models_same}
 
 small_number : (f : F) → number_of f < 10
@@ -36,6 +40,7 @@ small_number refusal.AlreadyChosen = omega arith
 small_number refusal.NotChosen = omega arith
 small_number refusal.GivenByData = omega arith
 small_number refusal.LineTooLong = omega arith
+small_number refusal.UnknownTerm = omega arith
 
 numbered : ℕ → F
 numbered zero = refusal.Syntax
@@ -46,7 +51,8 @@ numbered (suc (suc (suc (suc zero)))) = refusal.NotAnElement
 numbered (suc (suc (suc (suc (suc zero))))) = refusal.AlreadyChosen
 numbered (suc (suc (suc (suc (suc (suc zero)))))) = refusal.NotChosen
 numbered (suc (suc (suc (suc (suc (suc (suc zero))))))) = refusal.GivenByData
-numbered (suc (suc (suc (suc (suc (suc (suc (suc n)))))))) = refusal.LineTooLong
+numbered (suc (suc (suc (suc (suc (suc (suc (suc zero)))))))) = refusal.LineTooLong
+numbered (suc (suc (suc (suc (suc (suc (suc (suc (suc n))))))))) = refusal.UnknownTerm
 
 back : (f : F) → numbered (number_of f) ≡ f
 unfolding numbered
@@ -58,6 +64,7 @@ back refusal.AlreadyChosen = refl
 back refusal.NotChosen = refl
 back refusal.GivenByData = refl
 back refusal.LineTooLong = refl
+back refusal.UnknownTerm = refl
 
 digit_text : (f : F) → text_of f ++ codes "\n" ≡ codes "F"
     ++ ((48 + number_of f) ∷ ((codes " " ++ name_of f) ++ codes "\n"))
@@ -83,6 +90,7 @@ letters (reply.Choices ls) = (99, 100)
 letters (reply.Model m) = (109, 109)
 letters (reply.Models ms all) = (109, 99)
 letters (reply.Forced ls) = (102, 100)
+letters (reply.Minimum v m) = (109, 109)
 letters (reply.Supported ls) = (115, 100)
 letters reply.Free = (111, 111)
 letters (reply.Conflict ls) = (99, 100)
@@ -129,10 +137,11 @@ kind (reply.Choices ls) = 1
 kind (reply.Model m) = 2
 kind (reply.Models ms all) = 3
 kind (reply.Forced ls) = 4
-kind (reply.Supported ls) = 5
-kind reply.Free = 5
-kind (reply.Conflict ls) = 6
-kind reply.Consistent = 6
+kind (reply.Minimum v m) = 5
+kind (reply.Supported ls) = 6
+kind reply.Free = 6
+kind (reply.Conflict ls) = 7
+kind reply.Consistent = 7
 kind _ = 0
 
 abbrev kind_of : Command → ℕ
@@ -140,8 +149,9 @@ kind_of command.Choices = 1
 kind_of command.Model = 2
 kind_of (command.Models n) = 3
 kind_of command.Propagate = 4
-kind_of (command.Explain l) = 5
-kind_of command.Why = 6
+kind_of (command.Minimize t) = 5
+kind_of (command.Explain l) = 6
+kind_of command.Why = 7
 kind_of _ = 0
 
 refusal_shared : (r : Reply) → IsRefusal r → IsShared r
@@ -161,6 +171,7 @@ answer_kind command.Choices (reply.Choices ls) h = inr refl
 answer_kind command.Model (reply.Model m) h = inr refl
 answer_kind (command.Models n) (reply.Models ms all) h = inr refl
 answer_kind command.Propagate (reply.Forced ls) h = inr refl
+answer_kind (command.Minimize t) (reply.Minimum v m) h = inr refl
 answer_kind (command.Explain l) (reply.Supported ls) h = inr refl
 answer_kind (command.Explain l) reply.Free h = inr refl
 answer_kind command.Why (reply.Conflict ls) h = inr refl
@@ -227,6 +238,28 @@ module _ (kb : Base) (names : HasWordNames kb) where
       (sym (front m ms d a) ∙ (q ∙ front n ns e b)) in
       let more = several_same ms ns d e a b h.1 k.1 cut.1 in
       (λ i. cut.0 i ∷ more.0 i, more.1, more.2)
+
+  minima_same : (v w : ExtInt) (m n : Structure) (a b : List ℕ) → IsShortValue v × IsStructureOver kb m
+      → IsShortValue w × IsStructureOver kb n
+      → minimum_text kb.vocabulary v m ++ a ≡ minimum_text kb.vocabulary w n ++ b → (v ≡ w) × (m ≡ n) × (a ≡ b)
+  minima_same v w m n a b h k q =
+      let rest : Structure → List ℕ → List ℕ = λ s r. symbol_lines kb.vocabulary s ++ (codes "done\n" ++ r) in
+      let left = after_value v m a in
+      let right = after_value w n b in
+      let cut = values_same v w (rest m a) (rest n b) h.0 k.0
+      (append_cancel_left (codes "minimum ") (decimal_text v ++ line_end (rest m a))
+      (decimal_text w ++ line_end (rest n b)) (sym left ∙ (q ∙ right))) in
+      let more = models_same kb m n names h.1 k.1 a b cut.1 in
+      (cut.0, more.0, more.1)
+    where
+      after_value : (v : ExtInt) (m : Structure) (a : List ℕ)
+          → minimum_text kb.vocabulary v m ++ a ≡ codes "minimum "
+          ++ (decimal_text v ++ line_end (symbol_lines kb.vocabulary m ++ (codes "done\n" ++ a)))
+      after_value v m a =
+          let lines = symbol_lines kb.vocabulary m in
+          ap (λ (t : List ℕ). codes "minimum " ++ t)
+          (append_assoc (decimal_text v) (codes "\n" ++ (lines ++ codes "done\n")) a
+          ∙ ap (λ (t : List ℕ). decimal_text v ++ line_end t) (append_assoc lines (codes "done\n") a))
 
   two_refusals : (f g : F) (a b : List ℕ)
       → reply_text kb.vocabulary (reply.Refused f) ++ a ≡ reply_text kb.vocabulary (reply.Refused g) ++ b
@@ -303,6 +336,9 @@ module _ (kb : Base) (names : HasWordNames kb) where
   same (reply.Forced ls) (reply.Forced ks) a b alike h k q =
       let cut = labelled_same 102 (codes "orced ") (λ e. omega (arith, e)) kb names ls ks a b h k q in
       (ap (λ (x : List Literal). reply.Forced x) cut.0, cut.1)
+  same (reply.Minimum v m) (reply.Minimum w n) a b alike h k q =
+      let cut = minima_same v w m n a b h k q in
+      (λ i. reply.Minimum (cut.0 i) (cut.1 i), cut.2)
   same (reply.Supported ls) (reply.Supported ks) a b alike h k q =
       let cut = labelled_same 115 (codes "upport ") (λ e. omega (arith, e)) kb names ls ks a b h k q in
       (ap (λ (x : List Literal). reply.Supported x) cut.0, cut.1)

@@ -3,6 +3,9 @@ use Rattle.std.specs.Prelude.{◌≡◌, ◌<◌, ◌^◌, ◌++◌, ℕ, List, 
 use Rattle.std.specs.List.{AllByRecursion}
 use Rattle.kb_logic.specs.declared.elements.Elem.{Elem}
 use Rattle.kb_logic.specs.declared.elements.Elem.TheVariants.{Named, Num}
+use Rattle.kb_logic.specs.declared.elements.ExtInt.{ExtInt}
+use Rattle.kb_logic.specs.declared.elements.ExtInt.TheVariants as ext
+use Rattle.kb_logic.specs.declared.elements.ExtInt.TheVariants.{NegInf, PosInf}
 use Rattle.kb_logic.specs.declared.structures.Structure.{Structure}
 use Rattle.kb_logic.specs.Bases.{Base}
 use Rattle.kb_logic.specs.Structures.{IsDistinct, IsStructure}
@@ -29,7 +32,13 @@ pub record HasWordNames (kb : Base) : Type 0 where
 abbrev pub IsStructureOver : Base → Structure → Type 0
 IsStructureOver kb m = IsStructure kb.vocabulary m × (m.domains ≡ kb.known.domains)
 
--- a reply over the knowledge base: its literals and models are over it, and a budget has 64 bits
+-- it is infinite, or has at most 63 bits
+abbrev pub IsShortValue : ExtInt → Type 0
+IsShortValue NegInf = ⊤
+IsShortValue (ext.Num z) = nat_abs z < 2 ^ 63
+IsShortValue PosInf = ⊤
+
+-- a reply over the knowledge base: its literals and models are over it, and its numbers are short
 abbrev pub IsReplyOver : Base → Reply → Type 0
 IsReplyOver kb reply.Fine = ⊤
 IsReplyOver kb (reply.Refused f) = ⊤
@@ -37,6 +46,7 @@ IsReplyOver kb (reply.Choices ls) = AllByRecursion (IsLiteralOver kb) ls
 IsReplyOver kb (reply.Model m) = IsStructureOver kb m
 IsReplyOver kb (reply.Models ms all) = AllByRecursion (IsStructureOver kb) ms
 IsReplyOver kb (reply.Forced ls) = AllByRecursion (IsLiteralOver kb) ls
+IsReplyOver kb (reply.Minimum v m) = IsShortValue v × IsStructureOver kb m
 IsReplyOver kb (reply.Supported ls) = AllByRecursion (IsLiteralOver kb) ls
 IsReplyOver kb reply.Free = ⊤
 IsReplyOver kb (reply.Conflict ls) = AllByRecursion (IsLiteralOver kb) ls

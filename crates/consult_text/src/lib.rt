@@ -11,6 +11,7 @@ mod lookup;
 mod parse;
 mod refusals;
 mod replies;
+mod terms;
 mod texts;
 mod written;
 
