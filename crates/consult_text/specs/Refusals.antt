@@ -3,7 +3,8 @@ use Rattle.std.specs.Prelude.{ℕ, List, ◌++◌, codes}
 use Rattle.std.specs.Fmt.{decimal}
 use Rattle.consult_text.specs.declared.refusals.F.{F}
 use Rattle.consult_text.specs.declared.refusals.F.TheVariants.{Syntax, UnknownSymbol, WrongArity, NotAnElement}
-use Rattle.consult_text.specs.declared.refusals.F.TheVariants.{AlreadyChosen, NotChosen, GivenByData, LineTooLong, UnknownTerm}
+use Rattle.consult_text.specs.declared.refusals.F.TheVariants.{AlreadyChosen, NotChosen, GivenByData, LineTooLong}
+use Rattle.consult_text.specs.declared.refusals.F.TheVariants.{UnknownTerm}
 
 -- the number after the letter F
 abbrev pub number_of : F → ℕ

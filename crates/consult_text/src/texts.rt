@@ -3,7 +3,8 @@ ghost use Rattle.std.specs.Prelude.{◌≡◌, ◌++◌, OnOk, OnErr, IfOk, code
 ghost use Rattle.std.specs.Fmt.{decimal};
 ghost use Rattle.std.specs.String.{string_bytes};
 ghost use Rattle.consult_text.specs.Refusals.{text_of};
-ghost use Rattle.consult_text.specs.Texts.{end_line, labelled_lines, minimum_text, model_block, models_text, reply_text};
+ghost use Rattle.consult_text.specs.Texts.{end_line, labelled_lines, minimum_text, model_block, models_text};
+ghost use Rattle.consult_text.specs.Texts.{reply_text};
 
 use crate::refusals::F;
 use crate::replies::Reply;
@@ -28,7 +29,8 @@ pub fn write_reply(
     Ok(())
 }
 
-fn push_reply(
+/// As `write_reply`, but where memory runs out a part may have been appended.
+pub fn push_reply(
     alloc: Global,
     out: &mut Vec<u8>,
     vocab: &Vocabulary,
