@@ -11,4 +11,5 @@ pub mod RowTexts
 pub mod LabelledTexts
 pub mod ModelTexts
 pub mod ValueTexts
+pub mod TermNumbers
 pub mod ReplyTexts
