@@ -24,7 +24,7 @@ use Rattle.literal_printer.specs.Tables.{symbol_lines}
 use Rattle.consult_text.specs.Replies.{IsRefusal, IsAnswerTo, IsReplyTo}
 use Rattle.consult_text.specs.Texts.{labelled_lines, model_block, end_line, models_text, minimum_text, reply_text}
 use Rattle.consult_text.specs.OneText.{HasWordNames, IsStructureOver, IsShortValue, IsReplyOver}
-use Rattle.consult_text.specs.OneText.{NoTwoRepliesHaveOneText}
+use Rattle.consult_text.specs.OneText.{HaveReadableValues, NoTwoRepliesHaveOneText}
 use Rattle.consult_text.proofs.RowTexts.{byte_above, byte_same, rest_same}
 use Rattle.consult_text.proofs.InnerBytes.{split_same, decimal_inner}
 use Rattle.consult_text.proofs.LabelledTexts.{labelled_same, line_end, line_stops}
@@ -239,22 +239,32 @@ module _ (kb : Base) (names : HasWordNames kb) where
       let more = several_same ms ns d e a b h.1 k.1 cut.1 in
       (λ i. cut.0 i ∷ more.0 i, more.1, more.2)
 
-  minima_same : (v w : ExtInt) (m n : Structure) (a b : List ℕ) → IsShortValue v × IsStructureOver kb m
-      → IsShortValue w × IsStructureOver kb n
+  minima_same : (v w : ExtInt) (m n : Structure) (a b : List ℕ) → IsStructureOver kb m → IsStructureOver kb n
+      → (v ≡ w) ⊎ (IsShortValue v × IsShortValue w)
       → minimum_text kb.vocabulary v m ++ a ≡ minimum_text kb.vocabulary w n ++ b → (v ≡ w) × (m ≡ n) × (a ≡ b)
-  minima_same v w m n a b h k q =
-      let rest : Structure → List ℕ → List ℕ = λ s r. symbol_lines kb.vocabulary s ++ (codes "done\n" ++ r) in
-      let left = after_value v m a in
-      let right = after_value w n b in
-      let cut = values_same v w (rest m a) (rest n b) h.0 k.0
+  minima_same v w m n a b h k values q =
+      let cut = by values
       (append_cancel_left (codes "minimum ") (decimal_text v ++ line_end (rest m a))
-      (decimal_text w ++ line_end (rest n b)) (sym left ∙ (q ∙ right))) in
-      let more = models_same kb m n names h.1 k.1 a b cut.1 in
+      (decimal_text w ++ line_end (rest n b)) (sym (after_value v m a) ∙ (q ∙ after_value w n b))) in
+      let more = models_same kb m n names h k a b cut.1 in
       (cut.0, more.0, more.1)
     where
+      rest : Structure → List ℕ → List ℕ
+      rest s r = symbol_lines kb.vocabulary s ++ (codes "done\n" ++ r)
+
+      by : (v ≡ w) ⊎ (IsShortValue v × IsShortValue w)
+          → decimal_text v ++ line_end (rest m a) ≡ decimal_text w ++ line_end (rest n b)
+          → (v ≡ w) × (rest m a ≡ rest n b)
+      by (inl e) tails = (
+        e,
+        rest_same
+            (append_cancel_left (decimal_text v) (line_end (rest m a)) (line_end (rest n b))
+            (tails ∙ ap (λ (x : ExtInt). decimal_text x ++ line_end (rest n b)) (sym e))),
+      )
+      by (inr short) tails = values_same v w (rest m a) (rest n b) short.0 short.1 tails
+
       after_value : (v : ExtInt) (m : Structure) (a : List ℕ)
-          → minimum_text kb.vocabulary v m ++ a ≡ codes "minimum "
-          ++ (decimal_text v ++ line_end (symbol_lines kb.vocabulary m ++ (codes "done\n" ++ a)))
+          → minimum_text kb.vocabulary v m ++ a ≡ codes "minimum " ++ (decimal_text v ++ line_end (rest m a))
       after_value v m a =
           let lines = symbol_lines kb.vocabulary m in
           ap (λ (t : List ℕ). codes "minimum " ++ t)
@@ -316,43 +326,44 @@ module _ (kb : Base) (names : HasWordNames kb) where
   turned h = (sym h.0, sym h.1)
 
   same : (r s : Reply) (a b : List ℕ) → AreAlike r s → IsReplyOver kb r → IsReplyOver kb s
-      → reply_text kb.vocabulary r ++ a ≡ reply_text kb.vocabulary s ++ b → (r ≡ s) × (a ≡ b)
-  same (reply.Refused f) s a b alike h k q = refused_same f s a b q
-  same reply.Inconsistent s a b alike h k q = inconsistent_same s a b q
-  same (reply.Undecided n) s a b alike h k q = undecided_same n s a b h k q
-  same r (reply.Refused g) a b alike h k q = turned (refused_same g r b a (sym q))
-  same r reply.Inconsistent a b alike h k q = turned (inconsistent_same r b a (sym q))
-  same r (reply.Undecided n) a b alike h k q = turned (undecided_same n r b a k h (sym q))
-  same reply.Fine reply.Fine a b alike h k q = (refl, append_cancel_left (codes "ok\n") a b q)
-  same (reply.Choices ls) (reply.Choices ks) a b alike h k q =
+      → HaveReadableValues r s → reply_text kb.vocabulary r ++ a ≡ reply_text kb.vocabulary s ++ b → (r ≡ s) × (a ≡ b)
+  same (reply.Refused f) s a b alike h k values q = refused_same f s a b q
+  same reply.Inconsistent s a b alike h k values q = inconsistent_same s a b q
+  same (reply.Undecided n) s a b alike h k values q = undecided_same n s a b h k q
+  same r (reply.Refused g) a b alike h k values q = turned (refused_same g r b a (sym q))
+  same r reply.Inconsistent a b alike h k values q = turned (inconsistent_same r b a (sym q))
+  same r (reply.Undecided n) a b alike h k values q = turned (undecided_same n r b a k h (sym q))
+  same reply.Fine reply.Fine a b alike h k values q = (refl, append_cancel_left (codes "ok\n") a b q)
+  same (reply.Choices ls) (reply.Choices ks) a b alike h k values q =
       let cut = labelled_same 99 (codes "hoice ") (λ e. omega (arith, e)) kb names ls ks a b h k q in
       (ap (λ (x : List Literal). reply.Choices x) cut.0, cut.1)
-  same (reply.Model m) (reply.Model m') a b alike h k q =
+  same (reply.Model m) (reply.Model m') a b alike h k values q =
       let cut = blocks_same m m' a b h k q in
       (ap (λ (x : Structure). reply.Model x) cut.0, cut.1)
-  same (reply.Models ms d) (reply.Models ns e) a b alike h k q =
+  same (reply.Models ms d) (reply.Models ns e) a b alike h k values q =
       let cut = several_same ms ns d e a b h k q in
       (λ i. reply.Models (cut.0 i) (cut.1 i), cut.2)
-  same (reply.Forced ls) (reply.Forced ks) a b alike h k q =
+  same (reply.Forced ls) (reply.Forced ks) a b alike h k values q =
       let cut = labelled_same 102 (codes "orced ") (λ e. omega (arith, e)) kb names ls ks a b h k q in
       (ap (λ (x : List Literal). reply.Forced x) cut.0, cut.1)
-  same (reply.Minimum v m) (reply.Minimum w n) a b alike h k q =
-      let cut = minima_same v w m n a b h k q in
+  same (reply.Minimum v m) (reply.Minimum w n) a b alike h k values q =
+      let cut = minima_same v w m n a b h k values q in
       (λ i. reply.Minimum (cut.0 i) (cut.1 i), cut.2)
-  same (reply.Supported ls) (reply.Supported ks) a b alike h k q =
+  same (reply.Supported ls) (reply.Supported ks) a b alike h k values q =
       let cut = labelled_same 115 (codes "upport ") (λ e. omega (arith, e)) kb names ls ks a b h k q in
       (ap (λ (x : List Literal). reply.Supported x) cut.0, cut.1)
-  same (reply.Supported ls) reply.Free a b alike h k q = absurd (no_support ls a b q)
-  same reply.Free (reply.Supported ls) a b alike h k q = absurd (no_support ls b a (sym q))
-  same reply.Free reply.Free a b alike h k q = (refl, append_cancel_left (codes "open\n") a b q)
-  same (reply.Conflict ls) (reply.Conflict ks) a b alike h k q =
+  same (reply.Supported ls) reply.Free a b alike h k values q = absurd (no_support ls a b q)
+  same reply.Free (reply.Supported ls) a b alike h k values q = absurd (no_support ls b a (sym q))
+  same reply.Free reply.Free a b alike h k values q = (refl, append_cancel_left (codes "open\n") a b q)
+  same (reply.Conflict ls) (reply.Conflict ks) a b alike h k values q =
       let cut = labelled_same 99 (codes "onflict ") (λ e. omega (arith, e)) kb names ls ks a b h k q in
       (ap (λ (x : List Literal). reply.Conflict x) cut.0, cut.1)
-  same (reply.Conflict ls) reply.Consistent a b alike h k q = absurd (no_conflict ls a b q)
-  same reply.Consistent (reply.Conflict ls) a b alike h k q = absurd (no_conflict ls b a (sym q))
-  same reply.Consistent reply.Consistent a b alike h k q = (refl, append_cancel_left (codes "consistent\n") a b q)
-  same r s a b alike h k q = absurd (unlike (λ e. omega (arith, e)) alike)
+  same (reply.Conflict ls) reply.Consistent a b alike h k values q = absurd (no_conflict ls a b q)
+  same reply.Consistent (reply.Conflict ls) a b alike h k values q = absurd (no_conflict ls b a (sym q))
+  same reply.Consistent reply.Consistent a b alike h k values q =
+      (refl, append_cancel_left (codes "consistent\n") a b q)
+  same r s a b alike h k values q = absurd (unlike (λ e. omega (arith, e)) alike)
 
 pub replies_same : NoTwoRepliesHaveOneText
-replies_same kb names c r s a b to_r to_s h k q =
-    same kb names r s a b (both_alike r s (kind_of c) (reply_kind c r to_r) (reply_kind c s to_s)) h k q
+replies_same kb names c r s a b to_r to_s h k values q =
+    same kb names r s a b (both_alike r s (kind_of c) (reply_kind c r to_r) (reply_kind c s to_s)) h k values q
