@@ -22,7 +22,7 @@ use Rattle.def_ground.specs.AskedTerms.{number_of, weigh_all, parts_of_summands,
 use Rattle.def_ground.proofs.AskedLaws.{others, has_rowless}
 use Rattle.def_ground.proofs.WeighedRows.{weigh-all-vars}
 
-neither : (c d : Bool) → (c || d) ≡ false → (c ≡ false) × (d ≡ false)
+pub neither : (c d : Bool) → (c || d) ≡ false → (c ≡ false) × (d ≡ false)
 neither true d h = absurd cc
 neither false d h = (refl, h)
 

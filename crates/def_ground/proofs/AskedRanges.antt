@@ -21,7 +21,7 @@ use Rattle.def_ground.specs.Groundings.{ground_base, IsGroundNumber, IsGroundThe
 use Rattle.def_ground.proofs.NumberTerms.{number-value}
 use Rattle.def_ground.proofs.ProblemLaws.{names, all-named, problem-right, problem-over}
 
-bounded-small : (v : Vocabulary) (domains : List (List Elem)) (t : TermTree) (scope : List ℕ)
+pub bounded-small : (v : Vocabulary) (domains : List (List Elem)) (t : TermTree) (scope : List ℕ)
     → TermIsBounded v domains t scope → IsSmall (bounds_of v domains t scope)
 bounded-small v domains (variable n) scope h = h
 bounded-small v domains (integer z) scope h = h

@@ -4,3 +4,4 @@ pub mod SentenceSteps
 pub mod StartSteps
 pub mod BoundedRows
 pub mod GroundableLaws
+pub mod AskableLaws
