@@ -1,6 +1,6 @@
 -- Terms that may be asked for: each has the value of its term, and the problem that names it is otherwise the same.
-use Rattle.std.proofs.Common.{◌≡◌, ℕ, zero, suc, ◌+◌, ◌≤◌, ℤ, pos, ◌+ℤ◌, Bool, true, false, ◌||◌, List, [], ◌∷◌, ◌++◌}
-use Rattle.std.proofs.Common.{map, flat_map, ◌-ℤ◌, get_or, All, Option, Some, None, if◌then◌else◌, refl}
+use Rattle.std.proofs.Common.{◌≡◌, ℕ, ℤ, pos, ◌+ℤ◌, Bool, true, false, ◌||◌, List, [], ◌∷◌, ◌++◌}
+use Rattle.std.proofs.Common.{map, flat_map, ◌-ℤ◌, Some, if◌then◌else◌, refl}
 use Rattle.std.proofs.Common.{sym, ap, subst, ◌∙◌, arith}
 use Rattle.std.specs.List.{list_any, AllByRecursion}
 use Rattle.std.proofs.lemmas.Bool.{true≢false}
@@ -32,7 +32,7 @@ use Rattle.term_values.specs.Rows.{rows_of_term, selected_values}
 use Rattle.term_values.proofs.RowLaws.{term-right}
 use Rattle.term_values.proofs.TypedLaws.{ground-term}
 use Rattle.def_ground.specs.AskedTerms.{number_of, Summand, summands_in, alone, summands_of_term, is_rowless}
-use Rattle.def_ground.specs.AskedTerms.{first_weight, other_weights, first_sum, WeightedParts, weigh_all}
+use Rattle.def_ground.specs.AskedTerms.{other_weights, first_sum, WeightedParts, weigh_all}
 use Rattle.def_ground.specs.AskedTerms.{parts_of_summands, base_of_summands, with_asked, with_all_asked}
 use Rattle.def_ground.specs.Meanings.{HasAtoms, HasRoom}
 use Rattle.def_ground.proofs.FormLaws.{has-atoms, has-room}
@@ -40,7 +40,7 @@ use Rattle.def_ground.proofs.Growing.{more-refl}
 use Rattle.def_ground.proofs.KeepLaws.{Keeps, keeps-all}
 use Rattle.def_ground.proofs.Leaves.{RowsIn, rows-append, term-in}
 use Rattle.def_ground.proofs.NumberTerms.{number-value, number-sum}
-use Rattle.def_ground.proofs.WeighedRows.{part_sum, parts-sum, row_sum, rows-both, summand-sum, Weighs}
+use Rattle.def_ground.proofs.WeighedRows.{part_sum, parts-sum, row_sum, rows-both, summand-sum}
 use Rattle.def_ground.proofs.WeighedRows.{weighs-nothing, weigh-all-right, weigh-all-keeps}
 
 abbrev pub others : List Summand → List (List Lit × ℤ)

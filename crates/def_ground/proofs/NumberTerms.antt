@@ -138,8 +138,11 @@ module _ (b : GroundBase) (given : AreDomainsOf b.vocabulary b.domains) where
         all-flat IsNumberRow IsSumRow
         (λ (x : List Lit × Denotation). map (λ y. (x.0 ++ y.0, summand_plus minus x.1 y.1)) (rows_of_sum b ss []))
         (λ x h. all-mapped IsSumRow IsSumRow (λ y. (x.0 ++ y.0, summand_plus minus x.1 y.1))
-        (λ y k. (signed_of minus h.0 +ℤ k.0, ap (λ d. summand_plus minus d y.1) h.1
-        ∙ ap (summand_plus minus (number h.0)) k.1)) (rows_of_sum b ss []) rest)
+        (λ y k. (
+          signed_of minus h.0 +ℤ k.0,
+          ap (λ d. summand_plus minus d y.1) h.1
+              ∙ ap (summand_plus minus (number h.0)) k.1,
+        )) (rows_of_sum b ss []) rest)
         (rows_of_term b t []) (number-rows t typed.0 typed.1 none.0)
 
     factor-rows : (ts : TermTrees) → FactorsAreTyped b.vocabulary (IsIntegerIn b.domains) ts []

@@ -1,7 +1,7 @@
 -- Rows as weighted literals: what the true ones come to.
-use Rattle.std.proofs.Common.{◌≡◌, ℕ, ◌+◌, ◌≤◌, ℤ, pos, neg_ℤ, ◌+ℤ◌, ◌-ℤ◌, Bool, true, false, cond, List, [], ◌∷◌, ◌++◌}
-use Rattle.std.proofs.Common.{map, flat_map, fold, filter, length, get_or, All, if◌then◌else◌, refl, sym, ap, ◌∙◌, arith}
-use Rattle.std.specs.List.{list_all, list_any, AllByRecursion}
+use Rattle.std.proofs.Common.{◌≡◌, ℕ, ◌+◌, ◌≤◌, ℤ, pos, ◌+ℤ◌, ◌-ℤ◌, Bool, true, false, cond, List, [], ◌∷◌, ◌++◌}
+use Rattle.std.proofs.Common.{map, fold, filter, length, get_or, if◌then◌else◌, refl, ap, ◌∙◌, arith}
+use Rattle.std.specs.List.{list_all}
 use Rattle.std.proofs.lemmas.Int.{ints}
 use Rattle.std.proofs.lemmas.List.Elements.{All-cons, All-nil, All-push}
 use Rattle.kb_logic.specs.declared.syntax.AggKind.TheVariants as kind
@@ -25,7 +25,7 @@ use Rattle.def_ground.specs.Meanings.{Means}
 use Rattle.def_ground.proofs.FormLaws.{gate-right}
 use Rattle.def_ground.proofs.Growing.{more-refl, lit-more, lits-more, problem-grown}
 use Rattle.def_ground.proofs.KeepLaws.{Keeps, keeps-all, keeps-on, keeps-gate}
-use Rattle.def_ground.proofs.Leaves.{RowsIn, rows-more}
+use Rattle.def_ground.proofs.Leaves.{RowsIn}
 
 -- what the weights of the true parts come to
 abbrev pub part_sum : (ℕ → Bool) → List Part → ℤ

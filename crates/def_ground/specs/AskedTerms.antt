@@ -3,7 +3,7 @@
 -- Of the rows of a summand exactly one holds. So the summand has the value of its first row, and for each other row the
 -- difference to it where that row holds: one part less, and none where there is only one row. A sum is split into its
 -- summands, so that no row of the one is joined with a row of the other.
-use Rattle.std.specs.Prelude.{ℕ, ℤ, pos, ◌+ℤ◌, ◌-ℤ◌, List, [], ◌∷◌, ◌++◌, map, flat_map, fold, Bool, true, false}
+use Rattle.std.specs.Prelude.{ℤ, pos, ◌+ℤ◌, ◌-ℤ◌, List, [], ◌∷◌, ◌++◌, map, flat_map, fold, Bool, true, false}
 use Rattle.std.specs.Prelude.{if◌then◌else◌}
 use Rattle.std.specs.List.{list_any}
 use Rattle.kb_logic.specs.declared.syntax.AggKind.TheVariants as kind

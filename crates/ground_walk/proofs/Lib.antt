@@ -5,3 +5,4 @@ pub mod StartSteps
 pub mod BoundedRows
 pub mod GroundableLaws
 pub mod AskableLaws
+pub mod AskedSteps
