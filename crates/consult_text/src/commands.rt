@@ -17,6 +17,14 @@ pub enum Command {
     Choices,
     /// Asks for a model that makes all choices true.
     Model,
+    /// Asks for different models, at most so many.
+    Models(u32),
+    /// Asks for the literals that are true in all models.
+    Propagate,
+    /// Asks which choices make the literal true in all models.
+    Explain(Literal),
+    /// Asks which choices admit no model.
+    Why,
     /// Says how many conflicts each further query may meet; without a limit where there is no number.
     Budget(Option<u64>),
     /// Gives up what was learnt.
@@ -33,6 +41,10 @@ impl Command {
             Command::Reset => Ok(Command::Reset),
             Command::Choices => Ok(Command::Choices),
             Command::Model => Ok(Command::Model),
+            Command::Models(most) => Ok(Command::Models(*most)),
+            Command::Propagate => Ok(Command::Propagate),
+            Command::Explain(literal) => Ok(Command::Explain(literal.copy(alloc)?)),
+            Command::Why => Ok(Command::Why),
             Command::Budget(budget) => Ok(Command::Budget(*budget)),
             Command::Forget => Ok(Command::Forget),
         }

@@ -31,6 +31,11 @@ pub enum CommandText<'a> {
     Reset,
     Choices,
     Model,
+    /// The digits of the number of models.
+    Models(&'a [u8]),
+    Propagate,
+    Explain(LiteralText<'a>),
+    Why,
     /// The digits of the budget.
     Budget(&'a [u8]),
     Unlimited,
