@@ -1,40 +1,38 @@
-//! What a query of a session finds.
-ghost use Rattle.std.specs.Prelude.{◌≡◌, IfOk};
-ghost use Rattle.std.specs.List.{AllByRecursion};
+//! The task of a session, and what its queries find.
+ghost use Rattle.std.specs.Prelude.{◌≡◌, [], IfOk};
+ghost use Rattle.kb_logic.specs.Bases.{Base};
+ghost use Rattle.consult_text.specs.declared.commands.Command.TheVariants as command;
+ghost use Rattle.clause_learning.specs.SolverState.{forgotten};
 ghost use Rattle.consult_base.specs.Opened.{base_of};
-ghost use Rattle.consult_text.specs.Literals.{IsLiteralOver};
-ghost use Rattle.consultant_session.specs.Queries.{Finds, IsSolverOf, IsTaskOver};
+ghost use Rattle.ground_task.specs.Choices.{AreOver};
+ghost use Rattle.ground_task.specs.Tasks.{IsTask, IsTaskOf};
+ghost use Rattle.consultant_session.specs.Queries.{QueryEnds, IsHalted};
+ghost use Rattle.consultant_session.specs.Solvers.{IsNewSolverOf, IsTaskOver};
 
-use chooser::FirstGreatest;
+use chooser::Choose;
 use clause_learning::Solver;
 use consult_base::KnowledgeBase;
+use consult_text::Reply;
 use ground_core::{Budget, Halt};
 use ground_task::Task;
 use ground_task::answers::Answer;
 use grounder::ground;
-use kb_logic::{Literal, Memory, Structure};
+use kb_logic::{Literal, Memory};
 use std::alloc::Global;
-
-/// What a search for a model finds.
-#[derive(Drop)]
-pub enum Found {
-    /// A model that makes every choice true.
-    Model(Structure),
-    /// That there is none.
-    NoModel,
-    /// Nothing, since the budget was spent: so many conflicts.
-    Spent(u64),
-}
 
 /// A solver of the knowledge base's ground problem. That is not too large, since the knowledge base's weight is within
 /// its limit: only memory may be wanting.
-fn solver_of(alloc: Global, kb: &KnowledgeBase) -> Result<Solver<FirstGreatest>, Memory>
-    ensures { IfOk result (λ solver. IsSolverOf (base_of kb.now) solver.kept) }
+fn solver_of<C: Choose + Drop>(
+    alloc: Global,
+    kb: &KnowledgeBase,
+    rule: C,
+) -> Result<Solver<C>, Memory>
+    ensures { IfOk result (λ solver. IsNewSolverOf (base_of kb.now) solver.kept) }
 {
     let Ok(problem) = ground(alloc, kb.typed(), kb.theory(), kb.data()) else {
         return Err(Memory);
     };
-    let Ok(mut solver) = Solver::new(alloc, FirstGreatest) else {
+    let Ok(mut solver) = Solver::new(alloc, rule) else {
         return Err(Memory);
     };
     match solver.add_problem(&problem) {
@@ -44,32 +42,56 @@ fn solver_of(alloc: Global, kb: &KnowledgeBase) -> Result<Solver<FirstGreatest>,
 }
 
 /// A task of the knowledge base to which nothing was said yet.
-fn task_of(alloc: Global, kb: &KnowledgeBase) -> Result<Task<Solver<FirstGreatest>>, Memory>
-    ensures { IfOk result (λ task. IsTaskOver (base_of kb.now) task.numbers task.solver.kept) }
+pub fn task_of<C: Choose + Drop>(
+    alloc: Global,
+    kb: &KnowledgeBase,
+    rule: C,
+) -> Result<Task<Solver<C>>, Memory>
+    ensures over { IfOk result (λ task. IsTaskOver (base_of kb.now) task.numbers task.solver.kept) }
+    ensures learnt { IfOk result (λ task. task.solver.kept.learnt ≡ []) }
 {
-    let solver = solver_of(alloc, kb)?;
+    let solver = solver_of(alloc, kb, rule)?;
     Task::open(alloc, kb.vocabulary(), kb.data(), solver)
 }
 
-/// Searches for a model that makes every choice true, with this budget; without a limit where there is no number.
-pub fn find_model(
-    alloc: Global,
-    kb: &KnowledgeBase,
-    choices: &[Literal],
-    budget: Option<u64>,
-) -> Result<Found, Memory>
-    requires { AllByRecursion (IsLiteralOver (base_of kb.now)) choices.now }
-    ensures { IfOk result (Finds (base_of kb.now) choices.now budget) }
+/// Begins a query: what was learnt before is given up, and nothing of its budget is spent.
+fn begin<C: Choose + Drop>(task: &mut Task<Solver<C>>, limit: Option<u64>) -> Budget
+    ensures kept { task.new.solver.kept ≡ forgotten task.old.solver.kept }
+    ensures numbers { task.new.numbers ≡ task.old.numbers }
+    ensures task { (kb : Base) → IsTaskOf kb task.old.numbers task.old.solver.kept.problem
+        → IsTaskOf kb task.new.numbers task.new.solver.kept.problem }
+    ensures budget { result ≡ record { limit = limit; spent = 0 } }
 {
-    let mut task = task_of(alloc, kb)?;
-    let mut budget = Budget {
-        limit: budget,
-        spent: 0,
-    };
+    task.forget();
+    Budget { limit, spent: 0 }
+}
+
+/// The reply where a search halted: it stays undecided where the budget was spent.
+fn halted(halt: Halt, budget: &Budget) -> Result<Reply, Memory>
+    ensures { IsHalted halt budget.now result }
+{
+    match halt {
+        Halt::Spent => Ok(Reply::Undecided(budget.spent)),
+        Halt::Memory => Err(Memory),
+    }
+}
+
+/// The reply to `model`: a model that makes every choice true, by one search.
+pub fn model<C: Choose + Drop>(
+    alloc: Global,
+    task: &mut Task<Solver<C>>,
+    choices: &[Literal],
+    limit: Option<u64>,
+) -> Result<Reply, Memory>
+    requires task { IsTask task.old.numbers task.old.solver.kept.problem }
+    requires choices { AreOver task.old.numbers choices.now }
+    ensures { QueryEnds command.Model choices.now limit task.old.numbers task.new.numbers task.old.solver.kept
+        task.new.solver.kept result }
+{
+    let mut budget = begin(task, limit);
     match task.ask(alloc, choices, &mut budget) {
-        Ok(Answer::Model(m)) => Ok(Found::Model(m)),
-        Ok(Answer::NoModel(_)) => Ok(Found::NoModel),
-        Err(Halt::Spent) => Ok(Found::Spent(budget.spent)),
-        Err(Halt::Memory) => Err(Memory),
+        Ok(Answer::Model(m)) => Ok(Reply::Model(m)),
+        Ok(Answer::NoModel(_)) => Ok(Reply::Inconsistent),
+        Err(halt) => halted(halt, &budget),
     }
 }
