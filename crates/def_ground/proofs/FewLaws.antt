@@ -36,11 +36,14 @@ use Rattle.def_ground.specs.Sentences.{are_few, parts_clause, assert_each, asser
 use Rattle.def_ground.specs.Sentences.{assert_sentences}
 use Rattle.def_ground.specs.Problems.{start_problem}
 use Rattle.def_ground.proofs.TypedForms.{IsTypedForm, AreTypedForms, typed-form}
-use Rattle.def_ground.specs.Groundings.{ground_base, IsGroundTheory, ProblemIsSmall}
+use Rattle.def_ground.specs.Groundings.{ground_base, IsGroundNumber, IsGroundTheory, ProblemIsSmall}
+use Rattle.def_ground.proofs.AskedFew.{all-asked-vars}
 use Rattle.def_ground.specs.GroundForms.{HasNoCounting}
 use Rattle.kb_logic.specs.Typing.{IsTypedOver}
 use Rattle.def_ground.specs.Laws.{FewVariables}
+use Rattle.term_values.proofs.ArgumentTypes.{IsTypedTerm}
 use Rattle.term_values.proofs.FewRows.{term-few, terms-few}
+use Rattle.term_values.proofs.TypedLaws.{typed-term}
 use Rattle.term_values.proofs.Places.{atoms-count}
 use Rattle.def_ground.proofs.StartLaws.{atoms-length}
 use Rattle.def_ground.proofs.Counting.{linear}
@@ -507,6 +510,15 @@ all-typed base theory [] h k = tt
 all-typed base theory (f ∷ fs) h k =
     (typed-form base.vocabulary base.known.domains theory.known.domains f [] h.0 k.0, all-typed base theory fs h.1 k.1)
 
+numbers-typed : (base : Base) (theory : IsGroundTheory base) (ts : List NamedTerm)
+    → AllByRecursion (IsGroundNumber base) ts
+    → AllByRecursion (λ t. IsTypedTerm base.vocabulary base.known.domains [] t.term) ts
+numbers-typed base theory [] h = tt
+numbers-typed base theory (t ∷ ts) h = (
+  typed-term base.vocabulary base.known.domains theory.known.domains t.term [] h.0.typed h.0.plain,
+  numbers-typed base theory ts h.1,
+)
+
 pub problem-is-small : ProblemIsSmall
 problem-is-small base theory =
     let h = all-typed base theory base.theory.sentences theory.typed theory.plain in
@@ -514,6 +526,6 @@ problem-is-small base theory =
     let vars = sentences-vars gb base.theory.sentences (start_problem gb) h in
     let atoms = atoms-length base.vocabulary.symbols base.known.domains ∙ atoms-count gb in
     let others = sum_by (definition_occurrences base.vocabulary base.known.domains) base.theory.definitions in
-    let asked = sum_by (asked_occurrences base.vocabulary base.known.domains)
-    (map (λ (t : NamedTerm). t.term) base.terms) in
-    omega (arith, vars, atoms)
+    let asked = all-asked-vars gb base.terms (assert_sentences gb base.theory.sentences (start_problem gb))
+    (numbers-typed base theory base.terms theory.terms) in
+    omega (arith, vars, atoms, asked)

@@ -29,8 +29,6 @@ use Rattle.def_ground.specs.CaseSentences.{assert_comparison, alike_clauses, ass
 use Rattle.def_ground.specs.Disjuncts.{own_part, disjuncts_of, all_disjuncts}
 use Rattle.def_ground.specs.Sentences.{are_few, parts_clause, assert_each, assert_of, assert_all, assert_any}
 use Rattle.def_ground.specs.Sentences.{assert_sentences}
-use Rattle.def_ground.specs.Problems.{start_problem}
-use Rattle.def_ground.specs.Groundings.{ground_base, ProblemSaysClauses}
 
 -- q has p's atoms, and p's clauses first, and otherwise only more gates
 pub record Keeps (p q : ProblemState) : Type 0 where
@@ -72,11 +70,14 @@ keeps-on p q r h k = record {
 keeps-clause : (p : ProblemState) (c : List Lit) → Keeps p (with_clause p c)
 keeps-clause p c = grown p p.vars p.gates (p.clauses ++ c ∷ []) (c ∷ []) refl
 
+pub keeps-gate : (p : ProblemState) (all : Bool) (ls : List Lit) → Keeps p (with_gate p all ls)
+keeps-gate p all ls =
+    let q = with_gate p all ls in grown p q.vars q.gates p.clauses [] (sym (append-nil p.clauses))
+
 gate-keeps : (all : Bool) (ls : List Lit) (p : ProblemState) → Keeps p (gate_of all ls p).problem
 gate-keeps all [] p = keeps-all p
 gate-keeps all (l ∷ []) p = keeps-all p
-gate-keeps all (l ∷ m ∷ ls) p =
-    let q = with_gate p all (l ∷ m ∷ ls) in grown p q.vars q.gates p.clauses [] (sym (append-nil p.clauses))
+gate-keeps all (l ∷ m ∷ ls) p = keeps-gate p all (l ∷ m ∷ ls)
 
 close-keeps : (all s : Bool) (ls : List Lit) (p q : ProblemState) → Keeps p q
     → Keeps p (close_parts all (record { settled = s; lits = ls; problem = q })).problem
@@ -368,10 +369,3 @@ module _ (b : GroundBase) where
   sentences-keep (f ∷ fs) p =
       let q = assert_of b true f [] [] p in
       keeps-on p q (assert_sentences b fs q) (assert-keeps true f [] [] p) (sentences-keep fs q)
-
--- a problem of sentences says nothing of sums
-pub problem-says-clauses : ProblemSaysClauses
-problem-says-clauses base =
-    let b = ground_base base in
-    let keeps = sentences-keep b base.theory.sentences (start_problem b) in
-    record { sums = keeps.sums; terms = keeps.terms; bounds = keeps.bounds; retired = keeps.retired }

@@ -56,7 +56,7 @@ LeafSays f =
 abbrev pub RowsIn : {X : Type 0} → ℕ → List (List Lit × X) → Type 0
 RowsIn n rs = AllByRecursion (λ r. AreLitsOf n r.0) rs
 
-rows-append : {X : Type 0} (n : ℕ) (xs ys : List (List Lit × X)) → RowsIn n xs → RowsIn n ys → RowsIn n (xs ++ ys)
+pub rows-append : {X : Type 0} (n : ℕ) (xs ys : List (List Lit × X)) → RowsIn n xs → RowsIn n ys → RowsIn n (xs ++ ys)
 rows-append n [] ys h k = k
 rows-append n (x ∷ xs) ys h k = (h.0, rows-append n xs ys h.1 k)
 

@@ -16,7 +16,12 @@ pub mod SentenceLaws
 pub mod TypedForms
 pub mod StartLaws
 pub mod KeepLaws
+pub mod NumberTerms
+pub mod WeighedRows
+pub mod AskedLaws
+pub mod AskedFew
 pub mod ProblemLaws
+pub mod AskedRanges
 pub mod Counting
 pub mod FewLaws
 pub mod WithClauses

@@ -1,28 +1,34 @@
 -- The problem of a theory: its valuations are the models that extend the data.
 use Rattle.std.proofs.Common.{◌≡◌, ℕ, zero, suc, ◌<◌, ◌≤◌, get_or, Bool, true, false, List, [], ◌∷◌, length, IsTrue}
-use Rattle.std.proofs.Common.{refl, sym, subst, ◌∙◌, arith}
+use Rattle.std.proofs.Common.{refl, sym, ap, subst, ◌∙◌, arith, ◌++◌, slice_get}
 use Rattle.std.specs.List.{list_all, AllByRecursion}
 use Rattle.std.proofs.lemmas.Bool.{and_parts, and_from}
 use Rattle.std.proofs.lemmas.List.{length-map}
 use Rattle.std.proofs.lemmas.Option.{slice_get-get_or}
 use Rattle.kb_logic.specs.declared.structures.Structure.{Structure}
+use Rattle.kb_logic.specs.Structures.{EachWith}
 use Rattle.kb_logic.specs.Trees.{FormulaTree}
-use Rattle.kb_logic.specs.Meaning.{truth_of}
+use Rattle.kb_logic.specs.Meaning.{truth_of, value_of}
 use Rattle.kb_logic.specs.Models.{GroundAtom, AtomHolds, ModelOfDefinition}
 use Rattle.kb_logic.specs.KnownAtoms.{ExtendsData, atoms_over}
-use Rattle.kb_logic.specs.Bases.{Base, IsModelUnder}
+use Rattle.kb_logic.specs.Bases.{Base, NamedTerm, IsModelUnder}
 use Rattle.partial_structures.specs.KnownAtoms.{value_at}
+use Rattle.ground_core.specs.declared.parts.GroundTerm.{GroundTerm}
 use Rattle.ground_core.specs.Atoms.{ground_atoms}
-use Rattle.ground_core.specs.Meaning.{Satisfies}
+use Rattle.ground_core.specs.Growing.{value_of_term}
+use Rattle.ground_core.specs.Meaning.{Satisfies, term_value}
 use Rattle.ground_core.specs.More.{Agree}
-use Rattle.term_values.specs.GroundBases.{GroundBase, structure_of}
+use Rattle.term_values.specs.GroundBases.{GroundBase, structure_of, IsOver}
 use Rattle.term_values.specs.KnownBases.{IsGroundBase, known_truth, base_of_data}
 use Rattle.term_values.proofs.StructureAtoms.{atom-true}
-use Rattle.term_values.proofs.StructureLaws.{structure-is, structure-same, one-value-each, valuation-of}
+use Rattle.term_values.proofs.StructureLaws.{structure-is, structure-same, one-value-each, valuation-of, each-at}
 use Rattle.term_values.proofs.KnownLaws.{ground-base, known-extends, extends-known}
 use Rattle.def_ground.specs.Problems.{fact_of, start_problem, problem_of}
 use Rattle.def_ground.specs.Meanings.{AssertsMore, HasRoom}
-use Rattle.def_ground.specs.Groundings.{IsGroundTheory, IsGroundingOf, ProblemIsRight}
+use Rattle.def_ground.specs.Groundings.{IsGroundNumber, IsGroundTheory, IsGroundingOf, theory_problem, ProblemIsRight}
+use Rattle.def_ground.specs.Groundings.{ProblemSaysClauses}
+use Rattle.def_ground.proofs.AskedLaws.{IsNumberOver, Names, names-all}
+use Rattle.def_ground.proofs.AssertLaws.{room-grown}
 use Rattle.def_ground.specs.GroundForms.{IsGroundForm, HasNoCounting}
 use Rattle.kb_logic.specs.Typing.{IsTypedOver, IsIntegerIn}
 use Rattle.def_ground.proofs.TypedForms.{ground-form}
@@ -46,6 +52,19 @@ same-bits : (a c : Bool) → (a ≡ true → c ≡ true) → (c ≡ true → a �
 same-bits true c f g = sym (f refl)
 same-bits false true f g = g refl
 same-bits false false f g = refl
+
+same-number : {A B : Type 0} (R : A → B → Type 0) (xs : List A) (ys : List B) → EachWith R xs ys
+    → length ys ≡ length xs
+same-number R [] [] h = refl
+same-number R [] (y ∷ ys) h = absurd h
+same-number R (x ∷ xs) [] h = absurd h
+same-number R (x ∷ xs) (y ∷ ys) h = ap suc (same-number R xs ys h.1)
+
+numbers-over : (base : Base) (ts : List NamedTerm) → AllByRecursion (IsGroundNumber base) ts
+    → AllByRecursion (λ t. IsNumberOver (base_of_data base.vocabulary base.known) t.term) ts
+numbers-over base [] h = tt
+numbers-over base (t ∷ ts) h =
+    (record { typed = h.0.typed; numeric = h.0.numeric; plain = h.0.plain }, numbers-over base ts h.1)
 
 pub all-ground : (base : Base) (theory : IsGroundTheory base) (fs : List FormulaTree)
     → AllByRecursion (λ f. IsTypedOver base.vocabulary base.known.domains f []) fs → AllByRecursion HasNoCounting fs
@@ -149,18 +168,62 @@ module _ (base : Base) (theory : IsGroundTheory base) where
       sentences-keep (base_of_data base.vocabulary base.known) base.theory.sentences
       (start_problem (base_of_data base.vocabulary base.known))
 
-  pub problem-right : IsGroundingOf base (problem_of (base_of_data base.vocabulary base.known) base.theory.sentences)
+  room-said : HasRoom (base_of_data base.vocabulary base.known)
+      (problem_of (base_of_data base.vocabulary base.known) base.theory.sentences)
+  room-said =
+      let gb = base_of_data base.vocabulary base.known in
+      room-grown gb (start_problem gb) (problem_of gb base.theory.sentences) asserts.grows room
+
+  -- the terms that may be asked for are named after the sentences
+  pub names : Names (base_of_data base.vocabulary base.known)
+      (problem_of (base_of_data base.vocabulary base.known) base.theory.sentences) (theory_problem base) base.terms
+  names =
+      let gb = base_of_data base.vocabulary base.known in
+      names-all gb theory.known.domains base.terms (problem_of gb base.theory.sentences) asserts.fine
+      (λ v s. start-atoms gb is v (asserts.gives v s).0) room-said keeps.bounds (numbers-over base base.terms theory.terms)
+
+  -- what satisfies the problem gives each function one value, and has what is known
+  pub problem-over : (v : ℕ → Bool) → Satisfies (theory_problem base) v
+      → IsOver (base_of_data base.vocabulary base.known) v
+  problem-over v s =
+      start-atoms (base_of_data base.vocabulary base.known) is v (asserts.gives v (names.more.restricts v s)).0
+
+  pub all-named : (theory_problem base).terms ≡ names.named
+  all-named = names.terms ∙ ap (λ gs. gs ++ names.named) keeps.terms
+
+  abbrev HasValueOf : NamedTerm → GroundTerm → Type 0
+  HasValueOf t g = (w : ℕ → Bool) → Satisfies (theory_problem base) w
+      → term_value w g ≡ value_of (structure_of (base_of_data base.vocabulary base.known) w) t.term []
+
+  pub problem-right : IsGroundingOf base (theory_problem base)
   problem-right = record {
-    atoms = keeps.atoms;
+    atoms = names.atoms ∙ keeps.atoms;
     facts = λ n x known.
         let gb = base_of_data base.vocabulary base.known in
-        contains_from (problem_of gb base.theory.sentences).clauses (fact_of n x ∷ [])
-        (subst (λ cs. Has cs (fact_of n x ∷ [])) (sym keeps.clauses)
-        (has_left (start_problem gb).clauses keeps.more (fact_of n x ∷ []) (fact-in-start gb is n x known)));
-    extends = model-gives;
-    unique = λ v w s t same. asserts.unique v w s t (same-at v w same);
-    gives = valuation-gives;
+        let fact = fact_of n x ∷ [] in
+        contains_from (theory_problem base).clauses fact
+        (names.clauses fact (subst (λ cs. Has cs fact) (sym keeps.clauses)
+        (has_left (start_problem gb).clauses keeps.more fact (fact-in-start gb is n x known))));
+    extends = λ m model.
+        let v = model-gives m model in
+        let w = names.more.extends v.0 v.1 in
+        (w.0, w.2, sym (room-said.same v.0 w.0 w.1) ∙ v.2);
+    unique = λ v w s t same.
+        names.more.unique v w s t
+        (asserts.unique v w (names.more.restricts v s) (names.more.restricts w t) (same-at v w same));
+    gives = λ v s. valuation-gives v (names.more.restricts v s);
+    number = ap length all-named ∙ same-number HasValueOf base.terms names.named names.values;
+    terms = λ n t at v s.
+        let found = each-at HasValueOf base.terms names.named n t names.values at in
+        ap (λ gs. value_of_term (slice_get gs n) v) all-named ∙ ap (λ o. value_of_term o v) found.1 ∙ found.2 v s;
   }
 
 pub problem-is-right : ProblemIsRight
 problem-is-right base theory = problem-right base theory
+
+pub problem-says-clauses : ProblemSaysClauses
+problem-says-clauses base theory =
+    let n = names base theory in
+    let k = sentences-keep (base_of_data base.vocabulary base.known) base.theory.sentences
+    (start_problem (base_of_data base.vocabulary base.known)) in
+    record { sums = n.sums ∙ k.sums; bounds = n.bounds ∙ k.bounds; retired = n.retired ∙ k.retired }

@@ -8,6 +8,7 @@ pub mod Disjuncts
 pub mod Sentences
 pub mod Problems
 pub mod GroundForms
+pub mod AskedTerms
 pub mod Meanings
 pub mod Groundings
 pub mod Laws

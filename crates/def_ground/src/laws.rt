@@ -1,7 +1,7 @@
 //! Laws of the definitions.
 ghost use Rattle.def_ground.specs.Laws.{CasesAreRight, FormIsRight, AssertionIsRight, SentencesAreAsserted};
 ghost use Rattle.def_ground.specs.Examples.{ProblemsAsWorkedOut};
-ghost use Rattle.def_ground.specs.Groundings.{ProblemIsRight, ProblemIsSmall, ProblemSaysClauses};
+ghost use Rattle.def_ground.specs.Groundings.{ProblemIsRight, ProblemIsSmall, ProblemSaysClauses, TermsAreInRange};
 ghost use Rattle.def_ground.specs.Laws.{OneEachByClauses, FewVariables};
 
 /// What cases come to is what they say.
@@ -45,9 +45,14 @@ pub fn problem_is_small()
     ensures { ProblemIsSmall }
 {}
 
-/// The problem of a theory says nothing of sums and terms.
+/// The problem of a theory says nothing of sums and bounds.
 pub fn problem_says_clauses()
     ensures { ProblemSaysClauses }
+{}
+
+/// Where the static bounds of the terms that may be asked for are small, the problem's terms have values in range.
+pub fn terms_are_in_range()
+    ensures { TermsAreInRange }
 {}
 
 /// Two small problems, as they are worked out by hand.
