@@ -8,6 +8,6 @@ pub mod Parses
 pub mod Meanings
 pub mod InnerBytes
 pub mod RowTexts
-pub mod ChoiceTexts
+pub mod LabelledTexts
 pub mod ModelTexts
 pub mod ReplyTexts

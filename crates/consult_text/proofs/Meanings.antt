@@ -17,6 +17,7 @@ use Rattle.consult_text.specs.declared.refusals.F.TheVariants as refusal
 use Rattle.consult_text.specs.Written as written
 use Rattle.consult_text.specs.Written.{Tok, word, digits, sign, WrittenElem, WrittenLiteral, atom, equation}
 use Rattle.consult_text.specs.Written.{WrittenCommand, put_elem, put_args, put_literal, put_command, equals}
+use Rattle.consult_text.specs.Written.{IsWellFormed}
 use Rattle.consult_text.specs.Literals.{IsLiteralOver, IsFirstNamed, HasFormOf, name_of, literal_of}
 use Rattle.consult_text.specs.Lines.{tok_of, IsWritten, IsBlank, IsNoCommand, StandsFor, IsRefusedFor, Asks, RefusesFor}
 use Rattle.consult_text.specs.Lines.{HasCommand, HasRefusal, IsCommandOver}
@@ -86,74 +87,36 @@ literal_same (equation p name args v) (equation p' name' args' v') q =
     let h = (elem_same v v' dot dot tails).0 in
     cc
 
--- no tokens spell two commands
+-- the first word of a command
+abbrev word_of : WrittenCommand → List ℕ
+word_of (written.assert l) = codes "assert"
+word_of (written.retract l) = codes "retract"
+word_of written.reset = codes "reset"
+word_of written.choices = codes "choices"
+word_of written.model = codes "model"
+word_of (written.models t) = codes "models"
+word_of written.propagate = codes "propagate"
+word_of (written.budget t) = codes "budget"
+word_of written.unlimited = codes "budget"
+word_of written.forget = codes "forget"
+
+-- no tokens spell two commands; the last row stands for all pairs of different words
 command_same : (w w' : WrittenCommand) → put_command w ≡ put_command w' → w ≡ w'
 command_same (written.assert l) (written.assert l') q =
     ap (λ (x : WrittenLiteral). written.assert x) (literal_same l l' (behind_same q))
-command_same (written.assert l) (written.retract l') q = absurd (words_apart (codes "assert") (codes "retract") refl q)
-command_same (written.assert l) written.reset q = absurd (words_apart (codes "assert") (codes "reset") refl q)
-command_same (written.assert l) written.choices q = absurd (words_apart (codes "assert") (codes "choices") refl q)
-command_same (written.assert l) written.model q = absurd (words_apart (codes "assert") (codes "model") refl q)
-command_same (written.assert l) (written.budget t') q = absurd (words_apart (codes "assert") (codes "budget") refl q)
-command_same (written.assert l) written.unlimited q = absurd (words_apart (codes "assert") (codes "budget") refl q)
-command_same (written.assert l) written.forget q = absurd (words_apart (codes "assert") (codes "forget") refl q)
-command_same (written.retract l) (written.assert l') q = absurd (words_apart (codes "retract") (codes "assert") refl q)
 command_same (written.retract l) (written.retract l') q =
     ap (λ (x : WrittenLiteral). written.retract x) (literal_same l l' (behind_same q))
-command_same (written.retract l) written.reset q = absurd (words_apart (codes "retract") (codes "reset") refl q)
-command_same (written.retract l) written.choices q = absurd (words_apart (codes "retract") (codes "choices") refl q)
-command_same (written.retract l) written.model q = absurd (words_apart (codes "retract") (codes "model") refl q)
-command_same (written.retract l) (written.budget t') q = absurd (words_apart (codes "retract") (codes "budget") refl q)
-command_same (written.retract l) written.unlimited q = absurd (words_apart (codes "retract") (codes "budget") refl q)
-command_same (written.retract l) written.forget q = absurd (words_apart (codes "retract") (codes "forget") refl q)
-command_same written.reset (written.assert l') q = absurd (words_apart (codes "reset") (codes "assert") refl q)
-command_same written.reset (written.retract l') q = absurd (words_apart (codes "reset") (codes "retract") refl q)
 command_same written.reset written.reset q = refl
-command_same written.reset written.choices q = absurd (words_apart (codes "reset") (codes "choices") refl q)
-command_same written.reset written.model q = absurd (words_apart (codes "reset") (codes "model") refl q)
-command_same written.reset (written.budget t') q = absurd (words_apart (codes "reset") (codes "budget") refl q)
-command_same written.reset written.unlimited q = absurd (words_apart (codes "reset") (codes "budget") refl q)
-command_same written.reset written.forget q = absurd (words_apart (codes "reset") (codes "forget") refl q)
-command_same written.choices (written.assert l') q = absurd (words_apart (codes "choices") (codes "assert") refl q)
-command_same written.choices (written.retract l') q = absurd (words_apart (codes "choices") (codes "retract") refl q)
-command_same written.choices written.reset q = absurd (words_apart (codes "choices") (codes "reset") refl q)
 command_same written.choices written.choices q = refl
-command_same written.choices written.model q = absurd (words_apart (codes "choices") (codes "model") refl q)
-command_same written.choices (written.budget t') q = absurd (words_apart (codes "choices") (codes "budget") refl q)
-command_same written.choices written.unlimited q = absurd (words_apart (codes "choices") (codes "budget") refl q)
-command_same written.choices written.forget q = absurd (words_apart (codes "choices") (codes "forget") refl q)
-command_same written.model (written.assert l') q = absurd (words_apart (codes "model") (codes "assert") refl q)
-command_same written.model (written.retract l') q = absurd (words_apart (codes "model") (codes "retract") refl q)
-command_same written.model written.reset q = absurd (words_apart (codes "model") (codes "reset") refl q)
-command_same written.model written.choices q = absurd (words_apart (codes "model") (codes "choices") refl q)
 command_same written.model written.model q = refl
-command_same written.model (written.budget t') q = absurd (words_apart (codes "model") (codes "budget") refl q)
-command_same written.model written.unlimited q = absurd (words_apart (codes "model") (codes "budget") refl q)
-command_same written.model written.forget q = absurd (words_apart (codes "model") (codes "forget") refl q)
-command_same (written.budget t) (written.assert l') q = absurd (words_apart (codes "budget") (codes "assert") refl q)
-command_same (written.budget t) (written.retract l') q = absurd (words_apart (codes "budget") (codes "retract") refl q)
-command_same (written.budget t) written.reset q = absurd (words_apart (codes "budget") (codes "reset") refl q)
-command_same (written.budget t) written.choices q = absurd (words_apart (codes "budget") (codes "choices") refl q)
-command_same (written.budget t) written.model q = absurd (words_apart (codes "budget") (codes "model") refl q)
+command_same (written.models t) (written.models t') q = cc
+command_same written.propagate written.propagate q = refl
 command_same (written.budget t) (written.budget t') q = cc
 command_same (written.budget t) written.unlimited q = absurd (no_digits_word (behind_same q))
-command_same (written.budget t) written.forget q = absurd (words_apart (codes "budget") (codes "forget") refl q)
-command_same written.unlimited (written.assert l') q = absurd (words_apart (codes "budget") (codes "assert") refl q)
-command_same written.unlimited (written.retract l') q = absurd (words_apart (codes "budget") (codes "retract") refl q)
-command_same written.unlimited written.reset q = absurd (words_apart (codes "budget") (codes "reset") refl q)
-command_same written.unlimited written.choices q = absurd (words_apart (codes "budget") (codes "choices") refl q)
-command_same written.unlimited written.model q = absurd (words_apart (codes "budget") (codes "model") refl q)
 command_same written.unlimited (written.budget t') q = absurd (no_digits_word (sym (behind_same q)))
 command_same written.unlimited written.unlimited q = refl
-command_same written.unlimited written.forget q = absurd (words_apart (codes "budget") (codes "forget") refl q)
-command_same written.forget (written.assert l') q = absurd (words_apart (codes "forget") (codes "assert") refl q)
-command_same written.forget (written.retract l') q = absurd (words_apart (codes "forget") (codes "retract") refl q)
-command_same written.forget written.reset q = absurd (words_apart (codes "forget") (codes "reset") refl q)
-command_same written.forget written.choices q = absurd (words_apart (codes "forget") (codes "choices") refl q)
-command_same written.forget written.model q = absurd (words_apart (codes "forget") (codes "model") refl q)
-command_same written.forget (written.budget t') q = absurd (words_apart (codes "forget") (codes "budget") refl q)
-command_same written.forget written.unlimited q = absurd (words_apart (codes "forget") (codes "budget") refl q)
 command_same written.forget written.forget q = refl
+command_same w w' q = absurd (words_apart (word_of w) (word_of w') refl q)
 
 -- a line has at most one written command
 written_same : {line : List ℕ} (w w' : WrittenCommand) → HasOneOutcome line → IsWritten line w
@@ -165,13 +128,7 @@ written_same w w' one h h' =
 -- and none where it is blank
 some_token : (w : WrittenCommand) → [] ≡ put_command w → ⊥
 some_token (written.assert l) q = absurd (cc)
-some_token (written.retract l) q = absurd (cc)
-some_token written.reset q = absurd (cc)
-some_token written.choices q = absurd (cc)
-some_token written.model q = absurd (cc)
-some_token (written.budget t) q = absurd (cc)
-some_token written.unlimited q = absurd (cc)
-some_token written.forget q = absurd (cc)
+some_token w q = absurd (cc)
 
 blank_written : {line : List ℕ} (w : WrittenCommand) → HasOneOutcome line → IsBlank line → IsWritten line w → ⊥
 blank_written w one blank h = some_token w (ap (map tok_of) (same_lexemes [] h.lexemes one blank h.tokens) ∙ h.spelled)
@@ -209,11 +166,7 @@ cause_of : (kb : Base) (w : WrittenLiteral) (f : F) → IsRefusedFor kb w f → 
 cause_of kb w refusal.UnknownSymbol h = unknown h
 cause_of kb w refusal.WrongArity h = form h.0 h.1 h.2 h.3
 cause_of kb w refusal.NotAnElement h = element h.0 h.1 h.2 h.3 h.4
-cause_of kb w refusal.Syntax h = absurd h
-cause_of kb w refusal.AlreadyChosen h = absurd h
-cause_of kb w refusal.NotChosen h = absurd h
-cause_of kb w refusal.GivenByData h = absurd h
-cause_of kb w refusal.LineTooLong h = absurd h
+cause_of kb w f h = absurd h
 
 is_declared : (kb : Base) (name : List ℕ) (n : ℕ) (s : Symbol) → IsFirstNamed kb.vocabulary.symbols name n s
     → ((t : Symbol) → Contains kb.vocabulary.symbols t → t.name ≢ name) → ⊥
@@ -256,6 +209,9 @@ asks_same kb (written.retract w) (command.Retract l) (command.Retract l') h h' =
 asks_same kb written.reset command.Reset command.Reset h h' = refl
 asks_same kb written.choices command.Choices command.Choices h h' = refl
 asks_same kb written.model command.Model command.Model h h' = refl
+asks_same kb (written.models t) (command.Models n) (command.Models n') h h' =
+    ap (λ (x : ℕ). command.Models x) (h ∙ sym h')
+asks_same kb written.propagate command.Propagate command.Propagate h h' = refl
 asks_same kb (written.budget t) (command.Budget b) (command.Budget b') h h' =
     ap (λ (x : Option ℕ). command.Budget x) (h ∙ sym h')
 asks_same kb written.unlimited (command.Budget b) (command.Budget b') h h' =
@@ -266,6 +222,8 @@ asks_same kb (written.retract w) (command.Retract l) d h h' = absurd h'
 asks_same kb written.reset command.Reset d h h' = absurd h'
 asks_same kb written.choices command.Choices d h h' = absurd h'
 asks_same kb written.model command.Model d h h' = absurd h'
+asks_same kb (written.models t) (command.Models n) d h h' = absurd h'
+asks_same kb written.propagate command.Propagate d h h' = absurd h'
 asks_same kb (written.budget t) (command.Budget b) d h h' = absurd h'
 asks_same kb written.unlimited (command.Budget b) d h h' = absurd h'
 asks_same kb written.forget command.Forget d h h' = absurd h'
@@ -274,23 +232,14 @@ asks_same kb w c d h h' = absurd h
 no_refusal : (kb : Base) (w : WrittenCommand) (c : Command) (f : F) → Asks kb w c → RefusesFor kb w f → ⊥
 no_refusal kb (written.assert w) (command.Assert l) f h r = no_cause kb w l f h (cause_of kb w f r)
 no_refusal kb (written.retract w) (command.Retract l) f h r = no_cause kb w l f h (cause_of kb w f r)
-no_refusal kb written.reset c f h r = r
-no_refusal kb written.choices c f h r = r
-no_refusal kb written.model c f h r = r
-no_refusal kb (written.budget t) c f h r = r
-no_refusal kb written.unlimited c f h r = r
-no_refusal kb written.forget c f h r = r
-no_refusal kb w c f h r = h
+no_refusal kb (written.assert w) c f h r = h
+no_refusal kb (written.retract w) c f h r = h
+no_refusal kb w c f h r = r
 
 refuses_same : (kb : Base) (w : WrittenCommand) (f g : F) → RefusesFor kb w f → RefusesFor kb w g → f ≡ g
 refuses_same kb (written.assert w) f g h h' = cause_same kb w f g (cause_of kb w f h) (cause_of kb w g h')
 refuses_same kb (written.retract w) f g h h' = cause_same kb w f g (cause_of kb w f h) (cause_of kb w g h')
-refuses_same kb written.reset f g h h' = absurd h
-refuses_same kb written.choices f g h h' = absurd h
-refuses_same kb written.model f g h h' = absurd h
-refuses_same kb (written.budget t) f g h h' = absurd h
-refuses_same kb written.unlimited f g h h' = absurd h
-refuses_same kb written.forget f g h h' = absurd h
+refuses_same kb w f g h h' = absurd h
 
 -- a refused line is no command, or has one whose literal is refused
 data Refusal (kb : Base) (line : List ℕ) : F → Type 0 where
@@ -299,13 +248,7 @@ data Refusal (kb : Base) (line : List ℕ) : F → Type 0 where
 
 refusal_of : (kb : Base) (line : List ℕ) (f : F) → HasRefusal kb line f → Refusal kb line f
 refusal_of kb line refusal.Syntax h = none h
-refusal_of kb line refusal.UnknownSymbol h = some h.0 h.1 h.2
-refusal_of kb line refusal.WrongArity h = some h.0 h.1 h.2
-refusal_of kb line refusal.NotAnElement h = some h.0 h.1 h.2
-refusal_of kb line refusal.AlreadyChosen h = some h.0 h.1 h.2
-refusal_of kb line refusal.NotChosen h = some h.0 h.1 h.2
-refusal_of kb line refusal.GivenByData h = some h.0 h.1 h.2
-refusal_of kb line refusal.LineTooLong h = some h.0 h.1 h.2
+refusal_of kb line f h = some h.0 h.1 h.2
 
 refusal_same : (kb : Base) (line : List ℕ) (f g : F) → HasOneOutcome line → Refusal kb line f
     → Refusal kb line g → f ≡ g
@@ -340,15 +283,17 @@ one_meaning kb line one (Err f) (Ok (Some d)) h h' = absurd (not_refused kb line
 one_meaning kb line one (Err f) (Err g) h h' =
     ap (λ (x : F). Err x) (refusal_same kb line f g one (refusal_of kb line f h) (refusal_of kb line g h'))
 
-over_by : (kb : Base) (w : WrittenCommand) (c : Command) → Asks kb w c → IsCommandOver kb c
-over_by kb (written.assert w) (command.Assert l) h = h.5
-over_by kb (written.retract w) (command.Retract l) h = h.5
-over_by kb w command.Reset h = tt
-over_by kb w command.Choices h = tt
-over_by kb w command.Model h = tt
-over_by kb w (command.Budget b) h = tt
-over_by kb w command.Forget h = tt
-over_by kb w c h = absurd h
+over_by : (kb : Base) (w : WrittenCommand) (c : Command) → IsWellFormed w → Asks kb w c → IsCommandOver kb c
+over_by kb (written.assert w) (command.Assert l) k h = h.5
+over_by kb (written.retract w) (command.Retract l) k h = h.5
+over_by kb (written.models t) (command.Models n) k h = (omega (arith, k.least, h), omega (arith, k.most, h))
+over_by kb w command.Reset k h = tt
+over_by kb w command.Choices k h = tt
+over_by kb w command.Model k h = tt
+over_by kb w command.Propagate k h = tt
+over_by kb w (command.Budget b) k h = tt
+over_by kb w command.Forget k h = tt
+over_by kb w c k h = absurd h
 
 pub commands_over : CommandsAreOverTheBase
-commands_over kb line c h = over_by kb h.0 c h.2
+commands_over kb line c h = over_by kb h.0 c h.1.formed h.2

@@ -21,7 +21,7 @@ use Rattle.literal_printer.specs.Tables.{mappings_text, function_text, value_tex
 use Rattle.consult_text.specs.OneText.{CanBeWritten, HasWordNames}
 use Rattle.consult_text.proofs.InnerBytes.{Stopped, elem_inner, elem_text_same, split_same}
 use Rattle.consult_text.proofs.RowTexts.{IsSomeRow, byte_above, rest_same, stop_at, brace, rows_same}
-use Rattle.consult_text.proofs.ChoiceTexts.{line_end, line_stops, domain_written}
+use Rattle.consult_text.proofs.LabelledTexts.{line_end, line_stops, domain_written}
 
 all_has : {X : Type 0} (P : X → Type 0) (xs : List X) → AllByRecursion P xs → (x : X) → Has xs x → P x
 all_has P [] all x h = absurd h

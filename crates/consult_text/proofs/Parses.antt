@@ -94,15 +94,17 @@ literal_fits (equation positive name args value) h =
     let some = args_fit args (sign (equals positive) ∷ put_elem value dot) h.1 in
     (some.0, (elem_fits value dot some.1.1).0)
 
-command_fits : (w : WrittenCommand) → AllByRecursion FitsTok (put_command w) → HasRanges w
-command_fits (written.assert l) h = literal_fits l h.1
-command_fits (written.retract l) h = literal_fits l h.1
-command_fits written.reset h = tt
-command_fits written.choices h = tt
-command_fits written.model h = tt
-command_fits (written.budget text) h = h.1.0
-command_fits written.unlimited h = tt
-command_fits written.forget h = tt
+command_fits : (w : WrittenCommand) → IsWellFormed w → AllByRecursion FitsTok (put_command w) → HasRanges w
+command_fits (written.assert l) k h = literal_fits l h.1
+command_fits (written.retract l) k h = literal_fits l h.1
+command_fits written.reset k h = tt
+command_fits written.choices k h = tt
+command_fits written.model k h = tt
+command_fits (written.models text) k h = k.most
+command_fits written.propagate k h = tt
+command_fits (written.budget text) k h = h.1.0
+command_fits written.unlimited k h = tt
+command_fits written.forget k h = tt
 
 pub is_written : {line : List ℕ} (ts slice : List Token) (found : Option CommandText) (c : CommandText)
     → TokensFrom outermost 0 line (Ok (lexemes ts)) → All IsSpelled (lexemes ts) → slice ≡ ts
@@ -112,7 +114,7 @@ is_written {line} ts slice found c h spelled same cut some =
     let spell = subst (ParsesCommand (toks slice)) some cut in
     let whole : toks ts ≡ put_command (command_view c) = ap toks (sym same) ∙ spell.0 in (
       record { lexemes = lexemes ts; tokens = h; spelled = whole; formed = spell.1 },
-      command_fits (command_view c) (subst (AllByRecursion FitsTok) whole (fits_all (lexemes ts) spelled)),
+      command_fits (command_view c) spell.1 (subst (AllByRecursion FitsTok) whole (fits_all (lexemes ts) spelled)),
     )
 
 no_tokens : (ts : List Token) → length ts ≡ 0 → lexemes ts ≡ []

@@ -14,7 +14,7 @@ byte_above x y lt q = let e : x ≡ y = cc in omega arith
 pub rest_same : {x y : ℕ} {a b : List ℕ} → x ∷ a ≡ y ∷ b → a ≡ b
 rest_same q = cc
 
-byte_same : {x y : ℕ} {a b : List ℕ} → x ∷ a ≡ y ∷ b → x ≡ y
+pub byte_same : {x y : ℕ} {a b : List ℕ} → x ∷ a ≡ y ∷ b → x ≡ y
 byte_same q = cc
 
 -- a text that begins with one of the bytes between

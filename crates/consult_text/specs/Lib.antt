@@ -7,7 +7,8 @@ pub mod Lines
 pub mod Parse
 pub mod Ranges
 pub mod Laws
-pub mod OneText
+pub mod Replies
 pub mod Texts
+pub mod OneText
 pub mod States
 pub mod RightReplies

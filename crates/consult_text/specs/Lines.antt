@@ -1,5 +1,5 @@
 -- What a command line means.
-use Rattle.std.specs.Prelude.{◌≡◌, ◌≢◌, ℕ, List, [], map, Contains, Option, Some, None, Result, Ok, Err, ⊤}
+use Rattle.std.specs.Prelude.{◌≡◌, ◌≢◌, ◌≤◌, ℕ, List, [], map, Contains, Option, Some, None, Result, Ok, Err, ⊤}
 use Rattle.kb_logic.specs.declared.vocabularies.Symbol.{Symbol}
 use Rattle.kb_logic.specs.declared.structures.Literal.{Literal}
 use Rattle.kb_logic.specs.Bases.{Base}
@@ -7,6 +7,7 @@ use Rattle.kb_text.specs.Depth.{outermost}
 use Rattle.kb_text.specs.declared.token.Kind.{Kind}
 use Rattle.kb_text.specs.declared.token.Kind.TheVariants.{Word, Int, Sign, Procedure}
 use Rattle.kb_text.specs.Tokens.{Lexeme, TokensFrom, decimal}
+use Rattle.consult_text.specs.Budgets.{most_models}
 use Rattle.consult_text.specs.Written as written
 use Rattle.consult_text.specs.Written.{Tok, word, digits, sign, procedure, WrittenLiteral, WrittenCommand, put_command}
 use Rattle.consult_text.specs.Written.{IsWellFormed}
@@ -66,6 +67,8 @@ Asks kb (written.retract w) (command.Retract l) = StandsFor kb w l
 Asks kb written.reset command.Reset = ⊤
 Asks kb written.choices command.Choices = ⊤
 Asks kb written.model command.Model = ⊤
+Asks kb (written.models text) (command.Models n) = n ≡ decimal text
+Asks kb written.propagate command.Propagate = ⊤
 Asks kb (written.budget text) (command.Budget b) = b ≡ Some (decimal text)
 Asks kb written.unlimited (command.Budget b) = b ≡ None
 Asks kb written.forget command.Forget = ⊤
@@ -93,6 +96,8 @@ IsCommandOver kb (command.Retract l) = IsLiteralOver kb l
 IsCommandOver kb command.Reset = ⊤
 IsCommandOver kb command.Choices = ⊤
 IsCommandOver kb command.Model = ⊤
+IsCommandOver kb (command.Models n) = (1 ≤ n) × (n ≤ most_models)
+IsCommandOver kb command.Propagate = ⊤
 IsCommandOver kb (command.Budget b) = ⊤
 IsCommandOver kb command.Forget = ⊤
 

@@ -1,15 +1,16 @@
--- The replies that there are over a knowledge base, and that no two of them have one text.
+-- The replies over a knowledge base, and that no two of them have one text.
 use Rattle.std.specs.Prelude.{◌≡◌, ◌<◌, ◌^◌, ◌++◌, ℕ, List, nat_abs, map, ⊤}
 use Rattle.std.specs.List.{AllByRecursion}
 use Rattle.kb_logic.specs.declared.elements.Elem.{Elem}
 use Rattle.kb_logic.specs.declared.elements.Elem.TheVariants.{Named, Num}
+use Rattle.kb_logic.specs.declared.structures.Structure.{Structure}
 use Rattle.kb_logic.specs.Bases.{Base}
 use Rattle.kb_logic.specs.Structures.{IsDistinct, IsStructure}
 use Rattle.kb_text.specs.Pieces.{IsPiece, WordText}
 use Rattle.consult_text.specs.Literals.{IsLiteralOver}
+use Rattle.consult_text.specs.Replies.{IsReplyTo}
 use Rattle.consult_text.specs.Texts.{reply_text}
 use Rattle.consult_text.specs.declared.commands.Command.{Command}
-use Rattle.consult_text.specs.declared.commands.Command.TheVariants as command
 use Rattle.consult_text.specs.declared.replies.Reply.{Reply}
 use Rattle.consult_text.specs.declared.replies.Reply.TheVariants as reply
 
@@ -24,30 +25,20 @@ pub record HasWordNames (kb : Base) : Type 0 where
   pub apart : IsDistinct (map (λ s. s.name) kb.vocabulary.symbols)
   pub elements : AllByRecursion (AllByRecursion CanBeWritten) kb.known.domains
 
--- a reply over the knowledge base: choices are literals over it, a model is a structure over its domains, and a budget
--- has 64 bits
+-- a structure over the knowledge base's domains
+abbrev pub IsStructureOver : Base → Structure → Type 0
+IsStructureOver kb m = IsStructure kb.vocabulary m × (m.domains ≡ kb.known.domains)
+
+-- a reply over the knowledge base: its literals and models are over it, and a budget has 64 bits
 abbrev pub IsReplyOver : Base → Reply → Type 0
 IsReplyOver kb reply.Fine = ⊤
 IsReplyOver kb (reply.Refused f) = ⊤
 IsReplyOver kb (reply.Choices ls) = AllByRecursion (IsLiteralOver kb) ls
-IsReplyOver kb (reply.Model m) = IsStructure kb.vocabulary m × (m.domains ≡ kb.known.domains)
+IsReplyOver kb (reply.Model m) = IsStructureOver kb m
+IsReplyOver kb (reply.Models ms all) = AllByRecursion (IsStructureOver kb) ms
+IsReplyOver kb (reply.Forced ls) = AllByRecursion (IsLiteralOver kb) ls
 IsReplyOver kb reply.Inconsistent = ⊤
 IsReplyOver kb (reply.Undecided k) = k < 2 ^ 64
-
--- the replies that there are to a command: each may be refused, a change is answered by `ok`, and a query by what it
--- asks for
-abbrev pub IsReplyTo : Command → Reply → Type 0
-IsReplyTo c (reply.Refused f) = ⊤
-IsReplyTo (command.Assert l) reply.Fine = ⊤
-IsReplyTo (command.Retract l) reply.Fine = ⊤
-IsReplyTo command.Reset reply.Fine = ⊤
-IsReplyTo command.Choices (reply.Choices ls) = ⊤
-IsReplyTo command.Model (reply.Model m) = ⊤
-IsReplyTo command.Model reply.Inconsistent = ⊤
-IsReplyTo command.Model (reply.Undecided k) = ⊤
-IsReplyTo (command.Budget b) reply.Fine = ⊤
-IsReplyTo command.Forget reply.Fine = ⊤
-IsReplyTo _ _ = ⊥
 
 -- No two replies to one command have one text, and none has a text that begins that of another: where two texts with
 -- more bytes after them are equal, so are the replies, and so are the bytes after them.

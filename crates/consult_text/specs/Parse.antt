@@ -9,7 +9,7 @@ use Rattle.consult_text.specs.Written.{Tok, word, digits, sign, WrittenElem, Wri
 use Rattle.consult_text.specs.Written.{integer, atom, equation, put_elem, put_further, put_args, put_literal}
 use Rattle.consult_text.specs.Written.{put_command, equals, IsName, HasName, HasNames, IsWellFormed}
 use Rattle.consult_text.specs.Lines.{tok_of}
-use Rattle.consult_text.specs.Budgets.{IsBudget}
+use Rattle.consult_text.specs.Budgets.{most_models, IsUpTo, IsBudget}
 use Rattle.consult_text.specs.declared.written.ElemText.{ElemText}
 use Rattle.consult_text.specs.declared.written.ElemText.TheVariants as elem
 use Rattle.consult_text.specs.declared.written.Head.{Head}
@@ -37,6 +37,8 @@ command_view (command.Retract l) = written.retract (literal_view l)
 command_view command.Reset = written.reset
 command_view command.Choices = written.choices
 command_view command.Model = written.model
+command_view (command.Models text) = written.models text.now
+command_view command.Propagate = written.propagate
 command_view (command.Budget text) = written.budget text.now
 command_view command.Unlimited = written.unlimited
 command_view command.Forget = written.forget
@@ -132,17 +134,35 @@ abbrev pub ParsesLiteral : List Tok → Option LiteralText → Type 0
 ParsesLiteral ts None = (l : WrittenLiteral) → HasNames l → ts ≢ put_literal l dot
 ParsesLiteral ts (Some l) = (ts ≡ put_literal (literal_view l) dot) × HasNames (literal_view l)
 
+-- the tokens of a command about a literal
+abbrev pub ParsesAbout : List Tok → Option CommandText → Type 0
+ParsesAbout ts None = (l : WrittenLiteral) → HasNames l → (ts ≢ put_command (written.assert l))
+    × (ts ≢ put_command (written.retract l))
+ParsesAbout ts (Some c) = (ts ≡ put_command (command_view c)) × IsWellFormed (command_view c)
+
+-- the digits of a number from 1 to the limit, and the dot
+abbrev pub ParsesNumber : ℕ → List Tok → Option (Bor (List ℕ)) → Type 0
+ParsesNumber limit ts None = (text : List ℕ) → IsUpTo limit text → ts ≢ digits text ∷ dot
+ParsesNumber limit ts (Some text) = (ts ≡ digits text.now ∷ dot) × IsUpTo limit text.now
+
 -- the tokens after the word `budget`
 abbrev pub ParsesBudget : List Tok → Option CommandText → Type 0
 ParsesBudget ts None = ((text : List ℕ) → IsBudget text → ts ≢ digits text ∷ dot)
     × (ts ≢ word (codes "unlimited") ∷ dot)
 ParsesBudget ts (Some c) = (word (codes "budget") ∷ ts ≡ put_command (command_view c)) × IsWellFormed (command_view c)
 
+-- the tokens of a command with a number
+abbrev pub ParsesNumbered : List Tok → Option CommandText → Type 0
+ParsesNumbered ts None = ((text : List ℕ) → IsBudget text → ts ≢ put_command (written.budget text))
+    × (ts ≢ put_command written.unlimited)
+    × ((text : List ℕ) → IsUpTo most_models text → ts ≢ put_command (written.models text))
+ParsesNumbered ts (Some c) = (ts ≡ put_command (command_view c)) × IsWellFormed (command_view c)
+
 -- the tokens are those of a command of one word
 abbrev pub ParsesShort : List Tok → Option CommandText → Type 0
 ParsesShort ts None =
     (ts ≢ word (codes "reset") ∷ dot) × (ts ≢ word (codes "choices") ∷ dot) × (ts ≢ word (codes "model") ∷ dot)
-    × (ts ≢ word (codes "forget") ∷ dot)
+    × (ts ≢ word (codes "propagate") ∷ dot) × (ts ≢ word (codes "forget") ∷ dot)
 ParsesShort ts (Some c) = (ts ≡ put_command (command_view c)) × IsWellFormed (command_view c)
 
 -- the tokens are those of a command

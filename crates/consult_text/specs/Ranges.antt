@@ -1,9 +1,10 @@
--- Written integers whose values have 63 bits, as those of every line that has tokens.
-use Rattle.std.specs.Prelude.{◌≡◌, ℕ, List, ◌<◌, ◌^◌, Option, Some, None, Result, Ok, Err, ⊤}
+-- Written integers whose values have 63 bits, as those of every line that has tokens, and numbers of models.
+use Rattle.std.specs.Prelude.{◌≡◌, ℕ, List, ◌<◌, ◌≤◌, ◌^◌, Option, Some, None, Result, Ok, Err, ⊤}
 use Rattle.std.specs.List.{AllByRecursion}
 use Rattle.kb_logic.specs.declared.structures.Literal.{Literal}
 use Rattle.kb_logic.specs.Bases.{Base}
 use Rattle.kb_text.specs.Tokens.{decimal}
+use Rattle.consult_text.specs.Budgets.{most_models}
 use Rattle.consult_text.specs.Written as written
 use Rattle.consult_text.specs.Written.{WrittenElem, named, integer, WrittenLiteral, atom, equation, WrittenCommand}
 use Rattle.consult_text.specs.Lines.{StandsFor, IsRefusedFor, IsWritten, IsBlank, IsNoCommand, Asks, RefusesFor}
@@ -28,6 +29,8 @@ HasRanges (written.retract l) = HasRange l
 HasRanges written.reset = ⊤
 HasRanges written.choices = ⊤
 HasRanges written.model = ⊤
+HasRanges (written.models text) = decimal text ≤ most_models
+HasRanges written.propagate = ⊤
 HasRanges (written.budget text) = decimal text < 2 ^ 63
 HasRanges written.unlimited = ⊤
 HasRanges written.forget = ⊤

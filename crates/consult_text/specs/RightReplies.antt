@@ -1,7 +1,8 @@
 -- Which reply to a command is right.
-use Rattle.std.specs.Prelude.{◌≡◌, ◌<◌, Option, Some, None}
-use Rattle.kb_logic.specs.declared.structures.Structure.{Structure}
-use Rattle.kb_logic.specs.Bases.{Base, IsModelUnder}
+use Rattle.std.specs.Prelude.{◌≡◌, ◌<◌, Option, Some, None, ⊤}
+use Rattle.kb_logic.specs.Bases.{Base}
+use Rattle.kb_logic.specs.InForce.{InForce, IsModelOf, HasNoModel}
+use Rattle.kb_logic.specs.Answers.{AreModels, AreShown}
 use Rattle.consult_text.specs.declared.refusals.F.{F}
 use Rattle.consult_text.specs.declared.commands.Command.{Command}
 use Rattle.consult_text.specs.declared.commands.Command.TheVariants as command
@@ -9,24 +10,27 @@ use Rattle.consult_text.specs.declared.replies.Reply.{Reply}
 use Rattle.consult_text.specs.declared.replies.Reply.TheVariants as reply
 use Rattle.consult_text.specs.States.{State, command_refusal}
 use Rattle.consult_text.specs.Searches.{enough}
+use Rattle.consult_text.specs.Replies.{IsAnswerTo}
 
--- m is a model that extends the data and makes every choice of the state true
-abbrev pub ModelOfState : Base → State → Structure → Type 0
-ModelOfState kb s m = IsModelUnder kb s.choices m
+-- what a state holds in force
+abbrev pub in_force : State → InForce
+in_force s = record { choices = s.choices }
 
--- the reply to a command that is not refused; a query stays undecided only at the budget of the state, and never where
--- that is enough
+-- what the reply says is so; a query stays undecided only at the budget of the state, and never where that is enough
+abbrev pub IsSo : Base → State → Command → Reply → Type 0
+IsSo kb s c reply.Fine = ⊤
+IsSo kb s c (reply.Refused f) = ⊥
+IsSo kb s c (reply.Choices ls) = ls ≡ s.choices
+IsSo kb s c (reply.Model m) = IsModelOf kb (in_force s) m
+IsSo kb s (command.Models n) (reply.Models ms all) = AreModels kb (in_force s) n ms all
+IsSo kb s _ (reply.Models ms all) = ⊥
+IsSo kb s c (reply.Forced ls) = AreShown kb (in_force s) ls
+IsSo kb s c reply.Inconsistent = HasNoModel kb (in_force s)
+IsSo kb s c (reply.Undecided k) = (s.budget ≡ Some k) × (k < enough kb s c)
+
+-- the reply to a command that is not refused: one that there is to it, and what it says is so
 abbrev pub RightAnswer : Base → State → Command → Reply → Type 0
-RightAnswer kb s (command.Assert l) r = r ≡ reply.Fine
-RightAnswer kb s (command.Retract l) r = r ≡ reply.Fine
-RightAnswer kb s command.Reset r = r ≡ reply.Fine
-RightAnswer kb s command.Choices r = r ≡ reply.Choices s.choices
-RightAnswer kb s command.Model (reply.Model m) = ModelOfState kb s m
-RightAnswer kb s command.Model reply.Inconsistent = (m : Structure) → ModelOfState kb s m → ⊥
-RightAnswer kb s command.Model (reply.Undecided k) = (s.budget ≡ Some k) × (k < enough kb command.Model)
-RightAnswer kb s command.Model _ = ⊥
-RightAnswer kb s (command.Budget b) r = r ≡ reply.Fine
-RightAnswer kb s command.Forget r = r ≡ reply.Fine
+RightAnswer kb s c r = IsAnswerTo c r × IsSo kb s c r
 
 abbrev pub RightUnless : Option F → Base → State → Command → Reply → Type 0
 RightUnless (Some f) kb s c r = r ≡ reply.Refused f

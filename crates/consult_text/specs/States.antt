@@ -76,6 +76,8 @@ command_refusal kb s (command.Retract l) = refused_where (not (is_chosen s l)) r
 command_refusal kb s command.Reset = None
 command_refusal kb s command.Choices = None
 command_refusal kb s command.Model = None
+command_refusal kb s (command.Models n) = None
+command_refusal kb s command.Propagate = None
 command_refusal kb s (command.Budget b) = None
 command_refusal kb s command.Forget = None
 
@@ -90,6 +92,8 @@ carried_out s (command.Retract l) = record s { choices = without l s.choices }
 carried_out s command.Reset = record s { choices = [] }
 carried_out s command.Choices = s
 carried_out s command.Model = s
+carried_out s (command.Models n) = s
+carried_out s command.Propagate = s
 carried_out s (command.Budget b) = record s { budget = b }
 carried_out s command.Forget = s
 

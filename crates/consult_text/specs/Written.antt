@@ -2,7 +2,7 @@
 use Rattle.std.specs.Prelude.{◌≡◌, ℕ, List, [], ◌∷◌, Bool, true, false, codes, ⊤}
 use Rattle.std.specs.List.{AllByRecursion}
 use Rattle.kb_text.specs.Tokens.{is_word_of}
-use Rattle.consult_text.specs.Budgets.{IsBudget}
+use Rattle.consult_text.specs.Budgets.{most_models, IsUpTo, IsBudget}
 
 -- a token, without its place
 pub data Tok : Type 0 where
@@ -28,6 +28,8 @@ pub data WrittenCommand : Type 0 where
   reset : WrittenCommand
   choices : WrittenCommand
   model : WrittenCommand
+  models : (text : List ℕ) → WrittenCommand
+  propagate : WrittenCommand
   budget : (text : List ℕ) → WrittenCommand
   unlimited : WrittenCommand
   forget : WrittenCommand
@@ -67,6 +69,8 @@ put_command (retract l) = word (codes "retract") ∷ put_literal l (sign (codes 
 put_command reset = word (codes "reset") ∷ sign (codes ".") ∷ []
 put_command choices = word (codes "choices") ∷ sign (codes ".") ∷ []
 put_command model = word (codes "model") ∷ sign (codes ".") ∷ []
+put_command (models text) = word (codes "models") ∷ digits text ∷ sign (codes ".") ∷ []
+put_command propagate = word (codes "propagate") ∷ sign (codes ".") ∷ []
 put_command (budget text) = word (codes "budget") ∷ digits text ∷ sign (codes ".") ∷ []
 put_command unlimited = word (codes "budget") ∷ word (codes "unlimited") ∷ sign (codes ".") ∷ []
 put_command forget = word (codes "forget") ∷ sign (codes ".") ∷ []
@@ -95,6 +99,8 @@ IsWellFormed (retract l) = HasNames l
 IsWellFormed reset = ⊤
 IsWellFormed choices = ⊤
 IsWellFormed model = ⊤
+IsWellFormed (models text) = IsUpTo most_models text
+IsWellFormed propagate = ⊤
 IsWellFormed (budget text) = IsBudget text
 IsWellFormed unlimited = ⊤
 IsWellFormed forget = ⊤

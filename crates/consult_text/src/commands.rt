@@ -17,6 +17,10 @@ pub enum Command {
     Choices,
     /// Asks for a model that makes all choices true.
     Model,
+    /// Asks for different models, at most so many.
+    Models(u32),
+    /// Asks for the literals that are true in all models.
+    Propagate,
     /// Says how many conflicts each further query may meet; without a limit where there is no number.
     Budget(Option<u64>),
     /// Gives up what was learnt.
@@ -33,6 +37,8 @@ impl Command {
             Command::Reset => Ok(Command::Reset),
             Command::Choices => Ok(Command::Choices),
             Command::Model => Ok(Command::Model),
+            Command::Models(most) => Ok(Command::Models(*most)),
+            Command::Propagate => Ok(Command::Propagate),
             Command::Budget(budget) => Ok(Command::Budget(*budget)),
             Command::Forget => Ok(Command::Forget),
         }

@@ -61,6 +61,8 @@ fn meaning(
         CommandText::Reset => Ok(Command::Reset),
         CommandText::Choices => Ok(Command::Choices),
         CommandText::Model => Ok(Command::Model),
+        CommandText::Models(digits) => Ok(Command::Models(digits_value(digits) as u32)),
+        CommandText::Propagate => Ok(Command::Propagate),
         CommandText::Budget(digits) => Ok(Command::Budget(Some(digits_value(digits)))),
         CommandText::Unlimited => Ok(Command::Budget(None)),
         CommandText::Forget => Ok(Command::Forget),

@@ -1,5 +1,5 @@
 //! Reads the tokens of a line as a command.
-ghost use Rattle.std.specs.Prelude.{◌≡◌, ◌≢◌, ◌<◌, ◌∷◌, length, IfOk, IfSome, MatchBool, MatchOption};
+ghost use Rattle.std.specs.Prelude.{◌≡◌, ◌≢◌, ◌<◌, ◌^◌, ◌∷◌, length, IfOk, IfSome, MatchBool, MatchOption};
 ghost use Rattle.std.specs.List.{list_any};
 ghost use Rattle.std.specs.Str.{bytes_eq};
 ghost use Rattle.kb_text.specs.Tokens.{lexeme_of, is_word_of};
@@ -7,10 +7,11 @@ ghost use Rattle.consult_text.specs.Written.{word, sign, reserved_words};
 ghost use Rattle.consult_text.specs.Lines.{tok_of};
 ghost use Rattle.consult_text.specs.Parse.{toks, Behind, ParsesName, ParsesDigits, ParsesElem, ParsesFurther};
 ghost use Rattle.consult_text.specs.Parse.{ParsesArgs, HasNoArgs, ParsesHead, HasNoHead, ParsesEquality, ParsesLiteral};
-ghost use Rattle.consult_text.specs.Parse.{ParsesNegated, ParsesPositive, ParsesBudget, ParsesShort, ParsesCommand};
+ghost use Rattle.consult_text.specs.Parse.{ParsesNegated, ParsesPositive, ParsesAbout, ParsesNumber, ParsesBudget};
+ghost use Rattle.consult_text.specs.Parse.{ParsesNumbered, ParsesShort, ParsesCommand};
 ghost use Rattle.consult_text.specs.Parse.{literal_view, head_literal, dot, elem_views};
 
-use crate::digits::budget_of;
+use crate::digits::{MOST_BUDGET, MOST_MODELS, number_up_to};
 use crate::written::{CommandText, ElemText, Head, LiteralText};
 use kb_logic::Memory;
 use kb_text::{Kind, Token};
@@ -296,6 +297,19 @@ pub fn parse_command<'a>(
 ) -> Result<Option<CommandText<'a>>, Memory>
     ensures { IfOk result (λ found. ParsesCommand (toks tokens.now) found) }
 {
+    if let Some(command) = parse_about(alloc, tokens)? {
+        return Ok(Some(command));
+    }
+    match parse_numbered(tokens) {
+        Some(command) => Ok(Some(command)),
+        None => Ok(parse_short(tokens)),
+    }
+}
+
+/// A command about a literal.
+fn parse_about<'a>(alloc: Global, tokens: &[Token<'a>]) -> Result<Option<CommandText<'a>>, Memory>
+    ensures { IfOk result (λ found. ParsesAbout (toks tokens.now) found) }
+{
     if let Some(behind) = behind_word(b"assert", tokens) {
         return match parse_literal(alloc, behind)? {
             Some(literal) => Ok(Some(CommandText::Assert(literal))),
@@ -308,10 +322,32 @@ pub fn parse_command<'a>(
             None => Ok(None),
         };
     }
-    match behind_word(b"budget", tokens) {
-        Some(behind) => Ok(parse_budget(behind)),
-        None => Ok(parse_short(tokens)),
+    Ok(None)
+}
+
+/// The digits of a number from 1 to the limit, before the dot.
+fn parse_number<'a>(tokens: &[Token<'a>], limit: u64) -> Option<&'a [u8]>
+    requires { limit < 2 ^ 60 }
+    ensures { ParsesNumber limit (toks tokens.now) result }
+{
+    let (digits, rest) = parse_digits(tokens)?;
+    if is_dot(rest) && number_up_to(digits, limit).is_some() {
+        Some(digits)
+    } else {
+        None
     }
+}
+
+/// A command with a number after its word.
+fn parse_numbered<'a>(tokens: &[Token<'a>]) -> Option<CommandText<'a>>
+    ensures { ParsesNumbered (toks tokens.now) result }
+{
+    if let Some(behind) = behind_word(b"budget", tokens) {
+        return parse_budget(behind);
+    }
+    let behind = behind_word(b"models", tokens)?;
+    let digits = parse_number(behind, MOST_MODELS)?;
+    Some(CommandText::Models(digits))
 }
 
 /// The budget after its word.
@@ -321,12 +357,8 @@ fn parse_budget<'a>(tokens: &[Token<'a>]) -> Option<CommandText<'a>>
     if is_command_of(b"unlimited", tokens) {
         return Some(CommandText::Unlimited);
     }
-    let (digits, rest) = parse_digits(tokens)?;
-    if is_dot(rest) && budget_of(digits).is_some() {
-        Some(CommandText::Budget(digits))
-    } else {
-        None
-    }
+    let digits = parse_number(tokens, MOST_BUDGET)?;
+    Some(CommandText::Budget(digits))
 }
 
 /// A command of one word.
@@ -339,6 +371,8 @@ fn parse_short<'a>(tokens: &[Token<'_>]) -> Option<CommandText<'a>>
         Some(CommandText::Choices)
     } else if is_command_of(b"model", tokens) {
         Some(CommandText::Model)
+    } else if is_command_of(b"propagate", tokens) {
+        Some(CommandText::Propagate)
     } else if is_command_of(b"forget", tokens) {
         Some(CommandText::Forget)
     } else {

@@ -2,7 +2,7 @@
 ghost use Rattle.std.specs.Prelude.{◌≡◌, IfOk};
 
 use crate::refusals::F;
-use kb_logic::{LiteralList, Memory, Structure};
+use kb_logic::{ListOf, LiteralList, Memory, Structure};
 use std::alloc::Global;
 
 /// A reply to a command.
@@ -16,6 +16,10 @@ pub enum Reply {
     Choices(LiteralList),
     /// A model.
     Model(Structure),
+    /// Different models, and whether there are no others.
+    Models(ListOf<Structure>, bool),
+    /// The literals that are true in all models, but for those of known atoms and the choices.
+    Forced(LiteralList),
     /// There is no model.
     Inconsistent,
     /// The search met as many conflicts as its budget allows.
@@ -31,8 +35,23 @@ impl Reply {
             Reply::Refused(cause) => Ok(Reply::Refused(*cause)),
             Reply::Choices(choices) => Ok(Reply::Choices(choices.copy(alloc)?)),
             Reply::Model(m) => Ok(Reply::Model(m.copy(alloc)?)),
+            Reply::Models(models, all) => Ok(Reply::Models(
+                copy_models(alloc, models.as_slice())?,
+                *all,
+            )),
+            Reply::Forced(literals) => Ok(Reply::Forced(literals.copy(alloc)?)),
             Reply::Inconsistent => Ok(Reply::Inconsistent),
             Reply::Undecided(budget) => Ok(Reply::Undecided(*budget)),
         }
     }
+}
+
+fn copy_models(alloc: Global, models: &[Structure]) -> Result<ListOf<Structure>, Memory>
+    ensures { IfOk result (λ ms. ms ≡ models.now) }
+{
+    let mut copies = Vec::with_capacity(alloc, models.len())?;
+    for model in models {
+        copies.push(model.copy(alloc)?)?;
+    }
+    Ok(ListOf::from_vec(copies))
 }

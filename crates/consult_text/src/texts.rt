@@ -1,10 +1,9 @@
 //! The texts of replies.
-ghost use Rattle.std.specs.Prelude.{◌≡◌, ◌++◌, OnOk, OnErr, IfOk, codes, flat_map};
+ghost use Rattle.std.specs.Prelude.{◌≡◌, ◌++◌, OnOk, OnErr, IfOk, codes};
 ghost use Rattle.std.specs.Fmt.{decimal};
 ghost use Rattle.std.specs.String.{string_bytes};
 ghost use Rattle.consult_text.specs.Refusals.{text_of};
-ghost use Rattle.consult_text.specs.Texts.{choice_line, reply_text};
-ghost use Rattle.literal_printer.specs.Tables.{symbol_lines};
+ghost use Rattle.consult_text.specs.Texts.{end_line, labelled_lines, model_block, models_text, reply_text};
 
 use crate::refusals::F;
 use crate::replies::Reply;
@@ -40,8 +39,10 @@ fn push_reply(
     match reply {
         Reply::Fine => push_bytes(out, b"ok\n"),
         Reply::Refused(cause) => push_refusal(out, *cause),
-        Reply::Choices(choices) => push_choices(out, vocab, choices.as_slice()),
+        Reply::Choices(choices) => push_labelled(out, vocab, b"choice ", choices.as_slice()),
         Reply::Model(m) => push_model(out, vocab, m),
+        Reply::Models(models, all) => push_models(out, vocab, models.as_slice(), *all),
+        Reply::Forced(literals) => push_labelled(out, vocab, b"forced ", literals.as_slice()),
         Reply::Inconsistent => push_bytes(out, b"inconsistent\n"),
         Reply::Undecided(budget) => push_bytes(out, undecided_line(alloc, *budget)?.as_bytes()),
     }
@@ -63,12 +64,17 @@ fn push_refusal(out: &mut Vec<u8>, cause: F) -> Result<(), Memory>
     push_bytes(out, b"\n")
 }
 
-fn push_choices(out: &mut Vec<u8>, vocab: &Vocabulary, choices: &[Literal]) -> Result<(), Memory>
-    ensures { OnOk result (out.new.items ≡ out.old.items ++ (flat_map
-        (choice_line vocab.now) choices.now ++ codes "done\n")) }
+/// Appends a line for each literal, with the label before it, and `done`.
+fn push_labelled(
+    out: &mut Vec<u8>,
+    vocab: &Vocabulary,
+    label: &[u8],
+    literals: &[Literal],
+) -> Result<(), Memory>
+    ensures { OnOk result (out.new.items ≡ out.old.items ++ labelled_lines label.now vocab.now literals.now) }
 {
-    for literal in choices {
-        push_bytes(out, b"choice ")?;
+    for literal in literals {
+        push_bytes(out, label)?;
         push_literal(out, vocab, literal)?;
         push_bytes(out, b"\n")?;
     }
@@ -76,10 +82,31 @@ fn push_choices(out: &mut Vec<u8>, vocab: &Vocabulary, choices: &[Literal]) -> R
 }
 
 fn push_model(out: &mut Vec<u8>, vocab: &Vocabulary, m: &Structure) -> Result<(), Memory>
-    ensures { OnOk result (out.new.items ≡ out.old.items ++ (codes "model\n" ++
-        (symbol_lines vocab.now m.now ++ codes "done\n"))) }
+    ensures { OnOk result (out.new.items ≡ out.old.items ++ model_block vocab.now m.now) }
 {
     push_bytes(out, b"model\n")?;
     push_symbols(out, vocab, m)?;
     push_bytes(out, b"done\n")
+}
+
+/// Appends a block for each model, and whether there are no others.
+fn push_models(
+    out: &mut Vec<u8>,
+    vocab: &Vocabulary,
+    models: &[Structure],
+    all: bool,
+) -> Result<(), Memory>
+    ensures { OnOk result (out.new.items ≡ out.old.items ++ models_text vocab.now models.now all) }
+{
+    for m in models {
+        push_model(out, vocab, m)?;
+    }
+    push_bytes(out, end(all))
+}
+
+/// The last line after models.
+fn end(all: bool) -> &'static [u8]
+    ensures { result.now ≡ end_line all }
+{
+    if all { b"complete\n" } else { b"more\n" }
 }

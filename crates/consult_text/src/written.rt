@@ -31,6 +31,9 @@ pub enum CommandText<'a> {
     Reset,
     Choices,
     Model,
+    /// The digits of the number of models.
+    Models(&'a [u8]),
+    Propagate,
     /// The digits of the budget.
     Budget(&'a [u8]),
     Unlimited,

@@ -1,4 +1,4 @@
--- The texts of choices.
+-- The texts of lists of literals.
 use Rattle.std.proofs.Common.{◌≡◌, ◌≢◌, ℕ, zero, suc, ◌<◌, List, [], ◌∷◌, ◌++◌, map, flat_map, length, get_or, Bool}
 use Rattle.std.proofs.Common.{true, false, Option, Some, None, refl, sym, ap, ◌∙◌, subst, codes, append_assoc, arith}
 use Rattle.std.specs.List.{AllByRecursion, slice_get, Contains}
@@ -15,10 +15,10 @@ use Rattle.kb_text.specs.Bytes.{class_of}
 use Rattle.kb_text.specs.Pieces.{IsPiece, WordText}
 use Rattle.consult_text.specs.Literals.{IsLiteralOver}
 use Rattle.literal_printer.specs.Texts.{elem_text, row_text, args_text, negation_text, equality_text, valued_text}
-use Rattle.consult_text.specs.Texts.{choice_line}
+use Rattle.consult_text.specs.Texts.{labelled_line, labelled_lines}
 use Rattle.consult_text.specs.OneText.{CanBeWritten, HasWordNames}
 use Rattle.consult_text.proofs.InnerBytes.{Stopped, word_inner, elem_inner, elem_text_same, split_same}
-use Rattle.consult_text.proofs.RowTexts.{byte_above, rest_same, stop_at, row_same}
+use Rattle.consult_text.proofs.RowTexts.{byte_above, byte_same, rest_same, stop_at, row_same}
 
 all_at : {X : Type 0} (P : X → Type 0) (xs : List X) (n : ℕ) (x : X) → AllByRecursion P xs
     → slice_get xs n ≡ Some x → P x
@@ -86,8 +86,8 @@ mixed : (domains : List (List Elem)) (ty : Option ℕ) (x : Elem) → HasValueIn
 mixed domains None x h k = k
 mixed domains (Some ty) x h k = h
 
--- what a choice of the knowledge base is
-record Choice (kb : Base) (l : Literal) : Type 0 where
+-- a literal over the knowledge base, with its symbol
+record Found (kb : Base) (l : Literal) : Type 0 where
   pub symbol : Symbol
   pub at : slice_get kb.vocabulary.symbols l.symbol ≡ Some symbol
   pub word : IsPiece WordText symbol.name
@@ -95,8 +95,8 @@ record Choice (kb : Base) (l : Literal) : Type 0 where
   pub value : HasValueIn kb.known.domains symbol.value l.value
   pub written : IsWritten l.value
 
-choice_of : (kb : Base) (l : Literal) → HasWordNames kb → IsLiteralOver kb l → Choice kb l
-choice_of kb l names h = record {
+found_of : (kb : Base) (l : Literal) → HasWordNames kb → IsLiteralOver kb l → Found kb l
+found_of kb l names h = record {
   symbol = h.symbol;
   at = h.declared;
   word = all_at (λ s. IsPiece WordText s.name) kb.vocabulary.symbols l.symbol h.symbol names.words h.declared;
@@ -204,21 +204,21 @@ ends_equation : (p : Bool) (x : Elem) (r : List ℕ) → Ends ((equality_text p 
 ends_equation true x r = ends_blank _
 ends_equation false x r = ends_blank _
 
--- the literal's text after the word `choice`
+-- the literal's text after the label
 abbrev shown : Literal → List ℕ → Option Elem → List ℕ
 shown l name None = negation_text l.positive ++ (name ++ args_text l.args)
 shown l name (Some x) = (name ++ args_text l.args) ++ (equality_text l.positive ++ elem_text x)
 
-valued_is : (kb : Base) (l : Literal) (c : Choice kb l) (o : Option Elem)
+valued_is : (kb : Base) (l : Literal) (c : Found kb l) (o : Option Elem)
     → valued_text kb.vocabulary l o ≡ shown l c.symbol.name o
 valued_is kb l c None = rw c.at refl
 valued_is kb l c (Some x) = rw c.at refl
 
-line_is : (kb : Base) (l : Literal) (c : Choice kb l)
-    → choice_line kb.vocabulary l ≡ codes "choice " ++ (shown l c.symbol.name l.value ++ codes "\n")
-line_is kb l c = ap (λ (t : List ℕ). codes "choice " ++ (t ++ codes "\n")) (valued_is kb l c l.value)
+line_is : (label : List ℕ) (kb : Base) (l : Literal) (c : Found kb l)
+    → labelled_line label kb.vocabulary l ≡ label ++ (shown l c.symbol.name l.value ++ codes "\n")
+line_is label kb l c = ap (λ (t : List ℕ). label ++ (t ++ codes "\n")) (valued_is kb l c l.value)
 
-module _ (kb : Base) (names : HasWordNames kb) (l k : Literal) (c : Choice kb l) (d : Choice kb k) where
+module _ (kb : Base) (names : HasWordNames kb) (l k : Literal) (c : Found kb l) (d : Found kb k) where
   one_symbol : c.symbol.name ≡ d.symbol.name → l.symbol ≡ k.symbol
   one_symbol e = same_number kb.vocabulary.symbols l.symbol k.symbol c.symbol d.symbol names.apart c.at d.at e
 
@@ -286,38 +286,52 @@ module _ (kb : Base) (names : HasWordNames kb) (l k : Literal) (c : Choice kb l)
           (sym (append_assoc (c.symbol.name ++ args_text l.args) (equality_text l.positive ++ elem_text x) (line_end r))
           ∙ e)
 
-literal_same : (kb : Base) (l k : Literal) (r s : List ℕ) → HasWordNames kb → Choice kb l → Choice kb k
-    → choice_line kb.vocabulary l ++ r ≡ choice_line kb.vocabulary k ++ s → (l ≡ k) × (r ≡ s)
-literal_same kb l k r s names c d q =
+literal_same : (label : List ℕ) (kb : Base) (l k : Literal) (r s : List ℕ) → HasWordNames kb → Found kb l
+    → Found kb k → labelled_line label kb.vocabulary l ++ r ≡ labelled_line label kb.vocabulary k ++ s
+    → (l ≡ k) × (r ≡ s)
+literal_same label kb l k r s names c d q =
     let first = shown l c.symbol.name l.value in
     let second = shown k d.symbol.name k.value in
-    let left : choice_line kb.vocabulary l ++ r ≡ codes "choice " ++ (first ++ line_end r) =
-    ap (λ (t : List ℕ). t ++ r) (line_is kb l c)
-    ∙ ap (λ (t : List ℕ). codes "choice " ++ t) (append_assoc first (codes "\n") r) in
-    let right : choice_line kb.vocabulary k ++ s ≡ codes "choice " ++ (second ++ line_end s) =
-    ap (λ (t : List ℕ). t ++ s) (line_is kb k d)
-    ∙ ap (λ (t : List ℕ). codes "choice " ++ t) (append_assoc second (codes "\n") s) in
-    let tails = append_cancel_left (codes "choice ") (first ++ line_end r) (second ++ line_end s) (sym left
-    ∙ (q ∙ right)) in
+    let left : labelled_line label kb.vocabulary l ++ r ≡ label ++ (first ++ line_end r) =
+    ap (λ (t : List ℕ). t ++ r) (line_is label kb l c)
+    ∙ (append_assoc label (first ++ codes "\n") r
+    ∙ ap (λ (t : List ℕ). label ++ t) (append_assoc first (codes "\n") r)) in
+    let right : labelled_line label kb.vocabulary k ++ s ≡ label ++ (second ++ line_end s) =
+    ap (λ (t : List ℕ). t ++ s) (line_is label kb k d)
+    ∙ (append_assoc label (second ++ codes "\n") s
+    ∙ ap (λ (t : List ℕ). label ++ t) (append_assoc second (codes "\n") s)) in
+    let tails = append_cancel_left label (first ++ line_end r) (second ++ line_end s) (sym left ∙ (q ∙ right)) in
     kinds_same kb names l k c d l.value k.value refl refl c.written d.written r s tails
 
-pub choices_same : (kb : Base) (ls ks : List Literal) → HasWordNames kb → AllByRecursion (IsLiteralOver kb) ls
-    → AllByRecursion (IsLiteralOver kb) ks → (a b : List ℕ)
-    → flat_map (choice_line kb.vocabulary) ls ++ (codes "done\n" ++ a) ≡ flat_map (choice_line kb.vocabulary) ks
-    ++ (codes "done\n" ++ b) → (ls ≡ ks) × (a ≡ b)
-choices_same kb [] [] names all all' a b q = (refl, append_cancel_left (codes "done\n") a b q)
-choices_same kb [] (k ∷ ks) names all all' a b q = absurd (byte_above 100 99 (omega arith) q)
-choices_same kb (l ∷ ls) [] names all all' a b q = absurd (byte_above 100 99 (omega arith) (sym q))
-choices_same kb (l ∷ ls) (k ∷ ks) names all all' a b q =
-    let tails : choice_line kb.vocabulary l ++ (flat_map (choice_line kb.vocabulary) ls ++ (codes "done\n" ++ a))
-    ≡ choice_line kb.vocabulary k ++ (flat_map (choice_line kb.vocabulary) ks ++ (codes "done\n" ++ b)) =
-    sym (append_assoc (choice_line kb.vocabulary l) (flat_map (choice_line kb.vocabulary) ls) (codes "done\n" ++ a))
-    ∙ (q ∙ append_assoc (choice_line kb.vocabulary k) (flat_map (choice_line kb.vocabulary) ks)
-    (codes "done\n" ++ b)) in
-    let cut = literal_same kb l k (flat_map (choice_line kb.vocabulary) ls ++ (codes "done\n" ++ a))
-    (flat_map (choice_line kb.vocabulary) ks ++ (codes "done\n" ++ b)) names (choice_of kb l names all.0)
-    (choice_of kb k names all'.0) tails in
-    let one = cut.0 in
-    let more = choices_same kb ls ks names all.1 all'.1 a b cut.1 in
-    let others = more.0 in
-    (cc, more.1)
+-- lines of one label, whose first byte is not that of `done`
+module _ (byte : ℕ) (rest : List ℕ) (other : 100 ≢ byte) (kb : Base) (names : HasWordNames kb) where
+  abbrev line : Literal → List ℕ
+  line l = labelled_line (byte ∷ rest) kb.vocabulary l
+
+  lines_same : (ls ks : List Literal) → AllByRecursion (IsLiteralOver kb) ls → AllByRecursion (IsLiteralOver kb) ks
+      → (a b : List ℕ) → flat_map line ls ++ (codes "done\n" ++ a) ≡ flat_map line ks ++ (codes "done\n" ++ b)
+      → (ls ≡ ks) × (a ≡ b)
+  lines_same [] [] all all' a b q = (refl, append_cancel_left (codes "done\n") a b q)
+  lines_same [] (k ∷ ks) all all' a b q = absurd (other (byte_same q))
+  lines_same (l ∷ ls) [] all all' a b q = absurd (other (sym (byte_same q)))
+  lines_same (l ∷ ls) (k ∷ ks) all all' a b q =
+      let tails : line l ++ (flat_map line ls ++ (codes "done\n" ++ a)) ≡ line k
+      ++ (flat_map line ks ++ (codes "done\n" ++ b)) =
+      sym (append_assoc (line l) (flat_map line ls) (codes "done\n" ++ a))
+      ∙ (q ∙ append_assoc (line k) (flat_map line ks) (codes "done\n" ++ b)) in
+      let cut = literal_same (byte ∷ rest) kb l k (flat_map line ls ++ (codes "done\n" ++ a))
+      (flat_map line ks ++ (codes "done\n" ++ b)) names (found_of kb l names all.0)
+      (found_of kb k names all'.0) tails in
+      let one = cut.0 in
+      let more = lines_same ls ks all.1 all'.1 a b cut.1 in
+      let others = more.0 in
+      (cc, more.1)
+
+  pub labelled_same : (ls ks : List Literal) (a b : List ℕ) → AllByRecursion (IsLiteralOver kb) ls
+      → AllByRecursion (IsLiteralOver kb) ks
+      → labelled_lines (byte ∷ rest) kb.vocabulary ls ++ a ≡ labelled_lines (byte ∷ rest) kb.vocabulary ks ++ b
+      → (ls ≡ ks) × (a ≡ b)
+  labelled_same ls ks a b all all' q =
+      lines_same ls ks all all' a b
+      (sym (append_assoc (flat_map line ls) (codes "done\n") a)
+      ∙ (q ∙ append_assoc (flat_map line ks) (codes "done\n") b))

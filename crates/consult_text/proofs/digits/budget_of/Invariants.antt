@@ -1,8 +1,0 @@
-use Rattle.std.proofs.Common.{◌≡◌, ◌≤◌, take}
-use Rattle.kb_text.specs.Tokens.{decimal}
-use Rattle.consult_text.specs.Budgets.{most_budget}
-use Rattle.consult_text.proofs.digits.budget_of.Given as goal
-
-abbrev pub invariant-loop-digit : goal.invariant-loop-digit
-invariant-loop-digit l =
-    record { value : l.value ≡ decimal (take l.digit-index l.digits); most : l.value ≤ most_budget }
