@@ -1,5 +1,5 @@
 //! The task of a session, and what its queries find.
-ghost use Rattle.std.specs.Prelude.{◌≡◌, [], IfOk};
+ghost use Rattle.std.specs.Prelude.{◌≡◌, ◌≤◌, [], IfOk};
 ghost use Rattle.kb_logic.specs.Bases.{Base};
 ghost use Rattle.consult_text.specs.declared.commands.Command.TheVariants as command;
 ghost use Rattle.clause_learning.specs.SolverState.{forgotten};
@@ -92,6 +92,28 @@ pub fn model<C: Choose + Drop>(
     match task.ask(alloc, choices, &mut budget) {
         Ok(Answer::Model(m)) => Ok(Reply::Model(m)),
         Ok(Answer::NoModel(_)) => Ok(Reply::Inconsistent),
+        Err(halt) => halted(halt, &budget),
+    }
+}
+
+/// The reply to `models`: different models that make every choice true, at most so many.
+pub fn models<C: Choose + Drop>(
+    alloc: Global,
+    task: &mut Task<Solver<C>>,
+    choices: &[Literal],
+    limit: Option<u64>,
+    most: u32,
+) -> Result<Reply, Memory>
+    requires task { IsTask task.old.numbers task.old.solver.kept.problem }
+    requires choices { AreOver task.old.numbers choices.now }
+    requires most { 1 ≤ most }
+    ensures { QueryEnds (command.Models most) choices.now limit task.old.numbers task.new.numbers
+        task.old.solver.kept task.new.solver.kept result }
+{
+    let mut budget = begin(task, limit);
+    match task_queries::models(alloc, task, choices, most, &mut budget) {
+        Ok(Some(models)) => Ok(Reply::Models(models.list, models.all)),
+        Ok(None) => Ok(Reply::Inconsistent),
         Err(halt) => halted(halt, &budget),
     }
 }

@@ -1,5 +1,5 @@
 //! Sessions over a knowledge base.
-ghost use Rattle.std.specs.Prelude.{◌≡◌, IfOk, OnOk, OnErr};
+ghost use Rattle.std.specs.Prelude.{◌≡◌, ◌≤◌, [], IfOk, OnOk, OnErr};
 ghost use Rattle.consult_text.specs.declared.commands.Command.TheVariants as command;
 ghost use Rattle.consultant_session.specs.Queries.{Searches};
 ghost use Rattle.consultant_session.specs.Sessions.{IsJustOpened, TakesMemory};
@@ -10,7 +10,7 @@ ghost use Rattle.consult_text.specs.RightReplies.{RightReply};
 ghost use Rattle.consult_text.specs.States.{state_after};
 
 use crate::literals::{is_among, is_known, remove};
-use crate::queries::{model, task_of};
+use crate::queries::{model, models, task_of};
 use chooser::Choose;
 use clause_learning::Solver;
 use consult_base::KnowledgeBase;
@@ -21,17 +21,23 @@ use std::alloc::Global;
 use std::marker::Model;
 use std::mem;
 
+/// What queries add to the solver's problem stays in it: after so many additions the task is opened anew.
+const MOST_ADDITIONS: u64 = 1_000;
+
 /// A session over a knowledge base. Its solver, which decides by the rule, is kept from one query to the next.
 #[derive(Drop)]
-pub struct Session<C: Choose + Drop> {
+pub struct Session<C: Choose + Copy + Drop> {
     alloc: Global,
     kb: KnowledgeBase,
+    rule: C,
     task: Task<Solver<C>>,
+    /// How many bounds and exclusions the task may hold.
+    added: u64,
     choices: LiteralList,
     budget: Option<u64>,
 }
 
-impl<C: Choose + Drop> Model for Session<C> {
+impl<C: Choose + Copy + Drop> Model for Session<C> {
     ghost use Rattle.std.specs.Coded.{codes};
     ghost use Rattle.type_derivation.specs.contracts.typed.TypedKb as typed_kb;
     ghost use Rattle.consultant_session.specs.Sessions.{SessionState, IsSession};
@@ -49,7 +55,7 @@ impl<C: Choose + Drop> Model for Session<C> {
     ghost invariant = { λ s. IsSession s.kb s.choices s.task.numbers s.task.solver.kept };
 }
 
-impl<C: Choose + Drop> Session<C> {
+impl<C: Choose + Copy + Drop> Session<C> {
     /// A session without choices, with this budget: how many conflicts a query may meet, without a limit where there is
     /// no number. Its solver decides by the rule.
     pub fn open(
@@ -64,7 +70,9 @@ impl<C: Choose + Drop> Session<C> {
         Ok(Session {
             alloc,
             kb,
+            rule,
             task,
+            added: 0,
             choices: LiteralList::new(alloc),
             budget,
         })
@@ -116,6 +124,8 @@ impl<C: Choose + Drop> Session<C> {
                 self.choices.as_slice(),
                 self.budget,
             ),
+            Command::Models(most) => self.models(*most),
+            Command::Propagate => Ok(Reply::Fine),
             Command::Budget(budget) => {
                 self.budget = *budget;
                 Ok(Reply::Fine)
@@ -161,5 +171,40 @@ impl<C: Choose + Drop> Session<C> {
         remove(&mut choices, literal);
         self.choices = LiteralList::from_vec(choices);
         Reply::Fine
+    }
+
+    /// Gives up what was learnt, and opens the task anew where much was added to its problem, as `more` soon will.
+    fn renew(&mut self, more: u32) -> Result<(), Memory>
+        ensures kb { self.new.kb ≡ self.old.kb }
+        ensures state { self.new.state ≡ self.old.state }
+        ensures learnt { self.new.solver.learnt ≡ [] }
+    {
+        self.task.forget();
+        if self.added > MOST_ADDITIONS {
+            self.task = task_of(self.alloc, &self.kb, self.rule)?;
+            self.added = 0;
+        }
+        self.added = self.added.saturating_add(more as u64);
+        Ok(())
+    }
+
+    /// The reply to `models`.
+    fn models(&mut self, most: u32) -> Result<Reply, Memory>
+        requires { 1 ≤ most }
+        ensures right { IfOk result (λ reply. RightReply (base_of self.old.kb) self.old.state (command.Models most)
+            reply) }
+        ensures kb { self.new.kb ≡ self.old.kb }
+        ensures state { self.new.state ≡ self.old.state }
+        ensures searches { Searches (base_of self.old.kb) (command.Models most) self.old.state.budget result
+            self.old.solver self.new.solver }
+    {
+        self.renew(most)?;
+        models(
+            self.alloc,
+            &mut self.task,
+            self.choices.as_slice(),
+            self.budget,
+            most,
+        )
     }
 }
