@@ -96,6 +96,8 @@ word_of written.choices = codes "choices"
 word_of written.model = codes "model"
 word_of (written.models t) = codes "models"
 word_of written.propagate = codes "propagate"
+word_of (written.explain l) = codes "explain"
+word_of written.why = codes "why"
 word_of (written.budget t) = codes "budget"
 word_of written.unlimited = codes "budget"
 word_of written.forget = codes "forget"
@@ -111,6 +113,9 @@ command_same written.choices written.choices q = refl
 command_same written.model written.model q = refl
 command_same (written.models t) (written.models t') q = cc
 command_same written.propagate written.propagate q = refl
+command_same (written.explain l) (written.explain l') q =
+    ap (λ (x : WrittenLiteral). written.explain x) (literal_same l l' (behind_same q))
+command_same written.why written.why q = refl
 command_same (written.budget t) (written.budget t') q = cc
 command_same (written.budget t) written.unlimited q = absurd (no_digits_word (behind_same q))
 command_same written.unlimited (written.budget t') q = absurd (no_digits_word (sym (behind_same q)))
@@ -212,6 +217,9 @@ asks_same kb written.model command.Model command.Model h h' = refl
 asks_same kb (written.models t) (command.Models n) (command.Models n') h h' =
     ap (λ (x : ℕ). command.Models x) (h ∙ sym h')
 asks_same kb written.propagate command.Propagate command.Propagate h h' = refl
+asks_same kb (written.explain w) (command.Explain l) (command.Explain l') h h' =
+    ap (λ (x : Literal). command.Explain x) (literal_of_line kb w l l' h h')
+asks_same kb written.why command.Why command.Why h h' = refl
 asks_same kb (written.budget t) (command.Budget b) (command.Budget b') h h' =
     ap (λ (x : Option ℕ). command.Budget x) (h ∙ sym h')
 asks_same kb written.unlimited (command.Budget b) (command.Budget b') h h' =
@@ -224,6 +232,8 @@ asks_same kb written.choices command.Choices d h h' = absurd h'
 asks_same kb written.model command.Model d h h' = absurd h'
 asks_same kb (written.models t) (command.Models n) d h h' = absurd h'
 asks_same kb written.propagate command.Propagate d h h' = absurd h'
+asks_same kb (written.explain w) (command.Explain l) d h h' = absurd h'
+asks_same kb written.why command.Why d h h' = absurd h'
 asks_same kb (written.budget t) (command.Budget b) d h h' = absurd h'
 asks_same kb written.unlimited (command.Budget b) d h h' = absurd h'
 asks_same kb written.forget command.Forget d h h' = absurd h'
@@ -232,13 +242,16 @@ asks_same kb w c d h h' = absurd h
 no_refusal : (kb : Base) (w : WrittenCommand) (c : Command) (f : F) → Asks kb w c → RefusesFor kb w f → ⊥
 no_refusal kb (written.assert w) (command.Assert l) f h r = no_cause kb w l f h (cause_of kb w f r)
 no_refusal kb (written.retract w) (command.Retract l) f h r = no_cause kb w l f h (cause_of kb w f r)
+no_refusal kb (written.explain w) (command.Explain l) f h r = no_cause kb w l f h (cause_of kb w f r)
 no_refusal kb (written.assert w) c f h r = h
 no_refusal kb (written.retract w) c f h r = h
+no_refusal kb (written.explain w) c f h r = h
 no_refusal kb w c f h r = r
 
 refuses_same : (kb : Base) (w : WrittenCommand) (f g : F) → RefusesFor kb w f → RefusesFor kb w g → f ≡ g
 refuses_same kb (written.assert w) f g h h' = cause_same kb w f g (cause_of kb w f h) (cause_of kb w g h')
 refuses_same kb (written.retract w) f g h h' = cause_same kb w f g (cause_of kb w f h) (cause_of kb w g h')
+refuses_same kb (written.explain w) f g h h' = cause_same kb w f g (cause_of kb w f h) (cause_of kb w g h')
 refuses_same kb w f g h h' = absurd h
 
 -- a refused line is no command, or has one whose literal is refused
@@ -286,11 +299,13 @@ one_meaning kb line one (Err f) (Err g) h h' =
 over_by : (kb : Base) (w : WrittenCommand) (c : Command) → IsWellFormed w → Asks kb w c → IsCommandOver kb c
 over_by kb (written.assert w) (command.Assert l) k h = h.5
 over_by kb (written.retract w) (command.Retract l) k h = h.5
+over_by kb (written.explain w) (command.Explain l) k h = h.5
 over_by kb (written.models t) (command.Models n) k h = (omega (arith, k.least, h), omega (arith, k.most, h))
 over_by kb w command.Reset k h = tt
 over_by kb w command.Choices k h = tt
 over_by kb w command.Model k h = tt
 over_by kb w command.Propagate k h = tt
+over_by kb w command.Why k h = tt
 over_by kb w (command.Budget b) k h = tt
 over_by kb w command.Forget k h = tt
 over_by kb w c k h = absurd h

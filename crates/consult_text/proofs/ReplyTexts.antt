@@ -83,6 +83,10 @@ letters (reply.Choices ls) = (99, 100)
 letters (reply.Model m) = (109, 109)
 letters (reply.Models ms all) = (109, 99)
 letters (reply.Forced ls) = (102, 100)
+letters (reply.Supported ls) = (115, 100)
+letters reply.Free = (111, 111)
+letters (reply.Conflict ls) = (99, 100)
+letters reply.Consistent = (99, 99)
 letters reply.Inconsistent = (105, 105)
 letters (reply.Undecided k) = (117, 117)
 
@@ -98,6 +102,8 @@ first_letter vocab (reply.Models [] true) a b x q = inr (sym (byte_same q))
 first_letter vocab (reply.Models [] false) a b x q = inl (sym (byte_same q))
 first_letter vocab (reply.Models (m ∷ ms) all) a b x q = inl (sym (byte_same q))
 first_letter vocab (reply.Forced ls) a b x q = labelled_first 102 (codes "orced ") vocab ls a b x q
+first_letter vocab (reply.Supported ls) a b x q = labelled_first 115 (codes "upport ") vocab ls a b x q
+first_letter vocab (reply.Conflict ls) a b x q = labelled_first 99 (codes "onflict ") vocab ls a b x q
 first_letter vocab r a b x q = inl (sym (byte_same q))
 
 -- no text of a reply begins with any other byte
@@ -123,6 +129,10 @@ kind (reply.Choices ls) = 1
 kind (reply.Model m) = 2
 kind (reply.Models ms all) = 3
 kind (reply.Forced ls) = 4
+kind (reply.Supported ls) = 5
+kind reply.Free = 5
+kind (reply.Conflict ls) = 6
+kind reply.Consistent = 6
 kind _ = 0
 
 abbrev kind_of : Command → ℕ
@@ -130,6 +140,8 @@ kind_of command.Choices = 1
 kind_of command.Model = 2
 kind_of (command.Models n) = 3
 kind_of command.Propagate = 4
+kind_of (command.Explain l) = 5
+kind_of command.Why = 6
 kind_of _ = 0
 
 refusal_shared : (r : Reply) → IsRefusal r → IsShared r
@@ -149,6 +161,10 @@ answer_kind command.Choices (reply.Choices ls) h = inr refl
 answer_kind command.Model (reply.Model m) h = inr refl
 answer_kind (command.Models n) (reply.Models ms all) h = inr refl
 answer_kind command.Propagate (reply.Forced ls) h = inr refl
+answer_kind (command.Explain l) (reply.Supported ls) h = inr refl
+answer_kind (command.Explain l) reply.Free h = inr refl
+answer_kind command.Why (reply.Conflict ls) h = inr refl
+answer_kind command.Why reply.Consistent h = inr refl
 answer_kind c r h = absurd h
 
 reply_kind : (c : Command) (r : Reply) → IsReplyTo c r → IsShared r ⊎ (kind r ≡ kind_of c)
@@ -253,6 +269,16 @@ module _ (kb : Base) (names : HasWordNames kb) where
   undecided_same n s a b h k q =
       absurd (not_first kb.vocabulary s b _ 117 (λ e. omega (arith, e)) (λ e. omega (arith, e)) (sym q))
 
+  no_support : (ls : List Literal) (a b : List ℕ)
+      → labelled_lines (codes "support ") kb.vocabulary ls ++ a ≡ codes "open\n" ++ b → ⊥
+  no_support [] a b q = byte_above 111 100 (omega arith) (sym q)
+  no_support (l ∷ ls) a b q = byte_above 115 111 (omega arith) q
+
+  no_conflict : (ls : List Literal) (a b : List ℕ)
+      → labelled_lines (codes "conflict ") kb.vocabulary ls ++ a ≡ codes "consistent\n" ++ b → ⊥
+  no_conflict [] a b q = byte_above 100 99 (omega arith) q
+  no_conflict (l ∷ ls) a b q = byte_above 115 102 (omega arith) (sym (rest_same (rest_same (rest_same q))))
+
   turned : {r s : Reply} {a b : List ℕ} → (s ≡ r) × (b ≡ a) → (r ≡ s) × (a ≡ b)
   turned h = (sym h.0, sym h.1)
 
@@ -277,6 +303,18 @@ module _ (kb : Base) (names : HasWordNames kb) where
   same (reply.Forced ls) (reply.Forced ks) a b alike h k q =
       let cut = labelled_same 102 (codes "orced ") (λ e. omega (arith, e)) kb names ls ks a b h k q in
       (ap (λ (x : List Literal). reply.Forced x) cut.0, cut.1)
+  same (reply.Supported ls) (reply.Supported ks) a b alike h k q =
+      let cut = labelled_same 115 (codes "upport ") (λ e. omega (arith, e)) kb names ls ks a b h k q in
+      (ap (λ (x : List Literal). reply.Supported x) cut.0, cut.1)
+  same (reply.Supported ls) reply.Free a b alike h k q = absurd (no_support ls a b q)
+  same reply.Free (reply.Supported ls) a b alike h k q = absurd (no_support ls b a (sym q))
+  same reply.Free reply.Free a b alike h k q = (refl, append_cancel_left (codes "open\n") a b q)
+  same (reply.Conflict ls) (reply.Conflict ks) a b alike h k q =
+      let cut = labelled_same 99 (codes "onflict ") (λ e. omega (arith, e)) kb names ls ks a b h k q in
+      (ap (λ (x : List Literal). reply.Conflict x) cut.0, cut.1)
+  same (reply.Conflict ls) reply.Consistent a b alike h k q = absurd (no_conflict ls a b q)
+  same reply.Consistent (reply.Conflict ls) a b alike h k q = absurd (no_conflict ls b a (sym q))
+  same reply.Consistent reply.Consistent a b alike h k q = (refl, append_cancel_left (codes "consistent\n") a b q)
   same r s a b alike h k q = absurd (unlike (λ e. omega (arith, e)) alike)
 
 pub replies_same : NoTwoRepliesHaveOneText

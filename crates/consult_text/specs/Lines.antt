@@ -69,6 +69,8 @@ Asks kb written.choices command.Choices = ⊤
 Asks kb written.model command.Model = ⊤
 Asks kb (written.models text) (command.Models n) = n ≡ decimal text
 Asks kb written.propagate command.Propagate = ⊤
+Asks kb (written.explain w) (command.Explain l) = StandsFor kb w l
+Asks kb written.why command.Why = ⊤
 Asks kb (written.budget text) (command.Budget b) = b ≡ Some (decimal text)
 Asks kb written.unlimited (command.Budget b) = b ≡ None
 Asks kb written.forget command.Forget = ⊤
@@ -78,6 +80,7 @@ Asks kb _ _ = ⊥
 abbrev pub RefusesFor : Base → WrittenCommand → F → Type 0
 RefusesFor kb (written.assert w) f = IsRefusedFor kb w f
 RefusesFor kb (written.retract w) f = IsRefusedFor kb w f
+RefusesFor kb (written.explain w) f = IsRefusedFor kb w f
 RefusesFor kb _ f = ⊥
 
 -- the line has this command
@@ -98,6 +101,8 @@ IsCommandOver kb command.Choices = ⊤
 IsCommandOver kb command.Model = ⊤
 IsCommandOver kb (command.Models n) = (1 ≤ n) × (n ≤ most_models)
 IsCommandOver kb command.Propagate = ⊤
+IsCommandOver kb (command.Explain l) = IsLiteralOver kb l
+IsCommandOver kb command.Why = ⊤
 IsCommandOver kb (command.Budget b) = ⊤
 IsCommandOver kb command.Forget = ⊤
 

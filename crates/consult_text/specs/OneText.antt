@@ -37,6 +37,10 @@ IsReplyOver kb (reply.Choices ls) = AllByRecursion (IsLiteralOver kb) ls
 IsReplyOver kb (reply.Model m) = IsStructureOver kb m
 IsReplyOver kb (reply.Models ms all) = AllByRecursion (IsStructureOver kb) ms
 IsReplyOver kb (reply.Forced ls) = AllByRecursion (IsLiteralOver kb) ls
+IsReplyOver kb (reply.Supported ls) = AllByRecursion (IsLiteralOver kb) ls
+IsReplyOver kb reply.Free = ⊤
+IsReplyOver kb (reply.Conflict ls) = AllByRecursion (IsLiteralOver kb) ls
+IsReplyOver kb reply.Consistent = ⊤
 IsReplyOver kb reply.Inconsistent = ⊤
 IsReplyOver kb (reply.Undecided k) = k < 2 ^ 64
 

@@ -39,6 +39,8 @@ command_view command.Choices = written.choices
 command_view command.Model = written.model
 command_view (command.Models text) = written.models text.now
 command_view command.Propagate = written.propagate
+command_view (command.Explain l) = written.explain (literal_view l)
+command_view command.Why = written.why
 command_view (command.Budget text) = written.budget text.now
 command_view command.Unlimited = written.unlimited
 command_view command.Forget = written.forget
@@ -137,7 +139,7 @@ ParsesLiteral ts (Some l) = (ts ≡ put_literal (literal_view l) dot) × HasName
 -- the tokens of a command about a literal
 abbrev pub ParsesAbout : List Tok → Option CommandText → Type 0
 ParsesAbout ts None = (l : WrittenLiteral) → HasNames l → (ts ≢ put_command (written.assert l))
-    × (ts ≢ put_command (written.retract l))
+    × (ts ≢ put_command (written.retract l)) × (ts ≢ put_command (written.explain l))
 ParsesAbout ts (Some c) = (ts ≡ put_command (command_view c)) × IsWellFormed (command_view c)
 
 -- the digits of a number from 1 to the limit, and the dot
@@ -162,7 +164,7 @@ ParsesNumbered ts (Some c) = (ts ≡ put_command (command_view c)) × IsWellForm
 abbrev pub ParsesShort : List Tok → Option CommandText → Type 0
 ParsesShort ts None =
     (ts ≢ word (codes "reset") ∷ dot) × (ts ≢ word (codes "choices") ∷ dot) × (ts ≢ word (codes "model") ∷ dot)
-    × (ts ≢ word (codes "propagate") ∷ dot) × (ts ≢ word (codes "forget") ∷ dot)
+    × (ts ≢ word (codes "propagate") ∷ dot) × (ts ≢ word (codes "why") ∷ dot) × (ts ≢ word (codes "forget") ∷ dot)
 ParsesShort ts (Some c) = (ts ≡ put_command (command_view c)) × IsWellFormed (command_view c)
 
 -- the tokens are those of a command

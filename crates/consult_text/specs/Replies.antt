@@ -19,17 +19,28 @@ abbrev pub IsQuery : Command → Type 0
 IsQuery command.Model = ⊤
 IsQuery (command.Models n) = ⊤
 IsQuery command.Propagate = ⊤
+IsQuery (command.Explain l) = ⊤
+IsQuery command.Why = ⊤
 IsQuery _ = ⊥
+
+-- it is a query that has an answer of its own only where there is a model
+abbrev pub NeedsModel : Command → Type 0
+NeedsModel command.Why = ⊥
+NeedsModel c = IsQuery c
 
 -- the replies to a command that is not refused: a change is answered by `ok`, and the others by what they ask for
 abbrev pub IsAnswerTo : Command → Reply → Type 0
 IsAnswerTo c reply.Fine = IsChange c
-IsAnswerTo c reply.Inconsistent = IsQuery c
+IsAnswerTo c reply.Inconsistent = NeedsModel c
 IsAnswerTo c (reply.Undecided k) = IsQuery c
 IsAnswerTo command.Choices (reply.Choices ls) = ⊤
 IsAnswerTo command.Model (reply.Model m) = ⊤
 IsAnswerTo (command.Models n) (reply.Models ms all) = ⊤
 IsAnswerTo command.Propagate (reply.Forced ls) = ⊤
+IsAnswerTo (command.Explain l) (reply.Supported ls) = ⊤
+IsAnswerTo (command.Explain l) reply.Free = ⊤
+IsAnswerTo command.Why (reply.Conflict ls) = ⊤
+IsAnswerTo command.Why reply.Consistent = ⊤
 IsAnswerTo _ _ = ⊥
 
 -- it says that a command is refused

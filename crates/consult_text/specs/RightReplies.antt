@@ -1,8 +1,8 @@
 -- Which reply to a command is right.
 use Rattle.std.specs.Prelude.{◌≡◌, ◌<◌, Option, Some, None, ⊤}
 use Rattle.kb_logic.specs.Bases.{Base}
-use Rattle.kb_logic.specs.InForce.{InForce, IsModelOf, HasNoModel}
-use Rattle.kb_logic.specs.Answers.{AreModels, AreShown}
+use Rattle.kb_logic.specs.InForce.{InForce, IsModelOf, HasModel, HasNoModel, LeavesFalse}
+use Rattle.kb_logic.specs.Answers.{AreModels, AreShown, IsSupport, IsConflict}
 use Rattle.consult_text.specs.declared.refusals.F.{F}
 use Rattle.consult_text.specs.declared.commands.Command.{Command}
 use Rattle.consult_text.specs.declared.commands.Command.TheVariants as command
@@ -25,6 +25,12 @@ IsSo kb s c (reply.Model m) = IsModelOf kb (in_force s) m
 IsSo kb s (command.Models n) (reply.Models ms all) = AreModels kb (in_force s) n ms all
 IsSo kb s _ (reply.Models ms all) = ⊥
 IsSo kb s c (reply.Forced ls) = AreShown kb (in_force s) ls
+IsSo kb s (command.Explain l) (reply.Supported ls) = IsSupport kb (in_force s) l (record { choices = ls })
+IsSo kb s _ (reply.Supported ls) = ⊥
+IsSo kb s (command.Explain l) reply.Free = LeavesFalse kb (in_force s) l
+IsSo kb s _ reply.Free = ⊥
+IsSo kb s c (reply.Conflict ls) = IsConflict kb (in_force s) (record { choices = ls })
+IsSo kb s c reply.Consistent = HasModel kb (in_force s)
 IsSo kb s c reply.Inconsistent = HasNoModel kb (in_force s)
 IsSo kb s c (reply.Undecided k) = (s.budget ≡ Some k) × (k < enough kb s c)
 

@@ -16,6 +16,8 @@ abbrev pub searches : Base → State → Command → ℕ
 searches kb s command.Model = 1
 searches kb s (command.Models n) = n + 1
 searches kb s command.Propagate = length (atoms_over kb.vocabulary.symbols kb.known.domains) + 1
+searches kb s (command.Explain l) = length s.choices + 2
+searches kb s command.Why = length s.choices + 2
 searches kb s _ = 0
 
 -- a budget of so many conflicts lets every search of the command come to its end

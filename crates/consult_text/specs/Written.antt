@@ -30,6 +30,8 @@ pub data WrittenCommand : Type 0 where
   model : WrittenCommand
   models : (text : List ℕ) → WrittenCommand
   propagate : WrittenCommand
+  explain : (literal : WrittenLiteral) → WrittenCommand
+  why : WrittenCommand
   budget : (text : List ℕ) → WrittenCommand
   unlimited : WrittenCommand
   forget : WrittenCommand
@@ -71,6 +73,8 @@ put_command choices = word (codes "choices") ∷ sign (codes ".") ∷ []
 put_command model = word (codes "model") ∷ sign (codes ".") ∷ []
 put_command (models text) = word (codes "models") ∷ digits text ∷ sign (codes ".") ∷ []
 put_command propagate = word (codes "propagate") ∷ sign (codes ".") ∷ []
+put_command (explain l) = word (codes "explain") ∷ put_literal l (sign (codes ".") ∷ [])
+put_command why = word (codes "why") ∷ sign (codes ".") ∷ []
 put_command (budget text) = word (codes "budget") ∷ digits text ∷ sign (codes ".") ∷ []
 put_command unlimited = word (codes "budget") ∷ word (codes "unlimited") ∷ sign (codes ".") ∷ []
 put_command forget = word (codes "forget") ∷ sign (codes ".") ∷ []
@@ -101,6 +105,8 @@ IsWellFormed choices = ⊤
 IsWellFormed model = ⊤
 IsWellFormed (models text) = IsUpTo most_models text
 IsWellFormed propagate = ⊤
+IsWellFormed (explain l) = HasNames l
+IsWellFormed why = ⊤
 IsWellFormed (budget text) = IsBudget text
 IsWellFormed unlimited = ⊤
 IsWellFormed forget = ⊤

@@ -21,6 +21,10 @@ pub enum Command {
     Models(u32),
     /// Asks for the literals that are true in all models.
     Propagate,
+    /// Asks which choices make the literal true in all models.
+    Explain(Literal),
+    /// Asks which choices admit no model.
+    Why,
     /// Says how many conflicts each further query may meet; without a limit where there is no number.
     Budget(Option<u64>),
     /// Gives up what was learnt.
@@ -39,6 +43,8 @@ impl Command {
             Command::Model => Ok(Command::Model),
             Command::Models(most) => Ok(Command::Models(*most)),
             Command::Propagate => Ok(Command::Propagate),
+            Command::Explain(literal) => Ok(Command::Explain(literal.copy(alloc)?)),
+            Command::Why => Ok(Command::Why),
             Command::Budget(budget) => Ok(Command::Budget(*budget)),
             Command::Forget => Ok(Command::Forget),
         }

@@ -63,6 +63,8 @@ fn meaning(
         CommandText::Model => Ok(Command::Model),
         CommandText::Models(digits) => Ok(Command::Models(digits_value(digits) as u32)),
         CommandText::Propagate => Ok(Command::Propagate),
+        CommandText::Explain(literal) => Ok(Command::Explain(look_up(alloc, kb, literal)?)),
+        CommandText::Why => Ok(Command::Why),
         CommandText::Budget(digits) => Ok(Command::Budget(Some(digits_value(digits)))),
         CommandText::Unlimited => Ok(Command::Budget(None)),
         CommandText::Forget => Ok(Command::Forget),

@@ -322,6 +322,12 @@ fn parse_about<'a>(alloc: Global, tokens: &[Token<'a>]) -> Result<Option<Command
             None => Ok(None),
         };
     }
+    if let Some(behind) = behind_word(b"explain", tokens) {
+        return match parse_literal(alloc, behind)? {
+            Some(literal) => Ok(Some(CommandText::Explain(literal))),
+            None => Ok(None),
+        };
+    }
     Ok(None)
 }
 
@@ -373,6 +379,8 @@ fn parse_short<'a>(tokens: &[Token<'_>]) -> Option<CommandText<'a>>
         Some(CommandText::Model)
     } else if is_command_of(b"propagate", tokens) {
         Some(CommandText::Propagate)
+    } else if is_command_of(b"why", tokens) {
+        Some(CommandText::Why)
     } else if is_command_of(b"forget", tokens) {
         Some(CommandText::Forget)
     } else {

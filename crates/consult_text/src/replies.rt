@@ -20,6 +20,14 @@ pub enum Reply {
     Models(ListOf<Structure>, bool),
     /// The literals that are true in all models, but for those of known atoms and the choices.
     Forced(LiteralList),
+    /// Choices that make the literal true in all models, none of which can be spared.
+    Supported(LiteralList),
+    /// The literal is false in some model.
+    Free,
+    /// Choices that admit no model, none of which can be spared.
+    Conflict(LiteralList),
+    /// There is a model.
+    Consistent,
     /// There is no model.
     Inconsistent,
     /// The search met as many conflicts as its budget allows.
@@ -40,6 +48,10 @@ impl Reply {
                 *all,
             )),
             Reply::Forced(literals) => Ok(Reply::Forced(literals.copy(alloc)?)),
+            Reply::Supported(choices) => Ok(Reply::Supported(choices.copy(alloc)?)),
+            Reply::Free => Ok(Reply::Free),
+            Reply::Conflict(choices) => Ok(Reply::Conflict(choices.copy(alloc)?)),
+            Reply::Consistent => Ok(Reply::Consistent),
             Reply::Inconsistent => Ok(Reply::Inconsistent),
             Reply::Undecided(budget) => Ok(Reply::Undecided(*budget)),
         }

@@ -43,6 +43,10 @@ fn push_reply(
         Reply::Model(m) => push_model(out, vocab, m),
         Reply::Models(models, all) => push_models(out, vocab, models.as_slice(), *all),
         Reply::Forced(literals) => push_labelled(out, vocab, b"forced ", literals.as_slice()),
+        Reply::Supported(choices) => push_labelled(out, vocab, b"support ", choices.as_slice()),
+        Reply::Free => push_bytes(out, b"open\n"),
+        Reply::Conflict(choices) => push_labelled(out, vocab, b"conflict ", choices.as_slice()),
+        Reply::Consistent => push_bytes(out, b"consistent\n"),
         Reply::Inconsistent => push_bytes(out, b"inconsistent\n"),
         Reply::Undecided(budget) => push_bytes(out, undecided_line(alloc, *budget)?.as_bytes()),
     }
