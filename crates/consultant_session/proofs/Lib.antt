@@ -5,4 +5,5 @@ pub mod ChoiceLemmas
 pub mod KnownLemmas
 pub mod SolverLemmas
 pub mod QueryLemmas
+pub mod OpenLemmas
 pub mod FoundLemmas

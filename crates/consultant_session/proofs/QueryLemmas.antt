@@ -63,8 +63,9 @@ pub record IsCalled (n : ℕ) (c : Command) (budget : Option ℕ) (numbers numbe
   pub ends : CallEnds n mid new b spent
   pub task : (kb : Base) → IsTaskOf kb numbers old.problem → IsTaskOf kb numbers' new.problem
 
-module _ (choices : List Literal) {n : ℕ} {c : Command} {budget : Option ℕ} {numbers numbers' : GroundBase}
-    {old mid new : SolveState} {b spent : Budget} (called : IsCalled n c budget numbers numbers' old mid new b spent) where
+module _ (Of : Base → Type 0) (choices : List Literal) {n : ℕ} {c : Command} {budget : Option ℕ}
+    {numbers numbers' : GroundBase} {old mid new : SolveState} {b spent : Budget}
+    (called : IsCalled n c budget numbers numbers' old mid new b spent) where
   unspent : b.spent ≡ 0
   unspent = ap (λ (x : Budget). x.spent) called.begun
 
@@ -104,9 +105,9 @@ module _ (choices : List Literal) {n : ℕ} {c : Command} {budget : Option ℕ} 
   }
 
   ended : (result : Result Reply Memory) → IfOk result (λ r. (k : ℕ) → r ≡ reply.Undecided k → k ≡ spent.spent)
-      → ((kb : Base) → IsTaskOf kb numbers old.problem → old.free ≤ weight kb
+      → ((kb : Base) → Of kb → old.free ≤ weight kb
       → IfOk result (RightAnswer kb (record { choices = choices; budget = budget }) c))
-      → QueryEnds c choices budget numbers numbers' old new result
+      → QueryEnds Of c choices budget numbers numbers' old new result
   ended result undecided right = record {
     right = right;
     task = called.task;
@@ -117,16 +118,16 @@ module _ (choices : List Literal) {n : ℕ} {c : Command} {budget : Option ℕ} 
 
   -- it ends with a reply that decides it
   pub found : (r : Reply) → ((k : ℕ) → r ≡ reply.Undecided k → ⊥)
-      → ((kb : Base) → IsTaskOf kb numbers old.problem
+      → ((kb : Base) → Of kb
       → RightAnswer kb (record { choices = choices; budget = budget }) c r)
-      → QueryEnds c choices budget numbers numbers' old new (Ok r)
+      → QueryEnds Of c choices budget numbers numbers' old new (Ok r)
   found r decided right = ended (Ok r) (λ k is. absurd (decided k is)) (λ kb is few. right kb is)
 
   -- or it halts, and is undecided at less than what is enough
   pub halts : (h : Halt) (result : Result Reply Memory) → HaltedAt spent h → IsHalted h spent result
-      → ((kb : Base) → IsTaskOf kb numbers old.problem
+      → ((kb : Base) → Of kb
       → n ≤ searches kb (record { choices = choices; budget = budget }) c)
-      → QueryEnds c choices budget numbers numbers' old new result
+      → QueryEnds Of c choices budget numbers numbers' old new result
   halts halt.Spent (Ok r) at is fewer = ended (Ok r)
       (λ k same. let both : reply.Undecided k ≡ reply.Undecided spent.spent = sym same ∙ is in cc)
       (λ kb task small. subst (RightAnswer kb (record { choices = choices; budget = budget }) c) (sym is) (
@@ -192,21 +193,21 @@ decides (Some f) kb s c r no is k same = let both : reply.Undecided k ≡ reply.
 decides None kb s c r no is k same = no (subst (IsAnswerTo c) same is.0)
 
 -- the task of a session after a query
-pub still_over : (kb : Base) (c : Command) (choices : List Literal) (budget : Option ℕ) (numbers numbers' : GroundBase)
-    (old new : SolveState) (result : Result Reply Memory) → QueryEnds c choices budget numbers numbers' old new result
+pub still_over : (Of : Base → Type 0) (kb : Base) (c : Command) (choices : List Literal) (budget : Option ℕ)
+    (numbers numbers' : GroundBase) (old new : SolveState) (result : Result Reply Memory) → QueryEnds Of c choices budget numbers numbers' old new result
     → IsTaskOver kb numbers old → IsTaskOver kb numbers' new
-still_over kb c choices budget numbers numbers' old new result ends is = record {
+still_over Of kb c choices budget numbers numbers' old new result ends is = record {
   task = ends.task kb is.task;
   kept = ends.kept;
   free = subst (λ (n : ℕ). n ≤ weight kb) (sym ends.free) is.free;
 }
 
 -- and what the query did to its solver
-pub query_searches : (kb : Base) (c : Command) (choices : List Literal) (budget : Option ℕ)
+pub query_searches : (Of : Base → Type 0) (kb : Base) (c : Command) (choices : List Literal) (budget : Option ℕ)
     (numbers numbers' : GroundBase) (old new : SolveState) (result : Result Reply Memory)
-    → QueryEnds c choices budget numbers numbers' old new result → IsTaskOver kb numbers old
+    → QueryEnds Of c choices budget numbers numbers' old new result → IsTaskOver kb numbers old
     → Searches kb c budget result old new
-query_searches kb c choices budget numbers numbers' old new result ends is = record {
-  solver = solver-of kb numbers' new (still_over kb c choices budget numbers numbers' old new result ends is);
+query_searches Of kb c choices budget numbers numbers' old new result ends is = record {
+  solver = solver-of kb numbers' new (still_over Of kb c choices budget numbers numbers' old new result ends is);
   learns = ends.learns;
 }

@@ -1,33 +1,35 @@
 -- The solver that a session keeps, from command to command.
-use Rattle.std.proofs.Common.{◌≡◌, ◌≤◌, ℕ, List, [], refl, sym, subst, Some, take, slice_get}
+use Rattle.std.proofs.Common.{◌≡◌, ◌≤◌, ℕ, List, [], ◌∷◌, refl, sym, subst, Some, slice_get}
 use Rattle.std.proofs.lemmas.List.Elements.{All-nil}
 use Rattle.kb_logic.specs.Bases.{Base}
-use Rattle.lit_core.specs.declared.literals.Lit.{Lit}
-use Rattle.ground_core.specs.declared.moments.Moment.{Moment}
 use Rattle.ground_core.specs.Meaning.{RefutesAll}
-use Rattle.ground_core.specs.Moments.{IsMomentOf, problem_at}
-use Rattle.ground_core.specs.Solving.{SolveState, IsKept, IsLearntFrom}
+use Rattle.ground_core.specs.Moments.{IsMomentOf}
+use Rattle.ground_core.specs.Solving.{SolveState, IsKept}
 use Rattle.ground_task.specs.Tasks.{IsTaskOf}
 use Rattle.term_values.specs.GroundBases.{GroundBase}
 use Rattle.consult_text.specs.Searches.{weight}
 use Rattle.clause_learning.specs.SolverState.{forgotten}
 use Rattle.consultant_session.specs.Solvers.{IsSolverOf, IsTaskOver}
 
+none-at : {A : Type 0} (xs : List A) (k : ℕ) (x : A) → xs ≡ [] → slice_get xs k ≡ Some x → ⊥
+none-at [] k x none at = cc
+none-at (y ∷ xs) k x none at = cc
+
 -- a solver that forgets is kept
 pub forgotten-kept : (s : SolveState) → IsKept s → IsKept (forgotten s)
 forgotten-kept s is = record {
   problem = is.problem;
   terms = is.terms;
-  learnt = record { paired = refl; were = All-nil (IsMomentOf s.problem); each = none };
+  learnt = record {
+    paired = refl;
+    were = All-nil (IsMomentOf s.problem);
+    each = λ k c m at there. absurd (none-at [] k c refl at);
+  };
   refuted = All-nil (RefutesAll s.problem);
   counted = is.counted;
   selectors = is.selectors;
   free = is.free;
 }
-  where
-    none : (k : ℕ) (c : List Lit) (m : Moment) → slice_get ([] {List Lit}) k ≡ Some c
-        → slice_get ([] {Moment}) k ≡ Some m → IsLearntFrom (problem_at s.problem m) (take k []) c
-    none k c m at there = absurd (cc)
 
 -- so the task of a session stays one
 pub forgotten-over : (kb : Base) (numbers numbers' : GroundBase) (s t : SolveState) → t ≡ forgotten s

@@ -25,13 +25,15 @@ abbrev pub left_by : Command → List (List Lit) → List (List Lit)
 left_by command.Model learnt = []
 left_by (command.Models n) learnt = []
 left_by command.Propagate learnt = []
+left_by (command.Explain l) learnt = []
+left_by command.Why learnt = []
 left_by command.Forget learnt = []
 left_by _ learnt = learnt
 
 -- Clauses are learnt after those that are left: no more than the budget, exactly so many as are named where a query
 -- stays undecided, and none by a command that is no query.
-pub record Learns (c : Command) (budget : Option ℕ) (result : Result Reply Memory) (old new : List (List Lit)) : Type 0
-where
+pub record Learns (c : Command) (budget : Option ℕ) (result : Result Reply Memory)
+    (old new : List (List Lit)) : Type 0 where
   pub front : IsPrefix (left_by c old) new
   pub within : IfSome budget (λ most. length new ≤ length (left_by c old) + most)
   pub undecided : IfOk result (λ r. (k : ℕ) → r ≡ reply.Undecided k → length new ≡ length (left_by c old) + k)
@@ -54,10 +56,11 @@ IsHalted halt.Spent b (Err e) = ⊥
 IsHalted halt.Memory b (Ok r) = ⊥
 IsHalted halt.Memory b (Err e) = ⊤
 
--- how a query of a task ends: with a right reply, over each knowledge base of which it is a task, unless memory ran out
-pub record QueryEnds (c : Command) (choices : List Literal) (budget : Option ℕ) (b b' : GroundBase)
-    (old new : SolveState) (result : Result Reply Memory) : Type 0 where
-  pub right : (kb : Base) → IsTaskOf kb b old.problem → old.free ≤ weight kb
+-- how a query of a task ends: with a right reply, over each knowledge base for which the task is as it should be, unless
+-- memory ran out
+pub record QueryEnds (Of : Base → Type 0) (c : Command) (choices : List Literal) (budget : Option ℕ)
+    (b b' : GroundBase) (old new : SolveState) (result : Result Reply Memory) : Type 0 where
+  pub right : (kb : Base) → Of kb → old.free ≤ weight kb
       → IfOk result (RightAnswer kb (record { choices = choices; budget = budget }) c)
   pub task : (kb : Base) → IsTaskOf kb b old.problem → IsTaskOf kb b' new.problem
   pub learns : Learns c budget result old.learnt new.learnt

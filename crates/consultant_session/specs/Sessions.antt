@@ -7,9 +7,10 @@ use Rattle.consult_text.specs.Literals.{IsLiteralOver}
 use Rattle.consult_text.specs.declared.commands.Command.{Command}
 use Rattle.consult_text.specs.declared.commands.Command.TheVariants as command
 use Rattle.consult_text.specs.States.{State, first_state}
+use Rattle.lit_core.specs.declared.literals.Lit.{Lit}
 use Rattle.term_values.specs.GroundBases.{GroundBase}
 use Rattle.ground_core.specs.Solving.{SolveState}
-use Rattle.consultant_session.specs.Solvers.{IsTaskOver}
+use Rattle.consultant_session.specs.Solvers.{AreUnknownOf, IsTaskOver}
 
 -- what a session holds: the knowledge base that it was opened on, the state that its commands left, and the solver that
 -- is kept from one to the next
@@ -28,9 +29,11 @@ pub record IsJustOpened (kb : Opened) (budget : Option ℕ) (s : SessionState) :
 abbrev pub AreChoicesOver : Opened → List Literal → Type 0
 AreChoicesOver kb choices = AllByRecursion (IsLiteralOver (base_of kb)) choices
 
--- the choices are over the knowledge base, and the task is one of it
-pub record IsSession (kb : Opened) (choices : List Literal) (numbers : GroundBase) (solver : SolveState) : Type 0 where
+-- the choices are over the knowledge base, the task is one of it, and these atoms' variables are unknown in its data
+pub record IsSession (kb : Opened) (choices : List Literal) (unknown : List Lit) (numbers : GroundBase)
+    (solver : SolveState) : Type 0 where
   pub choices : AreChoicesOver kb choices
+  pub unknown : AreUnknownOf (base_of kb) unknown
   pub over : IsTaskOver (base_of kb) numbers solver
 
 -- the command may stay without a reply because memory ran out

@@ -1,5 +1,5 @@
 //! Sessions over a knowledge base.
-ghost use Rattle.std.specs.Prelude.{◌≡◌, ◌≤◌, [], IfOk, OnOk, OnErr};
+ghost use Rattle.std.specs.Prelude.{◌≡◌, IfOk, OnOk, OnErr};
 ghost use Rattle.consult_text.specs.declared.commands.Command.TheVariants as command;
 ghost use Rattle.consultant_session.specs.Queries.{Searches};
 ghost use Rattle.consultant_session.specs.Sessions.{IsJustOpened, TakesMemory};
@@ -9,20 +9,20 @@ ghost use Rattle.consult_text.specs.Literals.{IsLiteralOver};
 ghost use Rattle.consult_text.specs.RightReplies.{RightReply};
 ghost use Rattle.consult_text.specs.States.{state_after};
 
+mod asking;
+
 use crate::literals::{is_among, is_known, remove};
-use crate::queries::{model, models, task_of};
+use crate::tasks::{task_of, unknown_of};
 use chooser::Choose;
 use clause_learning::Solver;
 use consult_base::KnowledgeBase;
 use consult_text::{Command, F, Reply};
 use ground_task::Task;
 use kb_logic::{Literal, LiteralList, Memory};
+use lit_core::Lit;
 use std::alloc::Global;
 use std::marker::Model;
 use std::mem;
-
-/// What queries add to the solver's problem stays in it: after so many additions the task is opened anew.
-const MOST_ADDITIONS: u64 = 1_000;
 
 /// A session over a knowledge base. Its solver, which decides by the rule, is kept from one query to the next.
 #[derive(Drop)]
@@ -31,8 +31,10 @@ pub struct Session<C: Choose + Copy + Drop> {
     kb: KnowledgeBase,
     rule: C,
     task: Task<Solver<C>>,
-    /// How many bounds and exclusions the task may hold.
+    /// How many bounds and exclusions its problem may hold.
     added: u64,
+    /// The literals of the variables of the atoms that the data leave unknown.
+    unknown: Vec<Lit>,
     choices: LiteralList,
     budget: Option<u64>,
 }
@@ -47,12 +49,12 @@ impl<C: Choose + Copy + Drop> Model for Session<C> {
     ghost coded = { Prim.hlevel (codes, typed_kb.the_row.coded) };
 
     ghost view = { λ s. record {
-        kb = s.kb;
-        state = record { choices = s.choices; budget = s.budget };
-        solver = s.task.solver.kept;
+      kb = s.kb;
+      state = record { choices = s.choices; budget = s.budget };
+      solver = s.task.solver.kept;
     } };
 
-    ghost invariant = { λ s. IsSession s.kb s.choices s.task.numbers s.task.solver.kept };
+    ghost invariant = { λ s. IsSession s.kb s.choices s.unknown.items s.task.numbers s.task.solver.kept };
 }
 
 impl<C: Choose + Copy + Drop> Session<C> {
@@ -67,12 +69,14 @@ impl<C: Choose + Copy + Drop> Session<C> {
         ensures { IfOk result (IsJustOpened kb budget) }
     {
         let task = task_of(alloc, &kb, rule)?;
+        let unknown = unknown_of(alloc, &kb)?;
         Ok(Session {
             alloc,
             kb,
             rule,
             task,
             added: 0,
+            unknown,
             choices: LiteralList::new(alloc),
             budget,
         })
@@ -118,14 +122,11 @@ impl<C: Choose + Copy + Drop> Session<C> {
                 Ok(Reply::Fine)
             }
             Command::Choices => Ok(Reply::Choices(self.choices.copy(self.alloc)?)),
-            Command::Model => model(
-                self.alloc,
-                &mut self.task,
-                self.choices.as_slice(),
-                self.budget,
-            ),
+            Command::Model => self.model(),
             Command::Models(most) => self.models(*most),
-            Command::Propagate => Ok(Reply::Fine),
+            Command::Propagate => self.propagate(),
+            Command::Explain(literal) => self.explain(literal),
+            Command::Why => self.why(),
             Command::Budget(budget) => {
                 self.budget = *budget;
                 Ok(Reply::Fine)
@@ -171,40 +172,5 @@ impl<C: Choose + Copy + Drop> Session<C> {
         remove(&mut choices, literal);
         self.choices = LiteralList::from_vec(choices);
         Reply::Fine
-    }
-
-    /// Gives up what was learnt, and opens the task anew where much was added to its problem, as `more` soon will.
-    fn renew(&mut self, more: u32) -> Result<(), Memory>
-        ensures kb { self.new.kb ≡ self.old.kb }
-        ensures state { self.new.state ≡ self.old.state }
-        ensures learnt { self.new.solver.learnt ≡ [] }
-    {
-        self.task.forget();
-        if self.added > MOST_ADDITIONS {
-            self.task = task_of(self.alloc, &self.kb, self.rule)?;
-            self.added = 0;
-        }
-        self.added = self.added.saturating_add(more as u64);
-        Ok(())
-    }
-
-    /// The reply to `models`.
-    fn models(&mut self, most: u32) -> Result<Reply, Memory>
-        requires { 1 ≤ most }
-        ensures right { IfOk result (λ reply. RightReply (base_of self.old.kb) self.old.state (command.Models most)
-            reply) }
-        ensures kb { self.new.kb ≡ self.old.kb }
-        ensures state { self.new.state ≡ self.old.state }
-        ensures searches { Searches (base_of self.old.kb) (command.Models most) self.old.state.budget result
-            self.old.solver self.new.solver }
-    {
-        self.renew(most)?;
-        models(
-            self.alloc,
-            &mut self.task,
-            self.choices.as_slice(),
-            self.budget,
-            most,
-        )
     }
 }

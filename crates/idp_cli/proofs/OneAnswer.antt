@@ -22,7 +22,8 @@ use Rattle.consult_text.specs.OneText.{HasWordNames, IsStructureOver, IsReplyOve
 use Rattle.consult_text.specs.Replies.{IsRefusal, IsReplyTo}
 use Rattle.consult_text.specs.States.{State, first_state, same_literal, command_refusal, carried_out, unless_refused}
 use Rattle.consult_text.specs.States.{state_after}
-use Rattle.consult_text.specs.RightReplies.{in_force, RightAnswer, RightUnless, RightReply}
+use Rattle.consult_text.specs.RightReplies.{in_force, IsSo, RightAnswer, RightUnless, RightReply}
+use Rattle.consultant_session.proofs.FoundLemmas.{of_some}
 use Rattle.idp_cli.proofs.LiteralsOver.{some_over}
 use Rattle.idp_cli.specs.Turns.{reply_of}
 use Rattle.idp_cli.specs.Consultation.{Said, nothing, too_long, refused, replied, IsRightAnswer, state_left, said_text}
@@ -50,9 +51,21 @@ answer_over kb s c reply.Fine over is = tt
 answer_over kb s c (reply.Refused f) over is = absurd is.1
 answer_over kb s c (reply.Choices ls) over is = subst (AllByRecursion (IsLiteralOver kb)) (sym is.1) over.choices
 answer_over kb s c (reply.Model m) over is = model_over kb (in_force s) m is.1
-answer_over kb s (command.Models n) (reply.Models ms all) over is = models_over kb (in_force s) ms is.1.models
-answer_over kb s c (reply.Models ms all) over is = absurd is.1
+answer_over kb s c (reply.Models ms all) over is = several c is.1
+  where
+    several : (c : Command) → IsSo kb s c (reply.Models ms all) → AllByRecursion (IsStructureOver kb) ms
+    several (command.Models n) is = models_over kb (in_force s) ms is.models
+    several c is = absurd is
 answer_over kb s c (reply.Forced ls) over is = some_over kb ls is.1.order
+answer_over kb s c (reply.Supported ls) over is = supported c is.1
+  where
+    supported : (c : Command) → IsSo kb s c (reply.Supported ls) → AllByRecursion (IsLiteralOver kb) ls
+    supported (command.Explain l) is = of_some (IsLiteralOver kb) ls s.choices is.among.choices over.choices
+    supported c is = absurd is
+answer_over kb s c reply.Free over is = tt
+answer_over kb s c (reply.Conflict ls) over is =
+    of_some (IsLiteralOver kb) ls s.choices is.1.among.choices over.choices
+answer_over kb s c reply.Consistent over is = tt
 answer_over kb s c reply.Inconsistent over is = tt
 answer_over kb s c (reply.Undecided k) over is = small_budget s.budget k over.budget is.1.0
 
@@ -158,6 +171,8 @@ carried_over kb s command.Choices line over is has = over
 carried_over kb s command.Model line over is has = over
 carried_over kb s (command.Models n) line over is has = over
 carried_over kb s command.Propagate line over is has = over
+carried_over kb s (command.Explain l) line over is has = over
+carried_over kb s command.Why line over is has = over
 carried_over kb s (command.Budget b) line over is has =
     record { choices = over.choices; budget = budget_asked kb has.0 b has.1.formed has.2 }
 carried_over kb s command.Forget line over is has = over

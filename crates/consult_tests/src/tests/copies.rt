@@ -1,8 +1,8 @@
 //! Copies of commands and replies.
 
 use super::sessions::session;
-use consult_text::{Reply, commands_are_over_the_base, read_command, write_reply};
 use chooser::FirstGreatest;
+use consult_text::{Reply, commands_are_over_the_base, read_command, write_reply};
 use consultant_session::Session;
 use kb_logic::Memory;
 use std::alloc::Global;

@@ -1,8 +1,8 @@
 //! A session by itself.
 
 use base_reader::read_base;
-use consult_text::{Command, Reply, commands_are_over_the_base, read_command};
 use chooser::FirstGreatest;
+use consult_text::{Command, Reply, commands_are_over_the_base, read_command};
 use consultant_session::Session;
 use std::alloc::Global;
 use std::test::Fail;

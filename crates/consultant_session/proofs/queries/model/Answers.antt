@@ -1,7 +1,7 @@
 use Rattle.std.proofs.Common.{sym, subst, arith}
 use Rattle.kb_logic.specs.Bases.{IsModelUnder}
 use Rattle.ground_task.specs.Choices.{AreOver}
-use Rattle.ground_task.specs.Tasks.{IsAnswer}
+use Rattle.ground_task.specs.Tasks.{IsTaskOf, IsAnswer}
 use Rattle.term_values.specs.GroundBases.{GroundBase}
 use Rattle.consult_text.specs.declared.replies.Reply.TheVariants as reply
 use Rattle.consultant_session.proofs.FoundLemmas.{under_some}
@@ -23,7 +23,8 @@ pub returns-in-Ok-Model : goal.returns-in-Ok-Model
 returns-in-Ok-Model g c =
     let choices = c.args.choices.now in
     let ask = c.ask.ensures in
-    found choices (asked c.begin.ensures.kept c.begin.ensures.budget ask.keeps ask.costs ask.kept ask.stays
+    found (λ kb. IsTaskOf kb c.args.task.now.numbers c.args.task.now.solver.kept.problem) choices
+    (asked c.begin.ensures.kept c.begin.ensures.budget ask.keeps ask.costs ask.kept ask.stays
     (λ kb is. ask.task kb (c.begin.ensures.task kb is))) (reply.Model c.in-Ok-Model.m) (λ k is. cc)
     (λ kb is. (
       tt,
@@ -36,7 +37,8 @@ pub returns-in-Ok-NoModel : goal.returns-in-Ok-NoModel
 returns-in-Ok-NoModel g c =
     let choices = c.args.choices.now in
     let ask = c.ask.ensures in
-    found choices (asked c.begin.ensures.kept c.begin.ensures.budget ask.keeps ask.costs ask.kept ask.stays
+    found (λ kb. IsTaskOf kb c.args.task.now.numbers c.args.task.now.solver.kept.problem) choices
+    (asked c.begin.ensures.kept c.begin.ensures.budget ask.keeps ask.costs ask.kept ask.stays
     (λ kb is. ask.task kb (c.begin.ensures.task kb is))) reply.Inconsistent (λ k is. cc)
     (λ kb is. (
       tt,
@@ -49,6 +51,7 @@ returns-in-Ok-NoModel g c =
 pub returns-in-Err : goal.returns-in-Err
 returns-in-Err g c =
     let ask = c.ask.ensures in
-    halts c.args.choices.now (asked c.begin.ensures.kept c.begin.ensures.budget ask.keeps ask.costs ask.kept ask.stays
+    halts (λ kb. IsTaskOf kb c.args.task.now.numbers c.args.task.now.solver.kept.problem) c.args.choices.now
+    (asked c.begin.ensures.kept c.begin.ensures.budget ask.keeps ask.costs ask.kept ask.stays
     (λ kb is. ask.task kb (c.begin.ensures.task kb is))) c.in-Err.halt c.halted.result c.in-Err.ensures.halt
     c.halted.ensures (λ kb is. omega arith)

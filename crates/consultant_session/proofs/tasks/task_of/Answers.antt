@@ -4,7 +4,7 @@ use Rattle.clause_learning.specs.SolverState.{SolverState}
 use Rattle.consult_base.specs.Opened.{base_of}
 use Rattle.consult_text.specs.Searches.{weight}
 use Rattle.consultant_session.proofs.FoundLemmas.{if_ok}
-use Rattle.consultant_session.proofs.queries.task_of.Goals as goal
+use Rattle.consultant_session.proofs.tasks.task_of.Goals as goal
 
 pub returns-clause-over : goal.returns-clause-over
 returns-clause-over g c =
