@@ -101,7 +101,7 @@ module _ (Of : Base → Type 0) (choices : List Literal) {n : ℕ} {c : Command}
     within = within budget
         (subst (λ (o : Option ℕ). IfSome o (λ most. spent.spent ≤ most)) limited called.ends.keeps.within);
     undecided = counted result undecided;
-    idle = λ no. absurd (no called.query);
+    idle = λ other. absurd (other called.query);
   }
 
   ended : (result : Result Reply Memory) → IfOk result (λ r. (k : ℕ) → r ≡ reply.Undecided k → k ≡ spent.spent)
@@ -172,7 +172,7 @@ idle kb c budget result old new left decided is = record {
     front = subst (IsPrefix (left_by c old.learnt)) left (prefix-itself (left_by c old.learnt));
     within = within budget;
     undecided = counted result decided;
-    idle = λ no. sym left;
+    idle = λ other. sym left;
   };
 }
   where
@@ -183,14 +183,14 @@ idle kb c budget result old new left decided is = record {
     counted : (result : Result Reply Memory) → IfOk result (λ r. (k : ℕ) → r ≡ reply.Undecided k → ⊥)
         → IfOk result (λ r. (k : ℕ) → r ≡ reply.Undecided k
         → length new.learnt ≡ length (left_by c old.learnt) + k)
-    counted (Ok r) no = λ k is. absurd (no k is)
-    counted (Err e) no = tt
+    counted (Ok r) decided = λ k is. absurd (decided k is)
+    counted (Err e) decided = tt
 
 -- a right reply to a command that is no query leaves nothing undecided
 pub decides : (f : Option F) (kb : Base) (s : State) (c : Command) (r : Reply) → (IsQuery c → ⊥)
     → RightUnless f kb s c r → (k : ℕ) → r ≡ reply.Undecided k → ⊥
-decides (Some f) kb s c r no is k same = let both : reply.Undecided k ≡ reply.Refused f = sym same ∙ is in cc
-decides None kb s c r no is k same = no (subst (IsAnswerTo c) same is.0)
+decides (Some f) kb s c r other is k same = let both : reply.Undecided k ≡ reply.Refused f = sym same ∙ is in cc
+decides None kb s c r other is k same = other (subst (IsAnswerTo c) same is.0)
 
 -- the task of a session after a query
 pub still_over : (Of : Base → Type 0) (kb : Base) (c : Command) (choices : List Literal) (budget : Option ℕ)
