@@ -1,0 +1,12 @@
+mod Sums
+mod Bounds
+mod Causes
+mod Attained
+mod Units
+mod Full
+mod ListFacts
+mod Deciding
+mod Singles
+mod Spares
+mod Acting
+mod Joined

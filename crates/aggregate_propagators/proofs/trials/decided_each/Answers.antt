@@ -1,0 +1,30 @@
+use Rattle.std.proofs.Common.{All, subst, arith}
+use Rattle.std.proofs.lemmas.List.{take_all}
+use Rattle.std.proofs.lemmas.List.Elements.{All-more}
+use Rattle.ground_core.specs.declared.parts.Part.{Part}
+use Rattle.aggregate_propagators.specs.Intervals.{IsOpenAt}
+use Rattle.aggregate_propagators.specs.Implied.{assigned}
+use Rattle.aggregate_propagators.specs.Thresholds.{constraint_of}
+use Rattle.aggregate_propagators.proofs.ListFacts.{no_part}
+use Rattle.aggregate_propagators.proofs.trials.decided_each.Goals as goal
+
+pub returns-in-Some-tried-clause-some : goal.returns-in-Some-tried-clause-some
+returns-in-Some-tried-clause-some c = (
+  c.in-Some-tried.ensures.some.0,
+  λ h. c.in-Some-tried.ensures.some.1 (h.1 c.loop-part.part-index no_part c.loop-part-test.true),
+)
+
+pub loop-part-preserved : goal.loop-part-preserved
+loop-part-preserved c =
+    let con = constraint_of c.args.c c.args.parts.now in
+    All-more (λ (p : Part). IsOpenAt (assigned c.args.values.now) con p.lit) c.args.parts.now c.loop-part.part-index
+    no_part c.loop-part-test.true c.loop-part.invariant c.in_default-tried.ensures.none
+
+pub returns-clause-none : goal.returns-clause-none
+returns-clause-none c =
+    let con = constraint_of c.args.c c.args.parts.now in (
+      c.in_default.ensures.none,
+      subst (All (λ (p : Part). IsOpenAt (assigned c.args.values.now) con p.lit))
+          (take_all c.loop-part.part-index c.args.parts.now
+          (omega (arith, c.loop-part-test.false))) c.loop-part.invariant,
+    )

@@ -1,0 +1,8 @@
+pub mod Intervals
+pub mod Totals
+pub mod Laws
+pub mod Reasons
+pub mod Implied
+pub mod Thresholds
+pub mod Once
+pub mod Spared

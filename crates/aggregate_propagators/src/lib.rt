@@ -1,0 +1,19 @@
+//! What an aggregate constraint implies under an assignment.
+#![tactic(auto)]
+
+mod contradictions;
+mod ends;
+mod explained;
+mod inference;
+mod laws;
+mod rising;
+mod single;
+mod thresholds;
+mod trials;
+
+pub use inference::{implied, implied_at};
+pub use laws::{
+    bound_contradiction_is_sound, contradiction_is_sound, decided_is_unit, ends_are_attained,
+    few_reasons_suffice, quiet_is_enough, reaches_by_totals, reasons_suffice,
+};
+pub use thresholds::{Amount, Threshold, threshold_of};

@@ -1,0 +1,15 @@
+//! What is told on standard error where a run ends with a status other than 0: where a file is refused and why, a
+//! device that failed, and how the program is called.
+#![tactic(auto)]
+
+mod causes;
+mod excerpt;
+mod habits;
+mod note;
+mod signs;
+mod spots;
+mod usage;
+
+pub use note::{Memory, fault_note, file_note, long_file_note};
+pub use spots::{column_of, line_of};
+pub use usage::{MEMORY_LOST, OUTPUT_LOST, SCRIPT_TOO_LONG, USAGE, VERSION};
