@@ -61,11 +61,12 @@ impl<C: Choose + Copy + Drop> Session<C> {
         ensures learnt { self.new.solver.learnt ≡ [] }
     {
         self.task.forget();
-        if self.added > MOST_ADDITIONS {
-            self.task = task_of(self.alloc, &self.kb, self.rule)?;
-            self.added = 0;
+        if self.added <= MOST_ADDITIONS {
+            self.added += more as u64;
+            return Ok(());
         }
-        self.added = self.added.saturating_add(more as u64);
+        self.task = task_of(self.alloc, &self.kb, self.rule)?;
+        self.added = more as u64;
         Ok(())
     }
 
