@@ -1,5 +1,0 @@
-//! What no clause says of devices.
-
-mod devices;
-mod lines;
-mod sources;
