@@ -90,6 +90,10 @@ choices_stay_distinct kb s (command.Retract l) distinct =
 choices_stay_distinct kb s command.Reset distinct = tt
 choices_stay_distinct kb s command.Choices distinct = distinct
 choices_stay_distinct kb s command.Model distinct = distinct
+choices_stay_distinct kb s (command.Models n) distinct = distinct
+choices_stay_distinct kb s command.Propagate distinct = distinct
+choices_stay_distinct kb s (command.Explain l) distinct = distinct
+choices_stay_distinct kb s command.Why distinct = distinct
 choices_stay_distinct kb s (command.Budget b) distinct = distinct
 choices_stay_distinct kb s command.Forget distinct = distinct
 
@@ -106,6 +110,10 @@ budget_stays kb s (command.Retract l) other = stays_where_kept (command_refusal 
 budget_stays kb s command.Reset other = refl
 budget_stays kb s command.Choices other = refl
 budget_stays kb s command.Model other = refl
+budget_stays kb s (command.Models n) other = refl
+budget_stays kb s command.Propagate other = refl
+budget_stays kb s (command.Explain l) other = refl
+budget_stays kb s command.Why other = refl
 budget_stays kb s (command.Budget b) other = absurd (other b refl)
 budget_stays kb s command.Forget other = refl
 

@@ -1,6 +1,5 @@
 -- What a task answers is what a query finds.
-use Rattle.std.proofs.Common.{◌≡◌, ℕ, zero, suc, ◌+◌, ◌-◌, ◌*◌, ◌<◌, ◌≤◌, ◌^◌, List, [], ◌∷◌, length, get_or, refl, sym}
-use Rattle.std.proofs.Common.{ap, ◌∙◌, subst, arith, inl, inr, All, Result, Ok, Err, IfOk}
+use Rattle.std.proofs.Common.{List, [], ◌∷◌, sym, subst, inl, inr, Result, Ok, Err, IfOk}
 use Rattle.std.specs.List.{AllByRecursion}
 use Rattle.std.proofs.lemmas.List.Elements.{All-from_recursion}
 use Rattle.kb_logic.specs.declared.structures.Literal.{Literal}
@@ -9,12 +8,12 @@ use Rattle.kb_logic.specs.declared.vocabularies.Symbol.{Symbol}
 use Rattle.kb_logic.specs.Bases.{Base, IsModelUnder}
 use Rattle.kb_logic.specs.Models.{HoldsIn, IsAtomOver, atom_of}
 use Rattle.kb_logic.proofs.Atoms.{elements_tuple}
-use Rattle.ground_core.specs.Solving.{IsSublist, SolveState}
+use Rattle.ground_core.specs.Problems.{ProblemState}
+use Rattle.ground_core.specs.Solving.{IsSublist}
 use Rattle.term_values.specs.GroundBases.{GroundBase}
 use Rattle.ground_task.specs.Choices.{AreOver}
 use Rattle.consult_text.specs.Literals.{IsLiteralOver}
-use Rattle.consult_text.specs.Searches.{weight}
-use Rattle.consultant_session.specs.Queries.{IsTaskOver}
+use Rattle.ground_task.specs.Tasks.{IsTaskOf}
 
 -- what two facts say of what was found
 pub if_ok : {A E : Type 0} {P Q R : A → Type 0} (r : Result A E) → ((x : A) → P x → Q x → R x) → IfOk r P
@@ -36,14 +35,14 @@ over_at kb (l ∷ ls) over = (
   over_at kb ls over.1,
 )
 
-pub choices_over : (kb : Base) (numbers : GroundBase) (s : SolveState) (ls : List Literal) → IsTaskOver kb numbers s
+pub choices_over : (kb : Base) (numbers : GroundBase) (p : ProblemState) (ls : List Literal) → IsTaskOf kb numbers p
     → AllByRecursion (IsLiteralOver kb) ls → AreOver numbers ls
-choices_over kb numbers s ls is over =
-    subst (λ (b : GroundBase). AreOver b ls) (sym is.task.numbers)
+choices_over kb numbers p ls is over =
+    subst (λ (b : GroundBase). AreOver b ls) (sym is.numbers)
     (All-from_recursion (λ l. IsAtomOver kb.vocabulary.symbols kb.known.domains (atom_of l)) ls (over_at kb ls over))
 
 -- what holds of each holds of each of some of them
-of_some : {A : Type 0} (P : A → Type 0) (xs ys : List A) → IsSublist xs ys → AllByRecursion P ys → AllByRecursion P xs
+pub of_some : {A : Type 0} (P : A → Type 0) (xs ys : List A) → IsSublist xs ys → AllByRecursion P ys → AllByRecursion P xs
 of_some P [] ys is all = tt
 of_some P (x ∷ xs) [] is all = absurd is
 of_some P (x ∷ xs) (y ∷ ys) (inl is) all = (subst P (sym is.0) all.0, of_some P xs ys is.1 all.1)
@@ -58,15 +57,3 @@ under_some kb core choices m is model = record {
   theory = model.theory;
   chosen = of_some (HoldsIn m) core choices is model.chosen;
 }
-
-power_grows : (a b : ℕ) → a ≤ b → 2 ^ a ≤ 2 ^ b
-power_grows zero zero le = omega arith
-power_grows zero (suc b) le = omega (arith, power_grows zero b (omega arith))
-power_grows (suc a) zero le = absurd (omega (arith, le))
-power_grows (suc a) (suc b) le = omega (arith, power_grows a b (omega (arith, le)))
-
--- what one search spends is less than what is enough
-pub less_than_enough : (kb : Base) (free spent : ℕ) → free ≤ weight kb → spent - 0 < 1 * 2 ^ (free + 1)
-    → spent < 1 * 2 ^ (weight kb + 1)
-less_than_enough kb free spent small few =
-    omega (arith, few, power_grows (free + 1) (weight kb + 1) (omega (arith, small)))

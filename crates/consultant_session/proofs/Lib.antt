@@ -3,4 +3,7 @@ pub mod ElementLemmas
 pub mod LiteralLemmas
 pub mod ChoiceLemmas
 pub mod KnownLemmas
+pub mod SolverLemmas
+pub mod QueryLemmas
+pub mod OpenLemmas
 pub mod FoundLemmas

@@ -7,7 +7,8 @@ use Rattle.kb_logic.specs.Structures.{IsDistinct}
 use Rattle.consult_text.specs.declared.commands.Command.{Command}
 use Rattle.consult_text.specs.declared.commands.Command.TheVariants as command
 use Rattle.consult_text.specs.States.{State, same_literal, is_chosen, without, state_after}
-use Rattle.consult_text.specs.RightReplies.{ModelOfState}
+use Rattle.kb_logic.specs.InForce.{IsModelOf}
+use Rattle.consult_text.specs.RightReplies.{in_force}
 
 -- the test of two literals tells exactly whether they are equal
 abbrev pub SameLiteralIsEquality : Type 0
@@ -38,4 +39,4 @@ opposite l = record l { positive = not l.positive }
 -- there is no model where a literal and its opposite are choices
 abbrev pub OppositeChoicesHaveNoModel : Type 0
 OppositeChoicesHaveNoModel = (kb : Base) (s : State) (l : Literal) (m : Structure) → Contains s.choices l
-    → Contains s.choices (opposite l) → ModelOfState kb s m → ⊥
+    → Contains s.choices (opposite l) → IsModelOf kb (in_force s) m → ⊥

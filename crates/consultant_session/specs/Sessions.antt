@@ -1,5 +1,5 @@
 -- What a session holds, and which of its commands take memory.
-use Rattle.std.specs.Prelude.{ℕ, List, Option, ⊤}
+use Rattle.std.specs.Prelude.{◌≡◌, ℕ, List, [], Option, ⊤}
 use Rattle.std.specs.List.{AllByRecursion}
 use Rattle.kb_logic.specs.declared.structures.Literal.{Literal}
 use Rattle.consult_base.specs.Opened.{Opened, base_of}
@@ -7,19 +7,34 @@ use Rattle.consult_text.specs.Literals.{IsLiteralOver}
 use Rattle.consult_text.specs.declared.commands.Command.{Command}
 use Rattle.consult_text.specs.declared.commands.Command.TheVariants as command
 use Rattle.consult_text.specs.States.{State, first_state}
+use Rattle.lit_core.specs.declared.literals.Lit.{Lit}
+use Rattle.term_values.specs.GroundBases.{GroundBase}
+use Rattle.ground_core.specs.Solving.{SolveState}
+use Rattle.consultant_session.specs.Solvers.{AreUnknownOf, IsTaskOver}
 
--- what a session holds: the knowledge base that it was opened on, and the state that its commands left
+-- what a session holds: the knowledge base that it was opened on, the state that its commands left, and the solver that
+-- is kept from one to the next
 pub record SessionState : Type 0 where
   pub kb : Opened
   pub state : State
+  pub solver : SolveState
 
 -- a session to which no command was given
-abbrev pub just_opened : Opened → Option ℕ → SessionState
-just_opened kb budget = record { kb = kb; state = first_state budget }
+pub record IsJustOpened (kb : Opened) (budget : Option ℕ) (s : SessionState) : Type 0 where
+  pub kb : s.kb ≡ kb
+  pub state : s.state ≡ first_state budget
+  pub learnt : s.solver.learnt ≡ []
 
 -- the choices are literals over the knowledge base
 abbrev pub AreChoicesOver : Opened → List Literal → Type 0
 AreChoicesOver kb choices = AllByRecursion (IsLiteralOver (base_of kb)) choices
+
+-- the choices are over the knowledge base, the task is one of it, and these atoms' variables are unknown in its data
+pub record IsSession (kb : Opened) (choices : List Literal) (unknown : List Lit) (numbers : GroundBase)
+    (solver : SolveState) : Type 0 where
+  pub choices : AreChoicesOver kb choices
+  pub unknown : AreUnknownOf (base_of kb) unknown
+  pub over : IsTaskOver (base_of kb) numbers solver
 
 -- the command may stay without a reply because memory ran out
 abbrev pub TakesMemory : Command → Type 0

@@ -6,5 +6,6 @@ pub mod laws;
 mod literals;
 mod queries;
 mod session;
+mod tasks;
 
 pub use session::Session;

@@ -1,75 +1,151 @@
-//! What a query of a session finds.
-ghost use Rattle.std.specs.Prelude.{◌≡◌, IfOk};
-ghost use Rattle.std.specs.List.{AllByRecursion};
-ghost use Rattle.consult_base.specs.Opened.{base_of};
-ghost use Rattle.consult_text.specs.Literals.{IsLiteralOver};
-ghost use Rattle.consultant_session.specs.Queries.{Finds, IsSolverOf, IsTaskOver};
+//! The queries of a session: each asks a task, and answers by a reply.
+ghost use Rattle.std.specs.Prelude.{◌≡◌, ◌≤◌};
+ghost use Rattle.kb_logic.specs.Bases.{Base};
+ghost use Rattle.kb_logic.specs.Models.{IsAtomOver, atom_of};
+ghost use Rattle.consult_text.specs.declared.commands.Command.TheVariants as command;
+ghost use Rattle.clause_learning.specs.SolverState.{forgotten};
+ghost use Rattle.forced_literals.specs.OpenTasks.{IsOpenTask, IsOpenTaskOf};
+ghost use Rattle.ground_task.specs.Choices.{AreOver};
+ghost use Rattle.ground_task.specs.Tasks.{IsTask, IsTaskOf};
+ghost use Rattle.consultant_session.specs.Queries.{QueryEnds, IsHalted};
 
-use chooser::FirstGreatest;
+use chooser::Choose;
 use clause_learning::Solver;
-use consult_base::KnowledgeBase;
+use consult_text::Reply;
+use forced_literals::forced;
 use ground_core::{Budget, Halt};
 use ground_task::Task;
 use ground_task::answers::Answer;
-use grounder::ground;
-use kb_logic::{Literal, Memory, Structure};
+use kb_logic::{Literal, Memory};
+use lit_core::Lit;
 use std::alloc::Global;
+use task_queries::{Reason, conflict, support};
 
-/// What a search for a model finds.
-#[derive(Drop)]
-pub enum Found {
-    /// A model that makes every choice true.
-    Model(Structure),
-    /// That there is none.
-    NoModel,
-    /// Nothing, since the budget was spent: so many conflicts.
-    Spent(u64),
+/// Begins a query: what was learnt before is given up, and nothing of its budget is spent.
+fn begin<C: Choose + Drop>(task: &mut Task<Solver<C>>, limit: Option<u64>) -> Budget
+    ensures kept { task.new.solver.kept ≡ forgotten task.old.solver.kept }
+    ensures numbers { task.new.numbers ≡ task.old.numbers }
+    ensures task { (kb : Base) → IsTaskOf kb task.old.numbers task.old.solver.kept.problem
+        → IsTaskOf kb task.new.numbers task.new.solver.kept.problem }
+    ensures budget { result ≡ record { limit = limit; spent = 0 } }
+{
+    task.forget();
+    Budget { limit, spent: 0 }
 }
 
-/// A solver of the knowledge base's ground problem. That is not too large, since the knowledge base's weight is within
-/// its limit: only memory may be wanting.
-fn solver_of(alloc: Global, kb: &KnowledgeBase) -> Result<Solver<FirstGreatest>, Memory>
-    ensures { IfOk result (λ solver. IsSolverOf (base_of kb.now) solver.kept) }
+/// The reply where a search halted: it stays undecided where the budget was spent.
+fn halted(halt: Halt, budget: &Budget) -> Result<Reply, Memory>
+    ensures { IsHalted halt budget.now result }
 {
-    let Ok(problem) = ground(alloc, kb.typed(), kb.theory(), kb.data()) else {
-        return Err(Memory);
-    };
-    let Ok(mut solver) = Solver::new(alloc, FirstGreatest) else {
-        return Err(Memory);
-    };
-    match solver.add_problem(&problem) {
-        Ok(()) => Ok(solver),
-        Err(_) => Err(Memory),
+    match halt {
+        Halt::Spent => Ok(Reply::Undecided(budget.spent)),
+        Halt::Memory => Err(Memory),
     }
 }
 
-/// A task of the knowledge base to which nothing was said yet.
-fn task_of(alloc: Global, kb: &KnowledgeBase) -> Result<Task<Solver<FirstGreatest>>, Memory>
-    ensures { IfOk result (λ task. IsTaskOver (base_of kb.now) task.numbers task.solver.kept) }
+/// The reply to `model`: a model that makes every choice true, by one search.
+pub fn model<C: Choose + Drop>(
+    alloc: Global,
+    task: &mut Task<Solver<C>>,
+    choices: &[Literal],
+    limit: Option<u64>,
+) -> Result<Reply, Memory>
+    requires task { IsTask task.old.numbers task.old.solver.kept.problem }
+    requires choices { AreOver task.old.numbers choices.now }
+    ensures { QueryEnds (λ kb. IsTaskOf kb task.old.numbers task.old.solver.kept.problem) command.Model
+        choices.now limit task.old.numbers task.new.numbers task.old.solver.kept task.new.solver.kept result }
 {
-    let solver = solver_of(alloc, kb)?;
-    Task::open(alloc, kb.vocabulary(), kb.data(), solver)
+    let mut budget = begin(task, limit);
+    match task.ask(alloc, choices, &mut budget) {
+        Ok(Answer::Model(m)) => Ok(Reply::Model(m)),
+        Ok(Answer::NoModel(_)) => Ok(Reply::Inconsistent),
+        Err(halt) => halted(halt, &budget),
+    }
 }
 
-/// Searches for a model that makes every choice true, with this budget; without a limit where there is no number.
-pub fn find_model(
+/// The reply to `models`: different models that make every choice true, at most so many.
+pub fn models<C: Choose + Drop>(
     alloc: Global,
-    kb: &KnowledgeBase,
+    task: &mut Task<Solver<C>>,
     choices: &[Literal],
-    budget: Option<u64>,
-) -> Result<Found, Memory>
-    requires { AllByRecursion (IsLiteralOver (base_of kb.now)) choices.now }
-    ensures { IfOk result (Finds (base_of kb.now) choices.now budget) }
+    limit: Option<u64>,
+    most: u32,
+) -> Result<Reply, Memory>
+    requires task { IsTask task.old.numbers task.old.solver.kept.problem }
+    requires choices { AreOver task.old.numbers choices.now }
+    requires most { 1 ≤ most }
+    ensures { QueryEnds (λ kb. IsTaskOf kb task.old.numbers task.old.solver.kept.problem) (command.Models most)
+        choices.now limit task.old.numbers task.new.numbers task.old.solver.kept task.new.solver.kept result }
 {
-    let mut task = task_of(alloc, kb)?;
-    let mut budget = Budget {
-        limit: budget,
-        spent: 0,
-    };
-    match task.ask(alloc, choices, &mut budget) {
-        Ok(Answer::Model(m)) => Ok(Found::Model(m)),
-        Ok(Answer::NoModel(_)) => Ok(Found::NoModel),
-        Err(Halt::Spent) => Ok(Found::Spent(budget.spent)),
-        Err(Halt::Memory) => Err(Memory),
+    let mut budget = begin(task, limit);
+    match task_queries::models(alloc, task, choices, most, &mut budget) {
+        Ok(Some(models)) => Ok(Reply::Models(models.list, models.all)),
+        Ok(None) => Ok(Reply::Inconsistent),
+        Err(halt) => halted(halt, &budget),
+    }
+}
+
+/// The reply to `propagate`: what all models that make every choice true have in common, of the atoms that the data
+/// leave unknown. These are the literals of their variables.
+pub fn propagate<C: Choose + Drop>(
+    alloc: Global,
+    task: &mut Task<Solver<C>>,
+    choices: &[Literal],
+    limit: Option<u64>,
+    unknown: &[Lit],
+) -> Result<Reply, Memory>
+    requires task { IsOpenTask task.old.numbers task.old.solver.kept.problem unknown.now }
+    requires choices { AreOver task.old.numbers choices.now }
+    ensures { QueryEnds (λ kb. IsOpenTaskOf kb task.old.numbers task.old.solver.kept.problem unknown.now)
+        command.Propagate choices.now limit task.old.numbers task.new.numbers task.old.solver.kept task.new.solver.kept result }
+{
+    let mut budget = begin(task, limit);
+    match forced(alloc, task, choices, unknown, &mut budget) {
+        Ok(Some(literals)) => Ok(Reply::Forced(literals)),
+        Ok(None) => Ok(Reply::Inconsistent),
+        Err(halt) => halted(halt, &budget),
+    }
+}
+
+/// The reply to `explain`: why the literal is true in all models that make every choice true, if it is.
+pub fn explain<C: Choose + Drop>(
+    alloc: Global,
+    task: &mut Task<Solver<C>>,
+    choices: &[Literal],
+    limit: Option<u64>,
+    literal: &Literal,
+) -> Result<Reply, Memory>
+    requires task { IsTask task.old.numbers task.old.solver.kept.problem }
+    requires choices { AreOver task.old.numbers choices.now }
+    requires literal { IsAtomOver task.old.numbers.vocabulary.symbols task.old.numbers.domains (atom_of literal.now) }
+    ensures { QueryEnds (λ kb. IsTaskOf kb task.old.numbers task.old.solver.kept.problem) (command.Explain literal.now)
+        choices.now limit task.old.numbers task.new.numbers task.old.solver.kept task.new.solver.kept result }
+{
+    let mut budget = begin(task, limit);
+    match support(alloc, task, choices, literal, &mut budget) {
+        Ok(Reason::By(some)) => Ok(Reply::Supported(some)),
+        Ok(Reason::Free) => Ok(Reply::Free),
+        Ok(Reason::Inconsistent) => Ok(Reply::Inconsistent),
+        Err(halt) => halted(halt, &budget),
+    }
+}
+
+/// The reply to `why`: choices under which there is no model, or that there is one.
+pub fn why<C: Choose + Drop>(
+    alloc: Global,
+    task: &mut Task<Solver<C>>,
+    choices: &[Literal],
+    limit: Option<u64>,
+) -> Result<Reply, Memory>
+    requires task { IsTask task.old.numbers task.old.solver.kept.problem }
+    requires choices { AreOver task.old.numbers choices.now }
+    ensures { QueryEnds (λ kb. IsTaskOf kb task.old.numbers task.old.solver.kept.problem) command.Why
+        choices.now limit task.old.numbers task.new.numbers task.old.solver.kept task.new.solver.kept result }
+{
+    let mut budget = begin(task, limit);
+    match conflict(alloc, task, choices, &mut budget) {
+        Ok(Some(some)) => Ok(Reply::Conflict(some)),
+        Ok(None) => Ok(Reply::Consistent),
+        Err(halt) => halted(halt, &budget),
     }
 }

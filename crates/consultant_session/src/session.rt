@@ -1,57 +1,85 @@
 //! Sessions over a knowledge base.
 ghost use Rattle.std.specs.Prelude.{◌≡◌, IfOk, OnOk, OnErr};
 ghost use Rattle.consult_text.specs.declared.commands.Command.TheVariants as command;
-ghost use Rattle.consultant_session.specs.Sessions.{TakesMemory, just_opened};
+ghost use Rattle.consultant_session.specs.Queries.{Searches};
+ghost use Rattle.consultant_session.specs.Sessions.{IsJustOpened, TakesMemory};
 ghost use Rattle.consult_base.specs.Opened.{base_of};
 ghost use Rattle.consult_text.specs.Lines.{IsCommandOver};
 ghost use Rattle.consult_text.specs.Literals.{IsLiteralOver};
 ghost use Rattle.consult_text.specs.RightReplies.{RightReply};
 ghost use Rattle.consult_text.specs.States.{state_after};
 
+mod asking;
+
 use crate::literals::{is_among, is_known, remove};
-use crate::queries::{Found, find_model};
+use crate::tasks::{task_of, unknown_of};
+use chooser::Choose;
+use clause_learning::Solver;
 use consult_base::KnowledgeBase;
 use consult_text::{Command, F, Reply};
+use ground_task::Task;
 use kb_logic::{Literal, LiteralList, Memory};
+use lit_core::Lit;
 use std::alloc::Global;
 use std::marker::Model;
 use std::mem;
 
-/// A session over a knowledge base.
+/// A session over a knowledge base. Its solver, which decides by the rule, is kept from one query to the next.
 #[derive(Drop)]
-pub struct Session {
+pub struct Session<C: Choose + Copy + Drop> {
     alloc: Global,
     kb: KnowledgeBase,
+    rule: C,
+    task: Task<Solver<C>>,
+    /// How many bounds and exclusions its problem may hold.
+    added: u64,
+    /// The literals of the variables of the atoms that the data leave unknown.
+    unknown: Vec<Lit>,
     choices: LiteralList,
     budget: Option<u64>,
 }
 
-impl Model for Session {
+impl<C: Choose + Copy + Drop> Model for Session<C> {
     ghost use Rattle.std.specs.Coded.{codes};
     ghost use Rattle.type_derivation.specs.contracts.typed.TypedKb as typed_kb;
-    ghost use Rattle.consultant_session.specs.Sessions.{SessionState, AreChoicesOver};
+    ghost use Rattle.consultant_session.specs.Sessions.{SessionState, IsSession};
 
     ghost Value = { SessionState };
 
     ghost coded = { Prim.hlevel (codes, typed_kb.the_row.coded) };
 
-    ghost view = { λ s. record { kb = s.kb; state = record { choices = s.choices; budget = s.budget } } };
+    ghost view = { λ s. record {
+      kb = s.kb;
+      state = record { choices = s.choices; budget = s.budget };
+      solver = s.task.solver.kept;
+    } };
 
-    ghost invariant = { λ s. AreChoicesOver s.kb s.choices };
+    ghost invariant = { λ s. IsSession s.kb s.choices s.unknown.items s.task.numbers s.task.solver.kept };
 }
 
-impl Session {
+impl<C: Choose + Copy + Drop> Session<C> {
     /// A session without choices, with this budget: how many conflicts a query may meet, without a limit where there is
-    /// no number.
-    pub fn open(alloc: Global, kb: KnowledgeBase, budget: Option<u64>) -> Session
-        ensures { result ≡ just_opened kb budget }
+    /// no number. Its solver decides by the rule.
+    pub fn open(
+        alloc: Global,
+        kb: KnowledgeBase,
+        budget: Option<u64>,
+        rule: C,
+    ) -> Result<Session<C>, Memory>
+        ensures { IfOk result (IsJustOpened kb budget) }
     {
-        Session {
+        let task = task_of(alloc, &kb, rule)?;
+        let unknown = unknown_of(alloc, &kb)?;
+        Ok(Session {
             alloc,
             kb,
+            rule,
+            task,
+            added: 0,
+            unknown,
             choices: LiteralList::new(alloc),
             budget,
-        }
+        })
     }
 
     /// What `open` took.
@@ -83,6 +111,8 @@ impl Session {
         ensures kept { OnErr result (self.new.state ≡ self.old.state) }
         ensures prompt { OnErr result (TakesMemory command.now) }
         ensures kb { self.new.kb ≡ self.old.kb }
+        ensures searches { Searches (base_of self.old.kb) command.now self.old.state.budget result self.old.solver
+            self.new.solver }
     {
         match command {
             Command::Assert(literal) => self.assert(literal),
@@ -93,11 +123,18 @@ impl Session {
             }
             Command::Choices => Ok(Reply::Choices(self.choices.copy(self.alloc)?)),
             Command::Model => self.model(),
+            Command::Models(most) => self.models(*most),
+            Command::Propagate => self.propagate(),
+            Command::Explain(literal) => self.explain(literal),
+            Command::Why => self.why(),
             Command::Budget(budget) => {
                 self.budget = *budget;
                 Ok(Reply::Fine)
             }
-            Command::Forget => Ok(Reply::Fine),
+            Command::Forget => {
+                self.task.forget();
+                Ok(Reply::Fine)
+            }
         }
     }
 
@@ -109,6 +146,7 @@ impl Session {
             (command.Assert literal.now)) }
         ensures kept { OnErr result (self.new.state ≡ self.old.state) }
         ensures kb { self.new.kb ≡ self.old.kb }
+        ensures solver { self.new.solver ≡ self.old.solver }
     {
         if is_known(&self.kb, literal) {
             return Ok(Reply::Refused(F::GivenByData));
@@ -125,6 +163,7 @@ impl Session {
         ensures after { self.new.state ≡ state_after (base_of self.old.kb) self.old.state
             (command.Retract literal.now) }
         ensures kb { self.new.kb ≡ self.old.kb }
+        ensures solver { self.new.solver ≡ self.old.solver }
     {
         if !is_among(self.choices.as_slice(), literal) {
             return Reply::Refused(F::NotChosen);
@@ -133,16 +172,5 @@ impl Session {
         remove(&mut choices, literal);
         self.choices = LiteralList::from_vec(choices);
         Reply::Fine
-    }
-
-    /// A model is sought afresh, so that nothing is kept from one query to the next.
-    fn model(&self) -> Result<Reply, Memory>
-        ensures { IfOk result (λ reply. RightReply (base_of self.now.kb) self.now.state command.Model reply) }
-    {
-        match find_model(self.alloc, &self.kb, self.choices.as_slice(), self.budget)? {
-            Found::Model(m) => Ok(Reply::Model(m)),
-            Found::NoModel => Ok(Reply::Inconsistent),
-            Found::Spent(budget) => Ok(Reply::Undecided(budget)),
-        }
     }
 }

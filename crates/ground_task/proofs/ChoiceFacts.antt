@@ -1,15 +1,14 @@
 -- Choices one after another.
-use Rattle.std.proofs.Common.{◌≡◌, ℕ, zero, suc, ◌+◌, ◌<◌, ◌≤◌, List, [], ◌∷◌, ◌++◌, length, get_or, take, All}
-use Rattle.std.proofs.Common.{Contains, refl, sym, ap, ◌∙◌, subst, arith, inl, inr, ⊎_elim, ◌⊎◌, slice_get, Some, None}
-use Rattle.std.proofs.lemmas.List.{take_more, get_or_default}
-use Rattle.std.proofs.lemmas.List.Elements.{Contains-push, Contains-append_left}
-use Rattle.std.proofs.lemmas.Bool.{cases_eq}
-use Rattle.std.proofs.lemmas.Option.{slice_get_cases}
+use Rattle.std.proofs.Common.{◌≡◌, ℕ, zero, suc, ◌+◌, ◌<◌, ◌≤◌, List, [], ◌∷◌, ◌++◌, length, get_or, take, drop}
+use Rattle.std.proofs.Common.{take_all, refl, sym, ap, ◌∙◌, subst, arith, inl, inr, ⊎_elim, ◌⊎◌, slice_get, Some, None}
+use Rattle.std.proofs.lemmas.List.{take_more, drop_more, drop_all}
+use Rattle.std.proofs.lemmas.Option.{slice_get_cases, slice_get_within, get_or_from_slice_get}
 use Rattle.kb_logic.specs.declared.structures.Literal.{Literal}
 use Rattle.kb_logic.specs.Structures.{EachWith}
 use Rattle.lit_core.specs.declared.literals.Lit.{Lit}
 use Rattle.ground_core.specs.Solving.{IsSublist}
-use Rattle.ground_core.proofs.Sublists.{sublist-skip}
+use Rattle.term_values.specs.GroundBases.{GroundBase}
+use Rattle.atom_numbers.specs.Numbers.{HasNumber}
 use Rattle.ground_task.specs.Choices.{AreChosen}
 
 pub each-push : {A B : Type 0} (R : A → B → Type 0) (xs : List A) (ys : List B) (x : A) (y : B) → EachWith R xs ys
@@ -33,19 +32,6 @@ each-next {A = A} R xs ys i x y lt is r h =
     (sym (take_more xs i x lt ∙ ap (λ (z : A). take i xs ++ z ∷ []) (sym is)))
     (each-push R (take i xs) ys x y h r)
 
-pub contains-item : {A : Type 0} (xs : List A) (k : ℕ) (d : A) → k < length xs → Contains xs (get_or xs k d)
-contains-item xs k d lt = (k, lt, get_or_default xs k (get_or xs k d) d lt)
-
--- the item of the first list that stands where this one of the second does
-pub each-item : {A B : Type 0} (R : A → B → Type 0) (xs : List A) (ys : List B) → EachWith R xs ys → (k : ℕ) (y : B)
-    → k < length ys → get_or ys k y ≡ y → (x : A) × (k < length xs) × (get_or xs k x ≡ x) × R x y
-each-item R [] [] h k y lt is = absurd (omega (arith, lt))
-each-item R [] (z ∷ ys) h k y lt is = absurd h
-each-item R (w ∷ xs) [] h k y lt is = absurd h
-each-item R (w ∷ xs) (z ∷ ys) h zero y lt is = (w, omega arith, refl, subst (R w) is h.0)
-each-item R (w ∷ xs) (z ∷ ys) h (suc k) y lt is =
-    let r = each-item R xs ys h.1 k y (omega (arith, lt)) is in (r.0, omega (arith, r.1), r.2, r.3)
-
 sublist-push : {A : Type 0} (xs ys : List A) (y : A) → IsSublist xs ys → IsSublist (xs ++ y ∷ []) (ys ++ y ∷ [])
 sublist-push [] [] y s = inl (refl, tt)
 sublist-push [] (z ∷ ys) y s = inr (sublist-push [] ys y tt)
@@ -68,38 +54,100 @@ sublist-next {X = X} cs j xs l s = at (slice_get_cases cs j).1
     at (inl c) = subst (IsSublist xs) (sym (take_more cs j c.0 l)) (sublist-more xs (take j cs) (get_or cs j c.0) s)
     at (inr c) = absurd (omega (arith, l, c.0))
 
-module _ (core lits : List Lit) (choices : List Literal) (i : ℕ) (some : List Literal) (lt : i < length choices)
-    (h : AreChosen core lits choices i some) where
-  next-choices : (c : Literal) → c ≡ get_or choices i c → take (i + 1) choices ≡ take i choices ++ c ∷ []
-  next-choices c is = take_more choices i c lt ∙ ap (λ (z : Literal). take i choices ++ z ∷ []) (sym is)
+-- the two items that stand at one place
+each-at : {A B : Type 0} (R : A → B → Type 0) (xs : List A) (ys : List B) → EachWith R xs ys → (k : ℕ) (d : A) (e : B)
+    → k < length xs → R (get_or xs k d) (get_or ys k e)
+each-at R [] ys h k d e lt = absurd (omega (arith, lt))
+each-at R (x ∷ xs) [] h k d e lt = absurd h
+each-at R (x ∷ xs) (y ∷ ys) h zero d e lt = h.0
+each-at R (x ∷ xs) (y ∷ ys) h (suc k) d e lt = each-at R xs ys h.1 k d e (omega (arith, lt))
 
-  pub chosen-more : (c : Literal) → c ≡ get_or choices i c → AreChosen core lits choices (i + 1) (some ++ c ∷ [])
-  chosen-more c is = record {
-    among = subst (IsSublist (some ++ c ∷ [])) (sym (next-choices c is)) (sublist-push some (take i choices) c h.among);
-    all = λ k d e less has. ⊎_elim
-        (λ same. subst (Contains (some ++ c ∷ [])) (is ∙ item same e) (Contains-push some c))
-        (λ other. Contains-append_left some (c ∷ []) (get_or choices k e)
-        (h.all k d e (omega (arith, less, other)) has))
-        (cases_eq k i);
+sublist-tail : {A : Type 0} (x : A) (xs ys : List A) → IsSublist (x ∷ xs) ys → IsSublist xs ys
+sublist-tail x [] ys s = tt
+sublist-tail x (z ∷ xs) [] s = absurd s
+sublist-tail x (z ∷ xs) (y ∷ ys) s =
+    ⊎_elim (λ a. inr a.1) (λ b. inr (sublist-tail x (z ∷ xs) ys b)) s
+
+-- what is left of the first list where its first item is found in the second, and where it is not
+sublist-found : {A : Type 0} (x y : A) (xs ys : List A) → IsSublist (x ∷ xs) (y ∷ ys) → IsSublist xs ys
+sublist-found x y xs ys s = ⊎_elim (λ a. a.1) (λ b. sublist-tail x xs ys b) s
+
+sublist-missed : {A : Type 0} (x y : A) (xs ys : List A) → (x ≡ y → ⊥) → IsSublist (x ∷ xs) (y ∷ ys)
+    → IsSublist (x ∷ xs) ys
+sublist-missed x y xs ys not s = ⊎_elim (λ a. absurd (not a.0)) (λ b. b) s
+
+-- what holds once the first k choices were passed, with so many literals of the core
+pub record IsSoFar (b : GroundBase) (choices : List Literal) (lits core : List Lit) (k at : ℕ) (some : List Literal)
+    : Type 0 where
+  pub left : IsSublist (drop at core) (drop k lits)
+  pub among : IsSublist some (take k choices)
+  pub each : EachWith (HasNumber b) some (take at core)
+
+pub so-far-begins : (b : GroundBase) (choices : List Literal) (lits core : List Lit) → IsSublist core lits
+    → IsSoFar b choices lits core 0 0 []
+so-far-begins b choices lits core s = record { left = s; among = tt; each = tt }
+
+module _ (b : GroundBase) (choices : List Literal) (lits core : List Lit) (k at : ℕ) (some : List Literal)
+    (each : EachWith (HasNumber b) choices lits) (h : IsSoFar b choices lits core k at some) where
+  same : length choices ≡ length lits
+  same = each-length (HasNumber b) choices lits each
+
+  pub so-far-ends : length choices ≤ k → AreChosen b choices core some
+  so-far-ends le = record {
+    among = subst (IsSublist some) (take_all k choices le) h.among;
+    each = subst (EachWith (HasNumber b) some) (take_all at core (none-left (drop at core) refl)) h.each;
   }
     where
-      item : {k : ℕ} → k ≡ i → (e : Literal) → get_or choices i c ≡ get_or choices k e
-      item {k = k} same e = get_or_default choices i c e lt ∙ ap (λ j. get_or choices j e) (sym same)
+      none : IsSublist (drop at core) []
+      none = subst (IsSublist (drop at core)) (drop_all k lits (omega (arith, le, same))) h.left
 
-  pub chosen-same : (l : Lit) → l ≡ get_or lits i l → (Contains core l → ⊥) → i < length lits
-      → AreChosen core lits choices (i + 1) some
-  chosen-same l is not within = record {
-    among = sublist-next choices i some lt h.among;
-    all = λ k d e less has. ⊎_elim
-        (λ same. absurd (not (subst (Contains core) (ap (λ j. get_or lits j d) same
-        ∙ sym (is ∙ get_or_default lits i l d within)) has)))
-        (λ other. h.all k d e (omega (arith, less, other)) has)
-        (cases_eq k i);
-  }
+      none-left : (rest : List Lit) → drop at core ≡ rest → length core ≤ at
+      none-left rest is = ⊎_elim
+          (λ c. absurd (subst (λ (ls : List Lit). IsSublist ls []) (drop_more core at c.0 c.1) none))
+          (λ c. c.0)
+          (slice_get_cases core at).1
 
-pub chosen-same-at : (core lits : List Lit) (choices : List Literal) (i : ℕ) (some : List Literal) → i < length choices
-    → AreChosen core lits choices i some → (d : Lit) → (Contains core (get_or lits i d) → ⊥) → i < length lits
-    → AreChosen core lits choices (i + 1) some
-chosen-same-at core lits choices i some lt h d not within =
-    chosen-same core lits choices i some lt h (get_or lits i d)
-    (get_or_default lits i d (get_or lits i d) within) not within
+  module _ (lt : k < length choices) (lit : Lit) (is : lit ≡ get_or lits k lit) where
+    within : k < length lits
+    within = omega (arith, lt, same)
+
+    lits-left : drop k lits ≡ lit ∷ drop (k + 1) lits
+    lits-left = drop_more lits k lit within ∙ ap (λ (l : Lit). l ∷ drop (k + 1) lits) (sym is)
+
+    pub so-far-missed : (slice_get core at ≡ Some lit → ⊥) → IsSoFar b choices lits core (k + 1) at some
+    so-far-missed not = record {
+      left = ⊎_elim
+          (λ c. let here : drop at core ≡ c.0 ∷ drop (at + 1) core =
+          drop_more core at c.0 c.1 ∙ ap (λ (l : Lit). l ∷ drop (at + 1) core) c.3 in
+          subst (λ (ls : List Lit). IsSublist ls (drop (k + 1) lits)) (sym here)
+          (sublist-missed c.0 lit (drop (at + 1) core) (drop (k + 1) lits) (λ e. not (c.2 ∙ ap Some e))
+          (subst (λ (ls : List Lit). IsSublist ls (lit ∷ drop (k + 1) lits)) here
+          (subst (IsSublist (drop at core)) lits-left h.left))))
+          (λ c. subst (λ (ls : List Lit). IsSublist ls (drop (k + 1) lits)) (sym (drop_all at core c.0)) tt)
+          (slice_get_cases core at).1;
+      among = sublist-next choices k some lt h.among;
+      each = h.each;
+    }
+
+    pub so-far-found : (c : Literal) → c ≡ get_or choices k c → slice_get core at ≡ Some lit
+        → IsSoFar b choices lits core (k + 1) (at + 1) (some ++ c ∷ [])
+    so-far-found c c_is found = record {
+      left = sublist-found lit lit (drop (at + 1) core) (drop (k + 1) lits)
+          (subst (λ (ls : List Lit). IsSublist ls (lit ∷ drop (k + 1) lits))
+          (drop_more core at lit inside ∙ ap (λ (l : Lit). l ∷ drop (at + 1) core) item)
+          (subst (IsSublist (drop at core)) lits-left h.left));
+      among = subst (IsSublist (some ++ c ∷ []))
+          (sym (take_more choices k c lt ∙ ap (λ (z : Literal). take k choices ++ z ∷ []) (sym c_is)))
+          (sublist-push some (take k choices) c h.among);
+      each = subst (EachWith (HasNumber b) (some ++ c ∷ []))
+          (sym (take_more core at lit inside ∙ ap (λ (l : Lit). take at core ++ l ∷ []) item))
+          (each-push (HasNumber b) some (take at core) c lit h.each
+          (subst (λ (l : Lit). HasNumber b c l) (sym is) (subst (λ (z : Literal). HasNumber b z (get_or lits k lit))
+          (sym c_is) (each-at (HasNumber b) choices lits each k c lit lt))));
+    }
+      where
+        inside : at < length core
+        inside = slice_get_within core at lit found
+
+        item : get_or core at lit ≡ lit
+        item = get_or_from_slice_get core at lit lit found

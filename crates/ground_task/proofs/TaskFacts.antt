@@ -1,9 +1,8 @@
 -- What the values and cores of a task's solver say of models.
-use Rattle.std.proofs.Common.{◌≡◌, ℕ, suc, ◌+◌, ◌<◌, ◌≤◌, Bool, true, false, not, List, [], ◌∷◌, length, get_or}
-use Rattle.std.proofs.Common.{slice_get, take, All, Contains, Some, None, refl, sym, ap, ◌∙◌, subst, arith, inl, inr}
-use Rattle.std.proofs.Common.{⊎_elim, ◌⊎◌}
+use Rattle.std.proofs.Common.{◌≡◌, ℕ, suc, ◌<◌, ◌≤◌, Bool, true, false, not, List, [], ◌∷◌, length, get_or}
+use Rattle.std.proofs.Common.{All, refl, sym, ap, ◌∙◌, subst, arith, inl, inr}
+use Rattle.std.proofs.Common.{Err}
 use Rattle.std.specs.List.{AllByRecursion}
-use Rattle.std.proofs.Math.Seq.{take-length}
 use Rattle.std.proofs.lemmas.Bool.{cases_Bool, both_ways}
 use Rattle.std.proofs.lemmas.Option.{slice_get_within}
 use Rattle.std.proofs.lemmas.List.Elements.{All-nil, All-cons, All-head, All-tail, All-contains}
@@ -15,23 +14,24 @@ use Rattle.kb_logic.specs.KnownAtoms.{KnownAtoms, atoms_over}
 use Rattle.kb_logic.specs.Models.{HoldsIn, HoldsWithSign, AtomHolds, atom_of}
 use Rattle.kb_logic.specs.Domains.{AreDomainsOf}
 use Rattle.kb_logic.specs.Structures.{EachWith}
-use Rattle.kb_logic.proofs.Members.{all_in}
+use Rattle.kb_logic.proofs.DistinctAtoms.{atoms_distinct}
 use Rattle.lit_core.specs.declared.literals.Lit.{Lit}
 use Rattle.lit_core.specs.Literals.{literal_value, by_sign}
 use Rattle.ground_core.specs.Problems.{ProblemState, IsProblem, IsLitOf, AreLitsOf}
 use Rattle.ground_core.specs.Meaning.{Satisfies, MakesTrue, RefutesAll}
-use Rattle.ground_core.specs.Solving.{IsSublist, AreUnretired}
-use Rattle.ground_core.proofs.CoreFacts.{sublist-within}
+use Rattle.ground_core.specs.declared.solving.Halt.{Halt}
+use Rattle.ground_core.specs.declared.solving.Halt.TheVariants.{Spent, Memory}
+use Rattle.ground_core.specs.Solving as solving
+use Rattle.ground_core.specs.Solving.{AreUnretired, HasCoreWithin}
 use Rattle.term_values.specs.GroundBases.{GroundBase, structure_of}
 use Rattle.term_values.specs.KnownBases.{IsGroundBase, AreDataOf}
 use Rattle.term_values.proofs.StructureAtoms.{atom-true}
 use Rattle.term_values.proofs.TypedLaws.{domains-ground}
+use Rattle.term_values.proofs.Chosen.{index-of}
 use Rattle.def_ground.specs.Groundings.{IsGroundingOf}
 use Rattle.def_ground.proofs.StartLaws.{atoms-length}
 use Rattle.atom_numbers.specs.Numbers.{HasNumber, bare_base}
-use Rattle.ground_task.specs.Tasks.{atom_base, Represents, IsTaskOf}
-use Rattle.ground_task.specs.Choices.{AreChosen}
-use Rattle.ground_task.proofs.ChoiceFacts.{each-item, contains-item}
+use Rattle.ground_task.specs.Tasks.{atom_base, IsTaskOf, IsRefusal}
 
 -- a literal is true in the structure exactly where its variable's literal is
 module _ (b : GroundBase) (is : IsGroundBase b) (v : ℕ → Bool) (l : Literal) (lit : Lit) (n : HasNumber b l lit) where
@@ -82,11 +82,41 @@ all-chosen b is v (c ∷ choices) (l ∷ lits) h t = (
   all-chosen b is v choices lits h.1 (All-tail (λ k. literal_value v k ≡ true) l lits t),
 )
 
+-- and what is chosen is true under them
+pub all-true : (b : GroundBase) → IsGroundBase b → (v : ℕ → Bool) (choices : List Literal) (lits : List Lit)
+    → EachWith (HasNumber b) choices lits → AllByRecursion (HoldsIn (structure_of b v)) choices → MakesTrue v lits
+all-true b is v [] [] h t = All-nil (λ k. literal_value v k ≡ true)
+all-true b is v [] (l ∷ lits) h t = absurd h
+all-true b is v (c ∷ choices) [] h t = absurd h
+all-true b is v (c ∷ choices) (l ∷ lits) h t = All-cons (λ k. literal_value v k ≡ true) l lits
+    (holds-true b is v c l h.0 t.0) (all-true b is v choices lits h.1 t.1)
+
+-- a literal has one number
+pub one-number : (b : GroundBase) → IsGroundBase b → (l : Literal) (j k : Lit) → HasNumber b l j → HasNumber b l k
+    → j ≡ k
+one-number b is l j k x y =
+    let place : x.place ≡ y.place = index-of (atoms_over b.vocabulary.symbols b.domains) x.place y.place (atom_of l)
+    (atoms_distinct b.vocabulary.symbols b.domains is.distinct) x.atom y.atom in
+    ap (λ (n : ℕ). record { var = record { 0 = n }; positive = j.positive })
+    (x.var ∙ ap suc place ∙ sym y.var)
+    ∙ ap (λ (s : Bool). record { var = k.var; positive = s }) (x.sign ∙ sym y.sign)
+
+pub one-list : (b : GroundBase) → IsGroundBase b → (choices : List Literal) (ls ms : List Lit)
+    → EachWith (HasNumber b) choices ls → EachWith (HasNumber b) choices ms → ls ≡ ms
+one-list b is [] [] [] x y = refl
+one-list b is [] [] (m ∷ ms) x y = absurd y
+one-list b is [] (l ∷ ls) ms x y = absurd x
+one-list b is (c ∷ cs) [] ms x y = absurd x
+one-list b is (c ∷ cs) (l ∷ ls) [] x y = absurd y
+one-list b is (c ∷ cs) (l ∷ ls) (m ∷ ms) x y =
+    ap (λ (k : Lit). k ∷ ls) (one-number b is c l m x.0 y.0)
+    ∙ ap (λ (ks : List Lit). m ∷ ks) (one-list b is cs ls ms x.1 y.1)
+
 module _ (base : Base) (b : GroundBase) (p : ProblemState) (h : IsTaskOf base b p) where
-  fine : IsGroundBase b
+  pub fine : IsGroundBase b
   fine = subst IsGroundBase (sym h.numbers) h.fine
 
-  atoms-number : length p.atoms ≡ length (atoms_over b.vocabulary.symbols b.domains)
+  pub atoms-number : length p.atoms ≡ length (atoms_over b.vocabulary.symbols b.domains)
   atoms-number = h.represents.atoms ∙ ap (λ (x : GroundBase). length (atoms_over x.vocabulary.symbols x.domains))
       (sym h.numbers)
 
@@ -120,27 +150,34 @@ module _ (base : Base) (b : GroundBase) (p : ProblemState) (h : IsTaskOf base b 
           chosen = all-chosen b fine v choices lits each t;
         }
 
-    pub is-none : (core : List Lit) (some : List Literal) → IsSublist core lits → RefutesAll p core
-        → AreChosen core lits choices (length choices) some → (m : Structure) → IsModelUnder base some m → ⊥
-    is-none core some sub refuted chosen m under =
-        let e = h.represents.extends m
-        (record { structure = under.structure; extends = under.extends; theory = under.theory; chosen = tt }) in
-        let same : structure_of b e.0 ≡ m = ap (λ (x : GroundBase). structure_of x e.0) h.numbers ∙ e.2 in
-        refuted e.0 e.1 (λ k d lt. core-true e.0 same (get_or core k d) (contains-item core k d lt)
-        (sublist-within core lits sub k d lt))
-      where
-        core-true : (v : ℕ → Bool) → structure_of b v ≡ m → (l : Lit) → Contains core l → Contains lits l
-            → literal_value v l ≡ true
-        core-true v same l in_core has =
-            let c = each-item (HasNumber b) choices lits each has.0 l has.1 has.2 in
-            let kept : Contains some c.0 =
-            subst (Contains some) c.2 (chosen.all has.0 l c.0 c.1 (subst (Contains core) (sym has.2) in_core)) in
-            let holds : HoldsIn m c.0 = all_in (HoldsIn m) some under.chosen c.0 kept in
-            holds-true b fine v c.0 l c.3 (subst (λ (x : Structure). HoldsIn x c.0) (sym same) holds)
+  -- each model under the choices is the structure of a valuation that makes their literals true
+  pub valued : (choices : List Literal) (lits : List Lit) → EachWith (HasNumber b) choices lits → (m : Structure)
+      → IsModelUnder base choices m
+      → (v : ℕ → Bool) × Satisfies p v × MakesTrue v lits × (structure_of b v ≡ m)
+  valued choices lits each m under =
+      let e = h.represents.extends m
+      (record { structure = under.structure; extends = under.extends; theory = under.theory; chosen = tt }) in
+      let same : structure_of b e.0 ≡ m = ap (λ (x : GroundBase). structure_of x e.0) h.numbers ∙ e.2 in (
+        e.0,
+        e.1,
+        all-true b fine e.0 choices lits each
+            (subst (λ (x : Structure). AllByRecursion (HoldsIn x) choices) (sym same) under.chosen),
+        same,
+      )
 
-    pub are-some : (core : List Lit) (some : List Literal) → AreChosen core lits choices (length choices) some
-        → IsSublist some choices
-    are-some core some chosen = subst (IsSublist some) (take-length choices) chosen.among
+  -- what is shown of one list of the choices' literals is shown of the other, which is the same
+  pub shown-of : (choices : List Literal) (ls ms : List Lit) → EachWith (HasNumber b) choices ls
+      → EachWith (HasNumber b) choices ms → (cores : List (List Lit)) → HasCoreWithin cores ls → HasCoreWithin cores ms
+  shown-of choices ls ms x y cores shown = subst (HasCoreWithin cores) (one-list b fine choices ls ms x y) shown
+
+  pub has-none : (core : List Lit) (some : List Literal) → EachWith (HasNumber b) some core → RefutesAll p core
+      → (m : Structure) → IsModelUnder base some m → ⊥
+  has-none core some each refuted m under = let e = valued some core each m under in refuted e.0 e.1 e.2
+
+-- what halts at once halts for memory
+pub halted : (halt : Halt) → solving.IsRefusal (Err halt) → IsRefusal (Err halt)
+halted Spent h = h
+halted Memory h = h
 
 abbrev AreDomains : Vocabulary → KnownAtoms → Type 0
 AreDomains v k = AreDomainsOf v k.domains
@@ -159,6 +196,8 @@ opened v k p b data_of is none base voc known g = record {
     atoms = ap length g.atoms ∙ atoms-length base.vocabulary.symbols base.known.domains;
     gives = g.gives;
     extends = g.extends;
+    number = g.number;
+    terms = g.terms;
   };
   unretired = subst (λ (ls : List Lit). All (λ (l : Lit). length p.atoms < l.var.0) ls) (sym none)
       (All-nil (λ (l : Lit). length p.atoms < l.var.0));

@@ -1,6 +1,8 @@
 //! Choices as literals of variables, and back.
-ghost use Rattle.std.specs.Prelude.{◌≡◌, ◌≤◌, length, IsTrue, Contains, IfOk, ◌↔◌};
+ghost use Rattle.std.specs.Prelude.{◌≡◌, length, slice_get, Some, IsTrue, IfOk, ◌↔◌};
 ghost use Rattle.kb_logic.specs.Structures.{EachWith};
+ghost use Rattle.ground_core.specs.Solving.{IsSublist};
+ghost use Rattle.term_values.specs.GroundBases.{GroundBase};
 ghost use Rattle.atom_numbers.specs.Numbers.{HasNumber};
 ghost use Rattle.ground_task.specs.Choices.{AreOver, AreChosen};
 
@@ -25,29 +27,37 @@ pub(crate) fn lits_of(
     Ok(lits)
 }
 
-/// Whether the literal is one of these.
-fn is_among(core: &[Lit], lit: Lit) -> bool
-    ensures { IsTrue result ↔ Contains core.now lit }
+/// Whether the literal is the one that stands here.
+fn stands_at(lits: &[Lit], at: usize, lit: Lit) -> bool
+    ensures { IsTrue result ↔ slice_get lits.now at ≡ Some lit }
 {
-    core.iter().any(|other| *other == lit)
+    match lits.get(at) {
+        Some(found) => *found == lit,
+        None => false,
+    }
 }
 
-/// The choices whose literals are in the core.
+// A core has its literals in the order of what was assumed, so that one walk along both finds all.
+/// The choices whose literals the core has, in their order.
 pub(crate) fn chosen_among(
     alloc: Global,
     choices: &[Literal],
     lits: &[Lit],
     core: &[Lit],
 ) -> Result<LiteralList, Memory>
-    requires { length choices.now ≡ length lits.now }
-    ensures { IfOk result (λ some. AreChosen core.now lits.now choices.now (length choices.now) some) }
+    requires same { length choices.now ≡ length lits.now }
+    requires among { IsSublist core.now lits.now }
+    ensures { IfOk result (λ some. (b : GroundBase) → EachWith (HasNumber b) choices.now lits.now
+        → AreChosen b choices.now core.now some) }
 {
     let mut some = LiteralList::new(alloc);
+    let mut at = 0;
     for k in 0..choices.len() {
-        if !is_among(core, lits[k]) {
+        if !stands_at(core, at, lits[k]) {
             continue;
         }
         some.push(choices[k].copy(alloc)?)?;
+        at += 1;
     }
     Ok(some)
 }

@@ -1,22 +1,24 @@
 //! Tasks.
-ghost use Rattle.std.specs.Prelude.{◌≡◌, ◌≤◌, ◌^◌, [], length, IfOk, IfErr};
+ghost use Rattle.std.specs.Prelude.{◌≡◌, ◌≤◌, ◌^◌, [], List, length, IfOk, IfErr};
 ghost use Rattle.kb_logic.specs.Bases.{Base};
+ghost use Rattle.kb_logic.specs.Structures.{EachWith};
 ghost use Rattle.kb_logic.specs.Models.{IsAtomOver, atom_of};
+ghost use Rattle.lit_core.specs.declared.literals.Lit.{Lit};
 ghost use Rattle.lit_core.specs.Literals.{valuation};
-ghost use Rattle.ground_core.specs.Solving.{IsBudgetOf, HaltedAt, IsKept};
-ghost use Rattle.ground_core.specs.Calls.{Keeps, Costs, Stays};
+ghost use Rattle.ground_core.specs.Solving.{IsBudgetOf, HaltedAt, HasCoreWithin, IsSublist};
+ghost use Rattle.ground_core.specs.Calls.{CallEnds, Stays};
 ghost use Rattle.term_values.specs.GroundBases.{structure_of};
 ghost use Rattle.term_values.specs.KnownBases.{AreDataOf};
 ghost use Rattle.def_ground.specs.Groundings.{IsGroundingOf};
 ghost use Rattle.atom_numbers.specs.Numbers.{HasNumber};
-ghost use Rattle.ground_task.specs.Tasks.{IsTaskOf, IsTask, IsAnswer};
-ghost use Rattle.ground_task.specs.Choices.{AreOver};
+ghost use Rattle.ground_task.specs.Tasks.{IsTaskOf, IsTask, IsAnswer, IsShown, IsRefusedAtOnce};
+ghost use Rattle.ground_task.specs.Choices.{AreOver, AreChosen};
 
 use crate::answers::Answer;
 use crate::choices::{chosen_among, lits_of};
 use atom_numbers::AtomNumbers;
 use ground_core::{Budget, Grow, Halt, Memory as NoMemory, Solve, Verdict};
-use kb_logic::{ExtInt, Literal, Memory, Structure, Vocabulary};
+use kb_logic::{ExtInt, Literal, LiteralList, Memory, Structure, Vocabulary};
 use lit_core::{Lit, Values};
 use model_expansion::expand;
 use partial_structures::Partial;
@@ -52,6 +54,13 @@ impl<S: Solve + Drop> Task<S> {
 }
 
 impl<S: Solve> Task<S> {
+    /// The variables of the ground atoms.
+    pub fn numbers(&self) -> &AtomNumbers
+        ensures { result.now ≡ self.now.numbers }
+    {
+        &self.numbers
+    }
+
     /// The literal of the variable that the literal's atom has.
     pub fn lit_of(&self, literal: &Literal) -> Lit
         requires { IsAtomOver self.now.numbers.vocabulary.symbols self.now.numbers.domains (atom_of literal.now) }
@@ -67,6 +76,30 @@ impl<S: Solve> Task<S> {
         self.numbers.structure_of(alloc, values)
     }
 
+    /// The literals of the choices' variables.
+    pub fn lits_of(&self, alloc: Global, choices: &[Literal]) -> Result<Vec<Lit>, Memory>
+        requires { AreOver self.now.numbers choices.now }
+        ensures { IfOk result (λ lits. EachWith (HasNumber self.now.numbers) choices.now lits.items) }
+    {
+        lits_of(alloc, &self.numbers, choices)
+    }
+
+    /// The choices whose literals the core has, where these are the literals of all choices. It takes time linear in
+    /// the choices.
+    pub fn chosen_among(
+        &self,
+        alloc: Global,
+        choices: &[Literal],
+        lits: &[Lit],
+        core: &[Lit],
+    ) -> Result<LiteralList, Memory>
+        requires each { EachWith (HasNumber self.now.numbers) choices.now lits.now }
+        requires among { IsSublist core.now lits.now }
+        ensures { IfOk result (AreChosen self.now.numbers choices.now core.now) }
+    {
+        chosen_among(alloc, choices, lits, core)
+    }
+
     /// A model that makes the choices true, or some of them under which there is none, by one search.
     pub fn ask(
         &mut self,
@@ -79,17 +112,19 @@ impl<S: Solve> Task<S> {
         requires budget { IsBudgetOf (S.state self.old.solver).learnt budget.old }
         ensures answer { IfOk result (λ a. (base : Base)
             → IsTaskOf base self.old.numbers (S.state self.old.solver).problem → IsAnswer base choices.now a) }
+        ensures shown { IfOk result (IsShown self.old.numbers choices.now (S.state self.new.solver).cores) }
         ensures task { (base : Base) → IsTaskOf base self.old.numbers (S.state self.old.solver).problem
             → IsTaskOf base self.new.numbers (S.state self.new.solver).problem }
         ensures halt { IfErr result (HaltedAt budget.new) }
         ensures stays { Stays (S.state self.old.solver) (S.state self.new.solver) }
-        ensures keeps { Keeps (S.state self.old.solver) (S.state self.new.solver) budget.old budget.new }
-        ensures costs { Costs 1 (S.state self.old.solver) (S.state self.new.solver) budget.old budget.new }
-        ensures kept { IsKept (S.state self.new.solver) }
+        ensures ends { CallEnds 1 (S.state self.old.solver) (S.state self.new.solver) budget.old budget.new }
+        ensures decided { (lits : List Lit) → EachWith (HasNumber self.old.numbers) choices.now lits
+            → HasCoreWithin (S.state self.old.solver).cores lits
+            → IsRefusedAtOnce (S.state self.old.solver) (S.state self.new.solver) result }
         ensures later { S.goes_on self.old.solver self.new.solver }
     {
         self.solver.known();
-        let Ok(lits) = lits_of(alloc, &self.numbers, choices) else {
+        let Ok(lits) = self.lits_of(alloc, choices) else {
             return Err(Halt::Memory);
         };
         match expand(&mut self.solver, lits.as_slice(), budget) {
@@ -98,7 +133,7 @@ impl<S: Solve> Task<S> {
                 Err(_) => Err(Halt::Memory),
             },
             Ok(Verdict::Unsat(core)) => {
-                match chosen_among(alloc, choices, lits.as_slice(), core.as_slice()) {
+                match self.chosen_among(alloc, choices, lits.as_slice(), core.as_slice()) {
                     Ok(some) => Ok(Answer::NoModel(some)),
                     Err(_) => Err(Halt::Memory),
                 }

@@ -7,6 +7,7 @@ mod Ending
 mod Replying
 mod Consulting
 mod Elimination
+mod LiteralsOver
 mod OneAnswer
 mod LongFiles
 mod FileLaws

@@ -1,9 +1,11 @@
 -- The printed bytes determine what was answered.
 use Rattle.std.proofs.Common.{◌≡◌, ℕ, ◌≤◌, ◌<◌, ◌^◌, List, [], ◌∷◌, ◌++◌, refl, sym, ap, ◌∙◌, subst, Bool, true, false}
-use Rattle.std.proofs.Common.{cond, not, filter, length, arith, Option, Some, None, Ok, Err}
+use Rattle.std.proofs.Common.{cond, not, filter, length, arith, Option, Some, None, Ok, Err, inl, inr}
 use Rattle.std.specs.List.{AllByRecursion}
 use Rattle.std.proofs.lemmas.List.{append_cancel_left}
+use Rattle.kb_logic.specs.declared.structures.Structure.{Structure}
 use Rattle.kb_logic.specs.Bases.{Base}
+use Rattle.kb_logic.specs.InForce.{InForce, IsModelOf}
 use Rattle.consult_text.specs.declared.commands.Command.{Command}
 use Rattle.consult_text.specs.declared.commands.Command.TheVariants as command
 use Rattle.consult_text.specs.declared.refusals.F.{F}
@@ -16,10 +18,13 @@ use Rattle.consult_text.specs.Lines.{HasCommand, Asks, IsCommandOver}
 use Rattle.consult_text.specs.Literals.{IsLiteralOver}
 use Rattle.consult_text.specs.Laws.{Meaning, Means, HasOneMeaning, CommandsAreOverTheBase}
 use Rattle.consult_text.specs.Texts.{reply_text}
-use Rattle.consult_text.specs.OneText.{HasWordNames, IsReplyTo, IsReplyOver, NoTwoRepliesHaveOneText}
+use Rattle.consult_text.specs.OneText.{HasWordNames, IsStructureOver, IsReplyOver, NoTwoRepliesHaveOneText}
+use Rattle.consult_text.specs.Replies.{IsRefusal, IsReplyTo}
 use Rattle.consult_text.specs.States.{State, first_state, same_literal, command_refusal, carried_out, unless_refused}
 use Rattle.consult_text.specs.States.{state_after}
-use Rattle.consult_text.specs.RightReplies.{RightAnswer, RightUnless, RightReply}
+use Rattle.consult_text.specs.RightReplies.{in_force, IsSo, RightAnswer, RightUnless, RightReply}
+use Rattle.consultant_session.proofs.FoundLemmas.{of_some}
+use Rattle.idp_cli.proofs.LiteralsOver.{some_over}
 use Rattle.idp_cli.specs.Turns.{reply_of}
 use Rattle.idp_cli.specs.Consultation.{Said, nothing, too_long, refused, replied, IsRightAnswer, state_left, said_text}
 use Rattle.idp_cli.specs.Consultation.{said_texts, Consultation}
@@ -30,22 +35,39 @@ small_budget : (budget : Option ℕ) (k : ℕ) → IsBudgetInRange budget → bu
 small_budget None k within is = absurd (cc)
 small_budget (Some n) k within is = let same : n ≡ k = cc in omega (arith, within, same)
 
+-- a model is over the knowledge base
+model_over : (kb : Base) (p : InForce) (m : Structure) → IsModelOf kb p m → IsStructureOver kb m
+model_over kb p m is = (is.structure, is.extends.domains)
+
+models_over : (kb : Base) (p : InForce) (ms : List Structure) → AllByRecursion (IsModelOf kb p) ms
+    → AllByRecursion (IsStructureOver kb) ms
+models_over kb p [] all = tt
+models_over kb p (m ∷ ms) all = (model_over kb p m all.0, models_over kb p ms all.1)
+
 -- a right reply is one over the knowledge base
 answer_over : (kb : Base) (s : State) (c : Command) (r : Reply) → IsStateOver kb s → RightAnswer kb s c r
     → IsReplyOver kb r
-answer_over kb s (command.Assert l) r over is = let P : Reply → Type 0 = λ r. IsReplyOver kb r in subst P (sym is) tt
-answer_over kb s (command.Retract l) r over is = let P : Reply → Type 0 = λ r. IsReplyOver kb r in subst P (sym is) tt
-answer_over kb s command.Reset r over is = let P : Reply → Type 0 = λ r. IsReplyOver kb r in subst P (sym is) tt
-answer_over kb s command.Choices r over is = let P : Reply → Type 0 = λ r. IsReplyOver kb r in
-    subst P (sym is) over.choices
-answer_over kb s (command.Budget b) r over is = let P : Reply → Type 0 = λ r. IsReplyOver kb r in subst P (sym is) tt
-answer_over kb s command.Forget r over is = let P : Reply → Type 0 = λ r. IsReplyOver kb r in subst P (sym is) tt
-answer_over kb s command.Model reply.Fine over is = absurd is
-answer_over kb s command.Model (reply.Refused f) over is = absurd is
-answer_over kb s command.Model (reply.Choices ls) over is = absurd is
-answer_over kb s command.Model (reply.Model m) over is = (is.structure, is.extends.domains)
-answer_over kb s command.Model reply.Inconsistent over is = tt
-answer_over kb s command.Model (reply.Undecided k) over is = small_budget s.budget k over.budget is.0
+answer_over kb s c reply.Fine over is = tt
+answer_over kb s c (reply.Refused f) over is = absurd is.1
+answer_over kb s c (reply.Choices ls) over is = subst (AllByRecursion (IsLiteralOver kb)) (sym is.1) over.choices
+answer_over kb s c (reply.Model m) over is = model_over kb (in_force s) m is.1
+answer_over kb s c (reply.Models ms all) over is = several c is.1
+  where
+    several : (c : Command) → IsSo kb s c (reply.Models ms all) → AllByRecursion (IsStructureOver kb) ms
+    several (command.Models n) is = models_over kb (in_force s) ms is.models
+    several c is = absurd is
+answer_over kb s c (reply.Forced ls) over is = some_over kb ls is.1.order
+answer_over kb s c (reply.Supported ls) over is = supported c is.1
+  where
+    supported : (c : Command) → IsSo kb s c (reply.Supported ls) → AllByRecursion (IsLiteralOver kb) ls
+    supported (command.Explain l) is = of_some (IsLiteralOver kb) ls s.choices is.among.choices over.choices
+    supported c is = absurd is
+answer_over kb s c reply.Free over is = tt
+answer_over kb s c (reply.Conflict ls) over is =
+    of_some (IsLiteralOver kb) ls s.choices is.1.among.choices over.choices
+answer_over kb s c reply.Consistent over is = tt
+answer_over kb s c reply.Inconsistent over is = tt
+answer_over kb s c (reply.Undecided k) over is = small_budget s.budget k over.budget is.1.0
 
 reply_over : (f : Option F) (kb : Base) (s : State) (c : Command) (r : Reply) → IsStateOver kb s
     → RightUnless f kb s c r → IsReplyOver kb r
@@ -53,26 +75,9 @@ reply_over None kb s c r over is = answer_over kb s c r over is
 reply_over (Some f) kb s c r over is = let P : Reply → Type 0 = λ r. IsReplyOver kb r in subst P (sym is) tt
 
 -- and one to its command
-answer_to : (kb : Base) (s : State) (c : Command) (r : Reply) → RightAnswer kb s c r → IsReplyTo c r
-answer_to kb s (command.Assert l) r is = let P : Reply → Type 0 = λ r. IsReplyTo (command.Assert l) r in
-    subst P (sym is) tt
-answer_to kb s (command.Retract l) r is = let P : Reply → Type 0 = λ r. IsReplyTo (command.Retract l) r in
-    subst P (sym is) tt
-answer_to kb s command.Reset r is = let P : Reply → Type 0 = λ r. IsReplyTo command.Reset r in subst P (sym is) tt
-answer_to kb s command.Choices r is = let P : Reply → Type 0 = λ r. IsReplyTo command.Choices r in subst P (sym is) tt
-answer_to kb s (command.Budget b) r is = let P : Reply → Type 0 = λ r. IsReplyTo (command.Budget b) r in
-    subst P (sym is) tt
-answer_to kb s command.Forget r is = let P : Reply → Type 0 = λ r. IsReplyTo command.Forget r in subst P (sym is) tt
-answer_to kb s command.Model reply.Fine is = absurd is
-answer_to kb s command.Model (reply.Refused f) is = absurd is
-answer_to kb s command.Model (reply.Choices ls) is = absurd is
-answer_to kb s command.Model (reply.Model m) is = tt
-answer_to kb s command.Model reply.Inconsistent is = tt
-answer_to kb s command.Model (reply.Undecided k) is = tt
-
 reply_to : (f : Option F) (kb : Base) (s : State) (c : Command) (r : Reply) → RightUnless f kb s c r → IsReplyTo c r
-reply_to None kb s c r is = answer_to kb s c r is
-reply_to (Some f) kb s c r is = let P : Reply → Type 0 = λ r. IsReplyTo c r in subst P (sym is) tt
+reply_to None kb s c r is = inr is.0
+reply_to (Some f) kb s c r is = inl (let P : Reply → Type 0 = λ r. IsRefusal r in subst P (sym is) tt)
 
 -- what two answers to a line have in common
 abbrev IsSame : Base → State → Said → Said → List ℕ → List ℕ → Type 0
@@ -150,12 +155,7 @@ budget_asked kb (written.budget text) b formed is = let P : Option ℕ → Type 
     subst P (sym is) formed.most
 budget_asked kb written.unlimited b formed is = let P : Option ℕ → Type 0 = λ b. IsBudgetInRange b in
     subst P (sym is) tt
-budget_asked kb (written.assert l) b formed is = absurd is
-budget_asked kb (written.retract l) b formed is = absurd is
-budget_asked kb written.reset b formed is = absurd is
-budget_asked kb written.choices b formed is = absurd is
-budget_asked kb written.model b formed is = absurd is
-budget_asked kb written.forget b formed is = absurd is
+budget_asked kb w b formed is = absurd is
 
 carried_over : (kb : Base) (s : State) (c : Command) (line : List ℕ) → IsStateOver kb s → IsCommandOver kb c
     → HasCommand kb line c → IsStateOver kb (carried_out s c)
@@ -169,6 +169,10 @@ carried_over kb s (command.Retract l) line over is has =
 carried_over kb s command.Reset line over is has = record { choices = tt; budget = over.budget }
 carried_over kb s command.Choices line over is has = over
 carried_over kb s command.Model line over is has = over
+carried_over kb s (command.Models n) line over is has = over
+carried_over kb s command.Propagate line over is has = over
+carried_over kb s (command.Explain l) line over is has = over
+carried_over kb s command.Why line over is has = over
 carried_over kb s (command.Budget b) line over is has =
     record { choices = over.choices; budget = budget_asked kb has.0 b has.1.formed has.2 }
 carried_over kb s command.Forget line over is has = over

@@ -14,6 +14,7 @@ use Rattle.consult_text.specs.declared.replies.Reply.{Reply}
 use Rattle.consult_text.specs.declared.replies.Reply.TheVariants as reply
 use Rattle.consult_text.specs.RightReplies.{RightReply}
 use Rattle.consult_text.specs.States.{State, state_after}
+use Rattle.consultant_session.specs.Queries.{IsSearched}
 
 -- what is said in answer to a line: nothing, that it is too long, that its text is refused, or a reply to its command
 pub data Said : Type 0 where
@@ -23,12 +24,13 @@ pub data Said : Type 0 where
   replied : Command → Reply → Said
 
 -- A blank line is answered by nothing, a line of more than 65,536 bytes by that, a line whose text is refused by the
--- refusal, and a command by a reply that is right in the state.
+-- refusal, and a command by a reply that is right in the state, and that is undecided only where clauses were learnt.
 abbrev pub IsRightAnswer : Base → State → List ℕ → Said → Type 0
 IsRightAnswer kb s line nothing = (length line ≤ longest_line) × IsBlank line
 IsRightAnswer kb s line too_long = longest_line < length line
 IsRightAnswer kb s line (refused f) = (length line ≤ longest_line) × HasRefusal kb line f
 IsRightAnswer kb s line (replied c r) = (length line ≤ longest_line) × HasCommand kb line c × RightReply kb s c r
+    × IsSearched kb r
 
 -- the state that it leaves: only a command changes it
 abbrev pub state_left : Base → State → Said → State

@@ -9,6 +9,7 @@ ghost use Rattle.idp_cli.specs.Turns.{RepliesTo, Writes, AnswersLine, Turns, jus
 
 use crate::printing::say;
 use crate::status::Status;
+use chooser::FirstGreatest;
 use consult_base::KnowledgeBase;
 use consult_text::{CommandError, F, Reply, commands_are_over_the_base, read_command, write_reply};
 use consultant_session::Session;
@@ -18,7 +19,11 @@ use std::alloc::Global;
 use std::marker::Model;
 
 /// The reply to a line; none to a blank one.
-fn reply_to(alloc: Global, session: &mut Session, line: &[u8]) -> Result<Option<Reply>, Memory>
+fn reply_to(
+    alloc: Global,
+    session: &mut Session<FirstGreatest>,
+    line: &[u8],
+) -> Result<Option<Reply>, Memory>
     requires { length line.now ≤ longest_line }
     ensures right { IfOk result
         (λ reply. RepliesTo (base_of session.old.kb) session.old.state line.now reply session.new.state) }
@@ -37,7 +42,7 @@ fn reply_to(alloc: Global, session: &mut Session, line: &[u8]) -> Result<Option<
 #[derive(Drop)]
 pub struct Consultant {
     alloc: Global,
-    session: Session,
+    session: Session<FirstGreatest>,
     lines: LineState,
     text: Vec<u8>,
 }
@@ -59,7 +64,7 @@ impl Consultant {
     pub fn open(alloc: Global, kb: KnowledgeBase, budget: Option<u64>) -> Result<Consultant, Memory>
         ensures { IfOk result (λ consultant. consultant ≡ just_opened kb budget) }
     {
-        let session = Session::open(alloc, kb, budget);
+        let session = Session::open(alloc, kb, budget, FirstGreatest)?;
         let Ok(lines) = LineState::new(alloc) else {
             return Err(Memory);
         };

@@ -11,15 +11,19 @@ use Rattle.lit_core.specs.Literals.{literal_value, valuation, negated}
 use Rattle.ground_core.specs.Problems.{ProblemState, IsProblem, IsLitOf, AreLitsOf}
 use Rattle.ground_core.specs.Meaning.{Satisfies, MakesTrue, RefutesAll}
 use Rattle.ground_core.specs.More.{Agree}
-use Rattle.ground_core.specs.Growth.{with_exclusion, next_lit, falsified_by}
+use Rattle.ground_core.specs.Growth.{with_exclusion, next_lit, falsified_by, retiring}
 use Rattle.ground_core.specs.Growing.{Conserves, IsSelector}
-use Rattle.ground_core.specs.Solving.{AreUnretired}
+use Rattle.ground_core.specs.Solving.{SolveState, AreUnretired}
+use Rattle.ground_core.specs.Calls.{GrowsByAdditions}
 use Rattle.ground_core.specs.Laws.{Differs}
 use Rattle.ground_core.proofs.Fronts.{All-front}
 use Rattle.ground_core.proofs.Locals.{agree-trans, literal-local}
-use Rattle.ground_core.proofs.GrowthFacts.{exclusions-select, exclusion-restricts}
+use Rattle.ground_core.proofs.AdditionFacts.{nothing-added}
+use Rattle.ground_core.proofs.GrowthFacts.{exclusions-select, exclusion-restricts, exclusion-problem}
 use Rattle.model_search.specs.Retirements.{AreNew}
-use Rattle.model_expansion.specs.Exclusions.{with_exclusions, exclusion_selectors, AreApart}
+use Rattle.model_search.proofs.RetirementFacts.{IsNewLit, retirements-added}
+use Rattle.model_expansion.specs.Exclusions.{with_exclusions, exclusion_selectors, AreApart, Excludes}
+use Rattle.model_expansion.specs.Exclusions.{with_past_exclusions}
 
 pub exclusions-push : (p : ProblemState) (vs : List (List Bool)) (v : List Bool) → with_exclusions p (vs ++ v ∷ [])
     ≡ with_exclusion (with_exclusions p vs) v
@@ -202,3 +206,34 @@ all-found p q assumed vs ls h refuted v s t = ⊎_elim
     (λ d. let e = h.extends v s t d in absurd (refuted e.0 e.2 e.3))
     (λ any. any)
     (all-or-any p v vs)
+
+-- exclusions, whose selectors are retired in the end, are additions
+exclusions-added : (p q : ProblemState) (vs : List (List Bool)) → IsProblem q → GrowsByAdditions p q
+    → GrowsByAdditions p (with_exclusions q vs)
+exclusions-added p q [] fine h = h
+exclusions-added p q (v ∷ vs) fine h = exclusions-added p (with_exclusion q v) vs (exclusion-problem q v fine)
+    (record { conserves = (exclusions-select p q v fine h.conserves).added; retired = h.retired })
+
+selectors-of-new : (low : ℕ) (p : ProblemState) (vs : List (List Bool)) → IsProblem p → low ≤ p.vars
+    → All (IsNewLit low (with_exclusions p vs).vars) (exclusion_selectors p vs)
+selectors-of-new low p [] fine le = All-nil (IsNewLit low p.vars)
+selectors-of-new low p (v ∷ vs) fine le =
+    let more : IsProblem (with_exclusion p v) = exclusion-problem p v fine in
+    let grows : p.vars + 1 ≤ (with_exclusions (with_exclusion p v) vs).vars =
+    (exclusions-added (with_exclusion p v) (with_exclusion p v) vs more
+    (nothing-added (with_exclusion p v))).conserves.grows in
+    All-cons (IsNewLit low (with_exclusions (with_exclusion p v) vs).vars) (next_lit p)
+    (exclusion_selectors (with_exclusion p v) vs)
+    (record { positive = refl; beyond = omega (arith, le); within = grows })
+    (selectors-of-new low (with_exclusion p v) vs more (omega (arith, le)))
+
+pub excludes-grow : (vs : List (List Bool)) (s t : SolveState) → IsProblem s.problem → Excludes vs s t
+    → GrowsByAdditions s.problem t.problem
+excludes-grow vs s t fine h =
+    subst (λ (q : ProblemState). GrowsByAdditions s.problem q) (sym h.problem)
+    (subst (λ (gone : List Lit). GrowsByAdditions s.problem
+    (retiring (with_exclusions s.problem vs) (gone ++ exclusion_selectors s.problem vs)))
+    (retired-stays s.problem vs)
+    (retirements-added s.problem (with_exclusions s.problem vs) (exclusion_selectors s.problem vs)
+    (exclusions-added s.problem s.problem vs fine (nothing-added s.problem))
+    (selectors-of-new s.problem.vars s.problem vs fine (omega arith))))

@@ -4,7 +4,7 @@ ghost use Rattle.ground_core.specs.Problems.{AreLitsOf};
 ghost use Rattle.ground_core.specs.Growth.{next_lit};
 ghost use Rattle.ground_core.specs.Growing.{excluded};
 ghost use Rattle.ground_core.specs.Solving.{IsBudgetOf, AreUnretired, HaltedAt, HasCoreWithin, IsKept};
-ghost use Rattle.ground_core.specs.Calls.{Keeps, CountsUpTo, Costs};
+ghost use Rattle.ground_core.specs.Calls.{Keeps, CountsUpTo, Costs, GrowsByAdditions};
 ghost use Rattle.model_expansion.specs.Exclusions.{Excludes};
 ghost use Rattle.model_expansion.specs.Enumerations.{FindsSeveral, AddsExclusions, IsEmptyAtOnce, Gathers, Ends};
 ghost use Rattle.model_expansion.specs.Enumerations.{IsAllAtOnce};
@@ -103,6 +103,7 @@ pub fn several<S: Grow>(
     ensures excludes { IfOk result (λ several. Excludes several.found (S.state s.old) (S.state s.new)) }
     ensures halt { IfErr result (HaltedAt budget.new) }
     ensures adds { AddsExclusions assume.now n (S.state s.old) (S.state s.new) }
+    ensures grows { GrowsByAdditions (S.state s.old).problem (S.state s.new).problem }
     ensures keeps { Keeps (S.state s.old) (S.state s.new) budget.old budget.new }
     ensures costs { Costs (n + 1) (S.state s.old) (S.state s.new) budget.old budget.new }
     ensures decided { HasCoreWithin (S.state s.old).cores assume.now → IsEmptyAtOnce (S.state s.old)

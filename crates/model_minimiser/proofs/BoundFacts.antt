@@ -1,8 +1,8 @@
 -- Bounds one after another, and their selectors.
-use Rattle.std.proofs.Common.{◌≡◌, ℕ, suc, ◌+◌, ◌-◌, ◌≤◌, List, [], ◌∷◌, ◌++◌, map, length, All, Contains, refl}
+use Rattle.std.proofs.Common.{◌≡◌, ℕ, suc, ◌+◌, ◌-◌, ◌<◌, ◌≤◌, List, [], ◌∷◌, ◌++◌, map, length, All, Contains, refl}
 use Rattle.std.proofs.Common.{sym, ap, ◌∙◌, subst, arith}
 use Rattle.std.proofs.lemmas.List.{append_assoc, append-nil, length_push}
-use Rattle.std.proofs.lemmas.List.Elements.{All-contains, All-nil, All-push, All-weaker}
+use Rattle.std.proofs.lemmas.List.Elements.{All-contains, All-nil, All-cons, All-push, All-weaker}
 use Rattle.kb_logic.specs.declared.elements.ExtInt.{ExtInt}
 use Rattle.lit_core.specs.declared.literals.Lit.{Lit}
 use Rattle.ground_core.specs.declared.growing.Addition.{Addition}
@@ -16,8 +16,10 @@ use Rattle.ground_core.specs.Solving.{SolveState}
 use Rattle.ground_core.specs.Calls.{Keeps, Counts, CountsUpTo, GrowsByAdditions, Stays}
 use Rattle.ground_core.proofs.CallFacts.{keeps-grown}
 use Rattle.ground_core.proofs.MomentFacts.{moment-retired}
-use Rattle.ground_core.proofs.GrowthFacts.{bound-conserves, bound-selector}
+use Rattle.ground_core.proofs.AdditionFacts.{nothing-added}
+use Rattle.ground_core.proofs.GrowthFacts.{bound-conserves, bound-problem, bound-selector}
 use Rattle.model_search.specs.Retirements.{AreNew, retired_all}
+use Rattle.model_search.proofs.RetirementFacts.{IsNewLit, retirements-added}
 use Rattle.model_minimiser.specs.declared.minimum.Minimum.{Minimum}
 use Rattle.model_minimiser.specs.Bounds.{AddsBounds, AddsOne, GrowsBy, HasBounds, HoldsBounds, bound_selectors}
 use Rattle.model_minimiser.specs.Bounds.{with_bounds}
@@ -181,3 +183,34 @@ module _ (assumed : List Lit) (term : ℕ) (r s t : SolveState) (ls : List Lit)
         → IsLeast r.problem assumed term t.cores t.problem.bounds m
     end-least m least = subst (λ (q : SolveState). IsLeast r.problem assumed term q.cores q.problem.bounds m) (sym e)
         least
+
+-- bounds, whose selectors are retired in the end, are additions
+bounds-added : (p q : ProblemState) (term : ℕ) (ns : List ExtInt) → term < length q.terms → IsProblem q
+    → GrowsByAdditions p q → GrowsByAdditions p (with_bounds q term ns)
+bounds-added p q term [] lt fine h = h
+bounds-added p q term (n ∷ ns) lt fine h = bounds-added p (with_bound q term n) term ns lt
+    (bound-problem q term n lt fine) (bound-added p q term n fine h)
+
+selectors-of-new : (low : ℕ) (p : ProblemState) (term : ℕ) (ns : List ExtInt) → term < length p.terms → IsProblem p
+    → low ≤ p.vars → All (IsNewLit low (with_bounds p term ns).vars) (bound_selectors p term ns)
+selectors-of-new low p term [] lt fine le = All-nil (IsNewLit low p.vars)
+selectors-of-new low p term (n ∷ ns) lt fine le =
+    let more : IsProblem (with_bound p term n) = bound-problem p term n lt fine in
+    let grows : p.vars + 1 ≤ (with_bounds (with_bound p term n) term ns).vars =
+    (bounds-added (with_bound p term n) (with_bound p term n) term ns lt more
+    (nothing-added (with_bound p term n))).conserves.grows in
+    All-cons (IsNewLit low (with_bounds (with_bound p term n) term ns).vars) (next_lit p)
+    (bound_selectors (with_bound p term n) term ns)
+    (record { positive = refl; beyond = omega (arith, le); within = grows })
+    (selectors-of-new low (with_bound p term n) term ns lt more (omega (arith, le)))
+
+pub bounds-grow : (assumed : List Lit) (term : ℕ) (s t : SolveState) → term < length s.problem.terms
+    → IsProblem s.problem → AddsBounds assumed term s t → GrowsByAdditions s.problem t.problem
+bounds-grow assumed term s t lt fine h =
+    subst (λ (q : ProblemState). GrowsByAdditions s.problem q) (sym h.grows.problem)
+    (subst (λ (gone : List Lit). GrowsByAdditions s.problem
+    (retiring (with_bounds s.problem term h.numbers) (gone ++ bound_selectors s.problem term h.numbers)))
+    (retired-stays s.problem term h.numbers)
+    (retirements-added s.problem (with_bounds s.problem term h.numbers) (bound_selectors s.problem term h.numbers)
+    (bounds-added s.problem s.problem term h.numbers lt fine (nothing-added s.problem))
+    (selectors-of-new s.problem.vars s.problem term h.numbers lt fine (omega arith))))

@@ -7,6 +7,7 @@ ghost use Rattle.ground_core.specs.Growth.{next_lit};
 ghost use Rattle.ground_core.specs.Growing.{bounded};
 ghost use Rattle.ground_core.specs.Solving.{IsBudgetOf, AreUnretired, HaltedAt, HasCoreWithin, IsKept};
 ghost use Rattle.ground_core.specs.Calls.{Keeps, Counts, CountsUpTo, Costs, Stays, IsAnsweredAtOnce};
+ghost use Rattle.ground_core.specs.Calls.{GrowsByAdditions};
 ghost use Rattle.model_minimiser.specs.Bounds.{AddsBounds, AddsAtMost, HoldsBounds};
 ghost use Rattle.model_minimiser.specs.Minima.{IsFound, Finds, FindsBelow, IsLeast, FindsLeast, Spans};
 
@@ -78,8 +79,7 @@ fn search_under<S: Grow>(
 }
 
 /// Bounds the term under one more selector, and keeps that. Room is made before, so that no selector is made that is
-/// not
-/// kept.
+/// not kept.
 fn bound<S: Grow>(
     s: &mut S,
     term: u32,
@@ -245,6 +245,7 @@ pub fn least<S: Grow>(
         (S.state s.new).problem.bounds) }
     ensures halt { IfErr result (HaltedAt budget.new) }
     ensures adds { AddsBounds assume.now term (S.state s.old) (S.state s.new) }
+    ensures grows { GrowsByAdditions (S.state s.old).problem (S.state s.new).problem }
     ensures keeps { Keeps (S.state s.old) (S.state s.new) budget.old budget.new }
     ensures costs { (n : ℕ) → Spans (S.state s.old).problem term n → Costs (n + 3) (S.state s.old)
         (S.state s.new) budget.old budget.new }

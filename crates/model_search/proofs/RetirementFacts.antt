@@ -1,11 +1,16 @@
 -- Selectors that are retired one after another.
-use Rattle.std.proofs.Common.{◌≡◌, ℕ, zero, suc, ◌-◌, List, [], ◌∷◌, ◌++◌, length, get_or, All, Contains, sym}
-use Rattle.std.proofs.Common.{ap, ◌∙◌, subst, arith}
+use Rattle.std.proofs.Common.{◌≡◌, ℕ, zero, suc, ◌-◌, ◌<◌, ◌≤◌, Bool, true, false, List, [], ◌∷◌, ◌++◌, length, get_or}
+use Rattle.std.proofs.Common.{All, Contains, sym, ap, ◌∙◌, subst, arith, inr, ⊎_elim}
 use Rattle.std.proofs.lemmas.List.{append_assoc, append-nil}
+use Rattle.std.proofs.lemmas.List.Elements.{All-append, All-contains, Contains-append_cases}
 use Rattle.lit_core.specs.declared.literals.Lit.{Lit}
+use Rattle.lit_core.specs.Literals.{literal_value, by_sign}
+use Rattle.ground_core.specs.Problems.{ProblemState}
 use Rattle.ground_core.specs.Growth.{retiring}
 use Rattle.ground_core.specs.Growing.{IsSelector, retired}
 use Rattle.ground_core.specs.Solving.{SolveState}
+use Rattle.ground_core.specs.Calls.{GrowsByAdditions}
+use Rattle.ground_core.proofs.Fronts.{All-front}
 use Rattle.model_search.specs.Retirements.{AreNew, retired_all}
 
 -- retiring the first selector and then the others is retiring all
@@ -90,3 +95,46 @@ module _ (s t : SolveState) (l : Lit) (ls rest : List Lit) (is : rest ≡ l ∷ 
         terms = x.terms;
         bounds = x.bounds;
       })
+
+-- the positive literal of a variable after the first `low`, up to `high`
+pub record IsNewLit (low high : ℕ) (l : Lit) : Type 0 where
+  pub positive : l.positive ≡ true
+  pub beyond : low < l.var.0
+  pub within : l.var.0 ≤ high
+
+-- what grew by additions did so too where selectors of new variables are retired
+pub retirements-added : (p q : ProblemState) (ls : List Lit) → GrowsByAdditions p q → All (IsNewLit p.vars q.vars) ls
+    → GrowsByAdditions p (retiring q (q.retired ++ ls))
+retirements-added p q ls h new = record {
+  conserves = record {
+    grows = h.conserves.grows;
+    atoms = h.conserves.atoms;
+    terms = h.conserves.terms;
+    restricts = λ v s. h.conserves.restricts v (record {
+      gates = s.gates;
+      clauses = s.clauses;
+      sums = s.sums;
+      bounds = s.bounds;
+      retired = All-front (λ l. literal_value v l ≡ false) q.retired ls s.retired;
+    });
+    extends = λ v s.
+        let e = h.conserves.extends v s in (
+          e.0,
+          e.1,
+          e.2,
+          record {
+            gates = e.3.gates;
+            clauses = e.3.clauses;
+            sums = e.3.sums;
+            bounds = e.3.bounds;
+            retired = All-append (λ l. literal_value e.0 l ≡ false) q.retired ls e.3.retired
+                (λ k d lt. ap (λ (b : Bool). by_sign b (e.0 (get_or ls k d).var.0)) (new k d lt).positive
+                ∙ e.2 (get_or ls k d).var.0 (new k d lt).beyond (new k d lt).within);
+          },
+        );
+  };
+  retired = λ l has. ⊎_elim
+      (λ old. h.retired l old)
+      (λ since. inr (All-contains (IsNewLit p.vars q.vars) ls l new since).beyond)
+      (Contains-append_cases q.retired ls l has);
+}

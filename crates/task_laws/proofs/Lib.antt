@@ -1,1 +1,1 @@
-mod Outlasting
+pub mod Outlasting

@@ -1,18 +1,18 @@
 -- A task after additions.
-use Rattle.std.proofs.Common.{◌≡◌, ℕ, ◌<◌, ◌≤◌, Bool, List, [], length, get_or, All, Contains, sym, ap, ◌∙◌, arith}
-use Rattle.std.proofs.Common.{⊎_elim}
+use Rattle.std.proofs.Common.{◌≡◌, ℕ, ◌<◌, Bool, List, [], length, get_or, Contains, sym, ap, ◌∙◌, arith}
+use Rattle.std.proofs.Common.{⊎_elim, slice_get}
 use Rattle.std.proofs.lemmas.List.Elements.{All-contains, Contains-get_or}
-use Rattle.kb_logic.specs.declared.structures.Literal.{Literal}
 use Rattle.kb_logic.specs.declared.structures.Structure.{Structure}
 use Rattle.kb_logic.specs.Bases.{Base, IsModelUnder}
-use Rattle.kb_logic.specs.KnownAtoms.{atoms_over}
 use Rattle.lit_core.specs.declared.literals.Lit.{Lit}
+use Rattle.ground_core.specs.declared.parts.GroundTerm.{GroundTerm}
 use Rattle.ground_core.specs.Problems.{ProblemState, IsProblem}
 use Rattle.ground_core.specs.Meaning.{Satisfies}
+use Rattle.ground_core.specs.Growing.{value_of_term}
 use Rattle.ground_core.specs.Calls.{GrowsByAdditions}
 use Rattle.term_values.specs.GroundBases.{GroundBase, structure_of}
 use Rattle.term_values.specs.Laws.{OnlyAtomsMatter}
-use Rattle.ground_task.specs.Tasks.{atom_base, Represents, IsTaskOf}
+use Rattle.ground_task.specs.Tasks.{atom_base, IsTaskOf}
 
 module _ (matter : OnlyAtomsMatter) (base : Base) (b : GroundBase) (p q : ProblemState) (is : IsProblem p)
     (task : IsTaskOf base b p) (grows : GrowsByAdditions p q) where
@@ -52,6 +52,10 @@ module _ (matter : OnlyAtomsMatter) (base : Base) (b : GroundBase) (p q : Proble
       atoms = same-atoms ∙ task.represents.atoms;
       gives = λ v s. task.represents.gives v (grows.conserves.restricts v s);
       extends = extends;
+      number = ap length grows.conserves.terms ∙ task.represents.number;
+      terms = λ n t is v s.
+          ap (λ (ts : List GroundTerm). value_of_term (slice_get ts n) v) grows.conserves.terms
+          ∙ task.represents.terms n t is v (grows.conserves.restricts v s);
     };
     unretired = λ k d lt. kept (get_or q.retired k d) (Contains-get_or q.retired k d lt);
   }

@@ -1,6 +1,7 @@
 //! Copies of commands and replies.
 
 use super::sessions::session;
+use chooser::FirstGreatest;
 use consult_text::{Reply, commands_are_over_the_base, read_command, write_reply};
 use consultant_session::Session;
 use kb_logic::Memory;
@@ -27,7 +28,7 @@ const LINES: [(&[u8], &[u8]); 12] = [
 ];
 
 /// The reply to a copy of the line's command.
-fn reply_to(alloc: Global, session: &mut Session, line: &[u8]) -> Option<Reply> {
+fn reply_to(alloc: Global, session: &mut Session<FirstGreatest>, line: &[u8]) -> Option<Reply> {
     commands_are_over_the_base();
     let Ok(Some(command)) = read_command(alloc, line, session.kb()) else {
         return None;
@@ -41,7 +42,7 @@ fn reply_to(alloc: Global, session: &mut Session, line: &[u8]) -> Option<Reply> 
 /// Whether a copy of the reply is written so.
 fn is_written(
     alloc: Global,
-    session: &Session,
+    session: &Session<FirstGreatest>,
     reply: &Reply,
     wanted: &[u8],
 ) -> Result<bool, Memory> {
@@ -58,7 +59,7 @@ fn is_written(
 /// Whether copies of the line's command and of its reply are what they were made from.
 fn is_answered(
     alloc: Global,
-    session: &mut Session,
+    session: &mut Session<FirstGreatest>,
     line: &[u8],
     wanted: &[u8],
 ) -> Result<bool, Memory> {

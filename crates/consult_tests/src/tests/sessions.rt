@@ -1,6 +1,7 @@
 //! A session by itself.
 
 use base_reader::read_base;
+use chooser::FirstGreatest;
 use consult_text::{Command, Reply, commands_are_over_the_base, read_command};
 use consultant_session::Session;
 use std::alloc::Global;
@@ -13,15 +14,15 @@ structure S : V { N = {a; b}  P = {a} }
 ";
 
 /// A session over the file.
-pub(super) fn session(alloc: Global) -> Option<Session> {
+pub(super) fn session(alloc: Global) -> Option<Session<FirstGreatest>> {
     match read_base(alloc, COVER, None, None) {
-        Ok(kb) => Some(Session::open(alloc, kb, Some(100_000))),
+        Ok(kb) => Session::open(alloc, kb, Some(100_000), FirstGreatest).ok(),
         Err(_) => None,
     }
 }
 
 /// Whether the line's command is carried out.
-fn accepts(alloc: Global, session: &mut Session, line: &[u8]) -> bool {
+fn accepts(alloc: Global, session: &mut Session<FirstGreatest>, line: &[u8]) -> bool {
     commands_are_over_the_base();
     match read_command(alloc, line, session.kb()) {
         Ok(Some(command)) => matches!(session.step(&command), Ok(Reply::Fine)),

@@ -3,6 +3,7 @@ use Rattle.consult_base.specs.Opened.{Opened, base_of}
 use Rattle.consult_text.specs.Lines.{HasCommand, HasRefusal, Reads}
 use Rattle.consult_text.specs.declared.commands.Command.{Command}
 use Rattle.consult_text.specs.declared.lines.CommandError.{CommandError}
+use Rattle.consultant_session.proofs.QueryLemmas.{was_searched}
 use Rattle.idp_cli.specs.Consultation.{refused, replied}
 use Rattle.idp_cli.proofs.consultation.reply_to.Goals as goal
 
@@ -17,6 +18,7 @@ returns-in_ok-step-in-Ok-Some-clause-right c =
         c.requires,
         subst (λ (k : Opened). HasCommand (base_of k) c.args.line.now c.in-Ok-Some.command) c.kb.ensures has,
         c.in_ok-step-in-Ok-Some.ensures.right,
+        was_searched (base_of c.kb.result.now) c.in-Ok-Some.command _ _ _ _ c.in_ok-step-in-Ok-Some.ensures.searches,
       );
       reply = refl;
       leaves = c.in_ok-step-in-Ok-Some.ensures.after;

@@ -7,6 +7,7 @@ use Rattle.model_expansion.specs.Exclusions.{exclusion_selectors, Excludes}
 use Rattle.model_expansion.specs.Enumerations.{Gathers, Ends, FindsSeveral}
 use Rattle.model_expansion.proofs.EnumerationFacts.{selectors-fit, selectors-new, end-excludes, end-adds, end-costs}
 use Rattle.model_expansion.proofs.EnumerationFacts.{empty-halted}
+use Rattle.model_expansion.proofs.ExclusionFacts.{excludes-grow}
 use Rattle.model_expansion.proofs.enumeration.several.Goals as goal
 
 pub gather-told-requires-clause-unretired : goal.gather-told-requires-clause-unretired
@@ -154,3 +155,33 @@ returns-clause-decided g c = λ shown.
       learnt =
           ap (λ (q : SolveState). q.learnt) c.retire_each.ensures.retired ∙ told.learnt;
     }
+
+pub returns-in-Ok-told-clause-grows : goal.returns-in-Ok-told-clause-grows
+returns-in-Ok-told-clause-grows g c =
+    let r : SolveState = g.S.Solve.state c.args.s.now in
+    let s : SolveState = g.S.Solve.state c.gather-told.new.s in
+    let h : Gathers c.args.assume.now c.args.n r s c.gather-told.new.assumed.items c.gather-told.new.found.items =
+    subst (λ (ls : List Lit). Gathers ls c.args.n r s c.gather-told.new.assumed.items c.gather-told.new.found.items)
+    c.in-Ok.ensures.items c.gather-told.ensures.gathers in
+    let is : c.split_at.result.1.now ≡ exclusion_selectors r.problem c.gather-told.new.found.items =
+    c.split_at.ensures.back ∙ ap (drop (length c.args.assume.now)) (c.as_slice.ensures.value ∙ h.lits)
+    ∙ drop-append_seam c.args.assume.now (exclusion_selectors r.problem c.gather-told.new.found.items) in
+    let u : SolveState = g.S.Solve.state c.retire_each.new.s in
+    excludes-grow c.gather-told.new.found.items r u c.known.ensures.kept.problem
+    (end-excludes c.args.assume.now c.args.n r s u c.gather-told.new.assumed.items c.split_at.result.1.now
+    c.gather-told.new.found.items h is c.retire_each.ensures.retired)
+
+pub returns-clause-grows : goal.returns-clause-grows
+returns-clause-grows g c =
+    let r : SolveState = g.S.Solve.state c.args.s.now in
+    let s : SolveState = g.S.Solve.state c.gather-told.new.s in
+    let h : Gathers c.args.assume.now c.args.n r s c.gather-told.new.assumed.items c.gather-told.new.found.items =
+    subst (λ (ls : List Lit). Gathers ls c.args.n r s c.gather-told.new.assumed.items c.gather-told.new.found.items)
+    c.in-Ok.ensures.items c.gather-told.ensures.gathers in
+    let is : c.split_at.result.1.now ≡ exclusion_selectors r.problem c.gather-told.new.found.items =
+    c.split_at.ensures.back ∙ ap (drop (length c.args.assume.now)) (c.as_slice.ensures.value ∙ h.lits)
+    ∙ drop-append_seam c.args.assume.now (exclusion_selectors r.problem c.gather-told.new.found.items) in
+    let u : SolveState = g.S.Solve.state c.retire_each.new.s in
+    excludes-grow c.gather-told.new.found.items r u c.known.ensures.kept.problem
+    (end-excludes c.args.assume.now c.args.n r s u c.gather-told.new.assumed.items c.split_at.result.1.now
+    c.gather-told.new.found.items h is c.retire_each.ensures.retired)

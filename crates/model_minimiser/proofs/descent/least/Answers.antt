@@ -1,9 +1,11 @@
 use Rattle.std.proofs.Common.{sym, subst}
-use Rattle.ground_core.specs.Problems.{ProblemState}
+use Rattle.ground_core.specs.Problems.{ProblemState, IsProblem}
 use Rattle.model_minimiser.specs.Minima.{Spans}
 use Rattle.ground_core.specs.Solving.{SolveState}
-use Rattle.ground_core.specs.Calls.{Keeps}
+use Rattle.ground_core.specs.Calls.{Keeps, GrowsByAdditions}
+use Rattle.ground_core.proofs.AdditionFacts.{nothing-added}
 use Rattle.ground_core.proofs.CallFacts.{keeps-twice, cost-once}
+use Rattle.model_minimiser.proofs.BoundFacts.{bounds-grow}
 use Rattle.model_minimiser.proofs.DescentFacts.{adds-after, costs-below}
 use Rattle.model_minimiser.proofs.descent.least.Goals as goal
 
@@ -72,3 +74,33 @@ returns-in-Err-clause-costs g c = λ n spans.
     let r : SolveState = g.S.Solve.state c.args.s.now in
     let s : SolveState = g.S.Solve.state c.search.new.s in
     cost-once n r s c.args.budget.now c.search.new.budget c.search.ensures.counts c.search.ensures.keeps.rises
+
+pub returns-in-Ok-clause-grows : goal.returns-in-Ok-clause-grows
+returns-in-Ok-clause-grows g c =
+    let r : SolveState = g.S.Solve.state c.args.s.now in
+    let s : SolveState = g.S.Solve.state c.search.new.s in
+    let t : SolveState = g.S.Solve.state c.descend.new.s in
+    bounds-grow c.args.assume.now c.args.term r t c.requires.term
+    (subst IsProblem c.search.ensures.stays.problem c.search.ensures.kept.problem)
+    (adds-after c.args.assume.now c.args.term r s t c.search.ensures.stays c.descend.ensures.adds)
+
+pub returns-in-Err-descend-clause-grows : goal.returns-in-Err-descend-clause-grows
+returns-in-Err-descend-clause-grows g c =
+    let r : SolveState = g.S.Solve.state c.args.s.now in
+    let s : SolveState = g.S.Solve.state c.search.new.s in
+    let t : SolveState = g.S.Solve.state c.descend.new.s in
+    bounds-grow c.args.assume.now c.args.term r t c.requires.term
+    (subst IsProblem c.search.ensures.stays.problem c.search.ensures.kept.problem)
+    (adds-after c.args.assume.now c.args.term r s t c.search.ensures.stays c.descend.ensures.adds)
+
+pub returns-in-Ok-None-clause-grows : goal.returns-in-Ok-None-clause-grows
+returns-in-Ok-None-clause-grows g c =
+    let r : SolveState = g.S.Solve.state c.args.s.now in
+    subst (λ (q : ProblemState). GrowsByAdditions r.problem q) (sym c.search.ensures.stays.problem)
+    (nothing-added r.problem)
+
+pub returns-in-Err-clause-grows : goal.returns-in-Err-clause-grows
+returns-in-Err-clause-grows g c =
+    let r : SolveState = g.S.Solve.state c.args.s.now in
+    subst (λ (q : ProblemState). GrowsByAdditions r.problem q) (sym c.search.ensures.stays.problem)
+    (nothing-added r.problem)

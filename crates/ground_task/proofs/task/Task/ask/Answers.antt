@@ -1,18 +1,13 @@
-use Rattle.std.proofs.Common.{◌≡◌, List, length, Contains, sym, ap, ◌∙◌, subst}
+use Rattle.std.proofs.Common.{Ok, List, sym, subst}
 use Rattle.kb_logic.specs.Bases.{IsModelUnder}
-use Rattle.kb_logic.specs.Structures.{EachWith}
-use Rattle.kb_logic.specs.declared.structures.Literal.{Literal}
-use Rattle.kb_logic.specs.declared.structures.Structure.{Structure}
 use Rattle.lit_core.specs.declared.literals.Lit.{Lit}
 use Rattle.lit_core.specs.Literals.{valuation}
 use Rattle.ground_core.specs.declared.solving.Verdict.{Verdict}
 use Rattle.ground_core.specs.Problems.{ProblemState, AreLitsOf}
-use Rattle.ground_core.specs.Solving.{SolveState, AreUnretired}
+use Rattle.ground_core.specs.Solving.{SolveState, AreUnretired, HasCoreWithin, IsRefusal}
 use Rattle.model_expansion.specs.Expansions.{Expands}
-use Rattle.atom_numbers.specs.Numbers.{HasNumber}
 use Rattle.ground_task.specs.Choices.{AreChosen}
-use Rattle.ground_task.proofs.ChoiceFacts.{each-length}
-use Rattle.ground_task.proofs.TaskFacts.{problem-lits, not-retired, is-model, is-none, are-some}
+use Rattle.ground_task.proofs.TaskFacts.{problem-lits, not-retired, is-model, has-none, shown-of, halted}
 use Rattle.ground_task.proofs.task.Task.ask.Goals as goal
 
 pub expand-requires-clause-literals : goal.expand-requires-clause-literals
@@ -40,11 +35,6 @@ returns-in-Ok-structure_of-clause-answer g c = λ base h.
     (is-model base c.args.self.now.numbers p h c.args.choices.now c.in-Ok.lits.items c.in-Ok.ensures
     (valuation c.in-Ok-Sat.values) sat.1 sat.2)
 
-pub chosen_among-requires : goal.chosen_among-requires
-chosen_among-requires g c =
-    each-length (HasNumber c.args.self.now.numbers) c.args.choices.now c.in-Ok.lits.items c.in-Ok.ensures
-    ∙ sym (ap length c.as_slice-in-Ok-Unsat.ensures.value)
-
 pub returns-in-Ok-chosen_among-clause-answer : goal.returns-in-Ok-chosen_among-clause-answer
 returns-in-Ok-chosen_among-clause-answer g c = λ base h.
     let p : ProblemState = (g.S.Solve.state c.args.self.now.solver).problem in
@@ -52,15 +42,59 @@ returns-in-Ok-chosen_among-clause-answer g c = λ base h.
     let found = subst (λ (ls : List Lit). Expands p ls t.cores (c.in-Ok-Unsat.field-0)) c.as_slice.ensures.value
     c.in-Ok-Unsat.ensures.expands in
     let unsat = subst (Expands p c.in-Ok.lits.items t.cores) c.in-Ok-Unsat.field-0-is found in
-    let chosen : AreChosen c.in-Ok-Unsat.core c.in-Ok.lits.items c.args.choices.now
-    (length c.args.choices.now) c.in-Ok-chosen_among.some =
-    subst (λ (core : List Lit). AreChosen core c.in-Ok.lits.items c.args.choices.now
-    (length c.args.choices.now) c.in-Ok-chosen_among.some) c.as_slice-in-Ok-Unsat-2.ensures
-    (subst (λ (ls : List Lit). AreChosen c.as_slice-in-Ok-Unsat-2.result.now ls c.args.choices.now
-    (length c.args.choices.now) c.in-Ok-chosen_among.some) c.as_slice-in-Ok-Unsat.ensures.value
-    c.in-Ok-chosen_among.ensures) in (
-      are-some base c.args.self.now.numbers p h c.args.choices.now c.in-Ok.lits.items c.in-Ok.ensures c.in-Ok-Unsat.core
-          c.in-Ok-chosen_among.some chosen,
-      is-none base c.args.self.now.numbers p h c.args.choices.now c.in-Ok.lits.items c.in-Ok.ensures c.in-Ok-Unsat.core
-          c.in-Ok-chosen_among.some unsat.0.0 unsat.0.1 chosen,
+    let chosen : AreChosen c.args.self.now.numbers c.args.choices.now c.in-Ok-Unsat.core c.in-Ok-chosen_among.some =
+    subst (λ (core : List Lit). AreChosen c.args.self.now.numbers c.args.choices.now core c.in-Ok-chosen_among.some)
+    c.as_slice-in-Ok-Unsat-2.ensures c.in-Ok-chosen_among.ensures in (
+      chosen.among,
+      has-none base c.args.self.now.numbers p h c.in-Ok-Unsat.core c.in-Ok-chosen_among.some chosen.each unsat.0.1,
     )
+
+pub returns-in-Ok-chosen_among-clause-shown : goal.returns-in-Ok-chosen_among-clause-shown
+returns-in-Ok-chosen_among-clause-shown g c = λ lits each.
+    let p : ProblemState = (g.S.Solve.state c.args.self.now.solver).problem in
+    let t : SolveState = g.S.Solve.state c.expand.new.s in
+    let found = subst (λ (ls : List Lit). Expands p ls t.cores (c.in-Ok-Unsat.field-0)) c.as_slice.ensures.value
+    c.in-Ok-Unsat.ensures.expands in
+    let unsat = subst (Expands p c.in-Ok.lits.items t.cores) c.in-Ok-Unsat.field-0-is found in
+    shown-of c.requires.task.0 c.args.self.now.numbers p c.requires.task.1 c.args.choices.now c.in-Ok.lits.items lits
+    c.in-Ok.ensures each t.cores unsat.1
+
+pub returns-in-Ok-structure_of-clause-decided : goal.returns-in-Ok-structure_of-clause-decided
+returns-in-Ok-structure_of-clause-decided g c = λ lits each shown.
+    let s : SolveState = g.S.Solve.state c.args.self.now.solver in
+    let told = c.in-Ok-Sat.ensures.decided (subst (HasCoreWithin s.cores) (sym c.as_slice.ensures.value)
+    (shown-of c.requires.task.0 c.args.self.now.numbers s.problem c.requires.task.1 c.args.choices.now lits
+    c.in-Ok.lits.items each c.in-Ok.ensures s.cores shown)) in
+    absurd (subst (λ (w : Verdict). IsRefusal (Ok w)) c.in-Ok-Sat.field-0-is told.answer)
+
+pub returns-in-Ok-Sat-clause-decided : goal.returns-in-Ok-Sat-clause-decided
+returns-in-Ok-Sat-clause-decided g c = λ lits each shown.
+    let s : SolveState = g.S.Solve.state c.args.self.now.solver in
+    let told = c.in-Ok-Sat.ensures.decided (subst (HasCoreWithin s.cores) (sym c.as_slice.ensures.value)
+    (shown-of c.requires.task.0 c.args.self.now.numbers s.problem c.requires.task.1 c.args.choices.now lits
+    c.in-Ok.lits.items each c.in-Ok.ensures s.cores shown)) in
+    absurd (subst (λ (w : Verdict). IsRefusal (Ok w)) c.in-Ok-Sat.field-0-is told.answer)
+
+pub returns-in-Ok-chosen_among-clause-decided : goal.returns-in-Ok-chosen_among-clause-decided
+returns-in-Ok-chosen_among-clause-decided g c = λ lits each shown.
+    let s : SolveState = g.S.Solve.state c.args.self.now.solver in
+    let told = c.in-Ok-Unsat.ensures.decided (subst (HasCoreWithin s.cores) (sym c.as_slice.ensures.value)
+    (shown-of c.requires.task.0 c.args.self.now.numbers s.problem c.requires.task.1 c.args.choices.now lits
+    c.in-Ok.lits.items each c.in-Ok.ensures s.cores shown)) in
+    record { answer = tt; learnt = told.learnt }
+
+pub returns-in-Ok-Unsat-clause-decided : goal.returns-in-Ok-Unsat-clause-decided
+returns-in-Ok-Unsat-clause-decided g c = λ lits each shown.
+    let s : SolveState = g.S.Solve.state c.args.self.now.solver in
+    let told = c.in-Ok-Unsat.ensures.decided (subst (HasCoreWithin s.cores) (sym c.as_slice.ensures.value)
+    (shown-of c.requires.task.0 c.args.self.now.numbers s.problem c.requires.task.1 c.args.choices.now lits
+    c.in-Ok.lits.items each c.in-Ok.ensures s.cores shown)) in
+    record { answer = tt; learnt = told.learnt }
+
+pub returns-clause-decided : goal.returns-clause-decided
+returns-clause-decided g c = λ lits each shown.
+    let s : SolveState = g.S.Solve.state c.args.self.now.solver in
+    let told = c.in-Err.ensures.decided (subst (HasCoreWithin s.cores) (sym c.as_slice.ensures.value)
+    (shown-of c.requires.task.0 c.args.self.now.numbers s.problem c.requires.task.1 c.args.choices.now lits
+    c.in-Ok.lits.items each c.in-Ok.ensures s.cores shown)) in
+    record { answer = halted c.in-Err.halt told.answer; learnt = told.learnt }

@@ -1,7 +1,6 @@
-use Rattle.std.proofs.Common.{◌≡◌, List, sym, ap, ◌∙◌, subst}
+use Rattle.std.proofs.Common.{List, sym, ap, ◌∙◌, subst}
 use Rattle.kb_logic.specs.declared.elements.Elem.{Elem}
 use Rattle.kb_logic.specs.Domains.{AreDomainsOf}
-use Rattle.ground_core.specs.Solving.{SolveState}
 use Rattle.term_values.proofs.TypedLaws.{domains-ground}
 use Rattle.atom_numbers.specs.Numbers.{bare_base}
 use Rattle.ground_task.proofs.TaskFacts.{opened}

@@ -1,0 +1,63 @@
+-- The atoms that the data leave unknown.
+use Rattle.std.proofs.Common.{◌≡◌, ◌∙◌, ℕ, ◌+◌, ◌≤◌, Bool, true, false, cond, List, [], ◌∷◌, length, map, refl, sym, ap}
+use Rattle.std.proofs.Common.{subst, arith, filter, length-map}
+use Rattle.kb_logic.specs.declared.structures.Literal.{Literal}
+use Rattle.kb_logic.specs.declared.vocabularies.Symbol.{Symbol}
+use Rattle.kb_logic.specs.Bases.{Base}
+use Rattle.kb_logic.specs.InForce.{literal_with}
+use Rattle.kb_logic.specs.KnownAtoms.{atoms_over}
+use Rattle.kb_logic.specs.Models.{GroundAtom}
+use Rattle.lit_core.specs.declared.literals.Lit.{Lit}
+use Rattle.ground_core.specs.Problems.{ProblemState}
+use Rattle.partial_structures.specs.KnownAtoms.{value_at}
+use Rattle.term_values.specs.GroundBases.{GroundBase}
+use Rattle.atom_numbers.specs.Numbers.{HasNumber}
+use Rattle.atom_numbers.specs.Unknown.{AreOpen, is_unknown, unknown_atoms}
+use Rattle.forced_literals.specs.OpenTasks.{IsOpenTaskOf}
+use Rattle.ground_task.specs.Tasks.{IsTaskOf}
+use Rattle.ground_task.proofs.ChoiceFacts.{each-length}
+use Rattle.consultant_session.specs.Solvers.{AreUnknownOf}
+
+-- a session's task and the unknown atoms
+pub open-task : (kb : Base) (b : GroundBase) (p : ProblemState) (lits : List Lit) → IsTaskOf kb b p
+    → AreUnknownOf kb lits → IsOpenTaskOf kb b p lits
+open-task kb b p lits task is = record {
+  task = task;
+  data_of = is.data_of;
+  listed = is.listed;
+  unknown = subst (λ (x : GroundBase). AreOpen x kb.known lits) (sym task.numbers) is.unknown;
+}
+
+-- what stays a task, stays one of the same unknown atoms
+pub still-open : (kb : Base) (b b' : GroundBase) (p p' : ProblemState) (lits : List Lit) → b' ≡ b
+    → (IsTaskOf kb b p → IsTaskOf kb b' p') → IsOpenTaskOf kb b p lits → IsOpenTaskOf kb b' p' lits
+still-open kb b b' p p' lits same task is = record {
+  task = task is.task;
+  data_of = is.data_of;
+  listed = is.listed;
+  unknown = subst (λ (x : GroundBase). AreOpen x kb.known lits) (sym same) is.unknown;
+}
+
+filter_shorter : {A : Type 0} (test : A → Bool) (xs : List A) → length (filter test xs) ≤ length xs
+filter_shorter test [] = omega arith
+filter_shorter {A} test (x ∷ xs) =
+    let rest : length (filter test xs) ≤ length xs = filter_shorter test xs in
+    elim (test x) as (λ (b : Bool). length (cond b (x ∷ filter test xs) (filter test xs)) ≤ length xs + 1)
+    [ true ↦ omega (arith, rest) | false ↦ omega (arith, rest) ]
+
+-- they are no more than all atoms
+pub few-unknown : (kb : Base) (b : GroundBase) (p : ProblemState) (lits : List Lit) → IsOpenTaskOf kb b p lits
+    → length lits + 1 ≤ length (atoms_over kb.vocabulary.symbols kb.known.domains) + 1
+few-unknown kb b p lits is =
+    let atoms : List GroundAtom = atoms_over kb.known.symbols kb.known.domains in
+    let same : length atoms ≡ length (atoms_over kb.vocabulary.symbols kb.known.domains) =
+    ap (λ (ss : List Symbol). length (atoms_over ss kb.known.domains)) is.data_of.symbols in
+    let each : length (map (literal_with true) (unknown_atoms kb.known)) ≡ length lits =
+    each-length (HasNumber b) (map (literal_with true) (unknown_atoms kb.known)) lits is.unknown in
+    omega (
+      arith,
+      same,
+      each,
+      length-map (literal_with true) (unknown_atoms kb.known),
+      filter_shorter (λ a. is_unknown (value_at kb.known a)) atoms,
+    )

@@ -1,0 +1,213 @@
+-- How queries of a task end, and what commands learn.
+use Rattle.std.proofs.Common.{◌≡◌, ◌∙◌, ℕ, zero, ◌+◌, ◌-◌, ◌*◌, ◌^◌, ◌<◌, ◌≤◌, List, [], length, refl, sym, ap, subst, arith}
+use Rattle.std.proofs.Common.{Option, Some, None, Result, Ok, Err, IfOk, IfSome}
+use Rattle.std.specs.declared.alloc.AllocError.{AllocError as Memory}
+use Rattle.std.proofs.lemmas.Nat.{mul-le, pow_pos}
+use Rattle.std.proofs.Math.Nat.{pow-le-pow_right}
+use Rattle.kb_logic.specs.declared.structures.Literal.{Literal}
+use Rattle.kb_logic.specs.Bases.{Base}
+use Rattle.kb_logic.specs.Lists.{IsPrefix}
+use Rattle.lit_core.specs.declared.literals.Lit.{Lit}
+use Rattle.term_values.specs.GroundBases.{GroundBase}
+use Rattle.ground_core.specs.declared.solving.Budget.{Budget}
+use Rattle.ground_core.specs.declared.solving.Halt.{Halt}
+use Rattle.ground_core.specs.declared.solving.Halt.TheVariants as halt
+use Rattle.ground_core.specs.Solving.{SolveState, HaltedAt, IsBudgetOf, IsKept}
+use Rattle.ground_core.specs.Calls.{CallEnds, Keeps, Costs, Stays}
+use Rattle.ground_task.specs.Tasks.{IsTaskOf}
+use Rattle.clause_learning.specs.SolverState.{forgotten}
+use Rattle.clause_learning.specs.GoingOn.{prefix-itself}
+use Rattle.consult_text.specs.declared.commands.Command.{Command}
+use Rattle.consult_text.specs.declared.commands.Command.TheVariants as command
+use Rattle.consult_text.specs.declared.refusals.F.{F}
+use Rattle.consult_text.specs.declared.replies.Reply.{Reply}
+use Rattle.consult_text.specs.declared.replies.Reply.TheVariants as reply
+use Rattle.consult_text.specs.States.{State}
+use Rattle.consult_text.specs.Replies.{IsQuery, IsAnswerTo}
+use Rattle.consult_text.specs.RightReplies.{RightAnswer, RightUnless}
+use Rattle.consult_text.specs.Searches.{weight, searches}
+use Rattle.consultant_session.specs.Solvers.{IsSolverOf, IsTaskOver}
+use Rattle.consultant_session.specs.Queries.{left_by, Learns, Searches, IsSearched, IsHalted, QueryEnds}
+use Rattle.consultant_session.proofs.SolverLemmas.{solver-of}
+
+-- at most m searches with at most so many free variables are no more than these
+pub enough_for : (m n free most spent : ℕ) → m ≤ n → free ≤ most → spent < m * 2 ^ (free + m)
+    → spent < n * 2 ^ (most + n)
+enough_for m n free most spent fewer small less =
+    omega (
+      arith,
+      less,
+      mul-le m (2 ^ (free + m)) n (2 ^ (most + n)) fewer
+          (pow-le-pow_right (pow_pos 1) (omega (arith, fewer, small))),
+    )
+
+-- nothing of a budget is spent
+pub unspent_budget : (budget : Option ℕ) (learnt : List (List Lit)) (b : Budget)
+    → b ≡ record { limit = budget; spent = 0 } → IsBudgetOf learnt b
+unspent_budget budget learnt b begun = subst (IsBudgetOf learnt) (sym begun) (record {
+  within = within budget;
+  learned = omega arith;
+})
+  where
+    within : (o : Option ℕ) → IfSome o (λ most. 0 ≤ most)
+    within None = tt
+    within (Some n) = omega arith
+
+-- a query is begun, and asks its task once: for at most n searches
+pub record IsCalled (n : ℕ) (c : Command) (budget : Option ℕ) (numbers numbers' : GroundBase)
+    (old mid new : SolveState) (b spent : Budget) : Type 0 where
+  pub query : IsQuery c
+  pub empty : left_by c old.learnt ≡ []
+  pub forgot : mid ≡ forgotten old
+  pub begun : b ≡ record { limit = budget; spent = 0 }
+  pub ends : CallEnds n mid new b spent
+  pub task : (kb : Base) → IsTaskOf kb numbers old.problem → IsTaskOf kb numbers' new.problem
+
+module _ (Of : Base → Type 0) (choices : List Literal) {n : ℕ} {c : Command} {budget : Option ℕ}
+    {numbers numbers' : GroundBase} {old mid new : SolveState} {b spent : Budget}
+    (called : IsCalled n c budget numbers numbers' old mid new b spent) where
+  unspent : b.spent ≡ 0
+  unspent = ap (λ (x : Budget). x.spent) called.begun
+
+  limited : spent.limit ≡ budget
+  limited = called.ends.keeps.limit ∙ ap (λ (x : Budget). x.limit) called.begun
+
+  learnt_is : length new.learnt ≡ spent.spent
+  learnt_is =
+      omega (arith, called.ends.keeps.growth, unspent, ap (λ (s : SolveState). length s.learnt) called.forgot)
+
+  few : spent.spent < n * 2 ^ (old.free + n)
+  few =
+      let free : mid.free ≡ old.free = ap (λ (s : SolveState). s.free) called.forgot in
+      let less : spent.spent - b.spent < n * 2 ^ (old.free + n) =
+      subst (λ (k : ℕ). spent.spent - b.spent < n * 2 ^ (k + n)) free called.ends.costs.spent in
+      omega (arith, less, unspent)
+
+  within : (o : Option ℕ) → IfSome o (λ most. spent.spent ≤ most)
+      → IfSome o (λ most. length new.learnt ≤ length (left_by c old.learnt) + most)
+  within None is = tt
+  within (Some most) is = omega (arith, is, learnt_is)
+
+  counted : (result : Result Reply Memory) → IfOk result (λ r. (k : ℕ) → r ≡ reply.Undecided k → k ≡ spent.spent)
+      → IfOk result (λ r. (k : ℕ) → r ≡ reply.Undecided k → length new.learnt ≡ length (left_by c old.learnt) + k)
+  counted (Ok r) is = λ k same.
+      omega (arith, learnt_is, is k same, ap (λ (ls : List (List Lit)). length ls) called.empty)
+  counted (Err e) is = tt
+
+  learns : (result : Result Reply Memory) → IfOk result (λ r. (k : ℕ) → r ≡ reply.Undecided k → k ≡ spent.spent)
+      → Learns c budget result old.learnt new.learnt
+  learns result undecided = record {
+    front = subst (λ (ls : List (List Lit)). IsPrefix ls new.learnt) (sym called.empty) (new.learnt, refl);
+    within = within budget
+        (subst (λ (o : Option ℕ). IfSome o (λ most. spent.spent ≤ most)) limited called.ends.keeps.within);
+    undecided = counted result undecided;
+    idle = λ other. absurd (other called.query);
+  }
+
+  ended : (result : Result Reply Memory) → IfOk result (λ r. (k : ℕ) → r ≡ reply.Undecided k → k ≡ spent.spent)
+      → ((kb : Base) → Of kb → old.free ≤ weight kb
+      → IfOk result (RightAnswer kb (record { choices = choices; budget = budget }) c))
+      → QueryEnds Of c choices budget numbers numbers' old new result
+  ended result undecided right = record {
+    right = right;
+    task = called.task;
+    learns = learns result undecided;
+    kept = called.ends.kept;
+    free = called.ends.free ∙ ap (λ (s : SolveState). s.free) called.forgot;
+  }
+
+  -- it ends with a reply that decides it
+  pub found : (r : Reply) → ((k : ℕ) → r ≡ reply.Undecided k → ⊥)
+      → ((kb : Base) → Of kb
+      → RightAnswer kb (record { choices = choices; budget = budget }) c r)
+      → QueryEnds Of c choices budget numbers numbers' old new (Ok r)
+  found r decided right = ended (Ok r) (λ k is. absurd (decided k is)) (λ kb is few. right kb is)
+
+  -- or it halts, and is undecided at less than what is enough
+  pub halts : (h : Halt) (result : Result Reply Memory) → HaltedAt spent h → IsHalted h spent result
+      → ((kb : Base) → Of kb
+      → n ≤ searches kb (record { choices = choices; budget = budget }) c)
+      → QueryEnds Of c choices budget numbers numbers' old new result
+  halts halt.Spent (Ok r) at is fewer = ended (Ok r)
+      (λ k same. let both : reply.Undecided k ≡ reply.Undecided spent.spent = sym same ∙ is in cc)
+      (λ kb task small. subst (RightAnswer kb (record { choices = choices; budget = budget }) c) (sym is) (
+        called.query,
+        (
+          sym limited ∙ at,
+          enough_for n (searches kb (record { choices = choices; budget = budget }) c) old.free (weight kb) spent.spent
+              (fewer kb task) small few,
+        ),
+      ))
+  halts halt.Spent (Err e) at is fewer = absurd is
+  halts halt.Memory (Ok r) at is fewer = absurd is
+  halts halt.Memory (Err e) at is fewer = ended (Err e) tt (λ kb task small. tt)
+
+-- what one search for a model keeps
+pub asked : {budget : Option ℕ} {numbers numbers' : GroundBase} {old mid new : SolveState} {b spent : Budget}
+    → mid ≡ forgotten old → b ≡ record { limit = budget; spent = 0 } → Keeps mid new b spent → Costs 1 mid new b spent
+    → IsKept new → Stays mid new
+    → ((kb : Base) → IsTaskOf kb numbers old.problem → IsTaskOf kb numbers' new.problem)
+    → IsCalled 1 command.Model budget numbers numbers' old mid new b spent
+asked forgot begun keeps costs kept stays task = record {
+  query = tt;
+  empty = refl;
+  forgot = forgot;
+  begun = begun;
+  ends = record { keeps = keeps; costs = costs; kept = kept; free = stays.free };
+  task = task;
+}
+
+-- a query that stays undecided was searched for
+pub was_searched : (kb : Base) (c : Command) (budget : Option ℕ) (r : Reply) (old new : SolveState)
+    → Searches kb c budget (Ok r) old new → IsSearched kb r
+was_searched kb c budget r old new is = λ k same. (new, is.solver, omega (arith, is.learns.undecided k same))
+
+-- and a command that is none learns nothing
+pub idle : (kb : Base) (c : Command) (budget : Option ℕ) (result : Result Reply Memory) (old new : SolveState)
+    → left_by c old.learnt ≡ new.learnt → IfOk result (λ r. (k : ℕ) → r ≡ reply.Undecided k → ⊥) → IsSolverOf kb new
+    → Searches kb c budget result old new
+idle kb c budget result old new left decided is = record {
+  solver = is;
+  learns = record {
+    front = subst (IsPrefix (left_by c old.learnt)) left (prefix-itself (left_by c old.learnt));
+    within = within budget;
+    undecided = counted result decided;
+    idle = λ other. sym left;
+  };
+}
+  where
+    within : (o : Option ℕ) → IfSome o (λ most. length new.learnt ≤ length (left_by c old.learnt) + most)
+    within None = tt
+    within (Some most) = omega (arith, ap (λ (ls : List (List Lit)). length ls) left)
+
+    counted : (result : Result Reply Memory) → IfOk result (λ r. (k : ℕ) → r ≡ reply.Undecided k → ⊥)
+        → IfOk result (λ r. (k : ℕ) → r ≡ reply.Undecided k
+        → length new.learnt ≡ length (left_by c old.learnt) + k)
+    counted (Ok r) decided = λ k is. absurd (decided k is)
+    counted (Err e) decided = tt
+
+-- a right reply to a command that is no query leaves nothing undecided
+pub decides : (f : Option F) (kb : Base) (s : State) (c : Command) (r : Reply) → (IsQuery c → ⊥)
+    → RightUnless f kb s c r → (k : ℕ) → r ≡ reply.Undecided k → ⊥
+decides (Some f) kb s c r other is k same = let both : reply.Undecided k ≡ reply.Refused f = sym same ∙ is in cc
+decides None kb s c r other is k same = other (subst (IsAnswerTo c) same is.0)
+
+-- the task of a session after a query
+pub still_over : (Of : Base → Type 0) (kb : Base) (c : Command) (choices : List Literal) (budget : Option ℕ)
+    (numbers numbers' : GroundBase) (old new : SolveState) (result : Result Reply Memory) → QueryEnds Of c choices budget numbers numbers' old new result
+    → IsTaskOver kb numbers old → IsTaskOver kb numbers' new
+still_over Of kb c choices budget numbers numbers' old new result ends is = record {
+  task = ends.task kb is.task;
+  kept = ends.kept;
+  free = subst (λ (n : ℕ). n ≤ weight kb) (sym ends.free) is.free;
+}
+
+-- and what the query did to its solver
+pub query_searches : (Of : Base → Type 0) (kb : Base) (c : Command) (choices : List Literal) (budget : Option ℕ)
+    (numbers numbers' : GroundBase) (old new : SolveState) (result : Result Reply Memory)
+    → QueryEnds Of c choices budget numbers numbers' old new result → IsTaskOver kb numbers old
+    → Searches kb c budget result old new
+query_searches Of kb c choices budget numbers numbers' old new result ends is = record {
+  solver = solver-of kb numbers' new (still_over Of kb c choices budget numbers numbers' old new result ends is);
+  learns = ends.learns;
+}

@@ -1,0 +1,77 @@
+use Rattle.std.proofs.Common.{◌∙◌, refl, sym, ap, subst, arith}
+use Rattle.ground_task.specs.Choices.{AreOver}
+use Rattle.ground_task.specs.Tasks.{IsTaskOf}
+use Rattle.term_values.specs.GroundBases.{GroundBase}
+use Rattle.consult_text.specs.declared.replies.Reply.TheVariants as reply
+use Rattle.kb_logic.specs.InForce.{InForce}
+use Rattle.forced_literals.specs.OpenTasks.{IsOpenTaskOf, IsAnswer}
+use Rattle.consultant_session.proofs.QueryLemmas.{unspent_budget, IsCalled, found, halts}
+use Rattle.consultant_session.proofs.OpenLemmas.{still-open, few-unknown}
+use Rattle.consultant_session.proofs.queries.propagate.Goals as goal
+
+pub forced-requires-clause-task : goal.forced-requires-clause-task
+forced-requires-clause-task g c = (
+  c.requires.task.0,
+  still-open c.requires.task.0 c.args.task.now.numbers c.begin.new.task.numbers
+      c.args.task.now.solver.kept.problem c.begin.new.task.solver.kept.problem c.args.unknown.now
+      c.begin.ensures.numbers (c.begin.ensures.task c.requires.task.0) c.requires.task.1,
+)
+
+pub forced-requires-clause-choices : goal.forced-requires-clause-choices
+forced-requires-clause-choices g c =
+    subst (λ (b : GroundBase). AreOver b c.args.choices.now) (sym c.begin.ensures.numbers) c.requires.choices
+
+pub forced-requires-clause-budget : goal.forced-requires-clause-budget
+forced-requires-clause-budget g c =
+    unspent_budget c.args.limit c.begin.new.task.solver.kept.learnt c.begin.result c.begin.ensures.budget
+
+pub returns-in-Ok-Some : goal.returns-in-Ok-Some
+returns-in-Ok-Some g c =
+    let end = c.forced.ensures in
+    found (λ kb. IsOpenTaskOf kb c.args.task.now.numbers c.args.task.now.solver.kept.problem c.args.unknown.now) c.args.choices.now (record {
+      query = tt;
+      empty = refl;
+      forgot = c.begin.ensures.kept;
+      begun = c.begin.ensures.budget;
+      ends = end.ends;
+      task = λ kb is. end.task kb (c.begin.ensures.task kb is);
+    }) (reply.Forced c.in-Ok-Some.literals) (λ k is. cc)
+    (λ kb is. (
+      tt,
+      subst (IsAnswer kb (record { choices = c.args.choices.now })) c.in-Ok-Some.field-0-is
+          (c.in-Ok-Some.ensures.answer kb (still-open kb c.args.task.now.numbers c.begin.new.task.numbers
+          c.args.task.now.solver.kept.problem c.begin.new.task.solver.kept.problem c.args.unknown.now
+          c.begin.ensures.numbers (c.begin.ensures.task kb) is)),
+    ))
+
+pub returns-in-Ok-None : goal.returns-in-Ok-None
+returns-in-Ok-None g c =
+    let end = c.forced.ensures in
+    found (λ kb. IsOpenTaskOf kb c.args.task.now.numbers c.args.task.now.solver.kept.problem c.args.unknown.now) c.args.choices.now (record {
+      query = tt;
+      empty = refl;
+      forgot = c.begin.ensures.kept;
+      begun = c.begin.ensures.budget;
+      ends = end.ends;
+      task = λ kb is. end.task kb (c.begin.ensures.task kb is);
+    }) reply.Inconsistent (λ k is. cc)
+    (λ kb is. (
+      tt,
+      subst (IsAnswer kb (record { choices = c.args.choices.now })) c.in-Ok-None.field-0-is
+          (c.in-Ok-None.ensures.answer kb (still-open kb c.args.task.now.numbers c.begin.new.task.numbers
+          c.args.task.now.solver.kept.problem c.begin.new.task.solver.kept.problem c.args.unknown.now
+          c.begin.ensures.numbers (c.begin.ensures.task kb) is)),
+    ))
+
+pub returns-in-Err : goal.returns-in-Err
+returns-in-Err g c =
+    let end = c.forced.ensures in
+    halts (λ kb. IsOpenTaskOf kb c.args.task.now.numbers c.args.task.now.solver.kept.problem c.args.unknown.now) c.args.choices.now (record {
+      query = tt;
+      empty = refl;
+      forgot = c.begin.ensures.kept;
+      begun = c.begin.ensures.budget;
+      ends = end.ends;
+      task = λ kb is. end.task kb (c.begin.ensures.task kb is);
+    }) c.in-Err.halt c.halted.result c.in-Err.ensures.halt c.halted.ensures
+    (λ kb is. few-unknown kb c.args.task.now.numbers c.args.task.now.solver.kept.problem c.args.unknown.now is)

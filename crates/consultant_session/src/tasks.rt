@@ -1,0 +1,56 @@
+//! The task of a session.
+ghost use Rattle.std.specs.Prelude.{◌≡◌, [], IfOk};
+ghost use Rattle.consult_base.specs.Opened.{base_of};
+ghost use Rattle.consultant_session.specs.Solvers.{AreUnknownOf, IsNewSolverOf, IsTaskOver};
+
+use atom_numbers::open_literals;
+use chooser::Choose;
+use clause_learning::Solver;
+use consult_base::KnowledgeBase;
+use ground_task::Task;
+use grounder::ground;
+use kb_logic::Memory;
+use lit_core::Lit;
+use std::alloc::Global;
+
+/// A solver of the knowledge base's ground problem. That is not too large, since the knowledge base's weight is within
+/// its limit: only memory may be wanting.
+fn solver_of<C: Choose + Drop>(
+    alloc: Global,
+    kb: &KnowledgeBase,
+    rule: C,
+) -> Result<Solver<C>, Memory>
+    ensures { IfOk result (λ solver. IsNewSolverOf (base_of kb.now) solver.kept) }
+{
+    let Ok(problem) = ground(alloc, kb.typed(), kb.theory(), kb.data()) else {
+        return Err(Memory);
+    };
+    let Ok(mut solver) = Solver::new(alloc, rule) else {
+        return Err(Memory);
+    };
+    match solver.add_problem(&problem) {
+        Ok(()) => Ok(solver),
+        Err(_) => Err(Memory),
+    }
+}
+
+/// A task of the knowledge base to which nothing was said yet.
+pub fn task_of<C: Choose + Drop>(
+    alloc: Global,
+    kb: &KnowledgeBase,
+    rule: C,
+) -> Result<Task<Solver<C>>, Memory>
+    ensures over { IfOk result (λ task. IsTaskOver (base_of kb.now) task.numbers task.solver.kept) }
+    ensures learnt { IfOk result (λ task. task.solver.kept.learnt ≡ []) }
+{
+    let solver = solver_of(alloc, kb, rule)?;
+    Task::open(alloc, kb.vocabulary(), kb.data(), solver)
+}
+
+/// The literals of the variables of the atoms that the data leave unknown.
+pub fn unknown_of(alloc: Global, kb: &KnowledgeBase) -> Result<Vec<Lit>, Memory>
+    ensures { IfOk result (λ lits. AreUnknownOf (base_of kb.now) lits.items) }
+{
+    kb.data().consistency();
+    open_literals(alloc, kb.data())
+}

@@ -1,0 +1,3 @@
+mod ReasonFacts
+mod ModelFacts
+mod LeastFacts
