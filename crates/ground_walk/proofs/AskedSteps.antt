@@ -1,5 +1,5 @@
 -- Steps over the summands of a term that may be asked for, and over their rows.
-use Rattle.std.proofs.Common.{◌≡◌, ℕ, zero, suc, ◌+◌, ◌<◌, ◌≤◌, ℤ, pos, ◌+ℤ◌, ◌-ℤ◌, List, [], ◌∷◌, ◌++◌, map, drop, length}
+use Rattle.std.proofs.Common.{◌≡◌, ℕ, zero, suc, ◌+◌, ◌<◌, ◌≤◌, ℤ, ◌+ℤ◌, ◌-ℤ◌, List, [], ◌∷◌, ◌++◌, map, drop, length}
 use Rattle.std.proofs.Common.{Bool, true, false, Some, slice_get, get_or, FitsSigned, w64, to_z, of_z, refl, sym, ap}
 use Rattle.std.proofs.Common.{subst, ◌∙◌, arith}
 use Rattle.std.specs.Option.{option_map}
@@ -11,25 +11,22 @@ use Rattle.kb_logic.specs.Denotations.{Denotation}
 use Rattle.kb_logic.specs.Meaning.{signed_of}
 use Rattle.kb_logic.specs.declared.syntax.Formula.{the_lemmas}
 use Rattle.kb_logic.specs.declared.syntax.Signed.{Signed}
-use Rattle.kb_logic.specs.declared.syntax.AggKind.TheVariants as kind
 use Rattle.kb_logic.specs.Trees.{TermTree, variable, integer, constructed, application, summation, product, aggregate}
 use Rattle.kb_logic.specs.Trees.{SummandTrees, no_summands, more_summands, summands_of}
 use Rattle.kb_logic.specs.Views.{signed_view, term_view}
 use Rattle.lit_core.specs.declared.literals.Lit.{Lit}
-use Rattle.ground_core.specs.declared.parts.Part.{Part}
 use Rattle.ground_core.specs.Problems.{ProblemState}
-use Rattle.ground_core.specs.Growth.{with_term}
 use Rattle.term_values.specs.GroundBases.{GroundBase}
 use Rattle.term_values.specs.KnownBases.{IsGroundBase}
 use Rattle.term_values.specs.Rows.{rows_of_term}
-use Rattle.def_ground.specs.AskedTerms.{summands_in, summands_of_term, base_of_summands, parts_of_summands, with_asked}
+use Rattle.def_ground.specs.AskedTerms.{summands_in, summands_of_term}
 use Rattle.def_ground.specs.AskedTerms.{number_of, Summand, first_number, first_weight, differences, other_weights}
 use Rattle.def_ground.specs.AskedTerms.{first_sum, WeightedParts, weigh, weigh_all}
 use Rattle.def_ground.proofs.Leaves.{rows-more}
 use Rattle.ground_walk.specs.declared.terms.SummandRows.{SummandRows}
-use Rattle.ground_walk.specs.Askable.{summand_view, weighted, others_of, HasRowsIn, IsSmallNumber, HasSmallRows}
+use Rattle.ground_walk.specs.Askable.{summand_view, others_of, HasRowsIn, IsSmallNumber}
 use Rattle.ground_walk.specs.Askable.{StaysSmall}
-use Rattle.ground_walk.specs.Groundable.{HasVars, HaveLits}
+use Rattle.ground_walk.specs.Groundable.{HasVars}
 use Rattle.ground_walk.proofs.LeafSteps.{rows-in}
 
 -- the summands that are left, the next one first
