@@ -1,5 +1,5 @@
 -- The numbers of a term whose static bounds are small can be computed.
-use Rattle.std.proofs.Common.{◌≡◌, ℕ, ℤ, pos, ◌+ℤ◌, List, [], ◌∷◌, Bool, true, false, ◌||◌, refl, sym, subst, arith}
+use Rattle.std.proofs.Common.{◌≡◌, ℤ, pos, ◌+ℤ◌, List, [], ◌∷◌, Bool, false, sym, subst, arith}
 use Rattle.std.specs.List.{list_any, AllByRecursion}
 use Rattle.std.proofs.lemmas.Int.{ints}
 use Rattle.kb_logic.specs.Bounds.{Interval, exactly, interval_sum, signed_interval, bounds_of, summand_bounds}
@@ -8,7 +8,7 @@ use Rattle.kb_logic.specs.Denotations.{Denotation, number, named, minus_infinity
 use Rattle.kb_logic.specs.Domains.{AreDomainsOf}
 use Rattle.kb_logic.specs.Trees.{TermTree, variable, integer, constructed, application, summation, product, aggregate}
 use Rattle.kb_logic.specs.Trees.{SummandTrees, no_summands, more_summands}
-use Rattle.kb_logic.specs.Typing.{IsIntegerIn, TermIsTyped, OperandsAreTyped, IsNumeric, sort_of}
+use Rattle.kb_logic.specs.Typing.{IsIntegerIn, TermIsTyped, OperandsAreTyped}
 use Rattle.kb_logic.proofs.WithinBounds.{signed_within}
 use Rattle.lit_core.specs.declared.literals.Lit.{Lit}
 use Rattle.term_values.specs.GroundBases.{GroundBase}

@@ -1,23 +1,33 @@
 -- Steps over the summands of a term that may be asked for, and over their rows.
-use Rattle.std.proofs.Common.{◌≡◌, ℕ, zero, suc, ◌+◌, ◌<◌, ◌≤◌, ℤ, pos, ◌+ℤ◌, ◌-ℤ◌, List, [], ◌∷◌, ◌++◌, map, drop, length}
+use Rattle.std.proofs.Common.{◌≡◌, ℕ, zero, suc, ◌+◌, ◌<◌, ◌≤◌, ℤ, ◌+ℤ◌, ◌-ℤ◌, List, [], ◌∷◌, ◌++◌, map, drop, length}
 use Rattle.std.proofs.Common.{Bool, true, false, Some, slice_get, get_or, FitsSigned, w64, to_z, of_z, refl, sym, ap}
 use Rattle.std.proofs.Common.{subst, ◌∙◌, arith}
 use Rattle.std.specs.Option.{option_map}
 use Rattle.std.specs.List.{AllByRecursion}
 use Rattle.std.proofs.lemmas.Int.{ints, to_z-of_z}
-use Rattle.std.proofs.lemmas.List.{drop_more}
+use Rattle.std.proofs.Common.{rules}
+use Rattle.std.proofs.lemmas.List.{append_assoc, drop_more, map-append}
 use Rattle.kb_logic.specs.Denotations.{Denotation}
 use Rattle.kb_logic.specs.Meaning.{signed_of}
+use Rattle.kb_logic.specs.declared.syntax.Formula.{the_lemmas}
+use Rattle.kb_logic.specs.declared.syntax.Signed.{Signed}
+use Rattle.kb_logic.specs.Trees.{TermTree, variable, integer, constructed, application, summation, product, aggregate}
+use Rattle.kb_logic.specs.Trees.{SummandTrees, no_summands, more_summands, summands_of}
+use Rattle.kb_logic.specs.Views.{signed_view, term_view}
 use Rattle.lit_core.specs.declared.literals.Lit.{Lit}
-use Rattle.ground_core.specs.declared.parts.Part.{Part}
 use Rattle.ground_core.specs.Problems.{ProblemState}
+use Rattle.term_values.specs.GroundBases.{GroundBase}
+use Rattle.term_values.specs.KnownBases.{IsGroundBase}
+use Rattle.term_values.specs.Rows.{rows_of_term}
+use Rattle.def_ground.specs.AskedTerms.{summands_in, summands_of_term}
 use Rattle.def_ground.specs.AskedTerms.{number_of, Summand, first_number, first_weight, differences, other_weights}
 use Rattle.def_ground.specs.AskedTerms.{first_sum, WeightedParts, weigh, weigh_all}
 use Rattle.def_ground.proofs.Leaves.{rows-more}
 use Rattle.ground_walk.specs.declared.terms.SummandRows.{SummandRows}
-use Rattle.ground_walk.specs.Askable.{summand_view, weighted, others_of, HasRowsIn, IsSmallNumber, HasSmallRows}
+use Rattle.ground_walk.specs.Askable.{summand_view, others_of, HasRowsIn, IsSmallNumber}
 use Rattle.ground_walk.specs.Askable.{StaysSmall}
-use Rattle.ground_walk.specs.Groundable.{HaveLits}
+use Rattle.ground_walk.specs.Groundable.{HasVars}
+use Rattle.ground_walk.proofs.LeafSteps.{rows-in}
 
 -- the summands that are left, the next one first
 pub left-more : (xs : List SummandRows) (i : ℕ) (s : SummandRows) → i < length xs → s ≡ get_or xs i s
@@ -25,6 +35,31 @@ pub left-more : (xs : List SummandRows) (i : ℕ) (s : SummandRows) → i < leng
 left-more xs i s h is =
     ap (map summand_view) (drop_more xs i s h)
     ∙ ap (λ x. summand_view x ∷ map summand_view (drop (i + 1) xs)) (sym is)
+
+signed-view-is : (s : Signed) → signed_view s ≡ (s.minus, term_view s.term)
+signed-view-is s = search (rules, the_lemmas)
+
+-- the operands that are left, the next one first
+pub operands-left : (parts : List Signed) (i : ℕ) (s : Signed) → i < length parts → s ≡ get_or parts i s
+    → summands_of (map signed_view (drop i parts))
+    ≡ more_summands s.minus (term_view s.term) (summands_of (map signed_view (drop (i + 1) parts)))
+operands-left parts i s h is =
+    ap (λ ps. summands_of (map signed_view ps)) (drop_more parts i s h)
+    ∙ ap (λ x. summands_of (signed_view x ∷ map signed_view (drop (i + 1) parts))) (sym is)
+    ∙ ap (λ (v : Bool × TermTree). summands_of (v ∷ map signed_view (drop (i + 1) parts))) (signed-view-is s)
+
+-- a summand more
+pub next-operand : (b : GroundBase) (all left after : SummandTrees) (minus : Bool) (t : TermTree)
+    (now next : List SummandRows) (x : SummandRows) → left ≡ more_summands minus t after → next ≡ now ++ x ∷ []
+    → summand_view x ≡ record { minus = minus; rows = rows_of_term b t [] }
+    → map summand_view now ++ summands_in b left ≡ summands_in b all
+    → map summand_view next ++ summands_in b after ≡ summands_in b all
+next-operand b all left after minus t now next x e made is same =
+    ap (λ ss. map summand_view ss ++ summands_in b after) made
+    ∙ ap (λ ss. ss ++ summands_in b after) (map-append summand_view now (x ∷ []))
+    ∙ append_assoc (map summand_view now) (summand_view x ∷ []) (summands_in b after)
+    ∙ ap (λ s. map summand_view now ++ s ∷ summands_in b after) is
+    ∙ sym (ap (λ l. map summand_view now ++ summands_in b l) e) ∙ same
 
 small-fits : (z : ℤ) → IsSmallNumber z → FitsSigned w64 z
 small-fits z h = omega (arith, ints, h.0, h.1)
@@ -107,3 +142,20 @@ pub summands-more : (n m : ℕ) → n ≤ m → (ss : List Summand) → AllByRec
     → AllByRecursion (HasRowsIn m) ss
 summands-more n m le [] h = tt
 summands-more n m le (s ∷ ss) h = (rows-more n m le s.rows h.0, summands-more n m le ss h.1)
+
+-- ---- the whole term
+
+module _ (b : GroundBase) (p : ProblemState) (is : IsGroundBase b) (vars : HasVars b p) where
+  operands-within : (ss : SummandTrees) → AllByRecursion (HasRowsIn p.vars) (summands_in b ss)
+  operands-within no_summands = tt
+  operands-within (more_summands minus t ss) = (rows-in b t [] p is vars, operands-within ss)
+
+  -- the guards of a term's summands are over the problem's variables
+  pub summands-within : (t : TermTree) → AllByRecursion (HasRowsIn p.vars) (summands_of_term b t)
+  summands-within (variable n) = (rows-in b (variable n) [] p is vars, tt)
+  summands-within (integer z) = (rows-in b (integer z) [] p is vars, tt)
+  summands-within (constructed ty n) = (rows-in b (constructed ty n) [] p is vars, tt)
+  summands-within (application s ts) = (rows-in b (application s ts) [] p is vars, tt)
+  summands-within (summation ss) = operands-within ss
+  summands-within (product ts) = (rows-in b (product ts) [] p is vars, tt)
+  summands-within (aggregate k bs f t) = (rows-in b (aggregate k bs f t) [] p is vars, tt)

@@ -1,5 +1,5 @@
 -- What the walk asks of a term that may be asked for: its sums and differences fit 64 bits.
-use Rattle.std.specs.Prelude.{◌≡◌, ℕ, ℤ, pos, neg_ℤ, ◌+ℤ◌, ◌≤ℤ◌, List, [], ◌∷◌, flat_map, Bool, false, ⊤}
+use Rattle.std.specs.Prelude.{◌≡◌, ℕ, ℤ, pos, neg_ℤ, ◌+ℤ◌, ◌≤ℤ◌, List, [], ◌∷◌, flat_map, false, ⊤}
 use Rattle.std.specs.List.{list_any, AllByRecursion}
 use Rattle.kb_logic.specs.Bounds.{bound_limit}
 use Rattle.kb_logic.specs.Trees.{TermTree}

@@ -12,6 +12,7 @@ ghost use Rattle.term_values.specs.Rows.{rows_of_term};
 ghost use Rattle.def_ground.specs.AskedTerms.{number_of, alone, summands_in, summands_of_term, other_weights};
 ghost use Rattle.def_ground.specs.AskedTerms.{is_rowless as has_no_row, first_number as number_in_first};
 ghost use Rattle.def_ground.specs.AskedTerms.{first_sum as sum_of_first, guarded_by, weigh, weigh_all, with_asked};
+ghost use Rattle.def_ground.specs.AskedTerms.{base_of_summands, parts_of_summands};
 ghost use Rattle.ground_walk.specs.Askable.{summand_view, HasSmallRows, StaysSmall, IsAskable, weighted, others_of};
 ghost use Rattle.ground_walk.specs.Askable.{HasRowsIn};
 ghost use Rattle.ground_walk.specs.Groundable.{HasVars, HaveLits};
@@ -58,7 +59,8 @@ fn operands<'a>(
 {
     let mut summands = Vec::with_capacity(alloc, parts.len())?;
     for part in parts {
-        summands.push(summand(alloc, base, part.minus, &part.term)?)?;
+        let next = summand(alloc, base, part.minus, &part.term)?;
+        summands.push(next)?;
     }
     Ok(summands)
 }
@@ -73,7 +75,8 @@ fn only<'a>(
     ensures { IfOk result (λ v. map summand_view v.items ≡ alone base.now (term_view term.now)) }
 {
     let mut summands = Vec::with_capacity(alloc, 1)?;
-    summands.push(summand(alloc, base, false, term)?)?;
+    let whole = summand(alloc, base, false, term)?;
+    summands.push(whole)?;
     Ok(summands)
 }
 
@@ -239,6 +242,32 @@ fn push_all(
     Ok(())
 }
 
+/// What the summands come to where in each the first row holds, and a part for each other row; 0 and no part where a
+/// summand has no row.
+fn weighed(
+    alloc: Global,
+    summands: &[SummandRows<'_>],
+    problem: &mut Problem,
+) -> Result<(i64, PartList), Memory>
+    requires small { AllByRecursion HasSmallRows (map summand_view summands.now) }
+    requires sums { list_any (λ s. has_no_row s.rows) (map summand_view summands.now) ≡ false
+        → StaysSmall (pos 0) (map summand_view summands.now) }
+    requires rows { AllByRecursion (HasRowsIn problem.old.vars) (map summand_view summands.now) }
+    ensures base { IfOk result (λ r. r.0 ≡ base_of_summands (map summand_view summands.now)) }
+    ensures parts { IfOk result (λ r. weighted r.1 problem.new
+        ≡ parts_of_summands (map summand_view summands.now) problem.old) }
+    ensures within { IfOk result (λ r. ArePartsOf problem.new.vars r.1) }
+    ensures grows { IfOk result (λ r. problem.old.vars ≤ problem.new.vars) }
+{
+    let mut parts = PartList::new(alloc);
+    if has_rowless(summands) {
+        return Ok((0, parts));
+    }
+    let first = first_sum(summands);
+    push_all(alloc, summands, &mut parts, problem)?;
+    Ok((first, parts))
+}
+
 /// Names a term that may be asked for, which has no free variables.
 pub fn push_term(
     alloc: Global,
@@ -255,14 +284,10 @@ pub fn push_term(
     ensures grows { OnOk result (problem.old.vars ≤ problem.new.vars) }
 {
     let summands = summands_of(alloc, base, term)?;
-    let mut parts = PartList::new(alloc);
-    let mut first = 0;
-    if !has_rowless(summands.as_slice()) {
-        first = first_sum(summands.as_slice());
-        push_all(alloc, summands.as_slice(), &mut parts, problem)?;
-    }
+    let (first, parts) = weighed(alloc, summands.as_slice(), problem)?;
+    let name = name.copy(alloc)?;
     problem.add_term(GroundTerm {
-        name: name.copy(alloc)?,
+        name,
         kind: AggKind::Sum,
         base: first,
         parts,

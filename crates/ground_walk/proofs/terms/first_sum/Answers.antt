@@ -1,4 +1,4 @@
-use Rattle.std.proofs.Common.{◌≡◌, ◌+◌, ◌<◌, ℤ, List, ◌∷◌, map, drop, length, w64, to_z, of_z, subst, ap, ◌∙◌, arith}
+use Rattle.std.proofs.Common.{◌≡◌, ◌+◌, ◌<◌, ℤ, map, drop, length, w64, to_z, of_z, subst, ap, ◌∙◌, arith}
 use Rattle.std.specs.List.{AllByRecursion}
 use Rattle.kb_logic.specs.Meaning.{signed_of}
 use Rattle.def_ground.specs.AskedTerms.{first_number, first_weight, first_sum}
