@@ -1,2 +1,4 @@
+pub mod ApplicationFacts
 pub mod PlaceFacts
 pub mod TableFacts
+pub mod UnknownFacts

@@ -1,3 +1,4 @@
 pub mod Numbers
 pub mod NumberFields
 pub mod Tables
+pub mod Unknown

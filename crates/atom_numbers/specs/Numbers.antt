@@ -6,7 +6,7 @@ use Rattle.kb_logic.specs.declared.vocabularies.Symbol.{Symbol}
 use Rattle.kb_logic.specs.declared.vocabularies.Vocabulary.{Vocabulary}
 use Rattle.kb_logic.specs.declared.structures.Literal.{Literal}
 use Rattle.kb_logic.specs.Structures.{domain_at, tuples_of}
-use Rattle.kb_logic.specs.Models.{atom_of}
+use Rattle.kb_logic.specs.Models.{GroundAtom, atom_of}
 use Rattle.kb_logic.specs.KnownAtoms.{atoms_over}
 use Rattle.lit_core.specs.declared.literals.Lit.{Lit}
 use Rattle.term_values.specs.GroundBases.{GroundBase, atoms_in}
@@ -21,6 +21,22 @@ pub record HasNumber (b : GroundBase) (l : Literal) (lit : Lit) : Type 0 where
   pub atom : slice_get (atoms_over b.vocabulary.symbols b.domains) place ≡ Some (atom_of l)
   pub var : lit.var.0 ≡ suc place
   pub sign : lit.positive ≡ l.positive
+
+-- both atoms are of the same symbol at the same arguments
+abbrev pub AreAlike : GroundAtom → GroundAtom → Type 0
+AreAlike a c = (a.symbol ≡ c.symbol) × (a.args ≡ c.args)
+
+-- the variable of the first atom that gives the same function at the same arguments a value as the literal's atom does
+pub record IsApplication (b : GroundBase) (l : Literal) (var : ℕ) : Type 0 where
+  pub value : Elem
+  pub valued : l.value ≡ Some value
+  pub place : ℕ
+  pub number : var ≡ suc place
+  pub first : GroundAtom
+  pub atom : slice_get (atoms_over b.vocabulary.symbols b.domains) place ≡ Some first
+  pub alike : AreAlike first (atom_of l)
+  pub least : (k : ℕ) (c : GroundAtom) → slice_get (atoms_over b.vocabulary.symbols b.domains) k ≡ Some c
+      → AreAlike c (atom_of l) → place ≤ k
 
 -- the place of a predicate's atom among those of its symbol
 pub record IsPlainPlace (domains : List (List Elem)) (s : Symbol) (l : Literal) (place : ℕ) : Type 0 where
@@ -47,6 +63,12 @@ IsPlaceIn domains s l place = IsPlainPlace domains s l place ⊎ IsValuedPlace d
 -- the variable of a symbol's first atom
 abbrev pub first_of : List (List Elem) → List Symbol → ℕ → ℕ
 first_of domains symbols k = 1 + sum_by (atoms_in domains) (take k symbols)
+
+-- the variable is one of this symbol's atoms
+pub record IsSymbolOf (domains : List (List Elem)) (symbols : List Symbol) (var number : ℕ) : Type 0 where
+  pub declared : number < length symbols
+  pub from : first_of domains symbols number ≤ var
+  pub below : var < first_of domains symbols (number + 1)
 
 -- the variables of the symbols' first atoms; all variables are below 2^64, and all symbols have a u32
 pub record AreNumbered (domains : List (List Elem)) (symbols : List Symbol) (vars : List ℕ) : Type 0 where

@@ -4,5 +4,7 @@
 mod numbers;
 mod places;
 mod tables;
+mod unknown;
 
 pub use numbers::AtomNumbers;
+pub use unknown::open_literals;

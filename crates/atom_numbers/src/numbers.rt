@@ -1,12 +1,15 @@
 //! The variables of the ground atoms over a vocabulary and domains.
-ghost use Rattle.std.specs.Prelude.{◌≡◌, ◌≤◌, ◌<◌, ◌^◌, length, IfOk};
+ghost use Rattle.std.specs.Prelude.{◌≡◌, ◌≤◌, ◌<◌, ◌^◌, length, IfOk, MatchOption, None};
 ghost use Rattle.kb_logic.specs.Models.{IsAtomOver, atom_of};
+ghost use Rattle.kb_logic.specs.KnownAtoms.{atoms_over};
+ghost use Rattle.kb_logic.specs.declared.structures.Literal.{Literal as ALiteral};
 ghost use Rattle.lit_core.specs.Literals.{valuation};
+ghost use Rattle.ground_core.specs.Problems.{IsLitOf};
 ghost use Rattle.term_values.specs.GroundBases.{structure_of};
 ghost use Rattle.term_values.specs.KnownBases.{IsGroundBase};
-ghost use Rattle.atom_numbers.specs.Numbers.{HasNumber, bare_base, AreNumbered};
+ghost use Rattle.atom_numbers.specs.Numbers.{HasNumber, IsApplication, bare_base, AreNumbered};
 
-use crate::places::{atom_count, variable_of};
+use crate::places::{application_at, atom_count, literal_at, symbol_of, variable_of};
 use crate::tables::{functions, relations};
 use kb_logic::{DomainList, ElemList, Literal, Memory, Structure, Symbol, Vocabulary};
 use lit_core::{Lit, Values, Var};
@@ -89,6 +92,37 @@ impl AtomNumbers {
             var: Var(variable_of(domains, symbols, self.firsts.as_slice(), literal)),
             positive: literal.positive,
         }
+    }
+
+    /// The literal of the atom that has the literal's variable. It takes time linear in the number of symbols and of
+    /// the symbol's arguments.
+    pub fn literal_of(&self, alloc: Global, lit: Lit) -> Result<Literal, Memory>
+        requires { IsLitOf (length (atoms_over self.now.vocabulary.symbols self.now.domains)) lit }
+        ensures { IfOk result (λ l. HasNumber self.now l lit × IsAtomOver self.now.vocabulary.symbols self.now.domains
+            (atom_of l)) }
+    {
+        let symbols = self.vocabulary.symbols.as_slice();
+        let domains = self.domains.as_slice();
+        let firsts = self.firsts.as_slice();
+        let number = symbol_of(domains, symbols, firsts, lit);
+        let place = lit.var.0 - firsts[number];
+        let symbol = &symbols[number];
+        literal_at(alloc, domains, symbol, number as u32, place, lit.positive)
+    }
+
+    /// The variable of the first atom that gives the same function a value at the same arguments as the literal's atom
+    /// does, and None where that is a predicate's. It takes time linear in the number of symbols.
+    pub fn application_of(&self, lit: Lit) -> Option<u64>
+        requires { IsLitOf (length (atoms_over self.now.vocabulary.symbols self.now.domains)) lit }
+        ensures { (l : ALiteral) → HasNumber self.now l lit
+            → MatchOption result (l.value ≡ None) (IsApplication self.now l) }
+    {
+        let symbols = self.vocabulary.symbols.as_slice();
+        let domains = self.domains.as_slice();
+        let firsts = self.firsts.as_slice();
+        let number = symbol_of(domains, symbols, firsts, lit);
+        let place = lit.var.0 - firsts[number];
+        application_at(domains, &symbols[number], place, lit.var.0)
     }
 
     /// The structure in which the atoms with true variables hold. It takes time linear in the number

@@ -1,14 +1,16 @@
 //! Places of tuples and of atoms in their orders.
 ghost use Rattle.std.specs.Prelude.{◌≡◌, ◌<◌, ◌^◌, ℕ, suc, length, slice_get, get_or, [], Contains};
-ghost use Rattle.std.specs.Prelude.{IfSome, IfOk, Some};
-ghost use Rattle.kb_logic.specs.Structures.{tuples_of};
+ghost use Rattle.std.specs.Prelude.{IfSome, IfOk, Some, None, MatchOption, ◌-◌, ◌%◌, ◌≤◌};
+ghost use Rattle.kb_logic.specs.Structures.{tuples_of, domain_at};
 ghost use Rattle.kb_logic.specs.Models.{IsAtomOver, HasValueIn, atom_of};
 ghost use Rattle.term_values.specs.GroundBases.{atoms_in};
 ghost use Rattle.kb_logic.specs.KnownAtoms.{atoms_over};
-ghost use Rattle.atom_numbers.specs.Numbers.{IsPlaceIn, AreNumbered};
+ghost use Rattle.ground_core.specs.Problems.{IsLitOf};
+ghost use Rattle.atom_numbers.specs.Numbers.{IsPlaceIn, IsSymbolOf, AreNumbered};
 
 use kb_logic::values::domain_in;
 use kb_logic::{Elem, ElemList, Literal, Memory, Symbol};
+use lit_core::Lit;
 use std::alloc::Global;
 
 /// How many tuples there are over these types; None where a `u64` cannot count them.
@@ -126,4 +128,76 @@ pub(crate) fn variable_of(
     let number = literal.symbol as usize;
     let place = atom_place(domains, &symbols[number], literal);
     firsts[number] + place
+}
+
+/// The number of the symbol to which the literal's atom belongs, where these are the variables of the symbols' first
+/// atoms. It takes time linear in the number of symbols.
+pub(crate) fn symbol_of(domains: &[ElemList], symbols: &[Symbol], firsts: &[u64], lit: Lit) -> usize
+    requires numbered { AreNumbered domains.now symbols.now firsts.now }
+    requires atom { IsLitOf (length (atoms_over symbols.now domains.now)) lit }
+    ensures { IsSymbolOf domains.now symbols.now lit.var.0 result }
+{
+    let mut number = firsts.len() - 1;
+    while firsts[number] > lit.var.0 {
+        number -= 1;
+    }
+    number
+}
+
+// The place of a function's atom is the place of its arguments times the number of values, plus that of its value.
+/// The literal of the symbol's atom at this place.
+pub(crate) fn literal_at(
+    alloc: Global,
+    domains: &[ElemList],
+    symbol: &Symbol,
+    number: u32,
+    place: u64,
+    positive: bool,
+) -> Result<Literal, Memory>
+    requires { place < atoms_in domains.now symbol.now }
+    ensures { IfOk result (λ l. (l.symbol ≡ number) × (l.positive ≡ positive)
+        × IsPlaceIn domains.now symbol.now l place) }
+{
+    let types = symbol.args.as_slice();
+    let Some(count) = tuple_count(domains, types) else {
+        return Err(Memory);
+    };
+    match symbol.value {
+        None => Ok(Literal {
+            positive,
+            symbol: number,
+            args: tuple_at(alloc, domains, types, count, place)?,
+            value: None,
+        }),
+        Some(ty) => {
+            let domain = domain_in(domains, ty);
+            let size = domain.len() as u64;
+            let value = domain[(place % size) as usize].copy(alloc)?;
+            Ok(Literal {
+                positive,
+                symbol: number,
+                args: tuple_at(alloc, domains, types, count, place / size)?,
+                value: Some(value),
+            })
+        }
+    }
+}
+
+/// The variable of the first atom that gives the symbol at the same arguments a value, where the symbol's atom at this
+/// place has the variable `var`; None for a predicate.
+pub(crate) fn application_at(
+    domains: &[ElemList],
+    symbol: &Symbol,
+    place: u64,
+    var: u64,
+) -> Option<u64>
+    requires place { place < atoms_in domains.now symbol.now }
+    requires var { place ≤ var }
+    ensures { MatchOption result (symbol.now.value ≡ None) (λ first. (ty : ℕ) × (symbol.now.value ≡ Some ty)
+        × (first ≡ var - place % length (domain_at domains.now ty))) }
+{
+    match symbol.value {
+        None => None,
+        Some(ty) => Some(var - place % domain_in(domains, ty).len() as u64),
+    }
 }

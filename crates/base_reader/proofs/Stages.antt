@@ -177,6 +177,7 @@ module _ (same : FilesAreTheirBlocks) (c : Choice) (bytes : List ℕ) (kb : RawK
     theory = omega (arith, theory_within (typed_view typed) is, length-map typed.theories named_theory_view);
     ground = (grounded (file_in kb) is.0 (typed_view typed) is.1 is.2 t (structure_view x) known measured.given).0;
     bounded = (bounded is.0 (typed_view typed) is.2 t known sizes measured.sized).theory;
+    asked = (bounded is.0 (typed_view typed) is.2 t known sizes measured.sized).terms;
     sized = measured.sized.accepted;
     numbered = (formed (file_in kb) is.0 (typed_view typed) is.1 is.2).few_symbols;
   }

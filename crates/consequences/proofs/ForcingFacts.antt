@@ -181,12 +181,12 @@ module _ (assumed ask : List Lit) (atoms : ℕ) (seen : List (List Bool)) (i : �
       (valuation values, left.1, left.2, f.4)
 
   -- one literal more that needs no search
-  module _ (lt : i < length ask) (same_atoms : atoms ≡ length r.problem.atoms)
+  module _ (lt : i < length ask) (few : atoms ≤ length r.problem.atoms)
       (were : All (IsSeen r.problem assumed) seen) (lits : AreLitsOf r.problem.vars ask) where
     free-seen : IsFalseInSeen atoms seen x → IsFree r.problem assumed x
     free-seen f =
         let was : IsSeen r.problem assumed f.1.1 = subst (IsSeen r.problem assumed) f.1.3 (were f.1.0 f.1.1 f.1.2) in
-        let within : IsLitOf (length r.problem.atoms) x = ((lits i d lt).0, omega (arith, f.0, same_atoms)) in (
+        let within : IsLitOf (length r.problem.atoms) x = ((lits i d lt).0, omega (arith, f.0, few)) in (
           was.left.0,
           was.left.1,
           was.left.2,

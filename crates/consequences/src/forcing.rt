@@ -1,5 +1,5 @@
 //! Literals that are true wherever the problem and what is assumed hold.
-ghost use Rattle.std.specs.Prelude.{◌≡◌, ℕ, ◌<◌, ◌+◌, ◌++◌, ◌∷◌, [], List, length, All, IfOk, IfErr, OnOk};
+ghost use Rattle.std.specs.Prelude.{◌≤◌, ◌≡◌, ℕ, ◌<◌, ◌+◌, ◌++◌, ◌∷◌, [], List, length, All, IfOk, IfErr, OnOk};
 ghost use Rattle.lit_core.specs.Literals.{negated};
 ghost use Rattle.ground_core.specs.Problems.{AreLitsOf};
 ghost use Rattle.ground_core.specs.Solving.{IsBudgetOf, AreUnretired, HaltedAt, HasCoreWithin, IsKept, IsLive};
@@ -69,7 +69,7 @@ fn decide_each<S: Solve>(
     requires unretired { AreUnretired (S.state s.old).problem assume.now }
     requires asked { AreLitsOf (S.state s.old).problem.vars ask.now }
     requires asked_unretired { IsLive (S.state s.old).problem.retired ask.now }
-    requires atoms { atoms ≡ length (S.state s.old).problem.atoms }
+    requires atoms { atoms ≤ length (S.state s.old).problem.atoms }
     requires seen { All (IsSeen (S.state s.old).problem assume.now) seen.now }
     requires first { IsLeft (S.state s.old).problem assume.now first }
     requires budget { IsBudgetOf (S.state s.old).learnt budget.old }
@@ -100,9 +100,8 @@ fn decide_each<S: Solve>(
 }
 
 /// The literals of `ask` that are true wherever the problem and what is assumed hold, each with some
-/// of what was assumed that forces it; None where they nowhere hold. `seen` are values of at least
-/// the first `atoms` variables, the ground atoms, which belong to such valuations. No search is
-/// made for a literal that one of them makes false.
+/// of what was assumed that forces it; None where they nowhere hold. `seen` are values of the ground atoms that belong
+/// to such valuations. No search is made for a literal of the first `atoms` variables that one of them makes false.
 pub fn forced<S: Solve>(
     alloc: Global,
     s: &mut S,
@@ -116,7 +115,7 @@ pub fn forced<S: Solve>(
     requires unretired { AreUnretired (S.state s.old).problem assume.now }
     requires asked { AreLitsOf (S.state s.old).problem.vars ask.now }
     requires asked_unretired { IsLive (S.state s.old).problem.retired ask.now }
-    requires atoms { atoms ≡ length (S.state s.old).problem.atoms }
+    requires atoms { atoms ≤ length (S.state s.old).problem.atoms }
     requires seen { All (IsSeen (S.state s.old).problem assume.now) seen.now }
     requires budget { IsBudgetOf (S.state s.old).learnt budget.old }
     ensures finds { IfOk result (FindsForced (S.state s.old).problem assume.now ask.now (S.state s.new).cores) }

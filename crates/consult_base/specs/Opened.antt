@@ -9,7 +9,7 @@ use Rattle.reading_stages.specs.Scopes.{Text}
 use Rattle.reading_stages.specs.SizesStage.{SizesRefuse, size_uses}
 use Rattle.type_derivation.specs.TypedViews.{typed_view}
 use Rattle.type_derivation.specs.declared.typed.TypedKb.{TypedKb}
-use Rattle.def_ground.specs.Groundings.{IsGroundTheory}
+use Rattle.def_ground.specs.Groundings.{IsGroundTheory, TermsAreBounded}
 
 -- a file, the number of the chosen theory, the name of the chosen structure, and what that structure makes known
 pub record Opened : Type 0 where
@@ -25,11 +25,12 @@ opened typed theory structure known = record { typed = typed; theory = theory; s
 abbrev pub base_of : Opened → Base
 base_of k = base_of_file (typed_view k.typed) k.theory k.known
 
--- the theory is one of the file's; theory and data are well typed; its terms are bounded, and no size is refused; and
--- there are few symbols
+-- the theory is one of the file's; theory, terms and data are well typed; all terms are bounded, and no size is refused;
+-- and there are few symbols
 pub record IsKnowledgeBase (k : Opened) : Type 0 where
   pub theory : k.theory < length k.typed.theories
   pub ground : IsGroundTheory (base_of k)
   pub bounded : TheoryIsBounded k.typed.vocab k.known.domains (theory_at (typed_view k.typed) k.theory)
+  pub asked : TermsAreBounded (base_of k)
   pub sized : (q : KbFault) → SizesRefuse (size_uses (typed_view k.typed) k.theory k.known.domains) q → ⊥
   pub numbered : length k.typed.vocab.symbols ≤ 1024

@@ -44,27 +44,23 @@ word_byte b h = record {
   brace = not_other b 125 Mark refl refl h;
 }
 
-digit_byte : (b : ℕ) → 48 ≤ b → b ≤ 57 → Inner b
-digit_byte b low high = record {
+-- between the least of those bytes and the greatest
+pub inner_byte : (b : ℕ) → 41 < b → b < 125 → b ≢ 44 → b ≢ 59 → Inner b
+inner_byte b low high comma semicolon = record {
   line = λ e. omega arith;
   blank = λ e. omega arith;
   opening = λ e. omega arith;
   closing = λ e. omega arith;
-  comma = λ e. omega arith;
-  semicolon = λ e. omega arith;
+  comma = comma;
+  semicolon = semicolon;
   brace = λ e. omega arith;
 }
 
+digit_byte : (b : ℕ) → 48 ≤ b → b ≤ 57 → Inner b
+digit_byte b low high = inner_byte b (omega arith) (omega arith) (λ e. omega arith) (λ e. omega arith)
+
 minus_byte : Inner 45
-minus_byte = record {
-  line = λ e. omega arith;
-  blank = λ e. omega arith;
-  opening = λ e. omega arith;
-  closing = λ e. omega arith;
-  comma = λ e. omega arith;
-  semicolon = λ e. omega arith;
-  brace = λ e. omega arith;
-}
+minus_byte = inner_byte 45 (omega arith) (omega arith) (λ e. omega arith) (λ e. omega arith)
 
 all_word_bytes : (bs : List ℕ) → list_all is_word_byte bs ≡ true → AllByRecursion Inner bs
 all_word_bytes [] h = tt

@@ -10,4 +10,6 @@ pub mod InnerBytes
 pub mod RowTexts
 pub mod LabelledTexts
 pub mod ModelTexts
+pub mod ValueTexts
+pub mod TermNumbers
 pub mod ReplyTexts

@@ -1,15 +1,15 @@
 -- A line means at most one thing.
 use Rattle.std.proofs.Common.{◌≡◌, ◌≢◌, ℕ, ◌<◌, List, [], ◌∷◌, map, Bool, true, false, Ok, Err, Option, Some, None}
-use Rattle.std.proofs.Common.{refl, sym, ap, ◌∙◌, subst, codes, arith}
+use Rattle.std.proofs.Common.{pos, refl, sym, ap, ◌∙◌, subst, codes, arith}
 use Rattle.std.specs.Str.{bytes_eq}
 use Rattle.std.specs.List.{Contains}
+use Rattle.std.proofs.lemmas.List.Quantifiers.{position-Some}
 use Rattle.std.proofs.lemmas.Option.{slice_get_within, get_or_from_slice_get}
 use Rattle.std.proofs.lemmas.Slice.Eq.{bytes_eq-Decides}
 use Rattle.kb_logic.specs.declared.vocabularies.Symbol.{Symbol}
 use Rattle.kb_logic.specs.declared.structures.Literal.{Literal}
-use Rattle.kb_logic.specs.Bases.{Base}
-use Rattle.kb_text.specs.Depth.{outermost}
-use Rattle.kb_text.specs.Tokens.{Lexeme, TokensFrom}
+use Rattle.kb_logic.specs.Bases.{Base, NamedTerm}
+use Rattle.kb_logic.specs.Trees.{integer}
 use Rattle.consult_text.specs.declared.commands.Command.{Command}
 use Rattle.consult_text.specs.declared.commands.Command.TheVariants as command
 use Rattle.consult_text.specs.declared.refusals.F.{F}
@@ -96,6 +96,7 @@ word_of written.choices = codes "choices"
 word_of written.model = codes "model"
 word_of (written.models t) = codes "models"
 word_of written.propagate = codes "propagate"
+word_of (written.minimize n) = codes "minimize"
 word_of (written.explain l) = codes "explain"
 word_of written.why = codes "why"
 word_of (written.budget t) = codes "budget"
@@ -113,6 +114,7 @@ command_same written.choices written.choices q = refl
 command_same written.model written.model q = refl
 command_same (written.models t) (written.models t') q = cc
 command_same written.propagate written.propagate q = refl
+command_same (written.minimize n) (written.minimize n') q = cc
 command_same (written.explain l) (written.explain l') q =
     ap (λ (x : WrittenLiteral). written.explain x) (literal_same l l' (behind_same q))
 command_same written.why written.why q = refl
@@ -217,6 +219,9 @@ asks_same kb written.model command.Model command.Model h h' = refl
 asks_same kb (written.models t) (command.Models n) (command.Models n') h h' =
     ap (λ (x : ℕ). command.Models x) (h ∙ sym h')
 asks_same kb written.propagate command.Propagate command.Propagate h h' = refl
+asks_same kb (written.minimize n) (command.Minimize t) (command.Minimize t') h h' =
+    let one : Some t ≡ Some t' = sym h ∙ h' in
+    ap (λ (x : ℕ). command.Minimize x) (cc)
 asks_same kb (written.explain w) (command.Explain l) (command.Explain l') h h' =
     ap (λ (x : Literal). command.Explain x) (literal_of_line kb w l l' h h')
 asks_same kb written.why command.Why command.Why h h' = refl
@@ -232,6 +237,7 @@ asks_same kb written.choices command.Choices d h h' = absurd h'
 asks_same kb written.model command.Model d h h' = absurd h'
 asks_same kb (written.models t) (command.Models n) d h h' = absurd h'
 asks_same kb written.propagate command.Propagate d h h' = absurd h'
+asks_same kb (written.minimize n) (command.Minimize t) d h h' = absurd h'
 asks_same kb (written.explain w) (command.Explain l) d h h' = absurd h'
 asks_same kb written.why command.Why d h h' = absurd h'
 asks_same kb (written.budget t) (command.Budget b) d h h' = absurd h'
@@ -246,12 +252,19 @@ no_refusal kb (written.explain w) (command.Explain l) f h r = no_cause kb w l f 
 no_refusal kb (written.assert w) c f h r = h
 no_refusal kb (written.retract w) c f h r = h
 no_refusal kb (written.explain w) c f h r = h
+no_refusal kb (written.minimize n) (command.Minimize t) refusal.UnknownTerm h r =
+    let e : Some t ≡ None = sym h ∙ r in
+    absurd (cc)
+no_refusal kb (written.minimize n) (command.Minimize t) f h r = r
+no_refusal kb (written.minimize n) c f h r = h
 no_refusal kb w c f h r = r
 
 refuses_same : (kb : Base) (w : WrittenCommand) (f g : F) → RefusesFor kb w f → RefusesFor kb w g → f ≡ g
 refuses_same kb (written.assert w) f g h h' = cause_same kb w f g (cause_of kb w f h) (cause_of kb w g h')
 refuses_same kb (written.retract w) f g h h' = cause_same kb w f g (cause_of kb w f h) (cause_of kb w g h')
 refuses_same kb (written.explain w) f g h h' = cause_same kb w f g (cause_of kb w f h) (cause_of kb w g h')
+refuses_same kb (written.minimize n) refusal.UnknownTerm refusal.UnknownTerm h h' = refl
+refuses_same kb (written.minimize n) refusal.UnknownTerm g h h' = absurd h'
 refuses_same kb w f g h h' = absurd h
 
 -- a refused line is no command, or has one whose literal is refused
@@ -296,10 +309,16 @@ one_meaning kb line one (Err f) (Ok (Some d)) h h' = absurd (not_refused kb line
 one_meaning kb line one (Err f) (Err g) h h' =
     ap (λ (x : F). Err x) (refusal_same kb line f g one (refusal_of kb line f h) (refusal_of kb line g h'))
 
+-- what is read past the end of a list of term blocks
+no_term : NamedTerm
+no_term = record { name = []; term = integer (pos 0) }
+
 over_by : (kb : Base) (w : WrittenCommand) (c : Command) → IsWellFormed w → Asks kb w c → IsCommandOver kb c
 over_by kb (written.assert w) (command.Assert l) k h = h.5
 over_by kb (written.retract w) (command.Retract l) k h = h.5
 over_by kb (written.explain w) (command.Explain l) k h = h.5
+over_by kb (written.minimize n) (command.Minimize t) k h =
+    (position-Some (λ (b : NamedTerm). bytes_eq n b.name) kb.terms t no_term h).0
 over_by kb (written.models t) (command.Models n) k h = (omega (arith, k.least, h), omega (arith, k.most, h))
 over_by kb w command.Reset k h = tt
 over_by kb w command.Choices k h = tt

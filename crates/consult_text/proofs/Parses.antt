@@ -1,5 +1,5 @@
 -- Lines and the commands that are written in them.
-use Rattle.std.proofs.Common.{◌≡◌, ℕ, suc, ◌<◌, ◌^◌, List, [], ◌∷◌, map, length, Bool, true, false, Ok, Err, Option}
+use Rattle.std.proofs.Common.{◌≡◌, ℕ, suc, ◌<◌, ◌^◌, List, [], ◌∷◌, map, length, true, false, Ok, Err, Option}
 use Rattle.std.proofs.Common.{Some, None, refl, sym, ap, ◌∙◌, subst, arith}
 use Rattle.std.specs.List.{All, AllByRecursion}
 use Rattle.kb_text.specs.declared.fault.KbFault.{KbFault}
@@ -102,6 +102,7 @@ command_fits written.choices k h = tt
 command_fits written.model k h = tt
 command_fits (written.models text) k h = k.most
 command_fits written.propagate k h = tt
+command_fits (written.minimize name) k h = tt
 command_fits (written.explain l) k h = literal_fits l h.1
 command_fits written.why k h = tt
 command_fits (written.budget text) k h = h.1.0

@@ -7,6 +7,8 @@ use Rattle.std.specs.List.{AllByRecursion}
 use Rattle.std.proofs.lemmas.List.{append_cancel_left}
 use Rattle.std.proofs.lemmas.Fmt.{decimal_digit, decimal_injective}
 use Rattle.std.specs.Fmt.{decimal}
+use Rattle.kb_logic.specs.declared.elements.ExtInt.{ExtInt}
+use Rattle.kb_logic.specs.Decimals.{decimal_text}
 use Rattle.kb_logic.specs.declared.structures.Literal.{Literal}
 use Rattle.kb_logic.specs.declared.structures.Structure.{Structure}
 use Rattle.kb_logic.specs.declared.vocabularies.Vocabulary.{Vocabulary}
@@ -20,11 +22,13 @@ use Rattle.consult_text.specs.Refusals.{number_of, name_of, text_of}
 use Rattle.kb_logic.specs.Bases.{Base}
 use Rattle.literal_printer.specs.Tables.{symbol_lines}
 use Rattle.consult_text.specs.Replies.{IsRefusal, IsAnswerTo, IsReplyTo}
-use Rattle.consult_text.specs.Texts.{labelled_lines, model_block, end_line, models_text, reply_text}
-use Rattle.consult_text.specs.OneText.{HasWordNames, IsStructureOver, IsReplyOver, NoTwoRepliesHaveOneText}
+use Rattle.consult_text.specs.Texts.{labelled_lines, model_block, end_line, models_text, minimum_text, reply_text}
+use Rattle.consult_text.specs.OneText.{HasWordNames, IsStructureOver, IsShortValue, IsReplyOver}
+use Rattle.consult_text.specs.OneText.{HaveReadableValues, NoTwoRepliesHaveOneText}
 use Rattle.consult_text.proofs.RowTexts.{byte_above, byte_same, rest_same}
 use Rattle.consult_text.proofs.InnerBytes.{split_same, decimal_inner}
-use Rattle.consult_text.proofs.LabelledTexts.{labelled_same, line_stops}
+use Rattle.consult_text.proofs.LabelledTexts.{labelled_same, line_end, line_stops}
+use Rattle.consult_text.proofs.ValueTexts.{values_same}
 use Rattle.consult_text.proofs.ModelTexts.{models_same}
 
 small_number : (f : F) → number_of f < 10
@@ -36,6 +40,7 @@ small_number refusal.AlreadyChosen = omega arith
 small_number refusal.NotChosen = omega arith
 small_number refusal.GivenByData = omega arith
 small_number refusal.LineTooLong = omega arith
+small_number refusal.UnknownTerm = omega arith
 
 numbered : ℕ → F
 numbered zero = refusal.Syntax
@@ -46,7 +51,8 @@ numbered (suc (suc (suc (suc zero)))) = refusal.NotAnElement
 numbered (suc (suc (suc (suc (suc zero))))) = refusal.AlreadyChosen
 numbered (suc (suc (suc (suc (suc (suc zero)))))) = refusal.NotChosen
 numbered (suc (suc (suc (suc (suc (suc (suc zero))))))) = refusal.GivenByData
-numbered (suc (suc (suc (suc (suc (suc (suc (suc n)))))))) = refusal.LineTooLong
+numbered (suc (suc (suc (suc (suc (suc (suc (suc zero)))))))) = refusal.LineTooLong
+numbered (suc (suc (suc (suc (suc (suc (suc (suc (suc n))))))))) = refusal.UnknownTerm
 
 back : (f : F) → numbered (number_of f) ≡ f
 unfolding numbered
@@ -58,6 +64,7 @@ back refusal.AlreadyChosen = refl
 back refusal.NotChosen = refl
 back refusal.GivenByData = refl
 back refusal.LineTooLong = refl
+back refusal.UnknownTerm = refl
 
 digit_text : (f : F) → text_of f ++ codes "\n" ≡ codes "F"
     ++ ((48 + number_of f) ∷ ((codes " " ++ name_of f) ++ codes "\n"))
@@ -83,6 +90,7 @@ letters (reply.Choices ls) = (99, 100)
 letters (reply.Model m) = (109, 109)
 letters (reply.Models ms all) = (109, 99)
 letters (reply.Forced ls) = (102, 100)
+letters (reply.Minimum v m) = (109, 109)
 letters (reply.Supported ls) = (115, 100)
 letters reply.Free = (111, 111)
 letters (reply.Conflict ls) = (99, 100)
@@ -129,10 +137,11 @@ kind (reply.Choices ls) = 1
 kind (reply.Model m) = 2
 kind (reply.Models ms all) = 3
 kind (reply.Forced ls) = 4
-kind (reply.Supported ls) = 5
-kind reply.Free = 5
-kind (reply.Conflict ls) = 6
-kind reply.Consistent = 6
+kind (reply.Minimum v m) = 5
+kind (reply.Supported ls) = 6
+kind reply.Free = 6
+kind (reply.Conflict ls) = 7
+kind reply.Consistent = 7
 kind _ = 0
 
 abbrev kind_of : Command → ℕ
@@ -140,8 +149,9 @@ kind_of command.Choices = 1
 kind_of command.Model = 2
 kind_of (command.Models n) = 3
 kind_of command.Propagate = 4
-kind_of (command.Explain l) = 5
-kind_of command.Why = 6
+kind_of (command.Minimize t) = 5
+kind_of (command.Explain l) = 6
+kind_of command.Why = 7
 kind_of _ = 0
 
 refusal_shared : (r : Reply) → IsRefusal r → IsShared r
@@ -161,6 +171,7 @@ answer_kind command.Choices (reply.Choices ls) h = inr refl
 answer_kind command.Model (reply.Model m) h = inr refl
 answer_kind (command.Models n) (reply.Models ms all) h = inr refl
 answer_kind command.Propagate (reply.Forced ls) h = inr refl
+answer_kind (command.Minimize t) (reply.Minimum v m) h = inr refl
 answer_kind (command.Explain l) (reply.Supported ls) h = inr refl
 answer_kind (command.Explain l) reply.Free h = inr refl
 answer_kind command.Why (reply.Conflict ls) h = inr refl
@@ -228,6 +239,38 @@ module _ (kb : Base) (names : HasWordNames kb) where
       let more = several_same ms ns d e a b h.1 k.1 cut.1 in
       (λ i. cut.0 i ∷ more.0 i, more.1, more.2)
 
+  minima_same : (v w : ExtInt) (m n : Structure) (a b : List ℕ) → IsStructureOver kb m → IsStructureOver kb n
+      → (v ≡ w) ⊎ (IsShortValue v × IsShortValue w)
+      → minimum_text kb.vocabulary v m ++ a ≡ minimum_text kb.vocabulary w n ++ b → (v ≡ w) × (m ≡ n) × (a ≡ b)
+  minima_same v w m n a b h k values q =
+      let cut = by values
+      (append_cancel_left (codes "minimum ") (decimal_text v ++ line_end (rest m a))
+      (decimal_text w ++ line_end (rest n b)) (sym (after_value v m a) ∙ (q ∙ after_value w n b))) in
+      let more = models_same kb m n names h k a b cut.1 in
+      (cut.0, more.0, more.1)
+    where
+      rest : Structure → List ℕ → List ℕ
+      rest s r = symbol_lines kb.vocabulary s ++ (codes "done\n" ++ r)
+
+      by : (v ≡ w) ⊎ (IsShortValue v × IsShortValue w)
+          → decimal_text v ++ line_end (rest m a) ≡ decimal_text w ++ line_end (rest n b)
+          → (v ≡ w) × (rest m a ≡ rest n b)
+      by (inl e) tails = (
+        e,
+        rest_same
+            (append_cancel_left (decimal_text v) (line_end (rest m a)) (line_end (rest n b))
+            (tails ∙ ap (λ (x : ExtInt). decimal_text x ++ line_end (rest n b)) (sym e))),
+      )
+      by (inr short) tails = values_same v w (rest m a) (rest n b) short.0 short.1 tails
+
+      after_value : (v : ExtInt) (m : Structure) (a : List ℕ)
+          → minimum_text kb.vocabulary v m ++ a ≡ codes "minimum " ++ (decimal_text v ++ line_end (rest m a))
+      after_value v m a =
+          let lines = symbol_lines kb.vocabulary m in
+          ap (λ (t : List ℕ). codes "minimum " ++ t)
+          (append_assoc (decimal_text v) (codes "\n" ++ (lines ++ codes "done\n")) a
+          ∙ ap (λ (t : List ℕ). decimal_text v ++ line_end t) (append_assoc lines (codes "done\n") a))
+
   two_refusals : (f g : F) (a b : List ℕ)
       → reply_text kb.vocabulary (reply.Refused f) ++ a ≡ reply_text kb.vocabulary (reply.Refused g) ++ b
       → (reply.Refused f ≡ reply.Refused g) × (a ≡ b)
@@ -283,40 +326,44 @@ module _ (kb : Base) (names : HasWordNames kb) where
   turned h = (sym h.0, sym h.1)
 
   same : (r s : Reply) (a b : List ℕ) → AreAlike r s → IsReplyOver kb r → IsReplyOver kb s
-      → reply_text kb.vocabulary r ++ a ≡ reply_text kb.vocabulary s ++ b → (r ≡ s) × (a ≡ b)
-  same (reply.Refused f) s a b alike h k q = refused_same f s a b q
-  same reply.Inconsistent s a b alike h k q = inconsistent_same s a b q
-  same (reply.Undecided n) s a b alike h k q = undecided_same n s a b h k q
-  same r (reply.Refused g) a b alike h k q = turned (refused_same g r b a (sym q))
-  same r reply.Inconsistent a b alike h k q = turned (inconsistent_same r b a (sym q))
-  same r (reply.Undecided n) a b alike h k q = turned (undecided_same n r b a k h (sym q))
-  same reply.Fine reply.Fine a b alike h k q = (refl, append_cancel_left (codes "ok\n") a b q)
-  same (reply.Choices ls) (reply.Choices ks) a b alike h k q =
+      → HaveReadableValues r s → reply_text kb.vocabulary r ++ a ≡ reply_text kb.vocabulary s ++ b → (r ≡ s) × (a ≡ b)
+  same (reply.Refused f) s a b alike h k values q = refused_same f s a b q
+  same reply.Inconsistent s a b alike h k values q = inconsistent_same s a b q
+  same (reply.Undecided n) s a b alike h k values q = undecided_same n s a b h k q
+  same r (reply.Refused g) a b alike h k values q = turned (refused_same g r b a (sym q))
+  same r reply.Inconsistent a b alike h k values q = turned (inconsistent_same r b a (sym q))
+  same r (reply.Undecided n) a b alike h k values q = turned (undecided_same n r b a k h (sym q))
+  same reply.Fine reply.Fine a b alike h k values q = (refl, append_cancel_left (codes "ok\n") a b q)
+  same (reply.Choices ls) (reply.Choices ks) a b alike h k values q =
       let cut = labelled_same 99 (codes "hoice ") (λ e. omega (arith, e)) kb names ls ks a b h k q in
       (ap (λ (x : List Literal). reply.Choices x) cut.0, cut.1)
-  same (reply.Model m) (reply.Model m') a b alike h k q =
+  same (reply.Model m) (reply.Model m') a b alike h k values q =
       let cut = blocks_same m m' a b h k q in
       (ap (λ (x : Structure). reply.Model x) cut.0, cut.1)
-  same (reply.Models ms d) (reply.Models ns e) a b alike h k q =
+  same (reply.Models ms d) (reply.Models ns e) a b alike h k values q =
       let cut = several_same ms ns d e a b h k q in
       (λ i. reply.Models (cut.0 i) (cut.1 i), cut.2)
-  same (reply.Forced ls) (reply.Forced ks) a b alike h k q =
+  same (reply.Forced ls) (reply.Forced ks) a b alike h k values q =
       let cut = labelled_same 102 (codes "orced ") (λ e. omega (arith, e)) kb names ls ks a b h k q in
       (ap (λ (x : List Literal). reply.Forced x) cut.0, cut.1)
-  same (reply.Supported ls) (reply.Supported ks) a b alike h k q =
+  same (reply.Minimum v m) (reply.Minimum w n) a b alike h k values q =
+      let cut = minima_same v w m n a b h k values q in
+      (λ i. reply.Minimum (cut.0 i) (cut.1 i), cut.2)
+  same (reply.Supported ls) (reply.Supported ks) a b alike h k values q =
       let cut = labelled_same 115 (codes "upport ") (λ e. omega (arith, e)) kb names ls ks a b h k q in
       (ap (λ (x : List Literal). reply.Supported x) cut.0, cut.1)
-  same (reply.Supported ls) reply.Free a b alike h k q = absurd (no_support ls a b q)
-  same reply.Free (reply.Supported ls) a b alike h k q = absurd (no_support ls b a (sym q))
-  same reply.Free reply.Free a b alike h k q = (refl, append_cancel_left (codes "open\n") a b q)
-  same (reply.Conflict ls) (reply.Conflict ks) a b alike h k q =
+  same (reply.Supported ls) reply.Free a b alike h k values q = absurd (no_support ls a b q)
+  same reply.Free (reply.Supported ls) a b alike h k values q = absurd (no_support ls b a (sym q))
+  same reply.Free reply.Free a b alike h k values q = (refl, append_cancel_left (codes "open\n") a b q)
+  same (reply.Conflict ls) (reply.Conflict ks) a b alike h k values q =
       let cut = labelled_same 99 (codes "onflict ") (λ e. omega (arith, e)) kb names ls ks a b h k q in
       (ap (λ (x : List Literal). reply.Conflict x) cut.0, cut.1)
-  same (reply.Conflict ls) reply.Consistent a b alike h k q = absurd (no_conflict ls a b q)
-  same reply.Consistent (reply.Conflict ls) a b alike h k q = absurd (no_conflict ls b a (sym q))
-  same reply.Consistent reply.Consistent a b alike h k q = (refl, append_cancel_left (codes "consistent\n") a b q)
-  same r s a b alike h k q = absurd (unlike (λ e. omega (arith, e)) alike)
+  same (reply.Conflict ls) reply.Consistent a b alike h k values q = absurd (no_conflict ls a b q)
+  same reply.Consistent (reply.Conflict ls) a b alike h k values q = absurd (no_conflict ls b a (sym q))
+  same reply.Consistent reply.Consistent a b alike h k values q =
+      (refl, append_cancel_left (codes "consistent\n") a b q)
+  same r s a b alike h k values q = absurd (unlike (λ e. omega (arith, e)) alike)
 
 pub replies_same : NoTwoRepliesHaveOneText
-replies_same kb names c r s a b to_r to_s h k q =
-    same kb names r s a b (both_alike r s (kind_of c) (reply_kind c r to_r) (reply_kind c s to_s)) h k q
+replies_same kb names c r s a b to_r to_s h k values q =
+    same kb names r s a b (both_alike r s (kind_of c) (reply_kind c r to_r) (reply_kind c s to_s)) h k values q

@@ -1,8 +1,10 @@
 -- What a command line means.
-use Rattle.std.specs.Prelude.{◌≡◌, ◌≢◌, ◌≤◌, ℕ, List, [], map, Contains, Option, Some, None, Result, Ok, Err, ⊤}
+use Rattle.std.specs.Prelude.{◌≡◌, ◌≢◌, ◌<◌, ◌≤◌, ℕ, List, [], length, map, Contains, Option, Some, None, Result}
+use Rattle.std.specs.Prelude.{Ok, Err, position, ⊤}
+use Rattle.std.specs.Str.{bytes_eq}
 use Rattle.kb_logic.specs.declared.vocabularies.Symbol.{Symbol}
 use Rattle.kb_logic.specs.declared.structures.Literal.{Literal}
-use Rattle.kb_logic.specs.Bases.{Base}
+use Rattle.kb_logic.specs.Bases.{Base, NamedTerm}
 use Rattle.kb_text.specs.Depth.{outermost}
 use Rattle.kb_text.specs.declared.token.Kind.{Kind}
 use Rattle.kb_text.specs.declared.token.Kind.TheVariants.{Word, Int, Sign, Procedure}
@@ -60,6 +62,10 @@ IsRefusedFor kb w refusal.NotAnElement =
     × (IsLiteralOver kb (literal_of number w) → ⊥)
 IsRefusedFor kb w _ = ⊥
 
+-- the number of the first term block of this name
+abbrev pub term_number : Base → List ℕ → Option ℕ
+term_number kb name = position (λ (t : NamedTerm). bytes_eq name t.name) kb.terms
+
 -- what the written command asks
 abbrev pub Asks : Base → WrittenCommand → Command → Type 0
 Asks kb (written.assert w) (command.Assert l) = StandsFor kb w l
@@ -69,6 +75,7 @@ Asks kb written.choices command.Choices = ⊤
 Asks kb written.model command.Model = ⊤
 Asks kb (written.models text) (command.Models n) = n ≡ decimal text
 Asks kb written.propagate command.Propagate = ⊤
+Asks kb (written.minimize name) (command.Minimize t) = term_number kb name ≡ Some t
 Asks kb (written.explain w) (command.Explain l) = StandsFor kb w l
 Asks kb written.why command.Why = ⊤
 Asks kb (written.budget text) (command.Budget b) = b ≡ Some (decimal text)
@@ -81,13 +88,14 @@ abbrev pub RefusesFor : Base → WrittenCommand → F → Type 0
 RefusesFor kb (written.assert w) f = IsRefusedFor kb w f
 RefusesFor kb (written.retract w) f = IsRefusedFor kb w f
 RefusesFor kb (written.explain w) f = IsRefusedFor kb w f
+RefusesFor kb (written.minimize name) refusal.UnknownTerm = term_number kb name ≡ None
 RefusesFor kb _ f = ⊥
 
 -- the line has this command
 abbrev pub HasCommand : Base → List ℕ → Command → Type 0
 HasCommand kb line c = (w : WrittenCommand) × IsWritten line w × Asks kb w c
 
--- the line is refused for this cause: it is no command, or its literal is refused
+-- the line is refused for this cause: it is no command, or its literal or its term block is refused
 abbrev pub HasRefusal : Base → List ℕ → F → Type 0
 HasRefusal kb line refusal.Syntax = IsNoCommand line
 HasRefusal kb line f = (w : WrittenCommand) × IsWritten line w × RefusesFor kb w f
@@ -101,6 +109,7 @@ IsCommandOver kb command.Choices = ⊤
 IsCommandOver kb command.Model = ⊤
 IsCommandOver kb (command.Models n) = (1 ≤ n) × (n ≤ most_models)
 IsCommandOver kb command.Propagate = ⊤
+IsCommandOver kb (command.Minimize t) = t < length kb.terms
 IsCommandOver kb (command.Explain l) = IsLiteralOver kb l
 IsCommandOver kb command.Why = ⊤
 IsCommandOver kb (command.Budget b) = ⊤

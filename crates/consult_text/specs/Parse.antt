@@ -39,6 +39,7 @@ command_view command.Choices = written.choices
 command_view command.Model = written.model
 command_view (command.Models text) = written.models text.now
 command_view command.Propagate = written.propagate
+command_view (command.Minimize name) = written.minimize name.now
 command_view (command.Explain l) = written.explain (literal_view l)
 command_view command.Why = written.why
 command_view (command.Budget text) = written.budget text.now
@@ -159,6 +160,11 @@ ParsesNumbered ts None = ((text : List ℕ) → IsBudget text → ts ≢ put_com
     × (ts ≢ put_command written.unlimited)
     × ((text : List ℕ) → IsUpTo most_models text → ts ≢ put_command (written.models text))
 ParsesNumbered ts (Some c) = (ts ≡ put_command (command_view c)) × IsWellFormed (command_view c)
+
+-- the tokens of a command about a term block
+abbrev pub ParsesMinimize : List Tok → Option CommandText → Type 0
+ParsesMinimize ts None = (name : List ℕ) → IsName name → ts ≢ put_command (written.minimize name)
+ParsesMinimize ts (Some c) = (ts ≡ put_command (command_view c)) × IsWellFormed (command_view c)
 
 -- the tokens are those of a command of one word
 abbrev pub ParsesShort : List Tok → Option CommandText → Type 0

@@ -10,6 +10,7 @@ use Rattle.consult_text.specs.Written.{WrittenElem, named, integer, WrittenLiter
 use Rattle.consult_text.specs.Lines.{StandsFor, IsRefusedFor, IsWritten, IsBlank, IsNoCommand, Asks, RefusesFor}
 use Rattle.consult_text.specs.Parse.{command_view}
 use Rattle.consult_text.specs.declared.commands.Command.{Command}
+use Rattle.consult_text.specs.declared.commands.Command.TheVariants as command
 use Rattle.consult_text.specs.declared.written.CommandText.{CommandText}
 use Rattle.consult_text.specs.declared.refusals.F.TheVariants.{Syntax}
 use Rattle.consult_text.specs.declared.lines.CommandError.{CommandError}
@@ -31,6 +32,7 @@ HasRanges written.choices = ⊤
 HasRanges written.model = ⊤
 HasRanges (written.models text) = decimal text ≤ most_models
 HasRanges written.propagate = ⊤
+HasRanges (written.minimize name) = ⊤
 HasRanges (written.explain l) = HasRange l
 HasRanges written.why = ⊤
 HasRanges (written.budget text) = decimal text < 2 ^ 63
@@ -42,6 +44,12 @@ abbrev pub LooksUp : Base → WrittenLiteral → Result Literal CommandError →
 LooksUp kb w (Ok l) = StandsFor kb w l
 LooksUp kb w (Err (errors.Refused f)) = IsRefusedFor kb w f
 LooksUp kb w (Err errors.Memory) = ⊤
+
+-- what the name of a term block is looked up as
+abbrev pub FindsTerm : Base → List ℕ → Result ℕ CommandError → Type 0
+FindsTerm kb name (Ok t) = Asks kb (written.minimize name) (command.Minimize t)
+FindsTerm kb name (Err (errors.Refused f)) = RefusesFor kb (written.minimize name) f
+FindsTerm kb name (Err errors.Memory) = ⊤
 
 -- what a line is parsed as
 abbrev pub ParsesAs : List ℕ → Result (Option CommandText) CommandError → Type 0

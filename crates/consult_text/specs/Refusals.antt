@@ -4,6 +4,7 @@ use Rattle.std.specs.Fmt.{decimal}
 use Rattle.consult_text.specs.declared.refusals.F.{F}
 use Rattle.consult_text.specs.declared.refusals.F.TheVariants.{Syntax, UnknownSymbol, WrongArity, NotAnElement}
 use Rattle.consult_text.specs.declared.refusals.F.TheVariants.{AlreadyChosen, NotChosen, GivenByData, LineTooLong}
+use Rattle.consult_text.specs.declared.refusals.F.TheVariants.{UnknownTerm}
 
 -- the number after the letter F
 abbrev pub number_of : F → ℕ
@@ -15,6 +16,7 @@ number_of AlreadyChosen = 5
 number_of NotChosen = 6
 number_of GivenByData = 7
 number_of LineTooLong = 8
+number_of UnknownTerm = 9
 
 -- the bytes of its name
 abbrev pub name_of : F → List ℕ
@@ -26,6 +28,7 @@ name_of AlreadyChosen = codes "AlreadyChosen"
 name_of NotChosen = codes "NotChosen"
 name_of GivenByData = codes "GivenByData"
 name_of LineTooLong = codes "LineTooLong"
+name_of UnknownTerm = codes "UnknownTerm"
 
 -- as it is printed
 abbrev pub text_of : F → List ℕ

@@ -19,6 +19,7 @@ abbrev pub IsQuery : Command → Type 0
 IsQuery command.Model = ⊤
 IsQuery (command.Models n) = ⊤
 IsQuery command.Propagate = ⊤
+IsQuery (command.Minimize t) = ⊤
 IsQuery (command.Explain l) = ⊤
 IsQuery command.Why = ⊤
 IsQuery _ = ⊥
@@ -37,6 +38,7 @@ IsAnswerTo command.Choices (reply.Choices ls) = ⊤
 IsAnswerTo command.Model (reply.Model m) = ⊤
 IsAnswerTo (command.Models n) (reply.Models ms all) = ⊤
 IsAnswerTo command.Propagate (reply.Forced ls) = ⊤
+IsAnswerTo (command.Minimize t) (reply.Minimum v m) = ⊤
 IsAnswerTo (command.Explain l) (reply.Supported ls) = ⊤
 IsAnswerTo (command.Explain l) reply.Free = ⊤
 IsAnswerTo command.Why (reply.Conflict ls) = ⊤

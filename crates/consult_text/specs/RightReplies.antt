@@ -2,7 +2,7 @@
 use Rattle.std.specs.Prelude.{◌≡◌, ◌<◌, Option, Some, None, ⊤}
 use Rattle.kb_logic.specs.Bases.{Base}
 use Rattle.kb_logic.specs.InForce.{InForce, IsModelOf, HasModel, HasNoModel, LeavesFalse}
-use Rattle.kb_logic.specs.Answers.{AreModels, AreShown, IsSupport, IsConflict}
+use Rattle.kb_logic.specs.Answers.{AreModels, AreShown, IsLeast, IsSupport, IsConflict}
 use Rattle.consult_text.specs.declared.refusals.F.{F}
 use Rattle.consult_text.specs.declared.commands.Command.{Command}
 use Rattle.consult_text.specs.declared.commands.Command.TheVariants as command
@@ -25,6 +25,8 @@ IsSo kb s c (reply.Model m) = IsModelOf kb (in_force s) m
 IsSo kb s (command.Models n) (reply.Models ms all) = AreModels kb (in_force s) n ms all
 IsSo kb s _ (reply.Models ms all) = ⊥
 IsSo kb s c (reply.Forced ls) = AreShown kb (in_force s) ls
+IsSo kb s (command.Minimize t) (reply.Minimum v m) = IsLeast kb (in_force s) t v m
+IsSo kb s _ (reply.Minimum v m) = ⊥
 IsSo kb s (command.Explain l) (reply.Supported ls) = IsSupport kb (in_force s) l (record { choices = ls })
 IsSo kb s _ (reply.Supported ls) = ⊥
 IsSo kb s (command.Explain l) reply.Free = LeavesFalse kb (in_force s) l

@@ -78,6 +78,7 @@ command_refusal kb s command.Choices = None
 command_refusal kb s command.Model = None
 command_refusal kb s (command.Models n) = None
 command_refusal kb s command.Propagate = None
+command_refusal kb s (command.Minimize t) = None
 command_refusal kb s (command.Explain l) = None
 command_refusal kb s command.Why = None
 command_refusal kb s (command.Budget b) = None
@@ -96,6 +97,7 @@ carried_out s command.Choices = s
 carried_out s command.Model = s
 carried_out s (command.Models n) = s
 carried_out s command.Propagate = s
+carried_out s (command.Minimize t) = s
 carried_out s (command.Explain l) = s
 carried_out s command.Why = s
 carried_out s (command.Budget b) = record s { budget = b }

@@ -1,9 +1,11 @@
 -- The texts of replies.
 use Rattle.std.specs.Prelude.{ℕ, List, ◌++◌, Bool, true, false, flat_map, codes}
 use Rattle.std.specs.Fmt.{decimal}
+use Rattle.kb_logic.specs.declared.elements.ExtInt.{ExtInt}
 use Rattle.kb_logic.specs.declared.vocabularies.Vocabulary.{Vocabulary}
 use Rattle.kb_logic.specs.declared.structures.Literal.{Literal}
 use Rattle.kb_logic.specs.declared.structures.Structure.{Structure}
+use Rattle.kb_logic.specs.Decimals.{decimal_text}
 use Rattle.literal_printer.specs.Texts.{literal_text}
 use Rattle.literal_printer.specs.Tables.{symbol_lines}
 use Rattle.consult_text.specs.Refusals.{text_of}
@@ -31,6 +33,11 @@ end_line false = codes "more\n"
 abbrev pub models_text : Vocabulary → List Structure → Bool → List ℕ
 models_text vocab ms all = flat_map (model_block vocab) ms ++ end_line all
 
+-- a value, and the lines of a model's symbols
+abbrev pub minimum_text : Vocabulary → ExtInt → Structure → List ℕ
+minimum_text vocab v m = codes "minimum " ++ (decimal_text v ++ (codes "\n" ++
+    (symbol_lines vocab m ++ codes "done\n")))
+
 abbrev pub reply_text : Vocabulary → Reply → List ℕ
 reply_text vocab reply.Fine = codes "ok\n"
 reply_text vocab (reply.Refused f) = codes "refused " ++ (text_of f ++ codes "\n")
@@ -38,6 +45,7 @@ reply_text vocab (reply.Choices ls) = labelled_lines (codes "choice ") vocab ls
 reply_text vocab (reply.Model m) = model_block vocab m
 reply_text vocab (reply.Models ms all) = models_text vocab ms all
 reply_text vocab (reply.Forced ls) = labelled_lines (codes "forced ") vocab ls
+reply_text vocab (reply.Minimum v m) = minimum_text vocab v m
 reply_text vocab (reply.Supported ls) = labelled_lines (codes "support ") vocab ls
 reply_text vocab reply.Free = codes "open\n"
 reply_text vocab (reply.Conflict ls) = labelled_lines (codes "conflict ") vocab ls

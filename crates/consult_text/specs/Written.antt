@@ -30,6 +30,7 @@ pub data WrittenCommand : Type 0 where
   model : WrittenCommand
   models : (text : List ℕ) → WrittenCommand
   propagate : WrittenCommand
+  minimize : (name : List ℕ) → WrittenCommand
   explain : (literal : WrittenLiteral) → WrittenCommand
   why : WrittenCommand
   budget : (text : List ℕ) → WrittenCommand
@@ -73,6 +74,7 @@ put_command choices = word (codes "choices") ∷ sign (codes ".") ∷ []
 put_command model = word (codes "model") ∷ sign (codes ".") ∷ []
 put_command (models text) = word (codes "models") ∷ digits text ∷ sign (codes ".") ∷ []
 put_command propagate = word (codes "propagate") ∷ sign (codes ".") ∷ []
+put_command (minimize name) = word (codes "minimize") ∷ word name ∷ sign (codes ".") ∷ []
 put_command (explain l) = word (codes "explain") ∷ put_literal l (sign (codes ".") ∷ [])
 put_command why = word (codes "why") ∷ sign (codes ".") ∷ []
 put_command (budget text) = word (codes "budget") ∷ digits text ∷ sign (codes ".") ∷ []
@@ -105,6 +107,7 @@ IsWellFormed choices = ⊤
 IsWellFormed model = ⊤
 IsWellFormed (models text) = IsUpTo most_models text
 IsWellFormed propagate = ⊤
+IsWellFormed (minimize name) = IsName name
 IsWellFormed (explain l) = HasNames l
 IsWellFormed why = ⊤
 IsWellFormed (budget text) = IsBudget text

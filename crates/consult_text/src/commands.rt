@@ -21,6 +21,8 @@ pub enum Command {
     Models(u32),
     /// Asks for the literals that are true in all models.
     Propagate,
+    /// Asks for the least value in any model of the term block with this number.
+    Minimize(u32),
     /// Asks which choices make the literal true in all models.
     Explain(Literal),
     /// Asks which choices admit no model.
@@ -43,6 +45,7 @@ impl Command {
             Command::Model => Ok(Command::Model),
             Command::Models(most) => Ok(Command::Models(*most)),
             Command::Propagate => Ok(Command::Propagate),
+            Command::Minimize(term) => Ok(Command::Minimize(*term)),
             Command::Explain(literal) => Ok(Command::Explain(literal.copy(alloc)?)),
             Command::Why => Ok(Command::Why),
             Command::Budget(budget) => Ok(Command::Budget(*budget)),

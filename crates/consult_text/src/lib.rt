@@ -11,6 +11,7 @@ mod lookup;
 mod parse;
 mod refusals;
 mod replies;
+mod terms;
 mod texts;
 mod written;
 
@@ -20,4 +21,4 @@ pub use laws::{commands_are_over_the_base, no_two_replies_have_one_text, one_mea
 pub use lines::{CommandError, read_command};
 pub use refusals::F;
 pub use replies::Reply;
-pub use texts::write_reply;
+pub use texts::{push_reply, write_reply};

@@ -11,6 +11,7 @@ use crate::digits::digits_value;
 use crate::lookup::look_up;
 use crate::parse::parse_command;
 use crate::refusals::F;
+use crate::terms::find_term;
 use crate::written::CommandText;
 use consult_base::KnowledgeBase;
 use kb_logic::Memory;
@@ -63,6 +64,7 @@ fn meaning(
         CommandText::Model => Ok(Command::Model),
         CommandText::Models(digits) => Ok(Command::Models(digits_value(digits) as u32)),
         CommandText::Propagate => Ok(Command::Propagate),
+        CommandText::Minimize(name) => Ok(Command::Minimize(find_term(kb, name)?)),
         CommandText::Explain(literal) => Ok(Command::Explain(look_up(alloc, kb, literal)?)),
         CommandText::Why => Ok(Command::Why),
         CommandText::Budget(digits) => Ok(Command::Budget(Some(digits_value(digits)))),

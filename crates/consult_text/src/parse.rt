@@ -8,7 +8,7 @@ ghost use Rattle.consult_text.specs.Lines.{tok_of};
 ghost use Rattle.consult_text.specs.Parse.{toks, Behind, ParsesName, ParsesDigits, ParsesElem, ParsesFurther};
 ghost use Rattle.consult_text.specs.Parse.{ParsesArgs, HasNoArgs, ParsesHead, HasNoHead, ParsesEquality, ParsesLiteral};
 ghost use Rattle.consult_text.specs.Parse.{ParsesNegated, ParsesPositive, ParsesAbout, ParsesNumber, ParsesBudget};
-ghost use Rattle.consult_text.specs.Parse.{ParsesNumbered, ParsesShort, ParsesCommand};
+ghost use Rattle.consult_text.specs.Parse.{ParsesMinimize, ParsesNumbered, ParsesShort, ParsesCommand};
 ghost use Rattle.consult_text.specs.Parse.{literal_view, head_literal, dot, elem_views};
 
 use crate::digits::{MOST_BUDGET, MOST_MODELS, number_up_to};
@@ -300,7 +300,10 @@ pub fn parse_command<'a>(
     if let Some(command) = parse_about(alloc, tokens)? {
         return Ok(Some(command));
     }
-    match parse_numbered(tokens) {
+    if let Some(command) = parse_numbered(tokens) {
+        return Ok(Some(command));
+    }
+    match parse_minimize(tokens) {
         Some(command) => Ok(Some(command)),
         None => Ok(parse_short(tokens)),
     }
@@ -365,6 +368,19 @@ fn parse_budget<'a>(tokens: &[Token<'a>]) -> Option<CommandText<'a>>
     }
     let digits = parse_number(tokens, MOST_BUDGET)?;
     Some(CommandText::Budget(digits))
+}
+
+/// A command about a term block.
+fn parse_minimize<'a>(tokens: &[Token<'a>]) -> Option<CommandText<'a>>
+    ensures { ParsesMinimize (toks tokens.now) result }
+{
+    let behind = behind_word(b"minimize", tokens)?;
+    let (name, rest) = parse_name(behind)?;
+    if is_dot(rest) {
+        Some(CommandText::Minimize(name))
+    } else {
+        None
+    }
 }
 
 /// A command of one word.

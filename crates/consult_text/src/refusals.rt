@@ -23,6 +23,8 @@ pub enum F {
     GivenByData,
     /// The line has more than 65,536 bytes.
     LineTooLong,
+    /// There is no term block of this name.
+    UnknownTerm,
 }
 
 impl F {
@@ -39,6 +41,7 @@ impl F {
             F::NotChosen => 6,
             F::GivenByData => 7,
             F::LineTooLong => 8,
+            F::UnknownTerm => 9,
         }
     }
 
@@ -55,6 +58,7 @@ impl F {
             F::NotChosen => "NotChosen",
             F::GivenByData => "GivenByData",
             F::LineTooLong => "LineTooLong",
+            F::UnknownTerm => "UnknownTerm",
         }
     }
 }

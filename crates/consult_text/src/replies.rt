@@ -2,7 +2,7 @@
 ghost use Rattle.std.specs.Prelude.{◌≡◌, IfOk};
 
 use crate::refusals::F;
-use kb_logic::{ListOf, LiteralList, Memory, Structure};
+use kb_logic::{ExtInt, ListOf, LiteralList, Memory, Structure};
 use std::alloc::Global;
 
 /// A reply to a command.
@@ -20,6 +20,8 @@ pub enum Reply {
     Models(ListOf<Structure>, bool),
     /// The literals that are true in all models, but for those of known atoms and the choices.
     Forced(LiteralList),
+    /// The least value of the term block, and a model in which it has that value.
+    Minimum(ExtInt, Structure),
     /// Choices that make the literal true in all models, none of which can be spared.
     Supported(LiteralList),
     /// The literal is false in some model.
@@ -48,6 +50,7 @@ impl Reply {
                 *all,
             )),
             Reply::Forced(literals) => Ok(Reply::Forced(literals.copy(alloc)?)),
+            Reply::Minimum(value, m) => Ok(Reply::Minimum(*value, m.copy(alloc)?)),
             Reply::Supported(choices) => Ok(Reply::Supported(choices.copy(alloc)?)),
             Reply::Free => Ok(Reply::Free),
             Reply::Conflict(choices) => Ok(Reply::Conflict(choices.copy(alloc)?)),

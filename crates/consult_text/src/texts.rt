@@ -3,7 +3,8 @@ ghost use Rattle.std.specs.Prelude.{◌≡◌, ◌++◌, OnOk, OnErr, IfOk, code
 ghost use Rattle.std.specs.Fmt.{decimal};
 ghost use Rattle.std.specs.String.{string_bytes};
 ghost use Rattle.consult_text.specs.Refusals.{text_of};
-ghost use Rattle.consult_text.specs.Texts.{end_line, labelled_lines, model_block, models_text, reply_text};
+ghost use Rattle.consult_text.specs.Texts.{end_line, labelled_lines, minimum_text, model_block, models_text};
+ghost use Rattle.consult_text.specs.Texts.{reply_text};
 
 use crate::refusals::F;
 use crate::replies::Reply;
@@ -28,7 +29,8 @@ pub fn write_reply(
     Ok(())
 }
 
-fn push_reply(
+/// As `write_reply`, but where memory runs out a part may have been appended.
+pub fn push_reply(
     alloc: Global,
     out: &mut Vec<u8>,
     vocab: &Vocabulary,
@@ -43,6 +45,7 @@ fn push_reply(
         Reply::Model(m) => push_model(out, vocab, m),
         Reply::Models(models, all) => push_models(out, vocab, models.as_slice(), *all),
         Reply::Forced(literals) => push_labelled(out, vocab, b"forced ", literals.as_slice()),
+        Reply::Minimum(value, m) => push_minimum(out, vocab, *value, m),
         Reply::Supported(choices) => push_labelled(out, vocab, b"support ", choices.as_slice()),
         Reply::Free => push_bytes(out, b"open\n"),
         Reply::Conflict(choices) => push_labelled(out, vocab, b"conflict ", choices.as_slice()),
@@ -89,6 +92,22 @@ fn push_model(out: &mut Vec<u8>, vocab: &Vocabulary, m: &Structure) -> Result<()
     ensures { OnOk result (out.new.items ≡ out.old.items ++ model_block vocab.now m.now) }
 {
     push_bytes(out, b"model\n")?;
+    push_symbols(out, vocab, m)?;
+    push_bytes(out, b"done\n")
+}
+
+/// Appends a value and the lines of a model's symbols.
+fn push_minimum(
+    out: &mut Vec<u8>,
+    vocab: &Vocabulary,
+    value: ExtInt,
+    m: &Structure,
+) -> Result<(), Memory>
+    ensures { OnOk result (out.new.items ≡ out.old.items ++ minimum_text vocab.now value m.now) }
+{
+    push_bytes(out, b"minimum ")?;
+    kb_logic::decimal(out, value)?;
+    push_bytes(out, b"\n")?;
     push_symbols(out, vocab, m)?;
     push_bytes(out, b"done\n")
 }

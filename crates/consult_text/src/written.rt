@@ -34,6 +34,8 @@ pub enum CommandText<'a> {
     /// The digits of the number of models.
     Models(&'a [u8]),
     Propagate,
+    /// The name of a term block.
+    Minimize(&'a [u8]),
     Explain(LiteralText<'a>),
     Why,
     /// The digits of the budget.

@@ -1,7 +1,7 @@
 -- How many variables the terms that may be asked for add.
 use Rattle.std.proofs.Common.{◌≡◌, ℕ, suc, ◌+◌, ◌*◌, ◌≤◌, ◌-ℤ◌, Bool, true, false, ◌||◌, List, [], ◌∷◌}
-use Rattle.std.proofs.Common.{map, flat_map, length, if◌then◌else◌, refl, sym, ap, ◌∙◌, arith}
-use Rattle.std.specs.List.{list_any, sum_by, AllByRecursion}
+use Rattle.std.proofs.Common.{map, length, if◌then◌else◌, refl, ap, arith}
+use Rattle.std.specs.List.{sum_by, AllByRecursion}
 use Rattle.std.proofs.lemmas.List.{length-append, length-map}
 use Rattle.std.proofs.lemmas.List.Sums.{sum_by-cons}
 use Rattle.std.proofs.lemmas.Nat.{mul-le}
@@ -18,11 +18,11 @@ use Rattle.term_values.specs.Rows.{rows_of_term}
 use Rattle.term_values.proofs.ArgumentTypes.{IsTypedTerm, AreTypedSummands}
 use Rattle.term_values.proofs.FewRows.{term-few}
 use Rattle.def_ground.specs.AskedTerms.{Summand, summands_in, alone, summands_of_term, is_rowless, other_weights}
-use Rattle.def_ground.specs.AskedTerms.{number_of, weigh_all, parts_of_summands, with_asked, with_all_asked}
+use Rattle.def_ground.specs.AskedTerms.{number_of, weigh_all, with_asked, with_all_asked}
 use Rattle.def_ground.proofs.AskedLaws.{others, has_rowless}
 use Rattle.def_ground.proofs.WeighedRows.{weigh-all-vars}
 
-neither : (c d : Bool) → (c || d) ≡ false → (c ≡ false) × (d ≡ false)
+pub neither : (c d : Bool) → (c || d) ≡ false → (c ≡ false) × (d ≡ false)
 neither true d h = absurd cc
 neither false d h = (refl, h)
 

@@ -1,6 +1,6 @@
 -- Terms that may be asked for: each has the value of its term, and the problem that names it is otherwise the same.
-use Rattle.std.proofs.Common.{◌≡◌, ℕ, zero, suc, ◌+◌, ◌≤◌, ℤ, pos, ◌+ℤ◌, Bool, true, false, ◌||◌, List, [], ◌∷◌, ◌++◌}
-use Rattle.std.proofs.Common.{map, flat_map, ◌-ℤ◌, get_or, All, Option, Some, None, if◌then◌else◌, refl}
+use Rattle.std.proofs.Common.{◌≡◌, ℕ, ℤ, pos, ◌+ℤ◌, Bool, true, false, ◌||◌, List, [], ◌∷◌, ◌++◌}
+use Rattle.std.proofs.Common.{map, flat_map, ◌-ℤ◌, Some, if◌then◌else◌, refl}
 use Rattle.std.proofs.Common.{sym, ap, subst, ◌∙◌, arith}
 use Rattle.std.specs.List.{list_any, AllByRecursion}
 use Rattle.std.proofs.lemmas.Bool.{true≢false}
@@ -32,7 +32,7 @@ use Rattle.term_values.specs.Rows.{rows_of_term, selected_values}
 use Rattle.term_values.proofs.RowLaws.{term-right}
 use Rattle.term_values.proofs.TypedLaws.{ground-term}
 use Rattle.def_ground.specs.AskedTerms.{number_of, Summand, summands_in, alone, summands_of_term, is_rowless}
-use Rattle.def_ground.specs.AskedTerms.{first_weight, other_weights, first_sum, WeightedParts, weigh_all}
+use Rattle.def_ground.specs.AskedTerms.{other_weights, first_sum, WeightedParts, weigh_all}
 use Rattle.def_ground.specs.AskedTerms.{parts_of_summands, base_of_summands, with_asked, with_all_asked}
 use Rattle.def_ground.specs.Meanings.{HasAtoms, HasRoom}
 use Rattle.def_ground.proofs.FormLaws.{has-atoms, has-room}
@@ -40,8 +40,8 @@ use Rattle.def_ground.proofs.Growing.{more-refl}
 use Rattle.def_ground.proofs.KeepLaws.{Keeps, keeps-all}
 use Rattle.def_ground.proofs.Leaves.{RowsIn, rows-append, term-in}
 use Rattle.def_ground.proofs.NumberTerms.{number-value, number-sum}
-use Rattle.def_ground.proofs.WeighedRows.{part_sum, parts-sum, row_sum, rows-both, summand-sum, Weighs}
-use Rattle.def_ground.proofs.WeighedRows.{weighs-nothing, weigh-all-right}
+use Rattle.def_ground.proofs.WeighedRows.{part_sum, parts-sum, row_sum, rows-both, summand-sum}
+use Rattle.def_ground.proofs.WeighedRows.{weighs-nothing, weigh-all-right, weigh-all-keeps}
 
 abbrev pub others : List Summand → List (List Lit × ℤ)
 others ss = flat_map (λ (s : Summand). other_weights s.minus s.rows) ss
@@ -174,9 +174,7 @@ pub record Names (b : GroundBase) (p q : ProblemState) (ts : List NamedTerm) : T
   pub more : DefinesMore p q
   pub atoms : q.atoms ≡ p.atoms
   pub clauses : (c : List Lit) → Has p.clauses c → Has q.clauses c
-  pub sums : q.sums ≡ p.sums
   pub bounds : q.bounds ≡ p.bounds
-  pub retired : q.retired ≡ p.retired
   pub named : List GroundTerm
   pub terms : q.terms ≡ p.terms ++ named
   pub values : EachWith (λ (t : NamedTerm) (g : GroundTerm). (v : ℕ → Bool) → Satisfies q v
@@ -186,7 +184,6 @@ pub record Names (b : GroundBase) (p q : ProblemState) (ts : List NamedTerm) : T
 record Weighed (b : GroundBase) (p : ProblemState) (t : TermTree) (base : ℤ) (st : WeightedParts) : Type 0 where
   fine : IsProblem st.problem
   more : DefinesMore p st.problem
-  keeps : Keeps p st.problem
   within : ArePartsOf st.problem.vars st.parts
   value : (v : ℕ → Bool) → Satisfies st.problem v
       → shifted base (parts_value v kind.Sum st.parts) ≡ value_of (structure_of b v) t []
@@ -220,6 +217,31 @@ more-named q g none = record {
   unique = λ v w s t e. e;
 }
 
+parts-keep : (ss : List Summand) (p : ProblemState) → Keeps p (parts_of_summands ss p).problem
+parts-keep ss p = by_case (has_rowless ss)
+  where
+    by_case : (c : Bool) → Keeps p (if c then record { parts = []; problem = p }
+        else weigh_all (others ss) (record { parts = []; problem = p })).problem
+    by_case true = keeps-all p
+    by_case false = weigh-all-keeps (others ss) (record { parts = []; problem = p })
+
+-- terms that may be asked for say nothing of sums and bounds
+pub record SaysAlike (p q : ProblemState) : Type 0 where
+  pub sums : q.sums ≡ p.sums
+  pub bounds : q.bounds ≡ p.bounds
+  pub retired : q.retired ≡ p.retired
+
+pub asked-alike : (b : GroundBase) (ts : List NamedTerm) (p : ProblemState) → SaysAlike p (with_all_asked b ts p)
+asked-alike b [] p = record { sums = refl; bounds = refl; retired = refl }
+asked-alike b (t ∷ ts) p =
+    let k = parts-keep (summands_of_term b t.term) p in
+    let rest = asked-alike b ts (with_asked b p t) in
+    record {
+      sums = rest.sums ∙ k.sums;
+      bounds = rest.bounds ∙ k.bounds;
+      retired = rest.retired ∙ k.retired;
+    }
+
 module _ (b : GroundBase) (given : AreDomainsOf b.vocabulary b.domains) (p : ProblemState) (fine : IsProblem p)
     (at : HasAtoms b p) (room : HasRoom b p) (unbounded : p.bounds ≡ []) (t : NamedTerm)
     (is : IsNumberOver b t.term) where
@@ -240,7 +262,6 @@ module _ (b : GroundBase) (given : AreDomainsOf b.vocabulary b.domains) (p : Pro
   weighed true e = record {
     fine = fine;
     more = more-refl p;
-    keeps = keeps-all p;
     within = All-nil (λ (x : Part). IsLitOf p.vars x.lit);
     value = λ v s. absurd (true≢false (sym e ∙ (have v s).2));
   }
@@ -250,7 +271,6 @@ module _ (b : GroundBase) (given : AreDomainsOf b.vocabulary b.domains) (p : Pro
       record {
         fine = h.fine;
         more = h.more;
-        keeps = h.keeps;
         within = h.within;
         value = λ v s.
             let z = have v (h.more.restricts v s) in
@@ -269,7 +289,8 @@ module _ (b : GroundBase) (given : AreDomainsOf b.vocabulary b.domains) (p : Pro
       let g : GroundTerm =
       record { name = t.name; kind = kind.Sum; base = base_of_summands ss; parts = st.parts } in
       let h = weighed (has_rowless ss) refl in
-      let none = h.keeps.bounds ∙ unbounded in
+      let k = parts-keep ss p in
+      let none = k.bounds ∙ unbounded in
       record {
         fine = record {
           atoms = h.fine.atoms;
@@ -281,13 +302,11 @@ module _ (b : GroundBase) (given : AreDomainsOf b.vocabulary b.domains) (p : Pro
           retired = h.fine.retired;
         };
         more = more-trans p st.problem (with_term st.problem g) h.more (more-named st.problem g none);
-        atoms = h.keeps.atoms;
-        clauses = λ c has. subst (λ cs. Has cs c) (sym h.keeps.clauses) (has_left p.clauses h.keeps.more c has);
-        sums = h.keeps.sums;
-        bounds = h.keeps.bounds;
-        retired = h.keeps.retired;
+        atoms = k.atoms;
+        clauses = λ c has. subst (λ cs. Has cs c) (sym k.clauses) (has_left p.clauses k.more c has);
+        bounds = k.bounds;
         named = g ∷ [];
-        terms = ap (λ gs. gs ++ g ∷ []) h.keeps.terms;
+        terms = ap (λ gs. gs ++ g ∷ []) k.terms;
         values = (λ v s. h.value v (satisfies-unnamed st.problem g v none s), tt);
       }
 
@@ -314,9 +333,7 @@ names-both b p q r ts us h k = record {
   more = more-trans p q r h.more k.more;
   atoms = k.atoms ∙ h.atoms;
   clauses = λ c has. k.clauses c (h.clauses c has);
-  sums = k.sums ∙ h.sums;
   bounds = k.bounds ∙ h.bounds;
-  retired = k.retired ∙ h.retired;
   named = h.named ++ k.named;
   terms = k.terms ∙ ap (λ gs. gs ++ k.named) h.terms ∙ append_assoc p.terms h.named k.named;
   values = each-both (λ (t : NamedTerm) (g : GroundTerm). (v : ℕ → Bool) → Satisfies r v
@@ -336,9 +353,7 @@ names-all b given [] p fine at room unbounded is = record {
   more = more-refl p;
   atoms = refl;
   clauses = λ c has. has;
-  sums = refl;
   bounds = refl;
-  retired = refl;
   named = [];
   terms = sym (append-nil p.terms);
   values = tt;

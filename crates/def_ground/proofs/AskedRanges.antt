@@ -1,5 +1,5 @@
 -- Where the static bounds of the terms that may be asked for are small, their values are in range.
-use Rattle.std.proofs.Common.{◌≡◌, ℕ, zero, suc, ◌<◌, ℤ, pos, Bool, List, [], ◌∷◌, length, get_or, All, sym, subst, ◌∙◌}
+use Rattle.std.proofs.Common.{◌≡◌, ℕ, zero, suc, ◌<◌, ℤ, pos, Bool, List, [], ◌∷◌, length, get_or, sym, subst}
 use Rattle.std.proofs.Common.{arith}
 use Rattle.std.specs.List.{AllByRecursion}
 use Rattle.std.proofs.lemmas.Int.{ints}
@@ -9,19 +9,19 @@ use Rattle.kb_logic.specs.declared.vocabularies.Vocabulary.{Vocabulary}
 use Rattle.kb_logic.specs.Bases.{Base, NamedTerm}
 use Rattle.kb_logic.specs.Bounds.{Interval, exactly, interval_sum, interval_product, bounds_of, factor_bounds}
 use Rattle.kb_logic.specs.Bounds.{summand_bounds, IsSmall, TermIsBounded, ValueIsWithin}
-use Rattle.kb_logic.specs.Denotations.{Denotation, number}
+use Rattle.kb_logic.specs.Denotations.{number}
 use Rattle.kb_logic.specs.Meaning.{value_of}
 use Rattle.kb_logic.specs.Structures.{EachWith, IsStructure}
 use Rattle.kb_logic.specs.Trees.{TermTree, variable, integer, constructed, application, summation, product, aggregate}
 use Rattle.kb_logic.proofs.WithinBounds.{last_small, values_lie_within_bounds}
 use Rattle.ground_core.specs.declared.parts.GroundTerm.{GroundTerm}
 use Rattle.ground_core.specs.Meaning.{Satisfies, term_value, IsInRange}
-use Rattle.term_values.specs.GroundBases.{GroundBase, structure_of, IsOver}
+use Rattle.term_values.specs.GroundBases.{structure_of, IsOver}
 use Rattle.def_ground.specs.Groundings.{ground_base, IsGroundNumber, IsGroundTheory, theory_problem, TermsAreInRange}
 use Rattle.def_ground.proofs.NumberTerms.{number-value}
 use Rattle.def_ground.proofs.ProblemLaws.{names, all-named, problem-right, problem-over}
 
-bounded-small : (v : Vocabulary) (domains : List (List Elem)) (t : TermTree) (scope : List ℕ)
+pub bounded-small : (v : Vocabulary) (domains : List (List Elem)) (t : TermTree) (scope : List ℕ)
     → TermIsBounded v domains t scope → IsSmall (bounds_of v domains t scope)
 bounded-small v domains (variable n) scope h = h
 bounded-small v domains (integer z) scope h = h

@@ -1,11 +1,9 @@
 -- Steps over cases.
-use Rattle.std.proofs.Common.{◌≡◌, ℕ, ◌+◌, ◌<◌, Bool, true, false, not, ◌&&◌, cond, if◌then◌else◌, List, [], ◌∷◌, ◌++◌}
+use Rattle.std.proofs.Common.{◌≡◌, ℕ, ◌+◌, ◌<◌, Bool, true, false, not, ◌&&◌, cond, if◌then◌else◌, List, [], ◌∷◌}
 use Rattle.std.proofs.Common.{map, filter, length, drop, get_or, Option, Some, None, refl, sym, ap, subst, ◌∙◌, arith}
 use Rattle.std.specs.List.{list_all, AllByRecursion}
 use Rattle.std.proofs.lemmas.List.{at_drop_more}
-use Rattle.lit_core.specs.declared.literals.Lit.{Lit}
-use Rattle.lit_core.specs.Literals.{negated}
-use Rattle.ground_core.specs.Problems.{ProblemState, IsLitOf, AreLitsOf}
+use Rattle.ground_core.specs.Problems.{ProblemState}
 use Rattle.def_ground.specs.declared.cases.Case.{Case as CaseOfCode}
 use Rattle.def_ground.specs.declared.answers.Answer.{Answer}
 use Rattle.def_ground.specs.declared.answers.Answer.TheVariants.{Constant, Literal}

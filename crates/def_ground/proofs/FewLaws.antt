@@ -12,7 +12,7 @@ use Rattle.kb_logic.specs.Trees.{FormulaTree, verum, falsum, atom, comparison, n
 use Rattle.kb_logic.specs.Trees.{implication, equivalence, universal, existential, numbered, FormulaTrees, no_formulas}
 use Rattle.kb_logic.specs.Trees.{more_formulas}
 use Rattle.kb_logic.specs.Weights.{application_count, applications_count, occurrences, all_occurrences}
-use Rattle.kb_logic.specs.Weights.{definition_occurrences, asked_occurrences}
+use Rattle.kb_logic.specs.Weights.{definition_occurrences}
 use Rattle.kb_logic.specs.declared.vocabularies.Bound.{Bound}
 use Rattle.kb_logic.specs.Bounds.{HasTypes, types_of}
 use Rattle.kb_logic.specs.Bases.{Base, NamedTerm}

@@ -1,46 +1,39 @@
--- A well typed number has a number as its value.
-use Rattle.std.proofs.Common.{◌≡◌, ℕ, zero, suc, ◌+◌, ◌*◌, ◌<◌, ℤ, pos, neg_ℤ, ◌+ℤ◌, ◌*ℤ◌, List, [], ◌∷◌, map, length}
-use Rattle.std.proofs.Common.{Bool, true, Option, Some, None, is_some, IsSome, option_map, slice_get, get_or, refl}
-use Rattle.std.proofs.Common.{sym, ap, subst, ◌∙◌, arith, inl, inr}
-use Rattle.std.specs.Option.{option_and_then, unwrap_or}
-use Rattle.std.specs.List.{Contains, AllByRecursion}
-use Rattle.std.proofs.lemmas.Int.{ints}
+-- The rows of a well typed number have numbers, and so it has a number as its value.
+use Rattle.std.proofs.Common.{◌≡◌, ℕ, ◌<◌, ℤ, pos, ◌+ℤ◌, ◌*ℤ◌, List, [], ◌∷◌, ◌++◌, map, length, Bool, true, false}
+use Rattle.std.proofs.Common.{Option, Some, None, if◌then◌else◌, option_map, slice_get, refl, sym, ap, subst, ◌∙◌}
+use Rattle.std.proofs.Common.{arith}
+use Rattle.std.specs.Option.{unwrap_or}
+use Rattle.std.specs.List.{list_all, Contains, AllByRecursion}
 use Rattle.std.proofs.lemmas.List.{length-map}
-use Rattle.std.proofs.lemmas.Option.{slice_get-get_or}
 use Rattle.kb_logic.specs.declared.elements.Elem.{Elem}
 use Rattle.kb_logic.specs.declared.elements.Elem.TheVariants.{Named, Num}
 use Rattle.kb_logic.specs.declared.structures.Structure.{Structure}
 use Rattle.kb_logic.specs.declared.vocabularies.Parent.{Parent}
 use Rattle.kb_logic.specs.declared.vocabularies.Parent.TheVariants.{Root, Int, Nat, Of}
-use Rattle.kb_logic.specs.declared.vocabularies.Symbol.{Symbol}
 use Rattle.kb_logic.specs.declared.vocabularies.TypeDecl.{TypeDecl}
 use Rattle.kb_logic.specs.declared.vocabularies.Vocabulary.{Vocabulary}
 use Rattle.kb_logic.specs.Trees.{TermTree, variable, integer, constructed, application, summation, product, aggregate}
 use Rattle.kb_logic.specs.Trees.{TermTrees, no_terms, more_terms, SummandTrees, no_summands, more_summands}
-use Rattle.kb_logic.specs.Structures.{domain_at, tuples_of}
+use Rattle.kb_logic.specs.Structures.{domain_at}
 use Rattle.kb_logic.specs.Denotations.{Denotation, number, denotation_of}
-use Rattle.kb_logic.specs.Meaning.{value_of, values_of, sum_of, applied, has_row, element_value, number_value}
-use Rattle.kb_logic.specs.Meaning.{product_from, signed_of, summand_plus}
-use Rattle.kb_logic.specs.Bounds.{domain_if, value_type_of}
+use Rattle.kb_logic.specs.Meaning.{value_of, sum_of, number_value, product_from, signed_of, summand_plus}
+use Rattle.kb_logic.specs.Bounds.{value_type_of}
 use Rattle.kb_logic.specs.Domains.{IsUnder, IsDomainOf, AreDomainsOf}
 use Rattle.kb_logic.specs.Typing.{IsBelow, itself, under, IsNumberParent, IsNumberType, IsNumeric, element_of, sort_of}
 use Rattle.kb_logic.specs.Typing.{IsIntegerIn, TermIsTyped, FactorsAreTyped, OperandsAreTyped}
-use Rattle.kb_logic.proofs.Has.{Has, has_get, contains_from}
-use Rattle.kb_logic.proofs.Members.{first, all_in}
-use Rattle.partial_structures.proofs.Contained.{longer_tuple}
-use Rattle.term_values.specs.GroundBases.{GroundBase, structure_of, tuples_at, values_at, first_var, row_index, IsOver}
-use Rattle.term_values.specs.GroundTerms.{terms_number, IsGroundTerm, AreGroundTerms, TermHasNoCounting}
-use Rattle.term_values.specs.GroundTerms.{TermsHaveNoCounting, SummandsHaveNoCounting}
-use Rattle.term_values.specs.GroundBases.{true_values}
-use Rattle.term_values.proofs.ArgumentTypes.{IsOfType, IsTypedTerm, AreArguments}
-use Rattle.term_values.proofs.Chosen.{true-among}
-use Rattle.term_values.proofs.RowFacts.{in-rows, placed, applied-is, value-at, first-value}
-use Rattle.term_values.proofs.RowLaws.{function-rows-at}
-use Rattle.term_values.proofs.StructureAtoms.{tuples-are}
+use Rattle.kb_logic.proofs.Members.{all_in}
+use Rattle.lit_core.specs.declared.literals.Lit.{Lit}
+use Rattle.lit_core.specs.Literals.{literal_value}
+use Rattle.term_values.specs.GroundBases.{GroundBase, structure_of, IsOver}
+use Rattle.term_values.specs.GroundTerms.{TermHasNoCounting, TermsHaveNoCounting, SummandsHaveNoCounting}
+use Rattle.term_values.specs.Rows.{rows_of_term, rows_of_terms, rows_of_sum, selected_values}
+use Rattle.term_values.proofs.FewRows.{all-flat, all-mapped, IsIn, of-type}
+use Rattle.term_values.proofs.RowLaws.{term-right}
 use Rattle.term_values.proofs.StructureLaws.{each-at}
 use Rattle.term_values.proofs.TypedLaws.{typed-term, ground-term}
 
--- the elements of a number type are numbers
+-- ---- the elements of a number type are numbers
+
 abbrev IsNum : Elem → Type 0
 IsNum x = (z : ℤ) × (x ≡ Num z)
 
@@ -73,148 +66,125 @@ some-name : (names : List (List ℕ)) (n : ℕ) → n < length names → names �
 some-name [] n h e = absurd (omega (arith, h))
 some-name (q ∷ names) n h e = absurd cc
 
-item-at : (xs : List Elem) (n : ℕ) → n < length xs → (x : Elem) × (slice_get xs n ≡ Some x)
-item-at [] n h = absurd (omega (arith, h))
-item-at (x ∷ xs) zero h = (x, refl)
-item-at (x ∷ xs) (suc n) h = item-at xs n (omega (arith, h))
+-- ---- rows
 
-values-number : (m : Structure) (ts : TermTrees) (e : List Elem) → terms_number ts ≡ length (values_of m ts e)
-values-number m no_terms e = refl
-values-number m (more_terms t ts) e = let r = values-number m ts e in omega (arith, r)
+abbrev pub IsNumberValue : Denotation → Type 0
+IsNumberValue d = (z : ℤ) × (d ≡ number z)
 
-module _ (b : GroundBase) (v : ℕ → Bool) (over : IsOver b v) where
+abbrev pub IsNumberRow : List Lit × Denotation → Type 0
+IsNumberRow r = IsNumberValue r.1
+
+abbrev IsSumRow : List Lit × Option ℤ → Type 0
+IsSumRow r = (z : ℤ) × (r.1 ≡ Some z)
+
+abbrev AreNumbersRow : List Lit × List Denotation → Type 0
+AreNumbersRow r = AllByRecursion IsNumberValue r.1
+
+product-number : (ds : List Denotation) (w : ℤ) → AllByRecursion IsNumberValue ds
+    → (z : ℤ) × (product_from w ds ≡ Some z)
+product-number [] w h = (w, refl)
+product-number (d ∷ ds) w h =
+    let rest = product-number ds (w *ℤ h.0.0) h.1 in (rest.0, ap (λ y. product_from w (y ∷ ds)) h.0.1 ∙ rest.1)
+
+module _ (b : GroundBase) (given : AreDomainsOf b.vocabulary b.domains) where
+  in-numbers : (ty : ℕ) (rs : List (List Lit × Denotation)) → IsNumberType b.vocabulary ty
+      → AllByRecursion (IsIn b.domains ty) rs → AllByRecursion IsNumberRow rs
+  in-numbers ty [] h k = tt
+  in-numbers ty (r ∷ rs) h k =
+      let x = k.0 in
+      let z = number-element b.vocabulary b.domains given ty x.0 h x.1 in
+      ((z.0, x.2 ∙ ap denotation_of z.1), in-numbers ty rs h k.1)
+
+  applied-numbers : (s : ℕ) (ts : TermTrees) (o : Option ℕ) → value_type_of b.vocabulary s ≡ o
+      → IsNumeric b.vocabulary (option_map element_of o)
+      → TermIsTyped b.vocabulary (IsIntegerIn b.domains) (application s ts) [] → TermHasNoCounting (application s ts)
+      → AllByRecursion IsNumberRow (rows_of_term b (application s ts) [])
+  applied-numbers s ts None e h typed none = absurd h
+  applied-numbers s ts (Some ty) e h typed none =
+      let t = application s ts in
+      in-numbers ty (rows_of_term b t []) h
+      (of-type b [] [] tt ty t (ty, e, λ x at. at) (typed-term b.vocabulary b.domains given t [] typed none))
+
+  mutual
+    pub number-rows : (t : TermTree) → TermIsTyped b.vocabulary (IsIntegerIn b.domains) t []
+        → IsNumeric b.vocabulary (sort_of b.vocabulary t []) → TermHasNoCounting t
+        → AllByRecursion IsNumberRow (rows_of_term b t [])
+    number-rows (variable n) typed numeric none = absurd numeric
+    number-rows (integer z) typed numeric none = ((z, refl), tt)
+    number-rows (constructed ty n) typed numeric none =
+        let d = typed.0 in
+        let domain = domain-of b.vocabulary b.domains given ty d typed.1 in
+        let names : domain_at b.domains ty ≡ map Named d.made = domain.names (some-name d.made n typed.2) in
+        let size = ap length names ∙ length-map d.made Named in
+        let inside = typed.2 in
+        in-numbers ty (rows_of_term b (constructed ty n) []) numeric
+        (of-type b [] [] tt ty (constructed ty n) (omega (arith, size, inside), λ x at. at) tt)
+    number-rows (application s ts) typed numeric none =
+        applied-numbers s ts (value_type_of b.vocabulary s) refl numeric typed none
+    number-rows (summation ss) typed numeric none =
+        all-mapped IsSumRow IsNumberRow (λ r. (r.0, number_value r.1)) (λ r h. (h.0, ap number_value h.1))
+        (rows_of_sum b ss []) (sum-rows ss typed none)
+    number-rows (product ts) typed numeric none =
+        all-mapped AreNumbersRow IsNumberRow (λ r. (r.0, number_value (product_from (pos 1) r.1)))
+        (λ r h. let z = product-number r.1 (pos 1) h in (z.0, ap number_value z.1)) (rows_of_terms b ts [])
+        (factor-rows ts typed none)
+    number-rows (aggregate k bs f t) typed numeric none = absurd none
+
+    sum-rows : (ss : SummandTrees) → OperandsAreTyped b.vocabulary (IsIntegerIn b.domains) ss []
+        → SummandsHaveNoCounting ss → AllByRecursion IsSumRow (rows_of_sum b ss [])
+    sum-rows no_summands typed none = ((pos 0, refl), tt)
+    sum-rows (more_summands minus t ss) typed none =
+        let rest = sum-rows ss typed.2 none.1 in
+        all-flat IsNumberRow IsSumRow
+        (λ (x : List Lit × Denotation). map (λ y. (x.0 ++ y.0, summand_plus minus x.1 y.1)) (rows_of_sum b ss []))
+        (λ x h. all-mapped IsSumRow IsSumRow (λ y. (x.0 ++ y.0, summand_plus minus x.1 y.1))
+        (λ y k. (
+          signed_of minus h.0 +ℤ k.0,
+          ap (λ d. summand_plus minus d y.1) h.1
+              ∙ ap (summand_plus minus (number h.0)) k.1,
+        )) (rows_of_sum b ss []) rest)
+        (rows_of_term b t []) (number-rows t typed.0 typed.1 none.0)
+
+    factor-rows : (ts : TermTrees) → FactorsAreTyped b.vocabulary (IsIntegerIn b.domains) ts []
+        → TermsHaveNoCounting ts → AllByRecursion AreNumbersRow (rows_of_terms b ts [])
+    factor-rows no_terms typed none = (tt, tt)
+    factor-rows (more_terms t ts) typed none =
+        let rest = factor-rows ts typed.2 none.1 in
+        all-flat IsNumberRow AreNumbersRow
+        (λ (x : List Lit × Denotation). map (λ y. (x.0 ++ y.0, x.1 ∷ y.1)) (rows_of_terms b ts []))
+        (λ x h. all-mapped AreNumbersRow AreNumbersRow (λ y. (x.0 ++ y.0, x.1 ∷ y.1)) (λ y k. (h, k))
+        (rows_of_terms b ts []) rest) (rows_of_term b t []) (number-rows t typed.0 typed.1 none.0)
+
+-- ---- values
+
+selected-number : (v : ℕ → Bool) (rs : List (List Lit × Denotation)) (x : Denotation) → AllByRecursion IsNumberRow rs
+    → selected_values v rs ≡ x ∷ [] → IsNumberValue x
+selected-number v [] x h e = absurd cc
+selected-number v (r ∷ rs) x h e =
+    by_guards (list_all (literal_value v) r.0) e (λ k. selected-number v rs x h.1 k)
+  where
+    by_guards : (c : Bool) → (if c then r.1 ∷ selected_values v rs else selected_values v rs) ≡ x ∷ []
+        → (selected_values v rs ≡ x ∷ [] → IsNumberValue x) → IsNumberValue x
+    by_guards true k rest = let same : r.1 ≡ x = cc in subst IsNumberValue same h.0
+    by_guards false k rest = rest k
+
+module _ (b : GroundBase) (v : ℕ → Bool) (over : IsOver b v) (given : AreDomainsOf b.vocabulary b.domains) where
   abbrev m : Structure
   m = structure_of b v
 
-  -- the value is an element of the type
-  abbrev IsAmong : List Elem → Denotation → Type 0
-  IsAmong xs d = (x : Elem) × Contains xs x × (d ≡ denotation_of x)
+  pub number-value : (t : TermTree) → TermIsTyped b.vocabulary (IsIntegerIn b.domains) t []
+      → IsNumeric b.vocabulary (sort_of b.vocabulary t []) → TermHasNoCounting t
+      → (z : ℤ) × (value_of m t [] ≡ number z)
+  number-value t typed numeric none =
+      selected-number v (rows_of_term b t []) (value_of m t []) (number-rows b given t typed numeric none)
+      (term-right b v over [] t (ground-term b (IsIntegerIn b.domains) t [] typed none))
 
-  -- the values are a tuple over the types
-  abbrev AreAmong : List ℕ → List Denotation → Type 0
-  AreAmong types ds = (row : List Elem) × Contains (tuples_of b.domains types) row × (ds ≡ map denotation_of row)
-
-  -- a function has one of its values at a tuple of its arguments
-  applied-among : (s : ℕ) (d : Symbol) (ts : TermTrees) → slice_get b.vocabulary.symbols s ≡ Some d
-      → IsGroundTerm b (application s ts) → AreAmong d.args (values_of m ts [])
-      → IsAmong (values_at b s) (value_of m (application s ts) [])
-  applied-among s d ts at ground args =
-      let vs = values_of m ts [] in
-      let all = tuples_at b s in
-      let there : Contains all args.0 = subst (λ rows. Contains rows args.0) (sym (tuples-are b s d at)) args.1 in
-      let found : has_row all vs ≡ true = ap (has_row all) args.2 ∙ in-rows all args.0 there in
-      let place = placed all vs found in
-      let one = over.one s place.0 place.1 ground.0.value in
-      let first_one = first_var b s + place.0 * length (values_at b s) in
-      let sizes = subst (λ k. AllByRecursion (λ r. length r ≡ k) all) (values-number m ts []) ground.0.arity in (
-        one.0,
-        contains_from (values_at b s) one.0
-            (true-among v first_one (values_at b s) one.0
-            (subst (λ xs. Has xs one.0) (sym one.1) (inl refl))),
-        ap (λ rows. applied rows vs) (function-rows-at b v s ground.0.value)
-            ∙ applied-is v (first_var b s) (values_at b s) all (λ i below. over.one s i below ground.0.value) vs sizes
-            ∙ ap (value-at v (first_var b s) (values_at b s)) place.2
-            ∙ ap first-value one.1,
+  pub number-sum : (ss : SummandTrees) → OperandsAreTyped b.vocabulary (IsIntegerIn b.domains) ss []
+      → SummandsHaveNoCounting ss → (z : ℤ) × (sum_of m ss [] ≡ Some z)
+  number-sum no_summands typed none = (pos 0, refl)
+  number-sum (more_summands minus t ss) typed none =
+      let n = number-value t typed.0 typed.1 none.0 in
+      let s = number-sum ss typed.2 none.1 in (
+        signed_of minus n.0 +ℤ s.0,
+        ap (λ d. summand_plus minus d (sum_of m ss [])) n.1 ∙ ap (summand_plus minus (number n.0)) s.1,
       )
-
-  mutual
-    of-type : (ty : ℕ) (t : TermTree) → IsOfType b.vocabulary b.domains [] ty t
-        → IsTypedTerm b.vocabulary b.domains [] t → IsGroundTerm b t
-        → IsAmong (domain_at b.domains ty) (value_of m t [])
-    of-type ty (variable n) h k g = absurd cc
-    of-type ty (integer z) h k g = (Num z, h, refl)
-    of-type ty (constructed u n) h k g =
-        let x = item-at (domain_at b.domains u) n h.0 in (
-          x.0,
-          h.1 x.0 (contains_from (domain_at b.domains u) x.0 (has_get (domain_at b.domains u) n x.0 x.1)),
-          ap element_value x.1,
-        )
-    of-type ty (application s ts) h k g =
-        let x = applied-among s k.0 ts k.1 g (of-types k.0.args ts k.2 g.1) in
-        let typed : values_at b s ≡ domain_at b.domains h.0 = ap (domain_if b.domains) h.1 in
-        (x.0, h.2 x.0 (subst (λ xs. Contains xs x.0) typed x.1), x.2)
-    of-type ty (summation ss) h k g =
-        let same : neg_ℤ h.0 +ℤ pos 0 ≡ neg_ℤ h.0 = omega (arith, ints) in
-        subst (λ us. IsAmong (domain_at b.domains ty) (value_of m (summation us) [])) (sym h.1)
-        (Num (neg_ℤ h.0), h.2, ap number same)
-    of-type ty (product ts) h k g = absurd h
-    of-type ty (aggregate kind bs f t) h k g = absurd h
-
-    of-types : (tys : List ℕ) (ts : TermTrees) → AreArguments b.vocabulary b.domains [] tys ts → AreGroundTerms b ts
-        → AreAmong tys (values_of m ts [])
-    of-types [] no_terms h g = ([], first [] [], refl)
-    of-types [] (more_terms t ts) h g = absurd h
-    of-types (ty ∷ tys) no_terms h g = absurd h
-    of-types (ty ∷ tys) (more_terms t ts) h g =
-        let x = of-type ty t h.0 h.1 g.0 in
-        let row = of-types tys ts h.2 g.1 in (
-          x.0 ∷ row.0,
-          longer_tuple b.domains ty tys x.0 row.0 x.1 row.1,
-          ap (λ d. d ∷ values_of m ts []) x.2 ∙ ap (λ ds. denotation_of x.0 ∷ ds) row.2,
-        )
-
-  module _ (given : AreDomainsOf b.vocabulary b.domains) where
-    abbrev IsNumberValue : Denotation → Type 0
-    IsNumberValue d = (z : ℤ) × (d ≡ number z)
-
-    element-number : (ty : ℕ) (d : Denotation) → IsNumberType b.vocabulary ty → IsAmong (domain_at b.domains ty) d
-        → IsNumberValue d
-    element-number ty d h x =
-        let z = number-element b.vocabulary b.domains given ty x.0 h x.1 in (z.0, x.2 ∙ ap denotation_of z.1)
-
-    applied-number : (s : ℕ) (d : Denotation) (o : Option ℕ) → value_type_of b.vocabulary s ≡ o
-        → IsNumeric b.vocabulary (option_map element_of o) → IsAmong (values_at b s) d → IsNumberValue d
-    applied-number s d None e h x = absurd h
-    applied-number s d (Some ty) e h x =
-        let typed : values_at b s ≡ domain_at b.domains ty = ap (domain_if b.domains) e in
-        element-number ty d h (x.0, subst (λ xs. Contains xs x.0) typed x.1, x.2)
-
-    abbrev IsTypedNumber : TermTree → Type 0
-    IsTypedNumber t = TermIsTyped b.vocabulary (IsIntegerIn b.domains) t []
-        × IsNumeric b.vocabulary (sort_of b.vocabulary t [])
-
-    mutual
-      pub number-value : (t : TermTree) → TermIsTyped b.vocabulary (IsIntegerIn b.domains) t []
-          → IsNumeric b.vocabulary (sort_of b.vocabulary t []) → TermHasNoCounting t
-          → (z : ℤ) × (value_of m t [] ≡ number z)
-      number-value (variable n) typed numeric none = absurd numeric
-      number-value (integer z) typed numeric none = (z, refl)
-      number-value (constructed ty n) typed numeric none =
-          let d = typed.0 in
-          let domain = domain-of b.vocabulary b.domains given ty d typed.1 in
-          let names : domain_at b.domains ty ≡ map Named d.made = domain.names (some-name d.made n typed.2) in
-          let size = ap length names ∙ length-map d.made Named in
-          let inside = typed.2 in
-          let x = item-at (domain_at b.domains ty) n (omega (arith, size, inside)) in
-          element-number ty (element_value (slice_get (domain_at b.domains ty) n)) numeric
-          (x.0, contains_from (domain_at b.domains ty) x.0 (has_get (domain_at b.domains ty) n x.0 x.1),
-          ap element_value x.1)
-      number-value (application s ts) typed numeric none =
-          let t = application s ts in
-          let k = typed-term b.vocabulary b.domains given t [] typed none in
-          let g = ground-term b (IsIntegerIn b.domains) t [] typed none in
-          applied-number s (value_of m t []) (value_type_of b.vocabulary s) refl numeric
-          (applied-among s k.0 ts k.1 g (of-types k.0.args ts k.2 g.1))
-      number-value (summation ss) typed numeric none =
-          let z = number-sum ss typed none in (z.0, ap number_value z.1)
-      number-value (product ts) typed numeric none =
-          let z = number-product ts (pos 1) typed none in (z.0, ap number_value z.1)
-      number-value (aggregate k bs f t) typed numeric none = absurd none
-
-      pub number-sum : (ss : SummandTrees) → OperandsAreTyped b.vocabulary (IsIntegerIn b.domains) ss []
-          → SummandsHaveNoCounting ss → (z : ℤ) × (sum_of m ss [] ≡ Some z)
-      number-sum no_summands typed none = (pos 0, refl)
-      number-sum (more_summands minus t ss) typed none =
-          let n = number-value t typed.0 typed.1 none.0 in
-          let s = number-sum ss typed.2 none.1 in (
-            signed_of minus n.0 +ℤ s.0,
-            ap (λ d. summand_plus minus d (sum_of m ss [])) n.1 ∙ ap (summand_plus minus (number n.0)) s.1,
-          )
-
-      number-product : (ts : TermTrees) (w : ℤ) → FactorsAreTyped b.vocabulary (IsIntegerIn b.domains) ts []
-          → TermsHaveNoCounting ts → (z : ℤ) × (product_from w (values_of m ts []) ≡ Some z)
-      number-product no_terms w typed none = (w, refl)
-      number-product (more_terms t ts) w typed none =
-          let n = number-value t typed.0 typed.1 none.0 in
-          let s = number-product ts (w *ℤ n.0) typed.2 none.1 in
-          (s.0, ap (λ d. product_from w (d ∷ values_of m ts [])) n.1 ∙ s.1)

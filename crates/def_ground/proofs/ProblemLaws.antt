@@ -26,8 +26,8 @@ use Rattle.term_values.proofs.KnownLaws.{ground-base, known-extends, extends-kno
 use Rattle.def_ground.specs.Problems.{fact_of, start_problem, problem_of}
 use Rattle.def_ground.specs.Meanings.{AssertsMore, HasRoom}
 use Rattle.def_ground.specs.Groundings.{IsGroundNumber, IsGroundTheory, IsGroundingOf, theory_problem, ProblemIsRight}
-use Rattle.def_ground.specs.Groundings.{ProblemSaysClauses}
-use Rattle.def_ground.proofs.AskedLaws.{IsNumberOver, Names, names-all}
+use Rattle.def_ground.specs.Groundings.{ground_base, ProblemSaysClauses}
+use Rattle.def_ground.proofs.AskedLaws.{IsNumberOver, Names, names-all, asked-alike}
 use Rattle.def_ground.proofs.AssertLaws.{room-grown}
 use Rattle.def_ground.specs.GroundForms.{IsGroundForm, HasNoCounting}
 use Rattle.kb_logic.specs.Typing.{IsTypedOver, IsIntegerIn}
@@ -222,8 +222,8 @@ pub problem-is-right : ProblemIsRight
 problem-is-right base theory = problem-right base theory
 
 pub problem-says-clauses : ProblemSaysClauses
-problem-says-clauses base theory =
-    let n = names base theory in
-    let k = sentences-keep (base_of_data base.vocabulary base.known) base.theory.sentences
-    (start_problem (base_of_data base.vocabulary base.known)) in
-    record { sums = n.sums ∙ k.sums; bounds = n.bounds ∙ k.bounds; retired = n.retired ∙ k.retired }
+problem-says-clauses base =
+    let b = ground_base base in
+    let k = sentences-keep b base.theory.sentences (start_problem b) in
+    let a = asked-alike b base.terms (problem_of b base.theory.sentences) in
+    record { sums = a.sums ∙ k.sums; bounds = a.bounds ∙ k.bounds; retired = a.retired ∙ k.retired }

@@ -1,7 +1,7 @@
 -- Rows as weighted literals: what the true ones come to.
-use Rattle.std.proofs.Common.{◌≡◌, ℕ, ◌+◌, ◌≤◌, ℤ, pos, neg_ℤ, ◌+ℤ◌, ◌-ℤ◌, Bool, true, false, cond, List, [], ◌∷◌, ◌++◌}
-use Rattle.std.proofs.Common.{map, flat_map, fold, filter, length, get_or, All, if◌then◌else◌, refl, sym, ap, ◌∙◌, arith}
-use Rattle.std.specs.List.{list_all, list_any, AllByRecursion}
+use Rattle.std.proofs.Common.{◌≡◌, ℕ, ◌+◌, ◌≤◌, ℤ, pos, ◌+ℤ◌, ◌-ℤ◌, Bool, true, false, cond, List, [], ◌∷◌, ◌++◌}
+use Rattle.std.proofs.Common.{map, fold, filter, length, get_or, if◌then◌else◌, refl, ap, ◌∙◌, arith}
+use Rattle.std.specs.List.{list_all}
 use Rattle.std.proofs.lemmas.Int.{ints}
 use Rattle.std.proofs.lemmas.List.Elements.{All-cons, All-nil, All-push}
 use Rattle.kb_logic.specs.declared.syntax.AggKind.TheVariants as kind
@@ -19,13 +19,13 @@ use Rattle.ground_core.proofs.Fronts.{All-front}
 use Rattle.ground_core.proofs.Mores.{more-trans, gate-added}
 use Rattle.term_values.specs.Rows.{selected_values}
 use Rattle.def_ground.specs.declared.answers.Answer.TheVariants.{Literal}
-use Rattle.def_ground.specs.AskedTerms.{number_of, first_weight, other_weights, WeightedParts, with_part, weigh}
+use Rattle.def_ground.specs.AskedTerms.{number_of, first_weight, other_weights, guarded_by, WeightedParts, weigh}
 use Rattle.def_ground.specs.AskedTerms.{weigh_all}
 use Rattle.def_ground.specs.Meanings.{Means}
 use Rattle.def_ground.proofs.FormLaws.{gate-right}
 use Rattle.def_ground.proofs.Growing.{more-refl, lit-more, lits-more, problem-grown}
 use Rattle.def_ground.proofs.KeepLaws.{Keeps, keeps-all, keeps-on, keeps-gate}
-use Rattle.def_ground.proofs.Leaves.{RowsIn, rows-more}
+use Rattle.def_ground.proofs.Leaves.{RowsIn}
 
 -- what the weights of the true parts come to
 abbrev pub part_sum : (ℕ → Bool) → List Part → ℤ
@@ -141,11 +141,10 @@ any-gate p ls fine within =
       right = add.means;
     }
 
--- q defines more than p, and keeps what p says, and the parts come to V in each valuation that satisfies it
+-- q defines more than p, and the parts come to V in each valuation that satisfies it
 pub record Weighs (p : ProblemState) (st : WeightedParts) (V : (ℕ → Bool) → ℤ) : Type 0 where
   pub fine : IsProblem st.problem
   pub more : DefinesMore p st.problem
-  pub keeps : Keeps p st.problem
   pub within : ArePartsOf st.problem.vars st.parts
   pub right : (v : ℕ → Bool) → Satisfies st.problem v → part_sum v st.parts ≡ V v
 
@@ -153,46 +152,52 @@ pub weighs-nothing : (p : ProblemState) → IsProblem p → Weighs p (record { p
 weighs-nothing p fine = record {
   fine = fine;
   more = more-refl p;
-  keeps = keeps-all p;
   within = All-nil (λ (x : Part). IsLitOf p.vars x.lit);
   right = λ v s. refl;
 }
 
-module _ (p : ProblemState) (st : WeightedParts) (V : (ℕ → Bool) → ℤ) (h : Weighs p st V) (w : ℤ) where
-  with-part-weighs : (l : Lit) (q : ProblemState) (U : (ℕ → Bool) → Bool) → Means st.problem q (Literal l) U
-      → Keeps st.problem q → Weighs p (with_part w l q st.parts) (λ v. V v +ℤ (if U v then w else pos 0))
-  with-part-weighs l q U m keeps = record {
-    fine = m.fine;
-    more = more-trans p st.problem q h.more m.more;
-    keeps = keeps-on p st.problem q h.keeps keeps;
-    within = All-push (λ (x : Part). IsLitOf q.vars x.lit) st.parts (record { lit = l; weight = w })
-        (λ k d lt. lit-more st.problem.vars q.vars m.more.grows (get_or st.parts k d).lit (h.within k d lt)) m.within;
-    right = λ v s.
-        let old = h.right v (m.more.restricts v s) in
-        part-push v st.parts (record { lit = l; weight = w })
-        ∙ ap (λ z. z +ℤ (if literal_value v l then w else pos 0)) old
-        ∙ ap (λ (c : Bool). V v +ℤ (if c then w else pos 0)) (m.right v s);
-  }
+-- the literal that stands for guards
+guarded-means : (p : ProblemState) (g : List Lit) → IsProblem p → AreLitsOf p.vars g
+    → Means p (guarded_by g p).problem (Literal (guarded_by g p).lit) (λ v. joined true v g)
+guarded-means p [] fine within = any-gate p [] fine within
+guarded-means p (l ∷ []) fine within = gate-right p true (l ∷ []) fine within
+guarded-means p (l ∷ m ∷ ls) fine within = any-gate p (l ∷ m ∷ ls) fine within
 
-  weigh-right : (g : List Lit) → AreLitsOf st.problem.vars g
-      → Weighs p (weigh w g st) (λ v. V v +ℤ (if list_all (literal_value v) g then w else pos 0))
-  weigh-right [] within =
-      with-part-weighs (next_lit st.problem) (with_gate st.problem true []) (λ v. joined true v [])
-      (any-gate st.problem [] h.fine within) (keeps-gate st.problem true [])
-  weigh-right (l ∷ []) within =
-      with-part-weighs l st.problem (λ v. joined true v (l ∷ []))
-      (gate-right st.problem true (l ∷ []) h.fine within) (keeps-all st.problem)
-  weigh-right (l ∷ m ∷ ls) within =
-      with-part-weighs (next_lit st.problem) (with_gate st.problem true (l ∷ m ∷ ls))
-      (λ v. joined true v (l ∷ m ∷ ls)) (any-gate st.problem (l ∷ m ∷ ls) h.fine within)
-      (keeps-gate st.problem true (l ∷ m ∷ ls))
+guarded-keeps : (p : ProblemState) (g : List Lit) → Keeps p (guarded_by g p).problem
+guarded-keeps p [] = keeps-gate p true []
+guarded-keeps p (l ∷ []) = keeps-all p
+guarded-keeps p (l ∷ m ∷ ls) = keeps-gate p true (l ∷ m ∷ ls)
+
+pub weigh-all-keeps : (rs : List (List Lit × ℤ)) (st : WeightedParts) → Keeps st.problem (weigh_all rs st).problem
+weigh-all-keeps [] st = keeps-all st.problem
+weigh-all-keeps (r ∷ rs) st =
+    let next = weigh r.1 r.0 st in
+    keeps-on st.problem next.problem (weigh_all rs next).problem (guarded-keeps st.problem r.0) (weigh-all-keeps rs next)
+
+weigh-right : (p : ProblemState) (st : WeightedParts) (V : (ℕ → Bool) → ℤ) (h : Weighs p st V) (w : ℤ) (g : List Lit)
+    → AreLitsOf st.problem.vars g
+    → Weighs p (weigh w g st) (λ v. V v +ℤ (if list_all (literal_value v) g then w else pos 0))
+weigh-right p st V h w g within =
+    let m = guarded-means st.problem g h.fine within in
+    let x = guarded_by g st.problem in
+    record {
+      fine = m.fine;
+      more = more-trans p st.problem x.problem h.more m.more;
+      within = All-push (λ (y : Part). IsLitOf x.problem.vars y.lit) st.parts (record { lit = x.lit; weight = w })
+          (λ k d lt. lit-more st.problem.vars x.problem.vars m.more.grows (get_or st.parts k d).lit (h.within k d lt))
+          m.within;
+      right = λ v s.
+          let old = h.right v (m.more.restricts v s) in
+          part-push v st.parts (record { lit = x.lit; weight = w })
+          ∙ ap (λ z. z +ℤ (if literal_value v x.lit then w else pos 0)) old
+          ∙ ap (λ (c : Bool). V v +ℤ (if c then w else pos 0)) (m.right v s);
+    }
 
 weighs-is : (p : ProblemState) (st : WeightedParts) (V W : (ℕ → Bool) → ℤ) → ((v : ℕ → Bool) → V v ≡ W v)
     → Weighs p st V → Weighs p st W
 weighs-is p st V W e h = record {
   fine = h.fine;
   more = h.more;
-  keeps = h.keeps;
   within = h.within;
   right = λ v s. h.right v s ∙ e v;
 }
@@ -207,15 +212,15 @@ weigh-all-right p (r ∷ rs) st V ins h =
     (λ v. omega (arith, ints)) (weigh-all-right p rs (weigh r.1 r.0 st) W ins.1 now)
 
 -- how many variables they add
-weigh-vars : (w : ℤ) (g : List Lit) (st : WeightedParts) → (weigh w g st).problem.vars ≤ st.problem.vars + 1
-weigh-vars w [] st = omega arith
-weigh-vars w (l ∷ []) st = omega arith
-weigh-vars w (l ∷ m ∷ ls) st = omega arith
+guarded-vars : (g : List Lit) (p : ProblemState) → (guarded_by g p).problem.vars ≤ p.vars + 1
+guarded-vars [] p = omega arith
+guarded-vars (l ∷ []) p = omega arith
+guarded-vars (l ∷ m ∷ ls) p = omega arith
 
 pub weigh-all-vars : (rs : List (List Lit × ℤ)) (st : WeightedParts)
     → (weigh_all rs st).problem.vars ≤ st.problem.vars + length rs
 weigh-all-vars [] st = omega arith
 weigh-all-vars (r ∷ rs) st =
-    let one = weigh-vars r.1 r.0 st in
+    let one = guarded-vars r.0 st.problem in
     let more = weigh-all-vars rs (weigh r.1 r.0 st) in
     omega (arith, one, more)

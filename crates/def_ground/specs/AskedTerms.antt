@@ -3,7 +3,7 @@
 -- Of the rows of a summand exactly one holds. So the summand has the value of its first row, and for each other row the
 -- difference to it where that row holds: one part less, and none where there is only one row. A sum is split into its
 -- summands, so that no row of the one is joined with a row of the other.
-use Rattle.std.specs.Prelude.{ℕ, ℤ, pos, ◌+ℤ◌, ◌-ℤ◌, List, [], ◌∷◌, ◌++◌, map, flat_map, fold, Bool, true, false}
+use Rattle.std.specs.Prelude.{ℤ, pos, ◌+ℤ◌, ◌-ℤ◌, List, [], ◌∷◌, ◌++◌, map, flat_map, fold, Bool, true, false}
 use Rattle.std.specs.Prelude.{if◌then◌else◌}
 use Rattle.std.specs.List.{list_any}
 use Rattle.kb_logic.specs.declared.syntax.AggKind.TheVariants as kind
@@ -55,36 +55,52 @@ abbrev pub is_rowless : List (List Lit × Denotation) → Bool
 is_rowless [] = true
 is_rowless (r ∷ rs) = false
 
--- the value of the first row, with the summand's sign
-abbrev pub first_weight : Bool → List (List Lit × Denotation) → ℤ
-first_weight minus [] = pos 0
-first_weight minus (r ∷ rs) = signed_of minus (number_of r.1)
+-- the number in the first row
+abbrev pub first_number : List (List Lit × Denotation) → ℤ
+first_number [] = pos 0
+first_number (r ∷ rs) = number_of r.1
 
--- the other rows, each with its difference to the first one
+-- the number in the first row, with the summand's sign
+abbrev pub first_weight : Bool → List (List Lit × Denotation) → ℤ
+first_weight minus rs = signed_of minus (first_number rs)
+
+-- rows with the differences of their numbers to this one, with the summand's sign
+abbrev pub differences : Bool → ℤ → List (List Lit × Denotation) → List (List Lit × ℤ)
+differences minus y rs = map (λ q. (q.0, signed_of minus (number_of q.1 -ℤ y))) rs
+
+-- the other rows, with their differences to the first one
 abbrev pub other_weights : Bool → List (List Lit × Denotation) → List (List Lit × ℤ)
 other_weights minus [] = []
-other_weights minus (r ∷ rs) = map (λ q. (q.0, signed_of minus (number_of q.1 -ℤ number_of r.1))) rs
+other_weights minus (r ∷ rs) = differences minus (number_of r.1) rs
 
 -- what the summands come to where in each the first row holds
 abbrev pub first_sum : List Summand → ℤ
 first_sum [] = pos 0
 first_sum (s ∷ ss) = first_weight s.minus s.rows +ℤ first_sum ss
 
+-- a literal, and the problem that defines it
+pub record Guarded : Type 0 where
+  pub lit : Lit
+  pub problem : ProblemState
+
+-- a literal that says that all of the guards are true: one alone says so itself, else a gate does
+abbrev pub guarded_by : List Lit → ProblemState → Guarded
+guarded_by [] p = record { lit = next_lit p; problem = with_gate p true [] }
+guarded_by (l ∷ []) p = record { lit = l; problem = p }
+guarded_by (l ∷ m ∷ ls) p = record { lit = next_lit p; problem = with_gate p true (l ∷ m ∷ ls) }
+
 -- weighted literals, and the problem that defines them
 pub record WeightedParts : Type 0 where
   pub parts : List Part
   pub problem : ProblemState
 
-abbrev pub with_part : ℤ → Lit → ProblemState → List Part → WeightedParts
-with_part w l q ps = record { parts = ps ++ record { lit = l; weight = w } ∷ []; problem = q }
-
--- a part more, whose literal says that all of the guards are true: one alone says so itself, else a gate does
+-- with a part more, for guards
 abbrev pub weigh : ℤ → List Lit → WeightedParts → WeightedParts
-weigh w [] st = with_part w (next_lit st.problem) (with_gate st.problem true []) st.parts
-weigh w (l ∷ []) st = with_part w l st.problem st.parts
-weigh w (l ∷ m ∷ ls) st =
-    with_part w (next_lit st.problem) (with_gate st.problem true (l ∷ m ∷ ls)) st.parts
+weigh w guards st =
+    let g = guarded_by guards st.problem in
+    record { parts = st.parts ++ record { lit = g.lit; weight = w } ∷ []; problem = g.problem }
 
+-- and for each of these rows
 abbrev pub weigh_all : List (List Lit × ℤ) → WeightedParts → WeightedParts
 weigh_all rs st = fold (λ (t : WeightedParts) (r : List Lit × ℤ). weigh r.1 r.0 t) st rs
 

@@ -1,12 +1,15 @@
 -- Ground problems worked out by hand.
-use Rattle.std.specs.Prelude.{◌≡◌, ℕ, pos, List, [], ◌∷◌, true, false, Some, None}
+use Rattle.std.specs.Prelude.{◌≡◌, ℕ, pos, negsuc, List, [], ◌∷◌, true, false, Some, None}
 use Rattle.kb_logic.specs.declared.elements.Elem.TheVariants.{Named, Num}
+use Rattle.kb_logic.specs.declared.syntax.AggKind.TheVariants as kind
 use Rattle.kb_logic.specs.declared.syntax.Cmp.TheVariants as cmp
-use Rattle.kb_logic.specs.Trees.{variable, application, no_terms, more_terms, FormulaTree, atom, comparison}
-use Rattle.kb_logic.specs.Trees.{negation}
+use Rattle.kb_logic.specs.Trees.{TermTree, variable, application, summation, no_terms, more_terms, no_summands}
+use Rattle.kb_logic.specs.Trees.{more_summands, FormulaTree, atom, comparison, negation}
 use Rattle.kb_logic.specs.Trees.{conjunction, disjunction, universal, no_formulas, more_formulas}
 use Rattle.lit_core.specs.declared.literals.Lit.{Lit}
+use Rattle.ground_core.specs.declared.parts.GroundTerm.{GroundTerm}
 use Rattle.term_values.specs.GroundBases.{GroundBase}
+use Rattle.def_ground.specs.AskedTerms.{with_asked}
 use Rattle.def_ground.specs.Problems.{fact_of, problem_of}
 
 -- the literal that a variable is true, or that it is false
@@ -60,9 +63,19 @@ constants = record {
 abbrev in_order : List FormulaTree
 in_order = comparison cmp.Lt (application 0 no_terms) (application 1 no_terms) ∷ []
 
+-- c - d
+abbrev difference : TermTree
+difference =
+    summation (more_summands false (application 0 no_terms) (more_summands true (application 1 no_terms) no_summands))
+
+-- the terms of the problem that says nothing but names the difference
+abbrev difference_named : List GroundTerm
+difference_named = (with_asked constants (problem_of constants []) (record { name = []; term = difference })).terms
+
 -- P(a), P(b), Q(a) and Q(b) are the variables 1 to 4: the facts, then Q(b) and not Q(a), with no gate.
 -- c = 1, c = 2, d = 1 and d = 2 are the variables 1 to 4 too: one value each, and no variable more for the comparison,
--- which says that c and d are not both 1, and that c is not 2, since no value of d is greater
+-- which says that c and d are not both 1, and that c is not 2, since no value of d is greater.
+-- The difference c - d is 0 where both are 1; it is 1 more where c = 2, and 1 less where d = 2
 pub record ProblemsAsWorkedOut : Type 0 where
   pub plain_vars : (problem_of predicates one_of_both).vars ≡ 4
   pub plain_gates : (problem_of predicates one_of_both).gates ≡ []
@@ -74,3 +87,10 @@ pub record ProblemsAsWorkedOut : Type 0 where
       (problem_of constants in_order).clauses
       ≡ (yes_ 1 ∷ yes_ 2 ∷ []) ∷ (no_ 1 ∷ no_ 2 ∷ []) ∷ (yes_ 3 ∷ yes_ 4 ∷ []) ∷ (no_ 3 ∷ no_ 4 ∷ [])
       ∷ (no_ 1 ∷ no_ 3 ∷ []) ∷ (no_ 2 ∷ []) ∷ []
+  pub difference_terms :
+      difference_named ≡ record {
+        name = [];
+        kind = kind.Sum;
+        base = pos 0;
+        parts = record { lit = yes_ 2; weight = pos 1 } ∷ record { lit = yes_ 4; weight = negsuc 0 } ∷ [];
+      } ∷ []

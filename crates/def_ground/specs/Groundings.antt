@@ -71,7 +71,7 @@ pub record SaysClausesAlone (p : ProblemState) : Type 0 where
 
 -- so does the problem of a theory
 abbrev pub ProblemSaysClauses : Type 0
-ProblemSaysClauses = (base : Base) → IsGroundTheory base → SaysClausesAlone (theory_problem base)
+ProblemSaysClauses = (base : Base) → SaysClausesAlone (theory_problem base)
 
 -- the problem's valuations are the models of the theory that extend the data
 abbrev pub ProblemIsRight : Type 0

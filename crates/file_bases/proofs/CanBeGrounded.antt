@@ -3,14 +3,14 @@ use Rattle.std.proofs.Common.{ℕ, zero, suc, List, [], ◌∷◌, map, Option, 
 use Rattle.std.specs.List.{AllByRecursion}
 use Rattle.kb_text.specs.declared.fault.KbFault.{KbFault}
 use Rattle.kb_logic.specs.declared.vocabularies.Vocabulary.{Vocabulary}
-use Rattle.kb_logic.specs.Bases.{NamedTerm}
+use Rattle.kb_logic.specs.Bases.{Base, NamedTerm}
 use Rattle.kb_logic.specs.Domains.{AreDomainsOf}
 use Rattle.kb_logic.specs.KnownAtoms.{KnownAtoms}
 use Rattle.kb_logic.specs.Trees.{TheoryTree}
 use Rattle.fo_syntax.specs.BlockTrees as raw
 use Rattle.reading_stages.specs.NamedTrees.{NamedFormula}
 use Rattle.reading_stages.specs.Numbering.{NamedTheoryTree, NamedTermTree}
-use Rattle.reading_stages.specs.FileBases.{theory_at, named_term}
+use Rattle.reading_stages.specs.FileBases.{base_of_file, theory_at, named_term}
 use Rattle.reading_stages.specs.TypedFiles.{TypedTheoryTree, TypedFile, typed_theory, typed_block}
 use Rattle.reading_stages.specs.TypedTrees.{typed_sentence}
 use Rattle.reading_stages.specs.DataEntries.{said_in}
@@ -22,7 +22,8 @@ use Rattle.structure_laws.specs.DataLaws.{AcceptedHaveDomains, GivenIsConsistent
 use Rattle.term_values.specs.GroundTerms.{TermHasNoCounting}
 use Rattle.term_values.specs.KnownBases.{AreDataOf}
 use Rattle.def_ground.specs.GroundForms.{HasNoCounting}
-use Rattle.typing_laws.specs.WellTyped.{AcceptedIsTypedOver}
+use Rattle.def_ground.specs.Groundings.{IsGroundNumber}
+use Rattle.typing_laws.specs.WellTyped.{AcceptedIsTypedOver, IsNumberOver}
 use Rattle.file_bases.specs.FileLaws.{AcceptedCanBeGrounded}
 use Rattle.file_bases.proofs.Plain.{IsPlain, IsPlainTerm, named_is_plain}
 use Rattle.file_bases.proofs.Consistent.{are_over, given_consistent}
@@ -53,6 +54,13 @@ terms_plain : (v : Vocabulary) (bs : List NamedTermTree) → AllByRecursion (λ 
 terms_plain v [] h = tt
 terms_plain v (b ∷ bs) h = (h.0 [], terms_plain v bs h.1)
 
+numbers : (base : Base) (ts : List NamedTerm)
+    → AllByRecursion (λ (t : NamedTerm). IsNumberOver base.vocabulary base.known.domains t.term) ts
+    → AllByRecursion (λ (t : NamedTerm). TermHasNoCounting t.term) ts → AllByRecursion (IsGroundNumber base) ts
+numbers base [] h k = tt
+numbers base (t ∷ ts) h k =
+    (record { typed = h.0.0; numeric = h.0.1; plain = k.0 }, numbers base ts h.1 k.1)
+
 -- ---- data
 
 are_data : GivenIsConsistent → (v : Vocabulary) (places : List ℕ) (s : raw.Structure)
@@ -77,7 +85,9 @@ accepted_can_be_grounded typing have_domains is_given consistent file n typed na
     let data_are : AreDataOf v answer =
     subst (AreDataOf v) (sym given.given)
     (are_data consistent v typed.places.types s given.accepted
-    (subst (λ (k : KnownAtoms). AreDomainsOf v k.domains) given.given domains)) in (
+    (subst (λ (k : KnownAtoms). AreDomainsOf v k.domains) given.given domains)) in
+    let terms = subst (λ (g : TypedFile). AllByRecursion (λ (t : NamedTerm). TermHasNoCounting t.term)
+    (map named_term g.terms)) (sym typed_of.tree) (terms_plain n.vocabulary n.terms plain.terms) in (
       (record {
         known = data_are;
         typed = well.sentences;
@@ -85,7 +95,7 @@ accepted_can_be_grounded typing have_domains is_given consistent file n typed na
             (sym typed_of.tree)
             (theory_plain n.vocabulary n.theories theory plain.theories);
         definitions = well.definitions;
+        terms = numbers (base_of_file typed theory answer) (map named_term typed.terms) well.terms terms;
       }),
-      subst (λ (g : TypedFile). AllByRecursion (λ (t : NamedTerm). TermHasNoCounting t.term) (map named_term g.terms))
-          (sym typed_of.tree) (terms_plain n.vocabulary n.terms plain.terms),
+      terms,
     )

@@ -54,6 +54,13 @@ impl<S: Solve + Drop> Task<S> {
 }
 
 impl<S: Solve> Task<S> {
+    /// The variables of the ground atoms.
+    pub fn numbers(&self) -> &AtomNumbers
+        ensures { result.now ≡ self.now.numbers }
+    {
+        &self.numbers
+    }
+
     /// The literal of the variable that the literal's atom has.
     pub fn lit_of(&self, literal: &Literal) -> Lit
         requires { IsAtomOver self.now.numbers.vocabulary.symbols self.now.numbers.domains (atom_of literal.now) }

@@ -105,7 +105,7 @@ one-within = record { low = omega (arith, ints); high = omega (arith, ints) }
 
 module _ (b : GroundBase) (scope : List ℕ) (e : List Elem) (types : HasTypes b.domains scope e) where
   mutual
-    term-within : (t : TermTree) → Each (ValueIsWithin (bounds_of b.vocabulary b.domains t scope)) (rows_of_term b t e)
+    pub term-within : (t : TermTree) → Each (ValueIsWithin (bounds_of b.vocabulary b.domains t scope)) (rows_of_term b t e)
     term-within (variable n) = (variable_within b.domains scope e n types, tt)
     term-within (integer z) = (record { low = omega (arith, ints); high = omega (arith, ints) }, tt)
     term-within (constructed ty n) = (constructed_within (domain_at b.domains ty) n, tt)

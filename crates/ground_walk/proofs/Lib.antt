@@ -4,3 +4,5 @@ pub mod SentenceSteps
 pub mod StartSteps
 pub mod BoundedRows
 pub mod GroundableLaws
+pub mod AskableLaws
+pub mod AskedSteps

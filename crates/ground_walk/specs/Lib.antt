@@ -1,3 +1,4 @@
 pub mod Groundable
 pub mod Steps
+pub mod Askable
 pub mod Laws

@@ -9,9 +9,11 @@ mod leaves;
 mod problems;
 mod sentences;
 mod starts;
+mod terms;
 
 pub use forms::form;
-pub use laws::{bounded_are_groundable, data_know_atoms};
+pub use laws::{bounded_are_askable, bounded_are_groundable, data_know_atoms};
 pub use problems::problem_of;
 pub use sentences::push_sentence;
 pub use starts::start;
+pub use terms::push_term;

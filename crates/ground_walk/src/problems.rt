@@ -4,7 +4,7 @@ ghost use Rattle.std.specs.List.{AllByRecursion};
 ghost use Rattle.kb_logic.specs.Views.{formula_view};
 ghost use Rattle.term_values.specs.KnownBases.{IsGroundBase};
 ghost use Rattle.def_ground.specs.Problems.{problem_of as problem_of_sentences};
-ghost use Rattle.ground_walk.specs.Groundable.{IsGroundable, KnowsAtoms};
+ghost use Rattle.ground_walk.specs.Groundable.{HasVars, IsGroundable, KnowsAtoms};
 
 use crate::sentences::push_sentence;
 use crate::starts::start;
@@ -23,7 +23,8 @@ pub fn problem_of(
     requires known { KnowsAtoms base.now }
     requires few { length base.now.vocabulary.symbols ≤ 2 ^ 32 }
     requires fits { AllByRecursion (λ f. IsGroundable base.now f []) (map formula_view sentences.now) }
-    ensures { IfOk result (λ p. p ≡ problem_of_sentences base.now (map formula_view sentences.now)) }
+    ensures made { IfOk result (λ p. p ≡ problem_of_sentences base.now (map formula_view sentences.now)) }
+    ensures room { IfOk result (λ p. HasVars base.now p) }
 {
     let mut problem = start(alloc, base)?;
     for sentence in sentences {

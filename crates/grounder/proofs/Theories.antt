@@ -1,16 +1,21 @@
 -- A theory's sentences, and its problem.
-use Rattle.std.proofs.Common.{◌≡◌, ◌≤◌, List, [], sym, ap, subst, ◌∙◌}
+use Rattle.std.proofs.Common.{◌≡◌, ◌≤◌, List, [], ◌∷◌, sym, ap, subst, ◌∙◌}
 use Rattle.std.specs.List.{AllByRecursion}
-use Rattle.kb_logic.specs.Bounds.{TheoryIsBounded}
-use Rattle.kb_logic.specs.Bases.{Base}
+use Rattle.kb_logic.specs.Bounds.{TheoryIsBounded, TermIsBounded}
+use Rattle.kb_logic.specs.Bases.{Base, NamedTerm}
 use Rattle.kb_logic.specs.Trees.{FormulaTree}
 use Rattle.ground_core.specs.Problems.{ProblemState}
-use Rattle.def_ground.specs.Groundings.{ground_base, IsGroundTheory, IsGroundingOf, SaysClausesAlone, theory_problem}
+use Rattle.ground_core.specs.Meaning.{HasTermsInRange}
+use Rattle.def_ground.specs.AskedTerms.{with_all_asked}
+use Rattle.def_ground.specs.Groundings.{ground_base, IsGroundNumber, IsGroundTheory, IsGroundingOf, SaysClausesAlone}
+use Rattle.def_ground.specs.Groundings.{theory_problem, TermsAreBounded}
 use Rattle.def_ground.specs.Problems.{problem_of}
 use Rattle.def_ground.proofs.FewLaws.{problem-is-small}
-use Rattle.def_ground.proofs.KeepLaws.{problem-says-clauses}
-use Rattle.def_ground.proofs.ProblemLaws.{all-ground, problem-is-right}
+use Rattle.def_ground.proofs.AskedRanges.{terms-in-range}
+use Rattle.def_ground.proofs.ProblemLaws.{all-ground, problem-is-right, problem-says-clauses}
+use Rattle.ground_walk.specs.Askable.{IsAskable}
 use Rattle.ground_walk.specs.Groundable.{IsGroundable}
+use Rattle.ground_walk.proofs.AskableLaws.{bounded-askable}
 use Rattle.ground_walk.proofs.GroundableLaws.{sentences-groundable}
 use Rattle.grounder.specs.Weighing.{base_weight}
 
@@ -23,11 +28,28 @@ theory-groundable base typed bounded fs same =
     (sentences-groundable (ground_base base) base.theory.sentences
     (all-ground base typed base.theory.sentences typed.typed typed.plain) bounded.sentences)
 
--- what is made of its sentences is its problem
-module _ (base : Base) (typed : IsGroundTheory base) (fs : List FormulaTree) (same : fs ≡ base.theory.sentences)
-    (p : ProblemState) (made : p ≡ problem_of (ground_base base) fs) where
+-- its terms can be made numbers and weighted literals
+pub terms-askable : (base : Base) → IsGroundTheory base → TermsAreBounded base
+    → AllByRecursion (λ t. IsAskable (ground_base base) t.term) base.terms
+terms-askable base typed bounded = each base.terms typed.terms bounded
+  where
+    each : (ts : List NamedTerm) → AllByRecursion (IsGroundNumber base) ts
+        → AllByRecursion (λ (t : NamedTerm). TermIsBounded base.vocabulary base.known.domains t.term []) ts
+        → AllByRecursion (λ t. IsAskable (ground_base base) t.term) ts
+    each [] h k = tt
+    each (t ∷ ts) h k = (
+      bounded-askable (ground_base base) typed.known.domains t.term h.0.typed h.0.plain k.0,
+      each ts h.1 k.1,
+    )
+
+-- what is made of its sentences and terms is its problem
+module _ (base : Base) (typed : IsGroundTheory base) (fs : List FormulaTree) (ts : List NamedTerm)
+    (same : fs ≡ base.theory.sentences) (alike : ts ≡ base.terms) (p : ProblemState)
+    (made : p ≡ with_all_asked (ground_base base) ts (problem_of (ground_base base) fs)) where
   pub problem-value : p ≡ theory_problem base
-  problem-value = made ∙ ap (problem_of (ground_base base)) same
+  problem-value =
+      made ∙ ap (λ us. with_all_asked (ground_base base) us (problem_of (ground_base base) fs)) alike
+      ∙ ap (λ gs. with_all_asked (ground_base base) base.terms (problem_of (ground_base base) gs)) same
 
   pub problem-right : IsGroundingOf base p
   problem-right = subst (IsGroundingOf base) (sym problem-value) (problem-is-right base typed)
@@ -38,3 +60,6 @@ module _ (base : Base) (typed : IsGroundTheory base) (fs : List FormulaTree) (sa
 
   pub problem-of-clauses : SaysClausesAlone p
   problem-of-clauses = subst SaysClausesAlone (sym problem-value) (problem-says-clauses base)
+
+  pub problem-in-range : TermsAreBounded base → HasTermsInRange p
+  problem-in-range bounded = subst HasTermsInRange (sym problem-value) (terms-in-range base typed bounded)

@@ -1,26 +1,30 @@
 //! The ground problem of a theory of a file over its data.
-ghost use Rattle.std.specs.Prelude.{◌≡◌, ◌≤◌, ◌<◌, ◌^◌, [], length, map, IfOk, IfErr};
+ghost use Rattle.std.specs.Prelude.{◌≡◌, ◌≤◌, ◌<◌, ◌^◌, [], length, map, IfOk, IfErr, OnOk};
 ghost use Rattle.std.specs.List.{AllByRecursion};
 ghost use Rattle.kb_logic.specs.Bounds.{TheoryIsBounded};
 ghost use Rattle.kb_logic.specs.Views.{formula_view, theory_view};
-ghost use Rattle.reading_stages.specs.FileBases.{base_of_file, theory_at};
+ghost use Rattle.ground_core.specs.Meaning.{HasTermsInRange};
+ghost use Rattle.reading_stages.specs.FileBases.{base_of_file, named_term, theory_at};
 ghost use Rattle.reading_stages.specs.SizesStage.{capped, weight_limit};
-ghost use Rattle.type_derivation.specs.TypedViews.{typed_view};
-ghost use Rattle.term_values.specs.KnownBases.{AreDataOf, base_of_data};
-ghost use Rattle.def_ground.specs.Groundings.{IsGroundTheory, IsGroundingOf, SaysClausesAlone, theory_problem};
+ghost use Rattle.type_derivation.specs.TypedViews.{named_term_view, typed_view};
+ghost use Rattle.term_values.specs.KnownBases.{AreDataOf, IsGroundBase, base_of_data};
+ghost use Rattle.def_ground.specs.AskedTerms.{with_all_asked};
+ghost use Rattle.def_ground.specs.Groundings.{IsGroundTheory, IsGroundingOf, SaysClausesAlone, TermsAreBounded};
+ghost use Rattle.def_ground.specs.Groundings.{theory_problem};
 ghost use Rattle.def_ground.specs.Problems.{problem_of as problem_of_sentences};
-ghost use Rattle.ground_walk.specs.Groundable.{IsGroundable};
+ghost use Rattle.ground_walk.specs.Askable.{IsAskable};
+ghost use Rattle.ground_walk.specs.Groundable.{HasVars, IsGroundable};
 ghost use Rattle.grounder.specs.Weighing.{base_weight, IsRefused};
 
 use crate::errors::GroundError;
 use ground_core::{Memory, Problem};
-use ground_walk::problem_of;
-use kb_logic::{Formula, Theory, Vocabulary};
+use ground_walk::{problem_of, push_term};
+use kb_logic::{Formula, Term, Theory, Vocabulary};
 use kb_sizes::weight;
 use partial_structures::Partial;
 use std::alloc::Global;
 use term_values::GroundData;
-use type_derivation::TypedKb;
+use type_derivation::{Named, TypedKb};
 
 /// The greatest weight of a knowledge base that is made into a ground problem.
 const WEIGHT_LIMIT: u64 = 4_000_000;
@@ -46,28 +50,53 @@ fn weight_at(kb: &TypedKb, theory: usize, known: &Partial) -> u64
     )
 }
 
-/// The problem of sentences over the data.
+/// Names the terms that may be asked for.
+fn push_terms(
+    alloc: Global,
+    base: &GroundData<'_>,
+    terms: &[Named<Term>],
+    problem: &mut Problem,
+) -> Result<(), Memory>
+    requires given { IsGroundBase base.now }
+    requires room { HasVars base.now problem.old }
+    requires fits { AllByRecursion (λ t. IsAskable base.now t.term) (map named_term (map named_term_view terms.now)) }
+    ensures { OnOk result (problem.new
+        ≡ with_all_asked base.now (map named_term (map named_term_view terms.now)) problem.old) }
+{
+    for term in terms {
+        push_term(alloc, base, &term.name, &term.value, problem)?;
+    }
+    Ok(())
+}
+
+/// The problem of sentences over the data, with the terms that may be asked for.
 fn problem(
     alloc: Global,
     vocabulary: &Vocabulary,
     known: &Partial,
     sentences: &[Formula],
+    terms: &[Named<Term>],
 ) -> Result<Problem, Memory>
     requires known { AreDataOf vocabulary.now known.now }
     requires few { length vocabulary.now.symbols ≤ 2 ^ 32 }
     requires fits { AllByRecursion (λ f. IsGroundable (base_of_data vocabulary.now known.now) f [])
         (map formula_view sentences.now) }
-    ensures { IfOk result (λ p. p ≡ problem_of_sentences (base_of_data vocabulary.now known.now)
-        (map formula_view sentences.now)) }
+    requires asked { AllByRecursion (λ t. IsAskable (base_of_data vocabulary.now known.now) t.term)
+        (map named_term (map named_term_view terms.now)) }
+    ensures { IfOk result (λ p. p ≡ with_all_asked (base_of_data vocabulary.now known.now)
+        (map named_term (map named_term_view terms.now))
+        (problem_of_sentences (base_of_data vocabulary.now known.now) (map formula_view sentences.now))) }
 {
     let base = GroundData::new(alloc, vocabulary, known)?;
-    problem_of(alloc, &base, sentences)
+    let mut made = problem_of(alloc, &base, sentences)?;
+    push_terms(alloc, &base, terms, &mut made)?;
+    Ok(made)
 }
 
-/// The ground problem of the theory with this number over its data.
+/// The ground problem of the theory with this number over its data, with a term for each term of the file.
 ///
 /// The theory has no definitions, aggregates and number quantifiers, and is well typed over the domains of
-/// its data. The bounds of its terms lie from -10^15 to 10^15.
+/// its data, and so are the terms. The bounds of all terms lie from -10^15 to 10^15.
 pub fn ground(
     alloc: Global,
     kb: &TypedKb,
@@ -78,9 +107,11 @@ pub fn ground(
     requires few { length kb.now.vocab.symbols ≤ 2 ^ 32 }
     requires typed { IsGroundTheory (base_of_file (typed_view kb.now) theory known.now) }
     requires bounded { TheoryIsBounded kb.now.vocab known.now.domains (theory_at (typed_view kb.now) theory) }
+    requires asked { TermsAreBounded (base_of_file (typed_view kb.now) theory known.now) }
     ensures value { IfOk result (λ p. p ≡ theory_problem (base_of_file (typed_view kb.now) theory known.now)) }
     ensures right { IfOk result (λ p. IsGroundingOf (base_of_file (typed_view kb.now) theory known.now) p) }
     ensures clauses { IfOk result (λ p. SaysClausesAlone p) }
+    ensures range { IfOk result (λ p. HasTermsInRange p) }
     ensures small { IfOk result (λ p. p.vars ≤ base_weight (base_of_file (typed_view kb.now) theory known.now)) }
     ensures light { IfOk result (λ p. base_weight (base_of_file (typed_view kb.now) theory known.now) ≤ weight_limit) }
     ensures err { IfErr result (λ e. IsRefused (base_of_file (typed_view kb.now) theory known.now) e) }
@@ -89,7 +120,8 @@ pub fn ground(
         return Err(GroundError::TooLarge);
     }
     let sentences = theory_of(kb, theory).sentences.as_slice();
-    match problem(alloc, &kb.vocab, known, sentences) {
+    let terms = kb.terms.as_slice();
+    match problem(alloc, &kb.vocab, known, sentences, terms) {
         Ok(made) => Ok(made),
         Err(_) => Err(GroundError::Memory),
     }

@@ -34,10 +34,7 @@ fn sentence_of(cause: K) -> (&'static [u8], &'static [u8]) {
             b"",
             b" may not stand in the head of a rule: variables, integers and constructed names may",
         ),
-        K::OutOfRange => (
-            b"the number or the term at ",
-            b" may leave the range of integers",
-        ),
+        K::OutOfRange => (b"the number or term at ", b" is out of range, or may be"),
         K::TooLarge => (b"", b" brings a count above its limit"),
         K::TooLong => (b"the file has more than 4,194,304 bytes", b""),
         K::TooDeep => (

@@ -57,7 +57,7 @@ const HABITS: [Habit; 22] = [
     },
     Habit {
         sign: b"->",
-        advice: b"in a theory 'implies' is written =>; a function's row in a structure is a->b",
+        advice: b"'implies' is written =>; a function is declared as f(T) : U, and its rows stand in a structure as a->b",
     },
     Habit {
         sign: b"<->",
@@ -111,7 +111,8 @@ const STOP: &[u8] = b"a sentence ends with a full stop";
 const LISTED: &[u8] =
     b"names that a structure lists mean nothing in a theory: declare their type constructed from {..}";
 
-const RANGE: &[u8] = b"a range has integers alone, as {1..10}: list the names, as {c1; c2; c3}";
+const RANGE: &[u8] =
+    b"a range is of integers, in a list of one column, as {1..10}: list the names or the rows, as {c1; c2; c3}";
 
 const DEFINITION: &[u8] =
     b"definitions are not read yet: where one rule says all of its head, write head <=> body.";

@@ -53,7 +53,8 @@ module _ (b : GroundBase) (is : IsGroundBase b) (v w : ℕ → Bool) (j : ℕ) (
     (at : slice_get (atoms_over b.vocabulary.symbols b.domains) j ≡ Some a) (other : w (suc j) ≡ not (v (suc j)))
     (same : structure_of b v ≡ structure_of b w) where
   there : v (suc j) ≡ true → w (suc j) ≡ true
-  there on = (atom-true b is w j a at).0 (subst (λ (m : Structure). AtomHolds m a) same ((atom-true b is v j a at).1 on))
+  there on = (atom-true b is w j a at).0
+      (subst (λ (m : Structure). AtomHolds m a) same ((atom-true b is v j a at).1 on))
 
   back : w (suc j) ≡ true → v (suc j) ≡ true
   back on = (atom-true b is v j a at).0

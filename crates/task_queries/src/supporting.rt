@@ -29,7 +29,8 @@ pub fn support<S: Solve>(
     requires literal { IsAtomOver task.old.numbers.vocabulary.symbols task.old.numbers.domains (atom_of literal.now) }
     requires budget { IsBudgetOf (S.state task.old.solver).learnt budget.old }
     ensures answer { IfOk result (λ a. (base : Base)
-        → IsTaskOf base task.old.numbers (S.state task.old.solver).problem → AnswersSupport base choices.now literal.now a) }
+        → IsTaskOf base task.old.numbers (S.state task.old.solver).problem
+        → AnswersSupport base choices.now literal.now a) }
     ensures task { (base : Base) → IsTaskOf base task.old.numbers (S.state task.old.solver).problem
         → IsTaskOf base task.new.numbers (S.state task.new.solver).problem }
     ensures halt { IfErr result (HaltedAt budget.new) }

@@ -79,18 +79,18 @@ all-both : {X : Type 0} (P : X → Type 0) (xs ys : List X) → AllByRecursion P
 all-both P [] ys h k = k
 all-both P (x ∷ xs) ys h k = (h.0, all-both P xs ys h.1 k)
 
-all-flat : {X Y : Type 0} (P : X → Type 0) (Q : Y → Type 0) (f : X → List Y) → ((x : X) → P x → AllByRecursion Q (f x))
+pub all-flat : {X Y : Type 0} (P : X → Type 0) (Q : Y → Type 0) (f : X → List Y) → ((x : X) → P x → AllByRecursion Q (f x))
     → (xs : List X) → AllByRecursion P xs → AllByRecursion Q (flat_map f xs)
 all-flat P Q f each [] h = tt
 all-flat P Q f each (x ∷ xs) h = all-both Q (f x) (flat_map f xs) (each x h.0) (all-flat P Q f each xs h.1)
 
-all-mapped : {X Y : Type 0} (P : X → Type 0) (Q : Y → Type 0) (f : X → Y) → ((x : X) → P x → Q (f x)) → (xs : List X)
+pub all-mapped : {X Y : Type 0} (P : X → Type 0) (Q : Y → Type 0) (f : X → Y) → ((x : X) → P x → Q (f x)) → (xs : List X)
     → AllByRecursion P xs → AllByRecursion Q (map f xs)
 all-mapped P Q f each [] h = tt
 all-mapped P Q f each (x ∷ xs) h = (each x h.0, all-mapped P Q f each xs h.1)
 
 -- the row's value is an element of the type
-abbrev IsIn : List (List Elem) → ℕ → List Lit × Denotation → Type 0
+abbrev pub IsIn : List (List Elem) → ℕ → List Lit × Denotation → Type 0
 IsIn domains ty r = (x : Elem) × Contains (domain_at domains ty) x × (r.1 ≡ denotation_of x)
 
 -- its values are a tuple over the types
@@ -146,7 +146,7 @@ module _ (b : GroundBase) (s : ℕ) (d : Symbol) (at : slice_get b.vocabulary.sy
 module _ (b : GroundBase) (scope : List ℕ) (e : List Elem) (types : HasTypes b.domains scope e) where
   mutual
     -- the values of an argument are of its type
-    of-type : (ty : ℕ) (t : TermTree) → IsOfType b.vocabulary b.domains scope ty t
+    pub of-type : (ty : ℕ) (t : TermTree) → IsOfType b.vocabulary b.domains scope ty t
         → IsTypedTerm b.vocabulary b.domains scope t → AllByRecursion (IsIn b.domains ty) (rows_of_term b t e)
     of-type ty (variable n) h k =
         let x = each-at (λ (u : ℕ) (y : Elem). Contains (domain_at b.domains u) y) scope e n h.0 types h.1 in

@@ -44,8 +44,10 @@ is_open-requires-clause-found g c =
     (c.requires.asked c.loop-lit.lit-index zero_lit c.loop-lit-test.true))
 
 pub is_open-requires-clause-seen : goal.is_open-requires-clause-seen
-is_open-requires-clause-seen g c = λ k d lt. subst (λ (n : ℕ). n < length (get_or c.args.seen.now k d))
-    (sym c.requires.atoms) (c.requires.seen k d lt).atoms
+is_open-requires-clause-seen g c = λ k d lt.
+    let long = (c.requires.seen k d lt).atoms in
+    let few = c.requires.atoms in
+    omega (arith, long, few)
 
 pub decide-requires-clause-literals : goal.decide-requires-clause-literals
 decide-requires-clause-literals g c =

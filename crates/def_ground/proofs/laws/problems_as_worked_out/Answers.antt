@@ -9,4 +9,5 @@ returns c = record {
   order_vars = refl;
   order_gates = refl;
   order_clauses = refl;
+  difference_terms = refl;
 }

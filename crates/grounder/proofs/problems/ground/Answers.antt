@@ -2,9 +2,10 @@ use Rattle.std.proofs.Common.{◌≡◌, map, ap, ◌∙◌}
 use Rattle.kb_logic.specs.Bases.{Base}
 use Rattle.kb_logic.specs.Trees.{TheoryTree}
 use Rattle.kb_logic.specs.Views.{formula_view}
-use Rattle.reading_stages.specs.FileBases.{base_of_file}
-use Rattle.type_derivation.specs.TypedViews.{typed_view}
-use Rattle.grounder.proofs.Theories.{problem-of-clauses, problem-right, problem-small, theory-groundable}
+use Rattle.reading_stages.specs.FileBases.{base_of_file, named_term}
+use Rattle.type_derivation.specs.TypedViews.{named_term_view, typed_view}
+use Rattle.grounder.proofs.Theories.{problem-of-clauses, problem-right, problem-small, problem-in-range}
+use Rattle.grounder.proofs.Theories.{problem-value, theory-groundable, terms-askable}
 use Rattle.grounder.proofs.problems.ground.Goals as goal
 
 pub problem-requires-clause-fits : goal.problem-requires-clause-fits
@@ -15,26 +16,57 @@ problem-requires-clause-fits c =
     ∙ ap (λ (t : TheoryTree). t.sentences) c.theory_of.ensures in
     theory-groundable base c.requires.typed c.requires.bounded fs same
 
+pub problem-requires-clause-asked : goal.problem-requires-clause-asked
+problem-requires-clause-asked c =
+    let base : Base = base_of_file (typed_view c.args.kb.now) c.args.theory c.args.known.now in
+    rw c.as_slice-terms.ensures (terms-askable base c.requires.typed c.requires.asked)
+
+pub returns-in-Ok-clause-value : goal.returns-in-Ok-clause-value
+returns-in-Ok-clause-value c =
+    let base : Base = base_of_file (typed_view c.args.kb.now) c.args.theory c.args.known.now in
+    let fs = map formula_view c.as_slice-sentences.result.now in
+    let ts = map named_term (map named_term_view c.as_slice-terms.result.now) in
+    let same : fs ≡ base.theory.sentences = ap (map formula_view) c.as_slice-sentences.ensures
+    ∙ ap (λ (t : TheoryTree). t.sentences) c.theory_of.ensures in
+    let alike : ts ≡ base.terms = ap (λ us. map named_term (map named_term_view us)) c.as_slice-terms.ensures in
+    problem-value base c.requires.typed fs ts same alike c.in-Ok.made c.in-Ok.ensures
+
 pub returns-in-Ok-clause-right : goal.returns-in-Ok-clause-right
 returns-in-Ok-clause-right c =
     let base : Base = base_of_file (typed_view c.args.kb.now) c.args.theory c.args.known.now in
     let fs = map formula_view c.as_slice-sentences.result.now in
+    let ts = map named_term (map named_term_view c.as_slice-terms.result.now) in
     let same : fs ≡ base.theory.sentences = ap (map formula_view) c.as_slice-sentences.ensures
     ∙ ap (λ (t : TheoryTree). t.sentences) c.theory_of.ensures in
-    problem-right base c.requires.typed fs same c.in-Ok.made c.in-Ok.ensures
+    let alike : ts ≡ base.terms = ap (λ us. map named_term (map named_term_view us)) c.as_slice-terms.ensures in
+    problem-right base c.requires.typed fs ts same alike c.in-Ok.made c.in-Ok.ensures
 
 pub returns-in-Ok-clause-small : goal.returns-in-Ok-clause-small
 returns-in-Ok-clause-small c =
     let base : Base = base_of_file (typed_view c.args.kb.now) c.args.theory c.args.known.now in
     let fs = map formula_view c.as_slice-sentences.result.now in
+    let ts = map named_term (map named_term_view c.as_slice-terms.result.now) in
     let same : fs ≡ base.theory.sentences = ap (map formula_view) c.as_slice-sentences.ensures
     ∙ ap (λ (t : TheoryTree). t.sentences) c.theory_of.ensures in
-    problem-small base c.requires.typed fs same c.in-Ok.made c.in-Ok.ensures
+    let alike : ts ≡ base.terms = ap (λ us. map named_term (map named_term_view us)) c.as_slice-terms.ensures in
+    problem-small base c.requires.typed fs ts same alike c.in-Ok.made c.in-Ok.ensures
 
 pub returns-in-Ok-clause-clauses : goal.returns-in-Ok-clause-clauses
 returns-in-Ok-clause-clauses c =
     let base : Base = base_of_file (typed_view c.args.kb.now) c.args.theory c.args.known.now in
     let fs = map formula_view c.as_slice-sentences.result.now in
+    let ts = map named_term (map named_term_view c.as_slice-terms.result.now) in
     let same : fs ≡ base.theory.sentences = ap (map formula_view) c.as_slice-sentences.ensures
     ∙ ap (λ (t : TheoryTree). t.sentences) c.theory_of.ensures in
-    problem-of-clauses base c.requires.typed fs same c.in-Ok.made c.in-Ok.ensures
+    let alike : ts ≡ base.terms = ap (λ us. map named_term (map named_term_view us)) c.as_slice-terms.ensures in
+    problem-of-clauses base c.requires.typed fs ts same alike c.in-Ok.made c.in-Ok.ensures
+
+pub returns-in-Ok-clause-range : goal.returns-in-Ok-clause-range
+returns-in-Ok-clause-range c =
+    let base : Base = base_of_file (typed_view c.args.kb.now) c.args.theory c.args.known.now in
+    let fs = map formula_view c.as_slice-sentences.result.now in
+    let ts = map named_term (map named_term_view c.as_slice-terms.result.now) in
+    let same : fs ≡ base.theory.sentences = ap (map formula_view) c.as_slice-sentences.ensures
+    ∙ ap (λ (t : TheoryTree). t.sentences) c.theory_of.ensures in
+    let alike : ts ≡ base.terms = ap (λ us. map named_term (map named_term_view us)) c.as_slice-terms.ensures in
+    problem-in-range base c.requires.typed fs ts same alike c.in-Ok.made c.in-Ok.ensures c.requires.asked

@@ -4,6 +4,9 @@ use Rattle.kb_logic.specs.Views.{formula_view}
 use Rattle.term_values.specs.GroundBases.{GroundBase}
 use Rattle.term_values.specs.KnownBases.{IsGroundBase}
 use Rattle.term_values.proofs.KnownLaws.{ground-base}
+use Rattle.reading_stages.specs.FileBases.{named_term}
+use Rattle.type_derivation.specs.TypedViews.{named_term_view}
+use Rattle.ground_walk.specs.Askable.{IsAskable}
 use Rattle.ground_walk.specs.Groundable.{IsGroundable, KnowsAtoms}
 use Rattle.ground_walk.proofs.GroundableLaws.{knows-atoms}
 use Rattle.grounder.proofs.problems.problem.Goals as goal
@@ -22,3 +25,13 @@ pub problem_of-requires-clause-fits : goal.problem_of-requires-clause-fits
 problem_of-requires-clause-fits c =
     subst (λ (b : GroundBase). AllByRecursion (λ f. IsGroundable b f []) (map formula_view c.args.sentences.now))
     (sym c.in_ok-base.ensures) c.requires.fits
+
+pub push_terms-requires-clause-given : goal.push_terms-requires-clause-given
+push_terms-requires-clause-given c =
+    subst (λ (b : GroundBase). IsGroundBase b) (sym c.in_ok-base.ensures)
+    (ground-base c.args.vocabulary.now c.args.known.now c.requires.known (λ k. true))
+
+pub push_terms-requires-clause-fits : goal.push_terms-requires-clause-fits
+push_terms-requires-clause-fits c =
+    subst (λ (b : GroundBase). AllByRecursion (λ t. IsAskable b t.term)
+    (map named_term (map named_term_view c.args.terms.now))) (sym c.in_ok-base.ensures) c.requires.asked

@@ -32,8 +32,8 @@ returns-then-is_empty-clause-answer g c = λ base h.
     let t : SolveState = g.S.Solve.state c.several.new.s.solver in
     let found = subst (λ (ls : List Lit). FindsSeveral p ls c.args.most t.cores c.in-Ok-several.found)
     c.as_slice.ensures.value c.in-Ok-several.ensures.finds in
-    none-several base c.args.task.now.numbers p h c.args.choices.now c.in-Ok.lits.items c.in-Ok.ensures c.args.most t.cores
-    c.in-Ok-several.found.found c.in-Ok-several.found.complete c.requires.most
+    none-several base c.args.task.now.numbers p h c.args.choices.now c.in-Ok.lits.items c.in-Ok.ensures c.args.most
+    t.cores c.in-Ok-several.found.found c.in-Ok-several.found.complete c.requires.most
     (is-empty c.in-Ok-several.found.found c.if-is_empty.ensures) found
 
 pub returns-in-Ok-structures_of-clause-answer : goal.returns-in-Ok-structures_of-clause-answer

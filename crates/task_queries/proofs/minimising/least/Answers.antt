@@ -33,7 +33,8 @@ returns-in-Ok-None-clause-answer g c = λ base h.
     let t : SolveState = g.S.Solve.state c.least.new.s.solver in
     let found = subst (λ (ls : List Lit). FindsLeast p ls c.args.term t.cores t.problem.bounds c.in-Ok-None.field-0)
     c.as_slice.ensures.value c.in-Ok-None.ensures.least in
-    let told = subst (FindsLeast p c.in-Ok.lits.items c.args.term t.cores t.problem.bounds) c.in-Ok-None.field-0-is found in
+    let told = subst (FindsLeast p c.in-Ok.lits.items c.args.term t.cores t.problem.bounds)
+    c.in-Ok-None.field-0-is found in
     no-model base c.args.task.now.numbers p h c.args.choices.now c.in-Ok.lits.items c.in-Ok.ensures told.0
 
 pub returns-in-Ok-structure_of-clause-answer : goal.returns-in-Ok-structure_of-clause-answer
@@ -42,7 +43,8 @@ returns-in-Ok-structure_of-clause-answer g c = λ base h.
     let t : SolveState = g.S.Solve.state c.least.new.s.solver in
     let found = subst (λ (ls : List Lit). FindsLeast p ls c.args.term t.cores t.problem.bounds c.in-Ok-Some.field-0)
     c.as_slice.ensures.value c.in-Ok-Some.ensures.least in
-    let told = subst (FindsLeast p c.in-Ok.lits.items c.args.term t.cores t.problem.bounds) c.in-Ok-Some.field-0-is found in
+    let told = subst (FindsLeast p c.in-Ok.lits.items c.args.term t.cores t.problem.bounds)
+    c.in-Ok-Some.field-0-is found in
     subst (IsLeast base (under c.args.choices.now) c.args.term c.in-Ok-Some.minimum.value)
     (ap (λ (b : GroundBase). structure_of b (valuation c.in-Ok-Some.minimum.values)) c.least.ensures.later.1
     ∙ sym c.in-Ok-structure_of.ensures)

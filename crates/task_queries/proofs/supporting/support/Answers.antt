@@ -64,8 +64,8 @@ returns-in-Ok-Free-clause-answer g c = λ base h.
     let p : ProblemState = (g.S.Solve.state c.args.task.now.solver).problem in
     let t : SolveState = g.S.Solve.state c.support.new.s.solver in
     let target : Lit = c.lit_of-target.result in
-    let found = subst (λ (ls : List Lit). FindsSupport p ls target t.cores c.in-Ok-Free.field-0) c.as_slice.ensures.value
-    c.in-Ok-Free.ensures.finds in
+    let found = subst (λ (ls : List Lit). FindsSupport p ls target t.cores c.in-Ok-Free.field-0)
+    c.as_slice.ensures.value c.in-Ok-Free.ensures.finds in
     let told = subst (FindsSupport p c.in-Ok.lits.items target t.cores) c.in-Ok-Free.field-0-is found in
     is-false base c.args.task.now.numbers p h c.args.literal.now target c.lit_of-target.ensures c.args.choices.now
     c.in-Ok.lits.items c.in-Ok.ensures _ told.1 told.2 told.3
@@ -75,8 +75,8 @@ returns-in-Ok-Inconsistent-clause-answer g c = λ base h.
     let p : ProblemState = (g.S.Solve.state c.args.task.now.solver).problem in
     let t : SolveState = g.S.Solve.state c.support.new.s.solver in
     let target : Lit = c.lit_of-target.result in
-    let found = subst (λ (ls : List Lit). FindsSupport p ls target t.cores c.in-Ok-Inconsistent.field-0) c.as_slice.ensures.value
-    c.in-Ok-Inconsistent.ensures.finds in
+    let found = subst (λ (ls : List Lit). FindsSupport p ls target t.cores c.in-Ok-Inconsistent.field-0)
+    c.as_slice.ensures.value c.in-Ok-Inconsistent.ensures.finds in
     let told = subst (FindsSupport p c.in-Ok.lits.items target t.cores) c.in-Ok-Inconsistent.field-0-is found in
     no-model base c.args.task.now.numbers p h c.args.choices.now c.in-Ok.lits.items c.in-Ok.ensures told.0
 
