@@ -6,7 +6,7 @@ use Rattle.consult_text.specs.declared.commands.Command.TheVariants as command
 use Rattle.consult_text.specs.RightReplies.{RightAnswer}
 use Rattle.consultant_session.proofs.FoundLemmas.{choices_over}
 use Rattle.consultant_session.proofs.QueryLemmas.{still_over, query_searches}
-use Rattle.consultant_session.proofs.session.asking.Session.model.Goals as goal
+use Rattle.consultant_session.proofs.session.Session.model.Goals as goal
 
 pub model-requires-clause-task : goal.model-requires-clause-task
 model-requires-clause-task g c = (base_of c.self.inside.kb, c.self.invariant.over.task)

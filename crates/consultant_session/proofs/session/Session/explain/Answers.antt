@@ -9,7 +9,7 @@ use Rattle.consultant_session.proofs.QueryLemmas.{still_over, query_searches}
 use Rattle.kb_logic.specs.Models.{IsAtomOver, atom_of}
 use Rattle.term_values.specs.GroundBases.{GroundBase}
 use Rattle.consultant_session.proofs.FoundLemmas.{atom_over}
-use Rattle.consultant_session.proofs.session.asking.Session.explain.Goals as goal
+use Rattle.consultant_session.proofs.session.Session.explain.Goals as goal
 
 pub explain-requires-clause-task : goal.explain-requires-clause-task
 explain-requires-clause-task g c = (base_of c.self.inside.kb, c.self.invariant.over.task)

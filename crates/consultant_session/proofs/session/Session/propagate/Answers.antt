@@ -8,7 +8,7 @@ use Rattle.consultant_session.proofs.FoundLemmas.{choices_over}
 use Rattle.consultant_session.proofs.QueryLemmas.{still_over, query_searches}
 use Rattle.forced_literals.specs.OpenTasks.{IsOpenTaskOf}
 use Rattle.consultant_session.proofs.OpenLemmas.{open-task}
-use Rattle.consultant_session.proofs.session.asking.Session.propagate.Goals as goal
+use Rattle.consultant_session.proofs.session.Session.propagate.Goals as goal
 
 pub propagate-requires-clause-task : goal.propagate-requires-clause-task
 propagate-requires-clause-task g c = (

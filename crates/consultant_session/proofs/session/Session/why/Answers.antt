@@ -6,7 +6,7 @@ use Rattle.consult_text.specs.declared.commands.Command.TheVariants as command
 use Rattle.consult_text.specs.RightReplies.{RightAnswer}
 use Rattle.consultant_session.proofs.FoundLemmas.{choices_over}
 use Rattle.consultant_session.proofs.QueryLemmas.{still_over, query_searches}
-use Rattle.consultant_session.proofs.session.asking.Session.why.Goals as goal
+use Rattle.consultant_session.proofs.session.Session.why.Goals as goal
 
 pub why-requires-clause-task : goal.why-requires-clause-task
 why-requires-clause-task g c = (base_of c.self.inside.kb, c.self.invariant.over.task)
