@@ -21,19 +21,21 @@ pub if_ok : {A E : Type 0} {P Q R : A → Type 0} (r : Result A E) → ((x : A) 
 if_ok (Ok x) f p q = f x p q
 if_ok (Err e) f p q = tt
 
+-- the atom of a literal over the knowledge base is one of its atoms
+pub atom_over : (kb : Base) (l : Literal) → IsLiteralOver kb l
+    → IsAtomOver kb.vocabulary.symbols kb.known.domains (atom_of l)
+atom_over kb l over = (
+  over.symbol,
+  over.declared,
+  elements_tuple kb.known.domains over.symbol.args l.args over.args,
+  over.value,
+)
+
 -- the choices are over the atoms of the task
 over_at : (kb : Base) (ls : List Literal) → AllByRecursion (IsLiteralOver kb) ls
     → AllByRecursion (λ l. IsAtomOver kb.vocabulary.symbols kb.known.domains (atom_of l)) ls
 over_at kb [] over = tt
-over_at kb (l ∷ ls) over = (
-  (
-    over.0.symbol,
-    over.0.declared,
-    elements_tuple kb.known.domains over.0.symbol.args l.args over.0.args,
-    over.0.value,
-  ),
-  over_at kb ls over.1,
-)
+over_at kb (l ∷ ls) over = (atom_over kb l over.0, over_at kb ls over.1)
 
 pub choices_over : (kb : Base) (numbers : GroundBase) (p : ProblemState) (ls : List Literal) → IsTaskOf kb numbers p
     → AllByRecursion (IsLiteralOver kb) ls → AreOver numbers ls

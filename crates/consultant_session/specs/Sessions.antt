@@ -20,8 +20,8 @@ pub record SessionState : Type 0 where
   pub solver : SolveState
 
 -- a session to which no command was given
-pub record IsJustOpened (kb : Opened) (budget : Option ℕ) (s : SessionState) : Type 0 where
-  pub kb : s.kb ≡ kb
+pub record IsJustOpened (k : Opened) (budget : Option ℕ) (s : SessionState) : Type 0 where
+  pub kb : s.kb ≡ k
   pub state : s.state ≡ first_state budget
   pub learnt : s.solver.learnt ≡ []
 
@@ -30,10 +30,10 @@ abbrev pub AreChoicesOver : Opened → List Literal → Type 0
 AreChoicesOver kb choices = AllByRecursion (IsLiteralOver (base_of kb)) choices
 
 -- the choices are over the knowledge base, the task is one of it, and these atoms' variables are unknown in its data
-pub record IsSession (kb : Opened) (choices : List Literal) (unknown : List Lit) (numbers : GroundBase)
+pub record IsSession (kb : Opened) (ls : List Literal) (lits : List Lit) (numbers : GroundBase)
     (solver : SolveState) : Type 0 where
-  pub choices : AreChoicesOver kb choices
-  pub unknown : AreUnknownOf (base_of kb) unknown
+  pub choices : AreChoicesOver kb ls
+  pub unknown : AreUnknownOf (base_of kb) lits
   pub over : IsTaskOver (base_of kb) numbers solver
 
 -- the command may stay without a reply because memory ran out

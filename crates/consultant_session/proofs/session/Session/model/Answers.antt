@@ -1,0 +1,37 @@
+use Rattle.std.proofs.Common.{◌≡◌, List, IfOk, sym, subst}
+use Rattle.kb_logic.specs.declared.structures.Literal.{Literal}
+use Rattle.ground_task.specs.Choices.{AreOver}
+use Rattle.consult_base.specs.Opened.{base_of}
+use Rattle.consult_text.specs.declared.commands.Command.TheVariants as command
+use Rattle.consult_text.specs.RightReplies.{RightAnswer}
+use Rattle.consultant_session.proofs.FoundLemmas.{choices_over}
+use Rattle.consultant_session.proofs.QueryLemmas.{still_over, query_searches}
+use Rattle.consultant_session.proofs.session.Session.model.Goals as goal
+
+pub model-requires-clause-task : goal.model-requires-clause-task
+model-requires-clause-task g c = (base_of c.self.inside.kb, c.self.invariant.over.task)
+
+pub model-requires-clause-choices : goal.model-requires-clause-choices
+model-requires-clause-choices g c =
+    subst (AreOver c.self.inside.task.numbers) (sym c.as_slice.ensures)
+    (choices_over (base_of c.self.inside.kb) c.self.inside.task.numbers c.self.inside.task.solver.kept.problem
+    c.self.inside.choices c.self.invariant.over.task c.self.invariant.choices)
+
+pub returns-clause-right : goal.returns-clause-right
+returns-clause-right g c =
+    rw (← c.self.view_is) (subst (λ (ls : List Literal). IfOk c.model.result
+    (RightAnswer (base_of c.self.inside.kb) (record { choices = ls; budget = c.self.inside.budget }) command.Model))
+    c.as_slice.ensures
+    (c.model.ensures.right (base_of c.self.inside.kb) c.self.invariant.over.task c.self.invariant.over.free))
+
+pub returns-clause-searches : goal.returns-clause-searches
+returns-clause-searches g c =
+    rw (← c.self.view_is) (query_searches _ (base_of c.self.inside.kb) command.Model _ _ _ _ _ _ _ c.model.ensures
+    c.self.invariant.over)
+
+pub invariant_of-self : goal.invariant_of-self
+invariant_of-self g c = record {
+  choices = c.self.invariant.choices;
+  unknown = c.self.invariant.unknown;
+  over = still_over _ (base_of c.self.inside.kb) command.Model _ _ _ _ _ _ _ c.model.ensures c.self.invariant.over;
+}

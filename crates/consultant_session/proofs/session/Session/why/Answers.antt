@@ -1,0 +1,37 @@
+use Rattle.std.proofs.Common.{◌≡◌, List, IfOk, sym, subst}
+use Rattle.kb_logic.specs.declared.structures.Literal.{Literal}
+use Rattle.ground_task.specs.Choices.{AreOver}
+use Rattle.consult_base.specs.Opened.{base_of}
+use Rattle.consult_text.specs.declared.commands.Command.TheVariants as command
+use Rattle.consult_text.specs.RightReplies.{RightAnswer}
+use Rattle.consultant_session.proofs.FoundLemmas.{choices_over}
+use Rattle.consultant_session.proofs.QueryLemmas.{still_over, query_searches}
+use Rattle.consultant_session.proofs.session.Session.why.Goals as goal
+
+pub why-requires-clause-task : goal.why-requires-clause-task
+why-requires-clause-task g c = (base_of c.self.inside.kb, c.self.invariant.over.task)
+
+pub why-requires-clause-choices : goal.why-requires-clause-choices
+why-requires-clause-choices g c =
+    subst (AreOver c.self.inside.task.numbers) (sym c.as_slice.ensures)
+    (choices_over (base_of c.self.inside.kb) c.self.inside.task.numbers c.self.inside.task.solver.kept.problem
+    c.self.inside.choices c.self.invariant.over.task c.self.invariant.choices)
+
+pub returns-clause-right : goal.returns-clause-right
+returns-clause-right g c =
+    rw (← c.self.view_is) (subst (λ (ls : List Literal). IfOk c.why.result
+    (RightAnswer (base_of c.self.inside.kb) (record { choices = ls; budget = c.self.inside.budget }) command.Why))
+    c.as_slice.ensures
+    (c.why.ensures.right (base_of c.self.inside.kb) c.self.invariant.over.task c.self.invariant.over.free))
+
+pub returns-clause-searches : goal.returns-clause-searches
+returns-clause-searches g c =
+    rw (← c.self.view_is) (query_searches _ (base_of c.self.inside.kb) command.Why _ _ _ _ _ _ _ c.why.ensures
+    c.self.invariant.over)
+
+pub invariant_of-self : goal.invariant_of-self
+invariant_of-self g c = record {
+  choices = c.self.invariant.choices;
+  unknown = c.self.invariant.unknown;
+  over = still_over _ (base_of c.self.inside.kb) command.Why _ _ _ _ _ _ _ c.why.ensures c.self.invariant.over;
+}
