@@ -8,6 +8,7 @@ mod Replying
 mod Consulting
 mod Elimination
 mod LiteralsOver
+mod ReadableValues
 mod OneAnswer
 mod LongFiles
 mod FileLaws

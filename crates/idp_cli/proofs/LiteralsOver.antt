@@ -1,5 +1,5 @@
 -- The literals of all atoms are literals over the knowledge base.
-use Rattle.std.proofs.Common.{◌≡◌, ◌∙◌, ℕ, List, [], ◌∷◌, map, refl, sym, ap, subst, inl, inr, arith, Option, Some, None}
+use Rattle.std.proofs.Common.{◌≡◌, ◌∙◌, ℕ, List, map, sym, ap, subst, inl, inr, arith, Option, Some, None}
 use Rattle.std.proofs.Common.{slice_get, Bool, true, false}
 use Rattle.std.specs.List.{AllByRecursion, Contains, enumerate_from}
 use Rattle.kb_logic.specs.declared.elements.Elem.{Elem}
@@ -10,7 +10,7 @@ use Rattle.kb_logic.specs.InForce.{literal_with, both_literals, literals_over}
 use Rattle.kb_logic.specs.KnownAtoms.{atoms_with, atoms_over}
 use Rattle.kb_logic.specs.Lists.{IsSublist}
 use Rattle.kb_logic.specs.Models.{GroundAtom, HasValueIn}
-use Rattle.kb_logic.specs.Structures.{IsRowOver, domain_at, tuples_of}
+use Rattle.kb_logic.specs.Structures.{domain_at, tuples_of}
 use Rattle.kb_logic.proofs.Atoms.{numbered_at, tuple_elements}
 use Rattle.kb_logic.proofs.Has.{Has, has_from, contains_from, map_has, flat_map_has}
 use Rattle.kb_logic.proofs.Members.{in_all}

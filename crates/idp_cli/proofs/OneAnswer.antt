@@ -1,6 +1,6 @@
 -- The printed bytes determine what was answered.
-use Rattle.std.proofs.Common.{◌≡◌, ℕ, ◌≤◌, ◌<◌, ◌^◌, List, [], ◌∷◌, ◌++◌, refl, sym, ap, ◌∙◌, subst, Bool, true, false}
-use Rattle.std.proofs.Common.{cond, not, filter, length, arith, Option, Some, None, Ok, Err, inl, inr}
+use Rattle.std.proofs.Common.{◌≡◌, ℕ, ◌<◌, ◌^◌, List, [], ◌∷◌, ◌++◌, refl, sym, ap, ◌∙◌, subst, Bool, true, false}
+use Rattle.std.proofs.Common.{cond, not, filter, arith, Option, Some, None, Ok, Err, inl, inr}
 use Rattle.std.specs.List.{AllByRecursion}
 use Rattle.std.proofs.lemmas.List.{append_cancel_left}
 use Rattle.kb_logic.specs.declared.structures.Structure.{Structure}
@@ -11,7 +11,6 @@ use Rattle.consult_text.specs.declared.commands.Command.TheVariants as command
 use Rattle.consult_text.specs.declared.refusals.F.{F}
 use Rattle.consult_text.specs.declared.replies.Reply.{Reply}
 use Rattle.consult_text.specs.declared.replies.Reply.TheVariants as reply
-use Rattle.consult_text.specs.Budgets.{most_budget}
 use Rattle.consult_text.specs.Written as written
 use Rattle.consult_text.specs.Written.{WrittenCommand, IsWellFormed}
 use Rattle.consult_text.specs.Lines.{HasCommand, Asks, IsCommandOver}
@@ -25,6 +24,7 @@ use Rattle.consult_text.specs.States.{state_after}
 use Rattle.consult_text.specs.RightReplies.{in_force, IsSo, RightAnswer, RightUnless, RightReply}
 use Rattle.consultant_session.proofs.FoundLemmas.{of_some}
 use Rattle.idp_cli.proofs.LiteralsOver.{some_over}
+use Rattle.idp_cli.proofs.ReadableValues.{readable}
 use Rattle.idp_cli.specs.Turns.{reply_of}
 use Rattle.idp_cli.specs.Consultation.{Said, nothing, too_long, refused, replied, IsRightAnswer, state_left, said_text}
 use Rattle.idp_cli.specs.Consultation.{said_texts, Consultation}
@@ -57,6 +57,11 @@ answer_over kb s c (reply.Models ms all) over is = several c is.1
     several (command.Models n) is = models_over kb (in_force s) ms is.models
     several c is = absurd is
 answer_over kb s c (reply.Forced ls) over is = some_over kb ls is.1.order
+answer_over kb s c (reply.Minimum v m) over is = least c is.1
+  where
+    least : (c : Command) → IsSo kb s c (reply.Minimum v m) → IsStructureOver kb m
+    least (command.Minimize t) is = model_over kb (in_force s) m is.model
+    least c is = absurd is
 answer_over kb s c (reply.Supported ls) over is = supported c is.1
   where
     supported : (c : Command) → IsSo kb s c (reply.Supported ls) → AllByRecursion (IsLiteralOver kb) ls
@@ -93,7 +98,8 @@ module _ (meanings : (kb : Base) (line : List ℕ) → HasOneMeaning kb line) (t
   same_command kb s c r q after after' names over right right' same =
       let f = command_refusal kb s c in
       let both = texts kb names c r q after after' (reply_to f kb s c r right)
-      (reply_to f kb s c q right') (reply_over f kb s c r over right) (reply_over f kb s c q over right') same in
+      (reply_to f kb s c q right') (reply_over f kb s c r over right) (reply_over f kb s c q over right')
+      (readable f kb s c r q right right') same in
       (ap (λ (r : Reply). Some r) both.0, refl, both.1)
 
   pub one_answer : OneAnswerLaw
@@ -171,6 +177,7 @@ carried_over kb s command.Choices line over is has = over
 carried_over kb s command.Model line over is has = over
 carried_over kb s (command.Models n) line over is has = over
 carried_over kb s command.Propagate line over is has = over
+carried_over kb s (command.Minimize t) line over is has = over
 carried_over kb s (command.Explain l) line over is has = over
 carried_over kb s command.Why line over is has = over
 carried_over kb s (command.Budget b) line over is has =
