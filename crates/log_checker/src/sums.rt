@@ -29,7 +29,7 @@ fn with_part(
     Ok(choose(greatest, may, leave, found, with))
 }
 
-/// The furthest that the parts may come to, each part by itself: one pass gives the greatest or the least possible value
+/// The furthest that the parts may come to, each part by itself: one pass gives the greatest or the least value
 /// for all four kinds.
 fn far(greatest: bool, kind: AggKind, set: &LiteralSet, parts: &[Part]) -> Result<Amount, Memory>
     ensures { IfOk result (λ a. a ≡ far greatest kind set.now (first kind) parts.now) }
