@@ -5,5 +5,6 @@ pub mod ChoiceLemmas
 pub mod KnownLemmas
 pub mod SolverLemmas
 pub mod QueryLemmas
+pub mod MinimumLemmas
 pub mod OpenLemmas
 pub mod FoundLemmas

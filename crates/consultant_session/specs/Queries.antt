@@ -25,6 +25,7 @@ abbrev pub left_by : Command → List (List Lit) → List (List Lit)
 left_by command.Model learnt = []
 left_by (command.Models n) learnt = []
 left_by command.Propagate learnt = []
+left_by (command.Minimize t) learnt = []
 left_by (command.Explain l) learnt = []
 left_by command.Why learnt = []
 left_by command.Forget learnt = []

@@ -1,5 +1,5 @@
 //! The queries of a session: each asks a task, and answers by a reply.
-ghost use Rattle.std.specs.Prelude.{◌≡◌, ◌≤◌};
+ghost use Rattle.std.specs.Prelude.{◌≡◌, ◌≤◌, ◌<◌, length};
 ghost use Rattle.kb_logic.specs.Bases.{Base};
 ghost use Rattle.kb_logic.specs.Models.{IsAtomOver, atom_of};
 ghost use Rattle.consult_text.specs.declared.commands.Command.TheVariants as command;
@@ -19,7 +19,7 @@ use ground_task::answers::Answer;
 use kb_logic::{Literal, Memory};
 use lit_core::Lit;
 use std::alloc::Global;
-use task_queries::{Reason, conflict, support};
+use task_queries::{Reason, conflict, least, support};
 
 /// Begins a query: what was learnt before is given up, and nothing of its budget is spent.
 fn begin<C: Choose + Drop>(task: &mut Task<Solver<C>>, limit: Option<u64>) -> Budget
@@ -102,6 +102,29 @@ pub fn propagate<C: Choose + Drop>(
     let mut budget = begin(task, limit);
     match forced(alloc, task, choices, unknown, &mut budget) {
         Ok(Some(literals)) => Ok(Reply::Forced(literals)),
+        Ok(None) => Ok(Reply::Inconsistent),
+        Err(halt) => halted(halt, &budget),
+    }
+}
+
+/// The reply to `minimize`: the least value of the term block with this number in the models that make every choice
+/// true, with one that has it.
+pub fn minimize<C: Choose + Drop>(
+    alloc: Global,
+    task: &mut Task<Solver<C>>,
+    choices: &[Literal],
+    limit: Option<u64>,
+    term: u32,
+) -> Result<Reply, Memory>
+    requires task { IsTask task.old.numbers task.old.solver.kept.problem }
+    requires choices { AreOver task.old.numbers choices.now }
+    requires term { term < length task.old.solver.kept.problem.terms }
+    ensures { QueryEnds (λ kb. IsTaskOf kb task.old.numbers task.old.solver.kept.problem) (command.Minimize term)
+        choices.now limit task.old.numbers task.new.numbers task.old.solver.kept task.new.solver.kept result }
+{
+    let mut budget = begin(task, limit);
+    match least(alloc, task, choices, term, &mut budget) {
+        Ok(Some(least)) => Ok(Reply::Minimum(least.value, least.model)),
         Ok(None) => Ok(Reply::Inconsistent),
         Err(halt) => halted(halt, &budget),
     }

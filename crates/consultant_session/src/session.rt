@@ -125,6 +125,7 @@ impl<C: Choose + Copy + Drop> Session<C> {
             Command::Model => self.model(),
             Command::Models(most) => self.models(*most),
             Command::Propagate => self.propagate(),
+            Command::Minimize(term) => self.minimize(*term),
             Command::Explain(literal) => self.explain(literal),
             Command::Why => self.why(),
             Command::Budget(budget) => {

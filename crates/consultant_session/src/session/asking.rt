@@ -1,5 +1,5 @@
 //! What a session answers to queries.
-ghost use Rattle.std.specs.Prelude.{◌≡◌, ◌≤◌, [], IfOk};
+ghost use Rattle.std.specs.Prelude.{◌≡◌, ◌≤◌, ◌<◌, [], length, IfOk};
 ghost use Rattle.consult_base.specs.Opened.{base_of};
 ghost use Rattle.consult_text.specs.declared.commands.Command.TheVariants as command;
 ghost use Rattle.consult_text.specs.Literals.{IsLiteralOver};
@@ -7,7 +7,7 @@ ghost use Rattle.consult_text.specs.RightReplies.{RightReply};
 ghost use Rattle.consultant_session.specs.Queries.{Searches};
 
 use super::Session;
-use crate::queries::{explain, model, models, propagate, why};
+use crate::queries::{explain, minimize, model, models, propagate, why};
 use crate::tasks::task_of;
 use chooser::Choose;
 use consult_text::Reply;
@@ -15,6 +15,8 @@ use kb_logic::{Literal, Memory};
 
 /// What queries add to the solver's problem stays in it: after so many additions the task is opened anew.
 const MOST_ADDITIONS: u64 = 1_000;
+/// As many additions as one `minimize` is taken to make: a bound for each value that is found.
+const BOUNDS: u32 = 64;
 
 impl<C: Choose + Copy + Drop> Session<C> {
     /// A model, if there is one.
@@ -85,6 +87,26 @@ impl<C: Choose + Copy + Drop> Session<C> {
             self.choices.as_slice(),
             self.budget,
             self.unknown.as_slice(),
+        )
+    }
+
+    /// The least value of the term block with this number.
+    pub(super) fn minimize(&mut self, term: u32) -> Result<Reply, Memory>
+        requires { term < length (base_of self.old.kb).terms }
+        ensures right { IfOk result
+            (λ reply. RightReply (base_of self.old.kb) self.old.state (command.Minimize term) reply) }
+        ensures state { self.new.state ≡ self.old.state }
+        ensures kb { self.new.kb ≡ self.old.kb }
+        ensures searches { Searches (base_of self.old.kb) (command.Minimize term) self.old.state.budget result
+            self.old.solver self.new.solver }
+    {
+        self.renew(BOUNDS)?;
+        minimize(
+            self.alloc,
+            &mut self.task,
+            self.choices.as_slice(),
+            self.budget,
+            term,
         )
     }
 
