@@ -5,6 +5,7 @@ ghost use Rattle.consult_text.specs.declared.commands.Command.TheVariants as com
 ghost use Rattle.consult_text.specs.Literals.{IsLiteralOver};
 ghost use Rattle.consult_text.specs.RightReplies.{RightReply};
 ghost use Rattle.consultant_session.specs.Queries.{Searches};
+ghost use Rattle.consultant_session.specs.Solvers.{IsSolverOf};
 
 use super::Session;
 use crate::queries::{explain, minimize, model, models, propagate, why};
@@ -61,6 +62,7 @@ impl<C: Choose + Copy + Drop> Session<C> {
         ensures state { self.new.state ≡ self.old.state }
         ensures kb { self.new.kb ≡ self.old.kb }
         ensures learnt { self.new.solver.learnt ≡ [] }
+        ensures solver { IsSolverOf (base_of self.old.kb) self.new.solver }
     {
         self.task.forget();
         if self.added <= MOST_ADDITIONS {
