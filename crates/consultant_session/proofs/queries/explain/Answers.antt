@@ -9,20 +9,20 @@ use Rattle.consultant_session.proofs.QueryLemmas.{unspent_budget, IsCalled, foun
 use Rattle.consultant_session.proofs.queries.explain.Goals as goal
 
 pub support-requires-clause-task : goal.support-requires-clause-task
-support-requires-clause-task g c = (c.requires.task.0, c.begin.ensures.task c.requires.task.0 c.requires.task.1)
+support-requires-clause-task g c = (c.requires.task.0, c.begin-budget.ensures.task c.requires.task.0 c.requires.task.1)
 
 pub support-requires-clause-choices : goal.support-requires-clause-choices
 support-requires-clause-choices g c =
-    subst (λ (b : GroundBase). AreOver b c.args.choices.now) (sym c.begin.ensures.numbers) c.requires.choices
+    subst (λ (b : GroundBase). AreOver b c.args.choices.now) (sym c.begin-budget.ensures.numbers) c.requires.choices
 
 pub support-requires-clause-budget : goal.support-requires-clause-budget
 support-requires-clause-budget g c =
-    unspent_budget c.args.limit c.begin.new.task.solver.kept.learnt c.begin.result c.begin.ensures.budget
+    unspent_budget c.args.limit c.begin-budget.new.task.solver.kept.learnt c.begin-budget.result c.begin-budget.ensures.budget
 
 pub support-requires-clause-literal : goal.support-requires-clause-literal
 support-requires-clause-literal g c =
     subst (λ (b : GroundBase). IsAtomOver b.vocabulary.symbols b.domains (atom_of c.args.literal.now))
-    (sym c.begin.ensures.numbers) c.requires.literal
+    (sym c.begin-budget.ensures.numbers) c.requires.literal
 
 pub returns-in-Ok-By : goal.returns-in-Ok-By
 returns-in-Ok-By g c =
@@ -30,15 +30,15 @@ returns-in-Ok-By g c =
     found (λ kb. IsTaskOf kb c.args.task.now.numbers c.args.task.now.solver.kept.problem) c.args.choices.now (record {
       query = tt;
       empty = refl;
-      forgot = c.begin.ensures.kept;
-      begun = c.begin.ensures.budget;
+      forgot = c.begin-budget.ensures.kept;
+      begun = c.begin-budget.ensures.budget;
       ends = end.ends;
-      task = λ kb is. end.task kb (c.begin.ensures.task kb is);
+      task = λ kb is. end.task kb (c.begin-budget.ensures.task kb is);
     }) (reply.Supported c.in-Ok-By.some) (λ k is. cc)
     (λ kb is. (
       tt,
       subst (AnswersSupport kb c.args.choices.now c.args.literal.now) c.in-Ok-By.field-0-is
-          (c.in-Ok-By.ensures.answer kb (c.begin.ensures.task kb is)),
+          (c.in-Ok-By.ensures.answer kb (c.begin-budget.ensures.task kb is)),
     ))
 
 pub returns-in-Ok-Free : goal.returns-in-Ok-Free
@@ -47,15 +47,15 @@ returns-in-Ok-Free g c =
     found (λ kb. IsTaskOf kb c.args.task.now.numbers c.args.task.now.solver.kept.problem) c.args.choices.now (record {
       query = tt;
       empty = refl;
-      forgot = c.begin.ensures.kept;
-      begun = c.begin.ensures.budget;
+      forgot = c.begin-budget.ensures.kept;
+      begun = c.begin-budget.ensures.budget;
       ends = end.ends;
-      task = λ kb is. end.task kb (c.begin.ensures.task kb is);
+      task = λ kb is. end.task kb (c.begin-budget.ensures.task kb is);
     }) reply.Free (λ k is. cc)
     (λ kb is. (
       tt,
       subst (AnswersSupport kb c.args.choices.now c.args.literal.now) c.in-Ok-Free.field-0-is
-          (c.in-Ok-Free.ensures.answer kb (c.begin.ensures.task kb is)),
+          (c.in-Ok-Free.ensures.answer kb (c.begin-budget.ensures.task kb is)),
     ))
 
 pub returns-in-Ok-Inconsistent : goal.returns-in-Ok-Inconsistent
@@ -64,15 +64,15 @@ returns-in-Ok-Inconsistent g c =
     found (λ kb. IsTaskOf kb c.args.task.now.numbers c.args.task.now.solver.kept.problem) c.args.choices.now (record {
       query = tt;
       empty = refl;
-      forgot = c.begin.ensures.kept;
-      begun = c.begin.ensures.budget;
+      forgot = c.begin-budget.ensures.kept;
+      begun = c.begin-budget.ensures.budget;
       ends = end.ends;
-      task = λ kb is. end.task kb (c.begin.ensures.task kb is);
+      task = λ kb is. end.task kb (c.begin-budget.ensures.task kb is);
     }) reply.Inconsistent (λ k is. cc)
     (λ kb is. (
       tt,
       subst (AnswersSupport kb c.args.choices.now c.args.literal.now) c.in-Ok-Inconsistent.field-0-is
-          (c.in-Ok-Inconsistent.ensures.answer kb (c.begin.ensures.task kb is)),
+          (c.in-Ok-Inconsistent.ensures.answer kb (c.begin-budget.ensures.task kb is)),
     ))
 
 pub returns-in-Err : goal.returns-in-Err
@@ -81,8 +81,8 @@ returns-in-Err g c =
     halts (λ kb. IsTaskOf kb c.args.task.now.numbers c.args.task.now.solver.kept.problem) c.args.choices.now (record {
       query = tt;
       empty = refl;
-      forgot = c.begin.ensures.kept;
-      begun = c.begin.ensures.budget;
+      forgot = c.begin-budget.ensures.kept;
+      begun = c.begin-budget.ensures.budget;
       ends = end.ends;
-      task = λ kb is. end.task kb (c.begin.ensures.task kb is);
+      task = λ kb is. end.task kb (c.begin-budget.ensures.task kb is);
     }) c.in-Err.halt c.halted.result c.in-Err.ensures.halt c.halted.ensures (λ kb is. omega arith)

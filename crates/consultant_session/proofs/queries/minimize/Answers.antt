@@ -11,60 +11,60 @@ use Rattle.consultant_session.proofs.MinimumLemmas.{spans, halts_by}
 use Rattle.consultant_session.proofs.queries.minimize.Goals as goal
 
 pub least-requires-clause-task : goal.least-requires-clause-task
-least-requires-clause-task g c = (c.requires.task.0, c.begin.ensures.task c.requires.task.0 c.requires.task.1)
+least-requires-clause-task g c = (c.requires.task.0, c.begin-budget.ensures.task c.requires.task.0 c.requires.task.1)
 
 pub least-requires-clause-choices : goal.least-requires-clause-choices
 least-requires-clause-choices g c =
-    subst (λ (b : GroundBase). AreOver b c.args.choices.now) (sym c.begin.ensures.numbers) c.requires.choices
+    subst (λ (b : GroundBase). AreOver b c.args.choices.now) (sym c.begin-budget.ensures.numbers) c.requires.choices
 
 pub least-requires-clause-budget : goal.least-requires-clause-budget
 least-requires-clause-budget g c =
-    unspent_budget c.args.limit c.begin.new.task.solver.kept.learnt c.begin.result c.begin.ensures.budget
+    unspent_budget c.args.limit c.begin-budget.new.task.solver.kept.learnt c.begin-budget.result c.begin-budget.ensures.budget
 
 pub least-requires-clause-term : goal.least-requires-clause-term
 least-requires-clause-term g c =
-    subst (λ (s : SolveState). c.args.term < length s.problem.terms) (sym c.begin.ensures.kept) c.requires.term
+    subst (λ (s : SolveState). c.args.term < length s.problem.terms) (sym c.begin-budget.ensures.kept) c.requires.term
 
 pub returns-in-Ok-Some : goal.returns-in-Ok-Some
 returns-in-Ok-Some g c =
     let end = c.least.ensures in
     let kb = c.requires.task.0 in
-    let is = c.begin.ensures.task kb c.requires.task.1 in
+    let is = c.begin-budget.ensures.task kb c.requires.task.1 in
     found (λ kb. IsTaskOf kb c.args.task.now.numbers c.args.task.now.solver.kept.problem) c.args.choices.now (record {
       query = tt;
       empty = refl;
-      forgot = c.begin.ensures.kept;
-      begun = c.begin.ensures.budget;
-      ends = end.ends (term_width kb c.args.term) (spans kb c.begin.new.task.numbers c.begin.new.task.solver.kept.problem
+      forgot = c.begin-budget.ensures.kept;
+      begun = c.begin-budget.ensures.budget;
+      ends = end.ends (term_width kb c.args.term) (spans kb c.begin-budget.new.task.numbers c.begin-budget.new.task.solver.kept.problem
           c.args.term is
-          (subst (λ (s : SolveState). c.args.term < length s.problem.terms) (sym c.begin.ensures.kept) c.requires.term));
-      task = λ kb is. end.task kb (c.begin.ensures.task kb is);
+          (subst (λ (s : SolveState). c.args.term < length s.problem.terms) (sym c.begin-budget.ensures.kept) c.requires.term));
+      task = λ kb is. end.task kb (c.begin-budget.ensures.task kb is);
     }) (reply.Minimum c.in-Ok-Some.least.value c.in-Ok-Some.least.model) (λ k is. cc)
     (λ kb is. (
       tt,
       subst (AnswersLeast kb c.args.choices.now c.args.term) c.in-Ok-Some.field-0-is
-          (c.in-Ok-Some.ensures.answer kb (c.begin.ensures.task kb is)),
+          (c.in-Ok-Some.ensures.answer kb (c.begin-budget.ensures.task kb is)),
     ))
 
 pub returns-in-Ok-None : goal.returns-in-Ok-None
 returns-in-Ok-None g c =
     let end = c.least.ensures in
     let kb = c.requires.task.0 in
-    let is = c.begin.ensures.task kb c.requires.task.1 in
+    let is = c.begin-budget.ensures.task kb c.requires.task.1 in
     found (λ kb. IsTaskOf kb c.args.task.now.numbers c.args.task.now.solver.kept.problem) c.args.choices.now (record {
       query = tt;
       empty = refl;
-      forgot = c.begin.ensures.kept;
-      begun = c.begin.ensures.budget;
-      ends = end.ends (term_width kb c.args.term) (spans kb c.begin.new.task.numbers c.begin.new.task.solver.kept.problem
+      forgot = c.begin-budget.ensures.kept;
+      begun = c.begin-budget.ensures.budget;
+      ends = end.ends (term_width kb c.args.term) (spans kb c.begin-budget.new.task.numbers c.begin-budget.new.task.solver.kept.problem
           c.args.term is
-          (subst (λ (s : SolveState). c.args.term < length s.problem.terms) (sym c.begin.ensures.kept) c.requires.term));
-      task = λ kb is. end.task kb (c.begin.ensures.task kb is);
+          (subst (λ (s : SolveState). c.args.term < length s.problem.terms) (sym c.begin-budget.ensures.kept) c.requires.term));
+      task = λ kb is. end.task kb (c.begin-budget.ensures.task kb is);
     }) reply.Inconsistent (λ k is. cc)
     (λ kb is. (
       tt,
       subst (AnswersLeast kb c.args.choices.now c.args.term) c.in-Ok-None.field-0-is
-          (c.in-Ok-None.ensures.answer kb (c.begin.ensures.task kb is)),
+          (c.in-Ok-None.ensures.answer kb (c.begin-budget.ensures.task kb is)),
     ))
 
 pub returns-in-Err : goal.returns-in-Err
@@ -74,10 +74,10 @@ returns-in-Err g c =
     (λ kb of. record {
       query = tt;
       empty = refl;
-      forgot = c.begin.ensures.kept;
-      begun = c.begin.ensures.budget;
-      ends = end.ends (term_width kb c.args.term) (spans kb c.begin.new.task.numbers c.begin.new.task.solver.kept.problem
-          c.args.term (c.begin.ensures.task kb of)
-          (subst (λ (s : SolveState). c.args.term < length s.problem.terms) (sym c.begin.ensures.kept) c.requires.term));
-      task = λ k is. end.task k (c.begin.ensures.task k is);
+      forgot = c.begin-budget.ensures.kept;
+      begun = c.begin-budget.ensures.budget;
+      ends = end.ends (term_width kb c.args.term) (spans kb c.begin-budget.new.task.numbers c.begin-budget.new.task.solver.kept.problem
+          c.args.term (c.begin-budget.ensures.task kb of)
+          (subst (λ (s : SolveState). c.args.term < length s.problem.terms) (sym c.begin-budget.ensures.kept) c.requires.term));
+      task = λ k is. end.task k (c.begin-budget.ensures.task k is);
     }) c.requires.task.0 c.requires.task.1 c.in-Err.halt c.halted.result c.in-Err.ensures.halt c.halted.ensures

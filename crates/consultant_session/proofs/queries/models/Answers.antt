@@ -8,15 +8,15 @@ use Rattle.consultant_session.proofs.QueryLemmas.{unspent_budget, IsCalled, foun
 use Rattle.consultant_session.proofs.queries.models.Goals as goal
 
 pub models-requires-clause-task : goal.models-requires-clause-task
-models-requires-clause-task g c = (c.requires.task.0, c.begin.ensures.task c.requires.task.0 c.requires.task.1)
+models-requires-clause-task g c = (c.requires.task.0, c.begin-budget.ensures.task c.requires.task.0 c.requires.task.1)
 
 pub models-requires-clause-choices : goal.models-requires-clause-choices
 models-requires-clause-choices g c =
-    subst (λ (b : GroundBase). AreOver b c.args.choices.now) (sym c.begin.ensures.numbers) c.requires.choices
+    subst (λ (b : GroundBase). AreOver b c.args.choices.now) (sym c.begin-budget.ensures.numbers) c.requires.choices
 
 pub models-requires-clause-budget : goal.models-requires-clause-budget
 models-requires-clause-budget g c =
-    unspent_budget c.args.limit c.begin.new.task.solver.kept.learnt c.begin.result c.begin.ensures.budget
+    unspent_budget c.args.limit c.begin-budget.new.task.solver.kept.learnt c.begin-budget.result c.begin-budget.ensures.budget
 
 pub returns-in-Ok-Some : goal.returns-in-Ok-Some
 returns-in-Ok-Some g c =
@@ -24,15 +24,15 @@ returns-in-Ok-Some g c =
     found (λ kb. IsTaskOf kb c.args.task.now.numbers c.args.task.now.solver.kept.problem) c.args.choices.now (record {
       query = tt;
       empty = refl;
-      forgot = c.begin.ensures.kept;
-      begun = c.begin.ensures.budget;
+      forgot = c.begin-budget.ensures.kept;
+      begun = c.begin-budget.ensures.budget;
       ends = end.ends;
-      task = λ kb is. end.task kb (c.begin.ensures.task kb is);
+      task = λ kb is. end.task kb (c.begin-budget.ensures.task kb is);
     }) (reply.Models c.in-Ok-Some.models.list c.in-Ok-Some.models.all) (λ k is. cc)
     (λ kb is. (
       tt,
       subst (AnswersModels kb c.args.choices.now c.args.most) c.in-Ok-Some.field-0-is
-          (c.in-Ok-Some.ensures.answer kb (c.begin.ensures.task kb is)),
+          (c.in-Ok-Some.ensures.answer kb (c.begin-budget.ensures.task kb is)),
     ))
 
 pub returns-in-Ok-None : goal.returns-in-Ok-None
@@ -41,15 +41,15 @@ returns-in-Ok-None g c =
     found (λ kb. IsTaskOf kb c.args.task.now.numbers c.args.task.now.solver.kept.problem) c.args.choices.now (record {
       query = tt;
       empty = refl;
-      forgot = c.begin.ensures.kept;
-      begun = c.begin.ensures.budget;
+      forgot = c.begin-budget.ensures.kept;
+      begun = c.begin-budget.ensures.budget;
       ends = end.ends;
-      task = λ kb is. end.task kb (c.begin.ensures.task kb is);
+      task = λ kb is. end.task kb (c.begin-budget.ensures.task kb is);
     }) reply.Inconsistent (λ k is. cc)
     (λ kb is. (
       tt,
       subst (AnswersModels kb c.args.choices.now c.args.most) c.in-Ok-None.field-0-is
-          (c.in-Ok-None.ensures.answer kb (c.begin.ensures.task kb is)),
+          (c.in-Ok-None.ensures.answer kb (c.begin-budget.ensures.task kb is)),
     ))
 
 pub returns-in-Err : goal.returns-in-Err
@@ -58,8 +58,8 @@ returns-in-Err g c =
     halts (λ kb. IsTaskOf kb c.args.task.now.numbers c.args.task.now.solver.kept.problem) c.args.choices.now (record {
       query = tt;
       empty = refl;
-      forgot = c.begin.ensures.kept;
-      begun = c.begin.ensures.budget;
+      forgot = c.begin-budget.ensures.kept;
+      begun = c.begin-budget.ensures.budget;
       ends = end.ends;
-      task = λ kb is. end.task kb (c.begin.ensures.task kb is);
+      task = λ kb is. end.task kb (c.begin-budget.ensures.task kb is);
     }) c.in-Err.halt c.halted.result c.in-Err.ensures.halt c.halted.ensures (λ kb is. omega arith)

@@ -12,18 +12,18 @@ use Rattle.consultant_session.proofs.queries.propagate.Goals as goal
 pub forced-requires-clause-task : goal.forced-requires-clause-task
 forced-requires-clause-task g c = (
   c.requires.task.0,
-  still-open c.requires.task.0 c.args.task.now.numbers c.begin.new.task.numbers
-      c.args.task.now.solver.kept.problem c.begin.new.task.solver.kept.problem c.args.unknown.now
-      c.begin.ensures.numbers (c.begin.ensures.task c.requires.task.0) c.requires.task.1,
+  still-open c.requires.task.0 c.args.task.now.numbers c.begin-budget.new.task.numbers
+      c.args.task.now.solver.kept.problem c.begin-budget.new.task.solver.kept.problem c.args.unknown.now
+      c.begin-budget.ensures.numbers (c.begin-budget.ensures.task c.requires.task.0) c.requires.task.1,
 )
 
 pub forced-requires-clause-choices : goal.forced-requires-clause-choices
 forced-requires-clause-choices g c =
-    subst (λ (b : GroundBase). AreOver b c.args.choices.now) (sym c.begin.ensures.numbers) c.requires.choices
+    subst (λ (b : GroundBase). AreOver b c.args.choices.now) (sym c.begin-budget.ensures.numbers) c.requires.choices
 
 pub forced-requires-clause-budget : goal.forced-requires-clause-budget
 forced-requires-clause-budget g c =
-    unspent_budget c.args.limit c.begin.new.task.solver.kept.learnt c.begin.result c.begin.ensures.budget
+    unspent_budget c.args.limit c.begin-budget.new.task.solver.kept.learnt c.begin-budget.result c.begin-budget.ensures.budget
 
 pub returns-in-Ok-Some : goal.returns-in-Ok-Some
 returns-in-Ok-Some g c =
@@ -31,17 +31,17 @@ returns-in-Ok-Some g c =
     found (λ kb. IsOpenTaskOf kb c.args.task.now.numbers c.args.task.now.solver.kept.problem c.args.unknown.now) c.args.choices.now (record {
       query = tt;
       empty = refl;
-      forgot = c.begin.ensures.kept;
-      begun = c.begin.ensures.budget;
+      forgot = c.begin-budget.ensures.kept;
+      begun = c.begin-budget.ensures.budget;
       ends = end.ends;
-      task = λ kb is. end.task kb (c.begin.ensures.task kb is);
+      task = λ kb is. end.task kb (c.begin-budget.ensures.task kb is);
     }) (reply.Forced c.in-Ok-Some.literals) (λ k is. cc)
     (λ kb is. (
       tt,
       subst (IsAnswer kb (record { choices = c.args.choices.now })) c.in-Ok-Some.field-0-is
-          (c.in-Ok-Some.ensures.answer kb (still-open kb c.args.task.now.numbers c.begin.new.task.numbers
-          c.args.task.now.solver.kept.problem c.begin.new.task.solver.kept.problem c.args.unknown.now
-          c.begin.ensures.numbers (c.begin.ensures.task kb) is)),
+          (c.in-Ok-Some.ensures.answer kb (still-open kb c.args.task.now.numbers c.begin-budget.new.task.numbers
+          c.args.task.now.solver.kept.problem c.begin-budget.new.task.solver.kept.problem c.args.unknown.now
+          c.begin-budget.ensures.numbers (c.begin-budget.ensures.task kb) is)),
     ))
 
 pub returns-in-Ok-None : goal.returns-in-Ok-None
@@ -50,17 +50,17 @@ returns-in-Ok-None g c =
     found (λ kb. IsOpenTaskOf kb c.args.task.now.numbers c.args.task.now.solver.kept.problem c.args.unknown.now) c.args.choices.now (record {
       query = tt;
       empty = refl;
-      forgot = c.begin.ensures.kept;
-      begun = c.begin.ensures.budget;
+      forgot = c.begin-budget.ensures.kept;
+      begun = c.begin-budget.ensures.budget;
       ends = end.ends;
-      task = λ kb is. end.task kb (c.begin.ensures.task kb is);
+      task = λ kb is. end.task kb (c.begin-budget.ensures.task kb is);
     }) reply.Inconsistent (λ k is. cc)
     (λ kb is. (
       tt,
       subst (IsAnswer kb (record { choices = c.args.choices.now })) c.in-Ok-None.field-0-is
-          (c.in-Ok-None.ensures.answer kb (still-open kb c.args.task.now.numbers c.begin.new.task.numbers
-          c.args.task.now.solver.kept.problem c.begin.new.task.solver.kept.problem c.args.unknown.now
-          c.begin.ensures.numbers (c.begin.ensures.task kb) is)),
+          (c.in-Ok-None.ensures.answer kb (still-open kb c.args.task.now.numbers c.begin-budget.new.task.numbers
+          c.args.task.now.solver.kept.problem c.begin-budget.new.task.solver.kept.problem c.args.unknown.now
+          c.begin-budget.ensures.numbers (c.begin-budget.ensures.task kb) is)),
     ))
 
 pub returns-in-Err : goal.returns-in-Err
@@ -69,9 +69,9 @@ returns-in-Err g c =
     halts (λ kb. IsOpenTaskOf kb c.args.task.now.numbers c.args.task.now.solver.kept.problem c.args.unknown.now) c.args.choices.now (record {
       query = tt;
       empty = refl;
-      forgot = c.begin.ensures.kept;
-      begun = c.begin.ensures.budget;
+      forgot = c.begin-budget.ensures.kept;
+      begun = c.begin-budget.ensures.budget;
       ends = end.ends;
-      task = λ kb is. end.task kb (c.begin.ensures.task kb is);
+      task = λ kb is. end.task kb (c.begin-budget.ensures.task kb is);
     }) c.in-Err.halt c.halted.result c.in-Err.ensures.halt c.halted.ensures
     (λ kb is. few-unknown kb c.args.task.now.numbers c.args.task.now.solver.kept.problem c.args.unknown.now is)
