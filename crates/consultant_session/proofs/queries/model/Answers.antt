@@ -48,8 +48,8 @@ returns-in-Ok-NoModel g c =
           answer.1 m (under_some kb c.in-Ok-NoModel.field-0-0 choices m answer.0 under),
     ))
 
-pub returns-in-Err : goal.returns-in-Err
-returns-in-Err g c =
+pub returns : goal.returns
+returns g c =
     let ask = c.ask.ensures in
     halts (λ kb. IsTaskOf kb c.args.task.now.numbers c.args.task.now.solver.kept.problem) c.args.choices.now
     (asked c.begin-budget.ensures.kept c.begin-budget.ensures.budget ask.keeps ask.costs ask.kept ask.stays
