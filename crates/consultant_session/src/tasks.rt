@@ -47,6 +47,21 @@ pub fn task_of<C: Choose + Drop>(
     Task::open(alloc, kb.vocabulary(), kb.data(), solver)
 }
 
+/// Opens the task anew, so that what was added to its problem is gone. Where memory runs out it stays as it is.
+pub fn open_anew<C: Choose + Drop>(
+    alloc: Global,
+    kb: &KnowledgeBase,
+    rule: C,
+    task: &mut Task<Solver<C>>,
+) -> Result<(), Memory>
+    ensures over { IsTaskOver (base_of kb.now) task.old.numbers task.old.solver.kept
+        → IsTaskOver (base_of kb.now) task.new.numbers task.new.solver.kept }
+    ensures learnt { task.old.solver.kept.learnt ≡ [] → task.new.solver.kept.learnt ≡ [] }
+{
+    *task = task_of(alloc, kb, rule)?;
+    Ok(())
+}
+
 /// The literals of the variables of the atoms that the data leave unknown.
 pub fn unknown_of(alloc: Global, kb: &KnowledgeBase) -> Result<Vec<Lit>, Memory>
     ensures { IfOk result (λ lits. AreUnknownOf (base_of kb.now) lits.items) }

@@ -9,7 +9,7 @@ ghost use Rattle.consultant_session.specs.Solvers.{IsSolverOf};
 
 use super::Session;
 use crate::queries::{explain, minimize, model, models, propagate, why};
-use crate::tasks::task_of;
+use crate::tasks::open_anew;
 use chooser::Choose;
 use consult_text::Reply;
 use kb_logic::{Literal, Memory};
@@ -66,10 +66,10 @@ impl<C: Choose + Copy + Drop> Session<C> {
     {
         self.task.forget();
         if self.added <= MOST_ADDITIONS {
-            self.added += more as u64;
+            self.added = self.added.saturating_add(more as u64);
             return Ok(());
         }
-        self.task = task_of(self.alloc, &self.kb, self.rule)?;
+        open_anew(self.alloc, &self.kb, self.rule, &mut self.task)?;
         self.added = more as u64;
         Ok(())
     }
