@@ -211,3 +211,19 @@ query_searches Of kb c choices budget numbers numbers' old new result ends is = 
   solver = solver-of kb numbers' new (still_over Of kb c choices budget numbers numbers' old new result ends is);
   learns = ends.learns;
 }
+
+-- what a query did from a solver that was made ready for it
+pub renewed_searches : (kb : Base) (c : Command) (budget : Option ℕ) (result : Result Reply Memory)
+    (old mid new : SolveState) → left_by c mid.learnt ≡ left_by c old.learnt → Searches kb c budget result mid new
+    → Searches kb c budget result old new
+renewed_searches kb c budget result old mid new same is = record {
+  solver = is.solver;
+  learns = record {
+    front = subst (λ (ls : List (List Lit)). IsPrefix ls new.learnt) same is.learns.front;
+    within = subst (λ (ls : List (List Lit)). IfSome budget (λ most. length new.learnt ≤ length ls + most)) same
+        is.learns.within;
+    undecided = subst (λ (ls : List (List Lit)). IfOk result (λ r. (k : ℕ) → r ≡ reply.Undecided k
+        → length new.learnt ≡ length ls + k)) same is.learns.undecided;
+    idle = λ other. is.learns.idle other ∙ same;
+  };
+}
