@@ -1,7 +1,7 @@
 -- The atoms that the data leave unknown.
 use Rattle.std.proofs.Common.{◌≡◌, ◌∙◌, ℕ, ◌+◌, ◌≤◌, Bool, true, false, cond, List, [], ◌∷◌, length, map, refl, sym, ap}
-use Rattle.std.proofs.Common.{subst, arith, filter, length-map}
-use Rattle.kb_logic.specs.declared.structures.Literal.{Literal}
+use Rattle.std.proofs.Common.{suc, subst, arith, filter}
+use Rattle.std.proofs.lemmas.List.{length-map}
 use Rattle.kb_logic.specs.declared.vocabularies.Symbol.{Symbol}
 use Rattle.kb_logic.specs.Bases.{Base}
 use Rattle.kb_logic.specs.InForce.{literal_with}
@@ -42,7 +42,7 @@ filter_shorter : {A : Type 0} (test : A → Bool) (xs : List A) → length (filt
 filter_shorter test [] = omega arith
 filter_shorter {A} test (x ∷ xs) =
     let rest : length (filter test xs) ≤ length xs = filter_shorter test xs in
-    elim (test x) as (λ (b : Bool). length (cond b (x ∷ filter test xs) (filter test xs)) ≤ length xs + 1)
+    elim (test x) as (λ (b : Bool). length (cond b (x ∷ filter test xs) (filter test xs)) ≤ suc (length xs))
     [ true ↦ omega (arith, rest) | false ↦ omega (arith, rest) ]
 
 -- they are no more than all atoms

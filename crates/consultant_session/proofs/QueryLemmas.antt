@@ -12,8 +12,8 @@ use Rattle.term_values.specs.GroundBases.{GroundBase}
 use Rattle.ground_core.specs.declared.solving.Budget.{Budget}
 use Rattle.ground_core.specs.declared.solving.Halt.{Halt}
 use Rattle.ground_core.specs.declared.solving.Halt.TheVariants as halt
-use Rattle.ground_core.specs.Solving.{SolveState, HaltedAt, IsBudgetOf, IsKept}
-use Rattle.ground_core.specs.Calls.{CallEnds, Keeps, Costs, Stays}
+use Rattle.ground_core.specs.Solving.{SolveState, HaltedAt, IsBudgetOf}
+use Rattle.ground_core.specs.Calls.{CallEnds}
 use Rattle.ground_task.specs.Tasks.{IsTaskOf}
 use Rattle.clause_learning.specs.SolverState.{forgotten}
 use Rattle.clause_learning.specs.GoingOn.{prefix-itself}
@@ -141,21 +141,6 @@ module _ (Of : Base → Type 0) (choices : List Literal) {n : ℕ} {c : Command}
   halts halt.Spent (Err e) at is fewer = absurd is
   halts halt.Memory (Ok r) at is fewer = absurd is
   halts halt.Memory (Err e) at is fewer = ended (Err e) tt (λ kb task small. tt)
-
--- what one search for a model keeps
-pub asked : {budget : Option ℕ} {numbers numbers' : GroundBase} {old mid new : SolveState} {b spent : Budget}
-    → mid ≡ forgotten old → b ≡ record { limit = budget; spent = 0 } → Keeps mid new b spent → Costs 1 mid new b spent
-    → IsKept new → Stays mid new
-    → ((kb : Base) → IsTaskOf kb numbers old.problem → IsTaskOf kb numbers' new.problem)
-    → IsCalled 1 command.Model budget numbers numbers' old mid new b spent
-asked forgot begun keeps costs kept stays task = record {
-  query = tt;
-  empty = refl;
-  forgot = forgot;
-  begun = begun;
-  ends = record { keeps = keeps; costs = costs; kept = kept; free = stays.free };
-  task = task;
-}
 
 -- a query that stays undecided was searched for
 pub was_searched : (kb : Base) (c : Command) (budget : Option ℕ) (r : Reply) (old new : SolveState)

@@ -1,8 +1,10 @@
-use Rattle.std.proofs.Common.{◌∙◌, refl, sym, ap, subst, arith}
+use Rattle.std.proofs.Common.{List, Some, refl, sym, subst, arith}
 use Rattle.kb_logic.specs.Models.{IsAtomOver, atom_of}
 use Rattle.ground_task.specs.Choices.{AreOver}
 use Rattle.ground_task.specs.Tasks.{IsTaskOf}
 use Rattle.term_values.specs.GroundBases.{GroundBase}
+use Rattle.kb_logic.specs.declared.structures.Literal.{Literal}
+use Rattle.task_queries.specs.declared.found.Reason.TheVariants.{By}
 use Rattle.consult_text.specs.declared.replies.Reply.TheVariants as reply
 use Rattle.task_queries.specs.Queries.{AnswersSupport}
 use Rattle.consultant_session.proofs.QueryLemmas.{unspent_budget, IsCalled, found, halts}
@@ -37,8 +39,9 @@ returns-in-Ok-By g c =
     }) (reply.Supported c.in-Ok-By.some) (λ k is. cc)
     (λ kb is. (
       tt,
-      subst (AnswersSupport kb c.args.choices.now c.args.literal.now) c.in-Ok-By.field-0-is
-          (c.in-Ok-By.ensures.answer kb (c.begin-budget.ensures.task kb is)),
+      subst (λ (ls : List Literal). AnswersSupport kb c.args.choices.now c.args.literal.now (By ls)) (sym c.in-Ok-By.some-is)
+          (subst (AnswersSupport kb c.args.choices.now c.args.literal.now) c.in-Ok-By.field-0-is
+          (c.in-Ok-By.ensures.answer kb (c.begin-budget.ensures.task kb is))),
     ))
 
 pub returns-in-Ok-Free : goal.returns-in-Ok-Free

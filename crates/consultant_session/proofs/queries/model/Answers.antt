@@ -1,11 +1,11 @@
-use Rattle.std.proofs.Common.{sym, subst, arith}
+use Rattle.std.proofs.Common.{refl, sym, subst, arith}
 use Rattle.kb_logic.specs.Bases.{IsModelUnder}
 use Rattle.ground_task.specs.Choices.{AreOver}
 use Rattle.ground_task.specs.Tasks.{IsTaskOf, IsAnswer}
 use Rattle.term_values.specs.GroundBases.{GroundBase}
 use Rattle.consult_text.specs.declared.replies.Reply.TheVariants as reply
 use Rattle.consultant_session.proofs.FoundLemmas.{under_some}
-use Rattle.consultant_session.proofs.QueryLemmas.{unspent_budget, asked, found, halts}
+use Rattle.consultant_session.proofs.QueryLemmas.{unspent_budget, IsCalled, found, halts}
 use Rattle.consultant_session.proofs.queries.model.Goals as goal
 
 pub ask-requires-clause-task : goal.ask-requires-clause-task
@@ -24,8 +24,14 @@ returns-in-Ok-Model g c =
     let choices = c.args.choices.now in
     let ask = c.ask.ensures in
     found (λ kb. IsTaskOf kb c.args.task.now.numbers c.args.task.now.solver.kept.problem) choices
-    (asked c.begin-budget.ensures.kept c.begin-budget.ensures.budget ask.keeps ask.costs ask.kept ask.stays
-    (λ kb is. ask.task kb (c.begin-budget.ensures.task kb is))) (reply.Model c.in-Ok-Model.m) (λ k is. cc)
+    (record {
+      query = tt;
+      empty = refl;
+      forgot = c.begin-budget.ensures.kept;
+      begun = c.begin-budget.ensures.budget;
+      ends = ask.ends;
+      task = λ kb is. ask.task kb (c.begin-budget.ensures.task kb is);
+    }) (reply.Model c.in-Ok-Model.m) (λ k is. cc)
     (λ kb is. (
       tt,
       subst (IsModelUnder kb choices) (sym c.in-Ok-Model.m-is)
@@ -38,8 +44,14 @@ returns-in-Ok-NoModel g c =
     let choices = c.args.choices.now in
     let ask = c.ask.ensures in
     found (λ kb. IsTaskOf kb c.args.task.now.numbers c.args.task.now.solver.kept.problem) choices
-    (asked c.begin-budget.ensures.kept c.begin-budget.ensures.budget ask.keeps ask.costs ask.kept ask.stays
-    (λ kb is. ask.task kb (c.begin-budget.ensures.task kb is))) reply.Inconsistent (λ k is. cc)
+    (record {
+      query = tt;
+      empty = refl;
+      forgot = c.begin-budget.ensures.kept;
+      begun = c.begin-budget.ensures.budget;
+      ends = ask.ends;
+      task = λ kb is. ask.task kb (c.begin-budget.ensures.task kb is);
+    }) reply.Inconsistent (λ k is. cc)
     (λ kb is. (
       tt,
       λ m under.
@@ -52,6 +64,12 @@ pub returns : goal.returns
 returns g c =
     let ask = c.ask.ensures in
     halts (λ kb. IsTaskOf kb c.args.task.now.numbers c.args.task.now.solver.kept.problem) c.args.choices.now
-    (asked c.begin-budget.ensures.kept c.begin-budget.ensures.budget ask.keeps ask.costs ask.kept ask.stays
-    (λ kb is. ask.task kb (c.begin-budget.ensures.task kb is))) c.in-Err.halt c.halted.result c.in-Err.ensures.halt
+    (record {
+      query = tt;
+      empty = refl;
+      forgot = c.begin-budget.ensures.kept;
+      begun = c.begin-budget.ensures.budget;
+      ends = ask.ends;
+      task = λ kb is. ask.task kb (c.begin-budget.ensures.task kb is);
+    }) c.in-Err.halt c.halted.result c.in-Err.ensures.halt
     c.halted.ensures (λ kb is. omega arith)

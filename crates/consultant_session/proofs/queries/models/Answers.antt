@@ -1,7 +1,8 @@
-use Rattle.std.proofs.Common.{◌∙◌, refl, sym, ap, subst, arith}
+use Rattle.std.proofs.Common.{List, Some, refl, sym, subst, arith}
 use Rattle.ground_task.specs.Choices.{AreOver}
 use Rattle.ground_task.specs.Tasks.{IsTaskOf}
 use Rattle.term_values.specs.GroundBases.{GroundBase}
+use Rattle.task_queries.specs.declared.found.Models.{Models}
 use Rattle.consult_text.specs.declared.replies.Reply.TheVariants as reply
 use Rattle.task_queries.specs.Queries.{AnswersModels}
 use Rattle.consultant_session.proofs.QueryLemmas.{unspent_budget, IsCalled, found, halts}
@@ -31,8 +32,9 @@ returns-in-Ok-Some g c =
     }) (reply.Models c.in-Ok-Some.models.list c.in-Ok-Some.models.all) (λ k is. cc)
     (λ kb is. (
       tt,
-      subst (AnswersModels kb c.args.choices.now c.args.most) c.in-Ok-Some.field-0-is
-          (c.in-Ok-Some.ensures.answer kb (c.begin-budget.ensures.task kb is)),
+      subst (λ (ms : Models). AnswersModels kb c.args.choices.now c.args.most (Some ms)) (sym c.in-Ok-Some.models-is)
+          (subst (AnswersModels kb c.args.choices.now c.args.most) c.in-Ok-Some.field-0-is
+          (c.in-Ok-Some.ensures.answer kb (c.begin-budget.ensures.task kb is))),
     ))
 
 pub returns-in-Ok-None : goal.returns-in-Ok-None

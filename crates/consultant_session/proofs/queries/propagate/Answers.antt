@@ -1,7 +1,8 @@
-use Rattle.std.proofs.Common.{◌∙◌, refl, sym, ap, subst, arith}
+use Rattle.std.proofs.Common.{List, Some, refl, sym, subst, arith}
 use Rattle.ground_task.specs.Choices.{AreOver}
 use Rattle.ground_task.specs.Tasks.{IsTaskOf}
 use Rattle.term_values.specs.GroundBases.{GroundBase}
+use Rattle.kb_logic.specs.declared.structures.Literal.{Literal}
 use Rattle.consult_text.specs.declared.replies.Reply.TheVariants as reply
 use Rattle.kb_logic.specs.InForce.{InForce}
 use Rattle.forced_literals.specs.OpenTasks.{IsOpenTaskOf, IsAnswer}
@@ -38,10 +39,11 @@ returns-in-Ok-Some g c =
     }) (reply.Forced c.in-Ok-Some.literals) (λ k is. cc)
     (λ kb is. (
       tt,
-      subst (IsAnswer kb (record { choices = c.args.choices.now })) c.in-Ok-Some.field-0-is
+      subst (λ (ls : List Literal). IsAnswer kb (record { choices = c.args.choices.now }) (Some ls)) (sym c.in-Ok-Some.literals-is)
+          (subst (IsAnswer kb (record { choices = c.args.choices.now })) c.in-Ok-Some.field-0-is
           (c.in-Ok-Some.ensures.answer kb (still-open kb c.args.task.now.numbers c.begin-budget.new.task.numbers
           c.args.task.now.solver.kept.problem c.begin-budget.new.task.solver.kept.problem c.args.unknown.now
-          c.begin-budget.ensures.numbers (c.begin-budget.ensures.task kb) is)),
+          c.begin-budget.ensures.numbers (c.begin-budget.ensures.task kb) is))),
     ))
 
 pub returns-in-Ok-None : goal.returns-in-Ok-None

@@ -1,7 +1,8 @@
-use Rattle.std.proofs.Common.{◌∙◌, refl, sym, ap, subst, arith}
+use Rattle.std.proofs.Common.{List, Some, refl, sym, subst, arith}
 use Rattle.ground_task.specs.Choices.{AreOver}
 use Rattle.ground_task.specs.Tasks.{IsTaskOf}
 use Rattle.term_values.specs.GroundBases.{GroundBase}
+use Rattle.kb_logic.specs.declared.structures.Literal.{Literal}
 use Rattle.consult_text.specs.declared.replies.Reply.TheVariants as reply
 use Rattle.task_queries.specs.Queries.{AnswersConflict}
 use Rattle.consultant_session.proofs.QueryLemmas.{unspent_budget, IsCalled, found, halts}
@@ -31,8 +32,9 @@ returns-in-Ok-Some g c =
     }) (reply.Conflict c.in-Ok-Some.some) (λ k is. cc)
     (λ kb is. (
       tt,
-      subst (AnswersConflict kb c.args.choices.now) c.in-Ok-Some.field-0-is
-          (c.in-Ok-Some.ensures.answer kb (c.begin-budget.ensures.task kb is)),
+      subst (λ (ls : List Literal). AnswersConflict kb c.args.choices.now (Some ls)) (sym c.in-Ok-Some.some-is)
+          (subst (AnswersConflict kb c.args.choices.now) c.in-Ok-Some.field-0-is
+          (c.in-Ok-Some.ensures.answer kb (c.begin-budget.ensures.task kb is))),
     ))
 
 pub returns-in-Ok-None : goal.returns-in-Ok-None
