@@ -23,6 +23,7 @@ use Rattle.ground_task.specs.Tasks.{IsTaskOf, Represents, atom_base}
 use Rattle.consult_text.specs.declared.commands.Command.{Command}
 use Rattle.consult_text.specs.declared.replies.Reply.{Reply}
 use Rattle.consult_text.specs.Searches.{searches, term_width}
+use Rattle.consult_text.specs.States.{State}
 use Rattle.consultant_session.specs.Queries.{QueryEnds, IsHalted}
 use Rattle.consultant_session.proofs.QueryLemmas.{IsCalled, halts}
 
@@ -78,7 +79,7 @@ pub halts_by : (Of : Base → Type 0) (choices : List Literal) {c : Command} {bu
     → (kb : Base) → Of kb → (h : Halt) (result : Result Reply Memory) → HaltedAt spent h → IsHalted h spent result
     → QueryEnds Of c choices budget numbers numbers' old new result
 halts_by Of choices {c} {budget} called kb of h result at is =
-    let state = record { choices = choices; budget = budget } in
+    let state : State = record { choices = choices; budget = budget } in
     let each : (k : Base) → Of k → QueryEnds (λ (b : Base). b ≡ k) c choices budget _ _ _ _ result = λ k of_k.
     halts (λ (b : Base). b ≡ k) choices (called k of_k) h result at is
     (λ b same. subst (λ (x : Base). searches k state c ≤ searches x state c) (sym same) (omega arith)) in
