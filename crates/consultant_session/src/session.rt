@@ -12,7 +12,7 @@ ghost use Rattle.consult_text.specs.States.{state_after};
 mod asking;
 
 use crate::literals::{is_among, is_known, remove};
-use crate::tasks::{task_of, unknown_of};
+use crate::tasks::opened;
 use chooser::Choose;
 use clause_learning::Solver;
 use consult_base::KnowledgeBase;
@@ -68,8 +68,7 @@ impl<C: Choose + Copy + Drop> Session<C> {
     ) -> Result<Session<C>, Memory>
         ensures { IfOk result (IsJustOpened kb budget) }
     {
-        let task = task_of(alloc, &kb, rule)?;
-        let unknown = unknown_of(alloc, &kb)?;
+        let (task, unknown) = opened(alloc, &kb, rule)?;
         Ok(Session {
             alloc,
             kb,
