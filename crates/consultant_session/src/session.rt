@@ -113,6 +113,8 @@ impl<C: Choose + Copy + Drop> Session<C> {
         ensures searches { Searches (base_of self.old.kb) command.now self.old.state.budget result self.old.solver
             self.new.solver }
     {
+        // Brings the invariant of the type into scope.
+        let _budget = self.budget;
         match command {
             Command::Assert(literal) => self.assert(literal),
             Command::Retract(literal) => Ok(self.retract(literal)),
