@@ -58,6 +58,6 @@ few-unknown kb b p lits is =
       arith,
       same,
       each,
-      length-map (literal_with true) (unknown_atoms kb.known),
+      length-map (unknown_atoms kb.known) (literal_with true),
       filter_shorter (λ a. is_unknown (value_at kb.known a)) atoms,
     )

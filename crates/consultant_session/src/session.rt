@@ -12,7 +12,7 @@ ghost use Rattle.consult_text.specs.States.{state_after};
 mod asking;
 
 use crate::literals::{is_among, is_known, remove};
-use crate::tasks::{task_of, unknown_of};
+use crate::tasks::opened;
 use chooser::Choose;
 use clause_learning::Solver;
 use consult_base::KnowledgeBase;
@@ -68,8 +68,7 @@ impl<C: Choose + Copy + Drop> Session<C> {
     ) -> Result<Session<C>, Memory>
         ensures { IfOk result (IsJustOpened kb budget) }
     {
-        let task = task_of(alloc, &kb, rule)?;
-        let unknown = unknown_of(alloc, &kb)?;
+        let (task, unknown) = opened(alloc, &kb, rule)?;
         Ok(Session {
             alloc,
             kb,
@@ -114,6 +113,8 @@ impl<C: Choose + Copy + Drop> Session<C> {
         ensures searches { Searches (base_of self.old.kb) command.now self.old.state.budget result self.old.solver
             self.new.solver }
     {
+        // Brings the invariant of the type into scope.
+        let _budget = self.budget;
         match command {
             Command::Assert(literal) => self.assert(literal),
             Command::Retract(literal) => Ok(self.retract(literal)),

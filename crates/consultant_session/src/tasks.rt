@@ -35,7 +35,7 @@ fn solver_of<C: Choose + Drop>(
 }
 
 /// A task of the knowledge base to which nothing was said yet.
-pub fn task_of<C: Choose + Drop>(
+fn task_of<C: Choose + Drop>(
     alloc: Global,
     kb: &KnowledgeBase,
     rule: C,
@@ -63,9 +63,25 @@ pub fn open_anew<C: Choose + Drop>(
 }
 
 /// The literals of the variables of the atoms that the data leave unknown.
-pub fn unknown_of(alloc: Global, kb: &KnowledgeBase) -> Result<Vec<Lit>, Memory>
+fn unknown_of(alloc: Global, kb: &KnowledgeBase) -> Result<Vec<Lit>, Memory>
     ensures { IfOk result (λ lits. AreUnknownOf (base_of kb.now) lits.items) }
 {
     kb.data().consistency();
     open_literals(alloc, kb.data())
+}
+
+/// The task of a session that is opened, and the literals of the atoms that its data leave unknown. These come first:
+/// to give up a task wherever memory may run out would be dear to prove.
+pub fn opened<C: Choose + Drop>(
+    alloc: Global,
+    kb: &KnowledgeBase,
+    rule: C,
+) -> Result<(Task<Solver<C>>, Vec<Lit>), Memory>
+    ensures over { IfOk result (λ both. IsTaskOver (base_of kb.now) both.0.numbers both.0.solver.kept) }
+    ensures learnt { IfOk result (λ both. both.0.solver.kept.learnt ≡ []) }
+    ensures unknown { IfOk result (λ both. AreUnknownOf (base_of kb.now) both.1.items) }
+{
+    let unknown = unknown_of(alloc, kb)?;
+    let task = task_of(alloc, kb, rule)?;
+    Ok((task, unknown))
 }

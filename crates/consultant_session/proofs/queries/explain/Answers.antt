@@ -36,7 +36,7 @@ returns-in-Ok-By g c =
       begun = c.begin-budget.ensures.budget;
       ends = end.ends;
       task = λ kb is. end.task kb (c.begin-budget.ensures.task kb is);
-    }) (reply.Supported c.in-Ok-By.some) (λ k is. cc)
+    }) (reply.Supported _) (λ k is. cc)
     (λ kb is. (
       tt,
       subst (λ (ls : List Literal). AnswersSupport kb c.args.choices.now c.args.literal.now (By ls)) (sym c.in-Ok-By.some-is)

@@ -31,7 +31,7 @@ returns-in-Ok-Model g c =
       begun = c.begin-budget.ensures.budget;
       ends = ask.ends;
       task = λ kb is. ask.task kb (c.begin-budget.ensures.task kb is);
-    }) (reply.Model c.in-Ok-Model.m) (λ k is. cc)
+    }) (reply.Model _) (λ k is. cc)
     (λ kb is. (
       tt,
       subst (IsModelUnder kb choices) (sym c.in-Ok-Model.m-is)

@@ -29,7 +29,7 @@ returns-in-Ok-Some g c =
       begun = c.begin-budget.ensures.budget;
       ends = end.ends;
       task = λ kb is. end.task kb (c.begin-budget.ensures.task kb is);
-    }) (reply.Models c.in-Ok-Some.models.list c.in-Ok-Some.models.all) (λ k is. cc)
+    }) (reply.Models _ _) (λ k is. cc)
     (λ kb is. (
       tt,
       subst (λ (ms : Models). AnswersModels kb c.args.choices.now c.args.most (Some ms)) (sym c.in-Ok-Some.models-is)

@@ -36,7 +36,7 @@ returns-in-Ok-Some g c =
       begun = c.begin-budget.ensures.budget;
       ends = end.ends;
       task = λ kb is. end.task kb (c.begin-budget.ensures.task kb is);
-    }) (reply.Forced c.in-Ok-Some.literals) (λ k is. cc)
+    }) (reply.Forced _) (λ k is. cc)
     (λ kb is. (
       tt,
       subst (λ (ls : List Literal). IsAnswer kb (record { choices = c.args.choices.now }) (Some ls)) (sym c.in-Ok-Some.literals-is)

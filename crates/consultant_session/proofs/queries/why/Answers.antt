@@ -29,7 +29,7 @@ returns-in-Ok-Some g c =
       begun = c.begin-budget.ensures.budget;
       ends = end.ends;
       task = λ kb is. end.task kb (c.begin-budget.ensures.task kb is);
-    }) (reply.Conflict c.in-Ok-Some.some) (λ k is. cc)
+    }) (reply.Conflict _) (λ k is. cc)
     (λ kb is. (
       tt,
       subst (λ (ls : List Literal). AnswersConflict kb c.args.choices.now (Some ls)) (sym c.in-Ok-Some.some-is)

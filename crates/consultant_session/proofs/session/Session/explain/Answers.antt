@@ -1,7 +1,9 @@
-use Rattle.std.proofs.Common.{◌≡◌, List, IfOk, sym, subst}
+use Rattle.std.proofs.Common.{◌≡◌, List, IfOk, sym, ap, subst}
 use Rattle.kb_logic.specs.declared.structures.Literal.{Literal}
 use Rattle.ground_task.specs.Choices.{AreOver}
-use Rattle.consult_base.specs.Opened.{base_of}
+use Rattle.consult_base.specs.Opened.{Opened, base_of}
+use Rattle.consult_text.specs.Literals.{IsLiteralOver}
+use Rattle.consultant_session.specs.Sessions.{SessionState}
 use Rattle.consult_text.specs.declared.commands.Command.TheVariants as command
 use Rattle.consult_text.specs.RightReplies.{RightAnswer}
 use Rattle.consultant_session.proofs.FoundLemmas.{choices_over}
@@ -23,7 +25,9 @@ explain-requires-clause-choices g c =
 pub explain-requires-clause-literal : goal.explain-requires-clause-literal
 explain-requires-clause-literal g c =
     subst (λ (b : GroundBase). IsAtomOver b.vocabulary.symbols b.domains (atom_of c.args.literal.now))
-    (sym c.self.invariant.over.task.numbers) (atom_over (base_of c.self.inside.kb) c.args.literal.now c.requires)
+    (sym c.self.invariant.over.task.numbers) (atom_over (base_of c.self.inside.kb) c.args.literal.now
+    (subst (λ (k : Opened). IsLiteralOver (base_of k) c.args.literal.now)
+    (sym (ap (λ (s : SessionState). s.kb) c.self.view_is)) c.requires))
 
 pub returns-clause-right : goal.returns-clause-right
 returns-clause-right g c =

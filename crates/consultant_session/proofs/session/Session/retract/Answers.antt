@@ -15,5 +15,6 @@ invariant_of-self g c = record {
       ∙ (c.remove.ensures ∙ ap (without c.args.literal.now) (c.into_vec-choices.ensures ∙ c.replace.ensures.value))))
       (all_filter (IsLiteralOver (base_of c.self.inside.kb)) (λ d. not (same_literal c.args.literal.now d))
       c.self.inside.choices c.self.invariant.choices);
+  unknown = c.self.invariant.unknown;
   over = c.self.invariant.over;
 }
