@@ -33,8 +33,8 @@ returns-in-Ok-Some g c =
     let end = c.least.ensures in
     let kb = c.requires.task.0 in
     let called : IsCalled (term_width kb c.args.term + 3) (command.Minimize c.args.term) c.args.limit
-        c.args.task.now.numbers c.least.new.task.numbers c.args.task.now.solver.kept c.begin-budget.new.task.solver.kept
-        c.least.new.task.solver.kept c.begin-budget.result c.least.new.budget = record {
+    c.args.task.now.numbers c.least.new.task.numbers c.args.task.now.solver.kept c.begin-budget.new.task.solver.kept
+    c.least.new.task.solver.kept c.begin-budget.result c.least.new.budget = record {
       query = tt;
       empty = refl;
       forgot = c.begin-budget.ensures.kept;
@@ -59,8 +59,8 @@ returns-in-Ok-None g c =
     let end = c.least.ensures in
     let kb = c.requires.task.0 in
     let called : IsCalled (term_width kb c.args.term + 3) (command.Minimize c.args.term) c.args.limit
-        c.args.task.now.numbers c.least.new.task.numbers c.args.task.now.solver.kept c.begin-budget.new.task.solver.kept
-        c.least.new.task.solver.kept c.begin-budget.result c.least.new.budget = record {
+    c.args.task.now.numbers c.least.new.task.numbers c.args.task.now.solver.kept c.begin-budget.new.task.solver.kept
+    c.least.new.task.solver.kept c.begin-budget.result c.least.new.budget = record {
       query = tt;
       empty = refl;
       forgot = c.begin-budget.ensures.kept;
@@ -83,9 +83,9 @@ pub returns-in-Err : goal.returns-in-Err
 returns-in-Err g c =
     let end = c.least.ensures in
     let called : (kb : Base) → IsTaskOf kb c.args.task.now.numbers c.args.task.now.solver.kept.problem
-        → IsCalled (term_width kb c.args.term + 3) (command.Minimize c.args.term) c.args.limit c.args.task.now.numbers
-        c.least.new.task.numbers c.args.task.now.solver.kept c.begin-budget.new.task.solver.kept
-        c.least.new.task.solver.kept c.begin-budget.result c.least.new.budget = λ kb of. record {
+    → IsCalled (term_width kb c.args.term + 3) (command.Minimize c.args.term) c.args.limit c.args.task.now.numbers
+    c.least.new.task.numbers c.args.task.now.solver.kept c.begin-budget.new.task.solver.kept
+    c.least.new.task.solver.kept c.begin-budget.result c.least.new.budget = λ kb of. record {
       query = tt;
       empty = refl;
       forgot = c.begin-budget.ensures.kept;
