@@ -18,7 +18,7 @@ returns-in_ok-step-in-Ok-Some-clause-right c =
         c.requires,
         subst (λ (k : Opened). HasCommand (base_of k) c.args.line.now c.in-Ok-Some.command) c.kb.ensures has,
         c.in_ok-step-in-Ok-Some.ensures.right,
-        was_searched (base_of c.kb.result.now) c.in-Ok-Some.command _ _ _ _ c.in_ok-step-in-Ok-Some.ensures.searches,
+        was_searched (base_of c.args.session.now.kb) c.in-Ok-Some.command _ _ _ _ c.in_ok-step-in-Ok-Some.ensures.searches,
       );
       reply = refl;
       leaves = c.in_ok-step-in-Ok-Some.ensures.after;
