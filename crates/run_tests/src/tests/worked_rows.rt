@@ -46,7 +46,7 @@ refused F7 GivenByData
 refused F2 UnknownSymbol
 refused F3 WrongArity
 refused F1 Syntax
-refused F1 Syntax
+refused F9 UnknownTerm
 choice Q(b)
 done
 model
