@@ -110,10 +110,11 @@ named_terms-is n s t (x ∷ xs) = ap (named.more_terms (named_term n s t)) (name
 -- ---- a list of variables: the first one, and then the further ones
 
 pub binders_vars : {X : Type 0} (f : raw.Var → X) (v : raw.Var) (vs : raw.Vars) (more : List RawVarTail)
-    (first after : List X)
-    → vs ≡ vars_of v (map var_tail_view more) → first ≡ f v ∷ [] → after ≡ first ++ map f (map tail_var more)
-    → after ≡ map f (vars_in vs)
-binders_vars f v vs more first after is one e = rw (is, vars_in-is v more) (e ∙ rw one refl)
+    (old first after : List X)
+    → vs ≡ vars_of v (map var_tail_view more) → first ≡ old ++ f v ∷ [] → after ≡ first ++ map f (map tail_var more)
+    → after ≡ old ++ map f (vars_in vs)
+binders_vars f v vs more old first after is one e =
+    rw (is, vars_in-is v more) (e ∙ rw one (append_assoc old (f v ∷ []) (map f (map tail_var more))))
 
 pub binders_scope : (v : raw.Var) (vs : raw.Vars) (more : List RawVarTail) (scope one after : List Text)
     → vs ≡ vars_of v (map var_tail_view more) → one ≡ scope ++ var_text v ∷ []

@@ -9,13 +9,16 @@ use Rattle.std.proofs.lemmas.List.{append_assoc, map-append}
 use Rattle.reading_stages.specs.Names.{Names}
 use Rattle.reading_stages.specs.NamesStage.{name_noted}
 use Rattle.reading_stages.specs.Scopes.{Text}
-use Rattle.reading_stages.specs.Uses.{Context, Use, in_scope}
-use Rattle.formula_names.specs.Steps.{names_known, IsStep}
+use Rattle.reading_stages.specs.Uses.{Context, Use}
+use Rattle.formula_names.specs.Steps.{context_of, names_known, IsStep}
 use Rattle.formula_names.specs.declared.resolver.Resolver.{Resolver}
 use Rattle.formula_names.proofs.ChainEnds.{noted_all, noted_twice}
 
-same_names : (a b : Resolver) → b.table ≡ a.table → names_known b ≡ names_known a
+pub same_names : (a b : Resolver) → b.known ≡ a.known → names_known b ≡ names_known a
 same_names a b e = rw e refl
+
+pub same_context : (a b : Resolver) → b.known ≡ a.known → b.scope ≡ a.scope → context_of b ≡ context_of a
+same_context a b known scope = rw (known, scope) refl
 
 -- what is made of two steps, after both of them
 pub both : {A B C : Type 0} {r1 s1 : A} {r2 s2 : B} {made right : C} {first second inner : List Text}
@@ -24,10 +27,10 @@ pub both : {A B C : Type 0} {r1 s1 : A} {r2 s2 : B} {made right : C} {first seco
     → IsStep a c made right inner all
 both {us} {vs} a b c one two tree scope uses = record {
   tree = tree;
-  table = two.table ∙ one.table;
+  known = two.known ∙ one.known;
   scope = two.scope ∙ scope;
   noted = rw uses (noted_twice (name_noted (names_known a)) a.earliest.first b.earliest.first c.earliest.first us vs
-      one.noted (rw (same_names a b one.table) at two.noted));
+      one.noted (rw (same_names a b one.known) at two.noted));
 }
 
 -- what a loop has done that adds the operands of a chain: each operand x is F of it, and its uses are G of it
@@ -35,7 +38,7 @@ abbrev pub Adds : {X Y Z : Type 0} → Resolver → Resolver → (Names → List
     → (X → Y) → List X → List Z → List Z → Type 0
 Adds start now F G V done before items =
     IsStep start now items (before ++ map (F (names_known start) start.scope) (map V done)) start.scope
-    (flat_map (G (in_scope start.scope)) (map V done))
+    (flat_map (G (context_of start)) (map V done))
 
 -- one operand more
 pub turn : {M X Y Z : Type 0} {m r : M} {items pushed : List Z} {z : Z} {us : List Use} (start now next : Resolver)
@@ -43,21 +46,21 @@ pub turn : {M X Y Z : Type 0} {m r : M} {items pushed : List Z} {z : Z} {us : Li
     (before : List Z)
     → Adds start now F G V (take i more) before items → IsStep now next m r now.scope us
     → pushed ≡ items ++ z ∷ [] → i < length more → x ≡ get_or more i x
-    → z ≡ F (names_known now) now.scope (V x) → us ≡ G (in_scope now.scope) (V x)
+    → z ≡ F (names_known now) now.scope (V x) → us ≡ G (context_of now) (V x)
     → Adds start next F G V (take (i + 1) more) before pushed
 turn start now next F G V more i x before so_far step push lt is tree uses =
     let took : take (i + 1) more ≡ take i more ++ x ∷ [] = rw add-one (take-suc more i x lt ∙ rw (← is) refl) in
     let all : map V (take (i + 1) more) ≡ map V (take i more) ++ V x ∷ [] =
     rw took (map-append V (take i more) (x ∷ [])) in
-    let names : names_known now ≡ names_known start = same_names start now so_far.table in
+    let names : names_known now ≡ names_known start = same_names start now so_far.known in
     both start now next so_far step
     (push ∙ rw (all, so_far.tree, tree, names, so_far.scope, map-append) (append_assoc before
     (map (F (names_known start) start.scope) (map V (take i more)))
     (F (names_known start) start.scope (V x) ∷ [])))
     so_far.scope
-    (rw (all, flat_map-append, uses, so_far.scope)
-    (ap (λ (vs : List Use). flat_map (G (in_scope start.scope)) (map V (take i more)) ++ vs)
-    (append-nil (G (in_scope start.scope) (V x)))))
+    (rw (all, flat_map-append, uses, same_context start now so_far.known so_far.scope)
+    (ap (λ (vs : List Use). flat_map (G (context_of start)) (map V (take i more)) ++ vs)
+    (append-nil (G (context_of start) (V x)))))
 
 -- a chain: the step at its first operand, and then those of a loop over the others
 pub chain : {A B X Y Z : Type 0} {r1 s1 : A} {made right : B} {us all : List Use} {items : List Z}
@@ -65,14 +68,14 @@ pub chain : {A B X Y Z : Type 0} {r1 s1 : A} {made right : B} {us all : List Use
     (more whole : List X) (i : ℕ) (before : List Z)
     → IsStep a b r1 s1 a.scope us → Adds b c F G V (take i more) before items → length more ≤ i → more ≡ whole
     → (items ≡ before ++ map (F (names_known a) a.scope) (map V (take i more)) → made ≡ right)
-    → all ≡ us ++ flat_map (G (in_scope a.scope)) (map V whole)
+    → all ≡ us ++ flat_map (G (context_of a)) (map V whole)
     → IsStep a c made right a.scope all
 chain {us} a b c F G V more whole i before one two ended is tree uses = record {
-  tree = tree (rw (same_names a b one.table, one.scope) at two.tree);
-  table = two.table ∙ one.table;
+  tree = tree (rw (same_names a b one.known, one.scope) at two.tree);
+  known = two.known ∙ one.known;
   scope = two.scope ∙ one.scope;
-  noted = rw uses (noted_all (name_noted (names_known a)) (G (in_scope a.scope)) V a.earliest.first b.earliest.first
-      c.earliest.first us more whole i one.noted (rw (same_names a b one.table, one.scope) at two.noted) ended is);
+  noted = rw uses (noted_all (name_noted (names_known a)) (G (context_of a)) V a.earliest.first b.earliest.first
+      c.earliest.first us more whole i one.noted (rw (same_names a b one.known, same_context a b one.known one.scope) at two.noted) ended is);
 }
 
 -- what holds of any value holds where there is one

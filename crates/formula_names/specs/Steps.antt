@@ -5,7 +5,7 @@ use Rattle.reading_stages.specs.NamedViews.{formula_view, term_view}
 use Rattle.reading_stages.specs.Names.{Names}
 use Rattle.reading_stages.specs.NamesStage.{name_noted}
 use Rattle.reading_stages.specs.Scopes.{Text}
-use Rattle.reading_stages.specs.Uses.{Context, Use, in_scope}
+use Rattle.reading_stages.specs.Uses.{Context, Use}
 use Rattle.reading_stages.specs.declared.named.NamedFormula.{NamedFormula}
 use Rattle.reading_stages.specs.declared.named.NamedTerm.{NamedTerm}
 use Rattle.formula_names.specs.Meanings.{names_in}
@@ -13,15 +13,19 @@ use Rattle.formula_names.specs.declared.resolver.Resolver.{Resolver}
 
 -- the names that the walk knows
 abbrev pub names_known : Resolver → Names
-names_known walk = names_in walk.table.now
+names_known walk = names_in walk.known.table.now
 
--- A step from one state of the walk to the next: what it made is right, the names are the same, these variables are in
+-- what is known where the walk stands
+abbrev pub context_of : Resolver → Context
+context_of walk = record { scope = walk.scope; defined = walk.known.defined.now }
+
+-- A step from one state of the walk to the next: what it made is right, the same is known, these variables are in
 -- scope after it, and the earliest refusal of its uses is noted. One record in place of four clauses, since each clause
 -- of a function is a goal at each of its ways out.
 pub record IsStep {T : Type 0} (old new : Resolver) (made right : T) (inner : List Text) (uses : List Use)
     : Type 0 where
   pub tree : made ≡ right
-  pub table : new.table ≡ old.table
+  pub known : new.known ≡ old.known
   pub scope : new.scope ≡ inner
   pub noted : new.earliest.first ≡ fold (name_noted (names_known old)) old.earliest.first uses
 
@@ -30,7 +34,7 @@ pub record IsStep {T : Type 0} (old new : Resolver) (made right : T) (inner : Li
 abbrev pub Resolves : {M T P : Type 0} → Resolver → Resolver → (M → T) → P → (Names → List Text → P → T)
     → (Context → P → List Use) → M → Type 0
 Resolves old new view part named uses made =
-    IsStep old new (view made) (named (names_known old) old.scope part) old.scope (uses (in_scope old.scope) part)
+    IsStep old new (view made) (named (names_known old) old.scope part) old.scope (uses (context_of old) part)
 
 -- where there was memory for it
 abbrev pub ResolvesFormula : {P E : Type 0} → Resolver → Resolver → P → (Names → List Text → P → tree.NamedFormula)

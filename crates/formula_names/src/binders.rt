@@ -23,7 +23,7 @@ impl<'r, 'a> Resolver<'r, 'a> {
             self.old.scope (position_uses (var_type (raw.var_view var.now))) }
     {
         match &var.of {
-            Some(of) => Some(position(self.table, &of.name, &mut self.earliest)),
+            Some(of) => Some(position(self.known.table, &of.name, &mut self.earliest)),
             None => None,
         }
     }
@@ -66,17 +66,31 @@ impl<'r, 'a> Resolver<'r, 'a> {
         Ok(())
     }
 
+    /// Adds the variables of a list, which are in scope from then on.
+    pub fn add_binders(
+        &mut self,
+        vars: &'a RawVars,
+        named: &mut Vec<NamedVar>,
+    ) -> Result<(), Memory>
+        ensures { OnOk result (IsStep self.old self.new (map var_view named.new.items)
+            (map var_view named.old.items ++ named_vars (names_known self.old) (raw.vars_view vars.now))
+            (within self.old.scope (raw.vars_view vars.now)) (uses_of_vars [] (vars_in (raw.vars_view vars.now)))) }
+    {
+        let outer = self.scope.len();
+        named.push(self.bind(outer, &vars.first)?)?;
+        let more = vars.more.as_slice();
+        self.bind_more(outer, more, named)?;
+        Ok(())
+    }
+
     /// The variables of a quantifier or an aggregate, which are in scope from then on.
     pub fn binders(&mut self, vars: &'a RawVars) -> Result<Items<NamedVar>, Memory>
         ensures { IfOk result (λ vs. IsStep self.old self.new (map var_view vs)
             (named_vars (names_known self.old) (raw.vars_view vars.now))
             (within self.old.scope (raw.vars_view vars.now)) (uses_of_vars [] (vars_in (raw.vars_view vars.now)))) }
     {
-        let outer = self.scope.len();
         let mut named = Vec::new(self.alloc);
-        named.push(self.bind(outer, &vars.first)?)?;
-        let more = vars.more.as_slice();
-        self.bind_more(outer, more, &mut named)?;
+        self.add_binders(vars, &mut named)?;
         Ok(Items::from_vec(named))
     }
 }

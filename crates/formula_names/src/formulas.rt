@@ -11,12 +11,13 @@ ghost use Rattle.reading_stages.specs.Uses.{uses_in_unary, uses_in_prim, uses_in
 ghost use Rattle.reading_stages.specs.Uses.{uses_in_factor, uses_in_arguments, uses_of_vars, vars_in, within};
 ghost use Rattle.formula_names.specs.LaterLinks.{later_operands, later_uses};
 ghost use Rattle.formula_names.specs.Meanings.{names_in};
-ghost use Rattle.formula_names.specs.Steps.{names_known, IsStep, Resolves, ResolvesFormula, ResolvesTerm};
+ghost use Rattle.formula_names.specs.Steps.{context_of, names_known, IsStep, Resolves, ResolvesFormula};
+ghost use Rattle.formula_names.specs.Steps.{ResolvesTerm};
 
 use crate::arrows::grouped;
 use crate::closing::{negation, opposite};
 use crate::nodes::{all_of, any_of, multiplied, place_of, placed, signed, summed};
-use crate::resolver::Resolver;
+use crate::resolver::{Known, Resolver};
 use crate::scopes::Scope;
 use crate::tables::Table;
 use crate::words::{
@@ -31,49 +32,55 @@ use reading_stages::{Earliest, NamedFormula, NamedNode, NamedTerm, NamedVar};
 use sqlite_items::Items;
 use std::alloc::Global;
 
-/// A formula with numbers for words.
-pub fn formula<'a>(
+/// A formula in no variable's scope, with numbers for words.
+pub fn sentence<'a>(
     alloc: Global,
     table: &Table<'a>,
-    scope: &mut Scope<'a>,
     raw: &'a RawFormula,
     earliest: &mut Earliest,
 ) -> Result<NamedFormula, Memory>
-    ensures tree { IfOk result (λ f. formula_view f ≡ named_formula (names_in table.now) scope.old
+    ensures tree { IfOk result (λ f. formula_view f ≡ named_formula (names_in table.now) []
         (seen.formula_view raw.now)) }
-    ensures scope { OnOk result (scope.new ≡ scope.old) }
     ensures noted { OnOk result (earliest.new.first ≡ fold (name_noted (names_in table.now)) earliest.old.first
-        (uses_in (in_scope scope.old) (seen.formula_view raw.now))) }
+        (uses_in (in_scope []) (seen.formula_view raw.now))) }
 {
-    let mut resolver = Resolver::begin(alloc, table, scope, earliest);
-    let named = resolver.formula(raw);
-    resolver.give_back(scope, earliest);
+    let defined = Scope::new(alloc);
+    let known = Known {
+        table,
+        defined: &defined,
+    };
+    let mut walk = Resolver::begin(alloc, known, earliest);
+    let named = walk.formula(raw);
+    earliest.first = walk.earliest.first;
     named
 }
 
-/// A term with numbers for words.
-pub fn term<'a>(
+/// A term in no variable's scope, with numbers for words.
+pub fn block_term<'a>(
     alloc: Global,
     table: &Table<'a>,
-    scope: &mut Scope<'a>,
     raw: &'a RawTermTree,
     earliest: &mut Earliest,
 ) -> Result<NamedTerm, Memory>
-    ensures tree { IfOk result (λ t. term_view t ≡ named_term (names_in table.now) scope.old
-        (seen.term_view raw.now)) }
-    ensures scope { OnOk result (scope.new ≡ scope.old) }
+    ensures tree { IfOk result (λ t. term_view t ≡ named_term (names_in table.now) [] (seen.term_view raw.now)) }
     ensures noted { OnOk result (earliest.new.first ≡ fold (name_noted (names_in table.now)) earliest.old.first
-        (uses_in_term (in_scope scope.old) (seen.term_view raw.now))) }
+        (uses_in_term (in_scope []) (seen.term_view raw.now))) }
 {
-    let mut resolver = Resolver::begin(alloc, table, scope, earliest);
-    let named = resolver.term(raw);
-    resolver.give_back(scope, earliest);
+    let defined = Scope::new(alloc);
+    let known = Known {
+        table,
+        defined: &defined,
+    };
+    let mut walk = Resolver::begin(alloc, known, earliest);
+    let named = walk.term(raw);
+    earliest.first = walk.earliest.first;
     named
 }
 
 impl<'r, 'a> Resolver<'r, 'a> {
+    /// A formula with numbers for words.
     #[cycle(resolve)]
-    fn formula(&mut self, raw: &'a RawFormula) -> Result<NamedFormula, Memory>
+    pub fn formula(&mut self, raw: &'a RawFormula) -> Result<NamedFormula, Memory>
         ensures { ResolvesFormula self.old self.new (seen.formula_view raw.now) named_formula uses_in result }
     {
         match raw {
@@ -93,7 +100,7 @@ impl<'r, 'a> Resolver<'r, 'a> {
         ensures { OnOk result (IsStep self.old self.new (map formula_view more.new.items)
             (map formula_view more.old.items ++ later_operands (names_known self.old) self.old.scope
             (seen.formula_view raw.now))
-            self.old.scope (later_uses (in_scope self.old.scope) (seen.formula_view raw.now))) }
+            self.old.scope (later_uses (context_of self.old) (seen.formula_view raw.now))) }
     {
         let RawFormula::Linked(_, _, next, links) = raw else {
             return Ok(());
@@ -186,8 +193,9 @@ impl<'r, 'a> Resolver<'r, 'a> {
         }
     }
 
+    /// A term with numbers for words.
     #[cycle(resolve)]
-    fn term(&mut self, raw: &'a RawTermTree) -> Result<NamedTerm, Memory>
+    pub fn term(&mut self, raw: &'a RawTermTree) -> Result<NamedTerm, Memory>
         ensures { ResolvesTerm self.old self.new (seen.term_view raw.now) named_term uses_in_term result }
     {
         let first = self.product(&raw.first)?;
@@ -274,7 +282,7 @@ impl<'r, 'a> Resolver<'r, 'a> {
             (seen.formula_view condition.now))
             (within self.old.scope (seen.vars_view opening.now.vars)) (an_aggregate opening.now.place
             ∷ (uses_of_vars [] (vars_in (seen.vars_view opening.now.vars)) ++ uses_in
-            (inside (in_scope self.old.scope) (seen.vars_view opening.now.vars)) (seen.formula_view condition.now)))) }
+            (inside (context_of self.old) (seen.vars_view opening.now.vars)) (seen.formula_view condition.now)))) }
     {
         note_aggregate(opening.place, &mut self.earliest);
         let vars = self.binders(opening.vars.get())?;

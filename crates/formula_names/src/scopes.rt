@@ -1,5 +1,5 @@
 //! The variables in scope, outermost first.
-ghost use Rattle.std.specs.Prelude.{◌≡◌, [], ◌∷◌, ◌++◌, ◌-◌, OnOk, length, take, drop, is_some};
+ghost use Rattle.std.specs.Prelude.{◌≡◌, [], ◌∷◌, ◌++◌, ◌-◌, IfOk, OnOk, length, take, drop, is_some};
 ghost use Rattle.reading_stages.specs.Scopes.{last_position};
 
 use indexmap::IndexMap;
@@ -78,9 +78,10 @@ impl<'a> Scope<'a> {
         level_of(&self.levels, name)
     }
 
-    /// Binds one more variable.
-    pub fn enter(&mut self, name: &'a [u8]) -> Result<(), Memory>
-        ensures { OnOk result (self.new ≡ self.old ++ name.now ∷ []) }
+    /// Binds one more variable, and returns its number.
+    pub fn enter(&mut self, name: &'a [u8]) -> Result<u32, Memory>
+        ensures number { IfOk result (λ n. n ≡ length self.old) }
+        ensures scope { OnOk result (self.new ≡ self.old ++ name.now ∷ []) }
     {
         let number = self.bindings.len();
         if number >= u32::MAX as usize {
@@ -89,7 +90,7 @@ impl<'a> Scope<'a> {
         let hidden = level_of(&self.levels, name);
         self.bindings.push(Binding { text: name, hidden })?;
         match self.levels.map.insert(name, Some(number as u32)) {
-            Ok(_) => Ok(()),
+            Ok(_) => Ok(number as u32),
             Err(_) => {
                 let _ = self.bindings.pop();
                 Err(Memory)

@@ -1,5 +1,5 @@
 //! One use of a word: what it means there, and whether it is refused.
-ghost use Rattle.std.specs.Prelude.{◌≡◌, [], ◌∷◌};
+ghost use Rattle.std.specs.Prelude.{◌≡◌, ◌&&◌, [], ◌∷◌};
 ghost use Rattle.reading_stages.specs.Names.{meaning_at, meaning_of};
 ghost use Rattle.reading_stages.specs.NamesStage as stage;
 ghost use Rattle.reading_stages.specs.NamesStage.{name_noted};
@@ -9,7 +9,8 @@ ghost use Rattle.fo_syntax.specs.View.{name_view};
 ghost use Rattle.reading_stages.specs.Earliest.{noted_if};
 ghost use Rattle.kb_text.specs.declared.fault.K.TheVariants.{UnknownName, WrongArity, Unsupported};
 ghost use Rattle.formula_names.specs.Meanings.{meaning_view, names_in};
-ghost use Rattle.formula_names.specs.Steps.{IsStep, names_known};
+ghost use Rattle.formula_names.specs.Steps.{IsStep, context_of, names_known};
+ghost use Rattle.reading_stages.specs.Scopes.{is_among};
 
 use crate::resolver::Resolver;
 use crate::scopes::Scope;
@@ -108,6 +109,43 @@ fn is_no_term(meaning: Meaning, count: usize) -> bool
     }
 }
 
+fn is_no_function(meaning: Meaning, count: usize) -> bool
+    ensures { result ≡ stage.is_no_function (meaning_view meaning) count }
+{
+    match meaning {
+        Meaning::Undeclared => false,
+        Meaning::Integers => false,
+        Meaning::Naturals => false,
+        Meaning::TypeName(_) => false,
+        Meaning::Predicate(_, _) => true,
+        Meaning::Function(_, arity) => arity != count,
+        Meaning::Made(_, _) => true,
+        Meaning::Variable(_) => true,
+    }
+}
+
+fn is_symbol(meaning: Meaning) -> bool
+    ensures { result ≡ stage.is_symbol (meaning_view meaning) }
+{
+    match meaning {
+        Meaning::Undeclared => false,
+        Meaning::Integers => false,
+        Meaning::Naturals => false,
+        Meaning::TypeName(_) => false,
+        Meaning::Predicate(_, _) => true,
+        Meaning::Function(_, _) => true,
+        Meaning::Made(_, _) => false,
+        Meaning::Variable(_) => false,
+    }
+}
+
+/// Whether a word with this meaning is a symbol that the definition round it defines.
+fn is_defined<'a>(defined: &Scope<'a>, word: &'a RawName, meaning: Meaning) -> bool
+    ensures { result ≡ (stage.is_symbol (meaning_view meaning) && is_among word.now.text defined.now) }
+{
+    is_symbol(meaning) && defined.level(word.text.as_slice()).is_some()
+}
+
 /// A number past the greatest count is refused, and counts as 0.
 pub fn within_count(count: u32, number: usize) -> u32
     ensures { result ≡ numbers.within_count count number }
@@ -134,6 +172,21 @@ fn type_number(meaning: Meaning) -> u32
     }
 }
 
+fn function_number(meaning: Meaning) -> u32
+    ensures { result ≡ numbers.function_number (meaning_view meaning) }
+{
+    match meaning {
+        Meaning::Function(number, _) => within_count(1024, number),
+        Meaning::Undeclared => 0,
+        Meaning::Integers => 0,
+        Meaning::Naturals => 0,
+        Meaning::TypeName(_) => 0,
+        Meaning::Predicate(_, _) => 0,
+        Meaning::Made(_, _) => 0,
+        Meaning::Variable(_) => 0,
+    }
+}
+
 fn predicate_number(meaning: Meaning) -> u32
     ensures { result ≡ numbers.predicate_number (meaning_view meaning) }
 {
@@ -149,7 +202,13 @@ fn predicate_number(meaning: Meaning) -> u32
     }
 }
 
-fn meaning_at<'a>(table: &Table<'a>, scope: &Scope<'a>, word: &'a RawName, count: usize) -> Meaning
+/// What a word means, where these variables are in scope.
+pub fn meaning_at<'a>(
+    table: &Table<'a>,
+    scope: &Scope<'a>,
+    word: &'a RawName,
+    count: usize,
+) -> Meaning
     ensures { meaning_view result ≡ meaning_at (names_in table.now) scope.now (name_view word.now) count }
 {
     if count != 0 {
@@ -181,15 +240,15 @@ impl<'r, 'a> Resolver<'r, 'a> {
     pub fn formula_word(&mut self, word: &'a RawName, count: usize) -> u32
         ensures { IsStep self.old self.new result (numbers.predicate_number (meaning_at (names_known self.old)
             self.old.scope (name_view word.now) count))
-            self.old.scope (use_of.formula_word self.old.scope (name_view word.now) count ∷ []) }
+            self.old.scope (use_of.formula_word (context_of self.old) (name_view word.now) count ∷ []) }
     {
-        let meaning = meaning_at(self.table, &self.scope, word, count);
+        let meaning = meaning_at(self.known.table, &self.scope, word, count);
         note_word(
             &mut self.earliest,
             word.place,
             is_undeclared(meaning),
             is_no_formula(meaning, count),
-            is_type(meaning),
+            is_type(meaning) || is_defined(self.known.defined, word, meaning),
         );
         predicate_number(meaning)
     }
@@ -198,17 +257,34 @@ impl<'r, 'a> Resolver<'r, 'a> {
     pub fn term_word(&mut self, word: &'a RawName, count: usize) -> Meaning
         ensures { IsStep self.old self.new (meaning_view result) (meaning_at (names_known self.old) self.old.scope
             (name_view word.now) count)
-            self.old.scope (use_of.term_word self.old.scope (name_view word.now) count ∷ []) }
+            self.old.scope (use_of.term_word (context_of self.old) (name_view word.now) count ∷ []) }
     {
-        let meaning = meaning_at(self.table, &self.scope, word, count);
+        let meaning = meaning_at(self.known.table, &self.scope, word, count);
         note_word(
             &mut self.earliest,
             word.place,
             is_undeclared(meaning),
             is_no_term(meaning, count),
-            is_type(meaning),
+            is_type(meaning) || is_defined(self.known.defined, word, meaning),
         );
         meaning
+    }
+
+    /// A word as the function of a head: its number.
+    pub fn function_word(&mut self, word: &'a RawName, count: usize) -> u32
+        ensures { IsStep self.old self.new result (numbers.function_number (meaning_at (names_known self.old)
+            self.old.scope (name_view word.now) count))
+            self.old.scope (use_of.function_word self.old.scope (name_view word.now) count ∷ []) }
+    {
+        let meaning = meaning_at(self.known.table, &self.scope, word, count);
+        note_word(
+            &mut self.earliest,
+            word.place,
+            is_undeclared(meaning),
+            is_no_function(meaning, count),
+            is_type(meaning),
+        );
+        function_number(meaning)
     }
 }
 

@@ -84,7 +84,7 @@ fn theories<'a>(
     ensures theories { IfOk result (λ ts. map theory_view ts ≡ map (number.named_theory (names_in table.now))
         (map theory_in blocks.now)) }
     ensures noted { OnOk result (earliest.new.first ≡ fold (name_noted (names_in table.now)) earliest.old.first
-        (flat_map use_of.uses_in_theory (map theory_in blocks.now))) }
+        (flat_map (use_of.uses_in_theory (names_in table.now)) (map theory_in blocks.now))) }
 {
     let mut named = Vec::new(alloc);
     for raw in blocks {

@@ -1,14 +1,13 @@
 -- The rows of the stage of names, by constructors and by causes.
-use Rattle.std.proofs.Common.{◌≡◌, IsTrue, false, List, [], ◌∷◌, None, Some, fold, refl, Contains}
-use Rattle.kb_text.specs.declared.fault.K.{K}
+use Rattle.std.proofs.Common.{◌≡◌, IsTrue, false, List, None, Some, fold, refl, arith, Contains}
 use Rattle.kb_text.specs.declared.fault.K.TheVariants as k
 use Rattle.kb_text.specs.declared.fault.KbFault.{KbFault}
 use Rattle.reading_stages.specs.Earliest.{IsEarliest, IsRowOf, row}
 use Rattle.reading_stages.specs.Names.{Names}
 use Rattle.reading_stages.specs.Uses.{Use, place_of_use}
-use Rattle.reading_stages.specs.NamesStage.{Refuses, unknown_name, redeclared, wrong_arity, unsupported, too_large}
-use Rattle.reading_stages.specs.NamesStage.{is_refused, name_causes, name_noted}
-use Rattle.reading_stages.proofs.EarliestLaws.{contains_head, contains_tail, nothing_noted, earliest_noted}
+use Rattle.reading_stages.specs.NamesStage.{Refuses, unknown_name, redeclared, wrong_arity, unsupported, bad_head}
+use Rattle.reading_stages.specs.NamesStage.{too_large, is_refused, name_causes, name_noted}
+use Rattle.reading_stages.proofs.EarliestLaws.{nothing_noted, earliest_noted}
 use Rattle.reading_stages.proofs.EarliestLaws.{earliest_of_same}
 
 abbrev Row : Names → List Use → KbFault → Type 0
@@ -28,52 +27,38 @@ to_rows names us _ (row u k.TypeNotGiven there among holds) = no_row holds
 to_rows names us _ (row u k.NotAnElement there among holds) = no_row holds
 to_rows names us _ (row u k.DataClash there among holds) = no_row holds
 to_rows names us _ (row u k.Unsupported there among holds) = unsupported u there holds
-to_rows names us _ (row u k.BadHead there among holds) = no_row holds
+to_rows names us _ (row u k.BadHead there among holds) = bad_head u there holds
 to_rows names us _ (row u k.OutOfRange there among holds) = no_row holds
 to_rows names us _ (row u k.TooLarge there among holds) = too_large u there holds
 to_rows names us _ (row u k.TooLong there among holds) = no_row holds
 to_rows names us _ (row u k.TooDeep there among holds) = no_row holds
 to_rows names us _ (row u k.BlockChoice there among holds) = no_row holds
 
-abbrev behind_arity : List K
-behind_arity = k.Unsupported ∷ k.TooLarge ∷ []
-
-abbrev behind_redeclared : List K
-behind_redeclared = k.WrongArity ∷ behind_arity
-
-abbrev behind_unknown : List K
-behind_unknown = k.Redeclared ∷ behind_redeclared
-
 first : Contains name_causes k.UnknownName
-first = contains_head k.UnknownName behind_unknown k.UnknownName refl
+first = (0, omega arith, refl)
 
 second : Contains name_causes k.Redeclared
-second = contains_tail k.UnknownName behind_unknown k.Redeclared
-    (contains_head k.Redeclared behind_redeclared k.Redeclared refl)
+second = (1, omega arith, refl)
 
 third : Contains name_causes k.WrongArity
-third =
-    contains_tail k.UnknownName behind_unknown k.WrongArity (contains_tail k.Redeclared behind_redeclared k.WrongArity
-    (contains_head k.WrongArity behind_arity k.WrongArity refl))
+third = (2, omega arith, refl)
 
 fourth : Contains name_causes k.Unsupported
-fourth =
-    contains_tail k.UnknownName behind_unknown k.Unsupported (contains_tail k.Redeclared behind_redeclared k.Unsupported
-    (contains_tail k.WrongArity behind_arity k.Unsupported (contains_head k.Unsupported (k.TooLarge ∷ [])
-    k.Unsupported refl)))
+fourth = (3, omega arith, refl)
 
-fifth : Contains name_causes k.TooLarge
-fifth =
-    contains_tail k.UnknownName behind_unknown k.TooLarge (contains_tail k.Redeclared behind_redeclared k.TooLarge
-    (contains_tail k.WrongArity behind_arity k.TooLarge (contains_tail k.Unsupported (k.TooLarge ∷ []) k.TooLarge
-    (contains_head k.TooLarge [] k.TooLarge refl))))
+fifth : Contains name_causes k.BadHead
+fifth = (4, omega arith, refl)
+
+sixth : Contains name_causes k.TooLarge
+sixth = (5, omega arith, refl)
 
 from_rows : (names : Names) (us : List Use) (q : KbFault) → Refuses names us q → Row names us q
 from_rows names us _ (unknown_name u there holds) = row u k.UnknownName there first holds
 from_rows names us _ (redeclared u there holds) = row u k.Redeclared there second holds
 from_rows names us _ (wrong_arity u there holds) = row u k.WrongArity there third holds
 from_rows names us _ (unsupported u there holds) = row u k.Unsupported there fourth holds
-from_rows names us _ (too_large u there holds) = row u k.TooLarge there fifth holds
+from_rows names us _ (bad_head u there holds) = row u k.BadHead there fifth holds
+from_rows names us _ (too_large u there holds) = row u k.TooLarge there sixth holds
 
 -- where nothing was noted nothing is refused
 pub nothing_refused : (names : Names) (us : List Use) → fold (name_noted names) None us ≡ None → (q : KbFault)

@@ -1,5 +1,5 @@
--- What formulas and terms demand of the types of their terms, each list of variables round what is demanded in its
--- scope.
+-- What formulas, terms and rules demand of the types of their terms, each list of variables round what is demanded in
+-- its scope.
 use Rattle.std.specs.Prelude.{ℕ, Bool, true, false, List, [], ◌∷◌, ◌++◌, map, Option, None, Some, slice_get}
 use Rattle.kb_logic.specs.declared.syntax.Cmp.{Cmp}
 use Rattle.kb_logic.specs.declared.syntax.Cmp.TheVariants as cmp
@@ -9,7 +9,7 @@ use Rattle.reading_stages.specs.NamedTrees.{application, summation, product, agg
 use Rattle.reading_stages.specs.NamedTrees.{more_terms, NamedSummands, no_summands, more_summands, NamedFormula, truth}
 use Rattle.reading_stages.specs.NamedTrees.{atom, comparison, negation, conjunction, disjunction, implication}
 use Rattle.reading_stages.specs.NamedTrees.{equivalence, universal, existential, numbered, NamedFormulas, no_formulas}
-use Rattle.reading_stages.specs.NamedTrees.{more_formulas, place_of}
+use Rattle.reading_stages.specs.NamedTrees.{more_formulas, place_of, terms_of, NamedRule}
 
 -- a term's type: `int`, a type of the vocabulary, or none, as of a variable that has none
 pub data TermType : Type 0 where
@@ -30,6 +30,8 @@ pub data Demand : Type 0 where
   -- an argument that begins here, and its position's type; of a function, and whether it is an integer
   predicate_argument : ℕ → Kind → ℕ → Demand
   function_argument : ℕ → Bool → Kind → ℕ → Demand
+  -- the value of a head that begins here, and its function's value type, in which it need not be
+  head_value : ℕ → Kind → ℕ → Demand
 
 -- what is found of a variable's type: nothing yet, a type, or types of which none is the least
 pub data Finding : Type 0 where
@@ -207,3 +209,27 @@ abbrev mutual
   summands_parts symbols no_summands = []
   summands_parts symbols (more_summands m t ss) = number_demand symbols t ∷
       (term_parts symbols t ++ summands_parts symbols ss)
+
+-- ---- rules
+
+abbrev pub value_demands : List Symbol → Option ℕ → NamedTerm → List Part
+value_demands symbols None x = []
+value_demands symbols (Some t) x = demand (head_value (place_of x) (kind_of symbols x) t) ∷ []
+
+-- the value of a head, where its function has this value type
+abbrev pub value_parts : List Symbol → Option ℕ → Option NamedTerm → List Part
+value_parts symbols type None = []
+value_parts symbols type (Some x) = value_demands symbols type x ++ term_parts symbols x
+
+-- a head: its arguments are as those of a function
+abbrev pub head_parts : List Symbol → NamedRule → List Part
+head_parts symbols r =
+    arguments_parts symbols true (argument_types (slice_get symbols r.symbol)) (terms_of r.args)
+    ++ value_parts symbols (value_type (slice_get symbols r.symbol)) r.value
+
+-- what is demanded in the scope of a rule's variables
+abbrev pub parts_in_rule : List Symbol → NamedRule → List Part
+parts_in_rule symbols r = head_parts symbols r ++ formula_parts symbols r.body
+
+abbrev pub rule_parts : List Symbol → NamedRule → List Part
+rule_parts symbols r = scope (map binding_of r.vars) (parts_of (parts_in_rule symbols r)) ∷ []

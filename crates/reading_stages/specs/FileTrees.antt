@@ -38,7 +38,7 @@ header_of (tree.header p n c of o) = record { place = p; name = n; of = of }
 
 abbrev pub part_of : tree.TheoryItem → Part
 part_of (tree.sentence f p) = sentence f
-part_of (tree.definition p rs q) = definition p
+part_of (tree.definition p rs q) = definition rs
 
 abbrev pub theory_of : tree.Theory → TheoryBlock
 theory_of (tree.theory h is q) = record { header = header_of h; parts = map part_of is }

@@ -19,6 +19,7 @@ use Rattle.fo_syntax.specs.declared.raw_blocks.RawTerm.{RawTerm}
 use Rattle.fo_syntax.specs.declared.raw_blocks.RawStructure.{RawStructure}
 use Rattle.fo_syntax.specs.Trees.{Name}
 use Rattle.fo_syntax.specs.View.{name_view, formula_view, term_view}
+use Rattle.fo_syntax.specs.BlockView.{rule_view}
 use Rattle.reading_stages.specs.Files.{Declaration, type_under, constructed_type, symbol, Part, sentence, definition}
 use Rattle.reading_stages.specs.Files.{Header, VocabularyBlock, TheoryBlock, TermBlock, File}
 
@@ -57,7 +58,7 @@ header_in x = record { place = x.place; name = name_view x.name; of = name_view 
 
 abbrev pub part_in : RawTheoryItem → Part
 part_in (stated.Sentence x) = sentence (formula_view x.formula)
-part_in (stated.Definition x) = definition x.open
+part_in (stated.Definition x) = definition (map rule_view x.rules)
 
 abbrev pub theory_in : RawTheory → TheoryBlock
 theory_in x = record { header = header_in x.header; parts = map part_in x.items }

@@ -4,10 +4,15 @@ use Rattle.reading_stages.specs.Numbering.{NamedTheoryTree, NamedTermTree, Named
 use Rattle.reading_stages.specs.declared.named.NamedTheory.{NamedTheory}
 use Rattle.reading_stages.specs.declared.named.NamedTermBlock.{NamedTermBlock}
 use Rattle.reading_stages.specs.declared.named.NamedKb.{NamedKb}
-use Rattle.reading_stages.specs.NamedViews.{formula_view, term_view}
+use Rattle.reading_stages.specs.NamedViews.{definition_view, formula_view, term_view}
 
 abbrev pub theory_view : NamedTheory → NamedTheoryTree
-theory_view t = record { name = t.name; place = t.place; sentences = map formula_view t.sentences }
+theory_view t = record {
+  name = t.name;
+  place = t.place;
+  sentences = map formula_view t.sentences;
+  definitions = map definition_view t.definitions;
+}
 
 abbrev pub block_view : NamedTermBlock → NamedTermTree
 block_view t = record { name = t.name; term = term_view t.term }

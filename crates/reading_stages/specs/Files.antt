@@ -1,6 +1,7 @@
 -- The parts of a file that the stages of blocks and names look at.
 use Rattle.std.specs.Prelude.{ℕ, List, Option}
 use Rattle.fo_syntax.specs.Trees.{Name, Formula, Term}
+use Rattle.fo_syntax.specs.BlockTrees.{Rule}
 
 -- type T [isa U] | type T constructed from { A, B } | W [(T, U)] [: V]
 pub data Declaration : Type 0 where
@@ -8,10 +9,10 @@ pub data Declaration : Type 0 where
   constructed_type : Name → List Name → Declaration
   symbol : Name → List Name → Option Name → Declaration
 
--- a sentence, or a definition, of which only its opening brace counts as yet
+-- a sentence, or a definition by its rules
 pub data Part : Type 0 where
   sentence : Formula → Part
-  definition : ℕ → Part
+  definition : List Rule → Part
 
 -- a block's header: the place of its first word, its name, and the vocabulary that it names
 pub record Header : Type 0 where

@@ -1,22 +1,23 @@
--- The integers that stand as arguments of functions.
+-- The integers that stand as arguments of functions and of heads.
 --
 -- Each list has one item a term, in the order in which the places of terms are kept, a term before its parts.
 use Rattle.std.specs.Prelude.{ℕ, ℤ, neg_ℤ, Bool, List, [], ◌∷◌, ◌++◌, Option, None, Some, slice_get, if◌then◌else◌}
-use Rattle.std.specs.Prelude.{zip, filter_map}
+use Rattle.std.specs.Prelude.{zip, filter_map, option_to_list}
+use Rattle.std.specs.List.{flat_map}
 use Rattle.kb_logic.specs.declared.vocabularies.Symbol.{Symbol}
 use Rattle.kb_logic.specs.Trees.{TermTree, variable, integer, constructed, application, summation, product, aggregate}
 use Rattle.kb_logic.specs.Trees.{TermTrees, no_terms, more_terms, SummandTrees, no_summands, more_summands}
 use Rattle.kb_logic.specs.Trees.{FormulaTree, verum, falsum, atom, comparison, negation, conjunction, disjunction}
 use Rattle.kb_logic.specs.Trees.{implication, equivalence, universal, existential, numbered, FormulaTrees}
-use Rattle.kb_logic.specs.Trees.{no_formulas, more_formulas}
-use Rattle.reading_stages.specs.TheoryItems.{TheoryItem, sentence}
+use Rattle.kb_logic.specs.Trees.{no_formulas, more_formulas, terms_of}
+use Rattle.reading_stages.specs.TheoryItems.{TheoryItem, sentence, rule}
 use Rattle.reading_stages.specs.Demands.{argument_types, later_types}
 
 -- an integer, and the type of its position
 abbrev pub Placed : Type 0
 Placed = ℤ × ℕ
 
--- an integer as an argument of a function: where it stands, and the type of its position
+-- an integer as an argument of a function or of a head: where it stands, and the type of its position
 pub record Argument : Type 0 where
   pub place : ℕ
   pub number : ℤ
@@ -91,6 +92,9 @@ abbrev mutual
 -- the integers in an item of a theory
 abbrev pub item_integers : List Symbol → TheoryItem → List (Option Placed)
 item_integers symbols (sentence f) = formula_integers symbols f
+item_integers symbols (rule r) =
+    argument_integers symbols (argument_types (slice_get symbols r.symbol)) (terms_of r.args)
+    ++ (flat_map (term_integers symbols None) (option_to_list r.value) ++ formula_integers symbols r.body)
 
 -- an integer with its place
 abbrev pub with_place : ℕ × Option Placed → Option Argument

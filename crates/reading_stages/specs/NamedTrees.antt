@@ -1,6 +1,6 @@
--- Terms and formulas with numbers for words. Variables need not have their types yet, and each term has the place of
--- its first token.
-use Rattle.std.specs.Prelude.{ℕ, Bool, List, [], ◌∷◌, Option}
+-- Terms, formulas and rules with numbers for words. Variables need not have their types yet, and each term has the
+-- place of its first token.
+use Rattle.std.specs.Prelude.{ℕ, Bool, List, [], ◌∷◌, ◌++◌, Option, option_to_list}
 use Rattle.kb_logic.specs.declared.syntax.AggKind.{AggKind}
 use Rattle.kb_logic.specs.declared.syntax.Cmp.{Cmp}
 use Rattle.reading_stages.specs.Scopes.{Text}
@@ -69,3 +69,17 @@ place_of (at p n) = p
 -- the same term, that begins at another token
 abbrev pub begun_at : ℕ → NamedTerm → NamedTerm
 begun_at p (at q n) = at p n
+
+-- a rule of a definition: its variables, its head's symbol and arguments, and a function's value; whether it has a
+-- body, and its body, which is true where it has none
+pub record NamedRule : Type 0 where
+  pub vars : List NamedVar
+  pub symbol : ℕ
+  pub args : List NamedTerm
+  pub value : Option NamedTerm
+  pub has_body : Bool
+  pub body : NamedFormula
+
+-- the terms of a rule's head
+abbrev pub head_terms : NamedRule → List NamedTerm
+head_terms r = r.args ++ option_to_list r.value

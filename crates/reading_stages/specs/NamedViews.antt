@@ -1,8 +1,10 @@
--- The tree that a named term or formula is.
-use Rattle.std.specs.Prelude.{Bool, map}
+-- The tree that a named term, formula or rule is.
+use Rattle.std.specs.Prelude.{Bool, List, map, option_map}
 use Rattle.reading_stages.specs.NamedTrees as tree
 use Rattle.reading_stages.specs.NamedTrees.{terms_of, summands_of, formulas_of}
 use Rattle.reading_stages.specs.declared.named.NamedVar.{NamedVar}
+use Rattle.reading_stages.specs.declared.named.NamedRule.{NamedRule}
+use Rattle.reading_stages.specs.declared.named.NamedDefinition.{NamedDefinition}
 use Rattle.reading_stages.specs.declared.named.NamedFormula.{NamedFormula, fold-NamedFormula}
 use Rattle.reading_stages.specs.declared.named.NamedNode.{NamedNode, fold-NamedNode}
 use Rattle.reading_stages.specs.declared.named.NamedSigned.{NamedSigned, fold-NamedSigned}
@@ -62,3 +64,18 @@ signed_view = fold-NamedSigned tree.NamedFormula tree.NamedNode (Bool × tree.Na
 abbrev pub term_view : NamedTerm → tree.NamedTerm
 term_view = fold-NamedTerm tree.NamedFormula tree.NamedNode (Bool × tree.NamedTerm) tree.NamedTerm formula_step
     node_step signed_step term_step
+
+-- the tree of a rule
+abbrev pub rule_view : NamedRule → tree.NamedRule
+rule_view r = record {
+  vars = map var_view r.vars;
+  symbol = r.symbol;
+  args = map term_view r.args;
+  value = option_map term_view r.value;
+  has_body = r.has_body;
+  body = formula_view r.body;
+}
+
+-- the trees of a definition's rules
+abbrev pub definition_view : NamedDefinition → List tree.NamedRule
+definition_view d = map rule_view d.rules

@@ -1,17 +1,19 @@
 -- The stage of names: what it refuses.
-use Rattle.std.specs.Prelude.{ℕ, ◌==◌, Bool, true, false, not, IsTrue, is_some, nat_lt, List, [], ◌∷◌, ◌++◌, length}
-use Rattle.std.specs.Prelude.{Option, None, Some, if◌then◌else◌, zero, suc, slice_get, Contains}
+use Rattle.std.specs.Prelude.{ℕ, ◌==◌, Bool, true, false, not, ◌||◌, ◌&&◌, IsTrue, is_some, nat_lt, List, [], ◌∷◌}
+use Rattle.std.specs.Prelude.{◌++◌, length, Option, None, Some, if◌then◌else◌, zero, suc, slice_get, Contains}
 use Rattle.std.specs.List.{flat_map}
 use Rattle.kb_text.specs.declared.fault.K.{K}
 use Rattle.kb_text.specs.declared.fault.K.TheVariants as k
 use Rattle.kb_text.specs.declared.fault.KbFault.{KbFault}
 use Rattle.reading_stages.specs.Earliest.{refusal, noted_at}
-use Rattle.reading_stages.specs.Scopes.{last_position}
+use Rattle.reading_stages.specs.Scopes.{last_position, is_among}
 use Rattle.reading_stages.specs.Files.{Declaration, VocabularyBlock, File}
+use Rattle.fo_syntax.specs.Trees.{Name}
 use Rattle.reading_stages.specs.Names.{Names, Meaning, undeclared, integers, naturals, a_type, predicate, function}
 use Rattle.reading_stages.specs.Names.{made, variable, meaning_in, meaning_of, meaning_at, text_of, names_of}
 use Rattle.reading_stages.specs.Uses.{Use, declares, counted, climbs, parent, position, bound, formula_word, term_word}
-use Rattle.reading_stages.specs.Uses.{an_aggregate, a_number_quantifier, a_definition, place_of_use}
+use Rattle.reading_stages.specs.Uses.{function_word, head_argument, an_aggregate, a_number_quantifier, place_of_use}
+use Rattle.reading_stages.specs.Uses.{Context, is_simple}
 use Rattle.reading_stages.specs.Uses.{uses_of_declarations, uses_in_theory, uses_in_block}
 
 -- ---- what a word may mean
@@ -80,6 +82,31 @@ is_no_term (function s n) count = not (n == count)
 is_no_term (made t i) count = not (count == 0)
 is_no_term (variable level) count = false
 
+-- of another kind than a function of a head with so many arguments
+abbrev pub is_no_function : Meaning → ℕ → Bool
+is_no_function undeclared count = false
+is_no_function integers count = false
+is_no_function naturals count = false
+is_no_function (a_type t) count = false
+is_no_function (predicate s n) count = true
+is_no_function (function s n) count = not (n == count)
+is_no_function (made t i) count = true
+is_no_function (variable level) count = true
+
+abbrev pub is_symbol : Meaning → Bool
+is_symbol undeclared = false
+is_symbol integers = false
+is_symbol naturals = false
+is_symbol (a_type t) = false
+is_symbol (predicate s n) = true
+is_symbol (function s n) = true
+is_symbol (made t i) = false
+is_symbol (variable level) = false
+
+-- a symbol that the definition defines in which the word stands
+abbrev pub is_defined : Names → Context → Name → ℕ → Bool
+is_defined names c w n = is_symbol (meaning_at names c.scope w n) && is_among (text_of w) c.defined
+
 -- ---- cycles of `isa`
 
 -- whether the parent, where there is one, passes
@@ -108,11 +135,12 @@ is_unknown names (climbs parents number w) = false
 is_unknown names (parent w) = is_undeclared (meaning_of names (text_of w))
 is_unknown names (position w) = is_undeclared (meaning_of names (text_of w))
 is_unknown names (bound before w) = false
-is_unknown names (formula_word scope w n) = is_undeclared (meaning_at names scope w n)
-is_unknown names (term_word scope w n) = is_undeclared (meaning_at names scope w n)
+is_unknown names (formula_word c w n) = is_undeclared (meaning_at names c.scope w n)
+is_unknown names (term_word c w n) = is_undeclared (meaning_at names c.scope w n)
+is_unknown names (function_word scope w n) = is_undeclared (meaning_at names scope w n)
+is_unknown names (head_argument scope t) = false
 is_unknown names (an_aggregate place) = false
 is_unknown names (a_number_quantifier place) = false
-is_unknown names (a_definition place) = false
 
 abbrev pub is_redeclared : Use → Bool
 is_redeclared (declares before w) = is_some (meaning_in before (text_of w))
@@ -121,11 +149,12 @@ is_redeclared (climbs parents number w) = begins_cycle parents number
 is_redeclared (parent w) = false
 is_redeclared (position w) = false
 is_redeclared (bound before w) = is_some (last_position (text_of w) before)
-is_redeclared (formula_word scope w n) = false
-is_redeclared (term_word scope w n) = false
+is_redeclared (formula_word c w n) = false
+is_redeclared (term_word c w n) = false
+is_redeclared (function_word scope w n) = false
+is_redeclared (head_argument scope t) = false
 is_redeclared (an_aggregate place) = false
 is_redeclared (a_number_quantifier place) = false
-is_redeclared (a_definition place) = false
 
 abbrev pub is_wrong : Names → Use → Bool
 is_wrong names (declares before w) = false
@@ -134,13 +163,14 @@ is_wrong names (climbs parents number w) = false
 is_wrong names (parent w) = is_no_type (meaning_of names (text_of w))
 is_wrong names (position w) = is_no_type (meaning_of names (text_of w))
 is_wrong names (bound before w) = false
-is_wrong names (formula_word scope w n) = is_no_formula (meaning_at names scope w n) n
-is_wrong names (term_word scope w n) = is_no_term (meaning_at names scope w n) n
+is_wrong names (formula_word c w n) = is_no_formula (meaning_at names c.scope w n) n
+is_wrong names (term_word c w n) = is_no_term (meaning_at names c.scope w n) n
+is_wrong names (function_word scope w n) = is_no_function (meaning_at names scope w n) n
+is_wrong names (head_argument scope t) = false
 is_wrong names (an_aggregate place) = false
 is_wrong names (a_number_quantifier place) = false
-is_wrong names (a_definition place) = false
 
--- the last three rules stand until these forms are read
+-- the last two rules stand until these forms are read
 abbrev pub is_unsupported : Names → Use → Bool
 is_unsupported names (declares before w) = false
 is_unsupported names (counted greatest number w) = false
@@ -148,11 +178,26 @@ is_unsupported names (climbs parents number w) = false
 is_unsupported names (parent w) = false
 is_unsupported names (position w) = is_number_type (meaning_of names (text_of w))
 is_unsupported names (bound before w) = false
-is_unsupported names (formula_word scope w n) = is_type (meaning_at names scope w n)
-is_unsupported names (term_word scope w n) = is_type (meaning_at names scope w n)
+is_unsupported names (formula_word c w n) = is_type (meaning_at names c.scope w n) || is_defined names c w n
+is_unsupported names (term_word c w n) = is_type (meaning_at names c.scope w n) || is_defined names c w n
+is_unsupported names (function_word scope w n) = is_type (meaning_at names scope w n)
+is_unsupported names (head_argument scope t) = false
 is_unsupported names (an_aggregate place) = true
 is_unsupported names (a_number_quantifier place) = true
-is_unsupported names (a_definition place) = true
+
+abbrev pub is_bad_head : Names → Use → Bool
+is_bad_head names (declares before w) = false
+is_bad_head names (counted greatest number w) = false
+is_bad_head names (climbs parents number w) = false
+is_bad_head names (parent w) = false
+is_bad_head names (position w) = false
+is_bad_head names (bound before w) = false
+is_bad_head names (formula_word c w n) = false
+is_bad_head names (term_word c w n) = false
+is_bad_head names (function_word scope w n) = false
+is_bad_head names (head_argument scope t) = not (is_simple names scope t)
+is_bad_head names (an_aggregate place) = false
+is_bad_head names (a_number_quantifier place) = false
 
 abbrev pub is_too_many : Use → Bool
 is_too_many (declares before w) = false
@@ -161,11 +206,12 @@ is_too_many (climbs parents number w) = false
 is_too_many (parent w) = false
 is_too_many (position w) = false
 is_too_many (bound before w) = false
-is_too_many (formula_word scope w n) = false
-is_too_many (term_word scope w n) = false
+is_too_many (formula_word c w n) = false
+is_too_many (term_word c w n) = false
+is_too_many (function_word scope w n) = false
+is_too_many (head_argument scope t) = false
 is_too_many (an_aggregate place) = false
 is_too_many (a_number_quantifier place) = false
-is_too_many (a_definition place) = false
 
 -- a constructor for each row
 pub data Refuses (names : Names) (us : List Use) : KbFault → Type 0 where
@@ -177,6 +223,8 @@ pub data Refuses (names : Names) (us : List Use) : KbFault → Type 0 where
       → Refuses names us (refusal k.WrongArity (place_of_use u))
   unsupported : (u : Use) → Contains us u → IsTrue (is_unsupported names u)
       → Refuses names us (refusal k.Unsupported (place_of_use u))
+  bad_head : (u : Use) → Contains us u → IsTrue (is_bad_head names u)
+      → Refuses names us (refusal k.BadHead (place_of_use u))
   too_large : (u : Use) → Contains us u → IsTrue (is_too_many u)
       → Refuses names us (refusal k.TooLarge (place_of_use u))
 
@@ -192,7 +240,7 @@ is_refused names u k.TypeNotGiven = false
 is_refused names u k.NotAnElement = false
 is_refused names u k.DataClash = false
 is_refused names u k.Unsupported = is_unsupported names u
-is_refused names u k.BadHead = false
+is_refused names u k.BadHead = is_bad_head names u
 is_refused names u k.OutOfRange = false
 is_refused names u k.TooLarge = is_too_many u
 is_refused names u k.TooLong = false
@@ -200,7 +248,7 @@ is_refused names u k.TooDeep = false
 is_refused names u k.BlockChoice = false
 
 abbrev pub name_causes : List K
-name_causes = k.UnknownName ∷ k.Redeclared ∷ k.WrongArity ∷ k.Unsupported ∷ k.TooLarge ∷ []
+name_causes = k.UnknownName ∷ k.Redeclared ∷ k.WrongArity ∷ k.Unsupported ∷ k.BadHead ∷ k.TooLarge ∷ []
 
 -- the earliest refusal so far, and then those of one use
 abbrev pub name_noted : Names → Option KbFault → Use → Option KbFault
@@ -215,8 +263,9 @@ declarations_of (v ∷ vs) = v.declarations
 
 abbrev pub uses_of_file : File → List Use
 uses_of_file f =
-    uses_of_declarations (declarations_of f.vocabularies) ++ (flat_map uses_in_theory f.theories ++ flat_map
-    uses_in_block f.terms)
+    uses_of_declarations (declarations_of f.vocabularies)
+    ++ (flat_map (uses_in_theory (names_of (declarations_of f.vocabularies))) f.theories
+    ++ flat_map uses_in_block f.terms)
 
 abbrev pub NamesRefuse : File → KbFault → Type 0
 NamesRefuse f = Refuses (names_of (declarations_of f.vocabularies)) (uses_of_file f)

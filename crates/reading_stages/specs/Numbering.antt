@@ -1,6 +1,6 @@
 -- The tree with numbers for words. Where a word is refused its number is 0.
-use Rattle.std.specs.Prelude.{ℕ, ◌≡◌, Bool, true, false, nat_lt, List, [], ◌∷◌, map, Option, None, Some, option_map}
-use Rattle.std.specs.Prelude.{if◌then◌else◌}
+use Rattle.std.specs.Prelude.{ℕ, ◌≡◌, Bool, true, false, nat_lt, List, [], ◌∷◌, ◌++◌, length, map, Option, None, Some}
+use Rattle.std.specs.Prelude.{option_map, is_some, if◌then◌else◌}
 use Rattle.std.specs.List.{flat_map}
 use Rattle.kb_logic.specs.declared.syntax.AggKind.{AggKind}
 use Rattle.kb_logic.specs.declared.syntax.AggKind.TheVariants as kind
@@ -23,17 +23,19 @@ use Rattle.fo_syntax.specs.declared.terminal.Adding.TheVariants as adding
 use Rattle.fo_syntax.specs.Trees as raw
 use Rattle.fo_syntax.specs.Trees.{Name, Var, Vars, Formula, Links, Or, And, Unary, Prim, Term, Product, Factor, App}
 use Rattle.fo_syntax.specs.Trees.{Terms, Number}
+use Rattle.fo_syntax.specs.BlockTrees.{Head, atom_head, value_head, Rule, rule}
 use Rattle.reading_stages.specs.Scopes.{Text}
 use Rattle.reading_stages.specs.Files.{Declaration, type_under, constructed_type, symbol, Part, sentence, definition}
 use Rattle.reading_stages.specs.Files.{VocabularyBlock, TheoryBlock, TermBlock, File}
 use Rattle.reading_stages.specs.Names.{Names, Meaning, integers, naturals, a_type, predicate, function, made, variable}
 use Rattle.reading_stages.specs.Names.{meaning_of, meaning_at, text_of, place_of_name, names_of}
-use Rattle.reading_stages.specs.Uses.{vars_in, var_name, var_type, within, app_name, app_count}
+use Rattle.reading_stages.specs.Uses.{vars_in, var_name, var_type, within, app_name, app_count, place_of_term}
+use Rattle.reading_stages.specs.Uses.{arguments_in, is_simple, rule_scope, rule_vars, value_scope, written_body}
 use Rattle.reading_stages.specs.NamesStage.{declarations_of, NamesRefuse}
 use Rattle.reading_stages.specs.NamedTrees.{NamedVar, NamedTerm, at, NamedNode, NamedTerms, no_terms, more_terms}
 use Rattle.reading_stages.specs.NamedTrees.{NamedSummands, no_summands, more_summands, NamedFormula, NamedFormulas}
 use Rattle.reading_stages.specs.NamedTrees.{no_formulas, more_formulas, formulas_of, terms_of, summands_of, place_of}
-use Rattle.reading_stages.specs.NamedTrees.{begun_at}
+use Rattle.reading_stages.specs.NamedTrees.{begun_at, NamedRule}
 use Rattle.reading_stages.specs.NamedTrees as named
 
 -- a number past the greatest count is refused, and counts as 0
@@ -247,13 +249,81 @@ abbrev mutual
   named_terms names scope (raw.final t) = more_terms (named_term names scope t) no_terms
   named_terms names scope (raw.then t p ts) = more_terms (named_term names scope t) (named_terms names scope ts)
 
+-- ---- rules
+
+-- a body that is not written is true
+abbrev pub named_body : Names → List Text → Option Formula → NamedFormula
+named_body names scope None = named.truth true
+named_body names scope (Some f) = named_formula names scope f
+
+-- the variable that stands for a head's value t that may not stand there: it has the function's name
+abbrev pub value_var : App → Term → NamedVar
+value_var a t = record { name = text_of (app_name a); place = place_of_term t; ty = None }
+
+-- `v = t` for the variable v with this number
+abbrev pub value_equation : Names → List Text → ℕ → Term → NamedFormula
+value_equation names scope v t =
+    named.comparison cmp.Eq (at (place_of_term t) (named.variable v)) (named_term names scope t)
+
+-- and the written body as one part beside it
+abbrev pub valued_body : Names → List Text → ℕ → Term → Option Formula → NamedFormula
+valued_body names scope v t None = value_equation names scope v t
+valued_body names scope v t (Some f) = named.conjunction (more_formulas (value_equation names scope v t)
+    (more_formulas (named_formula names scope f) no_formulas))
+
+abbrev pub predicate_at : Names → List Text → App → ℕ
+predicate_at names scope a = predicate_number (meaning_at names scope (app_name a) (app_count a))
+
+abbrev pub function_at : Names → List Text → App → ℕ
+function_at names scope a = function_number (meaning_at names scope (app_name a) (app_count a))
+
+abbrev pub head_arguments : Names → List Text → App → List NamedTerm
+head_arguments names scope a = map (named_term names scope) (arguments_in a)
+
+-- `f(..) = t`, where t may stand in a head, or else `f(..) = v <- v = t & ..` with a new variable v after the others;
+-- of the rule's variables these are in scope
+abbrev pub valued_rule : Names → List Text → List NamedVar → App → Term → Option Formula → Bool → NamedRule
+valued_rule names scope xs a t body true = record {
+  vars = xs;
+  symbol = function_at names scope a;
+  args = head_arguments names scope a;
+  value = Some (named_term names scope t);
+  has_body = is_some body;
+  body = named_body names scope body;
+}
+valued_rule names scope xs a t body false = record {
+  vars = xs ++ value_var a t ∷ [];
+  symbol = function_at names scope a;
+  args = head_arguments names scope a;
+  value = Some (at (place_of_term t) (named.variable (length xs)));
+  has_body = true;
+  body = valued_body names (value_scope scope false) (length xs) t body;
+}
+
+-- a rule with these variables
+abbrev pub ruled : Names → List Text → List NamedVar → Head → Option Formula → NamedRule
+ruled names scope xs (atom_head a) body = record {
+  vars = xs;
+  symbol = predicate_at names scope a;
+  args = head_arguments names scope a;
+  value = None;
+  has_body = is_some body;
+  body = named_body names scope body;
+}
+ruled names scope xs (value_head a p t) body = valued_rule names scope xs a t body (is_simple names scope t)
+
+abbrev pub named_rule : Names → Rule → NamedRule
+named_rule names (rule bs h body p) =
+    ruled names (rule_scope bs) (map (named_var names) (rule_vars bs)) h (written_body body)
+
 -- ---- a file
 
--- a theory: its name, the place of its first word, and its sentences
+-- a theory: its name, the place of its first word, its sentences, and its definitions by their rules
 pub record NamedTheoryTree : Type 0 where
   pub name : Text
   pub place : ℕ
   pub sentences : List NamedFormula
+  pub definitions : List (List NamedRule)
 
 -- a term block: its name, and the term
 pub record NamedTermTree : Type 0 where
@@ -267,16 +337,20 @@ pub record NamedFile : Type 0 where
   pub type_places : List ℕ
   pub symbol_places : List ℕ
 
--- definitions are refused as yet
 abbrev pub sentences_in : Names → Part → List NamedFormula
 sentences_in names (sentence f) = named_formula names [] f ∷ []
-sentences_in names (definition p) = []
+sentences_in names (definition rs) = []
+
+abbrev pub definitions_in : Names → Part → List (List NamedRule)
+definitions_in names (sentence f) = []
+definitions_in names (definition rs) = map (named_rule names) rs ∷ []
 
 abbrev pub named_theory : Names → TheoryBlock → NamedTheoryTree
 named_theory names t = record {
   name = text_of t.header.name;
   place = t.header.place;
   sentences = flat_map (sentences_in names) t.parts;
+  definitions = flat_map (definitions_in names) t.parts;
 }
 
 abbrev pub named_block : Names → TermBlock → NamedTermTree

@@ -1,5 +1,6 @@
 -- Sizes by domains: the number of a symbol's ground atoms, and the static bounds of each term.
 use Rattle.std.specs.Prelude.{ℕ, ◌*◌, pos, neg_ℤ, int_lt, Bool, not, ◌&&◌, List, [], ◌∷◌, ◌++◌, length, fold}
+use Rattle.std.specs.List.{flat_map}
 use Rattle.kb_logic.specs.declared.elements.Elem.{Elem}
 use Rattle.kb_logic.specs.declared.vocabularies.Symbol.{Symbol}
 use Rattle.kb_logic.specs.declared.vocabularies.Vocabulary.{Vocabulary}
@@ -13,7 +14,7 @@ use Rattle.kb_logic.specs.Bounds.{Interval, exactly, front_bounds, types_of, bou
 use Rattle.kb_logic.specs.Weights.{value_count}
 use Rattle.reading_stages.specs.ClampedBounds.{clamping_sum, clamping_product, clamped_bounds, clamped_factors}
 use Rattle.reading_stages.specs.ClampedBounds.{clamped_summands}
-use Rattle.reading_stages.specs.TheoryItems.{TheoryItem, sentence}
+use Rattle.reading_stages.specs.TheoryItems.{TheoryItem, sentence, rule, head_terms}
 
 -- ---- ground atoms
 
@@ -88,3 +89,6 @@ abbrev mutual
 -- the bounds at each term of an item of a theory
 abbrev pub item_bounds : Vocabulary → List (List Elem) → TheoryItem → List (List Interval)
 item_bounds v domains (sentence f) = formula_bounds v domains f []
+item_bounds v domains (rule r) =
+    flat_map (λ t. term_bounds v domains t (types_of r.vars)) (head_terms r)
+    ++ formula_bounds v domains r.body (types_of r.vars)

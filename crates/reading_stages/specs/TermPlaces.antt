@@ -1,10 +1,12 @@
 -- Where terms begin.
 use Rattle.std.specs.Prelude.{ℕ, List, [], ◌∷◌, ◌++◌}
+use Rattle.std.specs.List.{flat_map}
 use Rattle.reading_stages.specs.NamedTrees.{NamedTerm, at, NamedNode, variable, integer, constructed, application}
 use Rattle.reading_stages.specs.NamedTrees.{summation, product, aggregate, NamedTerms, no_terms, more_terms}
 use Rattle.reading_stages.specs.NamedTrees.{NamedSummands, no_summands, more_summands, NamedFormula, truth, atom}
 use Rattle.reading_stages.specs.NamedTrees.{comparison, negation, conjunction, disjunction, implication, equivalence}
 use Rattle.reading_stages.specs.NamedTrees.{universal, existential, numbered, NamedFormulas, no_formulas, more_formulas}
+use Rattle.reading_stages.specs.NamedTrees.{NamedRule, head_terms}
 
 -- the places of all terms in a tree, in its order, a term before its parts
 abbrev mutual
@@ -44,3 +46,7 @@ abbrev mutual
   pub summands_begin : NamedSummands → List ℕ
   summands_begin no_summands = []
   summands_begin (more_summands m t ss) = term_begins t ++ summands_begin ss
+
+-- the places of all terms in a rule: those of its head, and then those of its body
+abbrev pub rule_begins : NamedRule → List ℕ
+rule_begins r = flat_map term_begins (head_terms r) ++ terms_begin r.body

@@ -1,12 +1,13 @@
 -- A file with the types of its variables, and the places that later refusals name.
-use Rattle.std.specs.Prelude.{ℕ, List, [], map}
+use Rattle.std.specs.Prelude.{ℕ, List, ◌++◌, map}
 use Rattle.std.specs.List.{flat_map}
 use Rattle.kb_logic.specs.declared.vocabularies.Vocabulary.{Vocabulary}
-use Rattle.kb_logic.specs.Trees.{TermTree, TheoryTree}
+use Rattle.kb_logic.specs.Trees.{TermTree, DefinitionTree, TheoryTree}
+use Rattle.reading_stages.specs.NamedTrees.{NamedRule}
 use Rattle.reading_stages.specs.Numbering.{NamedTheoryTree, NamedTermTree, NamedFile}
 use Rattle.reading_stages.specs.Scopes.{Text}
-use Rattle.reading_stages.specs.TermPlaces.{terms_begin, term_begins}
-use Rattle.reading_stages.specs.TypedTrees.{typed_sentence, typed_block_term}
+use Rattle.reading_stages.specs.TermPlaces.{terms_begin, term_begins, rule_begins}
+use Rattle.reading_stages.specs.TypedTrees.{typed_sentence, typed_rule, typed_block_term}
 
 -- the places of the types' and the symbols' names, of each theory's first word, and of the terms in each theory and in
 -- each term block
@@ -34,13 +35,17 @@ pub record TypedFile : Type 0 where
   pub terms : List TypedTermTree
   pub places : PlacesTree
 
--- a theory with the types of its variables; definitions are refused as yet
+-- a definition with the types of its variables
+abbrev pub typed_definition : Vocabulary → List NamedRule → DefinitionTree
+typed_definition v rs = record { rules = map (typed_rule v) rs }
+
+-- a theory with the types of its variables
 abbrev pub typed_theory : Vocabulary → NamedTheoryTree → TypedTheoryTree
 typed_theory v t = record {
   name = t.name;
   theory = record {
     sentences = map (typed_sentence v) t.sentences;
-    definitions = [];
+    definitions = map (typed_definition v) t.definitions;
   };
 }
 
@@ -48,13 +53,17 @@ typed_theory v t = record {
 abbrev pub typed_block : Vocabulary → NamedTermTree → TypedTermTree
 typed_block v t = record { name = t.name; term = typed_block_term v t.term }
 
+-- the places of the terms in the items of a theory, in their order
+abbrev pub theory_begins : NamedTheoryTree → List ℕ
+theory_begins t = flat_map terms_begin t.sentences ++ flat_map (flat_map rule_begins) t.definitions
+
 -- the places of a file's names, theories and terms
 abbrev pub places_of_file : NamedFile → PlacesTree
 places_of_file f = record {
   types = f.type_places;
   symbols = f.symbol_places;
   theories = map (λ t. t.place) f.theories;
-  theory_terms = map (λ t. flat_map terms_begin t.sentences) f.theories;
+  theory_terms = map theory_begins f.theories;
   block_terms = map (λ t. term_begins t.term) f.terms;
 }
 

@@ -1,20 +1,20 @@
 -- The tree with the types of its variables. Each variable has its written type, or else the type by its places, or else
 -- the type by the other sides of its comparisons, as what stands in the scope of its list says.
-use Rattle.std.specs.Prelude.{ℕ, pos, ◌+◌, ◌^◌, Bool, true, false, List, [], ◌∷◌, ◌++◌, length, Option}
+use Rattle.std.specs.Prelude.{ℕ, pos, ◌+◌, ◌^◌, Bool, true, false, List, [], ◌∷◌, ◌++◌, length, map, Option, option_map}
 use Rattle.kb_logic.specs.declared.vocabularies.Symbol.{Symbol}
 use Rattle.kb_logic.specs.declared.vocabularies.TypeDecl.{TypeDecl}
 use Rattle.kb_logic.specs.declared.vocabularies.Vocabulary.{Vocabulary}
 use Rattle.kb_logic.specs.declared.vocabularies.Bound.{Bound}
-use Rattle.kb_logic.specs.Trees.{TermTree, TermTrees, SummandTrees, FormulaTree, FormulaTrees}
+use Rattle.kb_logic.specs.Trees.{TermTree, TermTrees, SummandTrees, FormulaTree, FormulaTrees, RuleTree}
 use Rattle.kb_logic.specs.Trees as tree
 use Rattle.reading_stages.specs.Demands.{Finding, nothing, found, torn, Part, Parts, parts_of, written, formula_parts}
-use Rattle.reading_stages.specs.Demands.{term_parts, number_demand}
+use Rattle.reading_stages.specs.Demands.{term_parts, number_demand, parts_in_rule}
 use Rattle.reading_stages.specs.NamedTrees.{NamedVar, NamedTerm, at, NamedNode, variable, integer, constructed}
 use Rattle.reading_stages.specs.NamedTrees.{application, summation, product, aggregate, NamedTerms, no_terms}
 use Rattle.reading_stages.specs.NamedTrees.{more_terms, NamedSummands, no_summands, more_summands, NamedFormula, truth}
 use Rattle.reading_stages.specs.NamedTrees.{atom, comparison, negation, conjunction, disjunction, implication}
 use Rattle.reading_stages.specs.NamedTrees.{equivalence, universal, existential, numbered, NamedFormulas, no_formulas}
-use Rattle.reading_stages.specs.NamedTrees.{more_formulas}
+use Rattle.reading_stages.specs.NamedTrees.{more_formulas, NamedRule}
 use Rattle.reading_stages.specs.Numbering.{within_count}
 use Rattle.reading_stages.specs.Typing.{finding_of, settled, places_in, by_places, sides_in, type_found}
 
@@ -135,3 +135,18 @@ typed_sentence v f = typed_formula v [] f
 -- the term of a term block with the types of its variables
 abbrev pub typed_block_term : Vocabulary → NamedTerm → TermTree
 typed_block_term v t = typed_term v [] t
+
+-- the types of a rule's variables, as they are written or by their places
+abbrev pub rule_types : Vocabulary → NamedRule → List (Option ℕ)
+rule_types v r = inside v.types [] r.vars (parts_in_rule v.symbols r)
+
+-- a rule with the types of its variables, by what its head and its body demand
+abbrev pub typed_rule : Vocabulary → NamedRule → RuleTree
+typed_rule v r = record {
+  vars = typed_vars v.types [] r.vars (parts_in_rule v.symbols r);
+  symbol = r.symbol;
+  args = map (typed_term v (rule_types v r)) r.args;
+  value = option_map (typed_term v (rule_types v r)) r.value;
+  has_body = r.has_body;
+  body = typed_formula v (rule_types v r) r.body;
+}

@@ -9,10 +9,10 @@ use Rattle.kb_logic.specs.declared.vocabularies.Vocabulary.{Vocabulary}
 use Rattle.reading_stages.specs.Earliest.{refusal, noted_at}
 use Rattle.reading_stages.specs.Kinship.{is_number_type, are_akin, is_under}
 use Rattle.reading_stages.specs.Demands.{TermType, whole, declared, untyped, Demand, a_number, sides}
-use Rattle.reading_stages.specs.Demands.{predicate_argument, function_argument, Finding, nothing, found, torn, Binding}
-use Rattle.reading_stages.specs.Demands.{Part, demand, scope, Parts, no_parts, more_parts, parts_of, formula_parts}
-use Rattle.reading_stages.specs.Demands.{term_parts, number_demand}
-use Rattle.reading_stages.specs.NamedTrees.{NamedTerm, NamedFormula}
+use Rattle.reading_stages.specs.Demands.{predicate_argument, function_argument, head_value, Finding, nothing, found}
+use Rattle.reading_stages.specs.Demands.{torn, Binding, Part, demand, scope, Parts, no_parts, more_parts, parts_of}
+use Rattle.reading_stages.specs.Demands.{formula_parts, rule_parts, term_parts, number_demand}
+use Rattle.reading_stages.specs.NamedTrees.{NamedTerm, NamedFormula, NamedRule}
 use Rattle.reading_stages.specs.Numbering.{NamedTheoryTree, NamedTermTree, NamedFile}
 use Rattle.reading_stages.specs.TypedFiles.{TypedFile, typed_file}
 use Rattle.reading_stages.specs.Typing.{type_in, within, all_settled}
@@ -27,6 +27,7 @@ place_of_demand (a_number p k) = p
 place_of_demand (sides p a b) = p
 place_of_demand (predicate_argument p k t) = p
 place_of_demand (function_argument p i k t) = p
+place_of_demand (head_value p k t) = p
 
 abbrev pub place_of_type_use : TypeUse → ℕ
 place_of_type_use (binding b) = b.place
@@ -58,6 +59,7 @@ is_unmet types types_in_scope (a_number p k) = is_no_number types (type_in types
 is_unmet types types_in_scope (sides p a b) = are_apart types (type_in types_in_scope a) (type_in types_in_scope b)
 is_unmet types types_in_scope (predicate_argument p k t) = are_apart types (type_in types_in_scope k) (declared t)
 is_unmet types types_in_scope (function_argument p i k t) = is_misplaced types i (type_in types_in_scope k) t
+is_unmet types types_in_scope (head_value p k t) = false
 
 abbrev pub is_torn : Finding → Bool
 is_torn nothing = false
@@ -94,12 +96,25 @@ abbrev mutual
 abbrev pub sentence_settled : Vocabulary → NamedFormula → Parts
 sentence_settled v f = all_settled v.types (parts_of (formula_parts v.symbols f))
 
+-- and a rule of a definition
+abbrev pub rule_settled : Vocabulary → NamedRule → Parts
+rule_settled v r = all_settled v.types (parts_of (rule_parts v.symbols r))
+
 -- and the term of a term block, which has to be a number
 abbrev pub block_settled : Vocabulary → NamedTerm → Parts
 block_settled v t = all_settled v.types (parts_of (number_demand v.symbols t ∷ term_parts v.symbols t))
 
+abbrev pub sentence_type_uses : Vocabulary → NamedFormula → List TypeUse
+sentence_type_uses v s = uses_among [] (sentence_settled v s)
+
+abbrev pub rule_type_uses : Vocabulary → NamedRule → List TypeUse
+rule_type_uses v r = uses_among [] (rule_settled v r)
+
+-- the sentences, and then the rules of the definitions
 abbrev pub theory_type_uses : NamedFile → NamedTheoryTree → List TypeUse
-theory_type_uses f t = flat_map (λ s. uses_among [] (sentence_settled f.vocabulary s)) t.sentences
+theory_type_uses f t =
+    flat_map (sentence_type_uses f.vocabulary) t.sentences
+    ++ flat_map (flat_map (rule_type_uses f.vocabulary)) t.definitions
 
 abbrev pub block_type_uses : NamedFile → NamedTermTree → List TypeUse
 block_type_uses f t = uses_among [] (block_settled f.vocabulary t.term)

@@ -9,8 +9,8 @@ use Rattle.std.specs.List.{list_any, list_all}
 use Rattle.kb_logic.specs.declared.vocabularies.TypeDecl.{TypeDecl}
 use Rattle.reading_stages.specs.Kinship.{is_under}
 use Rattle.reading_stages.specs.Demands.{TermType, whole, declared, untyped, known, Kind, of_variable, by_itself}
-use Rattle.reading_stages.specs.Demands.{Demand, a_number, sides, predicate_argument, function_argument, Finding}
-use Rattle.reading_stages.specs.Demands.{nothing, found, torn, Binding, Part, demand, scope, Parts, no_parts}
+use Rattle.reading_stages.specs.Demands.{Demand, a_number, sides, predicate_argument, function_argument, head_value}
+use Rattle.reading_stages.specs.Demands.{Finding, nothing, found, torn, Binding, Part, demand, scope, Parts, no_parts}
 use Rattle.reading_stages.specs.Demands.{more_parts}
 
 -- ---- the least of some types
@@ -47,7 +47,7 @@ settled_bindings types n [] of_number = []
 settled_bindings types n (b ∷ bs) of_number =
     settled_binding types b (of_number n) ∷ settled_bindings types (n + 1) bs of_number
 
--- ---- the places of a variable: the types of the positions at which it is the argument
+-- ---- the places of a variable: the types of the positions at which it is the argument, or a head's value
 
 abbrev pub is_variable : ℕ → Kind → Bool
 is_variable n (of_variable m) = m == n
@@ -58,6 +58,7 @@ places_given n (a_number p k) = []
 places_given n (sides p a b) = []
 places_given n (predicate_argument p k t) = if is_variable n k then t ∷ [] else []
 places_given n (function_argument p i k t) = if is_variable n k then t ∷ [] else []
+places_given n (head_value p k t) = if is_variable n k then t ∷ [] else []
 
 abbrev mutual
   pub places_at : ℕ → Part → List ℕ
@@ -109,6 +110,7 @@ sides_given types_in_scope n (a_number p k) = []
 sides_given types_in_scope n (sides p a b) = side_given types_in_scope n a b ++ side_given types_in_scope n b a
 sides_given types_in_scope n (predicate_argument p k t) = []
 sides_given types_in_scope n (function_argument p i k t) = []
+sides_given types_in_scope n (head_value p k t) = []
 
 abbrev mutual
   pub sides_at : List (Option ℕ) → ℕ → Part → List ℕ

@@ -1,5 +1,5 @@
 -- Each use of a word, with what is known at its place.
-use Rattle.std.specs.Prelude.{ℕ, ◌+◌, List, [], ◌∷◌, ◌++◌, length, map, Option, None, Some}
+use Rattle.std.specs.Prelude.{ℕ, ◌+◌, Bool, true, false, List, [], ◌∷◌, ◌++◌, length, map, Option, None, Some}
 use Rattle.std.specs.List.{flat_map}
 use Rattle.fo_syntax.specs.Trees.{Name, Var, untyped, typed, Vars, var, beside, comma, Number, any, exactly, compared}
 use Rattle.fo_syntax.specs.Trees.{Formula, alone, linked, Links, last, link, Or, one, or, And, single, and, Unary, not}
@@ -9,8 +9,16 @@ use Rattle.fo_syntax.specs.Trees.{constant, empty, apply, Terms, final, then}
 use Rattle.reading_stages.specs.Scopes.{Text}
 use Rattle.reading_stages.specs.Files.{Declaration, type_under, constructed_type, symbol, Part, sentence, definition}
 use Rattle.reading_stages.specs.Files.{TheoryBlock, TermBlock}
-use Rattle.reading_stages.specs.Names.{text_of, place_of_name, Meaning, a_type, Names, meaning_of, declared}
+use Rattle.fo_syntax.specs.BlockTrees.{Binding, binding, Head, atom_head, value_head, Rule, rule}
+use Rattle.reading_stages.specs.Names.{text_of, place_of_name, Meaning, a_type, made, variable, Names, meaning_of}
+use Rattle.reading_stages.specs.Names.{meaning_at, declared}
 use Rattle.reading_stages.specs.Names.{number_types, declared_names, names_of}
+
+-- what is known where a formula or a term stands: the variables in scope, the outermost first, and in the rules of a
+-- definition the names that it defines
+pub record Context : Type 0 where
+  pub scope : List Text
+  pub defined : List Text
 
 pub data Use : Type 0 where
   -- a name that is declared, after these
@@ -25,14 +33,39 @@ pub data Use : Type 0 where
   position : Name → Use
   -- a variable of a list, after these of the same list
   bound : List Text → Name → Use
-  -- a word with so many arguments as a formula, where these variables are in scope
-  formula_word : List Text → Name → ℕ → Use
+  -- a word with so many arguments as a formula
+  formula_word : Context → Name → ℕ → Use
   -- a word with so many arguments as a term
-  term_word : List Text → Name → ℕ → Use
-  -- an aggregate, a number quantifier and a definition, which begin here
+  term_word : Context → Name → ℕ → Use
+  -- a word with so many arguments as the function of a head, where these variables are in scope
+  function_word : List Text → Name → ℕ → Use
+  -- an argument of a head, where these variables are in scope
+  head_argument : List Text → Term → Use
+  -- an aggregate and a number quantifier, which begin here
   an_aggregate : ℕ → Use
   a_number_quantifier : ℕ → Use
-  a_definition : ℕ → Use
+
+abbrev pub app_name : App → Name
+app_name (constant n) = n
+app_name (empty n p q) = n
+app_name (apply n p ts q) = n
+
+-- the places of first tokens
+abbrev pub place_of_factor : Factor → ℕ
+place_of_factor (integer n p) = p
+place_of_factor (value a) = place_of_name (app_name a)
+place_of_factor (brackets p t q) = p
+place_of_factor (negative p f) = p
+place_of_factor (count p b vs q f r) = p
+place_of_factor (aggregate how p b vs q f r t e) = p
+
+abbrev pub place_of_product : Product → ℕ
+place_of_product (factor f) = place_of_factor f
+place_of_product (times f p q) = place_of_factor f
+
+abbrev pub place_of_term : Term → ℕ
+place_of_term (product p) = place_of_product p
+place_of_term (sum p a q t) = place_of_product p
 
 abbrev pub place_of_use : Use → ℕ
 place_of_use (declares names w) = place_of_name w
@@ -41,11 +74,12 @@ place_of_use (climbs parents number w) = place_of_name w
 place_of_use (parent w) = place_of_name w
 place_of_use (position w) = place_of_name w
 place_of_use (bound before w) = place_of_name w
-place_of_use (formula_word scope w n) = place_of_name w
-place_of_use (term_word scope w n) = place_of_name w
+place_of_use (formula_word c w n) = place_of_name w
+place_of_use (term_word c w n) = place_of_name w
+place_of_use (function_word scope w n) = place_of_name w
+place_of_use (head_argument scope t) = place_of_term t
 place_of_use (an_aggregate place) = place
 place_of_use (a_number_quantifier place) = place
-place_of_use (a_definition place) = place
 
 -- ---- declarations
 
@@ -132,23 +166,14 @@ uses_of_vars before (v ∷ vs) =
 abbrev pub within : List Text → Vars → List Text
 within scope vs = scope ++ map var_text (vars_in vs)
 
--- what is known where a formula or a term stands: the variables in scope, the outermost first
-pub record Context : Type 0 where
-  pub scope : List Text
-
 abbrev pub in_scope : List Text → Context
-in_scope names = record { scope = names }
+in_scope names = record { scope = names; defined = [] }
 
 -- where these variables are bound too
 abbrev pub inside : Context → Vars → Context
-inside c vs = record { scope = within c.scope vs }
+inside c vs = record { scope = within c.scope vs; defined = c.defined }
 
 -- ---- formulas and terms
-
-abbrev pub app_name : App → Name
-app_name (constant n) = n
-app_name (empty n p q) = n
-app_name (apply n p ts q) = n
 
 abbrev pub terms_count : Terms → ℕ
 terms_count (final t) = 1
@@ -190,7 +215,7 @@ abbrev mutual
   pub uses_in_prim : Context → Prim → List Use
   uses_in_prim c (group p f q) = uses_in c f
   uses_in_prim c (truth b p) = []
-  uses_in_prim c (atom a) = formula_word c.scope (app_name a) (app_count a) ∷ uses_in_arguments c a
+  uses_in_prim c (atom a) = formula_word c (app_name a) (app_count a) ∷ uses_in_arguments c a
   uses_in_prim c (compare x k p y) = uses_in_term c x ++ uses_in_term c y
 
   pub uses_in_term : Context → Term → List Use
@@ -203,7 +228,7 @@ abbrev mutual
 
   pub uses_in_factor : Context → Factor → List Use
   uses_in_factor c (integer n p) = []
-  uses_in_factor c (value a) = term_word c.scope (app_name a) (app_count a) ∷ uses_in_arguments c a
+  uses_in_factor c (value a) = term_word c (app_name a) (app_count a) ∷ uses_in_arguments c a
   uses_in_factor c (brackets p t q) = uses_in_term c t
   uses_in_factor c (negative p f) = uses_in_factor c f
   uses_in_factor c (count p b vs q f r) =
@@ -220,14 +245,116 @@ abbrev mutual
   uses_in_terms c (final t) = uses_in_term c t
   uses_in_terms c (then t p ts) = uses_in_term c t ++ uses_in_terms c ts
 
+-- ---- rules
+
+-- an integer, in brackets or not
+abbrev pub is_integer : Factor → Bool
+is_integer (integer n p) = true
+is_integer (brackets p (product (factor f)) q) = is_integer f
+is_integer _ = false
+
+-- a variable, or the name of an element
+abbrev pub is_given : Meaning → Bool
+is_given (variable level) = true
+is_given (made t i) = true
+is_given _ = false
+
+-- a variable, an integer with `-` or without, or the name of an element, in brackets or not
+abbrev pub is_simple_factor : Names → List Text → Factor → Bool
+is_simple_factor names scope (integer n p) = true
+is_simple_factor names scope (value a) = is_given (meaning_at names scope (app_name a) (app_count a))
+is_simple_factor names scope (brackets p (product (factor f)) q) = is_simple_factor names scope f
+is_simple_factor names scope (negative p f) = is_integer f
+is_simple_factor names scope _ = false
+
+-- what may stand as an argument or as the value of a head
+abbrev pub is_simple : Names → List Text → Term → Bool
+is_simple names scope (product (factor f)) = is_simple_factor names scope f
+is_simple names scope _ = false
+
+abbrev pub vars_bound : Binding → List Var
+vars_bound (binding p vs q) = vars_in vs
+
+-- the variables of all lists before a rule's head
+abbrev pub rule_vars : List Binding → List Var
+rule_vars bs = flat_map vars_bound bs
+
+abbrev pub rule_scope : List Binding → List Text
+rule_scope bs = map var_text (rule_vars bs)
+
+abbrev pub head_app : Head → App
+head_app (atom_head a) = a
+head_app (value_head a p t) = a
+
+-- the word in a rule's head: the name that the rule defines
+abbrev pub head_word : Rule → Text
+head_word (rule bs h body p) = text_of (app_name (head_app h))
+
+-- a body that is written
+abbrev pub written_body : Option (ℕ × Option Formula) → Option Formula
+written_body None = None
+written_body (Some b) = b.1
+
+-- a variable without a name stands for a head's value that may not stand there; no word names it
+abbrev pub unnamed : Text
+unnamed = []
+
+-- with that variable, unless the value may stand there
+abbrev pub value_scope : List Text → Bool → List Text
+value_scope scope true = scope
+value_scope scope false = scope ++ unnamed ∷ []
+
+-- the variables in scope in the value of a head and in the body after it
+abbrev pub body_scope : Names → List Text → Head → List Text
+body_scope names scope (atom_head a) = scope
+body_scope names scope (value_head a p t) = value_scope scope (is_simple names scope t)
+
+abbrev pub terms_in : Terms → List Term
+terms_in (final t) = t ∷ []
+terms_in (then t p ts) = t ∷ terms_in ts
+
+abbrev pub arguments_in : App → List Term
+arguments_in (constant n) = []
+arguments_in (empty n p q) = []
+arguments_in (apply n p ts q) = terms_in ts
+
+-- an argument of a head, and the uses in it
+abbrev pub argument_uses : List Text → Term → List Use
+argument_uses scope t = head_argument scope t ∷ uses_in_term (in_scope scope) t
+
+-- the word of a head, where these variables are in scope
+abbrev pub head_use : List Text → Head → Use
+head_use scope (atom_head a) = formula_word (in_scope scope) (app_name a) (app_count a)
+head_use scope (value_head a p t) = function_word scope (app_name a) (app_count a)
+
+abbrev pub value_uses : Context → Head → List Use
+value_uses c (atom_head a) = []
+value_uses c (value_head a p t) = uses_in_term c t
+
+abbrev pub body_uses : Context → Option Formula → List Use
+body_uses c None = []
+body_uses c (Some f) = uses_in c f
+
+-- a head and a body, where these variables are in scope
+abbrev pub uses_under : Names → List Text → List Text → Head → Option Formula → List Use
+uses_under names defined scope h body =
+    let c : Context = record { scope = body_scope names scope h; defined = defined } in
+    head_use scope h ∷ (flat_map (argument_uses scope) (arguments_in (head_app h)) ++ (value_uses c h
+    ++ body_uses c body))
+
+-- a rule of a definition that defines these names
+abbrev pub uses_in_rule : Names → List Text → Rule → List Use
+uses_in_rule names defined (rule bs h body p) =
+    flat_map (λ b. uses_of_vars [] (vars_bound b)) bs ++ uses_under names defined (rule_scope bs) h (written_body body)
+
 -- ---- a file
 
-abbrev pub uses_in_part : Part → List Use
-uses_in_part (sentence f) = uses_in (in_scope []) f
-uses_in_part (definition place) = a_definition place ∷ []
+abbrev pub uses_in_part : Names → Part → List Use
+uses_in_part names (sentence f) = uses_in (in_scope []) f
+uses_in_part names (definition rs) = flat_map (uses_in_rule names (map head_word rs)) rs
 
-abbrev pub uses_in_theory : TheoryBlock → List Use
-uses_in_theory t = flat_map uses_in_part t.parts
+abbrev pub uses_in_theory : Names → TheoryBlock → List Use
+uses_in_theory names t = flat_map (uses_in_part names) t.parts
 
 abbrev pub uses_in_block : TermBlock → List Use
 uses_in_block t = uses_in_term (in_scope []) t.term

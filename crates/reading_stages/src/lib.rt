@@ -16,7 +16,8 @@ pub use file_laws::files_are_their_blocks;
 pub use isa_laws::{cycles_come_back, isa_has_a_rank, isa_is_a_forest, named_types_have_no_cycle};
 pub use laws::{noted_is_earliest, worked_examples};
 pub use named::{
-    NamedFormula, NamedKb, NamedNode, NamedSigned, NamedTerm, NamedTermBlock, NamedTheory, NamedVar,
+    NamedDefinition, NamedFormula, NamedKb, NamedNode, NamedRule, NamedSigned, NamedTerm,
+    NamedTermBlock, NamedTheory, NamedVar,
 };
 pub use stage_examples::{below_worked_out, blocks_worked_out};
 pub use symbol_types::argument_types;

@@ -1,4 +1,4 @@
-//! Terms and formulas with numbers for words. Variables need not have their types yet.
+//! Terms, formulas and rules with numbers for words. Variables need not have their types yet.
 ghost use Rattle.reading_stages.specs.Below.{HasNoCycle, type_parents};
 
 use kb_logic::{AggKind, Cmp, Name, Vocabulary};
@@ -58,12 +58,31 @@ pub enum NamedFormula {
     Number(Cmp, u64, Items<NamedVar>, Box<NamedFormula>),
 }
 
-/// A theory: its name, the place of its first word, and its sentences.
+/// A rule of a definition. A head `f(..) = t` whose `t` may not stand in a head is `f(..) = v`, with a last variable
+/// `v` for it and `v = t` as the first part of the body. The body is true where none is written.
+#[derive(Drop)]
+pub struct NamedRule {
+    pub vars: Items<NamedVar>,
+    pub symbol: u32,
+    pub args: Items<NamedTerm>,
+    pub value: Option<NamedTerm>,
+    pub has_body: bool,
+    pub body: NamedFormula,
+}
+
+/// A definition: its rules.
+#[derive(Drop)]
+pub struct NamedDefinition {
+    pub rules: Items<NamedRule>,
+}
+
+/// A theory: its name, the place of its first word, its sentences and its definitions.
 #[derive(Drop)]
 pub struct NamedTheory {
     pub name: Name,
     pub place: usize,
     pub sentences: Items<NamedFormula>,
+    pub definitions: Items<NamedDefinition>,
 }
 
 /// A term block.

@@ -27,7 +27,8 @@ returns-clause-noted c =
     (climbing_uses (parents_in (names_of (declarations_of (map vocabulary_in c.args.raw.now.vocabularies)))
     (declarations_of (map vocabulary_in c.args.raw.now.vocabularies))) 0
     (type_names (declarations_of (map vocabulary_in c.args.raw.now.vocabularies))))
-    (flat_map uses_in_theory (map theory_in c.args.raw.now.theories))
+    (flat_map (uses_in_theory (names_of (declarations_of (map vocabulary_in c.args.raw.now.vocabularies))))
+    (map theory_in c.args.raw.now.theories))
     (flat_map uses_in_block (map term_in c.args.raw.now.terms))
     (rw given at (c.in_ok-table.ensures.noted (names_of (declarations_of
     (map vocabulary_in c.args.raw.now.vocabularies)))))

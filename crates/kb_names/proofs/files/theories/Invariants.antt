@@ -13,5 +13,5 @@ invariant-loop-raw l = record {
   named : map theory_view l.named.items ≡ map (named_theory (names_in l.table))
       (map theory_in (take l.raw-index l.blocks));
   noted : l.earliest.first ≡ fold (name_noted (names_in l.table)) l.initial.earliest.first
-      (flat_map uses_in_theory (map theory_in (take l.raw-index l.blocks)));
+      (flat_map (uses_in_theory (names_in l.table)) (map theory_in (take l.raw-index l.blocks)));
 }

@@ -21,9 +21,9 @@ use Rattle.reading_stages.specs.NamedViews.{formula_view, term_view, signed_view
 use Rattle.reading_stages.specs.NamesStage.{name_noted}
 use Rattle.reading_stages.specs.Numbering.{grouped, named_links, named_formula, named_or, named_and, named_unary}
 use Rattle.reading_stages.specs.Numbering.{named_product, named_factor, named_term, is_minus}
-use Rattle.reading_stages.specs.Uses.{an_aggregate, in_scope, uses_in, uses_of_vars, vars_in, within}
+use Rattle.reading_stages.specs.Uses.{an_aggregate, inside, uses_in, uses_of_vars, vars_in}
 use Rattle.reading_stages.specs.declared.named.NamedFormula.{the_lemmas as named_lemmas}
-use Rattle.formula_names.specs.Steps.{names_known}
+use Rattle.formula_names.specs.Steps.{context_of, names_known}
 use Rattle.formula_names.proofs.Chains.{uses_in_or-is, uses_in_and-is, uses_in_term-is, uses_in_product-is}
 use Rattle.formula_names.proofs.Chains.{uses_in_terms-is, named_terms-is, named_links-is, uses_in_links-is}
 use Rattle.formula_names.proofs.ChainEnds.{pushed, pushed_more, opened_noted, or_built, and_built, sum_built}
@@ -52,7 +52,7 @@ disjunction-returns t c =
     (λ built. rw c.any_of.ensures (or_built (names_known c.args.self.now) c.args.self.now.scope (view.and_view
     (out-RawOr c.args.raw.now).first) view.or_tail_view _ _ _ _ _ built one c.loop-tail-test.false
     c.as_slice-more.ensures some))
-    (uses_in_or-is (in_scope c.args.self.now.scope) (view.and_view (out-RawOr c.args.raw.now).first) (map
+    (uses_in_or-is (context_of c.args.self.now) (view.and_view (out-RawOr c.args.raw.now).first) (map
     view.or_tail_view (out-RawOr c.args.raw.now).more)))
 
 pub disjunction-returns-then-is_empty : goal.disjunction-returns-then-is_empty
@@ -88,7 +88,7 @@ conjunction-returns t c =
     (λ built. rw c.all_of.ensures (and_built (names_known c.args.self.now) c.args.self.now.scope (view.unary_view
     (out-RawAnd c.args.raw.now).first) view.and_tail_view _ _ _ _ _ built one c.loop-tail-test.false
     c.as_slice-more.ensures some))
-    (uses_in_and-is (in_scope c.args.self.now.scope) (view.unary_view (out-RawAnd c.args.raw.now).first) (map
+    (uses_in_and-is (context_of c.args.self.now) (view.unary_view (out-RawAnd c.args.raw.now).first) (map
     view.and_tail_view (out-RawAnd c.args.raw.now).more)))
 
 pub conjunction-returns-then-is_empty : goal.conjunction-returns-then-is_empty
@@ -131,7 +131,7 @@ term-returns t c =
     (out-RawTermTree c.args.raw.now).first) view.sum_tail_view c.place_of-place.result _ _ _ _ _ built one
     c.loop-tail-test.false
     c.as_slice-more.ensures some at))
-    (uses_in_term-is (in_scope c.args.self.now.scope) (view.product_view (out-RawTermTree c.args.raw.now).first) (map
+    (uses_in_term-is (context_of c.args.self.now) (view.product_view (out-RawTermTree c.args.raw.now).first) (map
     view.sum_tail_view (out-RawTermTree c.args.raw.now).more)))
 
 pub term-returns-then-is_empty : goal.term-returns-then-is_empty
@@ -180,7 +180,7 @@ product-returns t c =
     (view.factor_view (out-RawProduct c.args.raw.now).first) view.product_tail_view c.place_of-place.result _ _ _ _ _
     built one c.loop-tail-test.false
     c.as_slice-more.ensures some at))
-    (uses_in_product-is (in_scope c.args.self.now.scope) (view.factor_view (out-RawProduct c.args.raw.now).first) (map
+    (uses_in_product-is (context_of c.args.self.now) (view.factor_view (out-RawProduct c.args.raw.now).first) (map
     view.product_tail_view (out-RawProduct c.args.raw.now).more)))
 
 pub product-returns-then-is_empty : goal.product-returns-then-is_empty
@@ -223,7 +223,7 @@ arguments-returns t c =
     (λ built. rw named_terms-is (ap tree.terms_of (pushed (argument_named (names_known c.args.self.now)
     c.args.self.now.scope)
     view.terms_tail_view _ _ _ _ _ _ built one c.loop-tail-test.false c.as_slice-more.ensures)))
-    (uses_in_terms-is (in_scope c.args.self.now.scope) (view.term_view (out-RawTerms c.get-terms.result.now).first) (map
+    (uses_in_terms-is (context_of c.args.self.now) (view.term_view (out-RawTerms c.get-terms.result.now).first) (map
     view.terms_tail_view (out-RawTerms c.get-terms.result.now).more)))
 
 pub arguments-loop-tail-preserved : goal.arguments-loop-tail-preserved
@@ -280,7 +280,7 @@ formula-returns-in_ok-add_links-in-Linked t c =
       seen,
       none,
       first.scope,
-      first.table,
+      first.known,
     ) at links.tree in
     let whole : grouped c.in-Linked.arrow (formula_view c.in_ok-first-in-Linked.first)
     (map formula_view c.add_links.new.more.items) ≡ named_formula (names_known c.args.self.now) c.args.self.now.scope
@@ -289,23 +289,23 @@ formula-returns-in_ok-add_links-in-Linked t c =
     rw (all, first.tree) refl in
     IfOk-weaker c.grouped.result _ _ (λ f is. rw seen
     (both c.args.self.now c.disjunction-in-Linked.new.self c.add_links.new.self first links
-    (is ∙ whole) first.scope (rw (seen, first.scope) refl))) c.grouped.ensures
+    (is ∙ whole) first.scope (rw (seen, first.scope, first.known) refl))) c.grouped.ensures
 
 pub opened-returns-clause-condition : goal.opened-returns-clause-condition
 opened-returns-clause-condition t c =
     let vars = c.in_ok-vars.ensures in
     let condition = c.in_ok-condition.ensures in
     record {
-      tree = rw (vars.table, vars.scope, c.get.ensures) at condition.tree;
-      table = condition.table ∙ vars.table;
+      tree = rw (vars.known, vars.scope, c.get.ensures) at condition.tree;
+      known = condition.known ∙ vars.known;
       scope = rw (vars.scope, c.get.ensures) at condition.scope;
       noted = opened_noted (name_noted (names_known c.args.self.now)) c.args.self.now.earliest.first
           c.note_aggregate.new.earliest.first
           c.binders.new.self.earliest.first c.formula.new.self.earliest.first (an_aggregate c.args.opening.now.place)
           (uses_of_vars [] (vars_in (view.vars_view c.args.opening.now.vars)))
-          (uses_in (in_scope (within c.args.self.now.scope (view.vars_view c.args.opening.now.vars)))
+          (uses_in (inside (context_of c.args.self.now) (view.vars_view c.args.opening.now.vars))
           (view.formula_view c.args.condition.now)) (c.note_aggregate.ensures (names_known c.args.self.now))
-          (rw c.get.ensures at vars.noted) (rw (vars.table, vars.scope, c.get.ensures) at condition.noted);
+          (rw c.get.ensures at vars.noted) (rw (vars.known, vars.scope, c.get.ensures) at condition.noted);
     }
 
 pub formula-returns-in-Alone : goal.formula-returns-in-Alone

@@ -10,7 +10,7 @@ use Rattle.formula_names.proofs.resolver.Resolver.bind_more.Given as goal
 abbrev pub invariant-loop-tail : goal.invariant-loop-tail
 invariant-loop-tail l = record {
   inside : l.outer ≤ length l.self.scope;
-  table : l.self.table ≡ l.initial.self.table;
+  known : l.self.known ≡ l.initial.self.known;
   vars : map var_view l.vars.items ++ map (named_var (names_known l.initial.self))
       (map tail_var (drop l.tail-index l.more))
       ≡ map var_view l.initial.vars.items ++ map (named_var (names_known l.initial.self)) (map tail_var l.more);

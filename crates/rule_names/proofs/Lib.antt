@@ -1,0 +1,3 @@
+mod TermLaws
+mod HeadLaws
+mod RuleLaws
