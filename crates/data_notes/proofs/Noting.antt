@@ -5,10 +5,7 @@ use Rattle.std.proofs.Common.{append-nil, arith}
 use Rattle.std.specs.Prelude.{zip, option_to_list}
 use Rattle.std.specs.List.{enumerate_from, filter_map, flat_map, list_any}
 use Rattle.std.proofs.lemmas.List.Elements.{filter_map-append}
-use Rattle.kb_logic.specs.declared.vocabularies.Symbol.{Symbol}
-use Rattle.kb_logic.specs.Trees.{FormulaTree}
-use Rattle.reading_stages.specs.TheoryItems.{sentence}
-use Rattle.reading_stages.specs.IntegerArguments.{Argument, arguments_at, formula_integers, item_integers, with_place}
+use Rattle.reading_stages.specs.IntegerArguments.{Argument, arguments_at, with_place}
 use Rattle.reading_stages.specs.DataStage.{DataUse, argument, declared, type_use}
 use Rattle.integer_arguments.specs.PlacedViews.{placed_view, placed_views}
 use Rattle.integer_arguments.specs.declared.placed.Placed.{Placed}
@@ -169,11 +166,6 @@ next_argument note places found i d e old new whole h k noted inv =
     ap (λ o. fold note o (map argument rest)) noted
     ∙ sym (fold-append note old (map argument own) (map argument rest))
     ∙ ap (fold note old) (sym (ap (map argument) split ∙ map-append argument own rest)) ∙ inv
-
-pub integers_of_sentences : (symbols : List Symbol) (fs : List FormulaTree) → flat_map (formula_integers symbols) fs
-    ≡ flat_map (item_integers symbols) (map sentence fs)
-integers_of_sentences symbols [] = refl
-integers_of_sentences symbols (f ∷ fs) = ap (λ xs. formula_integers symbols f ++ xs) (integers_of_sentences symbols fs)
 
 pub next_block : {T A B : Type 0} (note : Option KbFault → DataUse → Option KbFault) (view : T → A) (F : A × B
     → List Argument) (ts : List T) (ps : List B) (i : ℕ) (t : T) (p : B) (old new whole : Option KbFault)

@@ -1,10 +1,9 @@
-//! What is noted of integers that are arguments of functions.
+//! What is noted of integers that are arguments of functions and of heads.
 ghost use Rattle.std.specs.Prelude.{◌≡◌, ◌∷◌, [], ℕ, List, fold, map, OnOk, IfOk};
 ghost use Rattle.std.specs.List.{flat_map};
 ghost use Rattle.std.specs.Option.{option_map};
 ghost use Rattle.std.specs.Prelude.{zip};
 ghost use Rattle.kb_logic.specs.declared.vocabularies.TypeDecl.{TypeDecl as AType};
-ghost use Rattle.kb_logic.specs.Views.{formula_view};
 ghost use Rattle.reading_stages.specs.DataEntries as said;
 ghost use Rattle.reading_stages.specs.DataDomains as domain;
 ghost use Rattle.reading_stages.specs.DataStage as stage;
@@ -17,9 +16,10 @@ ghost use Rattle.type_derivation.specs.TypedViews.{named_term_view, named_theory
 use data_domains::lookups::has_element;
 use data_domains::types::TypeData;
 use data_entries::elements::Element;
+use integer_arguments::items::in_theory;
 use integer_arguments::placed::Placed;
-use integer_arguments::walks::{formula, term};
-use kb_logic::{Formula, Memory, Symbol, Term, Theory};
+use integer_arguments::walks::term;
+use kb_logic::{Memory, Symbol, Term, Theory};
 use kb_text::K;
 use reading_stages::Earliest;
 use std::alloc::Global;
@@ -70,24 +70,8 @@ fn note_placed(
     }
 }
 
-/// The integers in some sentences.
-fn in_sentences(
-    alloc: Global,
-    symbols: &[Symbol],
-    sentences: &[Formula],
-) -> Result<Vec<Option<Placed>>, Memory>
-    ensures { IfOk result (λ found. placed_views found.items ≡ flat_map (integers.formula_integers symbols.now)
-        (map formula_view sentences.now)) }
-{
-    let mut found = Vec::new(alloc);
-    for sentence in sentences {
-        formula(symbols, sentence, &mut found)?;
-    }
-    Ok(found)
-}
-
 /// Notes the arguments in a theory.
-fn note_sentences(
+fn note_items(
     alloc: Global,
     earliest: &mut Earliest,
     types: &[TypeData<'_>],
@@ -99,7 +83,7 @@ fn note_sentences(
         ≡ fold (stage.data_noted all es) earliest.old.first (map stage.argument
         (stage.arguments_of_theory symbols.now (named_theory_view theory.now, places.now)))) }
 {
-    let found = in_sentences(alloc, symbols, theory.value.sentences.as_slice())?;
+    let found = in_theory(alloc, symbols, &theory.value)?;
     note_placed(earliest, types, places, &found);
     Ok(())
 }
@@ -123,7 +107,7 @@ fn note_theory(
         return Ok(());
     };
     let symbols = kb.vocab.symbols.as_slice();
-    note_sentences(alloc, earliest, types, symbols, named, places.as_slice())?;
+    note_items(alloc, earliest, types, symbols, named, places.as_slice())?;
     Ok(())
 }
 

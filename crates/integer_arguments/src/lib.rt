@@ -1,5 +1,6 @@
-//! The integers that stand as arguments of functions in formulas and terms.
+//! The integers that stand as arguments of functions and of heads, in formulas, terms and theories.
 #![tactic(auto)]
 
+pub mod items;
 pub mod placed;
 pub mod walks;

@@ -47,7 +47,7 @@ pub fn term(
 
 /// Terms at positions of these types; past them, at no position.
 #[cycle(walk)]
-fn terms(
+pub fn terms(
     symbols: &[Symbol],
     types: &[u32],
     all: &[Term],

@@ -7,6 +7,7 @@ use Rattle.type_constraints.specs.declared.constraints.Kind.{Kind}
 use Rattle.type_constraints.specs.declared.constraints.Kind.TheVariants.{Variable, ByItself}
 use Rattle.type_constraints.specs.declared.constraints.Demand.{Demand}
 use Rattle.type_constraints.specs.declared.constraints.Demand.TheVariants.{Number, Sides, OfPredicate, OfFunction}
+use Rattle.type_constraints.specs.declared.constraints.Demand.TheVariants.{OfHead}
 use Rattle.type_constraints.specs.declared.constraints.Finding.{Finding}
 use Rattle.type_constraints.specs.declared.constraints.Finding.TheVariants.{Nothing, Found, Ambiguous}
 use Rattle.type_constraints.specs.declared.constraints.Binding.{Binding}
@@ -27,6 +28,7 @@ demand_view (Number p k) = said.a_number p (kind_view k)
 demand_view (Sides p a b) = said.sides p (kind_view a) (kind_view b)
 demand_view (OfPredicate p k t) = said.predicate_argument p (kind_view k) t
 demand_view (OfFunction p i k t) = said.function_argument p i (kind_view k) t
+demand_view (OfHead p k t) = said.head_value p (kind_view k) t
 
 abbrev pub finding_view : Finding → said.Finding
 finding_view Nothing = said.nothing

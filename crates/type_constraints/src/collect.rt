@@ -26,7 +26,7 @@ fn binding(var: &NamedVar) -> Binding
     }
 }
 
-fn bindings(alloc: Global, vars: &[NamedVar]) -> Result<Vec<Binding>, Memory>
+pub fn bindings(alloc: Global, vars: &[NamedVar]) -> Result<Vec<Binding>, Memory>
     ensures { IfOk result (λ bs. map binding_view bs.items ≡ map said.binding_of (map var_view vars.now)) }
 {
     let mut bindings = Vec::new(alloc);
@@ -154,8 +154,9 @@ pub fn term(
     }
 }
 
+/// Adds what the arguments of a function, or else of a predicate, demand at positions of these types.
 #[cycle(list)]
-fn arguments(
+pub fn arguments(
     alloc: Global,
     symbols: &[Symbol],
     of_function: bool,

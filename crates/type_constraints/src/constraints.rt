@@ -1,4 +1,4 @@
-//! What formulas and terms demand of the types of their terms.
+//! What formulas, terms and rules demand of the types of their terms.
 
 /// A term's type: `int`, a type of the vocabulary, or none, as of a variable that has none.
 #[derive(Clone, Copy)]
@@ -16,13 +16,15 @@ pub enum Kind {
 }
 
 /// A demand, with the place where its term begins, or the left side of its comparison. An argument has its kind and
-/// its position's type; one of a function also whether it is an integer.
+/// its position's type; one of a function also whether it is an integer. The value of a head has its kind and its
+/// function's value type, in which it need not be.
 #[derive(Clone, Copy)]
 pub enum Demand {
     Number(usize, Kind),
     Sides(usize, Kind, Kind),
     OfPredicate(usize, Kind, u32),
     OfFunction(usize, bool, Kind, u32),
+    OfHead(usize, Kind, u32),
 }
 
 /// What is found of a variable's type: nothing yet, a type, or types of which none is the least.

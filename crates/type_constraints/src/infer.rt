@@ -58,6 +58,7 @@ fn see_demand(
             Demand::Sides(_, _, _) => {}
             Demand::OfPredicate(_, kind, ty) => see_at(types, findings, kind, ty),
             Demand::OfFunction(_, _, kind, ty) => see_at(types, findings, kind, ty),
+            Demand::OfHead(_, kind, ty) => see_at(types, findings, kind, ty),
         },
         Source::Sides => match demand {
             Demand::Number(_, _) => {}
@@ -67,6 +68,7 @@ fn see_demand(
             }
             Demand::OfPredicate(_, _, _) => {}
             Demand::OfFunction(_, _, _, _) => {}
+            Demand::OfHead(_, _, _) => {}
         },
     }
 }

@@ -63,6 +63,7 @@ fn is_unmet(types: &[TypeDecl], scope: &[Option<u32>], demand: Demand) -> bool
         Demand::OfFunction(_, integer, kind, ty) => {
             is_misplaced(types, integer, type_in(scope, kind), ty)
         }
+        Demand::OfHead(_, _, _) => false,
     }
 }
 
@@ -74,6 +75,7 @@ fn place_of(demand: Demand) -> usize
         Demand::Sides(place, _, _) => place,
         Demand::OfPredicate(place, _, _) => place,
         Demand::OfFunction(place, _, _, _) => place,
+        Demand::OfHead(place, _, _) => place,
     }
 }
 

@@ -9,14 +9,21 @@ use crate::constraints::{Demand, Kind, Part, TermType};
 use kb_logic::{Cmp, Memory, Symbol};
 use reading_stages::{NamedNode, NamedSigned, NamedTerm};
 
-fn value_type(symbols: &[Symbol], function: u32) -> TermType
-    ensures { type_view result ≡ said.known (said.value_type (slice_get symbols.now function)) }
+/// The type of a function's value.
+fn value_type(symbols: &[Symbol], function: u32) -> Option<u32>
+    ensures { result ≡ said.value_type (slice_get symbols.now function) }
 {
     match symbols.get(function as usize) {
-        Some(symbol) => match symbol.value {
-            Some(ty) => TermType::Declared(ty),
-            None => TermType::Untyped,
-        },
+        Some(symbol) => symbol.value,
+        None => None,
+    }
+}
+
+fn known(ty: Option<u32>) -> TermType
+    ensures { type_view result ≡ said.known ty }
+{
+    match ty {
+        Some(ty) => TermType::Declared(ty),
         None => TermType::Untyped,
     }
 }
@@ -27,7 +34,7 @@ fn kind_of(symbols: &[Symbol], term: &NamedTerm) -> Kind
     match &term.node {
         NamedNode::Var(n) => Kind::Variable(*n),
         NamedNode::Made(ty, _) => Kind::ByItself(TermType::Declared(*ty)),
-        NamedNode::Apply(function, _) => Kind::ByItself(value_type(symbols, *function)),
+        NamedNode::Apply(function, _) => Kind::ByItself(known(value_type(symbols, *function))),
         NamedNode::Int(_) => Kind::ByItself(TermType::Int),
         NamedNode::Sum(_) => Kind::ByItself(TermType::Int),
         NamedNode::Product(_) => Kind::ByItself(TermType::Int),
@@ -97,6 +104,29 @@ pub fn demand_position(
 {
     if let Some(ty) = types.first() {
         out.push(Part::Demand(argument(symbols, of_function, term, *ty)))?;
+    }
+    Ok(())
+}
+
+fn head_value(symbols: &[Symbol], value: &NamedTerm, ty: u32) -> Demand
+    ensures { demand_view result ≡ said.head_value (place_of (term_view value.now)) (said.kind_of symbols.now
+        (term_view value.now)) ty }
+{
+    Demand::OfHead(value.place, kind_of(symbols, value), ty)
+}
+
+/// The demand on the value of a head of this function.
+pub fn demand_value(
+    symbols: &[Symbol],
+    function: u32,
+    value: &NamedTerm,
+    out: &mut Vec<Part>,
+) -> Result<(), Memory>
+    ensures { OnOk result (map part_view out.new.items ≡ map part_view out.old.items ++ said.value_demands symbols.now
+        (said.value_type (slice_get symbols.now function)) (term_view value.now)) }
+{
+    if let Some(ty) = value_type(symbols, function) {
+        out.push(Part::Demand(head_value(symbols, value, ty)))?;
     }
     Ok(())
 }

@@ -18,7 +18,7 @@ use reading_stages::{Earliest, NamedFormula, NamedTerm};
 use std::alloc::Global;
 
 /// The types of all variables in these parts, and what is refused of them.
-fn types_of(
+pub fn types_of(
     alloc: Global,
     types: &[TypeDecl],
     listed: &[Part],

@@ -25,7 +25,7 @@ use Rattle.type_constraints.specs.ChosenTypes.{types_at, types_among}
 use Rattle.type_derivation.specs.ListedTrees.{listed_vars, left_vars, left_formula}
 use Rattle.type_derivation.specs.ListedTrees.{left_formulas, left_term, left_node, left_terms, left_summands}
 use Rattle.type_derivation.specs.ListedTrees.{listed_formula, listed_formulas, listed_term, listed_node, listed_terms}
-use Rattle.type_derivation.specs.ListedTrees.{listed_summands, TypesAreInOrder}
+use Rattle.type_derivation.specs.ListedTrees.{listed_summands}
 
 two : {X Y Z : Type 0} (make : X → Y → Z) (a b : X) (c d : Y) → a ≡ b → c ≡ d → make a c ≡ make b d
 two make a b c d e f = ap (λ (x : _). make x c) e ∙ ap (make b) f
@@ -70,7 +70,7 @@ behind_vars types n (x ∷ xs) P Q rest = behind_vars types (n + 1) xs P Q rest
 
 module _ (v : Vocabulary) where
   -- the types that are found in parts
-  abbrev found_in : List (Option ℕ) → List Part → List ℕ
+  abbrev pub found_in : List (Option ℕ) → List Part → List ℕ
   found_in around ps = types_among (by_sides v.types around (by_places v.types (length around) (parts_of ps)))
 
   found-append : (around : List (Option ℕ)) (ps qs : List Part) → found_in around (ps ++ qs) ≡ found_in around ps
@@ -82,14 +82,14 @@ module _ (v : Vocabulary) where
       ∙ sym (append_assoc (types_at (part_by_sides v.types around (part_by_places v.types (length around) p)))
       (found_in around ps) (found_in around qs))
 
-  split : (around : List (Option ℕ)) (ps qs : List Part) (rest : List ℕ)
+  pub split : (around : List (Option ℕ)) (ps qs : List Part) (rest : List ℕ)
       → found_in around (ps ++ qs) ++ rest ≡ found_in around ps ++ (found_in around qs ++ rest)
   split around ps qs rest =
       ap (λ (ts : List ℕ). ts ++ rest) (found-append around ps qs) ∙ append_assoc (found_in around ps)
       (found_in around qs) rest
 
   -- parts without variables
-  split_none : (around : List (Option ℕ)) (ps qs : List Part) (rest : List ℕ) → found_in around ps ≡ []
+  pub split_none : (around : List (Option ℕ)) (ps qs : List Part) (rest : List ℕ) → found_in around ps ≡ []
       → found_in around (ps ++ qs) ++ rest ≡ found_in around qs ++ rest
   split_none around ps qs rest e = split around ps qs rest ∙ ap (λ (ts : List ℕ). ts ++ (found_in around qs ++ rest)) e
 
@@ -159,14 +159,14 @@ module _ (v : Vocabulary) where
       ∙ append_assoc (types_here around xs ps) (found_in (inside v.types around xs ps) ps) rest
 
   -- what is left after the variables
-  scope_left : (around : List (Option ℕ)) (xs : List NamedVar) (ps : List Part) (rest : List ℕ)
+  pub scope_left : (around : List (Option ℕ)) (xs : List NamedVar) (ps : List Part) (rest : List ℕ)
       → left_vars (found_in around (scope (map binding_of xs) (parts_of ps) ∷ []) ++ rest) xs
       ≡ found_in (inside v.types around xs ps) ps ++ rest
   scope_left around xs ps rest =
       ap (λ (ts : List ℕ). left_vars ts xs) (split_scope around xs ps rest)
       ∙ behind_vars v.types (length around) xs _ _ (found_in (inside v.types around xs ps) ps ++ rest)
 
-  scope_vars : (around : List (Option ℕ)) (xs : List NamedVar) (ps : List Part) (rest : List ℕ)
+  pub scope_vars : (around : List (Option ℕ)) (xs : List NamedVar) (ps : List Part) (rest : List ℕ)
       → listed_vars (found_in around (scope (map binding_of xs) (parts_of ps) ∷ []) ++ rest) xs
       ≡ typed_vars v.types around xs ps
   scope_vars around xs ps rest =
@@ -177,7 +177,7 @@ module _ (v : Vocabulary) where
   -- ---- what is left after a tree
 
   mutual
-    left-formula : (around : List (Option ℕ)) (f : NamedFormula) (rest : List ℕ)
+    pub left-formula : (around : List (Option ℕ)) (f : NamedFormula) (rest : List ℕ)
         → left_formula (found_in around (formula_parts v.symbols f) ++ rest) f ≡ rest
     left-formula around (truth b) rest = refl
     left-formula around (atom s us) rest = left-arguments around false _ us rest
@@ -217,7 +217,7 @@ module _ (v : Vocabulary) where
         ∙ ap (λ (ts : List ℕ). left_formulas ts fs) (left-formula around f
         (found_in around (formulas_parts v.symbols fs) ++ rest)) ∙ left-formulas around fs rest
 
-    left-term : (around : List (Option ℕ)) (u : NamedTerm) (rest : List ℕ)
+    pub left-term : (around : List (Option ℕ)) (u : NamedTerm) (rest : List ℕ)
         → left_term (found_in around (term_parts v.symbols u) ++ rest) u ≡ rest
     left-term around (at p x) rest = left-node around x rest
 
@@ -239,7 +239,7 @@ module _ (v : Vocabulary) where
         f (found_in (inside v.types around xs (aggregate_parts v.symbols f w)) (term_parts v.symbols w) ++ rest))
         ∙ left-term (inside v.types around xs (aggregate_parts v.symbols f w)) w rest
 
-    left-arguments : (around : List (Option ℕ)) (b : Bool) (args : List ℕ) (us : NamedTerms) (rest : List ℕ)
+    pub left-arguments : (around : List (Option ℕ)) (b : Bool) (args : List ℕ) (us : NamedTerms) (rest : List ℕ)
         → left_terms (found_in around (arguments_parts v.symbols b args us) ++ rest) us ≡ rest
     left-arguments around b args no_terms rest = refl
     left-arguments around b args (more_terms u us) rest =
@@ -269,7 +269,7 @@ module _ (v : Vocabulary) where
   -- ---- trees
 
   mutual
-    tree-formula : (around : List (Option ℕ)) (f : NamedFormula) (rest : List ℕ)
+    pub tree-formula : (around : List (Option ℕ)) (f : NamedFormula) (rest : List ℕ)
         → listed_formula (found_in around (formula_parts v.symbols f) ++ rest) f ≡ typed_formula v around f
     tree-formula around (truth b) rest = refl
     tree-formula around (atom s us) rest = ap (tree.atom s) (tree-arguments around false _ us rest)
@@ -317,7 +317,7 @@ module _ (v : Vocabulary) where
         (ap (λ (ts : List ℕ). listed_formulas ts fs) (left-formula around f
         (found_in around (formulas_parts v.symbols fs) ++ rest)) ∙ tree-formulas around fs rest)
 
-    tree-term : (around : List (Option ℕ)) (u : NamedTerm) (rest : List ℕ)
+    pub tree-term : (around : List (Option ℕ)) (u : NamedTerm) (rest : List ℕ)
         → listed_term (found_in around (term_parts v.symbols u) ++ rest) u ≡ typed_term v around u
     tree-term around (at p x) rest = tree-node around x rest
 
@@ -343,7 +343,7 @@ module _ (v : Vocabulary) where
         ∙ ap (λ (ts : List ℕ). listed_term ts w) (left-formula inner f
         (found_in inner (term_parts v.symbols w) ++ rest)) ∙ tree-term inner w rest)
 
-    tree-arguments : (around : List (Option ℕ)) (b : Bool) (args : List ℕ) (us : NamedTerms) (rest : List ℕ)
+    pub tree-arguments : (around : List (Option ℕ)) (b : Bool) (args : List ℕ) (us : NamedTerms) (rest : List ℕ)
         → listed_terms (found_in around (arguments_parts v.symbols b args us) ++ rest) us ≡ typed_terms v around us
     tree-arguments around b args no_terms rest = refl
     tree-arguments around b args (more_terms u us) rest =
@@ -375,11 +375,3 @@ module _ (v : Vocabulary) where
         (found_in around (summands_parts v.symbols ss) ++ rest))
         (ap (λ (ts : List ℕ). listed_summands ts ss) (left-term around u (found_in around (summands_parts v.symbols ss)
         ++ rest)) ∙ tree-summands around ss rest)
-
-pub types_are_in_order : TypesAreInOrder
-types_are_in_order = record {
-  sentence = λ v f. sym (tree-formula v [] f []) ∙ ap (λ (ts : List ℕ). listed_formula ts f)
-      (append-nil (found_in v [] (formula_parts v.symbols f)));
-  term = λ v t. sym (tree-term v [] t []) ∙ ap (λ (ts : List ℕ). listed_term ts t)
-      (append-nil (found_in v [] (term_parts v.symbols t)));
-}

@@ -1,4 +1,6 @@
+mod HeadSteps
 mod InOrder
 mod Listed
+mod RuleOrder
 mod TreeSteps
 mod TypeRows

@@ -26,6 +26,12 @@ module _ {X Y : Type 0} (view : X → Y) (items : List X) (i : ℕ) (x : X) (lt 
   viewed : map view (take (i + 1) items) ≡ map view (take i items) ++ view x ∷ []
   viewed = ap (map view) (taken items i x lt is) ∙ map-append view (take i items) (x ∷ [])
 
+  all_next : {Z : Type 0} (f : Y → List Z) → flat_map f (map view (take (i + 1) items))
+      ≡ flat_map f (map view (take i items)) ++ f (view x)
+  all_next f =
+      ap (flat_map f) viewed ∙ flat_map-append f (map view (take i items)) (view x ∷ [])
+      ∙ ap (λ (zs : List _). flat_map f (map view (take i items)) ++ zs) (nil_behind (f (view x)))
+
   pub made_next : {Z : Type 0} (make : Y → Z) (before after : List Z) (new : Z)
       → before ≡ map make (map view (take i items)) → new ≡ make (view x)
       → after ≡ before ++ new ∷ [] → after ≡ map make (map view (take (i + 1) items))
@@ -46,9 +52,7 @@ module _ {X Y : Type 0} (view : X → Y) (items : List X) (i : ℕ) (x : X) (lt 
   noted_next noted us start before after b a =
       a ∙ ap (λ (o : _). fold noted o (us (view x))) b ∙ sym (fold-append noted start
       (flat_map us (map view (take i items))) (us (view x)))
-      ∙ ap (fold noted start)
-      (sym (ap (flat_map us) viewed ∙ flat_map-append us (map view (take i items)) (view x ∷ [])
-      ∙ ap (λ (zs : List _). flat_map us (map view (take i items)) ++ zs) (nil_behind (us (view x)))))
+      ∙ ap (fold noted start) (sym (all_next us))
 
 -- two runs of notes are one
 pub noted_both : {O U : Type 0} (noted : O → U → O) (start middle last : O) (us vs : List U)

@@ -9,7 +9,7 @@ use Rattle.kb_logic.specs.declared.vocabularies.Symbol.{Symbol}
 use Rattle.kb_logic.specs.declared.vocabularies.Parent.{Parent}
 use Rattle.kb_logic.specs.declared.vocabularies.Parent.TheVariants as parent
 use Rattle.kb_logic.specs.Trees as typed
-use Rattle.kb_logic.specs.Trees.{TermTree, FormulaTree}
+use Rattle.kb_logic.specs.Trees.{TermTree, FormulaTree, RuleTree}
 use Rattle.kb_text.specs.declared.fault.K.TheVariants as k
 use Rattle.kb_text.specs.declared.fault.KbFault.{KbFault}
 use Rattle.reading_stages.specs.Demands.{Finding, nothing, found, torn, Binding, demand, scope, Parts, no_parts}
@@ -18,10 +18,11 @@ use Rattle.reading_stages.specs.Earliest.{refusal}
 use Rattle.reading_stages.specs.Kinship.{is_under, is_number_type, are_akin}
 use Rattle.reading_stages.specs.NamedTrees.{NamedVar, NamedTerm, at, variable, integer, application, summation}
 use Rattle.reading_stages.specs.NamedTrees.{aggregate, terms_of, summands_of, NamedFormula, truth, atom, comparison}
-use Rattle.reading_stages.specs.NamedTrees.{conjunction, universal, existential, formulas_of}
-use Rattle.reading_stages.specs.TermPlaces.{term_begins}
-use Rattle.reading_stages.specs.TypedTrees.{typed_sentence, typed_block_term}
-use Rattle.reading_stages.specs.TypesStage.{sentence_settled, block_settled, uses_among, type_noted}
+use Rattle.reading_stages.specs.NamedTrees.{conjunction, universal, existential, formulas_of, NamedRule}
+use Rattle.reading_stages.specs.TermPlaces.{term_begins, rule_begins}
+use Rattle.reading_stages.specs.TypedTrees.{typed_sentence, typed_rule, typed_block_term}
+use Rattle.reading_stages.specs.TypesStage.{sentence_settled, rule_settled, block_settled, uses_among}
+use Rattle.reading_stages.specs.TypesStage.{rule_type_uses, type_noted}
 
 abbrev pub a_type : Parent → TypeDecl
 a_type above = record { name = codes "T"; parent = above; made = [] }
@@ -107,6 +108,23 @@ equal = comparison cmp.Eq
 abbrev pub total : NamedFormula → NamedTerm → NamedTerm
 total condition weight = at 9 (aggregate kind.Sum (bound 1 ∷ []) condition weight)
 
+-- rules with one variable: of a predicate, `!x: p(t) <- body`, and of a function, `!x: f(t) = value <- body`
+abbrev pub rule_for : List NamedVar → ℕ → NamedTerm → Option NamedTerm → NamedFormula → NamedRule
+rule_for vars symbol t value body = record {
+  vars = vars;
+  symbol = symbol;
+  args = t ∷ [];
+  value = value;
+  has_body = true;
+  body = body;
+}
+
+abbrev pub each_atom : ℕ → NamedTerm → NamedFormula → NamedRule
+each_atom symbol t body = rule_for (bound 1 ∷ []) symbol t None body
+
+abbrev pub each_value : NamedTerm → NamedTerm → NamedFormula → NamedRule
+each_value t value body = rule_for (bound 1 ∷ []) 3 t (Some value) body
+
 -- ---- the same with types
 
 abbrev pub of_type : ℕ → List Bound
@@ -171,6 +189,12 @@ refused s = fold (type_noted types) None (uses_among [] (sentence_settled vocabu
 
 abbrev pub refused_term : NamedTerm → Option KbFault
 refused_term t = fold (type_noted types) None (uses_among [] (block_settled vocabulary t))
+
+abbrev pub found_of_rule : NamedRule → List Finding
+found_of_rule r = first_findings (rule_settled vocabulary r)
+
+abbrev pub refused_rule : NamedRule → Option KbFault
+refused_rule r = fold (type_noted types) None (rule_type_uses vocabulary r)
 
 pub record TypesAreWorkedOut : Type 0 where
   -- E is below A, two steps up, but A is not below B
@@ -253,3 +277,24 @@ pub record TypesAreWorkedOut : Type 0 where
   pub places : term_begins (f (sum (number 2) (number 1))) ≡ 15 ∷ 14 ∷ 12 ∷ 12 ∷ []
   -- !x: P(x) & Q(x) with the variable's type
   pub tree : tree_of (each (both (P x) (Q x))) ≡ each_of 1 (typed_both (typed_P typed_x) (typed_Q typed_x))
+  -- { !x: P(x) <- true. }, { !x: f(1) = x <- true. } and { !x: P(x) <- Q(x). }
+  pub by_a_head : found_of_rule (each_atom 0 x (truth true)) ≡ found 0 ∷ []
+  pub by_a_value : found_of_rule (each_value (number 1) x (truth true)) ≡ found 1 ∷ []
+  pub by_a_body : found_of_rule (each_atom 0 x (Q x)) ≡ found 1 ∷ []
+  -- { !x[A]: Q(x) <- true. }: an argument of a head is below its position, as that of a function
+  pub head_below : refused_rule (rule_for (bound_in 1 0 ∷ []) 1 x None (truth true)) ≡ Some (refusal k.TypeClash 10)
+  pub integer_in_head : refused_rule (rule_for [] 1 (number 3) None (truth true)) ≡ None
+  -- { f(1) = c <- true. }: the value of a head need not be in the value type
+  pub value_apart : refused_rule (rule_for [] 3 (number 1) (Some c) (truth true)) ≡ None
+  -- { !x: f(x) = f(2+1) <- P(c). }: the places of its arguments, of its value and of its body
+  pub places_in_rule : rule_begins (each_value x (f (sum (number 2) (number 1))) (P c))
+      ≡ 10 ∷ 15 ∷ 14 ∷ 12 ∷ 12 ∷ 16 ∷ []
+  -- { !x: f(x) = x <- Q(x). } with the variable's type
+  pub rule_tree : typed_rule vocabulary (each_value x x (Q x)) ≡ record {
+    vars = of_type 1;
+    symbol = 3;
+    args = typed_x ∷ [];
+    value = Some typed_x;
+    has_body = true;
+    body = typed_Q typed_x;
+  }

@@ -1,9 +1,9 @@
 -- Trees whose variables take their types from the start of a list, in the order in which they are bound in the text.
 -- Derivation works by these trees; they are the typed ones.
-use Rattle.std.specs.Prelude.{ℕ, ◌≡◌, pos, List, [], ◌∷◌}
+use Rattle.std.specs.Prelude.{ℕ, ◌≡◌, pos, List, [], ◌∷◌, Option, None, Some}
 use Rattle.kb_logic.specs.declared.vocabularies.Vocabulary.{Vocabulary}
 use Rattle.kb_logic.specs.declared.vocabularies.Bound.{Bound}
-use Rattle.kb_logic.specs.Trees.{TermTree, TermTrees, SummandTrees, FormulaTree, FormulaTrees}
+use Rattle.kb_logic.specs.Trees.{TermTree, TermTrees, SummandTrees, FormulaTree, FormulaTrees, RuleTree}
 use Rattle.kb_logic.specs.Trees as tree
 use Rattle.reading_stages.specs.Demands.{later_types}
 use Rattle.reading_stages.specs.NamedTrees.{NamedVar, NamedTerm, at, NamedNode, variable, integer, constructed}
@@ -11,9 +11,9 @@ use Rattle.reading_stages.specs.NamedTrees.{application, summation, product, agg
 use Rattle.reading_stages.specs.NamedTrees.{more_terms, NamedSummands, no_summands, more_summands, NamedFormula, truth}
 use Rattle.reading_stages.specs.NamedTrees.{atom, comparison, negation, conjunction, disjunction, implication}
 use Rattle.reading_stages.specs.NamedTrees.{equivalence, universal, existential, numbered, NamedFormulas, no_formulas}
-use Rattle.reading_stages.specs.NamedTrees.{more_formulas}
-use Rattle.reading_stages.specs.TypedTrees.{integer_of, truth_tree, typed_sentence, typed_block_term}
-use Rattle.reading_stages.specs.TypesStage.{sentence_settled, block_settled}
+use Rattle.reading_stages.specs.NamedTrees.{more_formulas, terms_of, NamedRule}
+use Rattle.reading_stages.specs.TypedTrees.{integer_of, truth_tree, typed_sentence, typed_rule, typed_block_term}
+use Rattle.reading_stages.specs.TypesStage.{sentence_settled, rule_settled, block_settled}
 use Rattle.type_constraints.specs.ChosenTypes.{types_among}
 
 -- the type at the start
@@ -114,8 +114,40 @@ abbrev mutual
   listed_summands ts (more_summands m u ss) = tree.more_summands m (listed_term ts u)
       (listed_summands (left_term ts u) ss)
 
+-- ---- rules: the variables before the head, then the head's arguments and its value, then the body
+
+abbrev pub listed_args : List ℕ → List NamedTerm → List TermTree
+listed_args ts [] = []
+listed_args ts (u ∷ us) = listed_term ts u ∷ listed_args (left_term ts u) us
+
+abbrev pub listed_value : List ℕ → Option NamedTerm → Option TermTree
+listed_value ts None = None
+listed_value ts (Some u) = Some (listed_term ts u)
+
+abbrev pub left_value : List ℕ → Option NamedTerm → List ℕ
+left_value ts None = ts
+left_value ts (Some u) = left_term ts u
+
+-- the arguments and the value of a head
+abbrev pub listed_head : List ℕ → NamedRule → List TermTree × Option TermTree
+listed_head ts r = (listed_args ts r.args, listed_value (left_terms ts (terms_of r.args)) r.value)
+
+abbrev pub left_head : List ℕ → NamedRule → List ℕ
+left_head ts r = left_value (left_terms ts (terms_of r.args)) r.value
+
+abbrev pub listed_rule : List ℕ → NamedRule → RuleTree
+listed_rule ts r = record {
+  vars = listed_vars ts r.vars;
+  symbol = r.symbol;
+  args = (listed_head (left_vars ts r.vars) r).0;
+  value = (listed_head (left_vars ts r.vars) r).1;
+  has_body = r.has_body;
+  body = listed_formula (left_head (left_vars ts r.vars) r) r.body;
+}
+
 -- the variables of a typed tree have, in the order in which they are bound, the types in the settled parts
 pub record TypesAreInOrder : Type 0 where
   pub sentence : (v : Vocabulary) → (f : NamedFormula) → typed_sentence v f ≡ listed_formula
       (types_among (sentence_settled v f)) f
+  pub rule : (v : Vocabulary) → (r : NamedRule) → typed_rule v r ≡ listed_rule (types_among (rule_settled v r)) r
   pub term : (v : Vocabulary) → (t : NamedTerm) → typed_block_term v t ≡ listed_term (types_among (block_settled v t)) t

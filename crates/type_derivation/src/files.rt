@@ -4,16 +4,17 @@ ghost use Rattle.std.specs.List.{flat_map};
 ghost use Rattle.kb_logic.specs.Views as view;
 ghost use Rattle.reading_stages.specs.Below.{HasNoCycle, type_parents};
 ghost use Rattle.reading_stages.specs.TermPlaces.{term_begins, terms_begin};
-ghost use Rattle.reading_stages.specs.TypedFiles.{typed_block, typed_file, typed_theory};
+ghost use Rattle.reading_stages.specs.TypedFiles.{theory_begins, typed_block, typed_file, typed_theory};
 ghost use Rattle.reading_stages.specs.TypedTrees.{typed_block_term, typed_sentence};
 ghost use Rattle.reading_stages.specs.TypesStage as stage;
 ghost use Rattle.reading_stages.specs.TypesStage.{type_noted, IsTyped};
 ghost use Rattle.reading_stages.specs.FileViews as named_view;
 ghost use Rattle.reading_stages.specs.FileViews.{kb_view};
-ghost use Rattle.reading_stages.specs.NamedViews.{formula_view, term_view};
+ghost use Rattle.reading_stages.specs.NamedViews.{definition_view, formula_view, term_view};
 ghost use Rattle.type_derivation.specs.Failures.{FailsWith};
 ghost use Rattle.type_derivation.specs.TypedViews.{named_term_view, named_theory_view, typed_view};
 
+use crate::definitions::definitions;
 use crate::remaining::Remaining;
 use crate::trees;
 use crate::typed::{Named, Places, TypedKb};
@@ -36,7 +37,7 @@ fn sentence(
     ensures tree { IfOk result (λ f. view.formula_view f ≡ typed_sentence vocab.now (formula_view named.now)) }
     ensures places { OnOk result (places.new.items ≡ places.old.items ++ terms_begin (formula_view named.now)) }
     ensures noted { OnOk result (earliest.new.first ≡ fold (type_noted vocab.now.types) earliest.old.first
-        (stage.uses_among [] (stage.sentence_settled vocab.now (formula_view named.now)))) }
+        (stage.sentence_type_uses vocab.now (formula_view named.now))) }
 {
     let mut types = Remaining::new(sentence_types(alloc, vocab, named, earliest)?);
     trees::formula(alloc, &mut types, named, places)
@@ -60,6 +61,28 @@ fn block_term(
     trees::term(alloc, &mut types, named, places)
 }
 
+fn sentences(
+    alloc: Global,
+    vocab: &Vocabulary,
+    named: &[NamedFormula],
+    places: &mut Vec<usize>,
+    earliest: &mut Earliest,
+) -> Result<Vec<Formula>, Memory>
+    requires acyclic { HasNoCycle (type_parents vocab.now.types) }
+    ensures trees { IfOk result (λ fs. map view.formula_view fs.items ≡ map (typed_sentence vocab.now)
+        (map formula_view named.now)) }
+    ensures places { OnOk result (places.new.items ≡ places.old.items ++ flat_map terms_begin
+        (map formula_view named.now)) }
+    ensures noted { OnOk result (earliest.new.first ≡ fold (type_noted vocab.now.types) earliest.old.first
+        (flat_map (stage.sentence_type_uses vocab.now) (map formula_view named.now))) }
+{
+    let mut sentences = Vec::new(alloc);
+    for item in named {
+        sentences.push(sentence(alloc, vocab, item, places, earliest)?)?;
+    }
+    Ok(sentences)
+}
+
 fn theory(
     alloc: Global,
     vocab: &Vocabulary,
@@ -70,24 +93,28 @@ fn theory(
     requires acyclic { HasNoCycle (type_parents vocab.now.types) }
     ensures theory { IfOk result (λ t. named_theory_view t ≡ typed_theory vocab.now
         (named_view.theory_view named.now)) }
-    ensures terms { OnOk result (terms.new.items ≡ terms.old.items ++ flat_map terms_begin
-        (map formula_view named.now.sentences) ∷ []) }
+    ensures terms { OnOk result (terms.new.items ≡ terms.old.items ++ theory_begins
+        (named_view.theory_view named.now) ∷ []) }
     ensures noted { OnOk result (earliest.new.first ≡ fold (type_noted vocab.now.types) earliest.old.first
-        (flat_map (λ f. stage.uses_among [] (stage.sentence_settled vocab.now f))
-        (map formula_view named.now.sentences))) }
+        (flat_map (stage.sentence_type_uses vocab.now) (map formula_view named.now.sentences)
+        ++ flat_map (flat_map (stage.rule_type_uses vocab.now)) (map definition_view named.now.definitions))) }
 {
-    let mut sentences = Vec::new(alloc);
     let mut places = Vec::new(alloc);
-    let listed = named.sentences.as_slice();
-    for item in listed {
-        sentences.push(sentence(alloc, vocab, item, &mut places, earliest)?)?;
-    }
+    let sentences = sentences(
+        alloc,
+        vocab,
+        named.sentences.as_slice(),
+        &mut places,
+        earliest,
+    )?;
+    let listed = named.definitions.as_slice();
+    let definitions = definitions(alloc, vocab, listed, &mut places, earliest)?;
     terms.push(Items::from_vec(places))?;
     Ok(Named {
         name: named.name.copy(alloc)?,
         value: Theory {
             sentences: ListOf::from_vec(sentences),
-            definitions: ListOf::new(alloc),
+            definitions: ListOf::from_vec(definitions),
         },
     })
 }
@@ -124,10 +151,11 @@ fn theories(
     requires acyclic { HasNoCycle (type_parents vocab.now.types) }
     ensures theories { IfOk result (λ ts. map named_theory_view ts.items ≡ map (typed_theory vocab.now)
         (map named_view.theory_view named.now)) }
-    ensures terms { OnOk result (terms.new.items ≡ terms.old.items ++ map (λ t. flat_map terms_begin t.sentences)
+    ensures terms { OnOk result (terms.new.items ≡ terms.old.items ++ map theory_begins
         (map named_view.theory_view named.now)) }
     ensures noted { OnOk result (earliest.new.first ≡ fold (type_noted vocab.now.types) earliest.old.first
-        (flat_map (λ t. flat_map (λ f. stage.uses_among [] (stage.sentence_settled vocab.now f)) t.sentences)
+        (flat_map (λ t. flat_map (stage.sentence_type_uses vocab.now) t.sentences
+        ++ flat_map (flat_map (stage.rule_type_uses vocab.now)) t.definitions)
         (map named_view.theory_view named.now))) }
 {
     let mut theories = Vec::new(alloc);

@@ -2,9 +2,11 @@
 #![tactic(auto)]
 
 mod copies;
+mod definitions;
 mod files;
 mod laws;
 mod remaining;
+mod rules;
 mod trees;
 mod typed;
 

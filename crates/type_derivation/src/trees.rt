@@ -39,7 +39,12 @@ fn signed(minus: bool, term: Term) -> Signed
     Signed { minus, term }
 }
 
-fn bound_vars(alloc: Global, types: &mut Remaining, vars: &[NamedVar]) -> Result<Vec<Bound>, Memory>
+/// Variables with the types at the start of the list.
+pub fn bound_vars(
+    alloc: Global,
+    types: &mut Remaining,
+    vars: &[NamedVar],
+) -> Result<Vec<Bound>, Memory>
     ensures bounds { IfOk result (λ bs. bs.items ≡ listed.listed_vars types.old (map var_view vars.now)) }
     ensures types { OnOk result (types.new ≡ listed.left_vars types.old (map var_view vars.now)) }
 {
@@ -188,8 +193,9 @@ pub fn term(
     }
 }
 
+/// Terms one after another, whose variables take their types from the start of the list. Their places are added.
 #[cycle(trees)]
-fn terms(
+pub fn terms(
     alloc: Global,
     types: &mut Remaining,
     named: &[NamedTerm],

@@ -25,7 +25,7 @@ returns c = λ all es h.
     let note = stage.data_noted all es in
     let old = c.args.earliest.now.first in
     let named = named_theory_view c.in-Some.named.now in
-    c.in_ok-note_sentences.ensures all es h
+    c.in_ok-note_items.ensures all es h
     ∙ ap (λ ss. fold note old (map stage.argument (stage.arguments_of_theory ss (named, c.as_slice.result.now))))
     c.as_slice-symbols.ensures
     ∙ ap (λ ps. fold note old (map stage.argument (stage.arguments_of_theory kb.vocab.symbols (named, ps))))

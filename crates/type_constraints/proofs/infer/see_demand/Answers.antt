@@ -20,6 +20,9 @@ returns-in-OfPredicate-demand c = rw (c.in-Sides.is, c.in-OfPredicate-demand.is)
 pub returns-in-OfFunction-demand : goal.returns-in-OfFunction-demand
 returns-in-OfFunction-demand c = rw (c.in-Sides.is, c.in-OfFunction-demand.is) (after-nothing c.args.types.now _)
 
+pub returns-in-OfHead-demand : goal.returns-in-OfHead-demand
+returns-in-OfHead-demand c = rw (c.in-Sides.is, c.in-OfHead-demand.is) (after-nothing c.args.types.now _)
+
 pub returns-in-Sides-demand-2 : goal.returns-in-Sides-demand-2
 returns-in-Sides-demand-2 c =
     rw (c.in-Sides.is, c.in-Sides-demand-2.is)

@@ -5,7 +5,7 @@ use Rattle.reading_stages.specs.TypesStage.{block_settled}
 use Rattle.reading_stages.specs.NamedViews.{term_view}
 use Rattle.type_constraints.specs.ChosenTypes.{types_among}
 use Rattle.type_derivation.specs.ListedTrees.{listed_term}
-use Rattle.type_derivation.proofs.InOrder.{types_are_in_order}
+use Rattle.type_derivation.proofs.RuleOrder.{types_are_in_order}
 use Rattle.type_derivation.proofs.files.block_term.Goals as goal
 
 pub returns-clause-tree : goal.returns-clause-tree

@@ -5,7 +5,7 @@ use Rattle.reading_stages.specs.TypesStage.{sentence_settled}
 use Rattle.reading_stages.specs.NamedViews.{formula_view}
 use Rattle.type_constraints.specs.ChosenTypes.{types_among}
 use Rattle.type_derivation.specs.ListedTrees.{listed_formula}
-use Rattle.type_derivation.proofs.InOrder.{types_are_in_order}
+use Rattle.type_derivation.proofs.RuleOrder.{types_are_in_order}
 use Rattle.type_derivation.proofs.files.sentence.Goals as goal
 
 pub returns-clause-tree : goal.returns-clause-tree

@@ -2,8 +2,7 @@ use Rattle.std.proofs.Common.{◌≡◌, ◌++◌, ◌∷◌, [], arith, map}
 use Rattle.std.specs.List.{flat_map}
 use Rattle.std.proofs.lemmas.Grind.{common_steps}
 use Rattle.reading_stages.specs.Numbering.{NamedTheoryTree}
-use Rattle.reading_stages.specs.TermPlaces.{terms_begin}
-use Rattle.reading_stages.specs.TypedFiles.{typed_theory}
+use Rattle.reading_stages.specs.TypedFiles.{theory_begins, typed_theory}
 use Rattle.reading_stages.specs.TypesStage as stage
 use Rattle.reading_stages.specs.TypesStage.{type_noted}
 use Rattle.reading_stages.specs.FileViews as named_view
@@ -22,13 +21,13 @@ loop-item-preserved c =
           (named_theory_view c.in_ok-theory.field-0) c.loop-item.invariant.theories
           c.in_ok-theory.ensures.theory pushed;
       terms = listed_next named_view.theory_view c.args.named.now c.loop-item.item-index c.item-item.result
-          c.loop-item-test.true c.item-item.is (λ (t : NamedTheoryTree). flat_map terms_begin t.sentences)
+          c.loop-item-test.true c.item-item.is theory_begins
           c.args.terms.now.items c.loop-item.terms.items c.theory.new.terms.items c.loop-item.invariant.terms
           c.in_ok-theory.ensures.terms;
       noted = noted_next named_view.theory_view c.args.named.now c.loop-item.item-index c.item-item.result
           c.loop-item-test.true c.item-item.is (type_noted c.args.vocab.now.types)
-          (λ (t : NamedTheoryTree). flat_map (λ f. stage.uses_among [] (stage.sentence_settled c.args.vocab.now f))
-          t.sentences)
+          (λ (t : NamedTheoryTree). flat_map (stage.sentence_type_uses c.args.vocab.now) t.sentences
+          ++ flat_map (flat_map (stage.rule_type_uses c.args.vocab.now)) t.definitions)
           c.args.earliest.now.first c.loop-item.earliest.first c.theory.new.earliest.first c.loop-item.invariant.noted
           c.in_ok-theory.ensures.noted;
     }

@@ -1,4 +1,4 @@
-use Rattle.type_derivation.proofs.InOrder.{types_are_in_order}
+use Rattle.type_derivation.proofs.RuleOrder.{types_are_in_order}
 use Rattle.type_derivation.proofs.laws.types_are_in_order.Goals as goal
 
 pub returns : goal.returns

@@ -54,4 +54,12 @@ returns c = record {
   block_term = refl;
   places = refl;
   tree = refl;
+  by_a_head = refl;
+  by_a_value = refl;
+  by_a_body = refl;
+  head_below = refl;
+  integer_in_head = refl;
+  value_apart = refl;
+  places_in_rule = refl;
+  rule_tree = refl;
 }
