@@ -5,24 +5,25 @@ use Rattle.std.proofs.Common.{arith}
 use Rattle.std.specs.Prelude.{zip, flat_map, option_to_list}
 use Rattle.std.proofs.lemmas.Bool.Decides.{nat_tests}
 use Rattle.std.proofs.lemmas.Option.{slice_get-map}
-use Rattle.std.proofs.lemmas.List.{drop_all, at_drop_more}
+use Rattle.std.proofs.lemmas.List.{drop_all, at_drop_more, append-nil}
+use Rattle.std.proofs.lemmas.List.Concat.{flat_map-append}
 use Rattle.kb_text.specs.declared.fault.K.TheVariants as k
 use Rattle.kb_text.specs.declared.fault.KbFault.{KbFault}
 use Rattle.kb_logic.specs.declared.elements.Elem.{Elem}
 use Rattle.kb_logic.specs.declared.vocabularies.Symbol.{Symbol}
 use Rattle.kb_logic.specs.declared.vocabularies.Vocabulary.{Vocabulary}
-use Rattle.kb_logic.specs.Trees.{FormulaTree, DefinitionTree}
+use Rattle.kb_logic.specs.Trees.{TermTree, terms_of}
 use Rattle.kb_logic.specs.Structures.{domain_at, tuples_of}
 use Rattle.kb_logic.specs.Bounds.{Interval}
 use Rattle.kb_logic.specs.Weights.{value_count}
 use Rattle.reading_stages.specs.Earliest.{noted_if}
-use Rattle.reading_stages.specs.TheoryItems.{items_of}
-use Rattle.reading_stages.specs.Sizes.{size_product, symbol_atoms, formula_bounds, item_bounds}
+use Rattle.reading_stages.specs.Sizes.{size_product, symbol_atoms, term_bounds, terms_bounds}
 use Rattle.reading_stages.specs.SizesStage.{SizeUse, atoms_with, capped, chosen_of, size_noted, term_use}
 use Rattle.reading_stages.specs.SizesStage.{uses_of_symbols}
-use Rattle.kb_sizes.specs.Notes.{wide_noted, sentence_bounds}
+use Rattle.kb_sizes.specs.Notes.{wide_noted}
 use Rattle.kb_sizes.specs.Ranges.{is_wide, wide_at}
 use Rattle.kb_sizes.proofs.Steps.{tuples_next}
+use Rattle.kb_sizes.proofs.Walks.{parts_after}
 
 -- ---- lists that go together
 
@@ -91,12 +92,37 @@ terms_noted o [] bs = refl
 terms_noted o (p ∷ ps) [] = refl
 terms_noted o (p ∷ ps) (b ∷ bs) = terms_noted (noted_if (is_wide b) k.OutOfRange p o) ps bs
 
-pub bounds_of_items : (v : Vocabulary) (domains : List (List Elem)) (fs : List FormulaTree) (ds : List DefinitionTree)
-    → sentence_bounds v domains fs ≡ flat_map (item_bounds v domains)
-    (items_of (record { sentences = fs; definitions = ds }))
-bounds_of_items v domains [] ds = refl
-bounds_of_items v domains (f ∷ fs) ds = ap (λ (bs : List (List Interval)). formula_bounds v domains f [] ++ bs)
-    (bounds_of_items v domains fs ds)
+-- ---- rules
+
+-- the terms of a list one by one
+each_bound : (v : Vocabulary) (domains : List (List Elem)) (scope : List ℕ) (ts : List TermTree)
+    → terms_bounds v domains (terms_of ts) scope ≡ flat_map (λ t. term_bounds v domains t scope) ts
+each_bound v domains scope [] = refl
+each_bound v domains scope (t ∷ ts) = ap (λ (bs : List (List Interval)). term_bounds v domains t scope ++ bs)
+    (each_bound v domains scope ts)
+
+module _ (v : Vocabulary) (domains : List (List Elem)) (scope : List ℕ) (ts : List TermTree) (xs ys : List Bool)
+    (first : ys ≡ xs ++ wide_at (terms_bounds v domains (terms_of ts) scope)) where
+  abbrev noted_with : List TermTree → List Bool
+  noted_with us = xs ++ wide_at (flat_map (λ t. term_bounds v domains t scope) (ts ++ us))
+
+  -- a head of these arguments alone
+  pub head_alone : ys ≡ noted_with []
+  head_alone =
+      first ∙ ap (λ (bs : List (List Interval)). xs ++ wide_at bs) (each_bound v domains scope ts)
+      ∙ ap (λ (us : List TermTree). xs ++ wide_at (flat_map (λ t. term_bounds v domains t scope) us))
+      (sym (append-nil ts))
+
+  -- and with a value
+  pub head_valued : (t : TermTree) (zs : List Bool) → zs ≡ ys ++ wide_at (term_bounds v domains t scope)
+      → zs ≡ noted_with (t ∷ [])
+  head_valued t zs second =
+      let found = λ (u : TermTree). term_bounds v domains u scope in
+      parts_after xs ys zs (terms_bounds v domains (terms_of ts) scope) (found t) first second
+      ∙ ap (λ (bs : List (List Interval)). xs ++ wide_at bs)
+      (ap (λ (bs : List (List Interval)). bs ++ found t) (each_bound v domains scope ts)
+      ∙ ap (λ (bs : List (List Interval)). flat_map found ts ++ bs) (sym (append-nil (found t)))
+      ∙ sym (flat_map-append found ts (t ∷ [])))
 
 -- ---- symbols
 

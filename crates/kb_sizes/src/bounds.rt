@@ -193,7 +193,7 @@ fn product(
 
 /// Notes some terms and their parts.
 #[cycle(bounds)]
-fn terms(
+pub fn terms(
     vocab: &Vocabulary,
     domains: &Domains<'_, '_>,
     ranges: &[Range],

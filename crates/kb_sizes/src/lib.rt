@@ -17,6 +17,7 @@ mod over_lists;
 mod ranges;
 mod scopes;
 mod sources;
+mod theory_bounds;
 mod type_sizes;
 mod weights;
 

@@ -1,7 +1,7 @@
 //! What the stage of sizes refuses.
 ghost use Rattle.std.specs.Prelude.{◌≡◌, ◌&&◌, not, nat_lt, map, fold, zip, flat_map, [], IfOk, OnOk};
-ghost use Rattle.kb_logic.specs.Views.{formula_view, term_view};
-ghost use Rattle.kb_sizes.specs.Notes.{sentence_bounds, wide_noted};
+ghost use Rattle.kb_logic.specs.Views.{term_view};
+ghost use Rattle.kb_sizes.specs.Notes.{wide_noted};
 ghost use Rattle.kb_sizes.specs.Ranges.{range_view, ranges_in, wide_at};
 ghost use Rattle.reading_stages.specs.Sizes.{term_bounds};
 ghost use Rattle.reading_stages.specs.SizesStage.{
@@ -14,14 +14,15 @@ ghost use Rattle.reading_stages.specs.SizesStage.{
   uses_of_theory,
   weight_uses,
 };
-ghost use Rattle.type_derivation.specs.TypedViews.{named_term_view, named_theory_view, typed_view};
+ghost use Rattle.type_derivation.specs.TypedViews.{named_term_view, typed_view};
 
-use crate::bounds::{formula, term};
+use crate::bounds::term;
 use crate::capped::plus;
 use crate::domains::Domains;
 use crate::ranges::Range;
+use crate::theory_bounds::wide_in_theory;
 use crate::weights::{atoms_of, weight};
-use kb_logic::{Formula, Memory, Symbol, Term, Theory, Vocabulary};
+use kb_logic::{Memory, Symbol, Term, Vocabulary};
 use kb_text::K;
 use reading_stages::Earliest;
 use std::alloc::Global;
@@ -72,26 +73,6 @@ fn note_terms(earliest: &mut Earliest, places: &[usize], wide: &[bool])
     }
 }
 
-/// Which terms of some sentences have bounds that are too wide.
-fn wide_in_sentences(
-    alloc: Global,
-    vocab: &Vocabulary,
-    domains: &Domains<'_, '_>,
-    ranges: &[Range],
-    sentences: &[Formula],
-) -> Result<Vec<bool>, Memory>
-    requires known { map range_view ranges.now ≡ ranges_in domains.now }
-    ensures { IfOk result (λ w. w.items ≡ wide_at (sentence_bounds vocab.now domains.now (map formula_view
-        sentences.now))) }
-{
-    let mut scope = Vec::new(alloc);
-    let mut wide = Vec::new(alloc);
-    for sentence in sentences {
-        formula(vocab, domains, ranges, &mut scope, &mut wide, sentence)?;
-    }
-    Ok(wide)
-}
-
 /// Which terms of a term have bounds that are too wide.
 fn wide_in_term(
     alloc: Global,
@@ -107,26 +88,6 @@ fn wide_in_term(
     let mut wide = Vec::new(alloc);
     term(vocab, domains, ranges, &mut scope, &mut wide, of)?;
     Ok(wide)
-}
-
-/// Notes each term of a theory.
-fn note_sentences(
-    alloc: Global,
-    vocab: &Vocabulary,
-    domains: &Domains<'_, '_>,
-    ranges: &[Range],
-    theory: &Named<Theory>,
-    places: &[usize],
-    earliest: &mut Earliest,
-) -> Result<(), Memory>
-    requires known { map range_view ranges.now ≡ ranges_in domains.now }
-    ensures { OnOk result (earliest.new.first ≡ fold size_noted earliest.old.first (uses_of_theory vocab.now domains.now
-        (named_theory_view theory.now, places.now))) }
-{
-    let sentences = theory.value.sentences.as_slice();
-    let wide = wide_in_sentences(alloc, vocab, domains, ranges, sentences)?;
-    note_terms(earliest, places, &wide);
-    Ok(())
 }
 
 /// Notes each term of the theory with this number, where there is one.
@@ -149,15 +110,9 @@ pub fn note_theory(
     let Some(places) = kb.places.theory_terms.get(theory) else {
         return Ok(());
     };
-    note_sentences(
-        alloc,
-        &kb.vocab,
-        domains,
-        ranges,
-        named,
-        places.as_slice(),
-        earliest,
-    )
+    let wide = wide_in_theory(alloc, &kb.vocab, domains, ranges, &named.value)?;
+    note_terms(earliest, places.as_slice(), &wide);
+    Ok(())
 }
 
 /// Notes each term of a term block.

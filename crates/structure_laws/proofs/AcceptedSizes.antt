@@ -1,32 +1,32 @@
 -- What the stage of sizes accepts is bounded.
 use Rattle.std.proofs.Common.{◌≡◌, ℕ, Bool, true, false, not, ◌||◌, List, [], ◌∷◌, ◌++◌, length, map, Option, None}
 use Rattle.std.proofs.Common.{Some, option_map, slice_get, refl, sym, ap, subst, ◌∙◌, arith, Contains}
-use Rattle.std.specs.Prelude.{option_to_list, zip}
+use Rattle.std.specs.Prelude.{option_to_list, zip, IfSome}
 use Rattle.std.specs.List.{list_any, list_all, flat_map, AllByRecursion}
 use Rattle.std.proofs.lemmas.Bool.{true≢false, and_parts, and_from, false_from_ne_true}
 use Rattle.std.proofs.lemmas.Option.{slice_get-map}
 use Rattle.std.proofs.lemmas.List.Elements.{Contains-append_left, Contains-append_right}
 use Rattle.std.proofs.lemmas.List.Folds.{list_all-append}
+use Rattle.std.proofs.lemmas.List.Concat.{flat_map-append}
 use Rattle.kb_text.specs.declared.fault.K.TheVariants as k
 use Rattle.kb_logic.specs.declared.elements.Elem.{Elem}
 use Rattle.kb_logic.specs.declared.vocabularies.Vocabulary.{Vocabulary}
-use Rattle.kb_logic.specs.Bounds.{Interval, IsBounded, TermIsBounded, TheoryIsBounded}
+use Rattle.kb_logic.specs.Trees.{TermTree, FormulaTree, RuleTree, DefinitionTree}
+use Rattle.kb_logic.specs.Bounds.{Interval, types_of, IsBounded, TermIsBounded, RuleIsBounded, TheoryIsBounded}
 use Rattle.reading_stages.specs.Earliest.{refusal, row}
-use Rattle.reading_stages.specs.NamedTrees.{NamedFormula}
 use Rattle.reading_stages.specs.Numbering.{NamedTheoryTree, NamedTermTree, NamedFile}
-use Rattle.reading_stages.specs.TermPlaces.{terms_begin, term_begins}
-use Rattle.reading_stages.specs.TypedTrees.{typed_sentence, typed_block_term}
+use Rattle.reading_stages.specs.TermPlaces.{term_begins}
+use Rattle.reading_stages.specs.TypedTrees.{typed_block_term}
 use Rattle.reading_stages.specs.TypedFiles.{TypedTheoryTree, TypedTermTree, TypedFile, typed_theory, typed_block}
-use Rattle.reading_stages.specs.TypedFiles.{typed_file}
-use Rattle.reading_stages.specs.TheoryItems.{items_of}
+use Rattle.reading_stages.specs.TypedFiles.{typed_file, theory_begins}
+use Rattle.reading_stages.specs.TheoryItems.{TheoryItem, sentence, rule, head_terms, items_of}
 use Rattle.reading_stages.specs.Sizes.{is_small, item_bounds, formula_bounds, term_bounds}
 use Rattle.reading_stages.specs.SizesStage.{SizeUse, terms_at, place_of_size_use, term_use, uses_of_theory}
 use Rattle.reading_stages.specs.SizesStage.{uses_of_block, uses_of_symbols, weight_uses, chosen_of, size_uses}
 use Rattle.reading_stages.specs.SizesStage.{is_unbounded, size_causes, Sizes, AreSizesOf}
 use Rattle.structure_laws.specs.SizeLaws.{AcceptedAreBounded}
 use Rattle.structure_laws.proofs.Members.{here, there, some_in, image_in}
-use Rattle.structure_laws.proofs.IntegerPlaces.{lengths}
-use Rattle.structure_laws.proofs.BoundPlaces.{sentences_have_bounds, blocks_have_bounds}
+use Rattle.structure_laws.proofs.BoundPlaces.{theories_have_bounds, blocks_have_bounds}
 use Rattle.structure_laws.proofs.Bounded.{formula_bounded, term_is_bounded}
 
 -- ---- lists that go together
@@ -78,38 +78,82 @@ each_block v domains (b ∷ bs) h = (h b (here b bs), each_block v domains bs (�
 
 -- ---- a theory
 
-abbrev bounds_in : Vocabulary → List (List Elem) → List NamedFormula → List (List Interval)
-bounds_in v domains fs = flat_map (item_bounds v domains) (items_of (record {
-  sentences = map (typed_sentence v) fs;
-  definitions = [];
-}))
+module _ (v : Vocabulary) (domains : List (List Elem)) where
+  abbrev PassAll : List (List Interval) → Type 0
+  PassAll bs = list_all (list_all is_small) bs ≡ true
 
-as_long : (v : Vocabulary) (domains : List (List Elem)) (fs : List NamedFormula) → length (bounds_in v domains fs)
-    ≡ length (flat_map terms_begin fs)
-as_long v domains [] = refl
-as_long v domains (f ∷ fs) =
-    lengths (formula_bounds v domains (typed_sentence v f) []) (bounds_in v domains fs) (terms_begin f)
-    (flat_map terms_begin fs)
-    (sentences_have_bounds v domains f) (as_long v domains fs)
+  passes_both : (xs ys : List (List Interval)) → PassAll (xs ++ ys) → PassAll xs × PassAll ys
+  passes_both xs ys h = and_parts (list_all (list_all is_small) xs) (list_all (list_all is_small) ys)
+      (sym (list_all-append (list_all is_small) xs ys) ∙ h)
 
-each_sentence : (v : Vocabulary) (domains : List (List Elem)) (fs : List NamedFormula)
-    → list_all (list_all is_small) (bounds_in v domains fs) ≡ true
-    → AllByRecursion (λ f. IsBounded v domains f []) (map (typed_sentence v) fs)
-each_sentence v domains [] h = tt
-each_sentence v domains (f ∷ fs) h =
-    let first = formula_bounds v domains (typed_sentence v f) [] in
-    let parts = and_parts (list_all (list_all is_small) first) (list_all (list_all is_small) (bounds_in v domains fs))
-    (sym (list_all-append (list_all is_small) first (bounds_in v domains fs)) ∙ h) in
-    (formula_bounded v domains (typed_sentence v f) [] parts.0, each_sentence v domains fs parts.1)
+  abbrev bounds_in : List TheoryItem → List (List Interval)
+  bounds_in is = flat_map (item_bounds v domains) is
 
-theory_bounded : (v : Vocabulary) (domains : List (List Elem)) (t : NamedTheoryTree)
-    → AreSmall (uses_of_theory v domains (typed_theory v t, flat_map terms_begin t.sentences))
-    → TheoryIsBounded v domains (typed_theory v t).theory
-theory_bounded v domains t h = record {
-  sentences = each_sentence v domains t.sentences (are_all_small (flat_map terms_begin t.sentences)
-      (bounds_in v domains t.sentences) (as_long v domains t.sentences) h);
-  definitions = tt;
-}
+  items_both : (is js : List TheoryItem) → PassAll (bounds_in (is ++ js)) → PassAll (bounds_in is)
+      × PassAll (bounds_in js)
+  items_both is js h = passes_both (bounds_in is) (bounds_in js)
+      (ap (list_all (list_all is_small)) (sym (flat_map-append (item_bounds v domains) is js)) ∙ h)
+
+  each_sentence : (fs : List FormulaTree) → PassAll (bounds_in (map (λ f. sentence f) fs))
+      → AllByRecursion (λ f. IsBounded v domains f []) fs
+  each_sentence [] h = tt
+  each_sentence (f ∷ fs) h =
+      let parts = passes_both (formula_bounds v domains f []) (bounds_in (map (λ f. sentence f) fs)) h in
+      (formula_bounded v domains f [] parts.0, each_sentence fs parts.1)
+
+  -- ---- a rule
+
+  module _ (scope : List ℕ) where
+    abbrev bounds_of_terms : List TermTree → List (List Interval)
+    bounds_of_terms ts = flat_map (λ t. term_bounds v domains t scope) ts
+
+    value_bounded : (o : Option TermTree) → PassAll (bounds_of_terms (option_to_list o))
+        → IfSome o (λ t. TermIsBounded v domains t scope)
+    value_bounded None h = tt
+    value_bounded (Some t) h = term_is_bounded v domains t scope (passes_both (term_bounds v domains t scope) [] h).0
+
+    head_bounded : (ts : List TermTree) (o : Option TermTree) → PassAll (bounds_of_terms (ts ++ option_to_list o))
+        → AllByRecursion (λ t. TermIsBounded v domains t scope) ts × IfSome o (λ t. TermIsBounded v domains t scope)
+    head_bounded [] o h = (tt, value_bounded o h)
+    head_bounded (t ∷ ts) o h =
+        let parts = passes_both (term_bounds v domains t scope) (bounds_of_terms (ts ++ option_to_list o)) h in
+        let rest = head_bounded ts o parts.1 in
+        ((term_is_bounded v domains t scope parts.0, rest.0), rest.1)
+
+  rule_bounded : (r : RuleTree) → PassAll (item_bounds v domains (rule r)) → RuleIsBounded v domains r
+  rule_bounded r h =
+      let scope = types_of r.vars in
+      let parts = passes_both (bounds_of_terms scope (head_terms r)) (formula_bounds v domains r.body scope) h in
+      let head = head_bounded scope r.args r.value parts.0 in
+      record { args = head.0; value = head.1; body = formula_bounded v domains r.body scope parts.1 }
+
+  each_rule : (rs : List RuleTree) → PassAll (bounds_in (map (λ r. rule r) rs))
+      → AllByRecursion (RuleIsBounded v domains) rs
+  each_rule [] h = tt
+  each_rule (r ∷ rs) h =
+      let parts = passes_both (item_bounds v domains (rule r)) (bounds_in (map (λ r. rule r) rs)) h in
+      (rule_bounded r parts.0, each_rule rs parts.1)
+
+  abbrev rules_of : DefinitionTree → List TheoryItem
+  rules_of d = map (λ r. rule r) d.rules
+
+  each_definition : (ds : List DefinitionTree) → PassAll (bounds_in (flat_map rules_of ds))
+      → AllByRecursion (λ d. AllByRecursion (RuleIsBounded v domains) d.rules) ds
+  each_definition [] h = tt
+  each_definition (d ∷ ds) h =
+      let parts = items_both (rules_of d) (flat_map rules_of ds) h in
+      (each_rule d.rules parts.0, each_definition ds parts.1)
+
+  theory_bounded : (t : NamedTheoryTree) → AreSmall (uses_of_theory v domains (typed_theory v t, theory_begins t))
+      → TheoryIsBounded v domains (typed_theory v t).theory
+  theory_bounded t h =
+      let said = (typed_theory v t).theory in
+      let parts = items_both (map (λ f. sentence f) said.sentences) (flat_map rules_of said.definitions)
+      (are_all_small (theory_begins t) (bounds_in (items_of said)) (theories_have_bounds v domains t) h) in
+      record {
+        sentences = each_sentence said.sentences parts.0;
+        definitions = each_definition said.definitions parts.1;
+      }
 
 -- ---- a file
 
@@ -117,7 +161,7 @@ out_of_range : Contains size_causes k.OutOfRange
 out_of_range = here k.OutOfRange (k.TooLarge ∷ [])
 
 abbrev theory_pair : NamedFile → NamedTheoryTree → TypedTheoryTree × List ℕ
-theory_pair n t = (typed_theory n.vocabulary t, flat_map terms_begin t.sentences)
+theory_pair n t = (typed_theory n.vocabulary t, theory_begins t)
 
 abbrev block_pair : NamedFile → NamedTermTree → TypedTermTree × List ℕ
 block_pair n b = (typed_block n.vocabulary b, term_begins b.term)
@@ -168,7 +212,7 @@ chosen_is : (n : NamedFile) (theory : ℕ) → chosen_of (typed_file n).theories
     ≡ option_to_list (option_map (theory_pair n) (slice_get n.theories theory))
 chosen_is n theory =
     ap (λ ps. option_to_list (slice_get ps theory)) (pairs (typed_theory n.vocabulary)
-    (λ t. flat_map terms_begin t.sentences) n.theories)
+    theory_begins n.theories)
     ∙ ap (λ (o : Option (TypedTheoryTree × List ℕ)). option_to_list o) (slice_get-map (theory_pair n) n.theories theory)
 
 theories_bounded : (n : NamedFile) (theory : ℕ) (domains : List (List Elem)) → IsAccepted n theory domains

@@ -1,5 +1,8 @@
 -- There are bounds for each place of a term.
-use Rattle.std.proofs.Common.{◌≡◌, ℕ, suc, true, false, List, [], ◌∷◌, ◌++◌, length, Option, refl, ap}
+use Rattle.std.proofs.Common.{◌≡◌, ℕ, suc, true, false, List, [], ◌∷◌, ◌++◌, length, map, Option, None, Some}
+use Rattle.std.proofs.Common.{option_map, refl, ap}
+use Rattle.std.specs.Prelude.{option_to_list}
+use Rattle.std.specs.List.{flat_map}
 use Rattle.kb_logic.specs.declared.elements.Elem.{Elem}
 use Rattle.kb_logic.specs.declared.vocabularies.Vocabulary.{Vocabulary}
 use Rattle.kb_logic.specs.Bounds.{types_of}
@@ -9,13 +12,17 @@ use Rattle.reading_stages.specs.NamedTrees.{summation, product, aggregate, Named
 use Rattle.reading_stages.specs.NamedTrees.{NamedSummands, no_summands, more_summands, NamedFormula, truth, atom}
 use Rattle.reading_stages.specs.NamedTrees.{comparison, negation, conjunction, disjunction, implication, equivalence}
 use Rattle.reading_stages.specs.NamedTrees.{universal, existential, numbered, NamedFormulas, no_formulas, more_formulas}
+use Rattle.reading_stages.specs.NamedTrees.{NamedRule, head_terms}
 use Rattle.reading_stages.specs.TermPlaces.{terms_begin, formulas_begin, term_begins, parts_begin, each_begins}
-use Rattle.reading_stages.specs.TermPlaces.{summands_begin}
+use Rattle.reading_stages.specs.TermPlaces.{summands_begin, rule_begins}
+use Rattle.reading_stages.specs.TheoryItems.{rule}
+use Rattle.reading_stages.specs.TheoryItems as item
 use Rattle.reading_stages.specs.TypedTrees.{inside, typed_vars, aggregate_parts, typed_formula, typed_formulas}
-use Rattle.reading_stages.specs.TypedTrees.{typed_term, typed_node, typed_terms, typed_summands}
+use Rattle.reading_stages.specs.TypedTrees.{typed_term, typed_node, typed_terms, typed_summands, rule_types, typed_rule}
 use Rattle.reading_stages.specs.Sizes.{formula_bounds, formulas_bounds, term_bounds, terms_bounds, summands_bounds}
-use Rattle.structure_laws.specs.SizeLaws.{SentencesHaveBounds, BlocksHaveBounds}
-use Rattle.structure_laws.proofs.IntegerPlaces.{lengths}
+use Rattle.reading_stages.specs.Sizes.{item_bounds}
+use Rattle.structure_laws.specs.SizeLaws.{TheoriesHaveBounds, BlocksHaveBounds}
+use Rattle.structure_laws.proofs.ItemPlaces.{lengths, in_theory}
 
 mutual
   formula_bounded : (v : Vocabulary) (domains : List (List Elem)) (around : List (Option ℕ)) (f : NamedFormula)
@@ -95,8 +102,37 @@ mutual
       (summands_bounds v domains (typed_summands v around ss) scope) (term_begins u) (summands_begin ss)
       (term_bounded v domains around u scope) (summands_bounded v domains around ss scope)
 
-pub sentences_have_bounds : SentencesHaveBounds
-sentences_have_bounds v domains f = formula_bounded v domains [] f []
+-- ---- rules
+
+heads_bounded : (v : Vocabulary) (domains : List (List Elem)) (around : List (Option ℕ)) (us : List NamedTerm)
+    (o : Option NamedTerm) (scope : List ℕ)
+    → length (flat_map (λ t. term_bounds v domains t scope)
+    (map (typed_term v around) us ++ option_to_list (option_map (typed_term v around) o)))
+    ≡ length (flat_map term_begins (us ++ option_to_list o))
+heads_bounded v domains around [] None scope = refl
+heads_bounded v domains around [] (Some u) scope =
+    lengths (term_bounds v domains (typed_term v around u) scope) [] (term_begins u) []
+    (term_bounded v domains around u scope) refl
+heads_bounded v domains around (u ∷ us) o scope =
+    lengths (term_bounds v domains (typed_term v around u) scope)
+    (flat_map (λ t. term_bounds v domains t scope)
+    (map (typed_term v around) us ++ option_to_list (option_map (typed_term v around) o)))
+    (term_begins u) (flat_map term_begins (us ++ option_to_list o))
+    (term_bounded v domains around u scope) (heads_bounded v domains around us o scope)
+
+rule_bounded : (v : Vocabulary) (domains : List (List Elem)) (r : NamedRule)
+    → length (item_bounds v domains (rule (typed_rule v r))) ≡ length (rule_begins r)
+rule_bounded v domains r =
+    let around = rule_types v r in
+    let scope = types_of (typed_rule v r).vars in
+    lengths (flat_map (λ t. term_bounds v domains t scope) (item.head_terms (typed_rule v r)))
+    (formula_bounds v domains (typed_formula v around r.body) scope) (flat_map term_begins (head_terms r))
+    (terms_begin r.body)
+    (heads_bounded v domains around r.args r.value scope) (formula_bounded v domains around r.body scope)
+
+pub theories_have_bounds : TheoriesHaveBounds
+theories_have_bounds v domains = in_theory v (item_bounds v domains) (λ f. formula_bounded v domains [] f [])
+    (rule_bounded v domains)
 
 pub blocks_have_bounds : BlocksHaveBounds
 blocks_have_bounds v domains t = term_bounded v domains [] t []

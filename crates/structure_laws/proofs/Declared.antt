@@ -183,7 +183,8 @@ pub record AreDeclared (types : List TypeDecl) (places : List ℕ) : Type 0 wher
 among_file : (f : File) (u : Use) → Contains (uses_of_declarations (declarations_of f.vocabularies)) u
     → Contains (uses_of_file f) u
 among_file f u c = Contains-append_left (uses_of_declarations (declarations_of f.vocabularies))
-    (flat_map uses_in_theory f.theories ++ flat_map uses_in_block f.terms) u c
+    (flat_map (uses_in_theory (names_of (declarations_of f.vocabularies))) f.theories ++ flat_map uses_in_block f.terms)
+    u c
 
 pub are_declared : (f : File) → ((q : KbFault) → NamesRefuse f q → ⊥)
     → AreDeclared (types_in (names_of (declarations_of f.vocabularies)) (declarations_of f.vocabularies))

@@ -1,26 +1,27 @@
 -- There is one item for each place of a term.
-use Rattle.std.proofs.Common.{◌≡◌, ℕ, suc, ◌+◌, true, false, List, [], ◌∷◌, ◌++◌, length, Option, None, refl, sym, ap}
-use Rattle.std.proofs.Common.{◌∙◌, length-append, slice_get}
+use Rattle.std.proofs.Common.{◌≡◌, ℕ, suc, true, false, List, [], ◌∷◌, ◌++◌, length, map, Option, None, Some}
+use Rattle.std.proofs.Common.{option_map, refl, sym, ap, ◌∙◌, slice_get, append_assoc}
+use Rattle.std.specs.Prelude.{option_to_list}
+use Rattle.std.specs.List.{flat_map}
+use Rattle.std.proofs.lemmas.List.Concat.{flat_map-append}
 use Rattle.kb_logic.specs.declared.vocabularies.Vocabulary.{Vocabulary}
+use Rattle.kb_logic.specs.Trees as tree
 use Rattle.reading_stages.specs.Demands.{argument_types, later_types, formula_parts}
 use Rattle.reading_stages.specs.NamedTrees.{NamedTerm, at, NamedNode, variable, integer, constructed, application}
 use Rattle.reading_stages.specs.NamedTrees.{summation, product, aggregate, NamedTerms, no_terms, more_terms}
 use Rattle.reading_stages.specs.NamedTrees.{NamedSummands, no_summands, more_summands, NamedFormula, truth, atom}
 use Rattle.reading_stages.specs.NamedTrees.{comparison, negation, conjunction, disjunction, implication, equivalence}
 use Rattle.reading_stages.specs.NamedTrees.{universal, existential, numbered, NamedFormulas, no_formulas, more_formulas}
+use Rattle.reading_stages.specs.NamedTrees.{NamedRule}
 use Rattle.reading_stages.specs.TermPlaces.{terms_begin, formulas_begin, term_begins, parts_begin, each_begins}
-use Rattle.reading_stages.specs.TermPlaces.{summands_begin}
+use Rattle.reading_stages.specs.TermPlaces.{summands_begin, rule_begins}
+use Rattle.reading_stages.specs.TheoryItems.{rule}
 use Rattle.reading_stages.specs.TypedTrees.{inside, aggregate_parts, typed_formula, typed_formulas, typed_term}
-use Rattle.reading_stages.specs.TypedTrees.{typed_node, typed_terms, typed_summands}
+use Rattle.reading_stages.specs.TypedTrees.{typed_node, typed_terms, typed_summands, rule_types, typed_rule}
 use Rattle.reading_stages.specs.IntegerArguments.{first_position, formula_integers, all_integers, term_integers}
-use Rattle.reading_stages.specs.IntegerArguments.{argument_integers, summand_integers}
-use Rattle.structure_laws.specs.DataLaws.{SentencesHavePlaces, BlocksHavePlaces}
-
--- two lists after one another, as long as two others
-pub lengths : {X Y : Type 0} (xs ys : List X) (us vs : List Y) → length xs ≡ length us → length ys ≡ length vs
-    → length (xs ++ ys) ≡ length (us ++ vs)
-lengths xs ys us vs h k = length-append xs ys ∙ ap (λ n. n + length ys) h ∙ ap (λ n. length us + n) k
-    ∙ sym (length-append us vs)
+use Rattle.reading_stages.specs.IntegerArguments.{argument_integers, summand_integers, item_integers}
+use Rattle.structure_laws.specs.DataLaws.{TheoriesHavePlaces, BlocksHavePlaces}
+use Rattle.structure_laws.proofs.ItemPlaces.{lengths, in_theory}
 
 mutual
   formula_places : (v : Vocabulary) (around : List (Option ℕ)) (f : NamedFormula)
@@ -92,8 +93,43 @@ mutual
       (summand_integers v.symbols (typed_summands v around ss)) (term_begins u) (summands_begin ss)
       (term_places v around u None) (summands_places v around ss)
 
-pub sentences_have_places : SentencesHavePlaces
-sentences_have_places v f = formula_places v [] f
+-- ---- rules
+
+heads_places : (v : Vocabulary) (around : List (Option ℕ)) (us : List NamedTerm) (types : List ℕ)
+    → length (argument_integers v.symbols types (tree.terms_of (map (typed_term v around) us)))
+    ≡ length (flat_map term_begins us)
+heads_places v around [] types = refl
+heads_places v around (u ∷ us) types =
+    lengths (term_integers v.symbols (first_position types) (typed_term v around u))
+    (argument_integers v.symbols (later_types types) (tree.terms_of (map (typed_term v around) us))) (term_begins u)
+    (flat_map term_begins us)
+    (term_places v around u (first_position types)) (heads_places v around us (later_types types))
+
+value_places : (v : Vocabulary) (around : List (Option ℕ)) (o : Option NamedTerm)
+    → length (flat_map (term_integers v.symbols None) (option_to_list (option_map (typed_term v around) o)))
+    ≡ length (flat_map term_begins (option_to_list o))
+value_places v around None = refl
+value_places v around (Some u) = lengths (term_integers v.symbols None (typed_term v around u)) [] (term_begins u) []
+    (term_places v around u None) refl
+
+rule_places : (v : Vocabulary) (r : NamedRule) → length (item_integers v.symbols (rule (typed_rule v r)))
+    ≡ length (rule_begins r)
+rule_places v r =
+    let around = rule_types v r in
+    let types = argument_types (slice_get v.symbols r.symbol) in
+    let args = argument_integers v.symbols types (tree.terms_of (map (typed_term v around) r.args)) in
+    let value = flat_map (term_integers v.symbols None) (option_to_list (option_map (typed_term v around) r.value)) in
+    let body = formula_integers v.symbols (typed_formula v around r.body) in
+    let first = flat_map term_begins r.args in
+    let second = flat_map term_begins (option_to_list r.value) in
+    let third = terms_begin r.body in
+    lengths args (value ++ body) first (second ++ third) (heads_places v around r.args types)
+    (lengths value body second third (value_places v around r.value) (formula_places v around r.body))
+    ∙ ap length (sym (append_assoc first second third)
+    ∙ ap (λ (ps : List ℕ). ps ++ third) (sym (flat_map-append term_begins r.args (option_to_list r.value))))
+
+pub theories_have_places : TheoriesHavePlaces
+theories_have_places v = in_theory v (item_integers v.symbols) (formula_places v []) (rule_places v)
 
 pub blocks_have_places : BlocksHavePlaces
 blocks_have_places v t = term_places v [] t None

@@ -5,6 +5,7 @@ pub mod Counting
 pub mod Covered
 pub mod Covering
 pub mod IntegerPlaces
+pub mod ItemPlaces
 pub mod Listing
 pub mod Missing
 pub mod Products

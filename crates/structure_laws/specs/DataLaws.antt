@@ -1,5 +1,6 @@
 -- Laws of the stage of data.
 use Rattle.std.specs.Prelude.{ℕ, ◌≡◌, ◌↔◌, ◌⊎◌, true, false, List, None, length}
+use Rattle.std.specs.List.{flat_map}
 use Rattle.kb_text.specs.declared.fault.KbFault.{KbFault}
 use Rattle.kb_logic.specs.declared.vocabularies.Vocabulary.{Vocabulary}
 use Rattle.kb_logic.specs.Models.{GroundAtom}
@@ -7,15 +8,16 @@ use Rattle.kb_logic.specs.KnownAtoms.{KnownAtoms}
 use Rattle.kb_logic.specs.Domains.{AreDomainsOf}
 use Rattle.fo_syntax.specs.BlockTrees as raw
 use Rattle.reading_stages.specs.Files.{File}
-use Rattle.reading_stages.specs.NamedTrees.{NamedFormula, NamedTerm}
-use Rattle.reading_stages.specs.Numbering.{NamedFile, IsNamed}
-use Rattle.reading_stages.specs.TermPlaces.{terms_begin, term_begins}
-use Rattle.reading_stages.specs.TypedTrees.{typed_sentence, typed_block_term}
-use Rattle.reading_stages.specs.TypedFiles.{TypedFile}
+use Rattle.reading_stages.specs.NamedTrees.{NamedTerm}
+use Rattle.reading_stages.specs.Numbering.{NamedTheoryTree, NamedFile, IsNamed}
+use Rattle.reading_stages.specs.TermPlaces.{term_begins}
+use Rattle.reading_stages.specs.TheoryItems.{items_of}
+use Rattle.reading_stages.specs.TypedTrees.{typed_block_term}
+use Rattle.reading_stages.specs.TypedFiles.{TypedFile, typed_theory, theory_begins}
 use Rattle.reading_stages.specs.TypesStage.{IsTyped}
 use Rattle.reading_stages.specs.DataEntries.{said_in}
 use Rattle.reading_stages.specs.DataFacts.{is_said_true, is_said_false}
-use Rattle.reading_stages.specs.IntegerArguments.{formula_integers, term_integers}
+use Rattle.reading_stages.specs.IntegerArguments.{item_integers, term_integers}
 use Rattle.reading_stages.specs.DataStage.{EntriesRefuse, ArgumentsRefuse, StructureRefuses}
 use Rattle.reading_stages.specs.DataAnswer.{IsDataOf, IsGivenBy}
 
@@ -46,11 +48,11 @@ AcceptedHaveDomains =
 
 -- ---- places
 
--- there is one item for each place of a term in a sentence
-abbrev pub SentencesHavePlaces : Type 0
-SentencesHavePlaces =
-    (v : Vocabulary) (f : NamedFormula) → length (formula_integers v.symbols (typed_sentence v f))
-    ≡ length (terms_begin f)
+-- there is one item for each place of a term in a theory
+abbrev pub TheoriesHavePlaces : Type 0
+TheoriesHavePlaces =
+    (v : Vocabulary) (t : NamedTheoryTree)
+    → length (flat_map (item_integers v.symbols) (items_of (typed_theory v t).theory)) ≡ length (theory_begins t)
 
 -- and for each in a term block
 abbrev pub BlocksHavePlaces : Type 0

@@ -1,18 +1,19 @@
 -- Laws of the stage of sizes.
 use Rattle.std.specs.Prelude.{ℕ, ◌≡◌, ◌↔◌, true, List, [], length, Some, slice_get}
-use Rattle.std.specs.List.{list_all, AllByRecursion}
+use Rattle.std.specs.List.{list_all, flat_map, AllByRecursion}
 use Rattle.kb_logic.specs.declared.elements.Elem.{Elem}
 use Rattle.kb_logic.specs.declared.vocabularies.Vocabulary.{Vocabulary}
 use Rattle.kb_logic.specs.Trees.{TermTree, FormulaTree}
 use Rattle.kb_logic.specs.Structures.{tuples_of}
 use Rattle.kb_logic.specs.Bounds.{IsBounded, TermIsBounded, TheoryIsBounded}
-use Rattle.reading_stages.specs.NamedTrees.{NamedFormula, NamedTerm}
-use Rattle.reading_stages.specs.Numbering.{NamedFile}
-use Rattle.reading_stages.specs.TermPlaces.{terms_begin, term_begins}
-use Rattle.reading_stages.specs.TypedTrees.{typed_sentence, typed_block_term}
-use Rattle.reading_stages.specs.TypedFiles.{TypedTheoryTree, TypedFile}
+use Rattle.reading_stages.specs.NamedTrees.{NamedTerm}
+use Rattle.reading_stages.specs.Numbering.{NamedTheoryTree, NamedFile}
+use Rattle.reading_stages.specs.TermPlaces.{term_begins}
+use Rattle.reading_stages.specs.TheoryItems.{items_of}
+use Rattle.reading_stages.specs.TypedTrees.{typed_block_term}
+use Rattle.reading_stages.specs.TypedFiles.{TypedTheoryTree, TypedFile, typed_theory, theory_begins}
 use Rattle.reading_stages.specs.TypesStage.{IsTyped}
-use Rattle.reading_stages.specs.Sizes.{size_product, is_small, formula_bounds, term_bounds}
+use Rattle.reading_stages.specs.Sizes.{size_product, is_small, formula_bounds, term_bounds, item_bounds}
 use Rattle.reading_stages.specs.SizesStage.{Sizes, AreSizesOf}
 
 -- the product of the sizes of domains counts their tuples
@@ -20,11 +21,11 @@ abbrev pub ProductCountsTuples : Type 0
 ProductCountsTuples = (domains : List (List Elem)) (types : List ℕ) → length (tuples_of domains types)
     ≡ size_product domains types
 
--- there are bounds for each place of a term in a sentence
-abbrev pub SentencesHaveBounds : Type 0
-SentencesHaveBounds =
-    (v : Vocabulary) (domains : List (List Elem)) (f : NamedFormula)
-    → length (formula_bounds v domains (typed_sentence v f) []) ≡ length (terms_begin f)
+-- there are bounds for each place of a term in a theory
+abbrev pub TheoriesHaveBounds : Type 0
+TheoriesHaveBounds =
+    (v : Vocabulary) (domains : List (List Elem)) (t : NamedTheoryTree)
+    → length (flat_map (item_bounds v domains) (items_of (typed_theory v t).theory)) ≡ length (theory_begins t)
 
 -- and for each in a term block
 abbrev pub BlocksHaveBounds : Type 0

@@ -1,5 +1,5 @@
 -- Worked examples of the stage of sizes.
-use Rattle.std.specs.Prelude.{◌≡◌, ℕ, pos, false, List, [], ◌∷◌, map, fold, zip, Option, None, Some, codes}
+use Rattle.std.specs.Prelude.{◌≡◌, ℕ, pos, true, false, List, [], ◌∷◌, map, fold, zip, Option, None, Some, codes}
 use Rattle.kb_logic.specs.declared.elements.Elem.{Elem}
 use Rattle.kb_logic.specs.declared.elements.Elem.TheVariants.{Named, Num}
 use Rattle.kb_logic.specs.declared.syntax.AggKind.TheVariants as kind
@@ -9,14 +9,14 @@ use Rattle.kb_logic.specs.declared.vocabularies.Parent.TheVariants as parent
 use Rattle.kb_logic.specs.declared.vocabularies.Vocabulary.{Vocabulary}
 use Rattle.kb_logic.specs.Trees.{TermTree, variable, integer, application, product, summation, aggregate, terms_of}
 use Rattle.kb_logic.specs.Trees.{summands_of, FormulaTree, verum, atom, comparison, negation, conjunction}
-use Rattle.kb_logic.specs.Trees.{disjunction, implication, universal, formulas_of, TheoryTree}
+use Rattle.kb_logic.specs.Trees.{disjunction, implication, universal, formulas_of, RuleTree, TheoryTree}
 use Rattle.kb_logic.specs.Weights.{atom_count, weight_of}
 use Rattle.kb_text.specs.declared.fault.K.TheVariants as k
 use Rattle.kb_text.specs.declared.fault.KbFault.{KbFault}
 use Rattle.reading_stages.specs.Earliest.{refusal}
 use Rattle.reading_stages.specs.TypedFiles.{TypedFile}
 use Rattle.reading_stages.specs.Elements.{integers_from}
-use Rattle.reading_stages.specs.SizesStage.{size_uses, size_noted, uses_of_symbols}
+use Rattle.reading_stages.specs.SizesStage.{size_uses, size_noted, uses_of_symbols, uses_of_theory}
 use Rattle.structure_laws.specs.Written.{type_under, symbol, vocabulary}
 use Rattle.structure_laws.specs.Examples.{areas_and_colors}
 
@@ -147,6 +147,27 @@ large = integer (pos 1000000000000000)
 abbrev three_deep : FormulaTree
 three_deep = universal (over (0 ∷ [])) (universal (over (0 ∷ [])) (universal (over (0 ∷ [])) (atom 1 (terms_of []))))
 
+-- !x[N]: c = t <- x * x * x < 1
+abbrev cubes_below : TermTree → RuleTree
+cubes_below t = record {
+  vars = over (0 ∷ []);
+  symbol = 0;
+  args = [];
+  value = Some t;
+  has_body = true;
+  body = comparison cmp.Lt (times (x ∷ x ∷ x ∷ [])) (integer (pos 1));
+}
+
+-- the earliest refusal of a definition of one rule, whose terms begin at these places
+abbrev refused_rule : RuleTree → List ℕ → List Elem → Option KbFault
+refused_rule r places domain = fold size_noted None (uses_of_theory numbers (domain ∷ []) (
+  record {
+    name = codes "T";
+    theory = record { sentences = []; definitions = record { rules = r ∷ [] } ∷ [] };
+  },
+  places,
+))
+
 -- sum{x : true : x}
 abbrev sum_of_all : TermTree
 sum_of_all = aggregate kind.Sum (over (0 ∷ [])) verum x
@@ -198,3 +219,9 @@ pub record SizesAreWorkedOut : Type 0 where
   pub in_the_other : refused_second (universal (over (0
       ∷ [])) (comparison cmp.Lt (times (x ∷ x ∷ x ∷ [])) (integer (pos 1)))) (64 ∷ 64 ∷ 66 ∷ 68 ∷ 70 ∷ []) million
       ≡ None
+  -- !x[N]: c = x <- x * x * x < 1, and with 10 ^ 15 + 1 as the head's value
+  pub in_a_body : refused_rule (cubes_below x) (60 ∷ 65 ∷ 65 ∷ 67 ∷ 69 ∷ 71 ∷ []) million
+      ≡ Some (refusal k.OutOfRange 65)
+  pub small_body : refused_rule (cubes_below x) (60 ∷ 65 ∷ 65 ∷ 67 ∷ 69 ∷ 71 ∷ []) (up_to 3) ≡ None
+  pub in_a_head : refused_rule (cubes_below (integer (pos 1000000000000001))) (60 ∷ 80 ∷ 80 ∷ 82 ∷ 84 ∷ 86 ∷ [])
+      (up_to 3) ≡ Some (refusal k.OutOfRange 60)

@@ -5,7 +5,7 @@ ghost use Rattle.structure_laws.specs.DataLaws.{
   BlocksHavePlaces,
   GivenIsConsistent,
   RefusalsAreParted,
-  SentencesHavePlaces,
+  TheoriesHavePlaces,
 };
 
 /// A refusal is one of what the structure says by itself, or one of an integer beside it.
@@ -28,9 +28,9 @@ pub fn accepted_have_domains()
     ensures { AcceptedHaveDomains }
 {}
 
-/// Each term of a sentence has its place.
-pub fn sentences_have_places()
-    ensures { SentencesHavePlaces }
+/// Each term of a theory has its place.
+pub fn theories_have_places()
+    ensures { TheoriesHavePlaces }
 {}
 
 /// Each term of a term block has its place.

@@ -12,12 +12,12 @@ pub use cell_laws::{
 };
 pub use data_laws::{
     accepted_have_domains, accepted_is_given, blocks_have_places, given_is_consistent,
-    refusals_are_parted, sentences_have_places,
+    refusals_are_parted, theories_have_places,
 };
 pub use examples::{
     areas_worked_out, cells_worked_out, files_worked_out, numbers_worked_out, sizes_worked_out,
 };
 pub use size_laws::{
-    accepted_are_bounded, blocks_have_bounds, product_counts_tuples, sentences_have_bounds,
-    small_is_bounded, small_term_is_bounded,
+    accepted_are_bounded, blocks_have_bounds, product_counts_tuples, small_is_bounded,
+    small_term_is_bounded, theories_have_bounds,
 };

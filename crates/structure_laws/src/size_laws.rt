@@ -3,9 +3,9 @@ ghost use Rattle.structure_laws.specs.SizeLaws.{
   AcceptedAreBounded,
   BlocksHaveBounds,
   ProductCountsTuples,
-  SentencesHaveBounds,
   SmallIsBounded,
   SmallTermIsBounded,
+  TheoriesHaveBounds,
 };
 
 /// The product of the sizes of domains counts their tuples.
@@ -13,9 +13,9 @@ pub fn product_counts_tuples()
     ensures { ProductCountsTuples }
 {}
 
-/// Each term of a sentence has its bounds.
-pub fn sentences_have_bounds()
-    ensures { SentencesHaveBounds }
+/// Each term of a theory has its bounds.
+pub fn theories_have_bounds()
+    ensures { TheoriesHaveBounds }
 {}
 
 /// Each term of a term block has its bounds.

@@ -25,4 +25,7 @@ returns c = record {
   unbounded_sum = refl;
   in_the_theory = refl;
   in_the_other = refl;
+  in_a_body = refl;
+  small_body = refl;
+  in_a_head = refl;
 }

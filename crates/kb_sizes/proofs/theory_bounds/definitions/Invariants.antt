@@ -1,0 +1,13 @@
+use Rattle.std.proofs.Common.{◌≡◌, ◌++◌, drop, map}
+use Rattle.std.specs.Prelude.{flat_map}
+use Rattle.kb_logic.specs.Views.{definition_view}
+use Rattle.reading_stages.specs.Sizes.{item_bounds}
+use Rattle.kb_sizes.specs.Notes.{rules_of}
+use Rattle.kb_sizes.specs.Ranges.{wide_at}
+use Rattle.kb_sizes.proofs.theory_bounds.definitions.Given as goal
+
+abbrev pub invariant-loop-one : goal.invariant-loop-one
+invariant-loop-one l =
+    l.wide.items ++ wide_at (flat_map (item_bounds l.vocab l.domains)
+    (flat_map rules_of (map definition_view (drop l.one-index l.all)))) ≡ l.fn.wide.items ++ wide_at
+    (flat_map (item_bounds l.vocab l.domains) (flat_map rules_of (map definition_view l.all)))
