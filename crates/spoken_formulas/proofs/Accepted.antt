@@ -71,31 +71,34 @@ module _ (v : Vocabulary) (names : Names)
     Asked ty z = IsNumberType v ty
 
     items_spoken : (is : List raw.TheoryItem) → AllByRecursion IsTheoryItemRead is → FineEach FineTheoryItem is
-        → AreFine names (flat_map uses_in_part (map part_of is))
+        → AreFine names (flat_map (uses_in_part names) (map part_of is))
         → AllByRecursion (λ g. IsWellTyped v g [])
         (map (typed_sentence v) (flat_map (sentences_in names) (map part_of is)))
         → AllByRecursion (IsSpoken v names) (map (typed_sentence v) (flat_map (sentences_in names) (map part_of is)))
     items_spoken [] h g fine typed = tt
     items_spoken (raw.sentence f d ∷ is) h g fine typed =
-        let first = uses_in_part (part_of (raw.sentence f d)) in
-        let later = flat_map uses_in_part (map part_of is) in
+        let first = uses_in_part names (part_of (raw.sentence f d)) in
+        let later = flat_map (uses_in_part names) (map part_of is) in
         let spoken = formula_good v names Asked again written called [] f h.0.0 g.0 h.0.1
         (all_left (IsFine names) first later fine) [] [] typed.0 in (
           record { means = spoken.0; words = spoken.1 },
           items_spoken is h.1 g.1 (all_right (IsFine names) first later fine) typed.1,
         )
-    items_spoken (raw.definition b rs e ∷ is) h g fine typed = items_spoken is h.1 g.1 fine.1 typed
+    items_spoken (raw.definition b rs e ∷ is) h g fine typed =
+        let first = uses_in_part names (part_of (raw.definition b rs e)) in
+        let later = flat_map (uses_in_part names) (map part_of is) in
+        items_spoken is h.1 g.1 (all_right (IsFine names) first later fine) typed
 
     theories_spoken : (ts : List raw.Theory) → AllByRecursion IsTheoryRead ts → FineEach FineTheory ts
-        → AreFine names (flat_map uses_in_theory (map theory_of ts))
+        → AreFine names (flat_map (uses_in_theory names) (map theory_of ts))
         → AllByRecursion (λ t. AllByRecursion (λ g. IsWellTyped v g []) t.theory.sentences)
         (map (typed_theory v) (map (named_theory names) (map theory_of ts)))
         → AllByRecursion (λ t. AllByRecursion (IsSpoken v names) t.theory.sentences)
         (map (typed_theory v) (map (named_theory names) (map theory_of ts)))
     theories_spoken [] h g fine typed = tt
     theories_spoken (raw.theory x is e ∷ ts) h g fine typed =
-        let first = flat_map uses_in_part (map part_of is) in
-        let later = flat_map uses_in_theory (map theory_of ts) in (
+        let first = flat_map (uses_in_part names) (map part_of is) in
+        let later = flat_map (uses_in_theory names) (map theory_of ts) in (
           items_spoken is h.0 g.0 (all_left (IsFine names) first later fine) typed.0,
           theories_spoken ts h.1 g.1 (all_right (IsFine names) first later fine) typed.1,
         )
@@ -164,7 +167,7 @@ module _ (bytes : List ℕ) (blocks : List raw.Block) (typed : TypedFile) (a : I
 
   spoken : IsSpokenFile names (typed_file numbered)
   spoken =
-      let theories = flat_map uses_in_theory file.theories in
+      let theories = flat_map (uses_in_theory names) file.theories in
       let blocks_used = flat_map uses_in_block file.terms in
       let fine = all_right (IsFine names) (uses_of_declarations declarations) (theories ++ blocks_used)
       (names_fine file a.names.accepted) in
@@ -173,7 +176,6 @@ module _ (bytes : List ℕ) (blocks : List raw.Block) (typed : TypedFile) (a : I
         sentences = theories_spoken v names again written called (filter_map as_theory blocks)
             (theories_read blocks words) (theories_fine blocks a.parsed.1)
             (all_left (IsFine names) theories blocks_used fine) well.theories;
-        definitions = well.definitions;
         terms = terms_spoken v names again written called (filter_map as_term_block blocks)
             (term_blocks_read blocks words) (term_blocks_fine blocks a.parsed.1)
             (all_right (IsFine names) theories blocks_used fine) well.terms;

@@ -35,7 +35,7 @@ use Rattle.formula_texts.specs.Meanings.{others_count, tms_count}
 use Rattle.formula_texts.specs.FormulaPrints.{type_word}
 use Rattle.formula_texts.specs.Speaking.{speak_others, speak_tms}
 use Rattle.typing_laws.proofs.Alls.{all_left, all_right}
-use Rattle.typing_laws.proofs.Meanings.{IsFine, AreFine}
+use Rattle.typing_laws.proofs.Meanings.{IsFine, AreFine, no_type}
 use Rattle.word_laws.proofs.TokenWords.{AreRead}
 use Rattle.word_laws.proofs.BlockWords.{name_read, var_skip, vars_skip, number_skip, formula_skip, or_skip, and_skip}
 use Rattle.word_laws.proofs.BlockWords.{unary_skip, term_skip, product_skip, factor_skip}
@@ -211,7 +211,7 @@ module _ (v : Vocabulary) (names : Names) (I : ℕ → ℤ → Type 0)
           atom_good v names I scope (text_of (app_name a)) (app_count a) (named_arguments names scope a)
           (λ around. arguments_counted v names scope around a) (arguments_good scope a ts g h fine.1) (app_named a ts h)
           (meaning_at names scope (app_name a) (app_count a)) refl (called scope (app_name a) (app_count a))
-          fine.0.known fine.0.right fine.0.supported
+          fine.0.known fine.0.right (no_type (meaning_at names scope (app_name a) (app_count a)) _ fine.0.supported)
       prim_good scope (raw.compare x k p y) ts g h fine =
           let c = in_scope scope in
           comparison_good v names I scope (comparison_of k) (named_term names scope x) (named_term names scope y)
@@ -269,7 +269,7 @@ module _ (v : Vocabulary) (names : Names) (I : ℕ → ℤ → Type 0)
           node_good v names I scope (text_of (app_name a)) (app_count a) (named_arguments names scope a)
           (λ around. arguments_counted v names scope around a) (arguments_good scope a ts g h fine.1) (app_named a ts h)
           (meaning_at names scope (app_name a) (app_count a)) refl (called scope (app_name a) (app_count a))
-          fine.0.known fine.0.right fine.0.supported
+          fine.0.known fine.0.right (no_type (meaning_at names scope (app_name a) (app_count a)) _ fine.0.supported)
       factor_good scope (raw.brackets p t q) ts g h fine =
           begun_good scope p (named_term names scope t) (term_good scope t _ g h.1 fine)
       factor_good scope (raw.negative p f) ts g h fine =

@@ -27,10 +27,9 @@ pub record IsSpokenTerm (v : Vocabulary) (names : Names) (t : TermTree) : Type 0
   pub means : SaidTerm v names [] t
   pub words : IsTm (speak_tm v [] t)
 
--- each sentence of each theory can be read back, and so can the term of each term block; a theory has sentences alone
+-- each sentence of each theory can be read back, and so can the term of each term block
 pub record IsSpokenFile (names : Names) (f : TypedFile) : Type 0 where
   pub sentences : AllByRecursion (λ t. AllByRecursion (IsSpoken f.vocabulary names) t.theory.sentences) f.theories
-  pub definitions : AllByRecursion (λ t. t.theory.definitions ≡ []) f.theories
   pub terms : AllByRecursion (λ b. IsSpokenTerm f.vocabulary names b.term) f.terms
 
 -- what the stages of names and types accept of the blocks of a text is spoken with the words of its own vocabulary

@@ -1,11 +1,11 @@
 -- What the stage of data accepts is well typed over the data's domains.
-use Rattle.std.proofs.Common.{◌≡◌, inl, inr, ℕ, zero, suc, ◌+◌, ℤ, true, false, List, [], ◌∷◌, ◌++◌, length, map}
+use Rattle.std.proofs.Common.{◌≡◌, inl, inr, ℕ, zero, suc, ℤ, true, false, List, [], ◌∷◌, ◌++◌, length, map}
 use Rattle.std.proofs.Common.{Option, None, Some, option_map, slice_get, refl, sym, ap, subst, ◌∙◌, arith, Contains}
-use Rattle.std.proofs.Common.{length-append}
 use Rattle.std.specs.Prelude.{zip, option_to_list, IfSome}
 use Rattle.std.specs.List.{AllByRecursion, flat_map, list_any}
 use Rattle.std.proofs.lemmas.Bool.{true≢false, false_from_ne_true, not-false, or_cases}
 use Rattle.std.proofs.lemmas.Bool.Decides.{Decides-int_eq}
+use Rattle.std.proofs.lemmas.List.Concat.{flat_map-append}
 use Rattle.std.proofs.lemmas.List.Elements.{Contains-append_right}
 use Rattle.std.proofs.lemmas.Option.{slice_get-map}
 use Rattle.kb_text.specs.declared.fault.K.TheVariants as k
@@ -17,17 +17,16 @@ use Rattle.kb_logic.specs.KnownAtoms.{KnownAtoms}
 use Rattle.kb_logic.specs.Typing.{IsNumberType, IsIntegerIn, IsWellTyped, IsTypedOver}
 use Rattle.kb_logic.proofs.Members.{first, later, in_all, in_map}
 use Rattle.fo_syntax.specs.BlockTrees as raw
-use Rattle.kb_logic.specs.Trees.{TheoryTree}
+use Rattle.kb_logic.specs.Trees.{FormulaTree, RuleTree, DefinitionTree, TheoryTree}
 use Rattle.kb_logic.specs.Bases.{NamedTerm}
 use Rattle.reading_stages.specs.FileBases.{theory_at, named_term, base_of_file}
 use Rattle.reading_stages.specs.Earliest.{row}
-use Rattle.reading_stages.specs.NamedTrees.{NamedFormula}
 use Rattle.reading_stages.specs.Numbering.{NamedTheoryTree, NamedTermTree, NamedFile}
-use Rattle.reading_stages.specs.TermPlaces.{terms_begin, term_begins}
-use Rattle.reading_stages.specs.TheoryItems.{items_of}
-use Rattle.reading_stages.specs.TypedTrees.{typed_sentence, typed_block_term}
+use Rattle.reading_stages.specs.TermPlaces.{term_begins}
+use Rattle.reading_stages.specs.TheoryItems.{TheoryItem, sentence, rule, items_of}
+use Rattle.reading_stages.specs.TypedTrees.{typed_block_term}
 use Rattle.reading_stages.specs.TypedFiles.{TypedTheoryTree, TypedTermTree, TypedFile, typed_theory, typed_block}
-use Rattle.reading_stages.specs.TypedFiles.{typed_file}
+use Rattle.reading_stages.specs.TypedFiles.{typed_file, theory_begins}
 use Rattle.reading_stages.specs.IntegerArguments.{Placed, Argument, formula_integers, term_integers, item_integers}
 use Rattle.reading_stages.specs.IntegerArguments.{arguments_at}
 use Rattle.reading_stages.specs.Elements.{same_element}
@@ -36,12 +35,12 @@ use Rattle.reading_stages.specs.DataDomains.{domains_of}
 use Rattle.reading_stages.specs.DataStage.{argument, structure_uses, argument_uses, arguments_of_theory}
 use Rattle.reading_stages.specs.DataStage.{arguments_of_block, chosen_theory, is_foreign, data_causes}
 use Rattle.reading_stages.specs.DataAnswer.{IsDataOf}
-use Rattle.structure_laws.specs.DataLaws.{SentencesHavePlaces, BlocksHavePlaces}
-use Rattle.typing_laws.specs.WellTyped.{IsWellTypedNumber, IsWellTypedFile, IsNumberOver, IsTypedBase}
-use Rattle.typing_laws.specs.WellTyped.{AcceptedIsTypedOver}
+use Rattle.structure_laws.specs.DataLaws.{TheoriesHavePlaces, BlocksHavePlaces}
+use Rattle.typing_laws.specs.WellTyped.{IsWellTypedNumber, RuleIsTyped, IsWellTypedDefinition, IsDefinitionOver}
+use Rattle.typing_laws.specs.WellTyped.{IsWellTypedFile, IsNumberOver, IsTypedBase, AcceptedIsTypedOver}
 use Rattle.typing_laws.proofs.Alls.{all_left, all_right}
-use Rattle.typing_laws.proofs.Integers.{IsPlacedWell, ArePlacedWell, formula_over, term_over}
-use Rattle.typing_laws.proofs.Derived.{derived_is_well_typed}
+use Rattle.typing_laws.proofs.Integers.{IsPlacedWell, ArePlacedWell, formula_over, term_over, rule_over}
+use Rattle.typing_laws.proofs.Derived.{TheoryIsTyped, derived_is_well_typed}
 
 -- ---- integers that are elements
 
@@ -64,8 +63,12 @@ is_element domains a h = among a.number (domain_at domains a.ty)
 -- ---- a file
 
 module _ (v : Vocabulary) (domains : List (List Elem)) where
+  -- an integer argument stands where numbers are asked for
+  abbrev Asked : ℕ → ℤ → Type 0
+  Asked ty z = IsNumberType v ty
+
   abbrev ArePlaced : List (Option Placed) → Type 0
-  ArePlaced os = ArePlacedWell v (λ ty z. IsNumberType v ty) (IsIntegerIn domains) os
+  ArePlaced os = ArePlacedWell v Asked (IsIntegerIn domains) os
 
   are_placed : (ps : List ℕ) (os : List (Option Placed)) → length os ≡ length ps
       → AllByRecursion (IsElement domains) (arguments_at ps os) → ArePlaced os
@@ -74,41 +77,66 @@ module _ (v : Vocabulary) (domains : List (List Elem)) where
   are_placed (p ∷ ps) (None ∷ os) e h = (tt, are_placed ps os (omega (arith, e)) h)
   are_placed (p ∷ ps) (Some x ∷ os) e h = (h.0, are_placed ps os (omega (arith, e)) h.1)
 
-  abbrev integers_in : List NamedFormula → List (Option Placed)
-  integers_in fs = flat_map (item_integers v.symbols) (items_of
-      (record { sentences = map (typed_sentence v) fs; definitions = [] }))
+  abbrev integers_in : List TheoryItem → List (Option Placed)
+  integers_in is = flat_map (item_integers v.symbols) is
 
-  as_long : SentencesHavePlaces → (fs : List NamedFormula) → length (integers_in fs) ≡ length (flat_map terms_begin fs)
-  as_long places [] = refl
-  as_long places (f ∷ fs) =
-      let own = formula_integers v.symbols (typed_sentence v f) in
-      length-append own (integers_in fs)
-      ∙ ap (λ n. n + length (integers_in fs)) (places v f)
-      ∙ ap (λ n. length (terms_begin f) + n) (as_long places fs)
-      ∙ sym (length-append (terms_begin f) (flat_map terms_begin fs))
+  placed_both : (is js : List TheoryItem) → ArePlaced (integers_in (is ++ js)) → ArePlaced (integers_in is)
+      × ArePlaced (integers_in js)
+  placed_both is js p =
+      let well = IsPlacedWell v Asked (IsIntegerIn domains) in
+      let parted : ArePlaced (integers_in is ++ integers_in js) = subst ArePlaced
+      (flat_map-append (item_integers v.symbols) is js) p in
+      (all_left well (integers_in is) (integers_in js) parted, all_right well (integers_in is) (integers_in js) parted)
 
-  sentences_over : (fs : List NamedFormula) → AllByRecursion (λ g. IsWellTyped v g []) (map (typed_sentence v) fs)
-      → ArePlaced (integers_in fs)
-      → AllByRecursion (λ g. IsTypedOver v domains g []) (map (typed_sentence v) fs)
+  sentences_over : (fs : List FormulaTree) → AllByRecursion (λ g. IsWellTyped v g []) fs
+      → ArePlaced (integers_in (map (λ f. sentence f) fs)) → AllByRecursion (λ g. IsTypedOver v domains g []) fs
   sentences_over [] h p = tt
   sentences_over (f ∷ fs) h p =
-      let well = IsPlacedWell v (λ ty z. IsNumberType v ty) (IsIntegerIn domains) in
-      let own = formula_integers v.symbols (typed_sentence v f) in (
-        formula_over v (λ ty z. IsNumberType v ty) (IsIntegerIn domains) (typed_sentence v f) [] h.0
-            (all_left well own (integers_in fs) p),
-        sentences_over fs h.1 (all_right well own (integers_in fs) p),
+      let well = IsPlacedWell v Asked (IsIntegerIn domains) in
+      let own = formula_integers v.symbols f in
+      let others = integers_in (map (λ f. sentence f) fs) in (
+        formula_over v Asked (IsIntegerIn domains) f [] h.0 (all_left well own others p),
+        sentences_over fs h.1 (all_right well own others p),
       )
 
-  abbrev theory_pair : NamedTheoryTree → TypedTheoryTree × List ℕ
-  theory_pair t = (typed_theory v t, flat_map terms_begin t.sentences)
+  rules_over : (rs : List RuleTree) → AllByRecursion (RuleIsTyped v Asked) rs
+      → ArePlaced (integers_in (map (λ r. rule r) rs)) → AllByRecursion (RuleIsTyped v (IsIntegerIn domains)) rs
+  rules_over [] h p = tt
+  rules_over (r ∷ rs) h p =
+      let well = IsPlacedWell v Asked (IsIntegerIn domains) in
+      let own = item_integers v.symbols (rule r) in
+      let others = integers_in (map (λ r. rule r) rs) in (
+        rule_over v Asked (IsIntegerIn domains) r h.0 (all_left well own others p),
+        rules_over rs h.1 (all_right well own others p),
+      )
 
-  theory_over : SentencesHavePlaces → (t : NamedTheoryTree) → AllByRecursion (λ g. IsWellTyped v g [])
-      (typed_theory v t).theory.sentences
+  abbrev rules_of : DefinitionTree → List TheoryItem
+  rules_of d = map (λ r. rule r) d.rules
+
+  definitions_over : (ds : List DefinitionTree) → AllByRecursion (IsWellTypedDefinition v) ds
+      → ArePlaced (integers_in (flat_map rules_of ds)) → AllByRecursion (IsDefinitionOver v domains) ds
+  definitions_over [] h p = tt
+  definitions_over (d ∷ ds) h p =
+      let parts = placed_both (rules_of d) (flat_map rules_of ds) p in
+      (rules_over d.rules h.0 parts.0, definitions_over ds h.1 parts.1)
+
+  -- a theory is well typed over the domains
+  abbrev TheoryIsOver : TheoryTree → Type 0
+  TheoryIsOver t =
+      AllByRecursion (λ g. IsTypedOver v domains g []) t.sentences
+      × AllByRecursion (IsDefinitionOver v domains) t.definitions
+
+  abbrev theory_pair : NamedTheoryTree → TypedTheoryTree × List ℕ
+  theory_pair t = (typed_theory v t, theory_begins t)
+
+  theory_over : TheoriesHavePlaces → (t : NamedTheoryTree) → TheoryIsTyped v (typed_theory v t).theory
       → AllByRecursion (IsElement domains) (arguments_of_theory v.symbols (theory_pair t))
-      → AllByRecursion (λ g. IsTypedOver v domains g []) (typed_theory v t).theory.sentences
+      → TheoryIsOver (typed_theory v t).theory
   theory_over places t h p =
-      sentences_over t.sentences h (are_placed (flat_map terms_begin t.sentences) (integers_in t.sentences)
-      (as_long places t.sentences) p)
+      let said = (typed_theory v t).theory in
+      let parts = placed_both (map (λ f. sentence f) said.sentences) (flat_map rules_of said.definitions)
+      (are_placed (theory_begins t) (integers_in (items_of said)) (places v t) p) in
+      (sentences_over said.sentences h.0 parts.0, definitions_over said.definitions h.1 parts.1)
 
   blocks_over : BlocksHavePlaces → (bs : List NamedTermTree) → AllByRecursion (λ b. IsWellTypedNumber v b.term)
       (map (typed_block v) bs)
@@ -123,7 +151,7 @@ module _ (v : Vocabulary) (domains : List (List Elem)) where
       let placed = are_placed (term_begins b.term) (term_integers v.symbols None (typed_block_term v b.term))
       (places v b.term) (all_left (IsElement domains) own others p) in (
         (
-          term_over v (λ ty z. IsNumberType v ty) (IsIntegerIn domains) None
+          term_over v Asked (IsIntegerIn domains) None
               (typed_block_term v b.term) [] h.0.0 placed,
           h.0.1,
         ),
@@ -150,7 +178,7 @@ module _ (n : NamedFile) (theory : ℕ) where
       (option_map (theory_pair n.vocabulary []) (slice_get n.theories theory))
   chosen_is =
       ap (λ ps. option_to_list (slice_get ps theory)) (pairs (typed_theory n.vocabulary)
-      (λ t. flat_map terms_begin t.sentences) n.theories)
+      theory_begins n.theories)
       ∙ ap (λ (o : Option (TypedTheoryTree × List ℕ)). option_to_list o)
       (slice_get-map (theory_pair n.vocabulary []) n.theories theory)
 
@@ -165,26 +193,23 @@ module _ (n : NamedFile) (theory : ℕ) where
       by (Some t) e = ap said_by (slice_get-map (typed_theory n.vocabulary) n.theories theory
           ∙ ap (option_map (typed_theory n.vocabulary)) e)
 
-theory_if_over : (v : Vocabulary) (domains : List (List Elem)) → SentencesHavePlaces → (o : Option NamedTheoryTree)
-    → IfSome o (λ t. AllByRecursion (λ g. IsWellTyped v g []) (typed_theory v t).theory.sentences)
+theory_if_over : (v : Vocabulary) (domains : List (List Elem)) → TheoriesHavePlaces → (o : Option NamedTheoryTree)
+    → IfSome o (λ t. TheoryIsTyped v (typed_theory v t).theory)
     → AllByRecursion (IsElement domains) (flat_map (arguments_of_theory v.symbols)
-    (option_to_list (option_map (theory_pair v []) o)))
-    → AllByRecursion (λ g. IsTypedOver v domains g []) (theory_if v o).sentences
-theory_if_over v domains places None h p = tt
+    (option_to_list (option_map (theory_pair v domains) o)))
+    → TheoryIsOver v domains (theory_if v o)
+theory_if_over v domains places None h p = (tt, tt)
 theory_if_over v domains places (Some t) h p =
     theory_over v domains places t h (all_left (IsElement domains)
-    (arguments_of_theory v.symbols (theory_pair v [] t)) [] p)
-
-no_definitions : (v : Vocabulary) (o : Option NamedTheoryTree) → (theory_if v o).definitions ≡ []
-no_definitions v None = refl
-no_definitions v (Some t) = refl
+    (arguments_of_theory v.symbols (theory_pair v domains t)) [] p)
 
 well_typed_at : (v : Vocabulary) (ts : List NamedTheoryTree) (theory : ℕ)
     → AllByRecursion (λ t. AllByRecursion (λ g. IsWellTyped v g []) t.theory.sentences) (map (typed_theory v) ts)
-    → IfSome (slice_get ts theory) (λ t. AllByRecursion (λ g. IsWellTyped v g []) (typed_theory v t).theory.sentences)
-well_typed_at v [] theory h = tt
-well_typed_at v (t ∷ ts) zero h = h.0
-well_typed_at v (t ∷ ts) (suc i) h = well_typed_at v ts i h.1
+    → AllByRecursion (λ t. AllByRecursion (IsWellTypedDefinition v) t.theory.definitions) (map (typed_theory v) ts)
+    → IfSome (slice_get ts theory) (λ t. TheoryIsTyped v (typed_theory v t).theory)
+well_typed_at v [] theory h g = tt
+well_typed_at v (t ∷ ts) zero h g = (h.0, g.0)
+well_typed_at v (t ∷ ts) (suc i) h g = well_typed_at v ts i h.1 g.1
 
 named_terms : (v : Vocabulary) (domains : List (List Elem)) (bs : List TypedTermTree)
     → AllByRecursion (λ b. IsNumberOver v domains b.term) bs
@@ -195,7 +220,7 @@ named_terms v domains (b ∷ bs) h = (h.0, named_terms v domains bs h.1)
 not_an_element : Contains data_causes k.NotAnElement
 not_an_element = let long : length data_causes ≡ 9 = refl in (4, omega (arith, long), refl)
 
-file_over : SentencesHavePlaces → BlocksHavePlaces → (n : NamedFile) (theory : ℕ) (s : raw.Structure)
+file_over : TheoriesHavePlaces → BlocksHavePlaces → (n : NamedFile) (theory : ℕ) (s : raw.Structure)
     (answer : KnownAtoms)
     → IsWellTypedFile (typed_file n) → IsDataOf (typed_file n) theory s answer
     → IsTypedBase (base_of_file (typed_file n) theory answer)
@@ -214,22 +239,22 @@ file_over places blocks n theory s answer well data_of =
     (in_map (λ (x : Argument). argument x) (first_args ++ other_args) a c))
     not_an_element h)))) in
     let chosen : AllByRecursion (IsElement domains) (flat_map (arguments_of_theory v.symbols)
-    (option_to_list (option_map (theory_pair v []) (slice_get n.theories theory)))) =
+    (option_to_list (option_map (theory_pair v domains) (slice_get n.theories theory)))) =
     subst (λ ps. AllByRecursion (IsElement domains) (flat_map (arguments_of_theory v.symbols) ps)) (chosen_is n theory)
     (all_left (IsElement domains) first_args other_args fits) in
-    let sentences = theory_if_over v domains places (slice_get n.theories theory)
-    (well_typed_at v n.theories theory well.theories) chosen in
+    let over = theory_if_over v domains places (slice_get n.theories theory)
+    (well_typed_at v n.theories theory well.theories well.definitions) chosen in
     subst (λ (known : KnownAtoms). IsTypedBase (base_of_file f theory known)) (sym data_of.given)
     (record {
       sentences = subst (λ (t : TheoryTree). AllByRecursion (λ g. IsTypedOver v domains g []) t.sentences)
-          (sym (theory_is n theory)) sentences;
-      definitions = ap (λ (t : TheoryTree). t.definitions) (theory_is n theory)
-          ∙ no_definitions v (slice_get n.theories theory);
+          (sym (theory_is n theory)) over.0;
+      definitions = subst (λ (t : TheoryTree). AllByRecursion (IsDefinitionOver v domains) t.definitions)
+          (sym (theory_is n theory)) over.1;
       terms = named_terms v domains f.terms (blocks_over v domains blocks n.terms well.terms
           (all_right (IsElement domains) first_args other_args fits));
     })
 
-pub accepted_is_typed_over : SentencesHavePlaces → BlocksHavePlaces → AcceptedIsTypedOver
+pub accepted_is_typed_over : TheoriesHavePlaces → BlocksHavePlaces → AcceptedIsTypedOver
 accepted_is_typed_over places blocks file n typed named_of typed_of theory s answer data_of =
     let well = derived_is_well_typed file n typed named_of typed_of in
     subst (λ (g : TypedFile). IsTypedBase (base_of_file g theory answer)) (sym typed_of.tree)

@@ -1,21 +1,23 @@
--- A tree that is well typed is well typed over domains, where each integer that is an argument of a function is an
--- element of its position's type.
+-- A tree or a rule that is well typed is well typed over domains, where each integer that is an argument of a function
+-- or of a head is an element of its position's type.
 use Rattle.std.proofs.Common.{◌≡◌, ◌⊎◌, inl, inr, ℕ, ℤ, neg_ℤ, true, List, [], ◌∷◌, ◌++◌, Option, None, Some, subst}
-use Rattle.std.specs.Prelude.{⊤}
-use Rattle.std.specs.List.{AllByRecursion}
+use Rattle.std.specs.Prelude.{⊤, option_to_list, slice_get, IfSome}
+use Rattle.std.specs.List.{AllByRecursion, flat_map}
 use Rattle.kb_logic.specs.declared.vocabularies.Symbol.{Symbol}
 use Rattle.kb_logic.specs.declared.vocabularies.Vocabulary.{Vocabulary}
 use Rattle.kb_logic.specs.Trees.{TermTree, variable, integer, constructed, application, summation, product, aggregate}
 use Rattle.kb_logic.specs.Trees.{TermTrees, no_terms, more_terms, SummandTrees, no_summands, more_summands, FormulaTree}
 use Rattle.kb_logic.specs.Trees.{verum, falsum, atom, comparison, negation, conjunction, disjunction, implication}
 use Rattle.kb_logic.specs.Trees.{equivalence, universal, existential, numbered, FormulaTrees, no_formulas}
-use Rattle.kb_logic.specs.Trees.{more_formulas}
+use Rattle.kb_logic.specs.Trees.{more_formulas, terms_of, RuleTree}
 use Rattle.kb_logic.specs.Bounds.{types_of}
 use Rattle.kb_logic.specs.Typing.{IsIntegerSuch, TermIsTyped, ArgumentsAreTyped, PlacesAreTyped, FactorsAreTyped}
 use Rattle.kb_logic.specs.Typing.{OperandsAreTyped, FormulaIsTyped, AllAreTyped}
 use Rattle.reading_stages.specs.Demands.{argument_types}
 use Rattle.reading_stages.specs.IntegerArguments.{Placed, placed, formula_integers, all_integers, term_integers}
-use Rattle.reading_stages.specs.IntegerArguments.{argument_integers, summand_integers}
+use Rattle.reading_stages.specs.IntegerArguments.{argument_integers, summand_integers, item_integers}
+use Rattle.reading_stages.specs.TheoryItems.{rule}
+use Rattle.typing_laws.specs.WellTyped.{HeadIsTyped, RuleIsTyped}
 use Rattle.typing_laws.proofs.Alls.{all_left, all_right}
 
 -- ---- trees
@@ -151,3 +153,41 @@ module _ (v : Vocabulary) (I J : ℕ → ℤ → Type 0) where
       h.1,
       operands_over ss sc h.2 (back (term_integers v.symbols None t) (summand_integers v.symbols ss) p),
     )
+
+  -- ---- rules
+
+  value_over : (o : Option TermTree) (sc : List ℕ) → IfSome o (λ t. TermIsTyped v I t sc)
+      → ArePlacedWell (flat_map (term_integers v.symbols None) (option_to_list o))
+      → IfSome o (λ t. TermIsTyped v J t sc)
+  value_over None sc h p = tt
+  value_over (Some t) sc h p = term_over None t sc h (front (term_integers v.symbols None t) [] p)
+
+  pub rule_over : (r : RuleTree) → RuleIsTyped v I r → ArePlacedWell (item_integers v.symbols (rule r))
+      → RuleIsTyped v J r
+  rule_over r h p =
+      let sc = types_of r.vars in
+      let d = h.head.0 in
+      let head : HeadIsTyped v I r d = h.head.1 in
+      let args = argument_integers v.symbols (argument_types (slice_get v.symbols r.symbol)) (terms_of r.args) in
+      let value = flat_map (term_integers v.symbols None) (option_to_list r.value) in
+      let body = formula_integers v.symbols r.body in
+      let rest = back args (value ++ body) p in
+      record {
+        vars = h.vars;
+        head = (
+          d,
+          record {
+            symbol = head.symbol;
+            args = arguments_over (terms_of r.args) d.args sc head.args
+                (subst (λ (o : Option Symbol).
+                ArePlacedWell (argument_integers v.symbols (argument_types o) (terms_of r.args))) head.symbol
+                (front args (value ++ body) p));
+            value = value_over r.value sc head.value (front value body rest);
+            kind = head.kind;
+            plain_args = head.plain_args;
+            plain_value = head.plain_value;
+          },
+        );
+        body = formula_over r.body sc h.body (back value body rest);
+        unwritten = h.unwritten;
+      }

@@ -1,5 +1,5 @@
 -- What each word of a vocabulary means is something of the vocabulary.
-use Rattle.std.proofs.Common.{◌≡◌, ◌<◌, ◌≤◌, ◌==◌, ℕ, suc, ◌+◌, Bool, true, false, nat_lt, is_some, List, [], ◌∷◌, ◌++◌}
+use Rattle.std.proofs.Common.{◌≡◌, ◌<◌, ◌≤◌, ◌==◌, ◌||◌, ℕ, suc, ◌+◌, Bool, true, false, nat_lt, is_some, List, [], ◌∷◌, ◌++◌}
 use Rattle.std.proofs.Common.{length, map, if◌then◌else◌, Option, None, Some, unwrap_or, slice_get, refl, sym, subst}
 use Rattle.std.proofs.Common.{arith}
 use Rattle.std.specs.Prelude.{⊤}
@@ -20,8 +20,8 @@ use Rattle.reading_stages.specs.Names.{variable, Names, meaning_in, meaning_of, 
 use Rattle.reading_stages.specs.Names.{number_types, symbol_meaning, made_names, declared_names, with_names, names_of}
 use Rattle.reading_stages.specs.Names.{text_of}
 use Rattle.reading_stages.specs.Uses.{Use, counted, parent_uses, position, position_uses, uses_in_declarations}
-use Rattle.reading_stages.specs.NamesStage.{is_undeclared, is_number_type, is_no_type, is_unknown, is_wrong}
-use Rattle.reading_stages.specs.NamesStage.{is_unsupported, is_too_many}
+use Rattle.reading_stages.specs.NamesStage.{is_undeclared, is_type, is_number_type, is_no_type, is_unknown, is_wrong}
+use Rattle.reading_stages.specs.NamesStage.{is_unsupported, is_bad_head, is_too_many}
 use Rattle.reading_stages.specs.Numbering.{within_count, type_number, type_number_of, types_in, symbols_in}
 use Rattle.typing_laws.proofs.Alls.{all_right, all_append}
 
@@ -32,9 +32,18 @@ pub record IsFine (names : Names) (u : Use) : Type 0 where
   pub right : is_wrong names u ≡ false
   pub supported : is_unsupported names u ≡ false
   pub few : is_too_many u ≡ false
+  pub plain : is_bad_head names u ≡ false
 
 abbrev pub AreFine : Names → List Use → Type 0
 AreFine names us = AllByRecursion (IsFine names) us
+
+-- a word that is not refused as unsupported names no type
+pub no_type : (m : Meaning) (b : Bool) → (is_type m || b) ≡ false → is_type m ≡ false
+no_type m b h = by (is_type m) h
+  where
+    by : (a : Bool) → (a || b) ≡ false → a ≡ false
+    by true g = g
+    by false g = refl
 
 -- ---- meanings by numbers, where so many variables are in scope
 

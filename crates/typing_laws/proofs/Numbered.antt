@@ -1,5 +1,6 @@
 -- Trees whose numbers stand for variables in scope and for things of a vocabulary, used as they are declared.
-use Rattle.std.proofs.Common.{◌≡◌, ◌<◌, ℕ, suc, ◌+◌, true, false, is_some, List, length, None, Some, slice_get}
+use Rattle.std.proofs.Common.{◌≡◌, ◌<◌, ℕ, suc, ◌+◌, true, false, is_some, List, [], ◌∷◌, length, None, Some, slice_get}
+use Rattle.std.proofs.Common.{refl, ap}
 use Rattle.std.specs.Prelude.{⊤, IfSome}
 use Rattle.std.specs.List.{AllByRecursion}
 use Rattle.kb_logic.specs.declared.vocabularies.TypeDecl.{TypeDecl}
@@ -10,7 +11,7 @@ use Rattle.reading_stages.specs.NamedTrees.{application, summation, product, agg
 use Rattle.reading_stages.specs.NamedTrees.{more_terms, NamedSummands, no_summands, more_summands, NamedFormula, truth}
 use Rattle.reading_stages.specs.NamedTrees.{atom, comparison, negation, conjunction, disjunction, implication}
 use Rattle.reading_stages.specs.NamedTrees.{equivalence, universal, existential, numbered, NamedFormulas, no_formulas}
-use Rattle.reading_stages.specs.NamedTrees.{more_formulas}
+use Rattle.reading_stages.specs.NamedTrees.{more_formulas, terms_of, NamedRule}
 
 abbrev pub number_of_terms : NamedTerms → ℕ
 number_of_terms no_terms = 0
@@ -70,6 +71,46 @@ abbrev mutual
   pub SummandsAreNumbered : Vocabulary → ℕ → NamedSummands → Type 0
   SummandsAreNumbered v k no_summands = ⊤
   SummandsAreNumbered v k (more_summands m u ss) = TermIsNumbered v k u × SummandsAreNumbered v k ss
+
+-- ---- rules
+
+-- a term of a head is a variable, an integer, with a minus or without, or a constructed name
+abbrev pub IsPlainNode : NamedNode → Type 0
+IsPlainNode (variable n) = ⊤
+IsPlainNode (integer i) = ⊤
+IsPlainNode (constructed t i) = ⊤
+IsPlainNode (application s us) = ⊥
+IsPlainNode (summation ss) = (q i : ℕ) × (ss ≡ more_summands true (at q (integer i)) no_summands)
+IsPlainNode (product us) = ⊥
+IsPlainNode (aggregate how xs f w) = ⊥
+
+abbrev pub IsPlain : NamedTerm → Type 0
+IsPlain (at p x) = IsPlainNode x
+
+-- a term of a head where so many variables are in scope
+pub record IsHeadNumbered (v : Vocabulary) (k : ℕ) (t : NamedTerm) : Type 0 where
+  pub numbered : TermIsNumbered v k t
+  pub plain : IsPlain t
+
+pub each_term : (v : Vocabulary) (k : ℕ) (ts : List NamedTerm) → AllByRecursion (IsHeadNumbered v k) ts
+    → TermsAreNumbered v k (terms_of ts)
+each_term v k [] h = tt
+each_term v k (t ∷ ts) h = (h.0.numbered, each_term v k ts h.1)
+
+pub as_many_terms : (ts : List NamedTerm) → number_of_terms (terms_of ts) ≡ length ts
+as_many_terms [] = refl
+as_many_terms (t ∷ ts) = ap suc (as_many_terms ts)
+
+-- the head's symbol is declared, takes as many arguments, and is a function exactly where there is a value; the body
+-- is true where it is not written
+pub record RuleIsNumbered (v : Vocabulary) (r : NamedRule) : Type 0 where
+  pub vars : AreWritten v r.vars
+  pub symbol : (d : Symbol) × (slice_get v.symbols r.symbol ≡ Some d) × (is_some r.value ≡ is_some d.value)
+      × (length r.args ≡ length d.args)
+  pub args : AllByRecursion (IsHeadNumbered v (length r.vars)) r.args
+  pub value : IfSome r.value (IsHeadNumbered v (length r.vars))
+  pub body : FormulaIsNumbered v (length r.vars) r.body
+  pub unwritten : r.has_body ≡ false → r.body ≡ truth true
 
 -- each position of a symbol has a type of the vocabulary
 pub record AreTypes (types : List TypeDecl) (d : Symbol) : Type 0 where

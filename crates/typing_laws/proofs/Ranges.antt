@@ -9,18 +9,19 @@ use Rattle.kb_logic.specs.declared.vocabularies.Symbol.{Symbol}
 use Rattle.kb_logic.specs.declared.vocabularies.Vocabulary.{Vocabulary}
 use Rattle.reading_stages.specs.Kinship.{is_under}
 use Rattle.reading_stages.specs.Demands.{TermType, whole, declared, untyped, known, Kind, of_variable, by_itself}
-use Rattle.reading_stages.specs.Demands.{Demand, a_number, sides, predicate_argument, function_argument, Finding}
-use Rattle.reading_stages.specs.Demands.{nothing, found, torn, Binding, Part, demand, scope, Parts, no_parts}
+use Rattle.reading_stages.specs.Demands.{Demand, a_number, sides, predicate_argument, function_argument, head_value}
+use Rattle.reading_stages.specs.Demands.{Finding, nothing, found, torn, Binding, Part, demand, scope, Parts, no_parts}
 use Rattle.reading_stages.specs.Demands.{more_parts, parts_of, written, binding_of, argument_types, value_type, kind_of}
 use Rattle.reading_stages.specs.Demands.{number_demand, is_order, order_demands, argument_demands, later_types}
 use Rattle.reading_stages.specs.Demands.{formula_parts, formulas_parts, term_parts, node_parts, arguments_parts}
-use Rattle.reading_stages.specs.Demands.{factors_parts, summands_parts}
+use Rattle.reading_stages.specs.Demands.{factors_parts, summands_parts, value_demands, value_parts, head_parts}
+use Rattle.reading_stages.specs.Demands.{rule_parts}
 use Rattle.reading_stages.specs.NamedTrees.{NamedVar, NamedTerm, at, NamedNode, variable, integer, constructed}
 use Rattle.reading_stages.specs.NamedTrees.{application, summation, product, aggregate, NamedTerms, no_terms}
 use Rattle.reading_stages.specs.NamedTrees.{more_terms, NamedSummands, no_summands, more_summands, NamedFormula, truth}
 use Rattle.reading_stages.specs.NamedTrees.{atom, comparison, negation, conjunction, disjunction, implication}
 use Rattle.reading_stages.specs.NamedTrees.{equivalence, universal, existential, numbered, NamedFormulas, no_formulas}
-use Rattle.reading_stages.specs.NamedTrees.{more_formulas}
+use Rattle.reading_stages.specs.NamedTrees.{more_formulas, terms_of, NamedRule}
 use Rattle.reading_stages.specs.Typing.{is_split, found_first, least_of, finding_of, settled, settled_bindings}
 use Rattle.reading_stages.specs.Typing.{is_variable, places_given, places_at, places_in, part_by_places, by_places}
 use Rattle.reading_stages.specs.Typing.{type_found, within, type_in, types_known, side_given, sides_given, sides_at}
@@ -28,7 +29,7 @@ use Rattle.reading_stages.specs.Typing.{sides_in, part_by_sides, by_sides, all_s
 use Rattle.typing_laws.proofs.Alls.{all_append, all_at}
 use Rattle.typing_laws.proofs.Numbered.{AreWritten, FormulaIsNumbered, FormulasAreNumbered, TermIsNumbered}
 use Rattle.typing_laws.proofs.Numbered.{NodeIsNumbered, TermsAreNumbered, SummandsAreNumbered, AreTypes}
-use Rattle.typing_laws.proofs.Numbered.{SymbolsHaveTypes}
+use Rattle.typing_laws.proofs.Numbered.{SymbolsHaveTypes, IsHeadNumbered, each_term, RuleIsNumbered}
 
 -- ---- types below a count
 
@@ -61,6 +62,7 @@ IsDemandBelow n (a_number p k) = IsKindBelow n k
 IsDemandBelow n (sides p a b) = IsKindBelow n a × IsKindBelow n b
 IsDemandBelow n (predicate_argument p k t) = IsKindBelow n k × (t < n)
 IsDemandBelow n (function_argument p i k t) = IsKindBelow n k × (t < n)
+IsDemandBelow n (head_value p k t) = IsKindBelow n k × (t < n)
 
 abbrev mutual
   pub IsPartBelow : ℕ → Part → Type 0
@@ -118,6 +120,7 @@ given_below n m (a_number p k) h = tt
 given_below n m (sides p a b) h = tt
 given_below n m (predicate_argument p k t) h = place_below n m t k h.1
 given_below n m (function_argument p i k t) h = place_below n m t k h.1
+given_below n m (head_value p k t) h = place_below n m t k h.1
 
 mutual
   place_at_below : (n m : ℕ) (p : Part) → IsPartBelow n p → AreBelow n (places_at m p)
@@ -200,6 +203,7 @@ sides_given_below n sc m (sides p a b) h g =
     (side_below n sc m b a h g.0)
 sides_given_below n sc m (predicate_argument p k t) h g = tt
 sides_given_below n sc m (function_argument p i k t) h g = tt
+sides_given_below n sc m (head_value p k t) h g = tt
 
 mutual
   side_at_below : (n : ℕ) (sc : List (Option ℕ)) (m : ℕ) (p : Part) → IsScopeBelow n sc → IsPartBelow n p
@@ -374,3 +378,29 @@ module _ (v : Vocabulary) (sound : SymbolsHaveTypes v) where
       both (term_parts v.symbols u) (summands_parts v.symbols ss) (term_below k u h.0)
           (summands_below k ss h.1),
     )
+
+  -- ---- rules
+
+  value_part_below : (k : ℕ) (type : Option ℕ) → IsTypeBelow bound (known type) → (o : Option NamedTerm)
+      → IfSome o (IsHeadNumbered v k) → AreAllBelow bound (value_parts v.symbols type o)
+  value_part_below k type h None g = tt
+  value_part_below k type h (Some x) g =
+      both (value_demands v.symbols type x) (term_parts v.symbols x) (by type h) (term_below k x g.numbered)
+    where
+      by : (o : Option ℕ) → IsTypeBelow bound (known o) → AreAllBelow bound (value_demands v.symbols o x)
+      by None n = tt
+      by (Some t) n = ((kind_below k x g.numbered, n), tt)
+
+  pub rule_below : (r : NamedRule) → RuleIsNumbered v r → AreAllBelow bound (rule_parts v.symbols r)
+  rule_below r h =
+      let k = length r.vars in
+      let d = h.symbol in
+      let args = arguments_parts v.symbols true (argument_types (slice_get v.symbols r.symbol)) (terms_of r.args) in
+      let value = value_parts v.symbols (value_type (slice_get v.symbols r.symbol)) r.value in
+      scope_below r.vars (head_parts v.symbols r ++ formula_parts v.symbols r.body) h.vars
+      (both (head_parts v.symbols r) (formula_parts v.symbols r.body)
+      (both args value
+      (terms_below k true (argument_types (slice_get v.symbols r.symbol)) (terms_of r.args)
+      (each_term v k r.args h.args) (arguments_below r.symbol d.0 d.1))
+      (value_part_below k (value_type (slice_get v.symbols r.symbol)) (value_below r.symbol d.0 d.1) r.value h.value))
+      (formula_below k r.body h.body))

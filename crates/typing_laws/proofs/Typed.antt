@@ -129,7 +129,7 @@ module _ (v : Vocabulary) where
       subst (λ (o : Option Sort). SortsAreAkin v o (Some (element_of ty))) (sym s.1)
       (are_akin_sorts s.0 (element_of ty) (ap (λ (u : TermType). are_apart v.types u (declared ty)) (sym s.2) ∙ m))
 
-  abbrev Asked : ℕ → ℤ → Type 0
+  abbrev pub Asked : ℕ → ℤ → Type 0
   Asked ty z = IsNumberType v ty
 
   plain_is : (around : List (Option ℕ)) (t : NamedTerm) → is_plain_integer t ≡ true → (z : ℤ)
@@ -200,7 +200,7 @@ module _ (v : Vocabulary) where
   vars_length types inner ps n [] = refl
   vars_length types inner ps n (x ∷ xs) = ap suc (vars_length types inner ps (n + 1) xs)
 
-  scope_length : (around : List (Option ℕ)) (sc : List ℕ) (xs : List NamedVar) (ps : List Part)
+  pub scope_length : (around : List (Option ℕ)) (sc : List ℕ) (xs : List NamedVar) (ps : List Part)
       → length sc + length xs ≡ length (sc ++ types_of (typed_vars v.types around xs ps))
   scope_length around sc xs ps =
       sym (length-append sc (types_of (typed_vars v.types around xs ps))
@@ -217,7 +217,8 @@ module _ (v : Vocabulary) where
       → TermIsNumbered v (length (sc ++ types_of (typed_vars v.types around xs ps))) t
   term_in around sc xs ps t h = subst (λ (k : ℕ). TermIsNumbered v k t) (scope_length around sc xs ps) h
 
-  same_types : (s : ℕ) (d : Symbol) → slice_get v.symbols s ≡ Some d → d.args ≡ argument_types (slice_get v.symbols s)
+  pub same_types : (s : ℕ) (d : Symbol) → slice_get v.symbols s ≡ Some d
+      → d.args ≡ argument_types (slice_get v.symbols s)
   same_types s d e = ap argument_types (sym e)
 
   -- ---- trees
@@ -327,8 +328,8 @@ module _ (v : Vocabulary) where
           number_met inner types w (term_in around sc xs ps w h.2) last.0,
         )
 
-    arguments_typed : (around : List (Option ℕ)) (sc : List ℕ) (us : NamedTerms) (types : List ℕ) → number_of_terms us
-        ≡ length types → TermsAreNumbered v (length sc) us
+    pub arguments_typed : (around : List (Option ℕ)) (sc : List ℕ) (us : NamedTerms) (types : List ℕ)
+        → number_of_terms us ≡ length types → TermsAreNumbered v (length sc) us
         → AreMet v.types around sc (arguments_parts v.symbols true types us)
         → ArgumentsAreTyped v Asked (typed_terms v around us) types sc
     arguments_typed around sc no_terms [] c h m = tt

@@ -133,7 +133,7 @@ pub declarations_fine : (f : File) → ((q : KbFault) → NamesRefuse f q → �
 declarations_fine f accepted =
     let ds = declarations_of f.vocabularies in
     let names = names_of ds in
-    let rest = flat_map uses_in_theory f.theories ++ flat_map uses_in_block f.terms in
+    let rest = flat_map (uses_in_theory (names_of ds)) f.theories ++ flat_map uses_in_block f.terms in
     let words = declared_uses number_types (declared_names 0 0 ds) in
     let second = uses_in_declarations 0 0 ds in
     all_right (IsFine names) words second (all_left (IsFine names) (words ++ second) (cycle_uses ds)
@@ -143,7 +143,7 @@ pub declarations_new : (f : File) → ((q : KbFault) → NamesRefuse f q → ⊥
     → AreNew (declared_uses number_types (declared_names 0 0 (declarations_of f.vocabularies)))
 declarations_new f accepted =
     let ds = declarations_of f.vocabularies in
-    let rest = flat_map uses_in_theory f.theories ++ flat_map uses_in_block f.terms in
+    let rest = flat_map (uses_in_theory (names_of ds)) f.theories ++ flat_map uses_in_block f.terms in
     let words = declared_uses number_types (declared_names 0 0 ds) in
     let second = uses_in_declarations 0 0 ds in
     let such = λ (u : Use). is_redeclared u ≡ false in

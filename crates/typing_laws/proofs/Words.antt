@@ -1,5 +1,6 @@
 -- Where no row of the stage of names refuses a word, its number stands for what is declared.
-use Rattle.std.proofs.Common.{◌≡◌, ◌<◌, ◌==◌, ℕ, ◌+◌, false, not, List, [], ◌∷◌, ◌++◌, length, map, Option, None, Some}
+use Rattle.std.proofs.Common.{◌≡◌, ◌<◌, ◌==◌, ℕ, ◌+◌, Bool, true, false, ◌||◌, not, List, [], ◌∷◌, ◌++◌}
+use Rattle.std.proofs.Common.{length, map, is_some, Option, None, Some}
 use Rattle.std.proofs.Common.{option_map, refl, sym, ap, subst, ◌∙◌, arith, length-append, slice_get}
 use Rattle.std.specs.Prelude.{IfSome}
 use Rattle.std.specs.List.{AllByRecursion}
@@ -17,20 +18,22 @@ use Rattle.reading_stages.specs.Scopes.{Text}
 use Rattle.reading_stages.specs.Files.{Declaration, type_under, constructed_type, symbol}
 use Rattle.reading_stages.specs.Names.{Meaning, undeclared, integers, naturals, a_type, predicate, function, made}
 use Rattle.reading_stages.specs.Names.{variable, Names, meaning_of, meaning_at, text_of}
-use Rattle.reading_stages.specs.Uses.{counted, position, parent_uses, position_uses, uses_in_declarations, vars_in}
-use Rattle.reading_stages.specs.Uses.{var_type, var_text, uses_of_vars, within, in_scope, app_name, app_count}
+use Rattle.reading_stages.specs.Uses.{Context, counted, position, parent_uses, position_uses, uses_in_declarations}
+use Rattle.reading_stages.specs.Uses.{vars_in, var_type, var_text, uses_of_vars, within, inside, app_name, app_count}
 use Rattle.reading_stages.specs.Uses.{terms_count, number_uses, uses_in, uses_in_links, uses_in_or, uses_in_and}
 use Rattle.reading_stages.specs.Uses.{uses_in_unary, uses_in_prim, uses_in_term, uses_in_product, uses_in_factor}
 use Rattle.reading_stages.specs.Uses.{uses_in_arguments, uses_in_terms}
-use Rattle.reading_stages.specs.NamesStage.{is_undeclared, is_type, is_no_formula, is_no_term}
+use Rattle.reading_stages.specs.NamesStage.{is_undeclared, is_type, is_no_formula, is_no_term, is_no_function}
+use Rattle.reading_stages.specs.NamesStage.{is_defined}
 use Rattle.reading_stages.specs.NamedTrees.{NamedVar, NamedTerm, at, NamedTerms, more_summands, NamedFormula, begun_at}
-use Rattle.reading_stages.specs.Numbering.{type_number_of, predicate_number, symbols_in, named_var, named_vars}
+use Rattle.reading_stages.specs.Numbering.{type_number_of, predicate_number, function_number, symbols_in, named_var}
+use Rattle.reading_stages.specs.Numbering.{named_vars}
 use Rattle.reading_stages.specs.Numbering.{counted_by, implies, implied_by, equivalent, grouped, node_of, named_formula}
 use Rattle.reading_stages.specs.Numbering.{named_links, named_or, disjuncts, named_and, conjuncts, named_unary}
 use Rattle.reading_stages.specs.Numbering.{named_prim, named_term, summands, named_product, factors, named_factor}
 use Rattle.reading_stages.specs.Numbering.{named_arguments, named_terms}
 use Rattle.typing_laws.proofs.Alls.{all_left, all_right}
-use Rattle.typing_laws.proofs.Meanings.{IsFine, AreFine, IsMeaning, word_means, kept, position_is}
+use Rattle.typing_laws.proofs.Meanings.{IsFine, AreFine, IsMeaning, no_type, word_means, kept, position_is}
 use Rattle.typing_laws.proofs.Numbered.{number_of_terms, IsSum, AreWritten, FormulaIsNumbered, FormulasAreNumbered}
 use Rattle.typing_laws.proofs.Numbered.{TermIsNumbered, NodeIsNumbered, TermsAreNumbered, SummandsAreNumbered, AreTypes}
 
@@ -75,20 +78,43 @@ module _ (v : Vocabulary) (names : Names) (means : (k : ℕ) (w : Text)
   same_count : (a b : ℕ) → not (a == b) ≡ false → a ≡ b
   same_count a b h = eqb-true a b (not-false (a == b) h)
 
+  -- a predicate's number stands for a predicate that takes so many arguments
+  pub predicate_is : (k : ℕ) (m : Meaning) (n : ℕ) → IsMeaning v.types v.symbols k m → is_undeclared m ≡ false
+      → is_no_formula m n ≡ false → is_type m ≡ false
+      → (d : Symbol) × (slice_get v.symbols (predicate_number m) ≡ Some d) × (d.value ≡ None) × (n ≡ length d.args)
+  predicate_is k undeclared n h known right supported = absurd (true≢false known)
+  predicate_is k integers n h known right supported = absurd (true≢false supported)
+  predicate_is k naturals n h known right supported = absurd (true≢false supported)
+  predicate_is k (a_type t) n h known right supported = absurd (true≢false supported)
+  predicate_is k (predicate s j) n h known right supported =
+      (h.0, ap (slice_get v.symbols) (kept s 1024 h.4) ∙ h.1, h.2, sym (same_count j n right) ∙ sym h.3)
+  predicate_is k (function s j) n h known right supported = absurd (true≢false right)
+  predicate_is k (made t i) n h known right supported = absurd (true≢false right)
+  predicate_is k (variable level) n h known right supported = absurd (true≢false right)
+
   atom_numbered : (k : ℕ) (m : Meaning) (n : ℕ) (us : NamedTerms) → IsMeaning v.types v.symbols k m → is_undeclared m
       ≡ false → is_no_formula m n ≡ false → is_type m ≡ false
       → number_of_terms us ≡ n → TermsAreNumbered v k us
       → (d : Symbol) × (slice_get v.symbols (predicate_number m) ≡ Some d) × (d.value ≡ None)
       × (number_of_terms us ≡ length d.args) × TermsAreNumbered v k us
-  atom_numbered k undeclared n us h known right supported count rest = absurd (true≢false known)
-  atom_numbered k integers n us h known right supported count rest = absurd (true≢false supported)
-  atom_numbered k naturals n us h known right supported count rest = absurd (true≢false supported)
-  atom_numbered k (a_type t) n us h known right supported count rest = absurd (true≢false supported)
-  atom_numbered k (predicate s j) n us h known right supported count rest =
-      (h.0, ap (slice_get v.symbols) (kept s 1024 h.4) ∙ h.1, h.2, count ∙ sym (same_count j n right) ∙ sym h.3, rest)
-  atom_numbered k (function s j) n us h known right supported count rest = absurd (true≢false right)
-  atom_numbered k (made t i) n us h known right supported count rest = absurd (true≢false right)
-  atom_numbered k (variable level) n us h known right supported count rest = absurd (true≢false right)
+  atom_numbered k m n us h known right supported count rest =
+      let d = predicate_is k m n h known right supported in
+      (d.0, d.1, d.2, count ∙ d.3, rest)
+
+  -- a function's number stands for a function that takes so many arguments
+  pub function_is : (k : ℕ) (m : Meaning) (n : ℕ) → IsMeaning v.types v.symbols k m → is_undeclared m ≡ false
+      → is_no_function m n ≡ false → is_type m ≡ false
+      → (d : Symbol) × (slice_get v.symbols (function_number m) ≡ Some d) × (is_some d.value ≡ true)
+      × (n ≡ length d.args)
+  function_is k undeclared n h known right supported = absurd (true≢false known)
+  function_is k integers n h known right supported = absurd (true≢false supported)
+  function_is k naturals n h known right supported = absurd (true≢false supported)
+  function_is k (a_type t) n h known right supported = absurd (true≢false supported)
+  function_is k (predicate s j) n h known right supported = absurd (true≢false right)
+  function_is k (function s j) n h known right supported =
+      (h.0, ap (slice_get v.symbols) (kept s 1024 h.4) ∙ h.1, h.2, sym (same_count j n right) ∙ sym h.3)
+  function_is k (made t i) n h known right supported = absurd (true≢false right)
+  function_is k (variable level) n h known right supported = absurd (true≢false right)
 
   node_numbered : (k : ℕ) (m : Meaning) (n : ℕ) (us : NamedTerms) → IsMeaning v.types v.symbols k m → is_undeclared m
       ≡ false → is_no_term m n ≡ false → is_type m ≡ false
@@ -110,7 +136,7 @@ module _ (v : Vocabulary) (names : Names) (means : (k : ℕ) (w : Text)
 
   -- ---- variables
 
-  vars_written : (before : List Text) (xs : List Var) → AreFine names (uses_of_vars before xs)
+  pub vars_written : (before : List Text) (xs : List Var) → AreFine names (uses_of_vars before xs)
       → AreWritten v (map (named_var names) xs)
   vars_written before [] fine = tt
   vars_written before (x ∷ xs) fine =
@@ -191,176 +217,166 @@ module _ (v : Vocabulary) (names : Names) (means : (k : ℕ) (w : Text)
   as_many scope (raw.empty n p q) = refl
   as_many scope (raw.apply n p ts q) = as_many_terms scope ts
 
-  means_at : (scope : List Text) (a : App) → IsMeaning v.types v.symbols (length scope)
+  pub means_at : (scope : List Text) (a : App) → IsMeaning v.types v.symbols (length scope)
       (meaning_at names scope (app_name a) (app_count a))
   means_at scope a = word_means v.types v.symbols names scope (app_name a) (app_count a)
       (means (length scope) (text_of (app_name a)))
 
   mutual
-    pub formula_numbered : (scope : List Text) (f : Formula) → AreFine names (uses_in (in_scope scope) f)
-        → FormulaIsNumbered v (length scope) (named_formula names scope f)
-    formula_numbered scope (raw.alone o) fine = or_numbered scope o fine
-    formula_numbered scope (raw.linked a o p ls) fine =
-        let c = in_scope scope in
-        grouped_numbered (length scope) a _ _
-        (or_numbered scope o (all_left (IsFine names) (uses_in_or c o) (uses_in_links c ls) fine))
-        (links_numbered scope ls (all_right (IsFine names) (uses_in_or c o) (uses_in_links c ls) fine))
+    pub formula_numbered : (c : Context) (f : Formula) → AreFine names (uses_in c f)
+        → FormulaIsNumbered v (length c.scope) (named_formula names c.scope f)
+    formula_numbered c (raw.alone o) fine = or_numbered c o fine
+    formula_numbered c (raw.linked a o p ls) fine =
+        grouped_numbered (length c.scope) a _ _
+        (or_numbered c o (all_left (IsFine names) (uses_in_or c o) (uses_in_links c ls) fine))
+        (links_numbered c ls (all_right (IsFine names) (uses_in_or c o) (uses_in_links c ls) fine))
 
-    links_numbered : (scope : List Text) (ls : Links) → AreFine names (uses_in_links (in_scope scope) ls)
-        → AreAll (length scope) (named_links names scope ls)
-    links_numbered scope (raw.last o) fine = (or_numbered scope o fine, tt)
-    links_numbered scope (raw.link o p ls) fine =
-        let c = in_scope scope in (
-          or_numbered scope o (all_left (IsFine names) (uses_in_or c o) (uses_in_links c ls) fine),
-          links_numbered scope ls (all_right (IsFine names) (uses_in_or c o) (uses_in_links c ls) fine),
-        )
+    links_numbered : (c : Context) (ls : Links) → AreFine names (uses_in_links c ls)
+        → AreAll (length c.scope) (named_links names c.scope ls)
+    links_numbered c (raw.last o) fine = (or_numbered c o fine, tt)
+    links_numbered c (raw.link o p ls) fine = (
+      or_numbered c o (all_left (IsFine names) (uses_in_or c o) (uses_in_links c ls) fine),
+      links_numbered c ls (all_right (IsFine names) (uses_in_or c o) (uses_in_links c ls) fine),
+    )
 
-    or_numbered : (scope : List Text) (o : Or) → AreFine names (uses_in_or (in_scope scope) o)
-        → FormulaIsNumbered v (length scope) (named_or names scope o)
-    or_numbered scope (raw.one a) fine = and_numbered scope a fine
-    or_numbered scope (raw.or a p o) fine =
-        let c = in_scope scope in (
-          and_numbered scope a (all_left (IsFine names) (uses_in_and c a) (uses_in_or c o) fine),
-          disjuncts_numbered scope o (all_right (IsFine names) (uses_in_and c a) (uses_in_or c o) fine),
-        )
+    or_numbered : (c : Context) (o : Or) → AreFine names (uses_in_or c o)
+        → FormulaIsNumbered v (length c.scope) (named_or names c.scope o)
+    or_numbered c (raw.one a) fine = and_numbered c a fine
+    or_numbered c (raw.or a p o) fine = (
+      and_numbered c a (all_left (IsFine names) (uses_in_and c a) (uses_in_or c o) fine),
+      disjuncts_numbered c o (all_right (IsFine names) (uses_in_and c a) (uses_in_or c o) fine),
+    )
 
-    disjuncts_numbered : (scope : List Text) (o : Or) → AreFine names (uses_in_or (in_scope scope) o)
-        → FormulasAreNumbered v (length scope) (disjuncts names scope o)
-    disjuncts_numbered scope (raw.one a) fine = (and_numbered scope a fine, tt)
-    disjuncts_numbered scope (raw.or a p o) fine =
-        let c = in_scope scope in (
-          and_numbered scope a (all_left (IsFine names) (uses_in_and c a) (uses_in_or c o) fine),
-          disjuncts_numbered scope o (all_right (IsFine names) (uses_in_and c a) (uses_in_or c o) fine),
-        )
+    disjuncts_numbered : (c : Context) (o : Or) → AreFine names (uses_in_or c o)
+        → FormulasAreNumbered v (length c.scope) (disjuncts names c.scope o)
+    disjuncts_numbered c (raw.one a) fine = (and_numbered c a fine, tt)
+    disjuncts_numbered c (raw.or a p o) fine = (
+      and_numbered c a (all_left (IsFine names) (uses_in_and c a) (uses_in_or c o) fine),
+      disjuncts_numbered c o (all_right (IsFine names) (uses_in_and c a) (uses_in_or c o) fine),
+    )
 
-    and_numbered : (scope : List Text) (a : And) → AreFine names (uses_in_and (in_scope scope) a)
-        → FormulaIsNumbered v (length scope) (named_and names scope a)
-    and_numbered scope (raw.single u) fine = unary_numbered scope u fine
-    and_numbered scope (raw.and u p a) fine =
-        let c = in_scope scope in (
-          unary_numbered scope u (all_left (IsFine names) (uses_in_unary c u) (uses_in_and c a) fine),
-          conjuncts_numbered scope a (all_right (IsFine names) (uses_in_unary c u) (uses_in_and c a) fine),
-        )
+    and_numbered : (c : Context) (a : And) → AreFine names (uses_in_and c a)
+        → FormulaIsNumbered v (length c.scope) (named_and names c.scope a)
+    and_numbered c (raw.single u) fine = unary_numbered c u fine
+    and_numbered c (raw.and u p a) fine = (
+      unary_numbered c u (all_left (IsFine names) (uses_in_unary c u) (uses_in_and c a) fine),
+      conjuncts_numbered c a (all_right (IsFine names) (uses_in_unary c u) (uses_in_and c a) fine),
+    )
 
-    conjuncts_numbered : (scope : List Text) (a : And) → AreFine names (uses_in_and (in_scope scope) a)
-        → FormulasAreNumbered v (length scope) (conjuncts names scope a)
-    conjuncts_numbered scope (raw.single u) fine = (unary_numbered scope u fine, tt)
-    conjuncts_numbered scope (raw.and u p a) fine =
-        let c = in_scope scope in (
-          unary_numbered scope u (all_left (IsFine names) (uses_in_unary c u) (uses_in_and c a) fine),
-          conjuncts_numbered scope a (all_right (IsFine names) (uses_in_unary c u) (uses_in_and c a) fine),
-        )
+    conjuncts_numbered : (c : Context) (a : And) → AreFine names (uses_in_and c a)
+        → FormulasAreNumbered v (length c.scope) (conjuncts names c.scope a)
+    conjuncts_numbered c (raw.single u) fine = (unary_numbered c u fine, tt)
+    conjuncts_numbered c (raw.and u p a) fine = (
+      unary_numbered c u (all_left (IsFine names) (uses_in_unary c u) (uses_in_and c a) fine),
+      conjuncts_numbered c a (all_right (IsFine names) (uses_in_unary c u) (uses_in_and c a) fine),
+    )
 
-    unary_numbered : (scope : List Text) (u : Unary) → AreFine names (uses_in_unary (in_scope scope) u)
-        → FormulaIsNumbered v (length scope) (named_unary names scope u)
-    unary_numbered scope (raw.not p u) fine = unary_numbered scope u fine
-    unary_numbered scope (raw.every p vs q f) fine =
-        let inner = uses_in (in_scope (within scope vs)) f in (
+    unary_numbered : (c : Context) (u : Unary) → AreFine names (uses_in_unary c u)
+        → FormulaIsNumbered v (length c.scope) (named_unary names c.scope u)
+    unary_numbered c (raw.not p u) fine = unary_numbered c u fine
+    unary_numbered c (raw.every p vs q f) fine =
+        let inner = uses_in (inside c vs) f in (
           vars_written [] (vars_in vs) (all_left (IsFine names) (uses_of_vars [] (vars_in vs)) inner fine),
-          formula_within scope vs f (formula_numbered (within scope vs) f
+          formula_within c.scope vs f (formula_numbered (inside c vs) f
               (all_right (IsFine names) (uses_of_vars [] (vars_in vs)) inner fine)),
         )
-    unary_numbered scope (raw.some p n vs q f) fine =
-        let inner = uses_in (in_scope (within scope vs)) f in
+    unary_numbered c (raw.some p n vs q f) fine =
+        let inner = uses_in (inside c vs) f in
         let rest = all_right (IsFine names) (number_uses p n) (uses_of_vars [] (vars_in vs) ++ inner) fine in
-        counted_numbered (length scope) n (named_vars names vs) (named_formula names (within scope vs) f)
+        counted_numbered (length c.scope) n (named_vars names vs) (named_formula names (within c.scope vs) f)
         (vars_written [] (vars_in vs) (all_left (IsFine names) (uses_of_vars [] (vars_in vs)) inner rest))
-        (formula_within scope vs f (formula_numbered (within scope vs) f
+        (formula_within c.scope vs f (formula_numbered (inside c vs) f
         (all_right (IsFine names) (uses_of_vars [] (vars_in vs)) inner rest)))
-    unary_numbered scope (raw.prim x) fine = prim_numbered scope x fine
+    unary_numbered c (raw.prim x) fine = prim_numbered c x fine
 
-    prim_numbered : (scope : List Text) (x : Prim) → AreFine names (uses_in_prim (in_scope scope) x)
-        → FormulaIsNumbered v (length scope) (named_prim names scope x)
-    prim_numbered scope (raw.group p f q) fine = formula_numbered scope f fine
-    prim_numbered scope (raw.truth b p) fine = tt
-    prim_numbered scope (raw.atom a) fine =
-        atom_numbered (length scope) (meaning_at names scope (app_name a) (app_count a)) (app_count a)
-        (named_arguments names scope a) (means_at scope a)
-        fine.0.known fine.0.right fine.0.supported (as_many scope a) (arguments_numbered scope a fine.1)
-    prim_numbered scope (raw.compare x k p y) fine =
-        let c = in_scope scope in (
-          term_numbered scope x (all_left (IsFine names) (uses_in_term c x) (uses_in_term c y) fine),
-          term_numbered scope y (all_right (IsFine names) (uses_in_term c x) (uses_in_term c y) fine),
-        )
+    prim_numbered : (c : Context) (x : Prim) → AreFine names (uses_in_prim c x)
+        → FormulaIsNumbered v (length c.scope) (named_prim names c.scope x)
+    prim_numbered c (raw.group p f q) fine = formula_numbered c f fine
+    prim_numbered c (raw.truth b p) fine = tt
+    prim_numbered c (raw.atom a) fine =
+        let m = meaning_at names c.scope (app_name a) (app_count a) in
+        atom_numbered (length c.scope) m (app_count a) (named_arguments names c.scope a) (means_at c.scope a)
+        fine.0.known fine.0.right (no_type m (is_defined names c (app_name a) (app_count a)) fine.0.supported)
+        (as_many c.scope a) (arguments_numbered c a fine.1)
+    prim_numbered c (raw.compare x k p y) fine = (
+      term_numbered c x (all_left (IsFine names) (uses_in_term c x) (uses_in_term c y) fine),
+      term_numbered c y (all_right (IsFine names) (uses_in_term c x) (uses_in_term c y) fine),
+    )
 
-    pub term_numbered : (scope : List Text) (t : Term) → AreFine names (uses_in_term (in_scope scope) t)
-        → TermIsNumbered v (length scope) (named_term names scope t)
-    term_numbered scope (raw.product p) fine = product_numbered scope p fine
-    term_numbered scope (raw.sum p a q t) fine =
-        let c = in_scope scope in (
-          is_sum scope (named_product names scope p) a t,
-          (
-            product_numbered scope p (all_left (IsFine names) (uses_in_product c p) (uses_in_term c t) fine),
-            summands_numbered scope a t (all_right (IsFine names) (uses_in_product c p) (uses_in_term c t) fine),
-          ),
-        )
+    pub term_numbered : (c : Context) (t : Term) → AreFine names (uses_in_term c t)
+        → TermIsNumbered v (length c.scope) (named_term names c.scope t)
+    term_numbered c (raw.product p) fine = product_numbered c p fine
+    term_numbered c (raw.sum p a q t) fine = (
+      is_sum c.scope (named_product names c.scope p) a t,
+      (
+        product_numbered c p (all_left (IsFine names) (uses_in_product c p) (uses_in_term c t) fine),
+        summands_numbered c a t (all_right (IsFine names) (uses_in_product c p) (uses_in_term c t) fine),
+      ),
+    )
 
-    summands_numbered : (scope : List Text) (a : Adding) (t : Term) → AreFine names (uses_in_term (in_scope scope) t)
-        → SummandsAreNumbered v (length scope) (summands names scope a t)
-    summands_numbered scope a (raw.product p) fine = (product_numbered scope p fine, tt)
-    summands_numbered scope a (raw.sum p b q t) fine =
-        let c = in_scope scope in (
-          product_numbered scope p (all_left (IsFine names) (uses_in_product c p) (uses_in_term c t) fine),
-          summands_numbered scope b t (all_right (IsFine names) (uses_in_product c p) (uses_in_term c t) fine),
-        )
+    summands_numbered : (c : Context) (a : Adding) (t : Term) → AreFine names (uses_in_term c t)
+        → SummandsAreNumbered v (length c.scope) (summands names c.scope a t)
+    summands_numbered c a (raw.product p) fine = (product_numbered c p fine, tt)
+    summands_numbered c a (raw.sum p b q t) fine = (
+      product_numbered c p (all_left (IsFine names) (uses_in_product c p) (uses_in_term c t) fine),
+      summands_numbered c b t (all_right (IsFine names) (uses_in_product c p) (uses_in_term c t) fine),
+    )
 
-    product_numbered : (scope : List Text) (p : Product) → AreFine names (uses_in_product (in_scope scope) p)
-        → TermIsNumbered v (length scope) (named_product names scope p)
-    product_numbered scope (raw.factor f) fine = factor_numbered scope f fine
-    product_numbered scope (raw.times f p q) fine =
-        let c = in_scope scope in (
-          factor_numbered scope f (all_left (IsFine names) (uses_in_factor c f) (uses_in_product c q) fine),
-          factors_numbered scope q (all_right (IsFine names) (uses_in_factor c f) (uses_in_product c q) fine),
-        )
+    product_numbered : (c : Context) (p : Product) → AreFine names (uses_in_product c p)
+        → TermIsNumbered v (length c.scope) (named_product names c.scope p)
+    product_numbered c (raw.factor f) fine = factor_numbered c f fine
+    product_numbered c (raw.times f p q) fine = (
+      factor_numbered c f (all_left (IsFine names) (uses_in_factor c f) (uses_in_product c q) fine),
+      factors_numbered c q (all_right (IsFine names) (uses_in_factor c f) (uses_in_product c q) fine),
+    )
 
-    factors_numbered : (scope : List Text) (q : Product) → AreFine names (uses_in_product (in_scope scope) q)
-        → TermsAreNumbered v (length scope) (factors names scope q)
-    factors_numbered scope (raw.factor f) fine = (factor_numbered scope f fine, tt)
-    factors_numbered scope (raw.times f p q) fine =
-        let c = in_scope scope in (
-          factor_numbered scope f (all_left (IsFine names) (uses_in_factor c f) (uses_in_product c q) fine),
-          factors_numbered scope q (all_right (IsFine names) (uses_in_factor c f) (uses_in_product c q) fine),
-        )
+    factors_numbered : (c : Context) (q : Product) → AreFine names (uses_in_product c q)
+        → TermsAreNumbered v (length c.scope) (factors names c.scope q)
+    factors_numbered c (raw.factor f) fine = (factor_numbered c f fine, tt)
+    factors_numbered c (raw.times f p q) fine = (
+      factor_numbered c f (all_left (IsFine names) (uses_in_factor c f) (uses_in_product c q) fine),
+      factors_numbered c q (all_right (IsFine names) (uses_in_factor c f) (uses_in_product c q) fine),
+    )
 
-    factor_numbered : (scope : List Text) (f : Factor) → AreFine names (uses_in_factor (in_scope scope) f)
-        → TermIsNumbered v (length scope) (named_factor names scope f)
-    factor_numbered scope (raw.integer n p) fine = tt
-    factor_numbered scope (raw.value a) fine =
-        node_numbered (length scope) (meaning_at names scope (app_name a) (app_count a)) (app_count a)
-        (named_arguments names scope a) (means_at scope a)
-        fine.0.known fine.0.right fine.0.supported (as_many scope a) (arguments_numbered scope a fine.1)
-    factor_numbered scope (raw.brackets p t q) fine = begun_numbered (length scope) p (named_term names scope t)
-        (term_numbered scope t fine)
-    factor_numbered scope (raw.negative p f) fine = (tt, (factor_numbered scope f fine, tt))
-    factor_numbered scope (raw.count p b vs q f r) fine =
-        let inner = uses_in (in_scope (within scope vs)) f in (
+    factor_numbered : (c : Context) (f : Factor) → AreFine names (uses_in_factor c f)
+        → TermIsNumbered v (length c.scope) (named_factor names c.scope f)
+    factor_numbered c (raw.integer n p) fine = tt
+    factor_numbered c (raw.value a) fine =
+        let m = meaning_at names c.scope (app_name a) (app_count a) in
+        node_numbered (length c.scope) m (app_count a) (named_arguments names c.scope a) (means_at c.scope a)
+        fine.0.known fine.0.right (no_type m (is_defined names c (app_name a) (app_count a)) fine.0.supported)
+        (as_many c.scope a) (arguments_numbered c a fine.1)
+    factor_numbered c (raw.brackets p t q) fine = begun_numbered (length c.scope) p (named_term names c.scope t)
+        (term_numbered c t fine)
+    factor_numbered c (raw.negative p f) fine = (tt, (factor_numbered c f fine, tt))
+    factor_numbered c (raw.count p b vs q f r) fine =
+        let inner = uses_in (inside c vs) f in (
           vars_written [] (vars_in vs) (all_left (IsFine names) (uses_of_vars [] (vars_in vs)) inner fine.1),
-          formula_within scope vs f (formula_numbered (within scope vs) f
+          formula_within c.scope vs f (formula_numbered (inside c vs) f
               (all_right (IsFine names) (uses_of_vars [] (vars_in vs)) inner fine.1)),
           tt,
         )
-    factor_numbered scope (raw.aggregate how p b vs q f r t e) fine =
-        let c = in_scope (within scope vs) in
+    factor_numbered c (raw.aggregate how p b vs q f r t e) fine =
+        let inner = inside c vs in
         let vars = uses_of_vars [] (vars_in vs) in
-        let inner = all_right (IsFine names) vars (uses_in c f ++ uses_in_term c t) fine.1 in (
-          vars_written [] (vars_in vs) (all_left (IsFine names) vars (uses_in c f ++ uses_in_term c t) fine.1),
-          formula_within scope vs f (formula_numbered (within scope vs) f
-              (all_left (IsFine names) (uses_in c f) (uses_in_term c t) inner)),
-          term_within scope vs t (term_numbered (within scope vs) t
-              (all_right (IsFine names) (uses_in c f) (uses_in_term c t) inner)),
+        let rest = all_right (IsFine names) vars (uses_in inner f ++ uses_in_term inner t) fine.1 in (
+          vars_written [] (vars_in vs) (all_left (IsFine names) vars (uses_in inner f ++ uses_in_term inner t) fine.1),
+          formula_within c.scope vs f (formula_numbered inner f
+              (all_left (IsFine names) (uses_in inner f) (uses_in_term inner t) rest)),
+          term_within c.scope vs t (term_numbered inner t
+              (all_right (IsFine names) (uses_in inner f) (uses_in_term inner t) rest)),
         )
 
-    arguments_numbered : (scope : List Text) (a : App) → AreFine names (uses_in_arguments (in_scope scope) a)
-        → TermsAreNumbered v (length scope) (named_arguments names scope a)
-    arguments_numbered scope (raw.constant n) fine = tt
-    arguments_numbered scope (raw.empty n p q) fine = tt
-    arguments_numbered scope (raw.apply n p ts q) fine = terms_numbered scope ts fine
+    arguments_numbered : (c : Context) (a : App) → AreFine names (uses_in_arguments c a)
+        → TermsAreNumbered v (length c.scope) (named_arguments names c.scope a)
+    arguments_numbered c (raw.constant n) fine = tt
+    arguments_numbered c (raw.empty n p q) fine = tt
+    arguments_numbered c (raw.apply n p ts q) fine = terms_numbered c ts fine
 
-    terms_numbered : (scope : List Text) (ts : Terms) → AreFine names (uses_in_terms (in_scope scope) ts)
-        → TermsAreNumbered v (length scope) (named_terms names scope ts)
-    terms_numbered scope (raw.final t) fine = (term_numbered scope t fine, tt)
-    terms_numbered scope (raw.then t p ts) fine =
-        let c = in_scope scope in (
-          term_numbered scope t (all_left (IsFine names) (uses_in_term c t) (uses_in_terms c ts) fine),
-          terms_numbered scope ts (all_right (IsFine names) (uses_in_term c t) (uses_in_terms c ts) fine),
-        )
+    terms_numbered : (c : Context) (ts : Terms) → AreFine names (uses_in_terms c ts)
+        → TermsAreNumbered v (length c.scope) (named_terms names c.scope ts)
+    terms_numbered c (raw.final t) fine = (term_numbered c t fine, tt)
+    terms_numbered c (raw.then t p ts) fine = (
+      term_numbered c t (all_left (IsFine names) (uses_in_term c t) (uses_in_terms c ts) fine),
+      terms_numbered c ts (all_right (IsFine names) (uses_in_term c t) (uses_in_terms c ts) fine),
+    )

@@ -2,7 +2,7 @@
 ghost use Rattle.typing_laws.specs.Vocabularies.{DerivedIsWellFormed};
 ghost use Rattle.typing_laws.specs.WellTyped.{AcceptedIsTypedOver, DerivedIsWellTyped};
 
-use structure_laws::{blocks_have_places, sentences_have_places};
+use structure_laws::{blocks_have_places, theories_have_places};
 
 /// The vocabulary of what the stages of names and types accept is well formed: numbers of types and symbols are within
 /// their limits, each type that is named is there, and no name is declared twice.
@@ -10,16 +10,17 @@ pub fn derived_is_well_formed()
     ensures { DerivedIsWellFormed }
 {}
 
-/// What the stages of names and types accept is well typed: each sentence, and each term block's term, a number.
+/// What the stages of names and types accept is well typed: each sentence, each rule of a definition, and each term
+/// block's term, a number.
 pub fn derived_is_well_typed()
     ensures { DerivedIsWellTyped }
 {}
 
-/// What the stage of data accepts as well is well typed over the data's domains: each sentence of the chosen theory,
-/// and each term block's term, so that functions are applied within their types.
+/// What the stage of data accepts as well is well typed over the data's domains: each sentence and each rule of the
+/// chosen theory, and each term block's term, so that functions are applied within their types.
 pub fn accepted_is_typed_over()
     ensures { AcceptedIsTypedOver }
 {
-    sentences_have_places();
+    theories_have_places();
     blocks_have_places();
 }
