@@ -1,4 +1,4 @@
--- How many variables a formula adds, and a problem has.
+-- How many variables formulas and sentences add.
 use Rattle.std.proofs.Common.{inl, inr, ◌∙◌, ◌≡◌, ℕ, ◌+◌, ◌*◌, ◌≤◌, Bool, true, false, List, [], ◌∷◌, ◌++◌, map, length}
 use Rattle.std.proofs.Common.{if◌then◌else◌, Option, Some, None, refl, subst, arith}
 use Rattle.std.specs.List.{list_all, sum_by, AllByRecursion}
@@ -12,10 +12,8 @@ use Rattle.kb_logic.specs.Trees.{FormulaTree, verum, falsum, atom, comparison, n
 use Rattle.kb_logic.specs.Trees.{implication, equivalence, universal, existential, numbered, FormulaTrees, no_formulas}
 use Rattle.kb_logic.specs.Trees.{more_formulas}
 use Rattle.kb_logic.specs.Weights.{application_count, applications_count, occurrences, all_occurrences}
-use Rattle.kb_logic.specs.Weights.{definition_occurrences}
 use Rattle.kb_logic.specs.declared.vocabularies.Bound.{Bound}
 use Rattle.kb_logic.specs.Bounds.{HasTypes, types_of}
-use Rattle.kb_logic.specs.Bases.{Base, NamedTerm}
 use Rattle.kb_logic.proofs.Atoms.{tuple_elements}
 use Rattle.kb_logic.proofs.Has.{Has, contains_from}
 use Rattle.lit_core.specs.declared.literals.Lit.{Lit}
@@ -34,18 +32,12 @@ use Rattle.def_ground.specs.Forms.{atom_case, signed_result, Parts, settles, wit
 use Rattle.def_ground.specs.Forms.{parts_each, close_parts, opposite_result, same_of, form_of, parts_of}
 use Rattle.def_ground.specs.Sentences.{are_few, parts_clause, assert_each, assert_of, assert_all, assert_any}
 use Rattle.def_ground.specs.Sentences.{assert_sentences}
-use Rattle.def_ground.specs.Problems.{start_problem}
 use Rattle.def_ground.proofs.TypedForms.{IsTypedForm, AreTypedForms, typed-form}
-use Rattle.def_ground.specs.Groundings.{ground_base, IsGroundNumber, IsGroundTheory, ProblemIsSmall}
-use Rattle.def_ground.proofs.AskedFew.{all-asked-vars}
 use Rattle.def_ground.specs.GroundForms.{HasNoCounting}
-use Rattle.kb_logic.specs.Typing.{IsTypedOver}
 use Rattle.def_ground.specs.Laws.{FewVariables}
 use Rattle.term_values.proofs.ArgumentTypes.{IsTypedTerm}
 use Rattle.term_values.proofs.FewRows.{term-few, terms-few}
 use Rattle.term_values.proofs.TypedLaws.{typed-term}
-use Rattle.term_values.proofs.Places.{atoms-count}
-use Rattle.def_ground.proofs.StartLaws.{atoms-length}
 use Rattle.def_ground.proofs.Counting.{linear}
 
 gate-vars : (all : Bool) (ls : List Lit) (p : ProblemState) → (gate_of all ls p).problem.vars ≤ p.vars + 1
@@ -489,7 +481,7 @@ module _ (b : GroundBase) where
         (4 * all_occurrences b.vocabulary b.domains (more_formulas g fs) 1) one two in
         omega (arith, k)
 
-  sentences-vars : (fs : List FormulaTree) (p : ProblemState)
+  pub sentences-vars : (fs : List FormulaTree) (p : ProblemState)
       → AllByRecursion (IsTypedForm b.vocabulary b.domains []) fs
       → (assert_sentences b fs p).vars ≤ p.vars + 4 * sum_by (λ f. occurrences b.vocabulary b.domains f 1) fs
   sentences-vars [] p h = omega arith
@@ -502,30 +494,3 @@ module _ (b : GroundBase) where
 pub few-variables : FewVariables
 few-variables b f scope e p given types typed none =
     form-vars b f scope e p types (typed-form b.vocabulary b.domains given f scope typed none)
-
-all-typed : (base : Base) (theory : IsGroundTheory base) (fs : List FormulaTree)
-    → AllByRecursion (λ f. IsTypedOver base.vocabulary base.known.domains f []) fs → AllByRecursion HasNoCounting fs
-    → AllByRecursion (IsTypedForm base.vocabulary base.known.domains []) fs
-all-typed base theory [] h k = tt
-all-typed base theory (f ∷ fs) h k =
-    (typed-form base.vocabulary base.known.domains theory.known.domains f [] h.0 k.0, all-typed base theory fs h.1 k.1)
-
-numbers-typed : (base : Base) (theory : IsGroundTheory base) (ts : List NamedTerm)
-    → AllByRecursion (IsGroundNumber base) ts
-    → AllByRecursion (λ t. IsTypedTerm base.vocabulary base.known.domains [] t.term) ts
-numbers-typed base theory [] h = tt
-numbers-typed base theory (t ∷ ts) h = (
-  typed-term base.vocabulary base.known.domains theory.known.domains t.term [] h.0.typed h.0.plain,
-  numbers-typed base theory ts h.1,
-)
-
-pub problem-is-small : ProblemIsSmall
-problem-is-small base theory =
-    let h = all-typed base theory base.theory.sentences theory.typed theory.plain in
-    let gb = ground_base base in
-    let vars = sentences-vars gb base.theory.sentences (start_problem gb) h in
-    let atoms = atoms-length base.vocabulary.symbols base.known.domains ∙ atoms-count gb in
-    let others = sum_by (definition_occurrences base.vocabulary base.known.domains) base.theory.definitions in
-    let asked = all-asked-vars gb base.terms (assert_sentences gb base.theory.sentences (start_problem gb))
-    (numbers-typed base theory base.terms theory.terms) in
-    omega (arith, vars, atoms, asked)

@@ -21,6 +21,7 @@ use Rattle.def_ground.specs.declared.answers.Answer.{Answer}
 use Rattle.def_ground.specs.declared.answers.Answer.TheVariants.{Constant, Literal}
 use Rattle.def_ground.specs.Answers.{GroundResult, gate_of}
 use Rattle.def_ground.specs.Cases.{Case, answer_or_cases, answer_without, clauses_of_cases, clauses_saying, cases_of}
+use Rattle.def_ground.specs.Cases.{with_clauses}
 use Rattle.def_ground.specs.Comparisons.{guard_answers, comparison_case, comparison_of}
 use Rattle.def_ground.specs.Forms.{Parts, settles, with_answer, next_parts, no_more_parts, parts_each, close_parts}
 use Rattle.def_ground.specs.Forms.{opposite_result, signed_result, same_of, atom_case, form_of, parts_of}
@@ -67,8 +68,11 @@ keeps-on p q r h k = record {
   retired = k.retired ∙ h.retired;
 }
 
-keeps-clause : (p : ProblemState) (c : List Lit) → Keeps p (with_clause p c)
+pub keeps-clause : (p : ProblemState) (c : List Lit) → Keeps p (with_clause p c)
 keeps-clause p c = grown p p.vars p.gates (p.clauses ++ c ∷ []) (c ∷ []) refl
+
+pub keeps-clauses : (p : ProblemState) (cs : List (List Lit)) → Keeps p (with_clauses p cs)
+keeps-clauses p cs = grown p p.vars p.gates (p.clauses ++ cs) cs refl
 
 pub keeps-gate : (p : ProblemState) (all : Bool) (ls : List Lit) → Keeps p (with_gate p all ls)
 keeps-gate p all ls =

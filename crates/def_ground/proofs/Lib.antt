@@ -20,7 +20,6 @@ pub mod NumberTerms
 pub mod WeighedRows
 pub mod AskedLaws
 pub mod AskedFew
-pub mod ProblemLaws
 pub mod AskedRanges
 pub mod Counting
 pub mod FewLaws

@@ -3,13 +3,14 @@ use Rattle.std.specs.Prelude.{◌≡◌, ℕ, pos, negsuc, List, [], ◌∷◌, 
 use Rattle.kb_logic.specs.declared.elements.Elem.TheVariants.{Named, Num}
 use Rattle.kb_logic.specs.declared.syntax.AggKind.TheVariants as kind
 use Rattle.kb_logic.specs.declared.syntax.Cmp.TheVariants as cmp
-use Rattle.kb_logic.specs.Trees.{TermTree, variable, application, summation, no_terms, more_terms, no_summands}
-use Rattle.kb_logic.specs.Trees.{more_summands, FormulaTree, atom, comparison, negation}
-use Rattle.kb_logic.specs.Trees.{conjunction, disjunction, universal, no_formulas, more_formulas}
+use Rattle.kb_logic.specs.Trees.{TermTree, variable, constructed, application, summation, no_terms, more_terms}
+use Rattle.kb_logic.specs.Trees.{no_summands, more_summands, FormulaTree, verum, atom, comparison, negation}
+use Rattle.kb_logic.specs.Trees.{conjunction, disjunction, universal, no_formulas, more_formulas, DefinitionTree}
 use Rattle.lit_core.specs.declared.literals.Lit.{Lit}
 use Rattle.ground_core.specs.declared.parts.GroundTerm.{GroundTerm}
 use Rattle.term_values.specs.GroundBases.{GroundBase}
 use Rattle.def_ground.specs.AskedTerms.{with_asked}
+use Rattle.def_ground.specs.Definitions.{define_of}
 use Rattle.def_ground.specs.Problems.{fact_of, problem_of}
 
 -- the literal that a variable is true, or that it is false
@@ -59,6 +60,36 @@ constants = record {
   known = None ∷ None ∷ None ∷ None ∷ [];
 }
 
+-- P holds of just what Q holds of; Q holds of just a
+abbrev p_by_q : DefinitionTree
+p_by_q = record {
+  rules =
+      record {
+        vars = record { name = []; ty = 0 } ∷ [];
+        symbol = 0;
+        args = variable 0 ∷ [];
+        value = None;
+        has_body = true;
+        body = holds 1;
+      } ∷ [];
+}
+
+abbrev q_of_a : DefinitionTree
+q_of_a = record {
+  rules =
+      record {
+        vars = [];
+        symbol = 1;
+        args = constructed 0 0 ∷ [];
+        value = None;
+        has_body = false;
+        body = verum;
+      } ∷ [];
+}
+
+abbrev with_definition : DefinitionTree → List (List Lit)
+with_definition d = (define_of predicates d (problem_of predicates [])).clauses
+
 -- c is less than d
 abbrev in_order : List FormulaTree
 in_order = comparison cmp.Lt (application 0 no_terms) (application 1 no_terms) ∷ []
@@ -73,6 +104,8 @@ abbrev difference_named : List GroundTerm
 difference_named = (with_asked constants (problem_of constants []) (record { name = []; term = difference })).terms
 
 -- P(a), P(b), Q(a) and Q(b) are the variables 1 to 4: the facts, then Q(b) and not Q(a), with no gate.
+-- Since P(a) is known to hold and P(b) not to, that P is defined by Q says Q(a), and not Q(b); that Q holds of just a
+-- says the same.
 -- c = 1, c = 2, d = 1 and d = 2 are the variables 1 to 4 too: one value each, and no variable more for the comparison,
 -- which says that c and d are not both 1, and that c is not 2, since no value of d is greater.
 -- The difference c - d is 0 where both are 1; it is 1 more where c = 2, and 1 less where d = 2
@@ -81,6 +114,8 @@ pub record ProblemsAsWorkedOut : Type 0 where
   pub plain_gates : (problem_of predicates one_of_both).gates ≡ []
   pub plain_clauses :
       (problem_of predicates one_of_both).clauses ≡ (yes_ 1 ∷ []) ∷ (no_ 2 ∷ []) ∷ (yes_ 4 ∷ []) ∷ (no_ 3 ∷ []) ∷ []
+  pub defined_clauses : with_definition p_by_q ≡ (yes_ 1 ∷ []) ∷ (no_ 2 ∷ []) ∷ (yes_ 3 ∷ []) ∷ (no_ 4 ∷ []) ∷ []
+  pub fact_clauses : with_definition q_of_a ≡ (yes_ 1 ∷ []) ∷ (no_ 2 ∷ []) ∷ (yes_ 3 ∷ []) ∷ (no_ 4 ∷ []) ∷ []
   pub order_vars : (problem_of constants in_order).vars ≡ 4
   pub order_gates : (problem_of constants in_order).gates ≡ []
   pub order_clauses :

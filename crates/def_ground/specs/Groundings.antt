@@ -1,14 +1,13 @@
 -- A ground problem of a knowledge base: each model is one valuation, and each valuation one model.
-use Rattle.std.specs.Prelude.{◌≤◌, map, ◌∷◌, Some, Contains, ◌≡◌, ℕ, [], Bool, length, slice_get}
+use Rattle.std.specs.Prelude.{◌∷◌, Some, Contains, ◌≡◌, ℕ, [], Bool, length, slice_get}
 use Rattle.std.specs.List.{AllByRecursion}
 use Rattle.kb_logic.specs.declared.structures.Structure.{Structure}
 use Rattle.kb_logic.specs.Bounds.{TermIsBounded}
 use Rattle.kb_logic.specs.Meaning.{value_of}
 use Rattle.kb_logic.specs.Typing.{IsTypedOver, TermIsTypedOver, IsNumeric, sort_of}
-use Rattle.kb_logic.specs.Weights.{weight_of}
 use Rattle.kb_logic.specs.Bases.{Base, NamedTerm, IsModelUnder}
 use Rattle.ground_core.specs.Problems.{ProblemState}
-use Rattle.ground_core.specs.Meaning.{Satisfies, HasTermsInRange}
+use Rattle.ground_core.specs.Meaning.{Satisfies}
 use Rattle.ground_core.specs.Growing.{value_at}
 use Rattle.ground_core.specs.More.{Agree}
 use Rattle.ground_core.specs.Atoms.{ground_atoms}
@@ -16,8 +15,10 @@ use Rattle.term_values.specs.GroundBases.{GroundBase, known_of, structure_of}
 use Rattle.term_values.specs.GroundTerms.{TermHasNoCounting}
 use Rattle.term_values.specs.KnownBases.{base_of_data, AreDataOf}
 use Rattle.def_ground.specs.AskedTerms.{with_all_asked}
+use Rattle.def_ground.specs.Definitions.{define_all}
 use Rattle.def_ground.specs.Problems.{fact_of, problem_of}
 use Rattle.def_ground.specs.GroundForms.{HasNoCounting}
+use Rattle.def_ground.specs.Rules.{IsTypedDefinition}
 
 -- what is known of the ground atoms of a knowledge base
 abbrev pub ground_base : Base → GroundBase
@@ -29,13 +30,14 @@ pub record IsGroundNumber (base : Base) (t : NamedTerm) : Type 0 where
   pub numeric : IsNumeric base.vocabulary (sort_of base.vocabulary t.term [])
   pub plain : TermHasNoCounting t.term
 
--- the data are of the vocabulary, the theory is well typed sentences without aggregates and number quantifiers, and the
--- terms that may be asked for are such numbers
+-- the data are of the vocabulary, the theory is well typed sentences and definitions without aggregates and number
+-- quantifiers, and the terms that may be asked for are such numbers
 pub record IsGroundTheory (base : Base) : Type 0 where
   pub known : AreDataOf base.vocabulary base.known
   pub typed : AllByRecursion (λ f. IsTypedOver base.vocabulary base.known.domains f []) base.theory.sentences
   pub plain : AllByRecursion HasNoCounting base.theory.sentences
-  pub definitions : base.theory.definitions ≡ []
+  pub definitions :
+      AllByRecursion (IsTypedDefinition base.vocabulary base.known.domains) base.theory.definitions
   pub terms : AllByRecursion (IsGroundNumber base) base.terms
 
 -- each model is the structure of a valuation that satisfies the problem, and of one alone; and the structure of each
@@ -58,10 +60,11 @@ pub record IsGroundingOf (base : Base) (p : ProblemState) : Type 0 where
       (n : ℕ) (t : NamedTerm) → slice_get base.terms n ≡ Some t → (v : ℕ → Bool) → Satisfies p v
       → value_at p n v ≡ value_of (structure_of (ground_base base) v) t.term []
 
--- the problem of a theory over its data, with the terms that may be asked for
+-- the problem of a theory over its data: its sentences, then its definitions, then the terms that may be asked for
 abbrev pub theory_problem : Base → ProblemState
 theory_problem base =
-    with_all_asked (ground_base base) base.terms (problem_of (ground_base base) base.theory.sentences)
+    let b = ground_base base in
+    with_all_asked b base.terms (define_all b base.theory.definitions (problem_of b base.theory.sentences))
 
 -- it says clauses and gates alone, and nothing of sums and bounds
 pub record SaysClausesAlone (p : ProblemState) : Type 0 where
@@ -69,26 +72,7 @@ pub record SaysClausesAlone (p : ProblemState) : Type 0 where
   pub bounds : p.bounds ≡ []
   pub retired : p.retired ≡ []
 
--- so does the problem of a theory
-abbrev pub ProblemSaysClauses : Type 0
-ProblemSaysClauses = (base : Base) → SaysClausesAlone (theory_problem base)
-
--- the problem's valuations are the models of the theory that extend the data
-abbrev pub ProblemIsRight : Type 0
-ProblemIsRight = (base : Base) → IsGroundTheory base → IsGroundingOf base (theory_problem base)
-
--- the problem has no more variables than the weight of the knowledge base
-abbrev pub ProblemIsSmall : Type 0
-ProblemIsSmall =
-    (base : Base) → IsGroundTheory base
-    → (theory_problem base).vars ≤ weight_of base.vocabulary base.known.domains base.theory
-    (map (λ (t : NamedTerm). t.term) base.terms)
-
 -- the static bounds of each term that may be asked for are small
 abbrev pub TermsAreBounded : Base → Type 0
 TermsAreBounded base =
     AllByRecursion (λ (t : NamedTerm). TermIsBounded base.vocabulary base.known.domains t.term []) base.terms
-
--- then its terms have values from -10^15 to 10^15
-abbrev pub TermsAreInRange : Type 0
-TermsAreInRange = (base : Base) → IsGroundTheory base → TermsAreBounded base → HasTermsInRange (theory_problem base)

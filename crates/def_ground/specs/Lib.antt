@@ -8,6 +8,8 @@ pub mod Disjuncts
 pub mod Sentences
 pub mod Problems
 pub mod GroundForms
+pub mod Rules
+pub mod Definitions
 pub mod AskedTerms
 pub mod Meanings
 pub mod Groundings

@@ -1,7 +1,6 @@
 //! Laws of the definitions.
 ghost use Rattle.def_ground.specs.Laws.{CasesAreRight, FormIsRight, AssertionIsRight, SentencesAreAsserted};
 ghost use Rattle.def_ground.specs.Examples.{ProblemsAsWorkedOut};
-ghost use Rattle.def_ground.specs.Groundings.{ProblemIsRight, ProblemIsSmall, ProblemSaysClauses, TermsAreInRange};
 ghost use Rattle.def_ground.specs.Laws.{OneEachByClauses, FewVariables};
 
 /// What cases come to is what they say.
@@ -32,27 +31,6 @@ pub fn one_each_by_clauses()
 /// A well typed formula adds no more than four variables for each occurrence.
 pub fn few_variables()
     ensures { FewVariables }
-{}
-
-/// Each model of a theory that extends its data is one valuation of its problem, and each valuation
-/// of the problem is one such model.
-pub fn problem_is_right()
-    ensures { ProblemIsRight }
-{}
-
-/// The problem of a theory has no more variables than the knowledge base weighs.
-pub fn problem_is_small()
-    ensures { ProblemIsSmall }
-{}
-
-/// The problem of a theory says nothing of sums and bounds.
-pub fn problem_says_clauses()
-    ensures { ProblemSaysClauses }
-{}
-
-/// Where the static bounds of the terms that may be asked for are small, the problem's terms have values in range.
-pub fn terms_are_in_range()
-    ensures { TermsAreInRange }
 {}
 
 /// Two small problems, as they are worked out by hand.

@@ -20,7 +20,6 @@ pub use exactly_one::push_one_of;
 pub use gates::{add_part, close, gate, same};
 pub use laws::{
     assertion_is_right, cases_are_right, few_variables, form_is_right, one_each_by_clauses,
-    problem_is_right, problem_is_small, problem_says_clauses, problems_as_worked_out,
-    sentences_are_asserted, terms_are_in_range,
+    problems_as_worked_out, sentences_are_asserted,
 };
 pub use sides::{GuardedValue, case_of_row};

@@ -1,18 +1,25 @@
 -- What the stages of names, types and data accept can be grounded.
-use Rattle.std.proofs.Common.{ℕ, zero, suc, List, [], ◌∷◌, map, Option, None, Some, slice_get, refl, sym, subst}
+use Rattle.std.proofs.Common.{◌≡◌, ℕ, zero, suc, List, [], ◌∷◌, map, Option, None, Some, slice_get, is_some, IfSome}
+use Rattle.std.proofs.Common.{refl, sym, ap, subst, ◌∙◌}
+use Rattle.std.specs.Option.{option_and_then}
 use Rattle.std.specs.List.{AllByRecursion}
 use Rattle.kb_text.specs.declared.fault.KbFault.{KbFault}
 use Rattle.kb_logic.specs.declared.vocabularies.Vocabulary.{Vocabulary}
 use Rattle.kb_logic.specs.Bases.{Base, NamedTerm}
 use Rattle.kb_logic.specs.Domains.{AreDomainsOf}
 use Rattle.kb_logic.specs.KnownAtoms.{KnownAtoms}
-use Rattle.kb_logic.specs.Trees.{TheoryTree}
+use Rattle.kb_logic.specs.declared.elements.Elem.{Elem}
+use Rattle.kb_logic.specs.declared.vocabularies.Symbol.{Symbol}
+use Rattle.kb_logic.specs.Bounds.{value_type_of}
+use Rattle.kb_logic.specs.Trees.{TermTree, variable, integer, constructed, application, summation, product, aggregate}
+use Rattle.kb_logic.specs.Trees.{RuleTree, DefinitionTree, TheoryTree}
+use Rattle.kb_logic.specs.Typing.{IsIntegerIn}
 use Rattle.fo_syntax.specs.BlockTrees as raw
-use Rattle.reading_stages.specs.NamedTrees.{NamedFormula}
+use Rattle.reading_stages.specs.NamedTrees.{NamedFormula, NamedRule}
 use Rattle.reading_stages.specs.Numbering.{NamedTheoryTree, NamedTermTree}
 use Rattle.reading_stages.specs.FileBases.{base_of_file, theory_at, named_term}
-use Rattle.reading_stages.specs.TypedFiles.{TypedTheoryTree, TypedFile, typed_theory, typed_block}
-use Rattle.reading_stages.specs.TypedTrees.{typed_sentence}
+use Rattle.reading_stages.specs.TypedFiles.{TypedTheoryTree, TypedFile, typed_definition, typed_theory, typed_block}
+use Rattle.reading_stages.specs.TypedTrees.{rule_types, typed_sentence, typed_rule}
 use Rattle.reading_stages.specs.DataEntries.{said_in}
 use Rattle.reading_stages.specs.DataDomains.{domains_of}
 use Rattle.reading_stages.specs.DataFacts.{is_said_false}
@@ -23,9 +30,11 @@ use Rattle.term_values.specs.GroundTerms.{TermHasNoCounting}
 use Rattle.term_values.specs.KnownBases.{AreDataOf}
 use Rattle.def_ground.specs.GroundForms.{HasNoCounting}
 use Rattle.def_ground.specs.Groundings.{IsGroundNumber}
+use Rattle.def_ground.specs.Rules.{IsHeadTerm, IsTypedRule, IsTypedDefinition}
+use Rattle.typing_laws.specs.WellTyped as promised
 use Rattle.typing_laws.specs.WellTyped.{AcceptedIsTypedOver, IsNumberOver}
 use Rattle.file_bases.specs.FileLaws.{AcceptedCanBeGrounded}
-use Rattle.file_bases.proofs.Plain.{IsPlain, IsPlainTerm, named_is_plain}
+use Rattle.file_bases.proofs.Plain.{IsPlain, IsPlainTheory, IsPlainTerm, named_is_plain}
 use Rattle.file_bases.proofs.Consistent.{are_over, given_consistent}
 
 -- ---- sentences and terms without counting
@@ -42,12 +51,80 @@ said_by o = elim o [
   | Some t ↦ t.theory
 ]
 
-theory_plain : (v : Vocabulary) (ts : List NamedTheoryTree) (theory : ℕ)
-    → AllByRecursion (λ t. AllByRecursion (IsPlain v) t.sentences) ts
+theory_plain : (v : Vocabulary) (ts : List NamedTheoryTree) (theory : ℕ) → AllByRecursion (IsPlainTheory v) ts
     → AllByRecursion HasNoCounting (said_by (slice_get (map (typed_theory v) ts) theory)).sentences
 theory_plain v [] theory h = tt
-theory_plain v (t ∷ ts) zero h = sentences_plain v t.sentences h.0
+theory_plain v (t ∷ ts) zero h = sentences_plain v t.sentences h.0.sentences
 theory_plain v (t ∷ ts) (suc i) h = theory_plain v ts i h.1
+
+-- ---- rules
+
+abbrev ArePlainRules : DefinitionTree → Type 0
+ArePlainRules d = AllByRecursion (λ (r : RuleTree). HasNoCounting r.body) d.rules
+
+rules_plain : (v : Vocabulary) (rs : List NamedRule) → AllByRecursion (λ r. IsPlain v r.body) rs
+    → AllByRecursion (λ (r : RuleTree). HasNoCounting r.body) (map (typed_rule v) rs)
+rules_plain v [] h = tt
+rules_plain v (r ∷ rs) h = (h.0 (rule_types v r), rules_plain v rs h.1)
+
+definitions_plain : (v : Vocabulary) (ds : List (List NamedRule))
+    → AllByRecursion (λ rs. AllByRecursion (λ r. IsPlain v r.body) rs) ds
+    → AllByRecursion ArePlainRules (map (typed_definition v) ds)
+definitions_plain v [] h = tt
+definitions_plain v (rs ∷ ds) h = (rules_plain v rs h.0, definitions_plain v ds h.1)
+
+theory_rules_plain : (v : Vocabulary) (ts : List NamedTheoryTree) (theory : ℕ) → AllByRecursion (IsPlainTheory v) ts
+    → AllByRecursion ArePlainRules (said_by (slice_get (map (typed_theory v) ts) theory)).definitions
+theory_rules_plain v [] theory h = tt
+theory_rules_plain v (t ∷ ts) zero h = definitions_plain v t.definitions h.0.definitions
+theory_rules_plain v (t ∷ ts) (suc i) h = theory_rules_plain v ts i h.1
+
+head_term : (t : TermTree) → promised.IsHeadTerm t → IsHeadTerm t
+head_term (variable n) h = tt
+head_term (integer z) h = tt
+head_term (constructed ty n) h = tt
+head_term (application s ts) h = absurd h
+head_term (summation ss) h = h
+head_term (product ts) h = absurd h
+head_term (aggregate k bs f t) h = absurd h
+
+head_terms : (ts : List TermTree) → AllByRecursion promised.IsHeadTerm ts → AllByRecursion IsHeadTerm ts
+head_terms [] h = tt
+head_terms (t ∷ ts) h = (head_term t h.0, head_terms ts h.1)
+
+head_value : (o : Option TermTree) → IfSome o promised.IsHeadTerm → IfSome o IsHeadTerm
+head_value None h = tt
+head_value (Some t) h = head_term t h
+
+rule_typed : (v : Vocabulary) (domains : List (List Elem)) (r : RuleTree)
+    → promised.RuleIsTyped v (IsIntegerIn domains) r → HasNoCounting r.body → IsTypedRule v domains r
+rule_typed v domains r h plain =
+    let d = h.head.0 in
+    let head = h.head.1 in
+    let type : value_type_of v r.symbol ≡ d.value = ap (option_and_then (λ (t : Symbol). t.value)) head.symbol in
+    record {
+      args = head_terms r.args head.plain_args;
+      value = head_value r.value head.plain_value;
+      kind = head.kind ∙ ap is_some (sym type);
+      typed = h.body;
+      plain = plain;
+      unwritten = h.unwritten;
+    }
+
+rules_typed : (v : Vocabulary) (domains : List (List Elem)) (rs : List RuleTree)
+    → AllByRecursion (promised.RuleIsTyped v (IsIntegerIn domains)) rs
+    → AllByRecursion (λ (r : RuleTree). HasNoCounting r.body) rs → AllByRecursion (IsTypedRule v domains) rs
+rules_typed v domains [] h k = tt
+rules_typed v domains (r ∷ rs) h k = (rule_typed v domains r h.0 k.0, rules_typed v domains rs h.1 k.1)
+
+definitions_typed : (v : Vocabulary) (domains : List (List Elem)) (ds : List DefinitionTree)
+    → AllByRecursion (promised.IsDefinitionOver v domains) ds → AllByRecursion ArePlainRules ds
+    → AllByRecursion (IsTypedDefinition v domains) ds
+definitions_typed v domains [] h k = tt
+definitions_typed v domains (d ∷ ds) h k =
+    (rules_typed v domains d.rules h.0 k.0, definitions_typed v domains ds h.1 k.1)
+
+-- ---- terms that may be asked for
 
 terms_plain : (v : Vocabulary) (bs : List NamedTermTree) → AllByRecursion (λ b. IsPlainTerm v b.term) bs
     → AllByRecursion (λ (t : NamedTerm). TermHasNoCounting t.term) (map named_term (map (typed_block v) bs))
@@ -94,7 +171,10 @@ accepted_can_be_grounded typing have_domains is_given consistent file n typed na
         plain = subst (λ (g : TypedFile). AllByRecursion HasNoCounting (theory_at g theory).sentences)
             (sym typed_of.tree)
             (theory_plain n.vocabulary n.theories theory plain.theories);
-        definitions = well.definitions;
+        definitions =
+            definitions_typed v answer.domains (theory_at typed theory).definitions well.definitions
+            (subst (λ (g : TypedFile). AllByRecursion ArePlainRules (theory_at g theory).definitions)
+            (sym typed_of.tree) (theory_rules_plain n.vocabulary n.theories theory plain.theories));
         terms = numbers (base_of_file typed theory answer) (map named_term typed.terms) well.terms terms;
       }),
       terms,

@@ -2,24 +2,27 @@
 ghost use Rattle.std.specs.Prelude.{◌≡◌, ◌≤◌, ◌<◌, ◌^◌, [], length, map, IfOk, IfErr, OnOk};
 ghost use Rattle.std.specs.List.{AllByRecursion};
 ghost use Rattle.kb_logic.specs.Bounds.{TheoryIsBounded};
-ghost use Rattle.kb_logic.specs.Views.{formula_view, theory_view};
+ghost use Rattle.kb_logic.specs.Views.{theory_view};
 ghost use Rattle.ground_core.specs.Meaning.{HasTermsInRange};
 ghost use Rattle.reading_stages.specs.FileBases.{base_of_file, named_term, theory_at};
 ghost use Rattle.reading_stages.specs.SizesStage.{capped, weight_limit};
 ghost use Rattle.type_derivation.specs.TypedViews.{named_term_view, typed_view};
 ghost use Rattle.term_values.specs.KnownBases.{AreDataOf, IsGroundBase, base_of_data};
 ghost use Rattle.def_ground.specs.AskedTerms.{with_all_asked};
+ghost use Rattle.def_ground.specs.Definitions.{define_all};
 ghost use Rattle.def_ground.specs.Groundings.{IsGroundTheory, IsGroundingOf, SaysClausesAlone, TermsAreBounded};
 ghost use Rattle.def_ground.specs.Groundings.{theory_problem};
 ghost use Rattle.def_ground.specs.Problems.{problem_of as problem_of_sentences};
 ghost use Rattle.ground_walk.specs.Askable.{IsAskable};
 ghost use Rattle.ground_walk.specs.Groundable.{HasVars, IsGroundable};
+ghost use Rattle.definition_walk.specs.Steps.{CanBeGround};
 ghost use Rattle.grounder.specs.Weighing.{base_weight, IsRefused};
 
 use crate::errors::GroundError;
+use definition_walk::push_definitions;
 use ground_core::{Memory, Problem};
 use ground_walk::{problem_of, push_term};
-use kb_logic::{Formula, Term, Theory, Vocabulary};
+use kb_logic::{Term, Theory, Vocabulary};
 use kb_sizes::weight;
 use partial_structures::Partial;
 use std::alloc::Global;
@@ -69,34 +72,39 @@ fn push_terms(
     Ok(())
 }
 
-/// The problem of sentences over the data, with the terms that may be asked for.
+/// The problem of a theory over the data, with the terms that may be asked for.
 fn problem(
     alloc: Global,
     vocabulary: &Vocabulary,
     known: &Partial,
-    sentences: &[Formula],
+    theory: &Theory,
     terms: &[Named<Term>],
 ) -> Result<Problem, Memory>
     requires known { AreDataOf vocabulary.now known.now }
     requires few { length vocabulary.now.symbols ≤ 2 ^ 32 }
     requires fits { AllByRecursion (λ f. IsGroundable (base_of_data vocabulary.now known.now) f [])
-        (map formula_view sentences.now) }
+        (theory_view theory.now).sentences }
+    requires rules { AllByRecursion
+        (λ d. AllByRecursion (CanBeGround (base_of_data vocabulary.now known.now)) d.rules)
+        (theory_view theory.now).definitions }
     requires asked { AllByRecursion (λ t. IsAskable (base_of_data vocabulary.now known.now) t.term)
         (map named_term (map named_term_view terms.now)) }
     ensures { IfOk result (λ p. p ≡ with_all_asked (base_of_data vocabulary.now known.now)
         (map named_term (map named_term_view terms.now))
-        (problem_of_sentences (base_of_data vocabulary.now known.now) (map formula_view sentences.now))) }
+        (define_all (base_of_data vocabulary.now known.now) (theory_view theory.now).definitions
+        (problem_of_sentences (base_of_data vocabulary.now known.now) (theory_view theory.now).sentences))) }
 {
     let base = GroundData::new(alloc, vocabulary, known)?;
-    let mut made = problem_of(alloc, &base, sentences)?;
+    let mut made = problem_of(alloc, &base, theory.sentences.as_slice())?;
+    push_definitions(alloc, &base, theory.definitions.as_slice(), &mut made)?;
     push_terms(alloc, &base, terms, &mut made)?;
     Ok(made)
 }
 
 /// The ground problem of the theory with this number over its data, with a term for each term of the file.
 ///
-/// The theory has no definitions, aggregates and number quantifiers, and is well typed over the domains of
-/// its data, and so are the terms. The bounds of all terms lie from -10^15 to 10^15.
+/// The theory has no aggregates and number quantifiers, and is well typed over the domains of its data, and so are the
+/// terms. The bounds of all terms lie from -10^15 to 10^15.
 pub fn ground(
     alloc: Global,
     kb: &TypedKb,
@@ -119,9 +127,8 @@ pub fn ground(
     if weight_at(kb, theory, known) > WEIGHT_LIMIT {
         return Err(GroundError::TooLarge);
     }
-    let sentences = theory_of(kb, theory).sentences.as_slice();
     let terms = kb.terms.as_slice();
-    match problem(alloc, &kb.vocab, known, sentences, terms) {
+    match problem(alloc, &kb.vocab, known, theory_of(kb, theory), terms) {
         Ok(made) => Ok(made),
         Err(_) => Err(GroundError::Memory),
     }

@@ -1,20 +1,28 @@
-use Rattle.std.proofs.Common.{◌≡◌, map, ap, ◌∙◌}
+use Rattle.std.proofs.Common.{◌≡◌, [], map, ap, sym, subst}
+use Rattle.std.specs.List.{AllByRecursion}
 use Rattle.kb_logic.specs.Bases.{Base}
 use Rattle.kb_logic.specs.Trees.{TheoryTree}
-use Rattle.kb_logic.specs.Views.{formula_view}
+use Rattle.kb_logic.specs.Views.{theory_view}
 use Rattle.reading_stages.specs.FileBases.{base_of_file, named_term}
 use Rattle.type_derivation.specs.TypedViews.{named_term_view, typed_view}
+use Rattle.def_ground.specs.Groundings.{ground_base}
+use Rattle.ground_walk.specs.Groundable.{IsGroundable}
+use Rattle.definition_walk.specs.Steps.{CanBeGround}
 use Rattle.grounder.proofs.Theories.{problem-of-clauses, problem-right, problem-small, problem-in-range}
-use Rattle.grounder.proofs.Theories.{problem-value, theory-groundable, terms-askable}
+use Rattle.grounder.proofs.Theories.{problem-value, theory-groundable, rules-groundable, terms-askable}
 use Rattle.grounder.proofs.problems.ground.Goals as goal
 
 pub problem-requires-clause-fits : goal.problem-requires-clause-fits
 problem-requires-clause-fits c =
     let base : Base = base_of_file (typed_view c.args.kb.now) c.args.theory c.args.known.now in
-    let fs = map formula_view c.as_slice-sentences.result.now in
-    let same : fs ≡ base.theory.sentences = ap (map formula_view) c.as_slice-sentences.ensures
-    ∙ ap (λ (t : TheoryTree). t.sentences) c.theory_of.ensures in
-    theory-groundable base c.requires.typed c.requires.bounded fs same
+    subst (λ (t : TheoryTree). AllByRecursion (λ f. IsGroundable (ground_base base) f []) t.sentences)
+    (sym c.theory_of.ensures) (theory-groundable base c.requires.typed c.requires.bounded)
+
+pub problem-requires-clause-rules : goal.problem-requires-clause-rules
+problem-requires-clause-rules c =
+    let base : Base = base_of_file (typed_view c.args.kb.now) c.args.theory c.args.known.now in
+    subst (λ (t : TheoryTree). AllByRecursion (λ d. AllByRecursion (CanBeGround (ground_base base)) d.rules)
+    t.definitions) (sym c.theory_of.ensures) (rules-groundable base c.requires.typed c.requires.bounded)
 
 pub problem-requires-clause-asked : goal.problem-requires-clause-asked
 problem-requires-clause-asked c =
@@ -24,49 +32,41 @@ problem-requires-clause-asked c =
 pub returns-in-Ok-clause-value : goal.returns-in-Ok-clause-value
 returns-in-Ok-clause-value c =
     let base : Base = base_of_file (typed_view c.args.kb.now) c.args.theory c.args.known.now in
-    let fs = map formula_view c.as_slice-sentences.result.now in
     let ts = map named_term (map named_term_view c.as_slice-terms.result.now) in
-    let same : fs ≡ base.theory.sentences = ap (map formula_view) c.as_slice-sentences.ensures
-    ∙ ap (λ (t : TheoryTree). t.sentences) c.theory_of.ensures in
     let alike : ts ≡ base.terms = ap (λ us. map named_term (map named_term_view us)) c.as_slice-terms.ensures in
-    problem-value base c.requires.typed fs ts same alike c.in-Ok.made c.in-Ok.ensures
+    problem-value base c.requires.typed (theory_view c.theory_of.result.now) ts c.theory_of.ensures alike c.in-Ok.made
+    c.in-Ok.ensures
 
 pub returns-in-Ok-clause-right : goal.returns-in-Ok-clause-right
 returns-in-Ok-clause-right c =
     let base : Base = base_of_file (typed_view c.args.kb.now) c.args.theory c.args.known.now in
-    let fs = map formula_view c.as_slice-sentences.result.now in
     let ts = map named_term (map named_term_view c.as_slice-terms.result.now) in
-    let same : fs ≡ base.theory.sentences = ap (map formula_view) c.as_slice-sentences.ensures
-    ∙ ap (λ (t : TheoryTree). t.sentences) c.theory_of.ensures in
     let alike : ts ≡ base.terms = ap (λ us. map named_term (map named_term_view us)) c.as_slice-terms.ensures in
-    problem-right base c.requires.typed fs ts same alike c.in-Ok.made c.in-Ok.ensures
+    problem-right base c.requires.typed (theory_view c.theory_of.result.now) ts c.theory_of.ensures alike c.in-Ok.made
+    c.in-Ok.ensures
 
 pub returns-in-Ok-clause-small : goal.returns-in-Ok-clause-small
 returns-in-Ok-clause-small c =
     let base : Base = base_of_file (typed_view c.args.kb.now) c.args.theory c.args.known.now in
-    let fs = map formula_view c.as_slice-sentences.result.now in
     let ts = map named_term (map named_term_view c.as_slice-terms.result.now) in
-    let same : fs ≡ base.theory.sentences = ap (map formula_view) c.as_slice-sentences.ensures
-    ∙ ap (λ (t : TheoryTree). t.sentences) c.theory_of.ensures in
     let alike : ts ≡ base.terms = ap (λ us. map named_term (map named_term_view us)) c.as_slice-terms.ensures in
-    problem-small base c.requires.typed fs ts same alike c.in-Ok.made c.in-Ok.ensures
+    problem-small base c.requires.typed (theory_view c.theory_of.result.now) ts c.theory_of.ensures alike c.in-Ok.made
+    c.in-Ok.ensures
 
 pub returns-in-Ok-clause-clauses : goal.returns-in-Ok-clause-clauses
 returns-in-Ok-clause-clauses c =
     let base : Base = base_of_file (typed_view c.args.kb.now) c.args.theory c.args.known.now in
-    let fs = map formula_view c.as_slice-sentences.result.now in
     let ts = map named_term (map named_term_view c.as_slice-terms.result.now) in
-    let same : fs ≡ base.theory.sentences = ap (map formula_view) c.as_slice-sentences.ensures
-    ∙ ap (λ (t : TheoryTree). t.sentences) c.theory_of.ensures in
     let alike : ts ≡ base.terms = ap (λ us. map named_term (map named_term_view us)) c.as_slice-terms.ensures in
-    problem-of-clauses base c.requires.typed fs ts same alike c.in-Ok.made c.in-Ok.ensures
+    problem-of-clauses base c.requires.typed
+    (theory_view c.theory_of.result.now) ts c.theory_of.ensures alike c.in-Ok.made
+    c.in-Ok.ensures
 
 pub returns-in-Ok-clause-range : goal.returns-in-Ok-clause-range
 returns-in-Ok-clause-range c =
     let base : Base = base_of_file (typed_view c.args.kb.now) c.args.theory c.args.known.now in
-    let fs = map formula_view c.as_slice-sentences.result.now in
     let ts = map named_term (map named_term_view c.as_slice-terms.result.now) in
-    let same : fs ≡ base.theory.sentences = ap (map formula_view) c.as_slice-sentences.ensures
-    ∙ ap (λ (t : TheoryTree). t.sentences) c.theory_of.ensures in
     let alike : ts ≡ base.terms = ap (λ us. map named_term (map named_term_view us)) c.as_slice-terms.ensures in
-    problem-in-range base c.requires.typed fs ts same alike c.in-Ok.made c.in-Ok.ensures c.requires.asked
+    problem-in-range base c.requires.typed
+    (theory_view c.theory_of.result.now) ts c.theory_of.ensures alike c.in-Ok.made
+    c.in-Ok.ensures c.requires.asked

@@ -1,0 +1,9 @@
+//! What the ground problem of a theory promises: its definitions by completion, and the whole of it.
+#![tactic(auto)]
+
+mod laws;
+
+pub use laws::{
+    completed_is_model, completion_is_right, definition_is_asserted, few_for_definitions,
+    problem_is_right, problem_is_small, problem_says_clauses, terms_are_in_range,
+};
