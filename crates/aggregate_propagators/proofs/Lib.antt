@@ -3,10 +3,11 @@ mod Bounds
 mod Causes
 mod Attained
 mod Units
-mod Full
+pub mod Full
 mod ListFacts
 mod Deciding
 mod Singles
 mod Spares
 mod Acting
 mod Joined
+mod Variables

@@ -1,5 +1,5 @@
 -- What `implied` is asked.
-use Rattle.std.specs.Prelude.{◌≡◌, ℕ, ◌<◌, Bool, true, Option, Some, None, List, length, All, slice_index_or}
+use Rattle.std.specs.Prelude.{◌≡◌, ◌⊎◌, ℕ, ◌<◌, Bool, true, Option, Some, None, List, length, All, Any, slice_index_or}
 use Rattle.lit_core.specs.declared.literals.Lit.{Lit}
 use Rattle.ground_core.specs.declared.parts.Part.{Part}
 use Rattle.ground_core.specs.declared.parts.AggCon.{AggCon}
@@ -17,6 +17,10 @@ under a (Some l) = changed a l.var.0 l.positive
 -- the assignment is long enough to have every variable of the constraint
 abbrev pub IsWithin : List (Option Bool) → AggCon → Type 0
 IsWithin xs c = (c.out.var.0 < length xs) × All (λ (p : Part). p.lit.var.0 < length xs) c.parts
+
+-- the constraint has the literal's variable
+abbrev pub IsOfSum : Lit → AggCon → Type 0
+IsOfSum l c = (c.out.var.0 ≡ l.var.0) ⊎ Any (λ (p : Part). p.lit.var.0 ≡ l.var.0) c.parts
 
 -- the literal is unassigned, and contradicts the constraint if it is made true
 pub record Decides (a : ℕ → Option Bool) (c : AggCon) (l : Lit) : Type 0 where

@@ -57,7 +57,12 @@ DecidedIsUnit = (a : ℕ → Option Bool) (c : AggCon) (l : Lit) (s : Bool) → 
     → All (λ (m : Lit). (m ≡ record { var = l.var; positive = not s }) ⊎ (known_of a m ≡ Some false))
     (clause_of (changed a l.var.0 s) c)
 
--- where every variable has a value and nothing is contradicted, the constraint holds
+-- each literal of the constraint has a value, which is that under the valuation
+abbrev pub AreDecidedAs : (ℕ → Option Bool) → (ℕ → Bool) → AggCon → Type 0
+AreDecidedAs a v c = (known_of a c.out ≡ Some (literal_value v c.out)) × All
+    (λ (p : Part). known_of a p.lit ≡ Some (literal_value v p.lit)) c.parts
+
+-- where they have values and nothing is contradicted, the constraint holds
 abbrev pub QuietIsEnough : Type 0
-QuietIsEnough = (a : ℕ → Option Bool) (v : ℕ → Bool) (c : AggCon) → ((n : ℕ) → a n ≡ Some (v n))
-    → contradicts a c ≡ false → SumHolds v c
+QuietIsEnough = (a : ℕ → Option Bool) (v : ℕ → Bool) (c : AggCon) → AreDecidedAs a v c → contradicts a c ≡ false
+    → SumHolds v c

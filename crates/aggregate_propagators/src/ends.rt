@@ -61,7 +61,7 @@ fn is_enough(least: Amount, weight: i64) -> bool
 }
 
 /// What a part adds where it counts.
-fn gain_of(kind: AggKind, least: Amount, weight: i64) -> i64
+pub fn gain_of(kind: AggKind, least: Amount, weight: i64) -> i64
     ensures { result ≡ gain kind (amount_of least) weight }
 {
     match kind {

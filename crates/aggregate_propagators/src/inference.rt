@@ -1,10 +1,10 @@
 //! What a constraint implies.
-ghost use Rattle.std.specs.Prelude.{◌≡◌, ◌⊎◌, ◌↔◌, ℕ, Bool, true, IfNone, IfSome, IfOk, IsNone};
+ghost use Rattle.std.specs.Prelude.{◌≡◌, ◌⊎◌, ◌↔◌, ℕ, Bool, true, All, IfNone, IfSome, IfOk, IsNone};
 ghost use Rattle.lit_core.specs.declared.literals.Lit.{Lit as LitRow};
 ghost use Rattle.lit_core.specs.Truth.{IsFalsified, IsSatisfied, IsUnitAt};
 ghost use Rattle.ground_core.specs.Meaning.{SumHolds};
 ghost use Rattle.aggregate_propagators.specs.Intervals.{contradicts, refuting, IsQuiet};
-ghost use Rattle.aggregate_propagators.specs.Implied.{assigned, AreOpen, Decides, IsWithin};
+ghost use Rattle.aggregate_propagators.specs.Implied.{assigned, AreOpen, Decides, IsOfSum, IsWithin};
 ghost use Rattle.aggregate_propagators.specs.Thresholds.{amount_of, constraint_of, IsNear};
 
 use crate::contradictions::contradicted;
@@ -46,6 +46,7 @@ pub fn implied_at(
         l))) }
     ensures alone { IfOk result (λ o. IfSome o (λ cl. contradicts (refuting cl) (constraint_of c parts.now) ≡ true)) }
     ensures none { IfOk result (λ o. IsNone o ↔ IsQuiet (assigned values.now) (constraint_of c parts.now)) }
+    ensures variables { IfOk result (λ o. IfSome o (λ cl. All (λ l. IsOfSum l (constraint_of c parts.now)) cl)) }
 {
     if contradicted(c, parts, values, None) {
         return Ok(Some(clause_from(alloc, c, parts, values, None)?));
@@ -65,6 +66,7 @@ pub fn implied(alloc: Global, c: &AggCon, values: &Assignment) -> Result<Option<
         l))) }
     ensures alone { IfOk result (λ o. IfSome o (λ cl. contradicts (refuting cl) c.now ≡ true)) }
     ensures none { IfOk result (λ o. IsNone o ↔ IsQuiet (assigned values.now) c.now) }
+    ensures variables { IfOk result (λ o. IfSome o (λ cl. All (λ l. IsOfSum l c.now) cl)) }
 {
     implied_at(alloc, threshold_of(c), c.parts.as_slice(), values)
 }

@@ -33,7 +33,7 @@ pub fn decided_is_unit()
     ensures { DecidedIsUnit }
 {}
 
-/// Where every variable has a value, what is not contradicted holds.
+/// Where every literal has a value, what is not contradicted holds.
 pub fn quiet_is_enough()
     ensures { QuietIsEnough }
 {}

@@ -10,10 +10,14 @@ mod rising;
 mod single;
 mod thresholds;
 mod trials;
+mod valuations;
 
+pub use contradictions::goal;
+pub use ends::gain_of;
 pub use inference::{implied, implied_at};
 pub use laws::{
     bound_contradiction_is_sound, contradiction_is_sound, decided_is_unit, ends_are_attained,
     few_reasons_suffice, quiet_is_enough, reaches_by_totals, reasons_suffice,
 };
 pub use thresholds::{Amount, Threshold, threshold_of};
+pub use valuations::is_sum_held;

@@ -14,8 +14,7 @@ use lit_core::{Lit, Values};
 use std::alloc::Global;
 use std::marker::Model;
 
-/// Tries all valuations of a problem of gates, clauses and terms. It learns nothing, and takes time
-/// exponential in the number of variables.
+/// Tries all valuations of a problem. It learns nothing, and takes time exponential in the number of variables.
 #[derive(Drop)]
 pub struct BruteForce {
     alloc: Global,
@@ -40,7 +39,6 @@ impl Model for BruteForce {
 impl BruteForce {
     /// A solver of this problem, whose terms stay in range.
     pub fn new(alloc: Global, problem: Problem) -> Result<BruteForce, Memory>
-        requires sums { problem.sums ≡ [] }
         requires bounds { problem.bounds ≡ [] }
         requires range { HasTermsInRange problem }
         requires retired { problem.retired ≡ [] }

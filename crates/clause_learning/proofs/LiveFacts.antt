@@ -7,13 +7,15 @@ use Rattle.std.specs.List.{list_all, list_any}
 use Rattle.std.proofs.lemmas.Bool.{cases_eq, ne_eqb}
 use Rattle.std.proofs.lemmas.List.{get_or_default}
 use Rattle.std.proofs.lemmas.Option.{get_or_from_slice_get, slice_get_within}
-use Rattle.std.proofs.lemmas.List.Elements.{All-nil, All-contains, All-head, All-tail}
+use Rattle.std.proofs.lemmas.List.Elements.{All-contains, All-head, All-tail}
 use Rattle.std.proofs.lemmas.List.Elements.{Contains-append_cases}
-use Rattle.kb_logic.specs.Denotations.{number}
+use Rattle.kb_logic.specs.declared.syntax.Cmp.TheVariants as cmp
+use Rattle.kb_logic.specs.Denotations.{compared, number}
 use Rattle.lit_core.specs.declared.literals.Lit.{Lit}
 use Rattle.lit_core.specs.Literals.{by_sign, literal_value, negated, valuation}
 use Rattle.lit_core.specs.Truth.{IsSatisfied}
 use Rattle.lit_core.proofs.LiteralFacts.{Contains-cons_cases, Contains-tail, nothing_in_none, same_literal}
+use Rattle.ground_core.specs.declared.parts.AggCon.{AggCon}
 use Rattle.ground_core.specs.declared.parts.Gate.{Gate}
 use Rattle.ground_core.specs.declared.parts.GroundTerm.{GroundTerm}
 use Rattle.ground_core.specs.declared.parts.Part.{Part}
@@ -21,7 +23,7 @@ use Rattle.ground_core.specs.declared.parts.TermBound.{TermBound}
 use Rattle.ground_core.specs.declared.solving.Verdict.TheVariants.{Sat, Unsat}
 use Rattle.ground_core.specs.Problems.{ProblemState}
 use Rattle.ground_core.specs.Meaning.{BoundHolds, GateHolds, MakesTrue, RefutesAll, Satisfies, SumHolds}
-use Rattle.ground_core.specs.Meaning.{joined, parts_value, shifted, term_value, weights_of}
+use Rattle.ground_core.specs.Meaning.{joined, denotation_of_bound, parts_value, shifted, term_value, weights_of}
 use Rattle.ground_core.specs.Growing.{IsApart}
 use Rattle.ground_core.specs.Solving.{Answers, IsSublist}
 use Rattle.ground_core.proofs.Valuations.{with_value, with_value-new}
@@ -79,6 +81,12 @@ module _ (v w : ℕ → Bool) (Here : Lit → Type 0) (same : (l : Lit) → Here
       (same p.lit (All-head (λ (u : Part). Here u.lit) p ps h))
       (weights-same ps (All-tail (λ (u : Part). Here u.lit) p ps h))
 
+  sum-same : (s : AggCon) → Here s.out → All (λ (u : Part). Here u.lit) s.parts → SumHolds v s → SumHolds w s
+  sum-same s out parts h =
+      let e = weights-same s.parts parts in
+      let f : parts_value v s.kind s.parts ≡ parts_value w s.kind s.parts = cc in
+      sym (same s.out out) ∙ h ∙ ap (λ d. compared cmp.Ge d (denotation_of_bound s.least)) f
+
   term-same : (t : GroundTerm) → All (λ (u : Part). Here u.lit) t.parts → term_value v t ≡ term_value w t
   term-same t h = let e = weights-same t.parts h in
       let f : parts_value v t.kind t.parts ≡ parts_value w t.kind t.parts = cc in ap (shifted t.base) f
@@ -123,7 +131,7 @@ raised-in (l ∷ ls) v m has = ⊎_elim
     (cases_eq m.var.0 l.var.0)
 
 -- where the outputs of some live bounds are made true, and the tighter bounds are true
-module _ (p : ProblemState) (more : List Lit) (v : ℕ → Bool) (none : p.sums ≡ [])
+module _ (p : ProblemState) (more : List Lit) (v : ℕ → Bool)
     (outs : (l : Lit) → Contains more l → (b : TermBound) × (b.out ≡ l) × IsLive p b × ((tight : TermBound)
     × Contains p.bounds tight × (literal_value v tight.out ≡ true) × (tight.term ≡ b.term) × ((t : GroundTerm)
     → is_under tight.below (term_value v t) ≡ true → is_under b.below (term_value v t) ≡ true))) where
@@ -192,7 +200,11 @@ module _ (p : ProblemState) (more : List Lit) (v : ℕ → Bool) (none : p.sums 
         (λ j e less l has. let b = outs l has in
         apart-from l (get_or (get_or p.clauses k d) j e) b.0 b.1 (b.2.clauses k d lt j e less))
         (s.clauses k d lt);
-    sums = subst (All (SumHolds w)) (sym none) (All-nil (SumHolds w));
+    sums = λ k d lt. sum-same v w Far same-far (get_or p.sums k d)
+        (λ l has. let b = outs l has in apart-from l (get_or p.sums k d).out b.0 b.1 (b.2.sums k d lt).0)
+        (λ j e less l has. let b = outs l has in
+        apart-from l (get_or (get_or p.sums k d).parts j e).lit b.0 b.1 ((b.2.sums k d lt).1 j e less))
+        (s.sums k d lt);
     bounds = λ k d lt. bound-raised s (get_or p.bounds k d) (k, lt, get_or_itself p.bounds k d lt);
     retired = λ k d lt. sym (same-far (get_or p.retired k d) (λ l has. let b = outs l has in
         apart-from l (get_or p.retired k d) b.0 b.1 (b.2.retired k d lt))) ∙ s.retired k d lt;
@@ -204,11 +216,11 @@ positive-or l m true e f same = inl (same_literal m l (sym same) (e ∙ sym f))
 positive-or l m false e f same = inr (same_literal m (negated l) (sym same) (e ∙ ap not (sym f)))
 
 -- what is left of a core where the outputs of wider bounds are left out
-module _ (p : ProblemState) (live : List TermBound) (assumed more core narrow : List Lit) (none : p.sums ≡ [])
+module _ (p : ProblemState) (live : List TermBound) (assumed more core narrow : List Lit)
     (fine : All (IsLive p) live) (wider : All (IsOutputOfWider live assumed) more)
     (is : IsNarrowed live assumed core narrow) (sub : IsSublist core (assumed ++ more)) where
   pub narrow-refuted : RefutesAll p core → RefutesAll p narrow
-  narrow-refuted refuted v s make = refuted (raised more v) (raised-satisfies p more v none outs s) all-true
+  narrow-refuted refuted v s make = refuted (raised more v) (raised-satisfies p more v outs s) all-true
     where
       of : (l : Lit) → Contains more l → IsOutputOfWider live assumed l
       of l has = All-contains (IsOutputOfWider live assumed) more l wider has
@@ -272,12 +284,12 @@ sat-narrow p assumed more values h = (
   All-front (λ l. literal_value (valuation values) l ≡ true) assumed more h.2,
 )
 
-pub unsat-narrow : (p : ProblemState) (live : List TermBound) (assumed more core narrow : List Lit) → p.sums ≡ []
+pub unsat-narrow : (p : ProblemState) (live : List TermBound) (assumed more core narrow : List Lit)
     → All (IsLive p) live → All (IsOutputOfWider live assumed) more → IsNarrowed live assumed core narrow
     → Answers p (assumed ++ more) (Unsat core) → Answers p assumed (Unsat narrow)
-unsat-narrow p live assumed more core narrow none fine wider is h = (
+unsat-narrow p live assumed more core narrow fine wider is h = (
   is.sublist,
-  narrow-refuted p live assumed more core narrow none fine wider is h.0 h.1,
+  narrow-refuted p live assumed more core narrow fine wider is h.0 h.1,
 )
 
 -- the assumptions that are in a set with the core and all outputs

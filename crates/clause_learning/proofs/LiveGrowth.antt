@@ -44,6 +44,10 @@ module _ (p : ProblemState) (fine : IsProblem p) where
         λ j e less. far (get_or (get_or p.gates k d).parts j e) ((fine.gates k d lt).1 j e less),
       );
       clauses = λ k d lt j e less. far (get_or (get_or p.clauses k d) j e) (fine.clauses k d lt j e less);
+      sums = λ k d lt. (
+        far (get_or p.sums k d).out (fine.sums k d lt).0,
+        λ j e less. far (get_or (get_or p.sums k d).parts j e).lit ((fine.sums k d lt).1 j e less),
+      );
       terms = λ k d lt j e less. far (get_or (get_or p.terms k d).parts j e).lit (fine.terms k d lt j e less);
       bounds = All-push (λ (c : TermBound). c.out.var.0 ≡ p.vars + 1 → c ≡ new_bound p term below) p.bounds
           (new_bound p term below)
@@ -59,6 +63,7 @@ module _ (p : ProblemState) (fine : IsProblem p) where
       atoms = h.atoms;
       gates = h.gates;
       clauses = h.clauses;
+      sums = h.sums;
       terms = h.terms;
       bounds = All-push (λ (c : TermBound). c.out.var.0 ≡ b.out.var.0 → c ≡ b) p.bounds (new_bound p term below)
           h.bounds
@@ -88,6 +93,7 @@ module _ (p : ProblemState) (fine : IsProblem p) where
         omega (arith, low, high, e))
         (falsified_by values (length p.atoms))
         (falsified-lits values (length p.atoms) (length p.atoms) (omega arith))));
+    sums = h.sums;
     terms = h.terms;
     bounds = h.bounds;
     retired = h.retired;
@@ -102,6 +108,7 @@ live-retired p l b other h = record {
   atoms = h.atoms;
   gates = h.gates;
   clauses = h.clauses;
+  sums = h.sums;
   terms = h.terms;
   bounds = h.bounds;
   retired = All-push (IsApart b.out) p.retired l h.retired (λ e. apart-by b.out.var.0 l.var.0 other (sym e));

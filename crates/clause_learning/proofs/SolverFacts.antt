@@ -83,7 +83,6 @@ solver-laws a h =
     let knows : Knows e.problem e.learnt e.ids.items cl = h.resting.engine.knows in
     record {
       kept = kept-laws a h;
-      plain = h.resting.engine.sums;
       implied = λ v sat. all-held (IsSatisfied v) cl (knows.implied v sat);
       said_held = λ c has live. let w = All-contains (λ d. (id : ℕ) × IsHeldAs cl id d × (Contains e.ids.items id → ⊥))
           (clauses_of e.problem) c knows.problem has in (w.1.0, contains-held cl w.0 w.1.0 w.1.1, w.1.2);

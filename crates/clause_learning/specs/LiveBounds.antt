@@ -2,6 +2,7 @@
 use Rattle.std.specs.Prelude.{◌≡◌, ◌<◌, true, not, eqb, List, length, All, Contains, filter}
 use Rattle.lit_core.specs.declared.literals.Lit.{Lit}
 use Rattle.lit_core.specs.Literals.{negated}
+use Rattle.ground_core.specs.declared.parts.AggCon.{AggCon}
 use Rattle.ground_core.specs.declared.parts.Gate.{Gate}
 use Rattle.ground_core.specs.declared.parts.GroundTerm.{GroundTerm}
 use Rattle.ground_core.specs.declared.parts.Part.{Part}
@@ -18,6 +19,7 @@ pub record IsLive (p : ProblemState) (b : TermBound) : Type 0 where
   pub atoms : length p.atoms < b.out.var.0
   pub gates : All (λ (g : Gate). IsApart b.out g.out × All (IsApart b.out) g.parts) p.gates
   pub clauses : All (All (IsApart b.out)) p.clauses
+  pub sums : All (λ (s : AggCon). IsApart b.out s.out × All (λ (u : Part). IsApart b.out u.lit) s.parts) p.sums
   pub terms : All (λ (t : GroundTerm). All (λ (u : Part). IsApart b.out u.lit) t.parts) p.terms
   pub bounds : All (λ (c : TermBound). c.out.var.0 ≡ b.out.var.0 → c ≡ b) p.bounds
   pub retired : All (IsApart b.out) p.retired

@@ -27,8 +27,6 @@ HasClause held c = (k : List Lit) × Contains held k × IsEachOnceOf c k
 -- what holds of this solver while no search is running
 pub record IsSolver (s : SolverState) : Type 0 where
   pub kept : IsKept s.kept
-  -- what is said of sums is not searched yet
-  pub plain : s.kept.problem.sums ≡ []
   -- whatever was assumed: each held clause is true wherever the problem holds
   pub implied : (v : ℕ → Bool) → Satisfies s.kept.problem v → All (IsSatisfied v) s.held
   -- each clause of the problem without a retired selector is held, and each learnt one

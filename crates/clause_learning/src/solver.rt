@@ -19,8 +19,7 @@ use lit_core::{ClauseList, Lit, Values};
 use std::alloc::Global;
 use std::marker::Model;
 
-/// A solver that keeps a problem of gates, clauses and bounds on terms, the clauses that it learnt of it, and the
-/// cores that it found.
+/// A solver that keeps a problem, the clauses that it learnt of it, and the cores that it found.
 ///
 /// It decides what is assumed, each at a level of its own, and then an unassigned ground atom, or where there is none,
 /// one of the other variables: the one that its rule chooses of all of these, listed with their scores in the order of
@@ -63,11 +62,10 @@ impl<C: Choose + Drop> Solver<C> {
         })
     }
 
-    /// Says all that another problem of gates, clauses and terms says, too. It has no sums, since what is said of
-    /// these is not searched yet, and its terms stay in range.
+    /// Says all that another problem says, too, whose terms stay in range. It has no bounds: they are added under
+    /// selectors.
     pub fn add_problem(&mut self, more: &Problem) -> Result<(), Memory>
         requires can { CanJoin self.old.kept.problem more.now }
-        requires sums { more.now.sums ≡ [] }
         requires bounds { more.now.bounds ≡ [] }
         requires range { HasTermsInRange more.now }
         ensures ok { OnOk result (AddsProblem self.old more.now self.new) }

@@ -66,9 +66,6 @@ retired-laws p l h lit = record {
   retired = All-push (IsLitOf p.vars) p.retired l h.retired lit;
 }
 
-none-append : {X : Type 0} (xs ys : List X) → xs ≡ [] → ys ≡ [] → xs ++ ys ≡ []
-none-append xs ys e f = ap (λ zs. zs ++ ys) e ∙ f
-
 -- a bound is one on more terms, too
 bound-more : (m n : ℕ) (terms more : List GroundTerm) → m ≤ n → (b : TermBound) → IsBoundOf m terms b
     → IsBoundOf n (terms ++ more) b
@@ -77,10 +74,7 @@ bound-more m n terms more le b h =
     let lt : b.term < length terms = h.1 in
     (lit-wider m n le b.out h.0, omega (arith, len, lt))
 
-module _ (p q : ProblemState) (sums : p.sums ≡ []) (more-sums : q.sums ≡ []) (more-bounds : q.bounds ≡ []) where
-  pub joined-sums : p.sums ++ q.sums ≡ []
-  joined-sums = none-append p.sums q.sums sums more-sums
-
+module _ (p q : ProblemState) (more-bounds : q.bounds ≡ []) where
   atoms-fit : length p.atoms ≤ p.vars → length q.atoms ≤ q.vars → CanJoin p q → length (p.atoms ++ q.atoms) ≤ q.vars
   atoms-fit a b can =
       let len : length (p.atoms ++ q.atoms) ≡ length p.atoms + length q.atoms = length-append p.atoms q.atoms in
@@ -97,7 +91,8 @@ module _ (p q : ProblemState) (sums : p.sums ≡ []) (more-sums : q.sums ≡ [])
         (gate-wider p.vars q.vars can.vars) p.gates a.gates) b.gates;
     clauses = All-append (AreLitsOf q.vars) p.clauses q.clauses (All-weaker (AreLitsOf p.vars) (AreLitsOf q.vars)
         (lits-wider p.vars q.vars can.vars) p.clauses a.clauses) b.clauses;
-    sums = subst (All (IsSumOf q.vars)) (sym joined-sums) (All-nil (IsSumOf q.vars));
+    sums = All-append (IsSumOf q.vars) p.sums q.sums (All-weaker (IsSumOf p.vars) (IsSumOf q.vars)
+        (sum-wider p.vars q.vars can.vars) p.sums a.sums) b.sums;
     terms = All-append (IsTermOf q.vars) p.terms q.terms (All-weaker (IsTermOf p.vars) (IsTermOf q.vars)
         (term-wider p.vars q.vars can.vars) p.terms a.terms) b.terms;
     bounds = All-append (IsBoundOf q.vars (p.terms ++ q.terms)) p.bounds q.bounds
@@ -108,7 +103,7 @@ module _ (p q : ProblemState) (sums : p.sums ≡ []) (more-sums : q.sums ≡ [])
     retired = lits-wider p.vars q.vars can.vars p.retired a.retired;
   }
 
--- what both say, where the second has no sums and no bounds
+-- what both say, where the second has no bounds
 abbrev pub kept_both : ProblemState → ProblemState → ProblemState
 kept_both p q = record {
   atoms = p.atoms ++ q.atoms;
@@ -116,18 +111,17 @@ kept_both p q = record {
   gates = p.gates ++ q.gates;
   clauses =
       p.clauses ++ q.clauses;
-  sums = p.sums;
+  sums = p.sums ++ q.sums;
   terms = p.terms ++ q.terms;
   bounds = p.bounds;
   retired = p.retired;
 }
 
-pub same-both : (p q : ProblemState) → q.sums ≡ [] → q.bounds ≡ [] → joined_problem p q ≡ kept_both p q
-same-both p q sums bounds =
-    let a : p.sums ++ q.sums ≡ p.sums = ap (λ (xs : List AggCon). p.sums ++ xs) sums ∙ append-nil p.sums in
+pub same-both : (p q : ProblemState) → q.bounds ≡ [] → joined_problem p q ≡ kept_both p q
+same-both p q bounds =
     let b : p.bounds ++ q.bounds ≡ p.bounds = ap (λ (xs : List TermBound). p.bounds ++ xs) bounds
     ∙ append-nil p.bounds in
-    rw (a, b) refl
+    rw b refl
 
 -- of two problems that can be joined one has no atoms
 pub one-has-none : (p q : ProblemState) → IsProblem p → CanJoin p q → (p.atoms ≡ []) ⊎ (q.atoms ≡ [])

@@ -1,18 +1,17 @@
 -- The problem that a solver keeps.
-use Rattle.std.specs.Prelude.{◌≤◌, []}
+use Rattle.std.specs.Prelude.{◌≤◌}
 use Rattle.std.specs.Vec.{vec_capacity}
 use Rattle.ground_core.specs.Problems.{ProblemState, IsProblem}
 use Rattle.kept_problem.specs.declared.kept.KeptProblem.TheInside.{Inside}
 use Rattle.ground_core.specs.Selectors.{AreSelectors}
 
--- constraints on sums are not kept yet
 abbrev pub state_of : Inside → ProblemState
 state_of p = record {
   atoms = p.atoms;
   vars = p.vars;
   gates = p.gates.items;
   clauses = p.clauses;
-  sums = [];
+  sums = p.sums.items;
   terms = p.terms.items;
   bounds = p.bounds.items;
   retired = p.retired.items;

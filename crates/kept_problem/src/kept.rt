@@ -8,20 +8,20 @@ ghost use Rattle.ground_core.specs.Growing.{IsSelector, with_retired};
 ghost use Rattle.kept_problem.specs.Joining.{CanJoin, joined_problem, with_selected};
 ghost use Rattle.ground_core.specs.Selectors.{AreSelectors};
 
-use ground_core::{AtomTable, Gate, GroundTerm, Memory, Moment, Problem, TermBound};
+use ground_core::{AggCon, AtomTable, Gate, GroundTerm, Memory, Moment, Problem, TermBound};
 use kb_logic::{ExtInt, ListOf, LiteralList};
 use lit_core::{ClauseList, Lit, PackedLit, Var};
 use std::alloc::Global;
 use std::marker::Model;
 
-/// A problem of gates, clauses and bounds on terms, to which others are joined, and the selectors that are false for
-/// good.
+/// A problem, to which others are joined, and the selectors that are false for good.
 #[derive(Drop)]
 pub struct KeptProblem {
     atoms: AtomTable,
     vars: u64,
     gates: Vec<Gate>,
     clauses: ClauseList,
+    sums: Vec<AggCon>,
     terms: Vec<GroundTerm>,
     bounds: Vec<TermBound>,
     /// Selectors that are retired, with room for every variable, so that retiring takes no memory.
@@ -79,6 +79,27 @@ fn copied_gates(alloc: Global, gates: &[Gate]) -> Result<Vec<Gate>, Memory>
     Ok(copies)
 }
 
+fn copied_sum(alloc: Global, sum: &AggCon) -> Result<AggCon, Memory>
+    ensures { IfOk result (λ copy. copy ≡ sum.now) }
+{
+    Ok(AggCon {
+        out: sum.out,
+        kind: sum.kind,
+        parts: ListOf::from_vec(Vec::from_slice(alloc, sum.parts.as_slice())?),
+        least: sum.least,
+    })
+}
+
+fn copied_sums(alloc: Global, sums: &[AggCon]) -> Result<Vec<AggCon>, Memory>
+    ensures { IfOk result (λ copies. copies.items ≡ sums.now) }
+{
+    let mut copies = Vec::new(alloc);
+    for sum in sums {
+        copies.push(copied_sum(alloc, sum)?)?;
+    }
+    Ok(copies)
+}
+
 fn copied_term(alloc: Global, term: &GroundTerm) -> Result<GroundTerm, Memory>
     ensures { IfOk result (λ copy. copy ≡ term.now) }
 {
@@ -122,6 +143,7 @@ impl KeptProblem {
             vars: 0,
             gates: Vec::new(alloc),
             clauses: ClauseList::new(alloc),
+            sums: Vec::new(alloc),
             terms: Vec::new(alloc),
             bounds: Vec::new(alloc),
             retired: Vec::new(alloc),
@@ -132,7 +154,6 @@ impl KeptProblem {
     pub fn vars(&self) -> u64
         ensures value { result ≡ self.now.vars }
         ensures laws { IsProblem self.now }
-        ensures sums { self.now.sums ≡ [] }
         ensures retired { AreSelectors self.now.retired }
     {
         self.vars
@@ -146,7 +167,7 @@ impl KeptProblem {
             vars: self.vars,
             gates: self.gates.len() as u64,
             clauses: self.clauses.len() as u64,
-            sums: 0,
+            sums: self.sums.len() as u64,
             bounds: self.bounds.len() as u64,
             retired: self.retired.len() as u64,
         }
@@ -174,6 +195,14 @@ impl KeptProblem {
             Some(lits) => lits,
             None => &[],
         }
+    }
+
+    /// The constraints on sums in order.
+    pub fn sums(&self) -> &[AggCon]
+        ensures value { result.now ≡ self.now.sums }
+        ensures laws { IsProblem self.now }
+    {
+        self.sums.as_slice()
     }
 
     /// The terms in order.
@@ -256,20 +285,22 @@ impl KeptProblem {
     /// Says all that another problem says, too.
     pub fn join(&mut self, alloc: Global, more: &Problem) -> Result<(), Memory>
         requires can { CanJoin self.old more.now }
-        requires sums { more.now.sums ≡ [] }
         requires bounds { more.now.bounds ≡ [] }
         ensures ok { OnOk result (self.new ≡ joined_problem self.old more.now) }
         ensures err { OnErr result (self.new ≡ self.old) }
     {
         let atoms = joined_atoms(alloc, &self.atoms, more.atoms())?;
         let gates = copied_gates(alloc, more.gates())?;
+        let sums = copied_sums(alloc, more.sums())?;
         let terms = copied_terms(alloc, more.terms())?;
         self.gates.reserve(gates.len())?;
+        self.sums.reserve(sums.len())?;
         self.terms.reserve(terms.len())?;
         self.retired.reserve(more.vars() as usize)?;
         self.clauses.append(more.clauses())?;
         self.atoms = atoms;
         append_reserved(&mut self.gates, gates);
+        append_reserved(&mut self.sums, sums);
         append_reserved(&mut self.terms, terms);
         self.vars = more.vars();
         Ok(())

@@ -12,15 +12,19 @@ use Rattle.lit_core.specs.Truth.{IsSatisfied, IsSettled}
 use Rattle.clause_store.specs.StoreState.{IsMadeBefore, IsQuiet}
 use Rattle.conflict_analysis.specs.declared.refutations.Refuted.{Refuted}
 use Rattle.conflict_analysis.specs.Analyses.{IsRefuted, IsDecided}
-use Rattle.ground_core.specs.Problems.{ProblemState, IsProblem, IsLitOf, AreLitsOf}
-use Rattle.ground_core.specs.Meaning.{Satisfies, MakesTrue, RefutesAll, AreAllFalse}
+use Rattle.ground_core.specs.declared.parts.AggCon.{AggCon}
+use Rattle.ground_core.specs.Problems.{ProblemState, IsProblem, IsLitOf, IsSumOf, AreLitsOf}
+use Rattle.ground_core.specs.Meaning.{Satisfies, SumHolds, MakesTrue, RefutesAll, AreAllFalse}
 use Rattle.ground_core.specs.GateClauses.{clauses_of}
 use Rattle.ground_core.proofs.Whole.{satisfies-by-clauses}
 use Rattle.search_engine.specs.declared.engine.Engine.{Engine}
 use Rattle.search_engine.specs.Knowledge.{IsHeldAs}
 use Rattle.term_bounds.specs.Breaking.{HasLits}
 use Rattle.term_bounds.specs.Shares.{IsDecidedAs}
-use Rattle.search_engine.specs.Searching.{AreAssumed, AreClosed, AreTrue, GivesValues, HoldsWhereDecided, IsSearch}
+use Rattle.aggregate_propagators.specs.Implied.{assigned}
+use Rattle.aggregate_propagators.proofs.Full.{quiet-is-enough}
+use Rattle.search_engine.specs.Searching.{AreAssumed, AreClosed, AreQuietSums, AreTrue, GivesValues}
+use Rattle.search_engine.specs.Searching.{HoldsWhereDecided, IsSearch}
 use Rattle.search_engine.proofs.LearnFacts.{closed-true}
 use Rattle.search_engine.proofs.Known.{once-satisfied-back}
 use Rattle.search_engine.proofs.Roots.{not-both, follows-satisfied}
@@ -109,7 +113,8 @@ module _ (a : List (Option Bool)) (values : List Bool) (n : ℕ) (given : GivesV
 
 -- where nothing is left to propagate and all variables have values, these satisfy the problem and what is true
 module _ (e : Engine) (h : IsSearch e) (quiet : IsQuiet e.store) (values : List Bool)
-    (given : GivesValues e.store.trail.values (e.problem.vars + 1) values) (bounds : HoldsWhereDecided e) where
+    (given : GivesValues e.store.trail.values (e.problem.vars + 1) values) (sums : AreQuietSums e)
+    (bounds : HoldsWhereDecided e) where
   -- so do retired selectors
   off-given : (l : Lit) → Contains e.problem.retired l → literal_value (valuation values) l ≡ false
   off-given l gone =
@@ -128,21 +133,21 @@ module _ (e : Engine) (h : IsSearch e) (quiet : IsQuiet e.store) (values : List 
   retired-false = All-weaker (Contains e.problem.retired) (λ l. literal_value (valuation values) l ≡ false) off-given
       e.problem.retired (All-contains_itself e.problem.retired)
 
-  -- the problem without its bounds
+  -- the problem without its sums and bounds
   abbrev bare : ProblemState
   bare = record {
     atoms = e.problem.atoms;
     vars = e.problem.vars;
     gates = e.problem.gates;
     clauses = e.problem.clauses;
-    sums = e.problem.sums;
+    sums = [];
     terms = e.problem.terms;
     bounds = [];
     retired = e.problem.retired;
   }
 
   bare-satisfied : Satisfies bare (valuation values)
-  bare-satisfied = satisfies-by-clauses bare (valuation values) h.engine.sums refl
+  bare-satisfied = satisfies-by-clauses bare (valuation values) refl refl
       (All-weaker (λ c. (id : ℕ) × IsHeldAs e.store.clauses id c × (Contains e.ids.items id → ⊥))
       (IsSatisfied (valuation values))
       (λ c w. once-satisfied-back (valuation values) c w.1.0 w.1.2
@@ -160,11 +165,21 @@ module _ (e : Engine) (h : IsSearch e) (quiet : IsQuiet e.store) (values : List 
             (fine.bounds k d lt).0),
       )
 
+  sums-hold : All (SumHolds (valuation values)) e.problem.sums
+  sums-hold k d lt =
+      let s : AggCon = get_or e.problem.sums k d in
+      let of : IsSumOf e.problem.vars s = h.engine.problem.sums k d lt in
+      quiet-is-enough (assigned e.store.trail.values) (valuation values) s (
+        value-given e.store.trail.values values e.problem.vars given s.out of.0,
+        λ j t less. value-given e.store.trail.values values e.problem.vars given (get_or s.parts j t).lit
+            (of.1 j t less),
+      ) (sums k d lt).fine
+
   pub values-satisfy : Satisfies e.problem (valuation values)
   values-satisfy = record {
     gates = bare-satisfied.gates;
     clauses = bare-satisfied.clauses;
-    sums = bare-satisfied.sums;
+    sums = sums-hold;
     bounds = bounds (valuation values) all-decided;
     retired = retired-false;
   }

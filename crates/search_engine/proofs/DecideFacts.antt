@@ -13,6 +13,7 @@ use Rattle.clause_store.specs.TrailLaws.{IsCoherent, IsMade, IsTrail, with_step}
 use Rattle.clause_store.specs.StoreState.{StoreState, IsStore, IsMadeBefore, with_trail}
 use Rattle.clause_store.proofs.ListFacts.{slice_get-push_cases}
 use Rattle.ground_core.specs.Problems.{ProblemState, IsLitOf}
+use Rattle.sum_ledger.specs.declared.ledger.Ledger.{Ledger}
 use Rattle.search_engine.specs.declared.engine.Engine.{Engine}
 use Rattle.search_engine.specs.Potential.{implied_of, Ahead}
 use Rattle.search_engine.specs.Searching.{IsOrderly, AreTrue, IsSearch, IsTurn, AheadAt, paid_of}
@@ -79,6 +80,27 @@ with_store e s = record {
   ids = e.ids;
   moments = e.moments;
   decider = e.decider;
+  ledger = e.ledger;
+  searches = e.searches;
+  known = e.known;
+  conflicts = e.conflicts;
+  root_conflicts = e.root_conflicts;
+  assumed = e.assumed;
+  closed = e.closed;
+  base = e.base;
+}
+
+-- the search with another ledger
+abbrev pub with_ledger : Engine → Ledger → Engine
+with_ledger e l = record {
+  alloc = e.alloc;
+  problem = e.problem;
+  store = e.store;
+  learnt = e.learnt;
+  ids = e.ids;
+  moments = e.moments;
+  decider = e.decider;
+  ledger = l;
   searches = e.searches;
   known = e.known;
   conflicts = e.conflicts;

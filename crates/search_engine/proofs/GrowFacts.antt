@@ -23,7 +23,7 @@ use Rattle.kept_problem.specs.Joining.{CanJoin, joined_problem, with_selected}
 use Rattle.ground_core.specs.GateClauses.{clauses_of}
 use Rattle.search_engine.specs.Knowledge.{IsHeldAs, Knows, Pushes, RemovesAll, RemovesFrom}
 use Rattle.search_engine.specs.Resting.{IsResting, SameLists, SameSearches, held_of}
-use Rattle.kept_problem.proofs.JoinLaws.{retired-laws, joined-laws, joined-sums, lit-wider, selected-laws}
+use Rattle.kept_problem.proofs.JoinLaws.{retired-laws, joined-laws, lit-wider, selected-laws}
 use Rattle.search_engine.specs.Searching.{AreClosed, IsOrderly}
 use Rattle.search_engine.proofs.LearntLists.{learnt-joined, learnt-none, learnt-selected, learnt-retired}
 use Rattle.kept_problem.proofs.Prefixes.{take-next}
@@ -128,11 +128,11 @@ orderly-none vars steps none = record {
 
 -- another problem was joined, and its clauses are held
 pub resting-joined : (e f : Engine) (q : ProblemState) → IsResting e → e.store.trail.steps ≡ [] → CanJoin e.problem q
-    → q.sums ≡ [] → q.bounds ≡ [] → IsProblem q → Pushes e.store.clauses f.store.clauses (clauses_of q)
+    → q.bounds ≡ [] → IsProblem q → Pushes e.store.clauses f.store.clauses (clauses_of q)
     → f.store.trail ≡ e.store.trail → IsStore f.store → q.vars < length e.store.trail.values → f.learnt ≡ e.learnt
     → f.ids ≡ e.ids → f.closed ≡ e.closed → f.moments ≡ e.moments → f.conflicts ≡ e.conflicts
     → f.root_conflicts ≡ e.root_conflicts → f.problem ≡ joined_problem e.problem q → IsResting f
-resting-joined e f q h cleared can sums bounds laws pushed trail store sized learnt ids closed moments conflicts
+resting-joined e f q h cleared can bounds laws pushed trail store sized learnt ids closed moments conflicts
     root problem =
     let le : e.problem.vars ≤ q.vars = can.vars in
     let up : 2 ^ e.problem.vars ≤ 2 ^ q.vars = pow-le e.problem.vars q.vars le in
@@ -141,13 +141,12 @@ resting-joined e f q h cleared can sums bounds laws pushed trail store sized lea
     let longer : q.vars < length f.store.trail.values = subst (λ (t : TrailState). q.vars < length t.values)
     (sym trail) sized in
     let knows : Knows (joined_problem e.problem q) e.learnt e.ids.items f.store.clauses =
-    known-added e.problem q e.learnt e.ids.items e.store.clauses f.store.clauses h.engine.knows pushed h.engine.sums
-    h.engine.problem sums bounds can laws in
+    known-added e.problem q e.learnt e.ids.items e.store.clauses f.store.clauses h.engine.knows pushed
+    h.engine.problem bounds can laws in
     record {
       engine = record {
-        problem = subst IsProblem (sym problem) (joined-laws e.problem q h.engine.sums sums bounds
+        problem = subst IsProblem (sym problem) (joined-laws e.problem q bounds
             h.engine.problem laws can);
-        sums = ap (λ (p : ProblemState). p.sums) problem ∙ joined-sums e.problem q h.engine.sums sums bounds;
         within = rw closed (subst (λ (p : ProblemState). e.closed ≤ length p.retired) (sym problem) h.engine.within);
         closed = rw (closed, ids) (subst (λ (p : ProblemState). AreClosed f.store.clauses e.ids.items
             (take e.closed p.retired)) (sym problem) (closed-later e.store.clauses f.store.clauses e.ids.items
@@ -179,7 +178,6 @@ resting-back e f mid h front removed steps level store sized problem learnt ids 
     record {
       engine = record {
         problem = rw problem h.engine.problem;
-        sums = rw problem h.engine.sums;
         within = rw (problem, closed) h.engine.within;
         closed = rw (problem, closed, ids) (closed-same e.store.clauses f.store.clauses e.ids.items e.ids.items
             (take e.closed e.problem.retired) (λ id k at not. removed-there e.store.clauses mid f.store.clauses front
@@ -206,7 +204,6 @@ resting-forgets e f h removed steps level size store problem learnt ids closed m
     record {
       engine = record {
         problem = rw problem h.engine.problem;
-        sums = rw problem h.engine.sums;
         within = rw (problem, closed) h.engine.within;
         closed = rw (problem, closed, ids) (closed-same e.store.clauses f.store.clauses e.ids.items []
             (take e.closed e.problem.retired) removed.there (λ id has. absurd (nothing_in_none id has))
@@ -229,7 +226,6 @@ pub resting-moves : (e f : Engine) → IsResting e → SameLists e f → f.probl
 resting-moves e f h same problem clauses orderly level store sized = record {
   engine = record {
     problem = rw problem h.engine.problem;
-    sums = rw problem h.engine.sums;
     within = rw (problem, same.closed) h.engine.within;
     closed = rw (problem, same.closed, same.ids, clauses) h.engine.closed;
     learnt = rw (problem, same.same.learnt, same.same.moments) h.engine.learnt;
@@ -283,7 +279,6 @@ resting-selected e f c k h same lits once clauses trail store sized problem =
     record {
       engine = record {
         problem = subst IsProblem (sym problem) (selected-laws e.problem c h.engine.problem lits);
-        sums = ap (λ (p : ProblemState). p.sums) problem ∙ h.engine.sums;
         within = rw same.closed (subst (λ (p : ProblemState). e.closed ≤ length p.retired)
             (sym problem) h.engine.within);
         closed = rw (same.closed, same.ids, clauses) (subst (λ (p : ProblemState).
@@ -319,7 +314,6 @@ resting-retired e f l h same lit store problem =
     record {
       engine = record {
         problem = subst IsProblem (sym problem) (retired-laws e.problem l h.engine.problem lit);
-        sums = ap (λ (p : ProblemState). p.sums) problem ∙ h.engine.sums;
         within = rw same.closed (subst (λ (p : ProblemState). e.closed ≤ length p.retired) (sym problem) within);
         closed = rw (same.closed, same.ids, store) (subst (λ (p : ProblemState). AreClosed e.store.clauses e.ids.items
             (take e.closed p.retired)) (sym problem) closed);
@@ -366,7 +360,6 @@ resting-closed e f l k h at once clauses trail store problem ids same closed =
     record {
       engine = record {
         problem = rw problem h.engine.problem;
-        sums = rw problem h.engine.sums;
         within = rw (problem, closed) (omega (arith, lt));
         closed = rw (problem, closed, ids, clauses) (subst (All P) (sym next) all);
         learnt = rw (problem, same.learnt, same.moments) h.engine.learnt;

@@ -57,17 +57,12 @@ module _ (p q : ProblemState) (fine : IsProblem p) (more-bounds : q.bounds ≡ [
 any-front : {X : Type 0} (P : X → Type 0) (xs ys : List X) → Any P xs → Any P (xs ++ ys)
 any-front P xs ys w = let has = Contains-append_left xs ys w.1 (w.0, w.2, w.3) in (has.0, w.1, has.1, has.2, w.4)
 
--- there is none among no items
-any-none : {X : Type 0} (P : X → Type 0) (xs : List X) → xs ≡ [] → Any P xs → ⊥
-any-none P xs none w = let lt : w.0 < length xs = w.2 in let len : length xs ≡ 0 = ap length none in
-    omega (arith, lt, len)
-
 -- a constraint of the first is one of both
-pub joined-constraint : (p q : ProblemState) → p.sums ≡ [] → IsProblem p → (k : List Lit) → IsOfConstraint p k
+pub joined-constraint : (p q : ProblemState) → IsProblem p → (k : List Lit) → IsOfConstraint p k
     → IsOfConstraint (joined_problem p q) k
-joined-constraint p q sums fine k way = ⊎_elim
+joined-constraint p q fine k way = ⊎_elim
     (λ (w : Any (λ s. (v : ℕ → Bool) → SumHolds v s → IsSatisfied v k) p.sums).
-    absurd (any-none (λ s. (v : ℕ → Bool) → SumHolds v s → IsSatisfied v k) p.sums sums w))
+    inl (any-front (λ s. (v : ℕ → Bool) → SumHolds v s → IsSatisfied v k) p.sums q.sums w))
     (λ (r : Any (λ b. (v : ℕ → Bool) → BoundHolds v p.terms b → IsSatisfied v k) p.bounds ⊎ Any (λ l. (v : ℕ → Bool)
     → literal_value v l ≡ false → IsSatisfied v k) p.retired). inr (⊎_elim
     (λ (w : Any (λ b. (v : ℕ → Bool) → BoundHolds v p.terms b → IsSatisfied v k) p.bounds).

@@ -78,8 +78,8 @@ zip-push cl (i ∷ ids) (d ∷ cs) id c z h = (z.0, zip-push cl ids cs id c z.1 
 
 -- the clauses of another problem were pushed
 module _ (p q : ProblemState) (learnt : List (List Lit)) (ids : List ℕ) (cl new : List (Option (List Lit)))
-    (h : Knows p learnt ids cl) (pushed : Pushes cl new (clauses_of q)) (sums : p.sums ≡ []) (fine : IsProblem p)
-    (more-sums : q.sums ≡ []) (more-bounds : q.bounds ≡ []) (can : CanJoin p q) (laws : IsProblem q) where
+    (h : Knows p learnt ids cl) (pushed : Pushes cl new (clauses_of q)) (fine : IsProblem p)
+    (more-bounds : q.bounds ≡ []) (can : CanJoin p q) (laws : IsProblem q) where
   abbrev both : ProblemState
   both = joined_problem p q
 
@@ -103,7 +103,7 @@ module _ (p q : ProblemState) (learnt : List (List Lit)) (ids : List ℕ) (cl ne
       → Contains ids id ⊎ (IsOneOf (clauses_of both) k ⊎ IsOfConstraint both k)
   added-from id k e = ⊎_elim
       (λ lt. ⊎_elim (λ has. inl has) (λ way. inr (⊎_elim (λ w. inl (w.0, joined-has-first p q w.0 w.1, w.2))
-      (λ w. inr (joined-constraint p q sums fine k w)) way)) (h.from id k
+      (λ w. inr (joined-constraint p q fine k w)) way)) (h.from id k
       (front-back cl new pushed.front id (Some k) lt e)))
       (λ ge. let w = pushed.from id k ge e in inr (inl (w.0, joined-has-second p q w.0 w.1, w.2)))
       (cases_lt id (length cl))

@@ -82,7 +82,6 @@ module _ (e f : Engine) (h : IsSearch e) (quiet : IsQuiet e.store) (lits held : 
   learnt-engine : IsEngine f
   learnt-engine = record {
     problem = rw problem h.engine.problem;
-    sums = rw problem h.engine.sums;
     within = rw (problem, closed) h.engine.within;
     closed = rw (problem, closed, ids, clauses) (closed-learnt e.store.clauses held e.ids.items
         (take e.closed e.problem.retired) h.engine.closed);

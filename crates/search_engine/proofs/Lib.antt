@@ -21,3 +21,5 @@ pub mod TurnFacts
 pub mod GrowFacts
 pub mod Removed
 pub mod BoundFacts
+pub mod Explained
+pub mod SumFacts

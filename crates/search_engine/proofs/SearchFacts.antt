@@ -89,7 +89,6 @@ continues-trans e f g a b = record {
 pub engine-moves : (e f : Engine) → Moves e f → IsStore f.store → IsEngine e → IsEngine f
 engine-moves e f m laws h = record {
   problem = subst IsProblem (sym m.problem) h.problem;
-  sums = ap (λ (p : ProblemState). p.sums) m.problem ∙ h.sums;
   within = rw (m.problem, m.closed) h.within;
   closed = rw (m.problem, m.closed, m.ids, m.clauses) h.closed;
   learnt = rw (m.problem, m.learnt, m.moments) h.learnt;
@@ -130,7 +129,6 @@ pub search-spare : (e f : Engine) → f.problem ≡ e.problem → f.learnt ≡ e
 search-spare e f problem learnt ids moments known closed base conflicts root clauses trail laws h = record {
   engine = record {
     problem = rw problem h.engine.problem;
-    sums = rw problem h.engine.sums;
     within = rw (problem, closed) h.engine.within;
     closed = rw (problem, closed, ids, clauses) h.engine.closed;
     learnt = rw (problem, learnt, moments) h.engine.learnt;

@@ -113,6 +113,25 @@ decide-ahead v p c goal room fits a =
       gone = omega (arith, g, split, some);
     }
 
+-- a literal that follows where none had to
+pub step-ahead : (v : ℕ) (p : List Bool) (c goal room : ℕ) → length (p ++ true ∷ []) + room ≡ v → Ahead v p c goal
+    → Ahead v (p ++ true ∷ []) c (goal + 1)
+step-ahead v p c goal room fits a =
+    let g : goal ≤ progress v p = a.gone in
+    let h : c ≤ potential v p = a.paid in
+    let len : length (p ++ true ∷ []) ≡ length p + 1 = length-append p (true ∷ []) in
+    let at : length p + suc room ≡ v = omega (arith, len, fits) in
+    let more : potential v p ≤ potential v (p ++ true ∷ []) = grows v p (true ∷ []) a.room a.fits in
+    let split : progress v (p ++ true ∷ []) ≡ progress v p + (2 * 3 ^ room + 0) = progress-append v p (true ∷ [])
+    (suc room) at in
+    let some : 0 < 3 ^ room = positive room in
+    record {
+      room = room;
+      fits = fits;
+      paid = omega (arith, h, more);
+      gone = omega (arith, g, split, some);
+    }
+
 -- a lower goal
 pub lower-ahead : (v : ℕ) (p : List Bool) (c low goal : ℕ) → low ≤ goal → Ahead v p c goal → Ahead v p c low
 lower-ahead v p c low goal le a = record {

@@ -6,13 +6,13 @@ use Rattle.lit_core.specs.declared.literals.Lit.{Lit}
 use Rattle.lit_core.specs.Literals.{literal_value, negated}
 use Rattle.lit_core.specs.Truth.{IsSatisfied}
 use Rattle.clause_store.specs.StoreState.{IsEachOnceOf}
-use Rattle.ground_core.specs.declared.parts.AggCon.{AggCon}
 use Rattle.ground_core.specs.declared.parts.GroundTerm.{GroundTerm}
 use Rattle.ground_core.specs.declared.parts.Part.{Part}
 use Rattle.ground_core.specs.declared.parts.TermBound.{TermBound}
 use Rattle.ground_core.specs.Problems.{ProblemState, AreLitsOf}
 use Rattle.ground_core.specs.Meaning.{Satisfies, SumHolds, BoundHolds}
 use Rattle.ground_core.specs.GateClauses.{clauses_of}
+pub use Rattle.aggregate_propagators.specs.Implied.{IsOfSum}
 
 -- the clause with this number has the literals of c, each once
 abbrev pub IsHeldAs : List (Option (List Lit)) → ℕ → List Lit → Type 0
@@ -28,10 +28,6 @@ IsOfConstraint p k =
     Any (λ s. (v : ℕ → Bool) → SumHolds v s → IsSatisfied v k) p.sums
     ⊎ (Any (λ b. (v : ℕ → Bool) → BoundHolds v p.terms b → IsSatisfied v k) p.bounds ⊎ Any (λ l. (v : ℕ → Bool)
     → literal_value v l ≡ false → IsSatisfied v k) p.retired)
-
--- the constraint has the literal's variable
-abbrev pub IsOfSum : Lit → AggCon → Type 0
-IsOfSum l s = (s.out.var.0 ≡ l.var.0) ⊎ Any (λ (t : Part). t.lit.var.0 ≡ l.var.0) s.parts
 
 -- a sum, a bound or a term of the problem has the literal's variable, or it is the negation of a retired selector
 abbrev pub IsConstrained : ProblemState → Lit → Type 0

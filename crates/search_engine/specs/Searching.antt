@@ -7,7 +7,7 @@ use Rattle.lit_core.specs.Literals.{value_in, valuation, negated}
 use Rattle.clause_store.specs.declared.trails.Step.{Step}
 use Rattle.clause_store.specs.StoreState.{StoreState, IsStore, IsHeld, IsMadeBefore, IsConflict, IsQuiet}
 use Rattle.conflict_analysis.specs.Analyses.{IsFalseSince, IsFalseUpTo}
-use Rattle.ground_core.specs.Problems.{IsProblem, IsLitOf, AreLitsOf}
+use Rattle.ground_core.specs.Problems.{ProblemState, IsProblem, IsLitOf, AreLitsOf}
 use Rattle.ground_core.specs.Meaning.{BoundHolds, RefutesAll}
 use Rattle.ground_core.specs.declared.solving.Verdict.{Verdict}
 use Rattle.ground_core.specs.declared.solving.Halt.{Halt}
@@ -16,12 +16,14 @@ use Rattle.ground_core.specs.Moments.{moment_of}
 use Rattle.ground_core.specs.Solving.{Entails, Answers, IsLearnt, counted}
 use Rattle.term_bounds.specs.Breaking.{HasLits}
 use Rattle.term_bounds.specs.Shares.{IsDecidedAs}
+use Rattle.aggregate_propagators.specs.Intervals.{IsQuiet as IsQuietSum}
+use Rattle.aggregate_propagators.specs.Implied.{assigned}
 use Rattle.search_engine.specs.declared.engine.Engine.{Engine}
 use Rattle.search_engine.specs.declared.engine.Turn.{Turn}
 use Rattle.search_engine.specs.declared.searching.Outcome.{Outcome}
 use Rattle.search_engine.specs.declared.searching.Outcome.TheVariants.{Answered, Further, Open, Spent}
 use Rattle.search_engine.specs.declared.engine.Turn.TheVariants.{Refuted, Conflict, Follows}
-use Rattle.search_engine.specs.Knowledge.{IsHeldAs, Knows, Occurs}
+use Rattle.search_engine.specs.Knowledge.{IsHeldAs, IsOfConstraint, Knows, Occurs}
 use Rattle.search_engine.specs.Potential.{potential, implied_of, Ahead, Behind, Stands}
 
 -- each step names a variable of the problem, and each without a clause is a decision
@@ -54,7 +56,6 @@ AreClosed clauses ids ls = All (λ l. (id : ℕ) × IsHeldAs clauses id (negated
 -- what holds whatever is on the trail
 pub record IsEngine (e : Engine) : Type 0 where
   pub problem : IsProblem e.problem
-  pub sums : e.problem.sums ≡ []
   pub within : e.closed ≤ length e.problem.retired
   -- the first retired selectors
   pub closed : AreClosed e.store.clauses e.ids.items (take e.closed e.problem.retired)
@@ -161,6 +162,16 @@ SettleGives old new false = (new.root_conflicts ≡ 1) × RefutesAll old.problem
 pub record GivesValues (assigned : List (Option Bool)) (end : ℕ) (values : List Bool) : Type 0 where
   pub size : length values ≡ end
   pub same : (k : ℕ) → 1 ≤ k → k < end → slice_index_or assigned k None ≡ Some (valuation values k)
+
+-- one constraint of the problem implies the clause, which is of the problem's variables and of literals that occur
+pub record IsExplained (p : ProblemState) (c : List Lit) : Type 0 where
+  pub within : AreLitsOf p.vars c
+  pub occurs : All (Occurs p) c
+  pub constraint : IsOfConstraint p c
+
+-- no value of a variable alone contradicts a constraint on sums
+abbrev pub AreQuietSums : Engine → Type 0
+AreQuietSums e = All (IsQuietSum (assigned e.store.trail.values)) e.problem.sums
 
 -- where every variable of terms and bounds has a value, the bounds hold
 abbrev pub HoldsWhereDecided : Engine → Type 0

@@ -13,6 +13,7 @@ use kept_problem::KeptProblem;
 use lit_core::{ClauseList, Lit};
 use search_decisions::Decider;
 use std::alloc::Global;
+use sum_ledger::Ledger;
 
 /// What became of a conflict.
 #[derive(Clone, Copy, PartialEq, Eq)]
@@ -37,6 +38,8 @@ pub struct Engine {
     /// The numbers of the learnt clauses in the store.
     pub ids: Vec<u64>,
     pub decider: Decider,
+    /// Which constraints on sums are asked.
+    pub ledger: Ledger,
     /// How many searches were begun.
     pub searches: u64,
     /// How many clauses had been learnt when the search began.
@@ -78,10 +81,12 @@ impl Engine {
         }
         self.decider.raise(self.store.lend(conflict));
         self.decider.takes_back(&self.store, level);
+        self.ledger.take_back(&self.store, level);
         self.store.back_to(level);
         let analysis = analyse(self.alloc, &self.store, conflict)?;
         self.conflicts = self.conflicts.saturating_add(1);
         self.decider.takes_back(&self.store, analysis.level);
+        self.ledger.take_back(&self.store, analysis.level);
         self.store.back_to(analysis.level);
         Ok(Some(analysis.clause))
     }

@@ -17,6 +17,7 @@ use kept_problem::KeptProblem;
 use lit_core::{ClauseList, Lit, Values, Var};
 use search_decisions::Decider;
 use std::alloc::Global;
+use sum_ledger::Ledger;
 
 impl Engine {
     /// No variables, and nothing said.
@@ -34,6 +35,7 @@ impl Engine {
             moments: Vec::new(alloc),
             ids: Vec::new(alloc),
             decider: Decider::new(alloc),
+            ledger: Ledger::new(alloc),
             searches: 0,
             known: 0,
             conflicts: 0,
@@ -49,7 +51,6 @@ impl Engine {
         requires resting { IsResting self.old }
         requires cleared { self.old.store.trail.steps ≡ [] }
         requires can { CanJoin self.old.problem more.now }
-        requires sums { more.now.sums ≡ [] }
         requires bounds { more.now.bounds ≡ [] }
         requires laws { IsProblem more.now }
         requires sized { more.now.vars < length self.old.store.trail.values }
@@ -88,7 +89,6 @@ impl Engine {
     pub fn add_problem(&mut self, more: &Problem) -> Result<(), Memory>
         requires resting { IsResting self.old }
         requires can { CanJoin self.old.problem more.now }
-        requires sums { more.now.sums ≡ [] }
         requires bounds { more.now.bounds ≡ [] }
         ensures resting { IsResting self.new }
         ensures ok { OnOk result (Grows self.old more.now self.new) }
@@ -217,6 +217,10 @@ impl Engine {
         ensures conflicts { self.new.conflicts ≡ self.old.conflicts }
         ensures root_conflicts { self.new.root_conflicts ≡ self.old.root_conflicts }
     {
+        // Where nothing was learnt the store may keep its watches.
+        if self.ids.is_empty() {
+            return;
+        }
         self.store.clear();
         remove_all(&mut self.store, &self.ids);
         self.ids.clear();

@@ -9,6 +9,7 @@ mod levels;
 mod lit_sets;
 mod pushing;
 mod searching;
+mod summing;
 
 pub use cores::chosen;
 pub use engine::Engine;

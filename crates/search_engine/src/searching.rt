@@ -3,13 +3,14 @@ ghost use Rattle.std.specs.Prelude.{◌≡◌, ◌≢◌, ℕ, ◌≤◌, ◌<�
 ghost use Rattle.std.specs.Prelude.{All, Contains, slice_get, IfOk, IfErr, OnOk, IfSome, IsSome, IsTrue};
 ghost use Rattle.lit_core.specs.declared.literals.Lit.{Lit};
 ghost use Rattle.lit_core.specs.Literals.{value_in};
+ghost use Rattle.lit_core.specs.Truth.{IsFalsified};
 ghost use Rattle.clause_store.specs.StoreState.{IsConflict, IsQuiet, IsStore};
 ghost use Rattle.ground_core.specs.Problems.{AreLitsOf};
 ghost use Rattle.ground_core.specs.Solving.{Answers, counted};
-ghost use Rattle.term_bounds.specs.Breaking.{IsBrokenBy};
 ghost use Rattle.search_engine.specs.Resting.{IsBegun, IsResting, KeepsProblem};
 ghost use Rattle.search_engine.specs.Searching.{AdvanceGives, AheadAt, AreTrue, Continues, GivesValues, HaltsAt};
-ghost use Rattle.search_engine.specs.Searching.{HasRoom, HoldsWhereDecided, IsSearch, IsTurn, LearnsNow, OutcomeGives};
+ghost use Rattle.search_engine.specs.Searching.{HasRoom, HoldsWhereDecided, IsExplained, IsSearch, IsTurn};
+ghost use Rattle.search_engine.specs.Searching.{LearnsNow, OutcomeGives};
 ghost use Rattle.search_engine.specs.Searching.{StandsAt, TurnEnds};
 ghost use Rattle.search_decisions.specs.Scores.{HaveValues};
 
@@ -41,7 +42,7 @@ fn first_untrue(store: &Store, assume: &[Lit], from: usize) -> usize
 }
 
 /// The values of the variables below `end`, and false for 0.
-fn values_of(alloc: Global, assignment: &Assignment, end: u64) -> Result<Values, Memory>
+pub fn values_of(alloc: Global, assignment: &Assignment, end: u64) -> Result<Values, Memory>
     requires some { 1 ≤ end }
     requires end { end ≤ length assignment.now }
     requires total { HaveValues assignment.now 1 end }
@@ -108,24 +109,28 @@ impl Engine {
         Ok(Outcome::Answered(Verdict::Unsat(core)))
     }
 
-    /// Decides a variable, or answers the values where all have one.
+    /// Decides a variable; where all have values, answers these, or learns from a constraint that does not hold.
     fn decide_next<C: Choose>(
         &mut self,
         rule: &C,
         assume: &[Lit],
-    ) -> Result<Option<Verdict>, Memory>
+        most: Option<u64>,
+    ) -> Result<Option<Verdict>, Halt>
         requires search { IsSearch self.old }
         requires quiet { IsQuiet self.old.store }
         requires unrefuted { self.old.root_conflicts ≡ 0 }
+        requires ahead { AheadAt self.old 0 }
         requires turn { IsTurn assume.now self.old }
         requires literals { AreLitsOf self.old.problem.vars assume.now }
         requires trues { AreTrue self.old.store.trail.values assume.now }
         requires bounds { HoldsWhereDecided self.old }
+        requires room { HasRoom most self.old }
         ensures search { IsSearch self.new }
         ensures same { Continues self.old self.new }
         ensures turn { IsTurn assume.now self.new }
+        ensures room { HasRoom most self.new }
         ensures answer { IfOk result (AdvanceGives assume.now self.old self.new) }
-        ensures learnt { self.new.learnt ≡ self.old.learnt }
+        ensures halt { IfErr result (HaltsAt most self.new) }
     {
         // So the sum below fits.
         let _count = self.store.assignment().len();
@@ -135,22 +140,19 @@ impl Engine {
         let salt = self.searches.wrapping_add(self.conflicts / 32);
         match self
             .decider
-            .next_decision(rule, &self.problem, &self.store, end, salt)?
+            .next_decision(rule, &self.problem, &self.store, end, salt)
         {
-            Some(lit) => {
+            Ok(Some(lit)) => {
                 self.store.assign(lit, None);
                 Ok(None)
             }
-            None => {
-                let values = values_of(self.alloc, self.store.assignment(), end)?;
-                self.decider.phases.note_answer(&values);
-                Ok(Some(Verdict::Sat(values)))
-            }
+            Ok(None) => self.finish(assume, end, most),
+            Err(_) => Err(Halt::Memory),
         }
     }
 
     /// Decides what is assumed in its order, up to where all of it is true.
-    fn advance(&mut self, assume: &[Lit]) -> Result<Outcome, Memory>
+    pub fn advance(&mut self, assume: &[Lit]) -> Result<Outcome, Memory>
         requires search { IsSearch self.old }
         requires quiet { IsQuiet self.old.store }
         requires unrefuted { self.old.root_conflicts ≡ 0 }
@@ -170,7 +172,7 @@ impl Engine {
     }
 
     /// Learns from a conflict, where one more clause may be learnt.
-    fn settle_within(&mut self, conflict: u64, most: Option<u64>) -> Result<Outcome, Memory>
+    pub fn settle_within(&mut self, conflict: u64, most: Option<u64>) -> Result<Outcome, Memory>
         requires search { IsSearch self.old }
         requires conflict { IsConflict self.old.store conflict }
         requires unrefuted { self.old.root_conflicts ≡ 0 }
@@ -192,12 +194,16 @@ impl Engine {
         }
     }
 
-    /// Holds a clause that a bound implies and that is false, and learns from it, where one more clause may be
+    /// Holds a clause that a constraint implies and that is false, and learns from it, where one more clause may be
     /// learnt.
-    fn settle_broken(&mut self, clause: &[Lit], most: Option<u64>) -> Result<Option<Verdict>, Halt>
+    pub fn settle_broken(
+        &mut self,
+        clause: &[Lit],
+        most: Option<u64>,
+    ) -> Result<Option<Verdict>, Halt>
         requires search { IsSearch self.old }
-        requires broken { IsBrokenBy self.old.problem.terms self.old.problem.bounds
-            self.old.store.trail.values clause.now }
+        requires explained { IsExplained self.old.problem clause.now }
+        requires falsified { IsFalsified self.old.store.trail.values clause.now }
         requires unrefuted { self.old.root_conflicts ≡ 0 }
         requires ahead { AheadAt self.old 0 }
         requires room { HasRoom most self.old }
@@ -246,16 +252,13 @@ impl Engine {
         let terms = self.problem.terms();
         let bounds = self.problem.bounds();
         match broken(self.alloc, terms, bounds, self.store.assignment()) {
-            Ok(None) => match self.decide_next(rule, assume) {
-                Ok(verdict) => Ok(verdict),
-                Err(_) => Err(Halt::Memory),
-            },
+            Ok(None) => self.decide_next(rule, assume, most),
             Ok(Some(clause)) => self.settle_broken(&clause, most),
             Err(_) => Err(Halt::Memory),
         }
     }
 
-    /// Propagates, and learns from a conflict or assumes further.
+    /// Propagates, and learns from a conflict, or asks the constraints on sums and assumes further.
     fn turn(&mut self, assume: &[Lit], most: Option<u64>) -> Result<Outcome, Memory>
         requires search { IsSearch self.old }
         requires unrefuted { self.old.root_conflicts ≡ 0 }
@@ -270,7 +273,7 @@ impl Engine {
         ensures answer { IfOk result (TurnEnds assume.now most self.old self.new) }
     {
         match self.store.propagate() {
-            None => self.advance(assume),
+            None => self.infer(assume, most),
             Some(conflict) => self.settle_within(conflict, most),
         }
     }
@@ -386,6 +389,7 @@ impl Engine {
         ensures same { KeepsProblem self.old self.new }
         ensures begun { IfOk result (IsBegun self.new) }
     {
+        self.ledger.begin(self.problem.sums())?;
         self.close_retired()?;
         // What is known of retired selectors comes with this.
         let _vars = self.problem.vars();

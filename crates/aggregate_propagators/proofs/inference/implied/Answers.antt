@@ -1,9 +1,9 @@
-use Rattle.std.proofs.Common.{◌≡◌, ◌↔◌, ℕ, Bool, true, IfOk, IfSome, IsNone, sym, subst}
+use Rattle.std.proofs.Common.{◌≡◌, ◌↔◌, ℕ, Bool, true, All, IfOk, IfSome, IsNone, sym, subst}
 use Rattle.lit_core.specs.Truth.{IsSatisfied}
 use Rattle.ground_core.specs.declared.parts.AggCon.{AggCon}
 use Rattle.ground_core.specs.Meaning.{SumHolds}
 use Rattle.aggregate_propagators.specs.Intervals.{contradicts, refuting, IsQuiet}
-use Rattle.aggregate_propagators.specs.Implied.{assigned, IsWithin}
+use Rattle.aggregate_propagators.specs.Implied.{assigned, IsOfSum, IsWithin}
 use Rattle.aggregate_propagators.proofs.Joined.{joined}
 use Rattle.aggregate_propagators.proofs.inference.implied.Goals as goal
 
@@ -35,3 +35,10 @@ returns-clause-none c =
     (joined c.threshold_of.result c.as_slice.result.now c.args.c.now c.threshold_of.ensures.out
     c.threshold_of.ensures.kind
     c.threshold_of.ensures.least c.as_slice.ensures) c.implied_at.ensures.none
+
+pub returns-clause-variables : goal.returns-clause-variables
+returns-clause-variables c =
+    subst (λ (x : AggCon). IfOk c.implied_at.result (λ o. IfSome o (λ cl. All (λ l. IsOfSum l x) cl)))
+    (joined c.threshold_of.result c.as_slice.result.now c.args.c.now c.threshold_of.ensures.out
+    c.threshold_of.ensures.kind
+    c.threshold_of.ensures.least c.as_slice.ensures) c.implied_at.ensures.variables

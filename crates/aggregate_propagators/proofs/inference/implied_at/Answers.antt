@@ -4,6 +4,7 @@ use Rattle.aggregate_propagators.specs.Implied.{assigned, under}
 use Rattle.aggregate_propagators.specs.Thresholds.{constraint_of}
 use Rattle.aggregate_propagators.proofs.Acting.{is-alone, is-held, is-false, is-unit}
 use Rattle.aggregate_propagators.proofs.Deciding.{quiet-open}
+use Rattle.aggregate_propagators.proofs.Variables.{of-sum}
 use Rattle.aggregate_propagators.proofs.inference.implied_at.Goals as goal
 
 no-some : true ≡ false → ⊥
@@ -53,3 +54,13 @@ returns-in_ok-clause_from-in-Some-clause-none c = (
   λ q. absurd
       (c.in-Some.ensures.some.1 (quiet-open (assigned c.args.values.now) (constraint_of c.args.c c.args.parts.now) q)),
 )
+
+pub returns-then-contradicted-clause-variables : goal.returns-then-contradicted-clause-variables
+returns-then-contradicted-clause-variables c =
+    of-sum (assigned c.args.values.now) (constraint_of c.args.c c.args.parts.now) c.in_ok-clause_from.field-0
+    c.in_ok-clause_from.ensures
+
+pub returns-in_ok-clause_from-in-Some-clause-variables : goal.returns-in_ok-clause_from-in-Some-clause-variables
+returns-in_ok-clause_from-in-Some-clause-variables c =
+    of-sum (under (assigned c.args.values.now) (Some c.in-Some.lit)) (constraint_of c.args.c c.args.parts.now)
+    c.in_ok-clause_from-in-Some.field-0 c.in_ok-clause_from-in-Some.ensures

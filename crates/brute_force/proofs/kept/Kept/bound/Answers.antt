@@ -33,7 +33,6 @@ invariant_of-self-2 c =
     ∙ ap (λ (bs : List TermBound). with_both (with_var p) bs c.reserve.new.self.items) more
     ∙ ap (λ (ls : List Lit). with_both (with_var p)
     (old ++ record { out = next_lit p; term = term; below = below } ∷ []) ls) c.in_ok-reserve.ensures.items in record {
-      sums = ap (λ (q : ProblemState). q.sums) made ∙ inv.sums;
       bounds = ap (λ (q : ProblemState). q.bounds) made ∙ inv.bounds;
       active = ap (λ (q : ProblemState). q.retired) made ∙ inv.active;
       laws = subst IsProblem (sym same) (bound-problem s term below lt inv.laws);

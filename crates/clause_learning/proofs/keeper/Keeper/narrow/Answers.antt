@@ -16,7 +16,7 @@ returns-in_ok-narrowed-in-Unsat c =
     c.requires.answers in
     let h = c.requires.keeper in
     unsat-narrow a.engine.problem a.live.items assume given.1.0 c.in-Unsat.core c.in_ok-narrowed-in-Unsat.field-0
-    h.resting.engine.sums h.live given.1.2
+    h.live given.1.2
     (subst (λ (bs : List TermBound). IsNarrowed bs assume c.in-Unsat.core c.in_ok-narrowed-in-Unsat.field-0)
     c.as_slice.ensures.value
     (subst (λ (ls : List Lit). IsNarrowed c.as_slice.result.now assume ls c.in_ok-narrowed-in-Unsat.field-0)

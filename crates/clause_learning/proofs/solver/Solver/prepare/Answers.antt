@@ -1,5 +1,4 @@
-use Rattle.std.proofs.Common.{◌≡◌, ◌≤◌, List, All, length, sym, subst}
-use Rattle.lit_core.specs.declared.literals.Lit.{Lit}
+use Rattle.std.proofs.Common.{◌≤◌, All, length, sym, subst}
 use Rattle.ground_core.specs.Problems.{ProblemState}
 use Rattle.ground_core.specs.Selectors.{AreSelectors}
 use Rattle.ground_core.specs.Meaning.{HasTermsInRange, RefutesAll}

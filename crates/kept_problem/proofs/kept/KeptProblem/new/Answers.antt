@@ -19,6 +19,7 @@ invariant_of-result c = record {
     c.new-4.ensures.items,
     c.new-5.ensures.items,
     c.new-6.ensures.items,
+    c.new-7.ensures.items,
   ) (record {
     atoms = omega arith;
     gates = All-nil (IsGateOf 0);
@@ -28,6 +29,6 @@ invariant_of-result c = record {
     bounds = All-nil (IsBoundOf 0 []);
     retired = All-nil (IsLitOf 0);
   });
-  retired = subst AreSelectors (sym c.new-6.ensures.items) no-selectors;
+  retired = subst AreSelectors (sym c.new-7.ensures.items) no-selectors;
   room = omega arith;
 }

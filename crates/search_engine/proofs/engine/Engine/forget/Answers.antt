@@ -33,6 +33,7 @@ returns-clause-resting c =
       ids = c.clear-2.new.self;
       moments = c.clear-3.new.self;
       decider = e.decider;
+      ledger = e.ledger;
       searches = e.searches;
       known = e.known;
       conflicts = e.conflicts;

@@ -16,6 +16,7 @@ returns-clause-resting c =
       ids = e.ids;
       moments = e.moments;
       decider = e.decider;
+      ledger = e.ledger;
       searches = e.searches;
       known = e.known;
       conflicts = e.conflicts;
@@ -25,7 +26,7 @@ returns-clause-resting c =
       base = e.base;
     } in
     let joined = λ (is : c.join.new.self ≡ joined_problem e.problem c.args.more.now). resting-joined e f c.args.more.now
-    c.requires.resting c.requires.cleared c.requires.can c.requires.sums c.requires.bounds c.requires.laws
+    c.requires.resting c.requires.cleared c.requires.can c.requires.bounds c.requires.laws
     c.in_ok-push_problem.ensures.ok c.push_problem.ensures.trail c.push_problem.ensures.laws c.requires.sized refl
     refl refl refl refl refl is in
     on_ok_weaker c.join.result joined c.join.ensures.ok

@@ -44,6 +44,7 @@ module _ (c : goal.After-assign) where
     ids = c.push_reserved.new.self;
     moments = c.push_reserved-2.new.self;
     decider = c.args.self.now.decider;
+    ledger = c.args.self.now.ledger;
     searches = c.args.self.now.searches;
     known = c.args.self.now.known;
     conflicts = c.args.self.now.conflicts;

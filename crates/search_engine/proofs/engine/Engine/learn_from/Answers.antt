@@ -3,7 +3,7 @@ use Rattle.search_engine.specs.Searching.{IsLevelOf}
 use Rattle.search_engine.specs.declared.engine.Engine.{Engine}
 use Rattle.search_engine.proofs.TrailChange.{cut-assumed, cut-orderly}
 use Rattle.search_engine.proofs.SearchFacts.{Moves, search-moves, root-gives, conflict-still, current-still}
-use Rattle.search_engine.proofs.SearchFacts.{lesson-search, lesson-assumed, lesson-gives}
+use Rattle.search_engine.proofs.SearchFacts.{lesson-search, lesson-assumed, lesson-gives, level-within}
 use Rattle.search_engine.proofs.engine.Engine.learn_from.Goals as goal
 
 pub returns-then-level-eq0-clause-lesson : goal.returns-then-level-eq0-clause-lesson
@@ -12,6 +12,10 @@ returns-then-level-eq0-clause-lesson c =
     subst (λ (n : ℕ). IsLevelOf c.args.self.now.store c.args.conflict n) c.if-level-eq0.true
     c.conflict_level-level.ensures in
     (let u = c.requires.unrefuted in omega arith, root-gives c.args.self.now c.args.conflict c.requires.search at, refl)
+
+pub back_to-requires : goal.back_to-requires
+back_to-requires c = level-within c.args.self.now.store c.requires.search.engine.store c.args.conflict
+    c.conflict_level-level.result c.conflict_level-level.ensures
 
 pub analyse-requires-clause-conflict : goal.analyse-requires-clause-conflict
 analyse-requires-clause-conflict c = conflict-still c.args.self.now.store c.back_to.new.self c.args.conflict
@@ -34,6 +38,7 @@ returns-in_err-analysis-clause-search c =
       ids = e.ids;
       moments = e.moments;
       decider = c.takes_back.new.self;
+      ledger = c.take_back.new.self;
       searches = e.searches;
       known = e.known;
       conflicts = e.conflicts;
@@ -73,6 +78,7 @@ module _ (c : goal.After-drop-analysis) where
     ids = c.args.self.now.ids;
     moments = c.args.self.now.moments;
     decider = c.takes_back-2.new.self;
+    ledger = c.take_back-2.new.self;
     searches = c.args.self.now.searches;
     known = c.args.self.now.known;
     conflicts = c.saturating_add-self.result;

@@ -1,0 +1,8 @@
+use Rattle.std.proofs.Common.{All, take}
+use Rattle.aggregate_propagators.specs.Intervals.{IsQuiet}
+use Rattle.aggregate_propagators.specs.Implied.{assigned}
+use Rattle.sum_ledger.proofs.scan.first_implied.Given as goal
+
+-- those so far imply nothing
+abbrev pub invariant-loop-sum : goal.invariant-loop-sum
+invariant-loop-sum l = All (IsQuiet (assigned l.fn.values)) (take l.sum-index l.sums)

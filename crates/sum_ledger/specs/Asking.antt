@@ -1,0 +1,17 @@
+-- What constraints on sums imply.
+use Rattle.std.specs.Prelude.{ℕ, Bool, Option, List, All, Any, ◌⊎◌}
+use Rattle.lit_core.specs.declared.literals.Lit.{Lit}
+use Rattle.lit_core.specs.Truth.{IsFalsified, IsSatisfied, IsUnitAt}
+use Rattle.ground_core.specs.declared.parts.AggCon.{AggCon}
+use Rattle.ground_core.specs.Meaning.{SumHolds}
+use Rattle.aggregate_propagators.specs.Implied.{IsOfSum}
+
+-- the clause holds wherever the constraint does, and is of its variables
+pub record IsOf (s : AggCon) (c : List Lit) : Type 0 where
+  pub holds : (v : ℕ → Bool) → SumHolds v s → IsSatisfied v c
+  pub variables : All (λ l. IsOfSum l s) c
+
+-- the clause is false now or has one literal left, and one of the constraints implies it
+pub record IsImplied (sums : List AggCon) (a : List (Option Bool)) (c : List Lit) : Type 0 where
+  pub acts : IsFalsified a c ⊎ ((l : Lit) × IsUnitAt a c l)
+  pub by : Any (λ s. IsOf s c) sums
