@@ -77,18 +77,6 @@ negation-false found x some none =
     step values here true e = e
     step values here false e = absurd (none (here.0, values, here.1, here.2, e))
 
--- the same of equal lists
-module _ (ks ks2 : List Kept) (found found2 : List (List Bool)) (atoms : ℕ) (seen : List (List Bool)) (x : Lit)
-    (e : ks2 ≡ ks) (f : found2 ≡ found) where
-  pub open-here : IsOpen ks2 found2 atoms seen x → IsOpen ks found atoms seen x
-  open-here h = subst (λ (l : List Kept). IsOpen l found atoms seen x) e
-      (subst (λ (l : List (List Bool)). IsOpen ks2 l atoms seen x) f h)
-
-  pub known-here : IsSettled ks2 found2 x ⊎ IsFalseInSeen atoms seen x → IsSettled ks found x
-      ⊎ IsFalseInSeen atoms seen x
-  known-here h = subst (λ (l : List Kept). IsSettled l found x ⊎ IsFalseInSeen atoms seen x) e
-      (subst (λ (l : List (List Bool)). IsSettled ks2 l x ⊎ IsFalseInSeen atoms seen x) f h)
-
 -- what holds between two literals
 pub record IsSoFar (assumed ask : List Lit) (atoms : ℕ) (seen : List (List Bool)) (i : ℕ) (ks : List Kept)
     (found : List (List Bool)) (r s : SolveState) (a b : Budget) : Type 0 where
@@ -113,29 +101,27 @@ none-in-none : {X : Type 0} (x : X) → Contains [] x → ⊥
 none-in-none x h = omega (arith, h.1)
 
 pub so-far-begins : (assumed ask : List Lit) (atoms : ℕ) (seen : List (List Bool)) (first : List Bool) (ks : List Kept)
-    (before found : List (List Bool)) (r : SolveState) (a : Budget) → ks ≡ [] → before ≡ []
-    → found ≡ before ++ first ∷ [] → IsBudgetOf r.learnt a → IsKept r → IsLeft r.problem assumed first
-    → IsSoFar assumed ask atoms seen 0 ks found r r a a
-so-far-begins assumed ask atoms seen first ks before found r a none empty is budget kept left =
-    let one : found ≡ first ∷ [] = is ∙ ap (λ (xs : List (List Bool)). xs ++ first ∷ []) empty in record {
-      kept = kept;
-      stays = record { problem = refl; additions = refl; free = refl };
-      keeps = keeps-none r a budget;
-      left = subst (All (IsLeft r.problem assumed)) (sym one) (All-push (IsLeft r.problem assumed) [] first
-          (All-nil (IsLeft r.problem assumed)) left);
-      some = subst (λ (xs : List (List Bool)). 0 < length xs) (sym one) (omega arith);
-      order = subst (λ (xs : List Kept). IsSublist (map (λ (k : Kept). k.lit) xs) []) (sym none) tt;
-      forced = subst (All (IsForced r.problem assumed r.cores)) (sym none)
-          (All-nil (IsForced r.problem assumed r.cores));
-      others = All-nil (λ (l : Lit). Any (λ (k : Kept). k.lit ≡ l) ks ⊎ IsFree r.problem assumed l);
-      tested = [];
-      once = distinct-nil;
-      wanted = λ vs h n has. absurd (none-in-none n has);
-      settled = λ l has. absurd (none-in-none l.var.0 has);
-      count = 0;
-      few = omega arith;
-      counts = none-yet r.free r a kept.counted;
-    }
+    (found : List (List Bool)) (r : SolveState) (a : Budget) → ks ≡ [] → found ≡ first ∷ [] → IsBudgetOf r.learnt a
+    → IsKept r → IsLeft r.problem assumed first → IsSoFar assumed ask atoms seen 0 ks found r r a a
+so-far-begins assumed ask atoms seen first ks found r a none one budget kept left = record {
+  kept = kept;
+  stays = record { problem = refl; additions = refl; free = refl };
+  keeps = keeps-none r a budget;
+  left = subst (All (IsLeft r.problem assumed)) (sym one) (All-push (IsLeft r.problem assumed) [] first
+      (All-nil (IsLeft r.problem assumed)) left);
+  some = subst (λ (xs : List (List Bool)). 0 < length xs) (sym one) (omega arith);
+  order = subst (λ (xs : List Kept). IsSublist (map (λ (k : Kept). k.lit) xs) []) (sym none) tt;
+  forced = subst (All (IsForced r.problem assumed r.cores)) (sym none)
+      (All-nil (IsForced r.problem assumed r.cores));
+  others = All-nil (λ (l : Lit). Any (λ (k : Kept). k.lit ≡ l) ks ⊎ IsFree r.problem assumed l);
+  tested = [];
+  once = distinct-nil;
+  wanted = λ vs h n has. absurd (none-in-none n has);
+  settled = λ l has. absurd (none-in-none l.var.0 has);
+  count = 0;
+  few = omega arith;
+  counts = none-yet r.free r a kept.counted;
+}
 
 module _ (assumed ask : List Lit) (atoms : ℕ) (seen : List (List Bool)) (i : ℕ) (d : Lit) (ks : List Kept)
     (found : List (List Bool)) (r s : SolveState) (a b : Budget)

@@ -1,3 +1,4 @@
 pub mod TestFacts
 pub mod Numbers
+pub mod IndexFacts
 pub mod ForcingFacts

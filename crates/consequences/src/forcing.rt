@@ -6,32 +6,34 @@ ghost use Rattle.ground_core.specs.Solving.{IsBudgetOf, AreUnretired, HaltedAt, 
 ghost use Rattle.ground_core.specs.Calls.{Keeps, CountsUpTo, Costs, Stays, IsAnsweredAtOnce};
 ghost use Rattle.model_search.specs.Models.{IsLeft};
 ghost use Rattle.consequences.specs.Forced.{Decides, AreForced, FindsForced, IsSeen, Searches};
+ghost use Rattle.consequences.specs.Indexed.{IsIndexed};
 
+use crate::asking::Question;
+use crate::findings::Findings;
 use crate::kept::{KeptList, Tested};
-use crate::settling::is_open;
 use crate::testing::test;
 use ground_core::{Budget, Halt, Solve};
-use kb_logic::ListOf;
 use lit_core::{Lit, Values};
 use model_search::model_of;
 use std::alloc::Global;
 
-/// Searches for values that make the literal false, and keeps what was found.
+/// Searches for values that make the literal false, and adds what was found.
 fn decide<S: Solve>(
     alloc: Global,
     s: &mut S,
     assume: &[Lit],
     lit: Lit,
-    kept: &mut KeptList,
-    found: &mut ListOf<Values>,
+    findings: &mut Findings,
     budget: &mut Budget,
 ) -> Result<(), Halt>
     requires literals { AreLitsOf (S.state s.old).problem.vars (assume.now ++ negated lit ∷ []) }
     requires unretired { AreUnretired (S.state s.old).problem (assume.now ++ negated lit ∷ []) }
     requires budget { IsBudgetOf (S.state s.old).learnt budget.old }
     requires kept { IsKept (S.state s.old) }
-    ensures decides { OnOk result (Decides (S.state s.old).problem assume.now lit (S.state s.new).cores kept.old
-        kept.new found.old found.new) }
+    requires indexed { IsIndexed findings.old.lits.keys findings.old.kept }
+    ensures decides { OnOk result (Decides (S.state s.old).problem assume.now lit (S.state s.new).cores
+        findings.old.kept findings.new.kept findings.old.found findings.new.found) }
+    ensures indexed { OnOk result (IsIndexed findings.new.lits.keys findings.new.kept) }
     ensures halt { IfErr result (HaltedAt budget.new) }
     ensures stays { Stays (S.state s.old) (S.state s.new) }
     ensures keeps { Keeps (S.state s.old) (S.state s.new) budget.old budget.new }
@@ -40,11 +42,11 @@ fn decide<S: Solve>(
     ensures later { S.goes_on s.old s.new }
 {
     match test(alloc, s, assume, lit, budget) {
-        Ok(Tested::Forced(forced)) => match kept.push(forced) {
+        Ok(Tested::Forced(forced)) => match findings.keep(forced) {
             Ok(()) => Ok(()),
             Err(_) => Err(Halt::Memory),
         },
-        Ok(Tested::Free(values)) => match found.push(values) {
+        Ok(Tested::Free(values)) => match findings.found.push(values) {
             Ok(()) => Ok(()),
             Err(_) => Err(Halt::Memory),
         },
@@ -58,84 +60,76 @@ fn decide<S: Solve>(
 fn decide_each<S: Solve>(
     alloc: Global,
     s: &mut S,
-    assume: &[Lit],
-    ask: &[Lit],
-    seen: &[Values],
-    atoms: u64,
+    question: &Question<'_>,
     first: Values,
     budget: &mut Budget,
 ) -> Result<KeptList, Halt>
-    requires literals { AreLitsOf (S.state s.old).problem.vars assume.now }
-    requires unretired { AreUnretired (S.state s.old).problem assume.now }
-    requires asked { AreLitsOf (S.state s.old).problem.vars ask.now }
-    requires asked_unretired { IsLive (S.state s.old).problem.retired ask.now }
-    requires atoms { atoms ≤ length (S.state s.old).problem.atoms }
-    requires seen { All (IsSeen (S.state s.old).problem assume.now) seen.now }
-    requires first { IsLeft (S.state s.old).problem assume.now first }
+    requires literals { AreLitsOf (S.state s.old).problem.vars question.now.assume.now }
+    requires unretired { AreUnretired (S.state s.old).problem question.now.assume.now }
+    requires asked { AreLitsOf (S.state s.old).problem.vars question.now.ask.now }
+    requires asked_unretired { IsLive (S.state s.old).problem.retired question.now.ask.now }
+    requires atoms { question.now.atoms ≤ length (S.state s.old).problem.atoms }
+    requires seen { All (IsSeen (S.state s.old).problem question.now.assume.now) question.now.seen.now }
+    requires first { IsLeft (S.state s.old).problem question.now.assume.now first }
     requires budget { IsBudgetOf (S.state s.old).learnt budget.old }
     requires kept { IsKept (S.state s.old) }
-    ensures forces { IfOk result (AreForced (S.state s.old).problem assume.now ask.now (S.state s.new).cores) }
+    ensures forces { IfOk result (AreForced (S.state s.old).problem question.now.assume.now question.now.ask.now
+        (S.state s.new).cores) }
     ensures halt { IfErr result (HaltedAt budget.new) }
     ensures stays { Stays (S.state s.old) (S.state s.new) }
     ensures keeps { Keeps (S.state s.old) (S.state s.new) budget.old budget.new }
-    ensures counts { (vs : List ℕ) → Searches vs atoms seen.now ask.now → CountsUpTo (S.state s.old).free (length vs)
-        (S.state s.old) (S.state s.new) budget.old budget.new }
+    ensures counts { (vs : List ℕ) → Searches vs question.now.atoms question.now.seen.now question.now.ask.now
+        → CountsUpTo (S.state s.old).free (length vs) (S.state s.old) (S.state s.new) budget.old budget.new }
     ensures kept { IsKept (S.state s.new) }
     ensures later { S.goes_on s.old s.new }
 {
-    let mut kept = ListOf::new(alloc);
-    let mut found = ListOf::new(alloc);
-    let Ok(()) = found.push(first) else {
+    let Ok(mut findings) = Findings::begin(alloc, first) else {
         return Err(Halt::Memory);
     };
-    for lit in ask {
-        if is_open(kept.as_slice(), found.as_slice(), seen, atoms, *lit) {
-            match decide(alloc, s, assume, *lit, &mut kept, &mut found, budget) {
+    for lit in question.ask {
+        if findings.leave_open(question, *lit) {
+            match decide(alloc, s, question.assume, *lit, &mut findings, budget) {
                 Ok(()) => {}
                 Err(halt) => return Err(halt),
             }
         }
     }
-    Ok(kept)
+    Ok(findings.kept)
 }
 
-/// The literals of `ask` that are true wherever the problem and what is assumed hold, each with some
-/// of what was assumed that forces it; None where they nowhere hold. `seen` are values of the ground atoms that belong
-/// to such valuations. No search is made for a literal of the first `atoms` variables that one of them makes false.
+/// The asked literals that are true wherever the problem and what is assumed hold, each with some of what was assumed
+/// that forces it; None where they nowhere hold. No search is made for a literal of the first `atoms` variables that
+/// values in `seen` make false.
 pub fn forced<S: Solve>(
     alloc: Global,
     s: &mut S,
-    assume: &[Lit],
-    ask: &[Lit],
-    seen: &[Values],
-    atoms: u64,
+    question: &Question<'_>,
     budget: &mut Budget,
 ) -> Result<Option<KeptList>, Halt>
-    requires literals { AreLitsOf (S.state s.old).problem.vars assume.now }
-    requires unretired { AreUnretired (S.state s.old).problem assume.now }
-    requires asked { AreLitsOf (S.state s.old).problem.vars ask.now }
-    requires asked_unretired { IsLive (S.state s.old).problem.retired ask.now }
-    requires atoms { atoms ≤ length (S.state s.old).problem.atoms }
-    requires seen { All (IsSeen (S.state s.old).problem assume.now) seen.now }
+    requires literals { AreLitsOf (S.state s.old).problem.vars question.now.assume.now }
+    requires unretired { AreUnretired (S.state s.old).problem question.now.assume.now }
+    requires asked { AreLitsOf (S.state s.old).problem.vars question.now.ask.now }
+    requires asked_unretired { IsLive (S.state s.old).problem.retired question.now.ask.now }
+    requires atoms { question.now.atoms ≤ length (S.state s.old).problem.atoms }
+    requires seen { All (IsSeen (S.state s.old).problem question.now.assume.now) question.now.seen.now }
     requires budget { IsBudgetOf (S.state s.old).learnt budget.old }
-    ensures finds { IfOk result (FindsForced (S.state s.old).problem assume.now ask.now (S.state s.new).cores) }
+    ensures finds { IfOk result (FindsForced (S.state s.old).problem question.now.assume.now question.now.ask.now
+        (S.state s.new).cores) }
     ensures halt { IfErr result (HaltedAt budget.new) }
     ensures stays { Stays (S.state s.old) (S.state s.new) }
     ensures keeps { Keeps (S.state s.old) (S.state s.new) budget.old budget.new }
-    ensures costs { (vs : List ℕ) → Searches vs atoms seen.now ask.now → Costs (length vs + 1) (S.state s.old)
-        (S.state s.new) budget.old budget.new }
-    ensures decided { HasCoreWithin (S.state s.old).cores assume.now → IsAnsweredAtOnce (S.state s.old)
-        (S.state s.new) result }
+    ensures costs { (vs : List ℕ) → Searches vs question.now.atoms question.now.seen.now question.now.ask.now
+        → Costs (length vs + 1) (S.state s.old) (S.state s.new) budget.old budget.new }
+    ensures decided { HasCoreWithin (S.state s.old).cores question.now.assume.now → IsAnsweredAtOnce
+        (S.state s.old) (S.state s.new) result }
     ensures kept { IsKept (S.state s.new) }
     ensures later { S.goes_on s.old s.new }
 {
-    match model_of(s, assume, budget) {
-        Ok(Some(first)) => {
-            match decide_each(alloc, s, assume, ask, seen, atoms, first, budget) {
-                Ok(kept) => Ok(Some(kept)),
-                Err(halt) => Err(halt),
-            }
-        }
+    match model_of(s, question.assume, budget) {
+        Ok(Some(first)) => match decide_each(alloc, s, question, first, budget) {
+            Ok(kept) => Ok(Some(kept)),
+            Err(halt) => Err(halt),
+        },
         Ok(None) => Ok(None),
         Err(halt) => Err(halt),
     }

@@ -1,7 +1,7 @@
 //! The entry that fields are read as.
 //!
 //! Nothing is checked here: fields that are of no entry give some entry too, whose text is then not the one that was
-//! read (`read_entry`). So each function has an answer for every list of fields, and the one error is want of memory.
+//! read (`read_entry`). So each function has an answer for every list of fields, and the one error is out of memory.
 ghost use Rattle.std.specs.Prelude.{◌≡◌, IfOk, [], ◌∷◌, length, ◌-◌};
 ghost use Rattle.derivation_log.specs.Scans.{rest_of, tag_of, number_of, term_of, literal_of, bound_of, literals_of};
 ghost use Rattle.derivation_log.specs.Scans.{behind, numbers_of, entry_with, entry_of};

@@ -138,7 +138,7 @@ fn push_below(out: &mut Vec<u8>, k: ExtInt) -> Result<(), Memory>
     }
 }
 
-/// Appends the entry's text; after want of memory all is as before.
+/// Appends the entry's text. Where memory runs out, all is as before.
 pub fn write_entry(out: &mut Vec<u8>, e: &Entry) -> Result<(), Memory>
     ensures ok { OnOk result (out.new.items ≡ out.old.items ++ entry_text e.now) }
     ensures err { OnErr result (out.new.items ≡ out.old.items) }

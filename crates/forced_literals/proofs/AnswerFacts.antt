@@ -73,7 +73,8 @@ module _ (k : KnownAtoms) (a : GroundAtom) where
   -- an atom is true by the data, or false, or unknown
   known-cases : Contains k.true_atoms a ⊎ (Contains k.false_atoms a ⊎ (is_unknown (value_at k a) ≡ true))
   known-cases = ⊎_elim
-      (λ t. let x = some_one (same_atom a) k.true_atoms t in inl (subst (Contains k.true_atoms) (atom_is a x.0 x.2) x.1))
+      (λ t. let x = some_one (same_atom a) k.true_atoms t in inl (subst (Contains k.true_atoms) (atom_is a x.0 x.2)
+      x.1))
       (λ more. ⊎_elim
       (λ f. let x = some_one (same_atom a) k.false_atoms f in
       inr (inl (subst (Contains k.false_atoms) (atom_is a x.0 x.2) x.1)))
@@ -203,7 +204,8 @@ module _ (base : Base) (b : GroundBase) (p : ProblemState) (unknown : List Lit) 
     not-chosen : (l : Literal) (k : Lit) → HasNumber b l k → (IsSpared b lits forced k → ⊥) → Contains choices l → ⊥
     not-chosen l k n open-still at =
         let r = each_right (HasNumber b) choices lits l each (has_from choices l at) in
-        open-still (inl (has-any (λ (c : Lit). c.var.0 ≡ k.var.0) lits r.0 r.1 (one-variable b fine l l r.0 k r.2 n refl)))
+        open-still (inl (has-any (λ (c : Lit). c.var.0 ≡ k.var.0) lits r.0 r.1 (one-variable b fine l l r.0 k r.2 n
+        refl)))
 
     module _ (l : Literal) (k : Lit) (n : HasNumber b l k) (asked-for : Has (both_signs unknown) k)
         (not-spared : IsSpared b lits forced k → ⊥) (x y : Elem) (negative : l.positive ≡ false)
@@ -243,8 +245,8 @@ module _ (base : Base) (b : GroundBase) (p : ProblemState) (unknown : List Lit) 
           rival : same_option (atom_of l).value (option_map denotation_of a.value) ≡ false
               → is_rival a (atom_of l) ≡ true
           rival differs =
-              and_from (l.symbol == l.symbol) (same_row l.args (map denotation_of l.args) && (both_values (Some x) l.value
-              && not (same_option l.value (Some (denotation_of x))))) (eq-eqb l.symbol l.symbol refl)
+              and_from (l.symbol == l.symbol) (same_row l.args (map denotation_of l.args) && (both_values (Some x)
+              l.value && not (same_option l.value (Some (denotation_of x))))) (eq-eqb l.symbol l.symbol refl)
               (and_from (same_row l.args (map denotation_of l.args)) (both_values (Some x) l.value
               && not (same_option l.value (Some (denotation_of x)))) (row_itself l.args)
               (and_from (both_values (Some x) l.value) (not (same_option l.value (Some (denotation_of x))))
@@ -261,7 +263,8 @@ module _ (base : Base) (b : GroundBase) (p : ProblemState) (unknown : List Lit) 
       not-unknown u =
           let r = asked (literal_with true a) (atom_listed known.symbols known.domains a (over-known a over)) u in
           ⊎_elim
-          (λ here. not-spared (inr (has-any (λ (j : Lit). DeniesBeside b j k) forced r.0 (has_from forced r.0 here) (record {
+          (λ here. not-spared (inr (has-any (λ (j : Lit). DeniesBeside b j k) forced r.0 (has_from forced r.0 here)
+          (record {
             affirmed = literal_with true a;
             denied = l;
             first = r.2;

@@ -27,7 +27,8 @@ module _ (base : Base) (b : GroundBase) (p : ProblemState) (unknown : List Lit) 
     choice-lits choices lits each = of-atoms b (length p.atoms) count choices lits each
 
     pub unknown-lits : AreLitsOf (length p.atoms) unknown
-    unknown-lits = of-atoms b (length p.atoms) count (map (literal_with true) (unknown_atoms base.known)) unknown h.unknown
+    unknown-lits = of-atoms b (length p.atoms) count (map (literal_with true) (unknown_atoms base.known)) unknown
+        h.unknown
 
     pub found-lits : (assumed forced : List Lit) → AreForcedOf p assumed (both_signs unknown) forced
         → AreLitsOf (length (atoms_over b.vocabulary.symbols b.domains)) forced
@@ -41,7 +42,8 @@ module _ (base : Base) (b : GroundBase) (p : ProblemState) (unknown : List Lit) 
         → AreLitsOf (length (atoms_over numbers.vocabulary.symbols numbers.domains)) ks
     found-slice assumed forced found numbers ks same is =
         subst (λ (x : GroundBase). AreLitsOf (length (atoms_over x.vocabulary.symbols x.domains)) ks) (sym same)
-        (subst (AreLitsOf (length (atoms_over b.vocabulary.symbols b.domains))) (sym is) (found-lits assumed forced found))
+        (subst (AreLitsOf (length (atoms_over b.vocabulary.symbols b.domains))) (sym is) (found-lits assumed forced
+        found))
 
 -- what is picked of slices
 pub picked-slices : (n b : GroundBase) (cs chosen ks forced : List Lit) (list : List Literal) → n ≡ b → cs ≡ chosen

@@ -68,8 +68,14 @@ module _ (b : GroundBase) where
   both-each [] [] h = tt
   both-each [] (l ∷ lits) h = absurd h
   both-each (a ∷ gs) [] h = absurd h
-  both-each (a ∷ gs) (l ∷ lits) h =
-      (h.0, (record { place = h.0.place; atom = h.0.atom; var = h.0.var; sign = ap not h.0.sign }, both-each gs lits h.1))
+  both-each (a ∷ gs) (l ∷ lits) h = (
+    h.0,
+    (
+      record { place = h.0.place; atom = h.0.atom; var = h.0.var; sign = ap not h.0.sign },
+      both-each gs lits
+          h.1,
+    ),
+  )
 
   -- each literal of a variable is that of some literal
   pub literal-there : (k : Lit) → IsLitOf (length atoms) k → (l : Literal) × HasNumber b l k

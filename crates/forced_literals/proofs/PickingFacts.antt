@@ -1,5 +1,6 @@
 -- What is looked up among numbers, and what is picked.
-use Rattle.std.proofs.Common.{◌≡◌, ℕ, ◌+◌, ◌<◌, Bool, true, false, not, ◌||◌, ◌==◌, Option, Some, None, List, [], ◌∷◌, ◌++◌}
+use Rattle.std.proofs.Common.{◌≡◌, ℕ, ◌+◌, ◌<◌, Bool, true, false, not, ◌||◌, ◌==◌, Option, Some, None, List, [], ◌∷◌}
+use Rattle.std.proofs.Common.{◌++◌}
 use Rattle.std.proofs.Common.{length, take, get_or, Contains, refl, sym, ap, ◌∙◌, subst, inl, inr, ◌⊎◌}
 use Rattle.std.proofs.Common.{⊎_elim, MatchBool, MatchOption}
 use Rattle.std.specs.List.{Any}
@@ -65,8 +66,8 @@ module _ (lits : List Lit) (i : ℕ) (d : Lit) (lt : i < length lits) where
         sound : (n : ℕ) → is_among new n ≡ true → Any (λ k. Settles b k n) (take i lits ++ l ∷ [])
         sound n f = ⊎_elim
             (λ before. let r = any-has (λ (k : Lit). Settles b k n) (take i lits) (h.sound n before) in
-            has-any (λ (k : Lit). Settles b k n) (take i lits ++ l ∷ []) r.0 (has_left (take i lits) (l ∷ []) r.0 r.1) r.2)
-            (λ now. has-any (λ (k : Lit). Settles b k n) (take i lits ++ l ∷ []) l at-end (found n o by now))
+            has-any (λ (k : Lit). Settles b k n) (take i lits ++ l ∷ []) r.0 (has_left (take i lits) (l ∷ []) r.0 r.1)
+            r.2) (λ now. has-any (λ (k : Lit). Settles b k n) (take i lits ++ l ∷ []) l at-end (found n o by now))
             (or_cases (is_among old n) (is_it o n) (sym (e n) ∙ f))
 
         complete : (n : ℕ) → Any (λ k. Settles b k n) (take i lits ++ l ∷ []) → is_among new n ≡ true
@@ -100,7 +101,13 @@ module _ (b : GroundBase) (lit : Lit) (within : IsLitOf (length (atoms_over b.vo
   settled-one sign (Some n) tells =
       let d = literal-there b lit within in
       record {
-        it = record { literal = d.0; number = d.1; affirms = sym d.1.sign ∙ positive lit.positive sign; application = tells d.0 d.1 };
+        it = record {
+          literal = d.0;
+          number = d.1;
+          affirms = sym d.1.sign
+              ∙ positive lit.positive sign;
+          application = tells d.0 d.1;
+        };
         only = λ m s. one-application b s.literal s.literal m n (refl, refl) s.application (tells s.literal s.number);
       }
 

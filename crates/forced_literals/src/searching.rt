@@ -5,7 +5,7 @@ ghost use Rattle.ground_core.specs.Solving.{IsBudgetOf, HaltedAt};
 ghost use Rattle.ground_core.specs.Calls.{CallEnds, Stays};
 ghost use Rattle.forced_literals.specs.Searches.{Finds, both_signs};
 
-use consequences::Kept;
+use consequences::{Kept, Question};
 use ground_core::{Budget, Halt, LitList, Memory, Solve};
 use lit_core::{Lit, Values};
 use std::alloc::Global;
@@ -57,7 +57,13 @@ pub(crate) fn forced_lits<S: Solve>(
         return Err(Halt::Memory);
     };
     let seen: [Values; 0] = [];
-    match consequences::forced(alloc, s, assume, both.as_slice(), &seen, 0, budget) {
+    let question = Question {
+        assume,
+        ask: both.as_slice(),
+        seen: &seen,
+        atoms: 0,
+    };
+    match consequences::forced(alloc, s, &question, budget) {
         Ok(Some(kept)) => match lits_in(alloc, kept.as_slice()) {
             Ok(lits) => Ok(Some(lits)),
             Err(_) => Err(Halt::Memory),

@@ -11,7 +11,7 @@ ghost use Rattle.ground_core.specs.Calls.{GrowsByAdditions};
 ghost use Rattle.model_minimiser.specs.Bounds.{AddsBounds, AddsAtMost, HoldsBounds};
 ghost use Rattle.model_minimiser.specs.Minima.{IsFound, Finds, FindsBelow, IsLeast, FindsLeast, Spans};
 
-use crate::minimum::{Found, Minimum, Step};
+use crate::minimum::{Found, Minimum, Objective, Step};
 use ground_core::{Budget, Grow, Halt, Memory, Verdict};
 use kb_logic::ExtInt;
 use lit_core::Lit;
@@ -53,18 +53,17 @@ fn search<S: Grow>(
 fn search_under<S: Grow>(
     alloc: Global,
     s: &mut S,
-    assume: &[Lit],
+    objective: &Objective<'_>,
     selector: Lit,
-    term: u32,
     budget: &mut Budget,
 ) -> Result<Option<Found>, Halt>
-    requires term { term < length (S.state s.old).problem.terms }
-    requires literals { AreLitsOf (S.state s.old).problem.vars (assume.now ++ selector ∷ []) }
-    requires unretired { AreUnretired (S.state s.old).problem (assume.now ++ selector ∷ []) }
+    requires term { objective.now.term < length (S.state s.old).problem.terms }
+    requires literals { AreLitsOf (S.state s.old).problem.vars (objective.now.assume.now ++ selector ∷ []) }
+    requires unretired { AreUnretired (S.state s.old).problem (objective.now.assume.now ++ selector ∷ []) }
     requires budget { IsBudgetOf (S.state s.old).learnt budget.old }
     requires kept { IsKept (S.state s.old) }
-    ensures finds { IfOk result (Finds (S.state s.old).problem (assume.now ++ selector ∷ []) term
-        (S.state s.new).cores) }
+    ensures finds { IfOk result (Finds (S.state s.old).problem (objective.now.assume.now ++ selector ∷ [])
+        objective.now.term (S.state s.new).cores) }
     ensures halt { IfErr result (HaltedAt budget.new) }
     ensures stays { Stays (S.state s.old) (S.state s.new) }
     ensures keeps { Keeps (S.state s.old) (S.state s.new) budget.old budget.new }
@@ -72,8 +71,8 @@ fn search_under<S: Grow>(
     ensures kept { IsKept (S.state s.new) }
     ensures later { S.goes_on s.old s.new }
 {
-    match joined(alloc, assume, &[selector]) {
-        Ok(list) => search(s, list.as_slice(), term, budget),
+    match joined(alloc, objective.assume, &[selector]) {
+        Ok(list) => search(s, list.as_slice(), objective.term, budget),
         Err(_) => Err(Halt::Memory),
     }
 }
@@ -105,31 +104,31 @@ fn bound<S: Grow>(
 fn lower<S: Grow>(
     alloc: Global,
     s: &mut S,
-    assume: &[Lit],
-    term: u32,
+    objective: &Objective<'_>,
     below: ExtInt,
     selectors: &mut Vec<Lit>,
     budget: &mut Budget,
 ) -> Result<Step, Halt>
-    requires term { term < length (S.state s.old).problem.terms }
-    requires literals { AreLitsOf (S.state s.old).problem.vars assume.now }
-    requires unretired { AreUnretired (S.state s.old).problem assume.now }
+    requires term { objective.now.term < length (S.state s.old).problem.terms }
+    requires literals { AreLitsOf (S.state s.old).problem.vars objective.now.assume.now }
+    requires unretired { AreUnretired (S.state s.old).problem objective.now.assume.now }
     requires budget { IsBudgetOf (S.state s.old).learnt budget.old }
     requires kept { IsKept (S.state s.old) }
     requires below { below ≡ NegInf → ⊥ }
-    ensures finds { IfOk result (FindsBelow (S.state s.old).problem assume.now term below (S.state s.new).cores
-        (S.state s.new).problem.bounds) }
+    ensures finds { IfOk result (FindsBelow (S.state s.old).problem objective.now.assume.now objective.now.term below
+        (S.state s.new).cores (S.state s.new).problem.bounds) }
     ensures halt { IfErr result (HaltedAt budget.new) }
-    ensures adds { AddsAtMost term below (S.state s.old) (S.state s.new) selectors.old.items selectors.new.items }
+    ensures adds { AddsAtMost objective.now.term below (S.state s.old) (S.state s.new) selectors.old.items
+        selectors.new.items }
     ensures keeps { Keeps (S.state s.old) (S.state s.new) budget.old budget.new }
     ensures counts { CountsUpTo ((S.state s.old).free + 1) 1 (S.state s.old) (S.state s.new) budget.old budget.new }
     ensures kept { IsKept (S.state s.new) }
     ensures later { S.goes_on s.old s.new }
 {
-    let Ok(selector) = bound(s, term, below, selectors) else {
+    let Ok(selector) = bound(s, objective.term, below, selectors) else {
         return Err(Halt::Memory);
     };
-    match search_under(alloc, s, assume, selector, term, budget) {
+    match search_under(alloc, s, objective, selector, budget) {
         Ok(Some(found)) => Ok(Step::Lower(found)),
         Ok(None) => Ok(Step::Nothing(selector)),
         Err(halt) => Err(halt),
@@ -152,32 +151,33 @@ fn is_lowest(value: ExtInt) -> bool
 fn lower_all<S: Grow>(
     alloc: Global,
     s: &mut S,
-    assume: &[Lit],
-    term: u32,
+    objective: &Objective<'_>,
     first: Found,
     selectors: &mut Vec<Lit>,
     budget: &mut Budget,
 ) -> Result<Minimum, Halt>
-    requires term { term < length (S.state s.old).problem.terms }
-    requires literals { AreLitsOf (S.state s.old).problem.vars assume.now }
-    requires unretired { AreUnretired (S.state s.old).problem assume.now }
+    requires term { objective.now.term < length (S.state s.old).problem.terms }
+    requires literals { AreLitsOf (S.state s.old).problem.vars objective.now.assume.now }
+    requires unretired { AreUnretired (S.state s.old).problem objective.now.assume.now }
     requires budget { IsBudgetOf (S.state s.old).learnt budget.old }
     requires kept { IsKept (S.state s.old) }
     requires none { selectors.old.items ≡ [] }
-    requires found { IsFound (S.state s.old).problem assume.now term first }
-    ensures least { IfOk result (IsLeast (S.state s.old).problem assume.now term (S.state s.new).cores
-        (S.state s.new).problem.bounds) }
+    requires found { IsFound (S.state s.old).problem objective.now.assume.now objective.now.term first }
+    ensures least { IfOk result (IsLeast (S.state s.old).problem objective.now.assume.now objective.now.term
+        (S.state s.new).cores (S.state s.new).problem.bounds) }
     ensures halt { IfErr result (HaltedAt budget.new) }
-    ensures bounds { HoldsBounds assume.now term (S.state s.old) (S.state s.new) selectors.new.items }
+    ensures bounds { HoldsBounds objective.now.assume.now objective.now.term (S.state s.old) (S.state s.new)
+        selectors.new.items }
     ensures keeps { Keeps (S.state s.old) (S.state s.new) budget.old budget.new }
-    ensures counts { (n : ℕ) → Spans (S.state s.old).problem term n → CountsUpTo ((S.state s.old).free + (n + 2))
-        (n + 2) (S.state s.old) (S.state s.new) budget.old budget.new }
+    ensures counts { (n : ℕ) → Spans (S.state s.old).problem objective.now.term n
+        → CountsUpTo ((S.state s.old).free + (n + 2)) (n + 2) (S.state s.old) (S.state s.new) budget.old
+        budget.new }
     ensures kept { IsKept (S.state s.new) }
     ensures later { S.goes_on s.old s.new }
 {
     let mut best = first;
     while !is_lowest(best.value) {
-        match lower(alloc, s, assume, term, best.value, selectors, budget) {
+        match lower(alloc, s, objective, best.value, selectors, budget) {
             Ok(Step::Lower(found)) => best = found,
             Ok(Step::Nothing(bound)) => {
                 return Ok(Minimum {
@@ -200,29 +200,29 @@ fn lower_all<S: Grow>(
 fn descend<S: Grow>(
     alloc: Global,
     s: &mut S,
-    assume: &[Lit],
-    term: u32,
+    objective: &Objective<'_>,
     first: Found,
     budget: &mut Budget,
 ) -> Result<Minimum, Halt>
-    requires term { term < length (S.state s.old).problem.terms }
-    requires literals { AreLitsOf (S.state s.old).problem.vars assume.now }
-    requires unretired { AreUnretired (S.state s.old).problem assume.now }
+    requires term { objective.now.term < length (S.state s.old).problem.terms }
+    requires literals { AreLitsOf (S.state s.old).problem.vars objective.now.assume.now }
+    requires unretired { AreUnretired (S.state s.old).problem objective.now.assume.now }
     requires budget { IsBudgetOf (S.state s.old).learnt budget.old }
     requires kept { IsKept (S.state s.old) }
-    requires found { IsFound (S.state s.old).problem assume.now term first }
-    ensures least { IfOk result (IsLeast (S.state s.old).problem assume.now term (S.state s.new).cores
-        (S.state s.new).problem.bounds) }
+    requires found { IsFound (S.state s.old).problem objective.now.assume.now objective.now.term first }
+    ensures least { IfOk result (IsLeast (S.state s.old).problem objective.now.assume.now objective.now.term
+        (S.state s.new).cores (S.state s.new).problem.bounds) }
     ensures halt { IfErr result (HaltedAt budget.new) }
-    ensures adds { AddsBounds assume.now term (S.state s.old) (S.state s.new) }
+    ensures adds { AddsBounds objective.now.assume.now objective.now.term (S.state s.old) (S.state s.new) }
     ensures keeps { Keeps (S.state s.old) (S.state s.new) budget.old budget.new }
-    ensures counts { (n : ℕ) → Spans (S.state s.old).problem term n → CountsUpTo ((S.state s.old).free + (n + 2))
-        (n + 2) (S.state s.old) (S.state s.new) budget.old budget.new }
+    ensures counts { (n : ℕ) → Spans (S.state s.old).problem objective.now.term n
+        → CountsUpTo ((S.state s.old).free + (n + 2)) (n + 2) (S.state s.old) (S.state s.new) budget.old
+        budget.new }
     ensures kept { IsKept (S.state s.new) }
     ensures later { S.goes_on s.old s.new }
 {
     let mut selectors = Vec::new(alloc);
-    let told = lower_all(alloc, s, assume, term, first, &mut selectors, budget);
+    let told = lower_all(alloc, s, objective, first, &mut selectors, budget);
     retire_each(s, selectors.as_slice());
     told
 }
@@ -254,8 +254,9 @@ pub fn least<S: Grow>(
     ensures kept { IsKept (S.state s.new) }
     ensures later { S.goes_on s.old s.new }
 {
+    let objective = Objective { assume, term };
     match search(s, assume, term, budget) {
-        Ok(Some(first)) => match descend(alloc, s, assume, term, first, budget) {
+        Ok(Some(first)) => match descend(alloc, s, &objective, first, budget) {
             Ok(minimum) => Ok(Some(minimum)),
             Err(halt) => Err(halt),
         },

@@ -56,9 +56,11 @@ returns-in-Err-clause-costs g c = λ vs among. costs-once (length vs) (g.S.Solve
     c.model_of.ensures.keeps.rises
 
 pub decide_each-requires-clause-asked_unretired : goal.decide_each-requires-clause-asked_unretired
-decide_each-requires-clause-asked_unretired g c = subst (λ (p : ProblemState). IsLive p.retired c.args.ask.now)
+decide_each-requires-clause-asked_unretired g c =
+    subst (λ (p : ProblemState). IsLive p.retired c.args.question.now.ask.now)
     (sym c.model_of.ensures.stays.problem) c.requires.asked_unretired
 
 pub decide_each-requires-clause-seen : goal.decide_each-requires-clause-seen
-decide_each-requires-clause-seen g c = subst (λ (p : ProblemState). All (IsSeen p c.args.assume.now) c.args.seen.now)
+decide_each-requires-clause-seen g c =
+    subst (λ (p : ProblemState). All (IsSeen p c.args.question.now.assume.now) c.args.question.now.seen.now)
     (sym c.model_of.ensures.stays.problem) c.requires.seen

@@ -30,22 +30,26 @@ returns-in-Ok-lits_in-clause-finds g c =
     c.in-Ok-Some.ensures.finds in
     let forced = forced-are p c.args.assume.now c.as_slice.result.now t.cores c.in-Ok-Some.kept found in
     subst (AreForcedOf p c.args.assume.now (both_signs c.args.atoms.now))
-    (sym (c.in-Ok-lits_in.ensures ∙ ap (λ (ks : List Kept). map (λ (k : Kept). k.lit) ks) c.as_slice-in-Ok-Some.ensures))
+    (sym (c.in-Ok-lits_in.ensures ∙ ap (λ (ks : List Kept). map (λ (k : Kept). k.lit) ks)
+    c.as_slice-in-Ok-Some.ensures))
     (subst (λ (ask : List Lit). AreForcedOf p c.args.assume.now ask (map (λ (k : Kept). k.lit) c.in-Ok-Some.kept))
     (c.as_slice.ensures.value ∙ c.in-Ok.ensures) forced)
 
 pub returns-in-Ok-lits_in-clause-ends : goal.returns-in-Ok-lits_in-clause-ends
-returns-in-Ok-lits_in-clause-ends g c = call-ends (g.S.Solve.state c.args.s.now) (g.S.Solve.state c.forced.new.s) c.args.budget.now
+returns-in-Ok-lits_in-clause-ends g c =
+    call-ends (g.S.Solve.state c.args.s.now) (g.S.Solve.state c.forced.new.s) c.args.budget.now
     c.forced.new.budget c.args.atoms.now c.as_slice.result.now [] (c.as_slice.ensures.value ∙ c.in-Ok.ensures)
     c.forced.ensures.keeps c.forced.ensures.costs c.forced.ensures.kept c.forced.ensures.stays
 
 pub returns-in-Ok-Some-clause-ends : goal.returns-in-Ok-Some-clause-ends
-returns-in-Ok-Some-clause-ends g c = call-ends (g.S.Solve.state c.args.s.now) (g.S.Solve.state c.forced.new.s) c.args.budget.now
+returns-in-Ok-Some-clause-ends g c =
+    call-ends (g.S.Solve.state c.args.s.now) (g.S.Solve.state c.forced.new.s) c.args.budget.now
     c.forced.new.budget c.args.atoms.now c.as_slice.result.now [] (c.as_slice.ensures.value ∙ c.in-Ok.ensures)
     c.forced.ensures.keeps c.forced.ensures.costs c.forced.ensures.kept c.forced.ensures.stays
 
 pub returns-in-Ok-None-clause-ends : goal.returns-in-Ok-None-clause-ends
-returns-in-Ok-None-clause-ends g c = call-ends (g.S.Solve.state c.args.s.now) (g.S.Solve.state c.forced.new.s) c.args.budget.now
+returns-in-Ok-None-clause-ends g c =
+    call-ends (g.S.Solve.state c.args.s.now) (g.S.Solve.state c.forced.new.s) c.args.budget.now
     c.forced.new.budget c.args.atoms.now c.as_slice.result.now [] (c.as_slice.ensures.value ∙ c.in-Ok.ensures)
     c.forced.ensures.keeps c.forced.ensures.costs c.forced.ensures.kept c.forced.ensures.stays
 

@@ -10,7 +10,7 @@ retire_each-requires-clause-new g c =
     let r : SolveState = g.S.Solve.state c.args.s.now in
     let s : SolveState = g.S.Solve.state c.lower_all-told.new.s in
     subst (AreNew s.problem.retired) (sym c.as_slice.ensures.value)
-    (selectors-new c.args.assume.now c.args.term r s s c.lower_all-told.new.selectors.items
+    (selectors-new c.args.objective.now.assume.now c.args.objective.now.term r s s c.lower_all-told.new.selectors.items
     c.lower_all-told.ensures.bounds c.requires.kept.problem)
 
 pub returns-clause-adds : goal.returns-clause-adds
@@ -18,7 +18,8 @@ returns-clause-adds g c =
     let r : SolveState = g.S.Solve.state c.args.s.now in
     let s : SolveState = g.S.Solve.state c.lower_all-told.new.s in
     let t : SolveState = g.S.Solve.state c.retire_each.new.s in
-    end-adds c.args.assume.now c.args.term r s t c.lower_all-told.new.selectors.items c.lower_all-told.ensures.bounds
+    end-adds c.args.objective.now.assume.now c.args.objective.now.term r s t c.lower_all-told.new.selectors.items
+    c.lower_all-told.ensures.bounds
     (subst (λ (ls : List Lit). t ≡ retired_all s ls) c.as_slice.ensures.value c.retire_each.ensures.retired)
 
 pub returns-clause-counts : goal.returns-clause-counts
@@ -26,6 +27,7 @@ returns-clause-counts g c = λ n spans.
     let r : SolveState = g.S.Solve.state c.args.s.now in
     let s : SolveState = g.S.Solve.state c.lower_all-told.new.s in
     let t : SolveState = g.S.Solve.state c.retire_each.new.s in
-    end-counts c.args.assume.now c.args.term r s t c.lower_all-told.new.selectors.items c.lower_all-told.ensures.bounds
+    end-counts c.args.objective.now.assume.now c.args.objective.now.term r s t c.lower_all-told.new.selectors.items
+    c.lower_all-told.ensures.bounds
     (subst (λ (ls : List Lit). t ≡ retired_all s ls) c.as_slice.ensures.value c.retire_each.ensures.retired)
     c.args.budget.now c.lower_all-told.new.budget (r.free + (n + 2)) (n + 2) (c.lower_all-told.ensures.counts n spans)

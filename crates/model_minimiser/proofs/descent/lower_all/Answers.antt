@@ -1,4 +1,4 @@
-use Rattle.std.proofs.Common.{refl, subst}
+use Rattle.std.proofs.Common.{subst, refl}
 use Rattle.ground_core.specs.Solving.{SolveState}
 use Rattle.model_minimiser.specs.declared.minimum.Step.{Step}
 use Rattle.model_minimiser.specs.Minima.{FindsBelow}
@@ -11,16 +11,16 @@ use Rattle.model_minimiser.proofs.descent.lower_all.Goals as goal
 
 pub loop-alloc-init : goal.loop-alloc-init
 loop-alloc-init g c = (
-  so-far-begins c.args.assume.now c.args.term (g.S.Solve.state c.args.s.now) c.args.budget.now c.args.first
+  so-far-begins c.args.objective.now.assume.now c.args.objective.now.term (g.S.Solve.state c.args.s.now)
+      c.args.budget.now c.args.first
       c.args.selectors.now.items c.requires.none c.requires.budget c.requires.kept c.requires.found,
   g.met.S.Solve.goes_on_itself c.args.s.now,
-  refl,
-  refl,
 )
 
 pub lower-requires-clause-unretired : goal.lower-requires-clause-unretired
 lower-requires-clause-unretired g c = still-unretired (g.S.Solve.state c.args.s.now).problem
-    (g.S.Solve.state c.loop-alloc.s).problem c.loop-alloc.invariant.0.past c.args.assume.now c.requires.literals
+    (g.S.Solve.state c.loop-alloc.s).problem c.loop-alloc.invariant.0.past c.args.objective.now.assume.now
+    c.requires.literals
     c.requires.unretired
 
 pub loop-alloc-smaller : goal.loop-alloc-smaller
@@ -28,9 +28,11 @@ loop-alloc-smaller g c =
     let r : SolveState = g.S.Solve.state c.args.s.now in
     let s : SolveState = g.S.Solve.state c.loop-alloc.s in
     let t : SolveState = g.S.Solve.state c.lower.new.s in
-    let finds = subst (λ (x : Step). FindsBelow s.problem c.args.assume.now c.args.term c.loop-alloc.best.value t.cores
+    let finds = subst (λ (x : Step). FindsBelow s.problem c.args.objective.now.assume.now c.args.objective.now.term
+    c.loop-alloc.best.value t.cores
     t.problem.bounds x) c.in-Ok-Lower.field-0-is c.in-Ok-Lower.ensures.finds in
-    turn-falls c.args.assume.now c.args.term r s c.args.budget.now c.loop-alloc.budget c.loop-alloc.best
+    turn-falls c.args.objective.now.assume.now c.args.objective.now.term r s c.args.budget.now c.loop-alloc.budget
+    c.loop-alloc.best
     c.loop-alloc.selectors.items
     c.loop-alloc.invariant.0 t c.lower.new.budget c.lower.new.selectors.items c.lower.ensures.adds c.lower.ensures.keeps
     c.lower.ensures.counts
@@ -41,17 +43,17 @@ loop-alloc-preserved g c =
     let r : SolveState = g.S.Solve.state c.args.s.now in
     let s : SolveState = g.S.Solve.state c.loop-alloc.s in
     let t : SolveState = g.S.Solve.state c.lower.new.s in
-    let finds = subst (λ (x : Step). FindsBelow s.problem c.args.assume.now c.args.term c.loop-alloc.best.value t.cores
+    let finds = subst (λ (x : Step). FindsBelow s.problem c.args.objective.now.assume.now c.args.objective.now.term
+    c.loop-alloc.best.value t.cores
     t.problem.bounds x) c.in-Ok-Lower.field-0-is c.in-Ok-Lower.ensures.finds in (
-      turn-next c.args.assume.now c.args.term r s c.args.budget.now c.loop-alloc.budget c.loop-alloc.best
+      turn-next c.args.objective.now.assume.now c.args.objective.now.term r s c.args.budget.now c.loop-alloc.budget
+          c.loop-alloc.best
           c.loop-alloc.selectors.items
           c.loop-alloc.invariant.0 t c.lower.new.budget c.lower.new.selectors.items c.lower.ensures.adds
           c.lower.ensures.keeps
           c.lower.ensures.counts c.in-Ok-Lower.found c.requires.literals finds c.lower.ensures.kept,
       g.met.S.Solve.goes_on_twice c.args.s.now c.loop-alloc.s c.lower.new.s c.loop-alloc.invariant.1
           c.lower.ensures.later,
-      refl,
-      refl,
     )
 
 pub returns-in-Ok-Nothing-clause-least : goal.returns-in-Ok-Nothing-clause-least
@@ -59,9 +61,11 @@ returns-in-Ok-Nothing-clause-least g c =
     let r : SolveState = g.S.Solve.state c.args.s.now in
     let s : SolveState = g.S.Solve.state c.loop-alloc.s in
     let t : SolveState = g.S.Solve.state c.lower.new.s in
-    let finds = subst (λ (x : Step). FindsBelow s.problem c.args.assume.now c.args.term c.loop-alloc.best.value t.cores
+    let finds = subst (λ (x : Step). FindsBelow s.problem c.args.objective.now.assume.now c.args.objective.now.term
+    c.loop-alloc.best.value t.cores
     t.problem.bounds x) c.in-Ok-Nothing.field-0-is c.in-Ok-Nothing.ensures.finds in
-    least-here c.args.assume.now c.args.term r s c.args.budget.now c.loop-alloc.budget c.loop-alloc.best
+    least-here c.args.objective.now.assume.now c.args.objective.now.term r s c.args.budget.now c.loop-alloc.budget
+    c.loop-alloc.best
     c.loop-alloc.selectors.items
     c.loop-alloc.invariant.0 t.cores t.problem.bounds c.in-Ok-Nothing.bound c.requires.kept.problem c.requires.literals
     (c.loop-alloc-test.ensures.other refl) finds
@@ -71,7 +75,8 @@ returns-in-Ok-Nothing-clause-bounds g c =
     let r : SolveState = g.S.Solve.state c.args.s.now in
     let s : SolveState = g.S.Solve.state c.loop-alloc.s in
     let t : SolveState = g.S.Solve.state c.lower.new.s in
-    turn-ends-bounds c.args.assume.now c.args.term r s c.args.budget.now c.loop-alloc.budget c.loop-alloc.best
+    turn-ends-bounds c.args.objective.now.assume.now c.args.objective.now.term r s c.args.budget.now c.loop-alloc.budget
+    c.loop-alloc.best
     c.loop-alloc.selectors.items
     c.loop-alloc.invariant.0 t c.lower.new.budget c.lower.new.selectors.items c.lower.ensures.adds c.lower.ensures.keeps
     c.lower.ensures.counts
@@ -81,7 +86,8 @@ returns-in-Ok-Nothing-clause-counts g c =
     let r : SolveState = g.S.Solve.state c.args.s.now in
     let s : SolveState = g.S.Solve.state c.loop-alloc.s in
     let t : SolveState = g.S.Solve.state c.lower.new.s in
-    turn-ends-counts c.args.assume.now c.args.term r s c.args.budget.now c.loop-alloc.budget c.loop-alloc.best
+    turn-ends-counts c.args.objective.now.assume.now c.args.objective.now.term r s c.args.budget.now c.loop-alloc.budget
+    c.loop-alloc.best
     c.loop-alloc.selectors.items
     c.loop-alloc.invariant.0 t c.lower.new.budget c.lower.new.selectors.items c.lower.ensures.adds c.lower.ensures.keeps
     c.lower.ensures.counts
@@ -92,7 +98,8 @@ returns-in-Err-clause-bounds g c =
     let r : SolveState = g.S.Solve.state c.args.s.now in
     let s : SolveState = g.S.Solve.state c.loop-alloc.s in
     let t : SolveState = g.S.Solve.state c.lower.new.s in
-    turn-ends-bounds c.args.assume.now c.args.term r s c.args.budget.now c.loop-alloc.budget c.loop-alloc.best
+    turn-ends-bounds c.args.objective.now.assume.now c.args.objective.now.term r s c.args.budget.now c.loop-alloc.budget
+    c.loop-alloc.best
     c.loop-alloc.selectors.items
     c.loop-alloc.invariant.0 t c.lower.new.budget c.lower.new.selectors.items c.lower.ensures.adds c.lower.ensures.keeps
     c.lower.ensures.counts
@@ -102,14 +109,16 @@ returns-in-Err-clause-counts g c =
     let r : SolveState = g.S.Solve.state c.args.s.now in
     let s : SolveState = g.S.Solve.state c.loop-alloc.s in
     let t : SolveState = g.S.Solve.state c.lower.new.s in
-    turn-ends-counts c.args.assume.now c.args.term r s c.args.budget.now c.loop-alloc.budget c.loop-alloc.best
+    turn-ends-counts c.args.objective.now.assume.now c.args.objective.now.term r s c.args.budget.now c.loop-alloc.budget
+    c.loop-alloc.best
     c.loop-alloc.selectors.items
     c.loop-alloc.invariant.0 t c.lower.new.budget c.lower.new.selectors.items c.lower.ensures.adds c.lower.ensures.keeps
     c.lower.ensures.counts
     (c.loop-alloc-test.ensures.other refl)
 
 pub returns-clause-counts : goal.returns-clause-counts
-returns-clause-counts g c = so-far-most c.args.assume.now c.args.term (g.S.Solve.state c.args.s.now)
+returns-clause-counts g c =
+    so-far-most c.args.objective.now.assume.now c.args.objective.now.term (g.S.Solve.state c.args.s.now)
     (g.S.Solve.state c.loop-alloc.s) c.args.budget.now c.loop-alloc.budget c.loop-alloc.best
     c.loop-alloc.selectors.items c.loop-alloc.invariant.0
 

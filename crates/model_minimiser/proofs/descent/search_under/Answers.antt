@@ -10,7 +10,8 @@ search-requires-clause-unretired g c = λ l a b. c.requires.unretired l a (subst
 
 pub returns-in-Ok-clause-finds : goal.returns-in-Ok-clause-finds
 returns-in-Ok-clause-finds g c =
-    subst (λ (xs : List Lit). IfOk c.search.result (Finds (g.S.Solve.state c.args.s.now).problem xs c.args.term
+    subst (λ (xs : List Lit). IfOk c.search.result (Finds (g.S.Solve.state c.args.s.now).problem xs
+    c.args.objective.now.term
     (g.S.Solve.state c.search.new.s).cores)) (c.as_slice.ensures.value ∙ c.in-Ok.ensures) c.search.ensures.finds
 
 pub returns-in-Err-clause-counts : goal.returns-in-Err-clause-counts

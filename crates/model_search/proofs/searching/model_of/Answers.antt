@@ -23,13 +23,16 @@ returns-in-Ok-Unsat-clause-finds g c =
     refused before.problem before.cores after.cores c.in-Ok-Unsat.field-0-0 c.args.lits.now answers keeps
 
 pub returns-in-Ok-Sat-clause-keeps : goal.returns-in-Ok-Sat-clause-keeps
-returns-in-Ok-Sat-clause-keeps g c = keeps-searched (g.S.Solve.state c.args.s.now) (g.S.Solve.state c.solve.new.self) c.args.budget.now
+returns-in-Ok-Sat-clause-keeps g c =
+    keeps-searched (g.S.Solve.state c.args.s.now) (g.S.Solve.state c.solve.new.self) c.args.budget.now
     c.solve.new.budget c.solve.result c.solve.ensures.problem c.solve.ensures.spends c.solve.ensures.cores
 
 pub returns-in-Ok-Unsat-clause-keeps : goal.returns-in-Ok-Unsat-clause-keeps
-returns-in-Ok-Unsat-clause-keeps g c = keeps-searched (g.S.Solve.state c.args.s.now) (g.S.Solve.state c.solve.new.self) c.args.budget.now
+returns-in-Ok-Unsat-clause-keeps g c =
+    keeps-searched (g.S.Solve.state c.args.s.now) (g.S.Solve.state c.solve.new.self) c.args.budget.now
     c.solve.new.budget c.solve.result c.solve.ensures.problem c.solve.ensures.spends c.solve.ensures.cores
 
 pub returns-clause-keeps : goal.returns-clause-keeps
-returns-clause-keeps g c = keeps-searched (g.S.Solve.state c.args.s.now) (g.S.Solve.state c.solve.new.self) c.args.budget.now
+returns-clause-keeps g c =
+    keeps-searched (g.S.Solve.state c.args.s.now) (g.S.Solve.state c.solve.new.self) c.args.budget.now
     c.solve.new.budget c.solve.result c.solve.ensures.problem c.solve.ensures.spends c.solve.ensures.cores
