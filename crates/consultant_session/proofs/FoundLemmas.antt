@@ -44,7 +44,8 @@ choices_over kb numbers p ls is over =
     (All-from_recursion (λ l. IsAtomOver kb.vocabulary.symbols kb.known.domains (atom_of l)) ls (over_at kb ls over))
 
 -- what holds of each holds of each of some of them
-pub of_some : {A : Type 0} (P : A → Type 0) (xs ys : List A) → IsSublist xs ys → AllByRecursion P ys → AllByRecursion P xs
+pub of_some : {A : Type 0} (P : A → Type 0) (xs ys : List A) → IsSublist xs ys → AllByRecursion P ys
+    → AllByRecursion P xs
 of_some P [] ys is all = tt
 of_some P (x ∷ xs) [] is all = absurd is
 of_some P (x ∷ xs) (y ∷ ys) (inl is) all = (subst P (sym is.0) all.0, of_some P xs ys is.1 all.1)

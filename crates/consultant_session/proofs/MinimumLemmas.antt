@@ -1,5 +1,6 @@
 -- How far apart the values of a term block can be, and so how many searches its least value takes.
-use Rattle.std.proofs.Common.{◌≡◌, ◌∙◌, ℕ, ◌+◌, ◌<◌, ◌≤◌, ℤ, pos, negsuc, ◌+ℤ◌, ◌-ℤ◌, ◌≤ℤ◌, nat_abs, Bool, List, [], length}
+use Rattle.std.proofs.Common.{◌≡◌, ◌∙◌, ℕ, ◌+◌, ◌<◌, ◌≤◌, ℤ, pos, negsuc, ◌+ℤ◌, ◌-ℤ◌, ◌≤ℤ◌, nat_abs, Bool, List, []}
+use Rattle.std.proofs.Common.{length}
 use Rattle.std.proofs.Common.{zero, suc, ◌∷◌, Option, Some, None, Result, refl, sym, ap, subst, arith, slice_get}
 use Rattle.std.proofs.lemmas.Int.{ints}
 use Rattle.std.specs.declared.alloc.AllocError.{AllocError as Memory}
@@ -75,7 +76,8 @@ spans kb numbers p n is few = spans_at kb p n is.represents few (slice_get kb.te
 pub halts_by : (Of : Base → Type 0) (choices : List Literal) {c : Command} {budget : Option ℕ}
     {numbers numbers' : GroundBase} {old mid new : SolveState} {b spent : Budget}
     → ((kb : Base) → Of kb
-    → IsCalled (searches kb (record { choices = choices; budget = budget }) c) c budget numbers numbers' old mid new b spent)
+    → IsCalled (searches kb (record { choices = choices; budget = budget }) c) c budget numbers numbers' old mid new b
+    spent)
     → (kb : Base) → Of kb → (h : Halt) (result : Result Reply Memory) → HaltedAt spent h → IsHalted h spent result
     → QueryEnds Of c choices budget numbers numbers' old new result
 halts_by Of choices {c} {budget} called kb of h result at is =

@@ -1,5 +1,6 @@
 -- How queries of a task end, and what commands learn.
-use Rattle.std.proofs.Common.{◌≡◌, ◌∙◌, ℕ, zero, ◌+◌, ◌-◌, ◌*◌, ◌^◌, ◌<◌, ◌≤◌, List, [], length, refl, sym, ap, subst, arith}
+use Rattle.std.proofs.Common.{◌≡◌, ◌∙◌, ℕ, zero, ◌+◌, ◌-◌, ◌*◌, ◌^◌, ◌<◌, ◌≤◌, List, [], length, refl, sym, ap, subst}
+use Rattle.std.proofs.Common.{arith}
 use Rattle.std.proofs.Common.{Option, Some, None, Result, Ok, Err, IfOk, IfSome}
 use Rattle.std.specs.declared.alloc.AllocError.{AllocError as Memory}
 use Rattle.std.proofs.lemmas.Nat.{mul-le, pow_pos}
@@ -179,7 +180,8 @@ decides None kb s c r other is k same = other (subst (IsAnswerTo c) same is.0)
 
 -- the task of a session after a query
 pub still_over : (Of : Base → Type 0) (kb : Base) (c : Command) (choices : List Literal) (budget : Option ℕ)
-    (numbers numbers' : GroundBase) (old new : SolveState) (result : Result Reply Memory) → QueryEnds Of c choices budget numbers numbers' old new result
+    (numbers numbers' : GroundBase) (old new : SolveState) (result : Result Reply Memory)
+    → QueryEnds Of c choices budget numbers numbers' old new result
     → IsTaskOver kb numbers old → IsTaskOver kb numbers' new
 still_over Of kb c choices budget numbers numbers' old new result ends is = record {
   task = ends.task kb is.task;

@@ -57,8 +57,8 @@ IsHalted halt.Spent b (Err e) = ⊥
 IsHalted halt.Memory b (Ok r) = ⊥
 IsHalted halt.Memory b (Err e) = ⊤
 
--- how a query of a task ends: with a right reply, over each knowledge base for which the task is as it should be, unless
--- memory ran out
+-- how a query of a task ends: with a right reply, over each knowledge base for which the task is as it should be,
+-- unless memory ran out
 pub record QueryEnds (Of : Base → Type 0) (c : Command) (choices : List Literal) (budget : Option ℕ)
     (b b' : GroundBase) (old new : SolveState) (result : Result Reply Memory) : Type 0 where
   pub right : (kb : Base) → Of kb → old.free ≤ weight kb

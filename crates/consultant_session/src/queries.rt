@@ -30,6 +30,7 @@ fn begin<C: Choose + Drop>(task: &mut Task<Solver<C>>, limit: Option<u64>) -> Bu
     ensures budget { result ≡ record { limit = limit; spent = 0 } }
 {
     task.forget();
+    task.make_ready();
     Budget { limit, spent: 0 }
 }
 
@@ -97,7 +98,8 @@ pub fn propagate<C: Choose + Drop>(
     requires task { IsOpenTask task.old.numbers task.old.solver.kept.problem unknown.now }
     requires choices { AreOver task.old.numbers choices.now }
     ensures { QueryEnds (λ kb. IsOpenTaskOf kb task.old.numbers task.old.solver.kept.problem unknown.now)
-        command.Propagate choices.now limit task.old.numbers task.new.numbers task.old.solver.kept task.new.solver.kept result }
+        command.Propagate choices.now limit task.old.numbers task.new.numbers task.old.solver.kept task.new.solver.kept
+        result }
 {
     let mut budget = begin(task, limit);
     match forced(alloc, task, choices, unknown, &mut budget) {

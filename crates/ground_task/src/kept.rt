@@ -24,6 +24,16 @@ impl<C: Choose + Drop> Task<Solver<C>> {
         self.solver.searches()
     }
 
+    /// Has the solver make ready for many searches, unless it made none yet: this takes as long as some eight of them
+    /// and halves each, so that a task of one search goes without. Where memory runs out searches go on as before.
+    pub fn make_ready(&mut self)
+        ensures { self.new ≡ self.old }
+    {
+        if self.solver.searches() > 0 {
+            let _ = self.solver.prepare();
+        }
+    }
+
     /// Gives up what was learnt, and what was found to have no model. It stays a task of the same knowledge bases.
     pub fn forget(&mut self)
         ensures forgotten { Forgets self.old.solver self.new.solver }

@@ -19,7 +19,8 @@ support-requires-clause-choices g c =
 
 pub support-requires-clause-budget : goal.support-requires-clause-budget
 support-requires-clause-budget g c =
-    unspent_budget c.args.limit c.begin-budget.new.task.solver.kept.learnt c.begin-budget.result c.begin-budget.ensures.budget
+    unspent_budget c.args.limit c.begin-budget.new.task.solver.kept.learnt c.begin-budget.result
+    c.begin-budget.ensures.budget
 
 pub support-requires-clause-literal : goal.support-requires-clause-literal
 support-requires-clause-literal g c =
@@ -39,8 +40,8 @@ returns-in-Ok-By g c =
     }) (reply.Supported _) (λ k is. cc)
     (λ kb is. (
       tt,
-      subst (λ (ls : List Literal). AnswersSupport kb c.args.choices.now c.args.literal.now (By ls)) (sym c.in-Ok-By.some-is)
-          (subst (AnswersSupport kb c.args.choices.now c.args.literal.now) c.in-Ok-By.field-0-is
+      subst (λ (ls : List Literal). AnswersSupport kb c.args.choices.now c.args.literal.now (By ls)) (sym
+          c.in-Ok-By.some-is) (subst (AnswersSupport kb c.args.choices.now c.args.literal.now) c.in-Ok-By.field-0-is
           (c.in-Ok-By.ensures.answer kb (c.begin-budget.ensures.task kb is))),
     ))
 

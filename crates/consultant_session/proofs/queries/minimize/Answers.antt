@@ -22,7 +22,8 @@ least-requires-clause-choices g c =
 
 pub least-requires-clause-budget : goal.least-requires-clause-budget
 least-requires-clause-budget g c =
-    unspent_budget c.args.limit c.begin-budget.new.task.solver.kept.learnt c.begin-budget.result c.begin-budget.ensures.budget
+    unspent_budget c.args.limit c.begin-budget.new.task.solver.kept.learnt c.begin-budget.result
+    c.begin-budget.ensures.budget
 
 pub least-requires-clause-term : goal.least-requires-clause-term
 least-requires-clause-term g c =

@@ -17,7 +17,8 @@ ask-requires-clause-choices g c =
 
 pub ask-requires-clause-budget : goal.ask-requires-clause-budget
 ask-requires-clause-budget g c =
-    unspent_budget c.args.limit c.begin-budget.new.task.solver.kept.learnt c.begin-budget.result c.begin-budget.ensures.budget
+    unspent_budget c.args.limit c.begin-budget.new.task.solver.kept.learnt c.begin-budget.result
+    c.begin-budget.ensures.budget
 
 pub returns-in-Ok-Model : goal.returns-in-Ok-Model
 returns-in-Ok-Model g c =

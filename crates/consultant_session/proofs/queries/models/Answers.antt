@@ -17,7 +17,8 @@ models-requires-clause-choices g c =
 
 pub models-requires-clause-budget : goal.models-requires-clause-budget
 models-requires-clause-budget g c =
-    unspent_budget c.args.limit c.begin-budget.new.task.solver.kept.learnt c.begin-budget.result c.begin-budget.ensures.budget
+    unspent_budget c.args.limit c.begin-budget.new.task.solver.kept.learnt c.begin-budget.result
+    c.begin-budget.ensures.budget
 
 pub returns-in-Ok-Some : goal.returns-in-Ok-Some
 returns-in-Ok-Some g c =

@@ -24,12 +24,14 @@ forced-requires-clause-choices g c =
 
 pub forced-requires-clause-budget : goal.forced-requires-clause-budget
 forced-requires-clause-budget g c =
-    unspent_budget c.args.limit c.begin-budget.new.task.solver.kept.learnt c.begin-budget.result c.begin-budget.ensures.budget
+    unspent_budget c.args.limit c.begin-budget.new.task.solver.kept.learnt c.begin-budget.result
+    c.begin-budget.ensures.budget
 
 pub returns-in-Ok-Some : goal.returns-in-Ok-Some
 returns-in-Ok-Some g c =
     let end = c.forced.ensures in
-    found (λ kb. IsOpenTaskOf kb c.args.task.now.numbers c.args.task.now.solver.kept.problem c.args.unknown.now) c.args.choices.now (record {
+    found (λ kb. IsOpenTaskOf kb c.args.task.now.numbers c.args.task.now.solver.kept.problem c.args.unknown.now)
+    c.args.choices.now (record {
       query = tt;
       empty = refl;
       forgot = c.begin-budget.ensures.kept;
@@ -39,7 +41,8 @@ returns-in-Ok-Some g c =
     }) (reply.Forced _) (λ k is. cc)
     (λ kb is. (
       tt,
-      subst (λ (ls : List Literal). IsAnswer kb (record { choices = c.args.choices.now }) (Some ls)) (sym c.in-Ok-Some.literals-is)
+      subst (λ (ls : List Literal). IsAnswer kb (record { choices = c.args.choices.now }) (Some ls)) (sym
+          c.in-Ok-Some.literals-is)
           (subst (IsAnswer kb (record { choices = c.args.choices.now })) c.in-Ok-Some.field-0-is
           (c.in-Ok-Some.ensures.answer kb (still-open kb c.args.task.now.numbers c.begin-budget.new.task.numbers
           c.args.task.now.solver.kept.problem c.begin-budget.new.task.solver.kept.problem c.args.unknown.now
@@ -49,7 +52,8 @@ returns-in-Ok-Some g c =
 pub returns-in-Ok-None : goal.returns-in-Ok-None
 returns-in-Ok-None g c =
     let end = c.forced.ensures in
-    found (λ kb. IsOpenTaskOf kb c.args.task.now.numbers c.args.task.now.solver.kept.problem c.args.unknown.now) c.args.choices.now (record {
+    found (λ kb. IsOpenTaskOf kb c.args.task.now.numbers c.args.task.now.solver.kept.problem c.args.unknown.now)
+    c.args.choices.now (record {
       query = tt;
       empty = refl;
       forgot = c.begin-budget.ensures.kept;
@@ -68,7 +72,8 @@ returns-in-Ok-None g c =
 pub returns-in-Err : goal.returns-in-Err
 returns-in-Err g c =
     let end = c.forced.ensures in
-    halts (λ kb. IsOpenTaskOf kb c.args.task.now.numbers c.args.task.now.solver.kept.problem c.args.unknown.now) c.args.choices.now (record {
+    halts (λ kb. IsOpenTaskOf kb c.args.task.now.numbers c.args.task.now.solver.kept.problem c.args.unknown.now)
+    c.args.choices.now (record {
       query = tt;
       empty = refl;
       forgot = c.begin-budget.ensures.kept;

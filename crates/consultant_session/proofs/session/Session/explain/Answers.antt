@@ -32,18 +32,19 @@ explain-requires-clause-literal g c =
 pub returns-clause-right : goal.returns-clause-right
 returns-clause-right g c =
     rw (← c.self.view_is) (subst (λ (ls : List Literal). IfOk c.explain.result
-    (RightAnswer (base_of c.self.inside.kb) (record { choices = ls; budget = c.self.inside.budget }) (command.Explain c.args.literal.now)))
-    c.as_slice.ensures
+    (RightAnswer (base_of c.self.inside.kb) (record { choices = ls; budget = c.self.inside.budget }) (command.Explain
+    c.args.literal.now))) c.as_slice.ensures
     (c.explain.ensures.right (base_of c.self.inside.kb) c.self.invariant.over.task c.self.invariant.over.free))
 
 pub returns-clause-searches : goal.returns-clause-searches
 returns-clause-searches g c =
-    rw (← c.self.view_is) (query_searches _ (base_of c.self.inside.kb) (command.Explain c.args.literal.now) _ _ _ _ _ _ _ c.explain.ensures
-    c.self.invariant.over)
+    rw (← c.self.view_is) (query_searches _ (base_of c.self.inside.kb) (command.Explain c.args.literal.now) _ _ _ _ _ _
+    _ c.explain.ensures c.self.invariant.over)
 
 pub invariant_of-self : goal.invariant_of-self
 invariant_of-self g c = record {
   choices = c.self.invariant.choices;
   unknown = c.self.invariant.unknown;
-  over = still_over _ (base_of c.self.inside.kb) (command.Explain c.args.literal.now) _ _ _ _ _ _ _ c.explain.ensures c.self.invariant.over;
+  over = still_over _ (base_of c.self.inside.kb) (command.Explain c.args.literal.now) _ _ _ _ _ _ _ c.explain.ensures
+      c.self.invariant.over;
 }

@@ -15,8 +15,8 @@ use Rattle.consultant_session.proofs.session.Session.minimize.Goals as goal
 pub returns-in_err-renew-clause-searches : goal.returns-in_err-renew-clause-searches
 returns-in_err-renew-clause-searches g c =
     let p = err_from_is_err_and c.from_residual.result c.from_residual.ensures.1 in
-    rw p.1 (idle (base_of c.args.self.now.kb) (command.Minimize c.args.term) c.args.self.now.state.budget _ c.args.self.now.solver
-    c.renew.new.self.solver (sym c.in_err-renew.ensures.learnt) tt c.in_err-renew.ensures.solver)
+    rw p.1 (idle (base_of c.args.self.now.kb) (command.Minimize c.args.term) c.args.self.now.state.budget _
+    c.args.self.now.solver c.renew.new.self.solver (sym c.in_err-renew.ensures.learnt) tt c.in_err-renew.ensures.solver)
 
 pub minimize-requires-clause-task : goal.minimize-requires-clause-task
 minimize-requires-clause-task g c = (base_of c.self.inside.kb, c.self.invariant.over.task)
@@ -31,13 +31,15 @@ pub minimize-requires-clause-term : goal.minimize-requires-clause-term
 minimize-requires-clause-term g c =
     let kb = ap (λ (s : SessionState). s.kb) c.self.view_is ∙ c.in_ok-renew.ensures.kb in
     subst (λ (n : ℕ). c.args.term < n)
-    (ap (λ (k : Opened). length (base_of k).terms) (sym kb) ∙ sym c.self.invariant.over.task.represents.number) c.requires
+    (ap (λ (k : Opened). length (base_of k).terms) (sym kb) ∙ sym c.self.invariant.over.task.represents.number)
+    c.requires
 
 pub invariant_of-self : goal.invariant_of-self
 invariant_of-self g c = record {
   choices = c.self.invariant.choices;
   unknown = c.self.invariant.unknown;
-  over = still_over _ (base_of c.self.inside.kb) (command.Minimize c.args.term) _ _ _ _ _ _ _ c.minimize.ensures c.self.invariant.over;
+  over = still_over _ (base_of c.self.inside.kb) (command.Minimize c.args.term) _ _ _ _ _ _ _ c.minimize.ensures
+      c.self.invariant.over;
 }
 
 pub returns-clause-state : goal.returns-clause-state
@@ -51,22 +53,24 @@ returns-clause-right g c =
     let state = ap (λ (s : SessionState). s.state) c.self.view_is ∙ c.in_ok-renew.ensures.state in
     let kb = ap (λ (s : SessionState). s.kb) c.self.view_is ∙ c.in_ok-renew.ensures.kb in
     let answer = subst (λ (ls : List Literal). IfOk c.minimize.result
-    (RightAnswer (base_of c.self.inside.kb) (record { choices = ls; budget = c.self.inside.budget }) (command.Minimize c.args.term)))
-    c.as_slice.ensures
+    (RightAnswer (base_of c.self.inside.kb) (record { choices = ls; budget = c.self.inside.budget }) (command.Minimize
+    c.args.term))) c.as_slice.ensures
     (c.minimize.ensures.right (base_of c.self.inside.kb) c.self.invariant.over.task c.self.invariant.over.free) in
-    subst (λ (s : State). IfOk c.minimize.result (RightAnswer (base_of c.args.self.now.kb) s (command.Minimize c.args.term))) state
-    (subst (λ (k : Opened). IfOk c.minimize.result (RightAnswer (base_of k)
-    (record { choices = c.self.inside.choices; budget = c.self.inside.budget }) (command.Minimize c.args.term))) kb answer)
+    subst (λ (s : State). IfOk c.minimize.result (RightAnswer (base_of c.args.self.now.kb) s (command.Minimize
+    c.args.term))) state (subst (λ (k : Opened). IfOk c.minimize.result (RightAnswer (base_of k)
+    (record { choices = c.self.inside.choices; budget = c.self.inside.budget }) (command.Minimize c.args.term))) kb
+    answer)
 
 pub returns-clause-searches : goal.returns-clause-searches
 returns-clause-searches g c =
     let budget = ap (λ (s : SessionState). s.state.budget) c.self.view_is
     ∙ ap (λ (s : State). s.budget) c.in_ok-renew.ensures.state in
     let kb = ap (λ (s : SessionState). s.kb) c.self.view_is ∙ c.in_ok-renew.ensures.kb in
-    let searched = renewed_searches (base_of c.self.inside.kb) (command.Minimize c.args.term) c.self.inside.budget c.minimize.result
-    c.args.self.now.solver c.self.inside.task.solver.kept c.minimize.new.task.solver.kept refl
-    (query_searches _ (base_of c.self.inside.kb) (command.Minimize c.args.term) _ _ _ _ _ _ _ c.minimize.ensures c.self.invariant.over) in
-    subst (λ (b : Option ℕ). Searches (base_of c.args.self.now.kb) (command.Minimize c.args.term) b c.minimize.result c.args.self.now.solver
-    c.minimize.new.task.solver.kept) budget
-    (subst (λ (k : Opened). Searches (base_of k) (command.Minimize c.args.term) c.self.inside.budget c.minimize.result c.args.self.now.solver
-    c.minimize.new.task.solver.kept) kb searched)
+    let searched = renewed_searches (base_of c.self.inside.kb) (command.Minimize c.args.term) c.self.inside.budget
+    c.minimize.result c.args.self.now.solver c.self.inside.task.solver.kept c.minimize.new.task.solver.kept refl
+    (query_searches _ (base_of c.self.inside.kb) (command.Minimize c.args.term) _ _ _ _ _ _ _ c.minimize.ensures
+    c.self.invariant.over) in
+    subst (λ (b : Option ℕ). Searches (base_of c.args.self.now.kb) (command.Minimize c.args.term) b c.minimize.result
+    c.args.self.now.solver c.minimize.new.task.solver.kept) budget
+    (subst (λ (k : Opened). Searches (base_of k) (command.Minimize c.args.term) c.self.inside.budget c.minimize.result
+    c.args.self.now.solver c.minimize.new.task.solver.kept) kb searched)

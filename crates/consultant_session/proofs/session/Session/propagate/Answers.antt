@@ -30,19 +30,20 @@ returns-clause-right g c =
     rw (← c.self.view_is) (subst (λ (ls : List Literal). IfOk c.propagate.result
     (RightAnswer (base_of c.self.inside.kb) (record { choices = ls; budget = c.self.inside.budget }) command.Propagate))
     c.as_slice.ensures
-    (c.propagate.ensures.right (base_of c.self.inside.kb) (subst (IsOpenTaskOf (base_of c.self.inside.kb) c.self.inside.task.numbers
-    c.self.inside.task.solver.kept.problem) (sym c.as_slice-2.ensures.value)
+    (c.propagate.ensures.right (base_of c.self.inside.kb) (subst (IsOpenTaskOf (base_of c.self.inside.kb)
+    c.self.inside.task.numbers c.self.inside.task.solver.kept.problem) (sym c.as_slice-2.ensures.value)
     (open-task (base_of c.self.inside.kb) c.self.inside.task.numbers c.self.inside.task.solver.kept.problem
     c.self.inside.unknown.items c.self.invariant.over.task c.self.invariant.unknown)) c.self.invariant.over.free))
 
 pub returns-clause-searches : goal.returns-clause-searches
 returns-clause-searches g c =
-    rw (← c.self.view_is) (query_searches _ (base_of c.self.inside.kb) command.Propagate _ _ _ _ _ _ _ c.propagate.ensures
-    c.self.invariant.over)
+    rw (← c.self.view_is) (query_searches _ (base_of c.self.inside.kb) command.Propagate _ _ _ _ _ _ _
+    c.propagate.ensures c.self.invariant.over)
 
 pub invariant_of-self : goal.invariant_of-self
 invariant_of-self g c = record {
   choices = c.self.invariant.choices;
   unknown = c.self.invariant.unknown;
-  over = still_over _ (base_of c.self.inside.kb) command.Propagate _ _ _ _ _ _ _ c.propagate.ensures c.self.invariant.over;
+  over = still_over _ (base_of c.self.inside.kb) command.Propagate _ _ _ _ _ _ _ c.propagate.ensures
+      c.self.invariant.over;
 }

@@ -21,7 +21,8 @@ pub returns-then-self-le-MOST_ADDITIONS-clause-kb : goal.returns-then-self-le-MO
 returns-then-self-le-MOST_ADDITIONS-clause-kb g c = ap (λ (s : SessionState). s.kb) c.self.view_is
 
 pub returns-then-self-le-MOST_ADDITIONS-clause-learnt : goal.returns-then-self-le-MOST_ADDITIONS-clause-learnt
-returns-then-self-le-MOST_ADDITIONS-clause-learnt g c = ap (λ (s : SolveState). s.learnt) c.forget.ensures.forgotten.kept
+returns-then-self-le-MOST_ADDITIONS-clause-learnt g c =
+    ap (λ (s : SolveState). s.learnt) c.forget.ensures.forgotten.kept
 
 pub returns-then-self-le-MOST_ADDITIONS-clause-solver : goal.returns-then-self-le-MOST_ADDITIONS-clause-solver
 returns-then-self-le-MOST_ADDITIONS-clause-solver g c =
@@ -34,7 +35,8 @@ pub invariant_of-self-in_err-open_anew : goal.invariant_of-self-in_err-open_anew
 invariant_of-self-in_err-open_anew g c = record {
   choices = c.self.invariant.choices;
   unknown = c.self.invariant.unknown;
-  over = c.in_err-open_anew.ensures.over (forgotten-over (base_of c.self.inside.kb) c.self.inside.task.numbers c.forget.new.self.numbers
+  over = c.in_err-open_anew.ensures.over (forgotten-over (base_of c.self.inside.kb) c.self.inside.task.numbers
+      c.forget.new.self.numbers
       c.self.inside.task.solver.kept c.forget.new.self.solver.kept c.forget.ensures.forgotten.kept
       (c.forget.ensures.task (base_of c.self.inside.kb)) c.self.invariant.over);
 }
@@ -46,12 +48,15 @@ pub returns-in_err-open_anew-clause-kb : goal.returns-in_err-open_anew-clause-kb
 returns-in_err-open_anew-clause-kb g c = ap (λ (s : SessionState). s.kb) c.self.view_is
 
 pub returns-in_err-open_anew-clause-learnt : goal.returns-in_err-open_anew-clause-learnt
-returns-in_err-open_anew-clause-learnt g c = c.in_err-open_anew.ensures.learnt (ap (λ (s : SolveState). s.learnt) c.forget.ensures.forgotten.kept)
+returns-in_err-open_anew-clause-learnt g c =
+    c.in_err-open_anew.ensures.learnt (ap (λ (s : SolveState). s.learnt) c.forget.ensures.forgotten.kept)
 
 pub returns-in_err-open_anew-clause-solver : goal.returns-in_err-open_anew-clause-solver
 returns-in_err-open_anew-clause-solver g c =
-    rw (← c.self.view_is) (solver-of (base_of c.self.inside.kb) c.open_anew.new.task.numbers c.open_anew.new.task.solver.kept
-    (c.in_err-open_anew.ensures.over (forgotten-over (base_of c.self.inside.kb) c.self.inside.task.numbers c.forget.new.self.numbers
+    rw (← c.self.view_is) (solver-of (base_of c.self.inside.kb) c.open_anew.new.task.numbers
+    c.open_anew.new.task.solver.kept
+    (c.in_err-open_anew.ensures.over (forgotten-over (base_of c.self.inside.kb) c.self.inside.task.numbers
+    c.forget.new.self.numbers
     c.self.inside.task.solver.kept c.forget.new.self.solver.kept c.forget.ensures.forgotten.kept
     (c.forget.ensures.task (base_of c.self.inside.kb)) c.self.invariant.over)))
 
@@ -59,7 +64,8 @@ pub invariant_of-self-2 : goal.invariant_of-self-2
 invariant_of-self-2 g c = record {
   choices = c.self.invariant.choices;
   unknown = c.self.invariant.unknown;
-  over = c.in_ok-open_anew.ensures.over (forgotten-over (base_of c.self.inside.kb) c.self.inside.task.numbers c.forget.new.self.numbers
+  over = c.in_ok-open_anew.ensures.over (forgotten-over (base_of c.self.inside.kb) c.self.inside.task.numbers
+      c.forget.new.self.numbers
       c.self.inside.task.solver.kept c.forget.new.self.solver.kept c.forget.ensures.forgotten.kept
       (c.forget.ensures.task (base_of c.self.inside.kb)) c.self.invariant.over);
 }
@@ -71,11 +77,14 @@ pub returns-clause-kb : goal.returns-clause-kb
 returns-clause-kb g c = ap (λ (s : SessionState). s.kb) c.self.view_is
 
 pub returns-clause-learnt : goal.returns-clause-learnt
-returns-clause-learnt g c = c.in_ok-open_anew.ensures.learnt (ap (λ (s : SolveState). s.learnt) c.forget.ensures.forgotten.kept)
+returns-clause-learnt g c =
+    c.in_ok-open_anew.ensures.learnt (ap (λ (s : SolveState). s.learnt) c.forget.ensures.forgotten.kept)
 
 pub returns-clause-solver : goal.returns-clause-solver
 returns-clause-solver g c =
-    rw (← c.self.view_is) (solver-of (base_of c.self.inside.kb) c.open_anew.new.task.numbers c.open_anew.new.task.solver.kept
-    (c.in_ok-open_anew.ensures.over (forgotten-over (base_of c.self.inside.kb) c.self.inside.task.numbers c.forget.new.self.numbers
+    rw (← c.self.view_is) (solver-of (base_of c.self.inside.kb) c.open_anew.new.task.numbers
+    c.open_anew.new.task.solver.kept
+    (c.in_ok-open_anew.ensures.over (forgotten-over (base_of c.self.inside.kb) c.self.inside.task.numbers
+    c.forget.new.self.numbers
     c.self.inside.task.solver.kept c.forget.new.self.solver.kept c.forget.ensures.forgotten.kept
     (c.forget.ensures.task (base_of c.self.inside.kb)) c.self.invariant.over)))
