@@ -1,7 +1,0 @@
-use Rattle.std.proofs.Common.{◌≡◌, []}
-use Rattle.task_bench.proofs.input.read.Given as goal
-
-abbrev pub invariant-loop-word : goal.invariant-loop-word
-invariant-loop-word l =
-    (l.input.problem.sums ≡ []) × (l.input.problem.bounds ≡ []) × (l.input.problem.terms ≡ [])
-    × (l.input.problem.retired ≡ [])
