@@ -1,18 +1,26 @@
 //! Small parts of vocabularies, structures and formulas.
+ghost use Rattle.std.specs.Prelude.{◌≡◌, ◌∷◌, [], map, IfOk};
+ghost use Rattle.kb_logic.specs.declared.elements.Elem.TheVariants.{Named, Num};
+
 use kb_logic::{
     Bound, DomainList, Elem, ElemList, ListOf, Literal, Memory, Name, NumberList, Parent, RowList,
     Structure, Symbol, SymbolList, Table, TableList, TypeDecl, TypeList, Vocabulary,
 };
 use std::alloc::Global;
 
-pub fn named(alloc: Global, word: &[u8]) -> Result<Elem, Memory> {
+fn named(alloc: Global, word: &[u8]) -> Result<Elem, Memory>
+    ensures { IfOk result (λ e. e ≡ Named word.now) }
+{
     match Name::new(alloc, word) {
         Ok(name) => Ok(Elem::Named(name)),
         Err(stop) => Err(stop),
     }
 }
 
-pub fn words(alloc: Global, texts: &[&[u8]]) -> Result<ElemList, Memory> {
+/// Elements with these names.
+pub fn words(alloc: Global, texts: &[&[u8]]) -> Result<ElemList, Memory>
+    ensures { IfOk result (λ list. list ≡ map (λ t. Named t.now) texts.now) }
+{
     let mut list = ElemList::new(alloc);
     for text in texts {
         list.push(named(alloc, text)?)?;
@@ -20,7 +28,10 @@ pub fn words(alloc: Global, texts: &[&[u8]]) -> Result<ElemList, Memory> {
     Ok(list)
 }
 
-pub fn integers(alloc: Global, members: &[i64]) -> Result<ElemList, Memory> {
+/// These integers as elements.
+pub fn integers(alloc: Global, members: &[i64]) -> Result<ElemList, Memory>
+    ensures { IfOk result (λ list. list ≡ map Num members.now) }
+{
     let mut list = ElemList::new(alloc);
     for n in members {
         list.push(Elem::Num(*n))?;
@@ -29,7 +40,9 @@ pub fn integers(alloc: Global, members: &[i64]) -> Result<ElemList, Memory> {
 }
 
 /// Two domains of integers.
-pub fn domains(alloc: Global, first: &[i64], second: &[i64]) -> Result<DomainList, Memory> {
+pub fn domains(alloc: Global, first: &[i64], second: &[i64]) -> Result<DomainList, Memory>
+    ensures { IfOk result (λ list. list ≡ map Num first.now ∷ map Num second.now ∷ []) }
+{
     let mut list = DomainList::new(alloc);
     list.push(integers(alloc, first)?)?;
     list.push(integers(alloc, second)?)?;
@@ -37,7 +50,7 @@ pub fn domains(alloc: Global, first: &[i64], second: &[i64]) -> Result<DomainLis
 }
 
 /// The rows of a predicate of one place that has these members.
-pub fn table(alloc: Global, symbol: u32, members: &[i64]) -> Result<Table, Memory> {
+fn table(alloc: Global, symbol: u32, members: &[i64]) -> Result<Table, Memory> {
     let mut rows = RowList::new(alloc);
     for n in members {
         rows.push(integers(alloc, &[*n])?)?;
@@ -70,6 +83,7 @@ pub fn variables(alloc: Global, counts: [usize; 2]) -> Result<Vec<Bound>, Memory
     Ok(bounds)
 }
 
+/// A symbol of arguments and a value of these types.
 pub fn symbol(alloc: Global, args: &[u32], value: Option<u32>) -> Result<Symbol, Memory> {
     Ok(Symbol {
         name: Name::new(alloc, b"s")?,
@@ -91,7 +105,9 @@ fn two_types(alloc: Global) -> Result<TypeList, Memory> {
 }
 
 /// A vocabulary of two types.
-pub fn vocabulary(alloc: Global, symbols: SymbolList) -> Result<Vocabulary, Memory> {
+pub fn vocabulary(alloc: Global, symbols: SymbolList) -> Result<Vocabulary, Memory>
+    ensures { IfOk result (λ v. v.symbols ≡ symbols) }
+{
     Ok(Vocabulary {
         name: Name::new(alloc, b"V")?,
         types: two_types(alloc)?,
@@ -107,6 +123,7 @@ pub fn edge_and_color(alloc: Global) -> Result<SymbolList, Memory> {
     Ok(list)
 }
 
+/// The predicate 0 of these elements.
 pub fn predicate_atom(args: ElemList) -> Literal {
     Literal {
         positive: true,
@@ -116,10 +133,12 @@ pub fn predicate_atom(args: ElemList) -> Literal {
     }
 }
 
+/// The predicate 0 of two names.
 pub fn edge(alloc: Global, from: &[u8], to: &[u8]) -> Result<Literal, Memory> {
     Ok(predicate_atom(words(alloc, &[from, to])?))
 }
 
+/// That the function 1 of one name is another.
 pub fn color(alloc: Global, area: &[u8], value: &[u8]) -> Result<Literal, Memory> {
     Ok(Literal {
         positive: true,

@@ -4,7 +4,7 @@ use Rattle.std.proofs.lemmas.Bool.{OnTrue_from}
 use Rattle.kb_logic.specs.Denotations.{denotation_of, same_value}
 use Rattle.kb_logic.specs.Structures.{domain_at}
 use Rattle.partial_structures.proofs.Contained.{stands}
-use Rattle.call_tests.proofs.conditions.has_value.Goals as goal
+use Rattle.logic_call_tests.proofs.conditions.has_value.Goals as goal
 
 pub returns-in-Some-Some : goal.returns-in-Some-Some
 returns-in-Some-Some c =

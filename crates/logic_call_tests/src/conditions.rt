@@ -1,16 +1,16 @@
 //! The conditions of the calls of `partial_structures`, as tests.
-ghost use Rattle.std.specs.Prelude.{◌≡◌, Contains};
+ghost use Rattle.std.specs.Prelude.{◌≡◌, Contains, IfOk, IfSome};
 ghost use Rattle.std.specs.Bool.{OnTrue};
 ghost use Rattle.std.specs.List.{AllByRecursion, list_any};
 ghost use Rattle.kb_logic.specs.Denotations.{denotation_of, same_value};
 ghost use Rattle.kb_logic.specs.Models.{HasValueIn};
 ghost use Rattle.kb_logic.specs.Structures.{IsDistinct, tuples_of};
-ghost use Rattle.partial_structures.specs.KnownAtoms.{IsAtomOver, atom_of};
+ghost use Rattle.partial_structures.specs.KnownAtoms.{IsAtomOver, atom_of, nothing_known};
 
 use crate::fixtures::vocabulary;
 use kb_logic::values::{domain_in, elem_value, same};
 use kb_logic::{DomainList, Elem, ElemList, Literal, Memory, SymbolList};
-use partial_structures::{Partial, SetError, Truth};
+use partial_structures::Partial;
 use std::alloc::Global;
 
 fn stands_in(elem: &Elem, domain: &[Elem]) -> bool
@@ -65,6 +65,7 @@ fn has_value(domains: &[ElemList], ty: Option<u32>, value: &Option<Elem>) -> boo
     }
 }
 
+/// Whether the atom is one over the domains.
 pub fn is_over(partial: &Partial, atom: &Literal) -> bool
     ensures { OnTrue result (IsAtomOver partial.now.symbols partial.now.domains (atom_of atom.now)) }
 {
@@ -83,47 +84,13 @@ pub fn nothing(
     alloc: Global,
     symbols: SymbolList,
     domains: DomainList,
-) -> Result<Option<Partial>, Memory> {
+) -> Result<Option<Partial>, Memory>
+    ensures { IfOk result (λ o. IfSome o (λ p. p ≡ nothing_known symbols domains)) }
+{
     let vocab = vocabulary(alloc, symbols)?;
     if domains.len() == vocab.types.len() && are_distinct(domains.as_slice()) {
         Ok(Some(Partial::new(alloc, &vocab, domains)?))
     } else {
         Ok(None)
     }
-}
-
-pub fn value(partial: &Partial, atom: &Literal) -> Option<Truth> {
-    if is_over(partial, atom) {
-        Some(partial.value(atom))
-    } else {
-        None
-    }
-}
-
-pub fn set_true(partial: &mut Partial, atom: &Literal) -> Option<Result<(), SetError>> {
-    if is_over(partial, atom) {
-        Some(partial.set_true(atom))
-    } else {
-        None
-    }
-}
-
-pub fn set_false(partial: &mut Partial, atom: &Literal) -> Option<Result<(), SetError>> {
-    if is_over(partial, atom) {
-        Some(partial.set_false(atom))
-    } else {
-        None
-    }
-}
-
-pub fn done(answer: Option<Result<(), SetError>>) -> bool {
-    matches!(answer, Some(Ok(())))
-}
-
-pub fn clashes(answer: Option<Result<(), SetError>>) -> bool {
-    matches!(answer, Some(Err(SetError::DataClash)))
-}
-
-pub fn says(partial: &Partial, atom: &Literal, truth: Truth) -> bool {
-    value(partial, atom) == Some(truth)
 }

@@ -1,5 +1,5 @@
 use Rattle.std.proofs.Common.{length}
-use Rattle.call_tests.proofs.conditions.+are_distinct.Given as goal
+use Rattle.logic_call_tests.proofs.conditions.+are_distinct.Given as goal
 
 abbrev pub decreases-are_distinct : goal.decreases-are_distinct
 decreases-are_distinct l = length l.domains.now

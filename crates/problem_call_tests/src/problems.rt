@@ -2,9 +2,11 @@
 ghost use Rattle.std.specs.Prelude.{IsTrue};
 ghost use Rattle.ground_core.specs.Problems.{IsLitOf};
 
-use crate::fixtures::{integers, symbol};
 use ground_core::{AtomTable, Part, PartList, Problem};
-use kb_logic::{AggKind, Elem, ElemList, ExtInt, Formula, Literal, LiteralList, Memory};
+use kb_logic::{
+    AggKind, Elem, ElemList, ExtInt, Formula, Literal, LiteralList, Memory, Name, NumberList,
+    Symbol,
+};
 use lit_core::{Lit, Var};
 use normal_forms::nnf;
 use std::alloc::Global;
@@ -123,10 +125,25 @@ fn are_atoms(atoms: &[Literal], digits: &[i64]) -> bool {
     true
 }
 
+/// A symbol of arguments and a value of these types.
+fn symbol(alloc: Global, args: &[u32], value: Option<u32>) -> Result<Symbol, Memory> {
+    Ok(Symbol {
+        name: Name::new(alloc, b"s")?,
+        args: NumberList::from_vec(Vec::from_slice(alloc, args)?),
+        value,
+    })
+}
+
+/// These two integers as elements.
+fn pair(alloc: Global, members: [i64; 2]) -> Result<ElemList, Memory> {
+    let [first, second] = members;
+    Ok(ElemList::from_vec(vec![in alloc; Elem::Num(first), Elem::Num(second)]?))
+}
+
 /// The atoms of a predicate P over two types, and of a function f of the first to the second.
 fn table_of_two(alloc: Global) -> Result<AtomTable, Memory> {
     let symbols = [symbol(alloc, &[0, 1], None)?, symbol(alloc, &[0], Some(1))?];
-    let domains = [integers(alloc, &[1, 2])?, integers(alloc, &[7, 8])?];
+    let domains = [pair(alloc, [1, 2])?, pair(alloc, [7, 8])?];
     AtomTable::over(alloc, &symbols, &domains)
 }
 

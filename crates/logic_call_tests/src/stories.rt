@@ -2,12 +2,12 @@
 //!
 //! A story is a table of steps, which one loop goes through: a function that owns a partial structure and may stop at
 //! each of a dozen places takes minutes to prove.
-use crate::conditions::{clashes, done, nothing, says, set_false, set_true};
+use crate::conditions::{is_over, nothing};
 use crate::fixtures::{
     color, domains, edge, edge_and_color, integers, predicate_atom, symbol, words,
 };
 use kb_logic::{DomainList, ListOf, Literal, Memory};
-use partial_structures::{Partial, Truth};
+use partial_structures::{Partial, SetError, Truth};
 use std::alloc::Global;
 use std::test::Fail;
 
@@ -84,13 +84,24 @@ fn atom(alloc: Global, symbol: Symbol, first: &[u8], second: &[u8]) -> Result<Li
     }
 }
 
+fn is_done(answer: Result<(), SetError>) -> bool {
+    matches!(answer, Ok(()))
+}
+
+fn is_clash(answer: Result<(), SetError>) -> bool {
+    matches!(answer, Err(SetError::DataClash))
+}
+
 fn goes(s: &mut Partial, step: Step, atom: &Literal) -> bool {
+    if !is_over(s, atom) {
+        return false;
+    }
     match step {
-        Step::MakesTrue => done(set_true(s, atom)),
-        Step::MakesFalse => done(set_false(s, atom)),
-        Step::ClashesAsTrue => clashes(set_true(s, atom)),
-        Step::ClashesAsFalse => clashes(set_false(s, atom)),
-        Step::Is(truth) => says(s, atom, truth),
+        Step::MakesTrue => is_done(s.set_true(atom)),
+        Step::MakesFalse => is_done(s.set_false(atom)),
+        Step::ClashesAsTrue => is_clash(s.set_true(atom)),
+        Step::ClashesAsFalse => is_clash(s.set_false(atom)),
+        Step::Is(truth) => s.value(atom) == truth,
         Step::Closes => {
             close_first(s);
             true

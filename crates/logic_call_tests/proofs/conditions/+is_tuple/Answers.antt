@@ -3,7 +3,7 @@ use Rattle.std.specs.List.{list_any}
 use Rattle.kb_logic.specs.Denotations.{denotation_of, same_value}
 use Rattle.kb_logic.specs.Structures.{domain_at}
 use Rattle.partial_structures.proofs.Contained.{stands, longer_tuple, on_weaker}
-use Rattle.call_tests.proofs.conditions.+is_tuple.Goals as goal
+use Rattle.logic_call_tests.proofs.conditions.+is_tuple.Goals as goal
 
 pub returns-then-stands_in : goal.returns-then-stands_in
 returns-then-stands_in t c =

@@ -1,6 +1,6 @@
 use Rattle.std.proofs.Common.{◌∙◌, sym}
 use Rattle.partial_structures.proofs.Contained.{stands_not, on_weaker}
-use Rattle.call_tests.proofs.conditions.+is_distinct.Goals as goal
+use Rattle.logic_call_tests.proofs.conditions.+is_distinct.Goals as goal
 
 pub returns-then-not-stands_in : goal.returns-then-not-stands_in
 returns-then-not-stands_in t c =
