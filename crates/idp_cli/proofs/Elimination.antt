@@ -6,7 +6,8 @@ use Rattle.base_reader.specs.FileMeanings.{Choice, Meaning, FileMeans, IsRefused
 use Rattle.base_reader.specs.Laws.{HasOneRefusal, MeansOrIsRefused}
 use Rattle.idp_cli.specs.Jobs.{Job, consult, check, file_of, Asks, IsUsage}
 use Rattle.idp_cli.specs.Files.{IfObservable, IsRefusedAt, line_of}
-use Rattle.idp_cli.specs.Runs.{Words, texts_of, Outside, ConsultationEnds, CheckEnds, JobEnds, RunEnds}
+use Rattle.idp_cli.specs.Runs.{Words, texts_of, Outside, StaysAsBefore, ConsultationEnds, CheckEnds}
+use Rattle.idp_cli.specs.Runs.{JobEnds, RunEnds}
 use Rattle.idp_cli.specs.Laws.{IsUnlessFailed, choice_of, UsageLaw, CommandLaw, RefusalLaw, TakingLaw, LengthLaw}
 use Rattle.idp_cli.specs.Laws.{ShortLaw, DoneLaw, CheckedLaw}
 use Rattle.idp_cli.specs.declared.status.Status.{Status}
@@ -16,15 +17,23 @@ use Rattle.idp_cli.proofs.Asked.{one_job}
 pub told : (o : Option (List ℕ)) (bytes : List ℕ) (P : List ℕ → Type 0) → o ≡ Some bytes → IfObservable o P → P bytes
 told o bytes P is holds = let Q : Option (List ℕ) → Type 0 = λ o. IfObservable o P in subst Q is holds
 
--- where the words ask a job, the run ended as that job
+stays : (job : Job) (before now : Outside) → StaysAsBefore before now → JobEnds status.Memory job before now
+stays (consult file c budget) before now is = inl is
+stays (check file c) before now is = is
+
+-- where the words ask a job, the run ended as that job, or memory ran out, which is an end of every job
 pub done : (s : Status) (words : Words) (before now : Outside) (job : Job) → Asks (texts_of words) job
     → RunEnds s words before now → JobEnds s job before now
 done s words before now job is (inl usage) = absurd (usage.0 job is)
-done s words before now job is (inr ends) =
+done s words before now job is (inr (inl ends)) =
     subst (λ (j : Job). JobEnds s j before now) (one_job (texts_of words) ends.0 job ends.1 is) ends.2
+done s words before now job is (inr (inr ends)) =
+    subst (λ (t : Status). JobEnds t job before now) (sym ends.0) (stays job before now ends.1)
 
 pub usage_law : UsageLaw
-usage_law s words before now usage (inr ends) = absurd (usage ends.0 ends.1)
+usage_law s words before now usage (inr (inl ends)) = absurd (usage ends.0 ends.1)
+usage_law s words before now usage (inr (inr ends)) =
+    subst (λ (t : Status). IsUnlessFailed status.Usage t) (sym ends.0) tt
 usage_law status.Usage words before now usage (inl ends) = refl
 usage_law status.WriteFault words before now usage (inl ends) = tt
 usage_law status.Done words before now usage (inl ends) = absurd ends.1

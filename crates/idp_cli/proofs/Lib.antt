@@ -1,5 +1,4 @@
 mod Asked
-mod AskedSteps
 mod Ended
 mod Answered
 mod Progress

@@ -129,11 +129,13 @@ UsageEnds status.ReadFault before now = ⊥
 UsageEnds status.Memory before now = ⊥
 UsageEnds status.ScriptTooLong before now = ⊥
 
--- how a run ends: the words are no command line, or they ask a job and it ends so
+-- how a run ends: the words are no command line, or they ask a job and it ends so; or memory ran out before they were
+-- read
 abbrev pub RunEnds : Status → Words → Outside → Outside → Type 0
 RunEnds s words before now =
     (IsUsage (texts_of words) × UsageEnds s before now)
-    ⊎ ((job : Job) × Asks (texts_of words) job × JobEnds s job before now)
+    ⊎ (((job : Job) × Asks (texts_of words) job × JobEnds s job before now)
+    ⊎ ((s ≡ status.Memory) × StaysAsBefore before now))
 
 -- the shelf was asked for nothing, or for the file of the words
 abbrev pub AsksForFile : Words → Option (List (List ℕ)) → Option (List (List ℕ)) → Type 0

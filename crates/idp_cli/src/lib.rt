@@ -9,5 +9,6 @@ mod printing;
 mod runs;
 mod status;
 
+pub use jobs::{Job, Options, job_of};
 pub use runs::run;
 pub use status::Status;

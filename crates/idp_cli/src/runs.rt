@@ -109,11 +109,12 @@ pub fn run<H: Shelf, C: Source, W: Sink, L: Sink>(
     ensures closed { KeptNumber (H.open_sources shelf.old) (H.open_sources shelf.new) }
     ensures log { log.new ≡ log.old }
 {
-    match job_of(words) {
-        Some(Job::Consult(name, options, budget)) => {
+    match job_of(alloc, words) {
+        Ok(Some(Job::Consult(name, options, budget))) => {
             consult(alloc, name, options, budget, shelf, commands, out)
         }
-        Some(Job::Check(name, options)) => check(alloc, name, options, shelf, out),
-        None => refuse_words(out),
+        Ok(Some(Job::Check(name, options))) => check(alloc, name, options, shelf, out),
+        Ok(None) => refuse_words(out),
+        Err(_) => Status::Memory,
     }
 }

@@ -1,0 +1,65 @@
+//! The command line: two subcommands, each with a file and options.
+ghost use Rattle.std.specs.Prelude.{◌≡◌, IfOk, false};
+ghost use Rattle.clap.specs.Words.{rule_of};
+ghost use Rattle.command_words.specs.CommandLine as spec;
+
+use clap::{Arg, Command};
+use std::alloc::{AllocError, Global};
+
+/// How each command is called; what follows the first line stands under it.
+const USAGE: &str = "idp consult FILE [--theory NAME] [--structure NAME] [--budget N]\n       \
+idp check FILE [--theory NAME] [--structure NAME]";
+
+/// The word that has to stand there.
+fn file_word<'a>(alloc: Global) -> Arg<'a>
+    ensures rule { rule_of result ≡ spec.file_rule }
+    ensures local { result.global ≡ false }
+{
+    Arg::new(alloc, "FILE").required(true)
+}
+
+/// An option with a value.
+fn option_of<'a>(alloc: Global, name: &'a str) -> Arg<'a>
+    ensures rule { rule_of result ≡ spec.option_rule name.entry.now }
+    ensures local { result.global ≡ false }
+{
+    Arg::new(alloc, name).long(name)
+}
+
+/// A subcommand with a file, and with options that choose in it.
+fn choosing<'a>(alloc: Global, name: &'a str) -> Result<Command<'a>, AllocError>
+    ensures { IfOk result (spec.IsReadBy (spec.choosing name.entry.now)) }
+{
+    Command::new(alloc, name)
+        .override_usage(USAGE)
+        .arg(file_word(alloc))?
+        .arg(option_of(alloc, "theory"))?
+        .arg(option_of(alloc, "structure"))
+}
+
+/// The subcommand with a budget.
+fn consulting<'a>(alloc: Global) -> Result<Command<'a>, AllocError>
+    ensures { IfOk result (spec.IsReadBy spec.consulting) }
+{
+    choosing(alloc, "consult")?.arg(option_of(alloc, "budget"))
+}
+
+/// The command without its subcommands.
+fn program<'a>(alloc: Global) -> Command<'a>
+    ensures { spec.IsReadBy spec.program result }
+{
+    Command::new(alloc, "idp")
+        .override_usage(USAGE)
+        .no_binary_name(true)
+        .subcommand_required(true)
+        .version("0.1")
+}
+
+/// The command line of the program, for words without the program's name.
+pub fn command_line<'a>(alloc: Global) -> Result<Command<'a>, AllocError>
+    ensures { IfOk result (spec.IsReadBy spec.command_line) }
+{
+    let consult = consulting(alloc)?;
+    let check = choosing(alloc, "check")?;
+    program(alloc).subcommand(consult)?.subcommand(check)
+}
