@@ -2,8 +2,10 @@
 #![tactic(auto)]
 
 mod adapters;
+mod terminal;
 #[cfg(test)]
 mod tests;
+mod voice;
 
 use adapters::{CountedReader, CountedWriter, FileSystem};
 use file_laws::{
@@ -17,8 +19,10 @@ use idp_cli::{Status, run};
 use kb_io::NullSink;
 use std::alloc::AllocError;
 use std::env::{self, Env};
-use std::io::ErrorKind;
+use std::io::{ErrorKind, IsTerminal};
 use std::process::ExitCode;
+use terminal::{Noted, Prompted};
+use voice::tell;
 
 /// The words after the program's name. A word that is no text makes them none, which is no command line.
 fn words_of<R: Env + AllocGlobal>(rt: &R) -> Result<Vec<String>, AllocError> {
@@ -43,16 +47,19 @@ fn main(rt: HostRuntime) -> ExitCode {
     files_are_spoken();
     sentences_are_read_back();
     what_is_printed_of_a_file_can_be_read();
-    let status = match words_of(&rt) {
-        Ok(words) => run(
-            rt.alloc(),
-            &words,
-            &mut FileSystem::new(&rt),
-            &mut CountedReader::new(rt.stdin()),
-            &mut CountedWriter::new(rt.stdout()),
-            &mut NullSink,
-        ),
-        Err(_) => Status::Memory,
+    let Ok(words) = words_of(&rt) else {
+        tell(&rt, &[], Status::Memory);
+        return ExitCode::from(Status::Memory.code());
     };
+    let typed = rt.stdin().is_terminal();
+    let status = run(
+        rt.alloc(),
+        &words,
+        &mut FileSystem::new(&rt),
+        &mut CountedReader::new(Prompted::new(rt.stdin(), rt.stderr(), typed)),
+        &mut CountedWriter::new(Noted::new(rt.stdout(), rt.stderr(), typed)),
+        &mut NullSink,
+    );
+    tell(&rt, &words, status);
     ExitCode::from(status.code())
 }

@@ -1,7 +1,6 @@
-//! What to write in place of what one types by habit from other languages, and how else a refusal is mended.
-use crate::signs::{has_sign, sentence_of, sign_at, without_spaces, word_at, word_before};
-use kb_text::K;
-use memchr::memmem;
+//! What to write in place of what one types by habit from other languages, where the grammar is left.
+use crate::places::{Block, Place};
+use crate::signs::{without_spaces, word_at, word_before};
 
 /// What stands at a place or before it, and what to write for it.
 struct Habit {
@@ -9,43 +8,65 @@ struct Habit {
     advice: &'static [u8],
 }
 
-/// Signs and words of other languages that no text goes on with.
-const HABITS: [Habit; 22] = [
+const UNEQUAL: &[u8] = b"'not equal' is written ~=, as in a ~= b";
+
+const AND: &[u8] = b"'and' is written &";
+
+const OR: &[u8] = b"'or' is written |";
+
+const IMPLIES: &[u8] = b"'if p then q' is written p => q";
+
+const IFF: &[u8] = b"'exactly if' is written <=>";
+
+const COMMENT: &[u8] = b"a comment begins with //";
+
+const QUOTES: &[u8] = b"names are words without quotes: a letter or _, then letters, digits and _";
+
+const DECLARATIONS: &[u8] = b"declarations stand one after another, with nothing between them";
+
+const ENTRIES: &[u8] =
+    b"entries stand one after another, with nothing between them; the items of a list are set apart by ;";
+
+const RULE: &[u8] =
+    b"a rule stands in braces, as in { q <- p. }, which says all of q; 'if p then q' is written p => q";
+
+/// Signs and words of other languages that no text goes on with, in any block.
+const HABITS: [Habit; 24] = [
     Habit {
         sign: b"!=",
-        advice: b"'is not' is written ~=, as in a ~= b",
+        advice: UNEQUAL,
     },
     Habit {
         sign: b"<>",
-        advice: b"'is not' is written ~=, as in a ~= b",
+        advice: UNEQUAL,
     },
     Habit {
         sign: b"==",
-        advice: b"equality is written =, as in a = b; of two formulas <=>",
+        advice: b"'equal' is written =, as in a = b; of two formulas <=>",
     },
     Habit {
         sign: b"&&",
-        advice: b"'and' is written &",
+        advice: AND,
     },
     Habit {
         sign: b"/\\",
-        advice: b"'and' is written &",
+        advice: AND,
     },
     Habit {
         sign: b"and",
-        advice: b"'and' is written &",
+        advice: AND,
     },
     Habit {
         sign: b"||",
-        advice: b"'or' is written |",
+        advice: OR,
     },
     Habit {
         sign: b"\\/",
-        advice: b"'or' is written |",
+        advice: OR,
     },
     Habit {
         sign: b"or",
-        advice: b"'or' is written |",
+        advice: OR,
     },
     Habit {
         sign: b"not",
@@ -53,27 +74,27 @@ const HABITS: [Habit; 22] = [
     },
     Habit {
         sign: b"implies",
-        advice: b"'implies' is written =>",
+        advice: IMPLIES,
     },
     Habit {
-        sign: b"->",
-        advice: b"'implies' is written =>; a function is declared as f(T) : U, and its rows stand in a structure as a->b",
+        sign: b"if",
+        advice: IMPLIES,
+    },
+    Habit {
+        sign: b"then",
+        advice: IMPLIES,
     },
     Habit {
         sign: b"<->",
-        advice: b"'exactly if' is written <=>",
+        advice: IFF,
     },
     Habit {
         sign: b"iff",
-        advice: b"'exactly if' is written <=>",
+        advice: IFF,
     },
     Habit {
         sign: b":-",
-        advice: b"a rule of the kind head :- body is written body => head",
-    },
-    Habit {
-        sign: b":=",
-        advice: b"the elements of a type stand in a structure, as T = {a; b}, or in type T constructed from {a, b}",
+        advice: RULE,
     },
     Habit {
         sign: b"forall",
@@ -85,19 +106,95 @@ const HABITS: [Habit; 22] = [
     },
     Habit {
         sign: b"%",
-        advice: b"a comment begins with //",
+        advice: COMMENT,
+    },
+    Habit {
+        sign: b"#",
+        advice: COMMENT,
     },
     Habit {
         sign: b"\"",
-        advice: b"names are words without quotes: a letter or _, then letters, digits and _",
+        advice: QUOTES,
     },
     Habit {
         sign: b"'",
-        advice: b"names are words without quotes: a letter or _, then letters, digits and _",
+        advice: QUOTES,
     },
     Habit {
         sign: b"/*",
         advice: b"the comment is not closed by */",
+    },
+    Habit {
+        sign: b"procedure",
+        advice: b"the procedure is not closed by }, or one of its strings or comments is open",
+    },
+];
+
+/// Signs that a vocabulary does not go on with.
+const IN_VOCABULARY: [Habit; 6] = [
+    Habit {
+        sign: b"->",
+        advice: b"a function is declared with its arguments in parentheses, as f(T) : U",
+    },
+    Habit {
+        sign: b"=",
+        advice: b"the elements of a type: type T constructed from {a, b}, or in the structure T = {a; b}",
+    },
+    Habit {
+        sign: b":=",
+        advice: b"the elements of a type: type T constructed from {a, b}, or in the structure T = {a; b}",
+    },
+    Habit {
+        sign: b",",
+        advice: DECLARATIONS,
+    },
+    Habit {
+        sign: b";",
+        advice: DECLARATIONS,
+    },
+    Habit {
+        sign: b".",
+        advice: DECLARATIONS,
+    },
+];
+
+/// Signs that a theory does not go on with.
+const IN_THEORY: [Habit; 4] = [
+    Habit {
+        sign: b"<-",
+        advice: RULE,
+    },
+    Habit {
+        sign: b"->",
+        advice: IMPLIES,
+    },
+    Habit {
+        sign: b";",
+        advice: b"'or' is written |",
+    },
+    Habit {
+        sign: b",",
+        advice: b"'and' is written &",
+    },
+];
+
+/// Signs that a structure does not go on with.
+const IN_STRUCTURE: [Habit; 4] = [
+    Habit {
+        sign: b":=",
+        advice: b"an entry is written with =, as in T = {a; b}",
+    },
+    Habit {
+        sign: b";",
+        advice: ENTRIES,
+    },
+    Habit {
+        sign: b",",
+        advice: ENTRIES,
+    },
+    Habit {
+        sign: b".",
+        advice: ENTRIES,
     },
 ];
 
@@ -106,52 +203,44 @@ const LESS: &[u8] =
 
 const CHAIN: &[u8] = b"comparisons do not chain: for 1 =< x =< 3 write 1 =< x & x =< 3";
 
+const ARROWS: &[u8] = b"two different arrows in a row need parentheses, as in (p => q) <=> r";
+
+const TRUTH: &[u8] = b"a proposition stands by itself: p for p = true, ~p for p = false";
+
 const STOP: &[u8] = b"a sentence ends with a full stop";
 
-const LISTED: &[u8] =
-    b"names that a structure lists mean nothing in a theory: declare their type constructed from {..}";
+const BRACKET: &[u8] = b"a ( before this place is not closed";
 
-const RANGE: &[u8] =
-    b"a range is of integers, in a list of one column, as {1..10}: list the names or the rows, as {c1; c2; c3}";
+const COLON: &[u8] =
+    b"a colon stands behind the variables of ! and ?, as in !x: P(x); 'not' is written ~";
 
-const DEFINITION: &[u8] =
-    b"definitions are not read yet: where one rule says all of its head, write head <=> body.";
+const HEADER: &[u8] = b"theories and structures name their vocabulary, as in theory T : V { .. }";
 
-const COUNT: &[u8] = b"aggregates and number quantifiers are not read yet";
+const WORDS: &[u8] =
+    b"a word is a letter from a to z or A to Z, or _, then such letters, digits and _";
 
-const INTEGERS: &[u8] =
-    b"an argument or a value has a type of its own: type Number isa int, listed in the structure";
+const SMALL: &[u8] = b"vocabulary, theory, structure and the like are written in small letters";
 
-const ITEMS: &[u8] = b"items of a list are set apart by ; and the elements of a row by ,";
-
-const PART: &[u8] =
-    b"an entry without a mark gives all of a symbol: a part of it is given as f<ct> = {..} or f<cf> = {..}";
-
-/// Whether the last block that a text begins is a theory.
-fn in_theory(front: &[u8]) -> bool {
-    match (
-        memmem::rfind(front, b"theory "),
-        memmem::rfind(front, b"structure "),
-    ) {
-        (Some(theory), Some(structure)) => theory > structure,
-        (Some(_), None) => true,
-        _ => false,
-    }
-}
-
-/// Whether a structure behind this text lists the name.
-fn is_listed(text: &[u8], name: &[u8]) -> bool {
-    match memmem::find(text, b"structure ") {
-        Some(start) => has_sign(&text[start.min(text.len())..], name),
-        None => false,
-    }
-}
+const CLOSED: &[u8] = b"a block is closed by }";
 
 /// The signs of comparison.
 const COMPARISONS: [&[u8]; 6] = [b"=", b"<", b">", b"=<", b">=", b"~="];
 
-fn is_comparison(sign: &[u8]) -> bool {
-    for other in &COMPARISONS {
+/// The arrows between formulas.
+const ARROW_SIGNS: [&[u8]; 3] = [b"=>", b"<=", b"<=>"];
+
+/// The words that begin blocks.
+const BLOCKS: [&[u8]; 5] = [
+    b"vocabulary",
+    b"theory",
+    b"structure",
+    b"term",
+    b"procedure",
+];
+
+/// Whether a sign is one of these.
+fn is_among(sign: &[u8], signs: &[&[u8]]) -> bool {
+    for other in signs {
         if sign == *other {
             return true;
         }
@@ -159,96 +248,123 @@ fn is_comparison(sign: &[u8]) -> bool {
     false
 }
 
-/// Whether the text has a sign of comparison.
-fn has_comparison(text: &[u8]) -> bool {
-    for sign in &COMPARISONS {
-        if has_sign(text, sign) {
+/// Whether the sentence before a place has one of these signs.
+fn has_one(place: &Place<'_>, signs: &[&[u8]]) -> bool {
+    for sign in signs {
+        if place.has(sign) {
             return true;
         }
     }
     false
 }
 
-/// Whether the place is between the two bytes of a habit's sign.
-fn is_split(front: &[u8], behind: &[u8], habit: &Habit) -> bool {
-    let sign = habit.sign;
-    sign.len() == 2 && front.ends_with(&sign[..1]) && behind.starts_with(&sign[1..])
+/// Whether the place is between the two bytes of a sign.
+fn is_split(place: &Place<'_>, sign: &[u8]) -> bool {
+    sign.len() == 2 && place.front.ends_with(&sign[..1]) && place.behind.starts_with(&sign[1..])
 }
 
-/// What to write in place of what stands at the place between the two texts, where the grammar is left.
-fn habit_of_syntax(front: &[u8], behind: &[u8]) -> Option<&'static [u8]> {
-    let sign = sign_at(behind);
-    let trimmed = without_spaces(front);
-    let word = word_before(trimmed);
+/// The advice on the habit whose sign stands at the place, or whose word stands before it.
+fn habit_of(place: &Place<'_>) -> Option<&'static [u8]> {
     for habit in &HABITS {
-        let before = !word.is_empty() && word == habit.sign;
-        if sign == habit.sign || before || is_split(front, behind, habit) {
+        let is_before = place.follows(habit.sign)
+            || habit.sign == b"#".as_slice() && place.trimmed.ends_with(b"#");
+        if place.sign == habit.sign || is_before || is_split(place, habit.sign) {
             return Some(habit.advice);
         }
     }
-    let sentence = sentence_of(trimmed);
-    if has_sign(sentence, b"<=") {
+    None
+}
+
+/// The advice on a sign, among these habits.
+fn advice_among(habits: &[Habit], sign: &[u8]) -> Option<&'static [u8]> {
+    for habit in habits {
+        if sign == habit.sign {
+            return Some(habit.advice);
+        }
+    }
+    None
+}
+
+/// The advice on the sign at the place, among the habits of its block.
+fn habit_in_block(place: &Place<'_>) -> Option<&'static [u8]> {
+    match place.block {
+        Block::Vocabulary => advice_among(&IN_VOCABULARY, place.sign),
+        Block::Theory => advice_among(&IN_THEORY, place.sign),
+        Block::Structure => advice_among(&IN_STRUCTURE, place.sign),
+        Block::Other => None,
+    }
+}
+
+/// Whether the place stands behind the name of a theory or a structure whose vocabulary is not named.
+fn is_header(place: &Place<'_>) -> bool {
+    let name = word_before(place.trimmed);
+    let before = without_spaces(
+        &place.trimmed[..place.trimmed.len() - name.len().min(place.trimmed.len())],
+    );
+    place.sign == b"{".as_slice() && is_among(word_before(before), &BLOCKS)
+}
+
+/// Whether a word that begins a block stands at the place in other letters.
+fn is_in_capitals(place: &Place<'_>) -> bool {
+    for block in &BLOCKS {
+        if word_at(place.behind).eq_ignore_ascii_case(block) {
+            return true;
+        }
+    }
+    false
+}
+
+/// The advice on a sentence of a theory that does not go on with what stands at the place.
+fn advice_on_sentence(place: &Place<'_>) -> Option<&'static [u8]> {
+    let sign = place.sign;
+    let is_end = sign == b"}".as_slice() || sign == b".".as_slice();
+    if place.has(b"<=") && !is_among(sign, &ARROW_SIGNS) {
         return Some(LESS);
     }
-    if is_comparison(sign) && has_comparison(sentence) {
+    if is_among(sign, &COMPARISONS) && has_one(place, &COMPARISONS) {
         return Some(CHAIN);
     }
-    if sign == b"}".as_slice() && !sentence.is_empty() {
+    if is_among(sign, &ARROW_SIGNS) && has_one(place, &ARROW_SIGNS) {
+        return Some(ARROWS);
+    }
+    if place.trimmed.ends_with(b"=")
+        && (sign == b"true".as_slice() || sign == b"false".as_slice())
+    {
+        return Some(TRUTH);
+    }
+    if place.has_open_quantifier() {
+        return Some(COLON);
+    }
+    if is_end && place.has_open_bracket() {
+        return Some(BRACKET);
+    }
+    if !place.sentence.is_empty() && (sign == b"}".as_slice() || place.begins_line()) {
         return Some(STOP);
     }
     None
 }
 
-/// What to write in place of a form that is not read.
-fn advice_of_form(front: &[u8], behind: &[u8]) -> Option<&'static [u8]> {
-    let sign = sign_at(behind);
-    if front.ends_with(b"..") || is_range(behind) {
-        return Some(RANGE);
+/// What to write in place of what stands at a place where the grammar is left.
+pub fn advice_on_syntax(place: &Place<'_>) -> Option<&'static [u8]> {
+    if let Some(advice) = habit_of(place) {
+        return Some(advice);
     }
-    if sign == b"{".as_slice() {
-        return Some(DEFINITION);
+    if let Some(advice) = habit_in_block(place) {
+        return Some(advice);
     }
-    if sign == b"int".as_slice() || sign == b"nat".as_slice() {
-        return Some(INTEGERS);
+    match place.behind.first() {
+        None => return Some(CLOSED),
+        Some(byte) if *byte >= 128 => return Some(WORDS),
+        _ => {}
     }
-    for count in &COUNTS {
-        if sign == *count {
-            return Some(COUNT);
-        }
+    if is_in_capitals(place) {
+        return Some(SMALL);
     }
-    habit_of_syntax(front, behind)
-}
-
-/// How a refusal at the place between the two texts is mended, where that can be said.
-pub fn advice(cause: K, front: &[u8], behind: &[u8]) -> Option<&'static [u8]> {
-    match cause {
-        K::Syntax => habit_of_syntax(front, behind),
-        K::UnknownName if in_theory(front) && is_listed(behind, word_at(behind)) => Some(LISTED),
-        K::UnknownName => habit_of_syntax(front, behind),
-        K::WrongArity if !in_theory(front) => Some(ITEMS),
-        K::Untyped => Some(b"write its type, as in !x[T]: P(x)"),
-        K::TypeNotGiven => Some(b"give a list, as in T = {a; b}"),
-        K::NotAnElement => Some(b"list it with the elements of the type, or take it out"),
-        K::DataClash => Some(PART),
-        K::Unsupported => advice_of_form(front, behind),
-        K::OutOfRange => Some(
-            b"integers of types go from -1,000,000 to 1,000,000, terms from -10^15 to 10^15",
-        ),
-        K::TooLarge => Some(
-            b"what is too much, and how to write it lighter: docs/LANGUAGE.md, 'Sizes'",
-        ),
-        K::BlockChoice => Some(
-            b"where there are several, --theory NAME and --structure NAME choose",
-        ),
-        _ => None,
+    if is_header(place) {
+        return Some(HEADER);
     }
-}
-
-/// How aggregates and number quantifiers begin.
-const COUNTS: [&[u8]; 7] = [b"#", b"sum", b"prod", b"min", b"max", b"card", b"?"];
-
-/// Whether a word and the points of a range stand here.
-fn is_range(behind: &[u8]) -> bool {
-    let word = word_at(behind);
-    behind[word.len().min(behind.len())..].starts_with(b"..")
+    if place.block == Block::Theory {
+        return advice_on_sentence(place);
+    }
+    None
 }

@@ -2,14 +2,18 @@
 //! device that failed, and how the program is called.
 #![tactic(auto)]
 
+mod advice;
 mod causes;
 mod excerpt;
 mod habits;
 mod note;
+mod places;
+mod replies;
 mod signs;
 mod spots;
 mod usage;
 
 pub use note::{Memory, fault_note, file_note, long_file_note};
+pub use replies::reply_note;
 pub use spots::{column_of, line_of};
-pub use usage::{MEMORY_LOST, OUTPUT_LOST, SCRIPT_TOO_LONG, USAGE, VERSION};
+pub use usage::{BUDGET_NOTE, MEMORY_LOST, OUTPUT_LOST, SCRIPT_TOO_LONG, USAGE, VERSION};

@@ -2,11 +2,12 @@
 ghost use Rattle.std.specs.Prelude.{◌≡◌, ◌++◌, IfOk, OnOk, drop, take};
 ghost use Rattle.refusal_notes.specs.Notes.{head, note_text, IsNote};
 
+use crate::advice::advice;
 use crate::causes::sentence;
 use crate::excerpt::{first_bytes, is_text, nearest, push_bytes, push_excerpt};
-use crate::habits::advice;
+use crate::places::{Place, place_between};
 use crate::spots::{column_of, line_of};
-use kb_text::KbFault;
+use kb_text::{K, KbFault};
 pub use std::alloc::AllocError as Memory;
 use std::alloc::Global;
 
@@ -49,14 +50,9 @@ pub struct Wording {
 }
 
 /// The line that says how a refusal is mended; none where that cannot be said.
-fn advice_line(
-    alloc: Global,
-    fault: KbFault,
-    front: &[u8],
-    behind: &[u8],
-) -> Result<Vec<u8>, Memory> {
+fn advice_line(alloc: Global, cause: K, place: &Place<'_>) -> Result<Vec<u8>, Memory> {
     let mut out = Vec::new(alloc);
-    if let Some(advice) = advice(fault.cause, front, behind) {
+    if let Some(advice) = advice(cause, place) {
         push_bytes(&mut out, b"  ")?;
         push_bytes(&mut out, advice)?;
         push_bytes(&mut out, b"\n")?;
@@ -71,8 +67,9 @@ fn wording_of(
     front: &[u8],
     behind: &[u8],
 ) -> Result<Wording, Memory> {
-    let words = sentence(alloc, fault.cause, behind)?;
-    let advice = advice_line(alloc, fault, front, behind)?;
+    let place = place_between(front, behind);
+    let words = sentence(alloc, fault.cause, &place)?;
+    let advice = advice_line(alloc, fault.cause, &place)?;
     Ok(Wording {
         words,
         advice,
@@ -113,15 +110,19 @@ pub fn fault_note(alloc: Global, name: &str, text: &[u8], fault: KbFault) -> Res
 }
 
 /// What is told of a file that has too many bytes, with so many newlines before the limit.
-pub fn long_file_note(alloc: Global, name: &str, newlines: u64) -> Result<String, Memory> {
+pub fn long_file_note(alloc: Global, name: &str, newlines: u64) -> Result<Vec<u8>, Memory> {
     let line = newlines.saturating_add(1);
-    format!(in alloc; "{name}:{line}: K15 TooLong: the file has more than 4,194,304 bytes\n")
+    let text = format!(in alloc;
+        "{name}:{line}: K15 TooLong: the file has more than 4,194,304 bytes\n"
+    )?;
+    Ok(text.into_bytes())
 }
 
-/// What is told of a file that cannot be read, or of the input where there is no name.
-pub fn file_note(alloc: Global, name: Option<&str>) -> Result<String, Memory> {
-    match name {
-        Some(name) => format!(in alloc; "idp: {name} cannot be opened or read\n"),
-        None => String::from_str(alloc, "idp: standard input cannot be read\n"),
-    }
+/// What is told of a file that cannot be read, or of the commands where there is no name.
+pub fn file_note(alloc: Global, name: Option<&str>) -> Result<Vec<u8>, Memory> {
+    let Some(name) = name else {
+        return b"idp: standard input cannot be read\n".to_vec(alloc);
+    };
+    let text = format!(in alloc; "idp: {name}: there is no such file, or it cannot be read\n")?;
+    Ok(text.into_bytes())
 }

@@ -42,7 +42,17 @@ pub fn behind_spaces(text: &[u8]) -> &[u8] {
     &text[len.min(text.len())..]
 }
 
-/// The length of the word or sign at the beginning of a text; of any other byte 1, and of the empty text 0.
+/// How many digits a text begins with.
+fn digits_len(text: &[u8]) -> usize
+    ensures { result ≤ length text.now }
+{
+    text.iter()
+        .take_while(|b| **b >= b'0' && **b <= b'9')
+        .count()
+}
+
+/// The length of the word or sign at the beginning of a text; of any other byte 1, and of the empty text 0. A - before
+/// digits is a part of their number.
 fn sign_len(text: &[u8]) -> usize
     ensures within { result ≤ length text.now }
     ensures moves { 0 < length text.now → 0 < result }
@@ -55,6 +65,9 @@ fn sign_len(text: &[u8]) -> usize
         if text.starts_with(sign) {
             return sign.len().min(text.len());
         }
+    }
+    if text.starts_with(b"-") {
+        return 1 + digits_len(&text[1..]);
     }
     text.len().min(1)
 }

@@ -1,0 +1,8 @@
+//! What a person is told of how a run ended, beside what it printed.
+#![tactic(auto)]
+
+mod files;
+mod notes;
+mod words;
+
+pub use notes::note_on;
