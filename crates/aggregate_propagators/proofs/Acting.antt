@@ -7,7 +7,7 @@ use Rattle.lit_core.specs.Literals.{value_in}
 use Rattle.lit_core.specs.Truth.{IsFalsified, IsSatisfied, IsUnitAt}
 use Rattle.ground_core.specs.declared.parts.AggCon.{AggCon}
 use Rattle.ground_core.specs.Meaning.{SumHolds}
-use Rattle.aggregate_propagators.specs.Intervals.{known_of, changed, contradicts, refuting}
+use Rattle.ground_core.specs.Intervals.{known_of, changed, contradicts, refuting}
 use Rattle.aggregate_propagators.specs.Implied.{assigned, under, Decides}
 use Rattle.aggregate_propagators.specs.Spared.{short_clause_of}
 use Rattle.aggregate_propagators.proofs.Bounds.{contradiction-is-sound}

@@ -7,8 +7,8 @@ use Rattle.kb_logic.specs.declared.syntax.AggKind.{AggKind}
 use Rattle.kb_logic.specs.Denotations.{number, aggregate_value}
 use Rattle.lit_core.specs.Literals.{by_sign, by_sign_if_any, literal_value}
 use Rattle.ground_core.specs.declared.parts.Part.{Part}
-use Rattle.aggregate_propagators.specs.Intervals.{known_of, in_least, in_greatest, least_choice, greatest_choice}
-use Rattle.aggregate_propagators.specs.Intervals.{Extends}
+use Rattle.ground_core.specs.Intervals.{known_of, in_least, in_greatest, least_choice, greatest_choice}
+use Rattle.ground_core.specs.Intervals.{Extends}
 use Rattle.aggregate_propagators.specs.Laws.{HasVarsOnce, EndsAreAttained}
 
 abbrev or_else : Option Bool → Bool → Bool

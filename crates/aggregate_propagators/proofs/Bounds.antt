@@ -16,9 +16,9 @@ use Rattle.lit_core.specs.Literals.{literal_value, by_sign, by_sign_if_any}
 use Rattle.ground_core.specs.declared.parts.Part.{Part}
 use Rattle.ground_core.specs.declared.parts.AggCon.{AggCon}
 use Rattle.ground_core.specs.Meaning.{SumHolds, parts_value}
-use Rattle.aggregate_propagators.specs.Intervals.{known_of, in_least, in_greatest, least_choice, greatest_choice}
-use Rattle.aggregate_propagators.specs.Intervals.{least_possible, greatest_possible, reaches, refuted_by, contradicts}
-use Rattle.aggregate_propagators.specs.Intervals.{refuting, Extends}
+use Rattle.ground_core.specs.Intervals.{known_of, in_least, in_greatest, least_choice, greatest_choice}
+use Rattle.ground_core.specs.Intervals.{least_possible, greatest_possible, reaches, refuted_by, contradicts}
+use Rattle.ground_core.specs.Intervals.{refuting, Extends}
 use Rattle.aggregate_propagators.specs.Totals.{gain, goal_of, with_side, gain_if, total, met}
 use Rattle.aggregate_propagators.specs.Laws.{BoundContradictionIsSound, ContradictionIsSound}
 use Rattle.aggregate_propagators.proofs.Sums.{reaches-by-totals}

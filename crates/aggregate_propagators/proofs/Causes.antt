@@ -9,8 +9,8 @@ use Rattle.kb_logic.specs.Denotations.{number, aggregate_value}
 use Rattle.lit_core.specs.declared.literals.Lit.{Lit}
 use Rattle.lit_core.specs.Literals.{by_sign, by_sign_if_any}
 use Rattle.ground_core.specs.declared.parts.Part.{Part}
-use Rattle.aggregate_propagators.specs.Intervals.{known_of, least_possible, greatest_possible, reaches, refuted_by}
-use Rattle.aggregate_propagators.specs.Intervals.{refuting}
+use Rattle.ground_core.specs.Intervals.{known_of, least_possible, greatest_possible, reaches, refuted_by}
+use Rattle.ground_core.specs.Intervals.{refuting}
 use Rattle.aggregate_propagators.specs.Reasons.{differ, in_end, narrows, denied, with_reason, reasons, asks_high}
 use Rattle.aggregate_propagators.specs.Reasons.{clause_of}
 use Rattle.aggregate_propagators.specs.Laws.{ReasonsSuffice}

@@ -5,8 +5,8 @@ use Rattle.lit_core.specs.declared.literals.Lit.{Lit}
 use Rattle.lit_core.specs.Literals.{by_sign, by_sign_if_any, negated}
 use Rattle.ground_core.specs.declared.parts.Part.{Part}
 use Rattle.ground_core.specs.declared.parts.AggCon.{AggCon}
-use Rattle.aggregate_propagators.specs.Intervals.{known_of, changed, contradicts, reaches, refuted_by, least_possible}
-use Rattle.aggregate_propagators.specs.Intervals.{greatest_possible, least_choice, greatest_choice, IsOpenAt, IsQuiet}
+use Rattle.ground_core.specs.Intervals.{known_of, changed, contradicts, reaches, refuted_by, least_possible}
+use Rattle.ground_core.specs.Intervals.{greatest_possible, least_choice, greatest_choice, IsOpenAt, IsQuiet}
 use Rattle.aggregate_propagators.specs.Reasons.{differ, in_end}
 use Rattle.aggregate_propagators.specs.Totals.{goal_of, met, total, with_side}
 use Rattle.aggregate_propagators.specs.Implied.{under, AreOpen, Decides}

@@ -7,8 +7,8 @@ use Rattle.kb_logic.specs.Denotations.{number, aggregate_value}
 use Rattle.lit_core.specs.Literals.{literal_value}
 use Rattle.ground_core.specs.declared.parts.Part.{Part}
 use Rattle.ground_core.specs.Meaning.{parts_value}
-use Rattle.aggregate_propagators.specs.Intervals.{known_of, in_least, in_greatest, least_choice, greatest_choice}
-use Rattle.aggregate_propagators.specs.Intervals.{least_possible, greatest_possible, reaches, refuted_by}
+use Rattle.ground_core.specs.Intervals.{known_of, in_least, in_greatest, least_choice, greatest_choice}
+use Rattle.ground_core.specs.Intervals.{least_possible, greatest_possible, reaches, refuted_by}
 use Rattle.aggregate_propagators.specs.Laws.{QuietIsEnough}
 
 module _ (a : ℕ → Option Bool) (v : ℕ → Bool) where

@@ -12,8 +12,8 @@ use Rattle.lit_core.specs.declared.literals.Lit.{Lit}
 use Rattle.lit_core.specs.Literals.{by_sign, by_sign_if_any, negated}
 use Rattle.ground_core.specs.declared.parts.Part.{Part}
 use Rattle.ground_core.specs.declared.parts.AggCon.{AggCon}
-use Rattle.aggregate_propagators.specs.Intervals.{known_of, changed, contradicts, refuted_by, reaches, least_possible}
-use Rattle.aggregate_propagators.specs.Intervals.{greatest_possible, IsOpenAt}
+use Rattle.ground_core.specs.Intervals.{known_of, changed, contradicts, refuted_by, reaches, least_possible}
+use Rattle.ground_core.specs.Intervals.{greatest_possible, IsOpenAt}
 use Rattle.aggregate_propagators.specs.Laws.{HasVarsOnce}
 use Rattle.aggregate_propagators.specs.Reasons.{differ, in_end}
 use Rattle.aggregate_propagators.specs.Totals.{gain, gain_if, goal_of, met, with_side}

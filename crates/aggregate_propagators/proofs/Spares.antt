@@ -10,7 +10,7 @@ use Rattle.kb_logic.specs.declared.syntax.AggKind.{AggKind}
 use Rattle.lit_core.specs.declared.literals.Lit.{Lit}
 use Rattle.lit_core.specs.Literals.{by_sign_if_any}
 use Rattle.ground_core.specs.declared.parts.Part.{Part}
-use Rattle.aggregate_propagators.specs.Intervals.{known_of, reaches, refuting, least_possible, greatest_possible}
+use Rattle.ground_core.specs.Intervals.{known_of, reaches, refuting, least_possible, greatest_possible}
 use Rattle.aggregate_propagators.specs.Reasons.{asks_high, denied, differ, in_end}
 use Rattle.aggregate_propagators.specs.Totals.{gain, gain_if, goal_of, met, with_side}
 use Rattle.aggregate_propagators.specs.Once.{end_total}

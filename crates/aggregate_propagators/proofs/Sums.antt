@@ -10,7 +10,7 @@ use Rattle.kb_logic.specs.declared.elements.ExtInt.TheVariants.{NegInf, Num, Pos
 use Rattle.kb_logic.specs.declared.syntax.AggKind.TheVariants as kind
 use Rattle.kb_logic.specs.Denotations.{Denotation, number, minus_infinity, plus_infinity, added, lesser, greater}
 use Rattle.ground_core.specs.declared.parts.Part.{Part}
-use Rattle.aggregate_propagators.specs.Intervals.{reaches}
+use Rattle.ground_core.specs.Intervals.{reaches}
 use Rattle.aggregate_propagators.specs.Totals.{gain, max_goal, gain_if, total, met}
 use Rattle.aggregate_propagators.specs.Laws.{ReachesByTotals}
 

@@ -4,7 +4,7 @@ use Rattle.std.proofs.Common.{get_or, refl, sym, arith}
 use Rattle.std.proofs.lemmas.Bool.Decides.{nat_tests}
 use Rattle.lit_core.specs.declared.literals.Lit.{Lit}
 use Rattle.lit_core.specs.Literals.{by_sign, by_sign_if_any}
-use Rattle.aggregate_propagators.specs.Intervals.{known_of, changed}
+use Rattle.ground_core.specs.Intervals.{known_of, changed}
 use Rattle.aggregate_propagators.specs.Reasons.{clause_of}
 use Rattle.aggregate_propagators.specs.Laws.{DecidedIsUnit}
 use Rattle.aggregate_propagators.proofs.Causes.{reasons-suffice}

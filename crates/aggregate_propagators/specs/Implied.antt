@@ -3,7 +3,7 @@ use Rattle.std.specs.Prelude.{◌≡◌, ◌⊎◌, ℕ, ◌<◌, Bool, true, Op
 use Rattle.lit_core.specs.declared.literals.Lit.{Lit}
 use Rattle.ground_core.specs.declared.parts.Part.{Part}
 use Rattle.ground_core.specs.declared.parts.AggCon.{AggCon}
-use Rattle.aggregate_propagators.specs.Intervals.{changed, contradicts, known_of, IsOpenAt}
+use Rattle.ground_core.specs.Intervals.{changed, contradicts, known_of, IsOpenAt}
 
 -- the values that an assignment of the first variables gives
 abbrev pub assigned : List (Option Bool) → ℕ → Option Bool

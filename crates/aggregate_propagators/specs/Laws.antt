@@ -9,8 +9,8 @@ use Rattle.lit_core.specs.Truth.{IsSatisfied}
 use Rattle.ground_core.specs.declared.parts.Part.{Part}
 use Rattle.ground_core.specs.declared.parts.AggCon.{AggCon}
 use Rattle.ground_core.specs.Meaning.{SumHolds, parts_value}
-use Rattle.aggregate_propagators.specs.Intervals.{known_of, changed, value_where, reaches, contradicts, refuting}
-use Rattle.aggregate_propagators.specs.Intervals.{Extends, least_possible, greatest_possible}
+use Rattle.ground_core.specs.Intervals.{known_of, changed, value_where, reaches, contradicts, refuting}
+use Rattle.ground_core.specs.Intervals.{Extends, least_possible, greatest_possible}
 use Rattle.aggregate_propagators.specs.Reasons.{clause_of}
 use Rattle.aggregate_propagators.specs.Totals.{total, goal_of, with_side, met}
 

@@ -1,4 +1,3 @@
-pub mod Intervals
 pub mod Totals
 pub mod Laws
 pub mod Reasons

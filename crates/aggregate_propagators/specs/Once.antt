@@ -7,7 +7,7 @@ use Rattle.kb_logic.specs.declared.elements.ExtInt.{ExtInt}
 use Rattle.kb_logic.specs.declared.syntax.AggKind.{AggKind}
 use Rattle.ground_core.specs.declared.parts.Part.{Part}
 use Rattle.ground_core.specs.declared.parts.AggCon.{AggCon}
-use Rattle.aggregate_propagators.specs.Intervals.{known_of}
+use Rattle.ground_core.specs.Intervals.{known_of}
 use Rattle.aggregate_propagators.specs.Laws.{HasVarsOnce}
 use Rattle.aggregate_propagators.specs.Reasons.{in_end}
 use Rattle.aggregate_propagators.specs.Totals.{gain, gain_if, total}

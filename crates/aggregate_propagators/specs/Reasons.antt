@@ -5,7 +5,7 @@ use Rattle.lit_core.specs.declared.literals.Lit.{Lit}
 use Rattle.lit_core.specs.Literals.{negated}
 use Rattle.ground_core.specs.declared.parts.Part.{Part}
 use Rattle.ground_core.specs.declared.parts.AggCon.{AggCon}
-use Rattle.aggregate_propagators.specs.Intervals.{known_of, in_least, in_greatest}
+use Rattle.ground_core.specs.Intervals.{known_of, in_least, in_greatest}
 
 -- whether a part counts in one end of the interval
 abbrev pub in_end : Bool → AggKind → ℤ → Option Bool → Bool

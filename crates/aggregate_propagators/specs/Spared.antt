@@ -7,7 +7,7 @@ use Rattle.kb_logic.specs.declared.syntax.AggKind.{AggKind}
 use Rattle.lit_core.specs.declared.literals.Lit.{Lit}
 use Rattle.ground_core.specs.declared.parts.Part.{Part}
 use Rattle.ground_core.specs.declared.parts.AggCon.{AggCon}
-use Rattle.aggregate_propagators.specs.Intervals.{known_of, contradicts, refuting}
+use Rattle.ground_core.specs.Intervals.{known_of, contradicts, refuting}
 use Rattle.aggregate_propagators.specs.Reasons.{asks_high, denied, in_end}
 use Rattle.aggregate_propagators.specs.Totals.{gain, gain_if, goal_of}
 use Rattle.aggregate_propagators.specs.Once.{end_total}

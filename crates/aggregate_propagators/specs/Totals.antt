@@ -6,7 +6,7 @@ use Rattle.kb_logic.specs.declared.syntax.AggKind.{AggKind}
 use Rattle.kb_logic.specs.declared.syntax.AggKind.TheVariants as kind
 use Rattle.kb_logic.specs.Denotations.{number}
 use Rattle.ground_core.specs.declared.parts.Part.{Part}
-use Rattle.aggregate_propagators.specs.Intervals.{reaches}
+use Rattle.ground_core.specs.Intervals.{reaches}
 
 -- what a part that counts adds: a maximum counts the weights that reach the bound, a minimum those that do not
 abbrev pub gain : AggKind → ExtInt → ℤ → ℤ

@@ -1,7 +1,7 @@
 //! Whether an aggregate's interval contradicts its result.
 ghost use Rattle.std.specs.Prelude.{◌≡◌, ◌<◌, ◌^◌, ◌≤ℤ◌, ℤ, pos, neg_ℤ, length, All};
 ghost use Rattle.ground_core.specs.declared.parts.Part.{Part as PartRow};
-ghost use Rattle.aggregate_propagators.specs.Intervals.{contradicts, known_of};
+ghost use Rattle.ground_core.specs.Intervals.{contradicts, known_of};
 ghost use Rattle.aggregate_propagators.specs.Reasons.{differ, in_end};
 ghost use Rattle.aggregate_propagators.specs.Totals.{goal_of, met, total, with_side};
 ghost use Rattle.aggregate_propagators.specs.Implied.{assigned, under, IsWithin};

@@ -2,7 +2,7 @@
 ghost use Rattle.std.specs.Prelude.{◌≡◌, ◌<◌, ◌^◌, ◌-◌, pos, neg_ℤ, ◌≤ℤ◌, ◌+ℤ◌, ◌-ℤ◌, length, All};
 ghost use Rattle.kb_logic.specs.Denotations.{number};
 ghost use Rattle.ground_core.specs.declared.parts.Part.{Part as PartRow};
-ghost use Rattle.aggregate_propagators.specs.Intervals.{known_of, reaches, contradicts};
+ghost use Rattle.ground_core.specs.Intervals.{known_of, reaches, contradicts};
 ghost use Rattle.aggregate_propagators.specs.Reasons.{in_end};
 ghost use Rattle.aggregate_propagators.specs.Totals.{gain, gain_if, goal_of, total, met};
 ghost use Rattle.aggregate_propagators.specs.Implied.{assigned, under, IsWithin};

@@ -3,7 +3,7 @@ ghost use Rattle.std.specs.Prelude.{◌≡◌, ◌⊎◌, ◌↔◌, ℕ, Bool, 
 ghost use Rattle.lit_core.specs.declared.literals.Lit.{Lit as LitRow};
 ghost use Rattle.lit_core.specs.Truth.{IsFalsified, IsSatisfied, IsUnitAt};
 ghost use Rattle.ground_core.specs.Meaning.{SumHolds};
-ghost use Rattle.aggregate_propagators.specs.Intervals.{contradicts, refuting, IsQuiet};
+ghost use Rattle.ground_core.specs.Intervals.{contradicts, refuting, IsQuiet};
 ghost use Rattle.aggregate_propagators.specs.Implied.{assigned, AreOpen, Decides, IsOfSum, IsWithin};
 ghost use Rattle.aggregate_propagators.specs.Thresholds.{amount_of, constraint_of, IsNear};
 

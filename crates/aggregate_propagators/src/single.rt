@@ -1,7 +1,7 @@
 //! Decided literals where each variable stands once: one sum serves all parts.
 ghost use Rattle.std.specs.Prelude.{◌≡◌, ◌<◌, ◌^◌, ◌-◌, ◌≤ℤ◌, ◌-ℤ◌, pos, neg_ℤ, Some, length, Contains, IfNone, IfSome};
 ghost use Rattle.lit_core.specs.Literals.{value_in};
-ghost use Rattle.aggregate_propagators.specs.Intervals.{IsOpenAt};
+ghost use Rattle.ground_core.specs.Intervals.{IsOpenAt};
 ghost use Rattle.aggregate_propagators.specs.Reasons.{differ};
 ghost use Rattle.aggregate_propagators.specs.Totals.{goal_of, met, with_side};
 ghost use Rattle.aggregate_propagators.specs.Implied.{assigned, AreOpen, Decides, IsWithin};

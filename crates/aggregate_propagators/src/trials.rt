@@ -1,6 +1,6 @@
 //! Literals that cannot be made true, found by trying each value of each of them.
 ghost use Rattle.std.specs.Prelude.{◌≡◌, ◌<◌, length, IfNone, IfSome};
-ghost use Rattle.aggregate_propagators.specs.Intervals.{IsOpenAt};
+ghost use Rattle.ground_core.specs.Intervals.{IsOpenAt};
 ghost use Rattle.aggregate_propagators.specs.Implied.{assigned, AreOpen, Decides, IsWithin};
 ghost use Rattle.aggregate_propagators.specs.Thresholds.{constraint_of};
 

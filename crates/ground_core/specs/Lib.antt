@@ -6,6 +6,7 @@ pub mod Selectors
 pub mod Calls
 pub mod Problems
 pub mod Meaning
+pub mod Intervals
 pub mod More
 pub mod GateClauses
 pub mod Growth

@@ -16,7 +16,7 @@ use Rattle.ground_core.specs.Moments.{moment_of}
 use Rattle.ground_core.specs.Solving.{Entails, Answers, IsLearnt, counted}
 use Rattle.term_bounds.specs.Breaking.{HasLits}
 use Rattle.term_bounds.specs.Shares.{IsDecidedAs}
-use Rattle.aggregate_propagators.specs.Intervals.{IsQuiet as IsQuietSum}
+use Rattle.ground_core.specs.Intervals.{IsQuiet as IsQuietSum}
 use Rattle.aggregate_propagators.specs.Implied.{assigned}
 use Rattle.search_engine.specs.declared.engine.Engine.{Engine}
 use Rattle.search_engine.specs.declared.engine.Turn.{Turn}

@@ -1,6 +1,6 @@
 //! A look at all constraints.
 ghost use Rattle.std.specs.Prelude.{All, IfNone, IfOk, IfSome};
-ghost use Rattle.aggregate_propagators.specs.Intervals.{IsQuiet};
+ghost use Rattle.ground_core.specs.Intervals.{IsQuiet};
 ghost use Rattle.aggregate_propagators.specs.Implied.{assigned, IsWithin};
 ghost use Rattle.sum_ledger.specs.Asking.{IsImplied};
 

@@ -2,7 +2,7 @@ use Rattle.std.proofs.Common.{rules, ◌≡◌, Some, FitsSigned, to_z, of_z, sy
 use Rattle.std.specs.Int.{w128}
 use Rattle.std.proofs.lemmas.Int.{to_z-of_z}
 use Rattle.ground_core.specs.declared.parts.Part.{Part}
-use Rattle.aggregate_propagators.specs.Intervals.{known_of}
+use Rattle.ground_core.specs.Intervals.{known_of}
 use Rattle.aggregate_propagators.specs.Reasons.{differ, in_end}
 use Rattle.aggregate_propagators.specs.Totals.{goal_of, met, total, with_side}
 use Rattle.aggregate_propagators.specs.Implied.{assigned, under}

@@ -3,7 +3,7 @@ use Rattle.std.proofs.Common.{arith}
 use Rattle.std.specs.Int.{w128}
 use Rattle.std.proofs.lemmas.Int.{ints, to_z-of_z}
 use Rattle.ground_core.specs.declared.parts.Part.{Part}
-use Rattle.aggregate_propagators.specs.Intervals.{known_of}
+use Rattle.ground_core.specs.Intervals.{known_of}
 use Rattle.aggregate_propagators.specs.Reasons.{in_end}
 use Rattle.aggregate_propagators.specs.Totals.{total, gain, gain_if}
 use Rattle.aggregate_propagators.specs.Implied.{assigned, under}

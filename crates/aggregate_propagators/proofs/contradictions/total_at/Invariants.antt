@@ -1,6 +1,6 @@
 use Rattle.std.proofs.Common.{◌≡◌, ◌*◌, ◌^◌, pos, neg_ℤ, ◌+ℤ◌, ◌≤ℤ◌, drop}
 use Rattle.ground_core.specs.declared.parts.Part.{Part}
-use Rattle.aggregate_propagators.specs.Intervals.{known_of}
+use Rattle.ground_core.specs.Intervals.{known_of}
 use Rattle.aggregate_propagators.specs.Reasons.{in_end}
 use Rattle.aggregate_propagators.specs.Totals.{total}
 use Rattle.aggregate_propagators.specs.Implied.{assigned, under}

@@ -2,7 +2,7 @@ use Rattle.std.proofs.Common.{◌≡◌, ◌↔◌, ℕ, Bool, true, All, IfOk, 
 use Rattle.lit_core.specs.Truth.{IsSatisfied}
 use Rattle.ground_core.specs.declared.parts.AggCon.{AggCon}
 use Rattle.ground_core.specs.Meaning.{SumHolds}
-use Rattle.aggregate_propagators.specs.Intervals.{contradicts, refuting, IsQuiet}
+use Rattle.ground_core.specs.Intervals.{contradicts, refuting, IsQuiet}
 use Rattle.aggregate_propagators.specs.Implied.{assigned, IsOfSum, IsWithin}
 use Rattle.aggregate_propagators.proofs.Joined.{joined}
 use Rattle.aggregate_propagators.proofs.inference.implied.Goals as goal

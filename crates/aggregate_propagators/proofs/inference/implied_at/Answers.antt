@@ -1,5 +1,5 @@
 use Rattle.std.proofs.Common.{◌≡◌, true, false, Some, inl, sym, ◌∙◌}
-use Rattle.aggregate_propagators.specs.Intervals.{contradicts}
+use Rattle.ground_core.specs.Intervals.{contradicts}
 use Rattle.aggregate_propagators.specs.Implied.{assigned, under}
 use Rattle.aggregate_propagators.specs.Thresholds.{constraint_of}
 use Rattle.aggregate_propagators.proofs.Acting.{is-alone, is-held, is-false, is-unit}

@@ -3,7 +3,7 @@ use Rattle.std.specs.Int.{w128}
 use Rattle.std.proofs.lemmas.Int.{to_z-of_z}
 use Rattle.lit_core.specs.declared.literals.Lit.{Lit}
 use Rattle.lit_core.specs.Literals.{by_sign, value_in}
-use Rattle.aggregate_propagators.specs.Intervals.{changed, contradicts, IsOpenAt}
+use Rattle.ground_core.specs.Intervals.{changed, contradicts, IsOpenAt}
 use Rattle.aggregate_propagators.specs.Reasons.{differ}
 use Rattle.aggregate_propagators.specs.Totals.{goal_of, met, with_side}
 use Rattle.aggregate_propagators.specs.Implied.{assigned, Decides}

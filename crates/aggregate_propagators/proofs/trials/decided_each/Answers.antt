@@ -2,7 +2,7 @@ use Rattle.std.proofs.Common.{All, subst, arith}
 use Rattle.std.proofs.lemmas.List.{take_all}
 use Rattle.std.proofs.lemmas.List.Elements.{All-more}
 use Rattle.ground_core.specs.declared.parts.Part.{Part}
-use Rattle.aggregate_propagators.specs.Intervals.{IsOpenAt}
+use Rattle.ground_core.specs.Intervals.{IsOpenAt}
 use Rattle.aggregate_propagators.specs.Implied.{assigned}
 use Rattle.aggregate_propagators.specs.Thresholds.{constraint_of}
 use Rattle.aggregate_propagators.proofs.ListFacts.{no_part}

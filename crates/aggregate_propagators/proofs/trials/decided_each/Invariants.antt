@@ -1,6 +1,6 @@
 use Rattle.std.proofs.Common.{take, All}
 use Rattle.ground_core.specs.declared.parts.Part.{Part}
-use Rattle.aggregate_propagators.specs.Intervals.{IsOpenAt}
+use Rattle.ground_core.specs.Intervals.{IsOpenAt}
 use Rattle.aggregate_propagators.specs.Implied.{assigned}
 use Rattle.aggregate_propagators.specs.Thresholds.{constraint_of}
 use Rattle.aggregate_propagators.proofs.trials.decided_each.Given as goal

@@ -1,7 +1,7 @@
 use Rattle.std.proofs.Common.{rules, ◌≡◌, None, Some, true, false, sym, ◌∙◌, subst}
 use Rattle.lit_core.specs.declared.literals.Lit.{Lit}
 use Rattle.lit_core.specs.Literals.{value_in}
-use Rattle.aggregate_propagators.specs.Intervals.{contradicts, IsOpenAt}
+use Rattle.ground_core.specs.Intervals.{contradicts, IsOpenAt}
 use Rattle.aggregate_propagators.specs.Implied.{assigned, under, Decides}
 use Rattle.aggregate_propagators.specs.Thresholds.{constraint_of}
 use Rattle.aggregate_propagators.proofs.Deciding.{decided-other, open-here}

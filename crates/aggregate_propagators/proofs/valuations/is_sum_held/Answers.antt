@@ -5,7 +5,7 @@ use Rattle.std.proofs.lemmas.Int.{to_z-of_z}
 use Rattle.lit_core.specs.Literals.{literal_value, valuation}
 use Rattle.ground_core.specs.declared.parts.Part.{Part}
 use Rattle.ground_core.specs.Meaning.{parts_value}
-use Rattle.aggregate_propagators.specs.Intervals.{reaches}
+use Rattle.ground_core.specs.Intervals.{reaches}
 use Rattle.aggregate_propagators.specs.Totals.{goal_of, met, total, with_side}
 use Rattle.aggregate_propagators.specs.Thresholds.{amount_of}
 use Rattle.aggregate_propagators.proofs.Sums.{reaches-by-totals}

@@ -2,7 +2,7 @@ use Rattle.std.proofs.Common.{◌≡◌, ◌↔◌, ◌+◌, IsNone, Option, Non
 use Rattle.std.proofs.lemmas.List.{take_all, take_more}
 use Rattle.std.proofs.lemmas.List.Elements.{All-push}
 use Rattle.ground_core.specs.declared.parts.AggCon.{AggCon}
-use Rattle.aggregate_propagators.specs.Intervals.{IsQuiet}
+use Rattle.ground_core.specs.Intervals.{IsQuiet}
 use Rattle.aggregate_propagators.specs.Implied.{assigned}
 use Rattle.sum_ledger.proofs.scan.first_implied.Goals as goal
 

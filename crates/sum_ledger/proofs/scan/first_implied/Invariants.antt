@@ -1,5 +1,5 @@
 use Rattle.std.proofs.Common.{All, take}
-use Rattle.aggregate_propagators.specs.Intervals.{IsQuiet}
+use Rattle.ground_core.specs.Intervals.{IsQuiet}
 use Rattle.aggregate_propagators.specs.Implied.{assigned}
 use Rattle.sum_ledger.proofs.scan.first_implied.Given as goal
 

@@ -2,7 +2,7 @@ use Rattle.std.proofs.Common.{Bool, Option, List, All, IfNone, sym, subst}
 use Rattle.lit_core.specs.declared.literals.Lit.{Lit}
 use Rattle.lit_core.specs.Truth.{IsFalsified}
 use Rattle.ground_core.specs.declared.parts.AggCon.{AggCon}
-use Rattle.aggregate_propagators.specs.Intervals.{IsQuiet as IsQuietSum}
+use Rattle.ground_core.specs.Intervals.{IsQuiet as IsQuietSum}
 use Rattle.aggregate_propagators.specs.Implied.{assigned, IsWithin}
 use Rattle.search_engine.specs.declared.engine.Engine.{Engine}
 use Rattle.search_engine.proofs.SumFacts.{implied-explained, implied-false, implied-here, sums-within}

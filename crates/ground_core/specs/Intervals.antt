@@ -1,5 +1,4 @@
--- The interval of an aggregate's possible values under an assignment, each part by itself. This file and Implied import
--- only from the crates below.
+-- The interval of an aggregate's possible values under an assignment, each part by itself.
 use Rattle.std.specs.Prelude.{ℕ, ℤ, pos, int_lt, nat_eq, Bool, true, false, not, if◌then◌else◌, Option, Some, None}
 use Rattle.std.specs.Prelude.{List, [], ◌∷◌, map, filter, ◌≡◌, Contains}
 use Rattle.kb_logic.specs.declared.elements.ExtInt.{ExtInt}
