@@ -26,7 +26,7 @@ IsOfType v domains scope ty (product ts) = ⊥
 IsOfType v domains scope ty (aggregate k bs f t) = ⊥
 
 abbrev mutual
-  -- each application in the term is of a function to elements of its argument types, and there are no aggregates
+  -- each application outside aggregates is of a function to elements of its argument types
   pub IsTypedTerm : Vocabulary → List (List Elem) → List ℕ → TermTree → Type 0
   IsTypedTerm v domains scope (variable n) = Unit {0}
   IsTypedTerm v domains scope (integer z) = Unit {0}
@@ -35,7 +35,7 @@ abbrev mutual
       (d : Symbol) × (slice_get v.symbols s ≡ Some d) × AreArguments v domains scope d.args ts
   IsTypedTerm v domains scope (summation ss) = AreTypedSummands v domains scope ss
   IsTypedTerm v domains scope (product ts) = AreTypedTerms v domains scope ts
-  IsTypedTerm v domains scope (aggregate k bs f t) = ⊥
+  IsTypedTerm v domains scope (aggregate k bs f t) = Unit {0}
 
   pub AreTypedTerms : Vocabulary → List (List Elem) → List ℕ → TermTrees → Type 0
   AreTypedTerms v domains scope no_terms = Unit {0}

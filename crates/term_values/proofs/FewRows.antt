@@ -1,4 +1,4 @@
--- A term has no more rows than its applications have values.
+-- A term has no more rows than its applications outside aggregates have values.
 use Rattle.std.proofs.Common.{◌≡◌, ℕ, zero, suc, ◌+◌, ◌*◌, ◌<◌, ◌≤◌, List, [], ◌∷◌, ◌++◌, map, flat_map, length, Bool}
 use Rattle.std.proofs.Common.{true, false}
 use Rattle.std.proofs.Common.{Option, Some, None, slice_get, refl, sym, ap, subst, ◌∙◌, arith, inl, inr}
@@ -214,7 +214,7 @@ module _ (b : GroundBase) (scope : List ℕ) (e : List Elem) (types : HasTypes b
     term-few (product ts) h =
         let size = map-number (λ vs. number_value (product_from (pos 1) vs)) (rows_of_terms b ts e) in
         let few = terms-few ts h in omega (arith, size, few)
-    term-few (aggregate kind bs f t) h = absurd h
+    term-few (aggregate kind bs f t) h = omega arith
 
     pub terms-few : (ts : TermTrees) → AreTypedTerms b.vocabulary b.domains scope ts
         → length (rows_of_terms b ts e) ≤ applications_count b.vocabulary b.domains ts

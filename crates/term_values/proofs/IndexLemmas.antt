@@ -1,5 +1,6 @@
 -- The place of an element, where one more stands at the end of a domain.
 use Rattle.std.proofs.Common.{◌≡◌, ℕ, ◌+◌, suc, List, [], ◌∷◌, ◌++◌, length, Option, None, Some, option_map, is_some}
+use Rattle.std.proofs.Common.{map}
 use Rattle.std.proofs.Common.{Bool, true, false, cond}
 use Rattle.std.proofs.Common.{refl, sym, ap, ◌∙◌, arith}
 use Rattle.std.specs.Ordering.{int_eq}
@@ -12,8 +13,21 @@ use Rattle.kb_logic.specs.Structures.{EachWith, domain_at}
 use Rattle.indexmap.specs.IndexMap.{get_by}
 use Rattle.std.proofs.Common.{ℤ, zero, slice_get, ◌≤◌}
 use Rattle.kb_logic.proofs.Atoms.{same_is}
+use Rattle.kb_logic.specs.Meaning.{behind, is_end}
+use Rattle.term_values.specs.GroundBases.{row_index}
 use Rattle.term_values.specs.DomainIndexes.{elem_index, index_in, IsIndexOf, AreIndexesOf}
 use Rattle.term_values.specs.declared.domain_index.DomainIndex.{DomainIndex}
+
+-- the place of an element is that of a row with it alone
+pub single-index : (xs : List Elem) (v : Denotation) → row_index (map (λ x. x ∷ []) xs) (v ∷ []) ≡ elem_index xs v
+single-index [] v = refl
+single-index (x ∷ xs) v =
+    ap (λ o. cond (is_end (behind (x ∷ []) (v ∷ []))) (Some 0) (option_map (λ i. 1 + i) o)) (single-index xs v)
+    ∙ here (same_value (denotation_of x) v) (option_map (λ i. 1 + i) (elem_index xs v))
+  where
+    here : (b : Bool) (o : Option ℕ) → cond (is_end (cond b (Some []) None)) (Some 0) o ≡ cond b (Some 0) o
+    here true o = refl
+    here false o = refl
 
 -- the first place, or else the second
 abbrev pub first_of : Option ℕ → Option ℕ → Option ℕ

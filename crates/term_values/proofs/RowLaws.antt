@@ -22,7 +22,8 @@ use Rattle.term_values.specs.Rows.{positive_lit, with_row, value_rows, rows_at, 
 use Rattle.term_values.specs.Rows.{rows_of_terms, rows_of_sum, selected_values}
 use Rattle.term_values.proofs.RowFacts.{value-at, first-value, place-below, applied-is, table-found}
 use Rattle.term_values.specs.Laws.{RowsAreRight}
-use Rattle.term_values.specs.GroundTerms.{IsGroundTerm, AreGroundTerms, AreGroundSummands, terms_number}
+use Rattle.term_values.specs.GroundTerms.{IsGroundTerm, AreGroundTerms, AreGroundSummands, terms_number, without}
+use Rattle.term_values.specs.GroundTerms.{all_without, operands_without}
 
 append-if : {X : Type 0} (m : Bool) (x : X) (xs ys : List X)
     → ((if m then x ∷ xs else xs) ++ ys) ≡ (if m then x ∷ (xs ++ ys) else xs ++ ys)
@@ -221,3 +222,33 @@ module _ (b : GroundBase) (v : ℕ → Bool) (over : IsOver b v) (e : List Elem)
 
 pub rows-are-right : RowsAreRight
 rows-are-right b v t e over h = term-right b v over e t h
+
+-- an aggregate has the row of 0
+module _ (b : GroundBase) (e : List Elem) where
+  mutual
+    pub plain-rows : (t : TermTree) → rows_of_term b t e ≡ rows_of_term b (without t) e
+    plain-rows (variable n) = refl
+    plain-rows (integer z) = refl
+    plain-rows (constructed ty n) = refl
+    plain-rows (application s ts) =
+        ap (flat_map (λ t. rows_at b s t.0 (row_index (tuples_at b s) t.1))) (plain-tuples ts)
+    plain-rows (summation ss) = ap (map_rows number_value) (plain-sums ss)
+    plain-rows (product ts) = ap (map_rows (λ vs. number_value (product_from (pos 1) vs))) (plain-tuples ts)
+    plain-rows (aggregate k bs f t) = refl
+
+    pub plain-tuples : (ts : TermTrees) → rows_of_terms b ts e ≡ rows_of_terms b (all_without ts) e
+    plain-tuples no_terms = refl
+    plain-tuples (more_terms t ts) =
+        ap (λ rs. pair_rows (λ x xs. x ∷ xs) rs (rows_of_terms b ts e)) (plain-rows t)
+        ∙ ap (pair_rows (λ x xs. x ∷ xs) (rows_of_term b (without t) e)) (plain-tuples ts)
+
+    pub plain-sums : (ss : SummandTrees) → rows_of_sum b ss e ≡ rows_of_sum b (operands_without ss) e
+    plain-sums no_summands = refl
+    plain-sums (more_summands minus t ss) =
+        ap (λ rs. pair_rows (summand_plus minus) rs (rows_of_sum b ss e)) (plain-rows t)
+        ∙ ap (pair_rows (summand_plus minus) (rows_of_term b (without t) e)) (plain-sums ss)
+
+-- exactly one row has true guards, and its value is the term's with 0 in the place of each aggregate
+pub plain-right : (b : GroundBase) (v : ℕ → Bool) (t : TermTree) (e : List Elem) → IsOver b v → IsGroundTerm b (without t)
+    → selected_values v (rows_of_term b t e) ≡ value_of (structure_of b v) (without t) e ∷ []
+plain-right b v t e over h = ap (selected_values v) (plain-rows b e t) ∙ term-right b v over e (without t) h

@@ -1,5 +1,5 @@
 -- What is well typed over the domains applies its functions to elements of their argument types.
-use Rattle.std.proofs.Common.{◌≡◌, ◌<◌, ◌⊎◌, ℕ, zero, suc, ℤ, List, [], ◌∷◌, map, length, Option, Some, None}
+use Rattle.std.proofs.Common.{◌≡◌, ◌<◌, ◌⊎◌, ◌+◌, ℕ, zero, suc, ℤ, List, [], ◌∷◌, map, length, Option, Some, None}
 use Rattle.std.proofs.Common.{option_map, is_some, IsSome, true, refl, sym, ap, ◌∙◌, subst, arith, inl, inr}
 use Rattle.std.proofs.Common.{slice_get}
 use Rattle.std.specs.Option.{option_and_then}
@@ -24,6 +24,7 @@ use Rattle.term_values.specs.GroundBases.{GroundBase}
 use Rattle.term_values.specs.KnownBases.{IsGroundBase}
 use Rattle.term_values.specs.GroundTerms.{terms_number, IsFunctionOf, IsGroundTerm, AreGroundTerms, AreGroundSummands}
 use Rattle.term_values.specs.GroundTerms.{TermHasNoCounting, TermsHaveNoCounting, SummandsHaveNoCounting}
+use Rattle.term_values.specs.GroundTerms.{without, all_without, operands_without}
 use Rattle.term_values.proofs.ArgumentTypes.{IsOfType, IsTypedTerm, AreTypedTerms, AreTypedSummands}
 use Rattle.term_values.proofs.ArgumentTypes.{AreArguments}
 use Rattle.term_values.proofs.StructureAtoms.{tuples-are}
@@ -106,47 +107,47 @@ module _ (v : Vocabulary) (domains : List (List Elem)) (given : AreDomainsOf v d
 
   mutual
     pub typed-term : (t : TermTree) (scope : List ℕ) → TermIsTyped v (IsIntegerIn domains) t scope
-        → TermHasNoCounting t → IsTypedTerm v domains scope t
-    typed-term (variable n) scope typed none = tt
-    typed-term (integer z) scope typed none = tt
-    typed-term (constructed ty n) scope typed none = tt
-    typed-term (application s ts) scope typed none =
-        (typed.0, typed.1, typed-arguments ts typed.0.args scope typed.3 none)
-    typed-term (summation ss) scope typed none = typed-operands ss scope typed none
-    typed-term (product ts) scope typed none = typed-factors ts scope typed none
-    typed-term (aggregate k bs f t) scope typed none = absurd none
+        → IsTypedTerm v domains scope t
+    typed-term (variable n) scope typed = tt
+    typed-term (integer z) scope typed = tt
+    typed-term (constructed ty n) scope typed = tt
+    typed-term (application s ts) scope typed =
+        (typed.0, typed.1, typed-arguments ts typed.0.args scope typed.3)
+    typed-term (summation ss) scope typed = typed-operands ss scope typed
+    typed-term (product ts) scope typed = typed-factors ts scope typed
+    typed-term (aggregate k bs f t) scope typed = tt
 
     typed-arguments : (ts : TermTrees) (types scope : List ℕ)
-        → ArgumentsAreTyped v (IsIntegerIn domains) ts types scope → TermsHaveNoCounting ts
+        → ArgumentsAreTyped v (IsIntegerIn domains) ts types scope
         → AreArguments v domains scope types ts
-    typed-arguments no_terms [] scope typed none = tt
-    typed-arguments no_terms (ty ∷ types) scope typed none = absurd typed
-    typed-arguments (more_terms t ts) [] scope typed none = absurd typed
-    typed-arguments (more_terms t ts) (ty ∷ types) scope typed none = (
+    typed-arguments no_terms [] scope typed = tt
+    typed-arguments no_terms (ty ∷ types) scope typed = absurd typed
+    typed-arguments (more_terms t ts) [] scope typed = absurd typed
+    typed-arguments (more_terms t ts) (ty ∷ types) scope typed = (
       of-argument t scope ty typed.0 typed.1,
-      typed-term t scope typed.0 none.0,
-      typed-arguments ts types scope typed.2 none.1,
+      typed-term t scope typed.0,
+      typed-arguments ts types scope typed.2,
     )
 
     typed-factors : (ts : TermTrees) (scope : List ℕ) → FactorsAreTyped v (IsIntegerIn domains) ts scope
-        → TermsHaveNoCounting ts → AreTypedTerms v domains scope ts
-    typed-factors no_terms scope typed none = tt
-    typed-factors (more_terms t ts) scope typed none =
-        (typed-term t scope typed.0 none.0, typed-factors ts scope typed.2 none.1)
+        → AreTypedTerms v domains scope ts
+    typed-factors no_terms scope typed = tt
+    typed-factors (more_terms t ts) scope typed =
+        (typed-term t scope typed.0, typed-factors ts scope typed.2)
 
     typed-operands : (ss : SummandTrees) (scope : List ℕ) → OperandsAreTyped v (IsIntegerIn domains) ss scope
-        → SummandsHaveNoCounting ss → AreTypedSummands v domains scope ss
-    typed-operands no_summands scope typed none = tt
-    typed-operands (more_summands minus t ss) scope typed none =
-        (typed-term t scope typed.0 none.0, typed-operands ss scope typed.2 none.1)
+        → AreTypedSummands v domains scope ss
+    typed-operands no_summands scope typed = tt
+    typed-operands (more_summands minus t ss) scope typed =
+        (typed-term t scope typed.0, typed-operands ss scope typed.2)
 
   pub typed-places : (ts : TermTrees) (types scope : List ℕ) → PlacesAreTyped v (IsIntegerIn domains) ts types scope
-      → TermsHaveNoCounting ts → AreTypedTerms v domains scope ts
-  typed-places no_terms [] scope typed none = tt
-  typed-places no_terms (ty ∷ types) scope typed none = absurd typed
-  typed-places (more_terms t ts) [] scope typed none = absurd typed
-  typed-places (more_terms t ts) (ty ∷ types) scope typed none =
-      (typed-term t scope typed.0 none.0, typed-places ts types scope typed.2 none.1)
+      → AreTypedTerms v domains scope ts
+  typed-places no_terms [] scope typed = tt
+  typed-places no_terms (ty ∷ types) scope typed = absurd typed
+  typed-places (more_terms t ts) [] scope typed = absurd typed
+  typed-places (more_terms t ts) (ty ∷ types) scope typed =
+      (typed-term t scope typed.0, typed-places ts types scope typed.2)
 
 -- functions have the right number of arguments
 arguments-number : (v : Vocabulary) (I : ℕ → ℤ → Type 0) (ts : TermTrees) (types scope : List ℕ)
@@ -156,6 +157,32 @@ arguments-number v I no_terms (ty ∷ types) scope h = absurd h
 arguments-number v I (more_terms t ts) [] scope h = absurd h
 arguments-number v I (more_terms t ts) (ty ∷ types) scope h =
     let rest = arguments-number v I ts types scope h.2 in omega (arith, rest)
+
+-- a term in which there are no aggregates stays as it is without them
+mutual
+  pub without-same : (t : TermTree) → TermHasNoCounting t → without t ≡ t
+  without-same (variable n) none = refl
+  without-same (integer z) none = refl
+  without-same (constructed ty n) none = refl
+  without-same (application s ts) none = ap (application s) (all-same ts none)
+  without-same (summation ss) none = ap summation (operands-same ss none)
+  without-same (product ts) none = ap product (all-same ts none)
+  without-same (aggregate k bs f t) none = absurd none
+
+  pub all-same : (ts : TermTrees) → TermsHaveNoCounting ts → all_without ts ≡ ts
+  all-same no_terms none = refl
+  all-same (more_terms t ts) none =
+      ap (λ u. more_terms u (all_without ts)) (without-same t none.0) ∙ ap (more_terms t) (all-same ts none.1)
+
+  pub operands-same : (ss : SummandTrees) → SummandsHaveNoCounting ss → operands_without ss ≡ ss
+  operands-same no_summands none = refl
+  operands-same (more_summands minus t ss) none =
+      ap (λ u. more_summands minus u (operands_without ss)) (without-same t none.0)
+      ∙ ap (more_summands minus t) (operands-same ss none.1)
+
+same-terms : (ts : TermTrees) → terms_number ts ≡ terms_number (all_without ts)
+same-terms no_terms = refl
+same-terms (more_terms t ts) = ap (λ n. 1 + n) (same-terms ts)
 
 module _ (b : GroundBase) (I : ℕ → ℤ → Type 0) where
   function-is : (s n : ℕ) (d : Symbol) → slice_get b.vocabulary.symbols s ≡ Some d → is_some d.value ≡ true
@@ -169,42 +196,51 @@ module _ (b : GroundBase) (I : ℕ → ℤ → Type 0) where
   }
 
   mutual
-    pub ground-term : (t : TermTree) (scope : List ℕ) → TermIsTyped b.vocabulary I t scope → TermHasNoCounting t
-        → IsGroundTerm b t
-    ground-term (variable n) scope typed none = tt
-    ground-term (integer z) scope typed none = tt
-    ground-term (constructed ty n) scope typed none = tt
-    ground-term (application s ts) scope typed none = (
-      function-is s (terms_number ts) typed.0 typed.1 typed.2
-          (arguments-number b.vocabulary I ts typed.0.args scope typed.3),
-      ground-arguments ts typed.0.args scope typed.3 none,
+    -- a well typed term without its aggregates is a ground term
+    pub ground-without : (t : TermTree) (scope : List ℕ) → TermIsTyped b.vocabulary I t scope → IsGroundTerm b (without t)
+    ground-without (variable n) scope typed = tt
+    ground-without (integer z) scope typed = tt
+    ground-without (constructed ty n) scope typed = tt
+    ground-without (application s ts) scope typed = (
+      function-is s (terms_number (all_without ts)) typed.0 typed.1 typed.2
+          (arguments-number b.vocabulary I ts typed.0.args scope typed.3 ∙ same-terms ts),
+      ground-arguments ts typed.0.args scope typed.3,
     )
-    ground-term (summation ss) scope typed none = ground-operands ss scope typed none
-    ground-term (product ts) scope typed none = ground-factors ts scope typed none
-    ground-term (aggregate k bs f t) scope typed none = absurd none
+    ground-without (summation ss) scope typed = ground-operands ss scope typed
+    ground-without (product ts) scope typed = ground-factors ts scope typed
+    ground-without (aggregate k bs f t) scope typed = tt
 
     ground-arguments : (ts : TermTrees) (types scope : List ℕ) → ArgumentsAreTyped b.vocabulary I ts types scope
-        → TermsHaveNoCounting ts → AreGroundTerms b ts
-    ground-arguments no_terms types scope typed none = tt
-    ground-arguments (more_terms t ts) [] scope typed none = absurd typed
-    ground-arguments (more_terms t ts) (ty ∷ types) scope typed none =
-        (ground-term t scope typed.0 none.0, ground-arguments ts types scope typed.2 none.1)
+        → AreGroundTerms b (all_without ts)
+    ground-arguments no_terms types scope typed = tt
+    ground-arguments (more_terms t ts) [] scope typed = absurd typed
+    ground-arguments (more_terms t ts) (ty ∷ types) scope typed =
+        (ground-without t scope typed.0, ground-arguments ts types scope typed.2)
 
     ground-factors : (ts : TermTrees) (scope : List ℕ) → FactorsAreTyped b.vocabulary I ts scope
-        → TermsHaveNoCounting ts → AreGroundTerms b ts
-    ground-factors no_terms scope typed none = tt
-    ground-factors (more_terms t ts) scope typed none =
-        (ground-term t scope typed.0 none.0, ground-factors ts scope typed.2 none.1)
+        → AreGroundTerms b (all_without ts)
+    ground-factors no_terms scope typed = tt
+    ground-factors (more_terms t ts) scope typed = (ground-without t scope typed.0, ground-factors ts scope typed.2)
 
     ground-operands : (ss : SummandTrees) (scope : List ℕ) → OperandsAreTyped b.vocabulary I ss scope
-        → SummandsHaveNoCounting ss → AreGroundSummands b ss
-    ground-operands no_summands scope typed none = tt
-    ground-operands (more_summands minus t ss) scope typed none =
-        (ground-term t scope typed.0 none.0, ground-operands ss scope typed.2 none.1)
+        → AreGroundSummands b (operands_without ss)
+    ground-operands no_summands scope typed = tt
+    ground-operands (more_summands minus t ss) scope typed =
+        (ground-without t scope typed.0, ground-operands ss scope typed.2)
+
+  pub ground-places-without : (ts : TermTrees) (types scope : List ℕ) → PlacesAreTyped b.vocabulary I ts types scope
+      → AreGroundTerms b (all_without ts)
+  ground-places-without no_terms types scope typed = tt
+  ground-places-without (more_terms t ts) [] scope typed = absurd typed
+  ground-places-without (more_terms t ts) (ty ∷ types) scope typed =
+      (ground-without t scope typed.0, ground-places-without ts types scope typed.2)
+
+  -- and so is one in which there are none
+  pub ground-term : (t : TermTree) (scope : List ℕ) → TermIsTyped b.vocabulary I t scope → TermHasNoCounting t
+      → IsGroundTerm b t
+  ground-term t scope typed none = subst (IsGroundTerm b) (without-same t none) (ground-without t scope typed)
 
   pub ground-places : (ts : TermTrees) (types scope : List ℕ) → PlacesAreTyped b.vocabulary I ts types scope
       → TermsHaveNoCounting ts → AreGroundTerms b ts
-  ground-places no_terms types scope typed none = tt
-  ground-places (more_terms t ts) [] scope typed none = absurd typed
-  ground-places (more_terms t ts) (ty ∷ types) scope typed none =
-      (ground-term t scope typed.0 none.0, ground-places ts types scope typed.2 none.1)
+  ground-places ts types scope typed none =
+      subst (AreGroundTerms b) (all-same ts none) (ground-places-without ts types scope typed)

@@ -1,5 +1,5 @@
 -- The terms of which the laws of rows speak.
-use Rattle.std.specs.Prelude.{◌≡◌, ℕ, ◌+◌, length, IsSome}
+use Rattle.std.specs.Prelude.{◌≡◌, ℕ, ◌+◌, pos, length, IsSome}
 use Rattle.std.specs.List.{AllByRecursion}
 use Rattle.kb_logic.specs.Trees.{TermTree, variable, integer, constructed, application, summation, product, aggregate}
 use Rattle.kb_logic.specs.Trees.{TermTrees}
@@ -53,3 +53,22 @@ abbrev mutual
   pub SummandsHaveNoCounting : SummandTrees → Type 0
   SummandsHaveNoCounting no_summands = Unit {0}
   SummandsHaveNoCounting (more_summands minus t ss) = TermHasNoCounting t × SummandsHaveNoCounting ss
+
+abbrev mutual
+  -- the term with 0 in the place of each aggregate
+  pub without : TermTree → TermTree
+  without (variable n) = variable n
+  without (integer z) = integer z
+  without (constructed ty n) = constructed ty n
+  without (application s ts) = application s (all_without ts)
+  without (summation ss) = summation (operands_without ss)
+  without (product ts) = product (all_without ts)
+  without (aggregate k bs f t) = integer (pos 0)
+
+  pub all_without : TermTrees → TermTrees
+  all_without no_terms = no_terms
+  all_without (more_terms t ts) = more_terms (without t) (all_without ts)
+
+  pub operands_without : SummandTrees → SummandTrees
+  operands_without no_summands = no_summands
+  operands_without (more_summands minus t ss) = more_summands minus (without t) (operands_without ss)

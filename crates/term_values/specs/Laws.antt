@@ -15,7 +15,7 @@ use Rattle.kb_logic.specs.KnownAtoms.{KnownAtoms, ExtendsData, atoms_over}
 use Rattle.term_values.specs.GroundBases.{GroundBase, structure_of, OneValueEach, HasKnown, IsOver}
 use Rattle.term_values.specs.KnownBases.{IsGroundBase, base_of_data, AreDataOf}
 use Rattle.term_values.specs.Rows.{rows_of_term, selected_values}
-use Rattle.term_values.specs.GroundTerms.{IsGroundTerm, TermHasNoCounting}
+use Rattle.term_values.specs.GroundTerms.{IsGroundTerm}
 
 -- exactly one row has true guards, and its value is the term's in the structure of the valuation
 abbrev pub RowsAreRight : Type 0
@@ -55,10 +55,10 @@ KnownIsExtended =
     (v : Vocabulary) (k : KnownAtoms) (w : ℕ → Bool) → AreDataOf v k
     → HasKnown (base_of_data v k) w ↔ ExtendsData (structure_of (base_of_data v k) w) k
 
--- well typed terms have no more rows than their applications have values
+-- well typed terms have no more rows than their applications outside aggregates have values
 abbrev pub RowsAreFew : Type 0
 RowsAreFew =
     (b : GroundBase) (t : TermTree) (scope : List ℕ) (e : List Elem) → AreDomainsOf b.vocabulary b.domains
     → HasTypes b.domains scope e
-    → TermIsTypedOver b.vocabulary b.domains t scope → TermHasNoCounting t
+    → TermIsTypedOver b.vocabulary b.domains t scope
     → length (rows_of_term b t e) ≤ application_count b.vocabulary b.domains t

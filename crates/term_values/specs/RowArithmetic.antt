@@ -20,7 +20,7 @@ abbrev pub RowProductFits : List Lit × List Denotation → Type 0
 RowProductFits r = ProductFits (pos 1) r.1
 
 abbrev mutual
-  -- the integers that come up in the rows of the term; an aggregate has no row
+  -- the integers that come up in the rows of the term, in which an aggregate counts as 0
   pub RowsFit : GroundBase → TermTree → List Elem → Type 0
   RowsFit b (variable n) e = ⊤
   RowsFit b (integer z) e = ⊤

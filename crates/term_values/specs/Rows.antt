@@ -44,7 +44,7 @@ abbrev pub map_rows : {X Y : Type 0} → (X → Y) → List (List Lit × X) → 
 map_rows f xs = map (λ x. (x.0, f x.1)) xs
 
 abbrev mutual
-  -- the rows of a term
+  -- the rows of a term, in which an aggregate is left out: it counts as 0
   pub rows_of_term : GroundBase → TermTree → List Elem → List (List Lit × Denotation)
   rows_of_term b (variable n) e = ([], element_value (slice_get e n)) ∷ []
   rows_of_term b (integer z) e = ([], number z) ∷ []
@@ -53,7 +53,7 @@ abbrev mutual
       flat_map (λ t. rows_at b s t.0 (row_index (tuples_at b s) t.1)) (rows_of_terms b ts e)
   rows_of_term b (summation ss) e = map_rows number_value (rows_of_sum b ss e)
   rows_of_term b (product ts) e = map_rows (λ vs. number_value (product_from (pos 1) vs)) (rows_of_terms b ts e)
-  rows_of_term b (aggregate k bs f t) e = []
+  rows_of_term b (aggregate k bs f t) e = ([], number (pos 0)) ∷ []
 
   -- the rows of a list of terms: each has a value for each of the terms
   pub rows_of_terms : GroundBase → TermTrees → List Elem → List (List Lit × List Denotation)

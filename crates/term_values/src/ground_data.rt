@@ -6,6 +6,7 @@ ghost use Rattle.plain_evaluation.specs.Environments.{env_view};
 ghost use Rattle.kb_logic.specs.Trees.{terms_of};
 ghost use Rattle.kb_logic.specs.Values.{value_view};
 ghost use Rattle.kb_logic.specs.Views.{term_view};
+ghost use Rattle.term_values.specs.DomainIndexes.{elem_index};
 ghost use Rattle.term_values.specs.GroundBases.{known_of, first_var as first_variable, row_index, tuples_at, values_at};
 ghost use Rattle.term_values.specs.KnownBases.{AreDataOf, base_of_data};
 ghost use Rattle.term_values.specs.RowArithmetic.{RowsFit, TupleRowsFit};
@@ -19,7 +20,7 @@ use crate::known_atoms::all_known;
 use crate::plain_terms::plain_value;
 use crate::rows::{RowValue, Rows, TupleRows};
 use crate::term_rows::{push_term, put_terms};
-use crate::tuple_places::tuple_place;
+use crate::tuple_places::{elem_place, tuple_place};
 use kb_logic::values::{Value, domain_in};
 use kb_logic::{Elem, ElemList, Memory, Term, Vocabulary};
 use partial_structures::Partial;
@@ -132,6 +133,19 @@ impl<'a> GroundData<'a> {
         }
     }
 
+    /// The place of a value among those that a function may have; None where it is not one of them.
+    pub fn place_of_value(&self, symbol: u32, value: Value<'_>) -> Option<usize>
+        ensures { result ≡ elem_index (values_at self.now symbol) (value_view value.entry) }
+    {
+        match self.vocabulary.symbols.get(symbol as usize) {
+            None => None,
+            Some(declared) => match declared.value {
+                None => None,
+                Some(ty) => elem_place(&self.indexes, ty, value),
+            },
+        }
+    }
+
     /// How many tuples of arguments a symbol has; `u64::MAX` where they are more.
     pub fn tuple_count(&self, symbol: u32) -> u64
         ensures { result ≡ capped (length (tuples_at self.now symbol)) }
@@ -207,7 +221,7 @@ impl<'a> GroundData<'a> {
         }
     }
 
-    /// The rows of a term, whose free variables have the elements of `env`. An aggregate has none.
+    /// The rows of a term, whose free variables have the elements of `env`. An aggregate counts as 0.
     pub fn rows(&self, alloc: Global, term: &Term, env: &Env<'a>) -> Result<Rows<'a>, Memory>
         requires { RowsFit self.now (term_view term.now) (env_view env.now) }
         ensures { IfOk result (λ r. r ≡ rows_of_term self.now (term_view term.now) (env_view env.now)) }

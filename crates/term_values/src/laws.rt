@@ -32,7 +32,7 @@ pub fn known_is_extended()
     ensures { KnownIsExtended }
 {}
 
-/// A well typed term has no more rows than its applications have values.
+/// A well typed term has no more rows than its applications outside aggregates have values.
 pub fn rows_are_few()
     ensures { RowsAreFew }
 {}

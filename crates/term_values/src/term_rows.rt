@@ -137,7 +137,7 @@ pub(crate) fn push_term<'a>(
             put_terms(alloc, base, factors, env, &mut tuples)?;
             push_products(&tuples, out)
         }
-        Term::Agg(..) => Ok(()),
+        Term::Agg(..) => out.push(&[], &[], Value::Num(0)),
     }
 }
 

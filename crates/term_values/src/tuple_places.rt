@@ -2,6 +2,7 @@
 ghost use Rattle.std.specs.Prelude.{◌≡◌, List, length, map, option_map};
 ghost use Rattle.kb_logic.specs.declared.elements.Elem.{Elem as Element};
 ghost use Rattle.kb_logic.specs.Structures.{domain_at, tuples_of};
+ghost use Rattle.kb_logic.specs.Values.{value_view};
 ghost use Rattle.term_values.specs.DomainIndexes.{AreIndexesOf, elem_index};
 ghost use Rattle.term_values.specs.GroundBases.{row_index};
 ghost use Rattle.term_values.specs.RowValues.{row_value};
@@ -10,19 +11,16 @@ ghost use Rattle.term_values.specs.VariableTables.{capped};
 use crate::domain_index::DomainIndex;
 use crate::rows::RowValue;
 use kb_logic::ElemList;
-use kb_logic::values::domain_in;
+use kb_logic::values::{Value, domain_in};
 
 /// The place of a value in the domain of a type.
-fn elem_place(indexes: &[DomainIndex<'_>], ty: u32, value: &RowValue<'_>) -> Option<u64>
+pub(crate) fn elem_place(indexes: &[DomainIndex<'_>], ty: u32, value: Value<'_>) -> Option<usize>
     ensures { (domains : List (List Element)) → AreIndexesOf indexes.now domains
-        → result ≡ elem_index (domain_at domains ty) (row_value value.now) }
+        → result ≡ elem_index (domain_at domains ty) (value_view value.entry) }
 {
     match indexes.get(ty as usize) {
         None => None,
-        Some(index) => match index.find(value.value) {
-            None => None,
-            Some(place) => Some(place as u64),
-        },
+        Some(index) => index.find(value),
     }
 }
 
@@ -42,11 +40,11 @@ pub(crate) fn tuple_place(
     }
     let mut place = 0u64;
     for i in 0..types.len() {
-        match elem_place(indexes, types[i], &values[i]) {
+        match elem_place(indexes, types[i], values[i].value) {
             None => return None,
             Some(digit) => {
                 let size = domain_in(domains, types[i]).len() as u64;
-                place = place.saturating_mul(size).saturating_add(digit);
+                place = place.saturating_mul(size).saturating_add(digit as u64);
             }
         }
     }

@@ -7,16 +7,9 @@ pub returns-in-None : goal.returns-in-None
 returns-in-None c = λ domains each. no_index c.args.indexes.now domains c.args.ty _ each
     (slice_none c.args.indexes.now c.args.ty c.in-None.ensures.lookup.3)
 
-pub returns-in-None-find : goal.returns-in-None-find
-returns-in-None-find c = λ domains each.
+pub returns-in-Some : goal.returns-in-Some
+returns-in-Some c = λ domains each.
     let d = c.in-Some.index.now in
     let h = c.in-Some.ensures.lookup in
-    c.in-None-find.ensures ∙ index_at c.args.indexes.now domains c.args.ty d _ each
-    (slice_get-get_or c.args.indexes.now c.args.ty d h.3.0 ∙ ap Some (sym h.1))
-
-pub returns-in-Some-find : goal.returns-in-Some-find
-returns-in-Some-find c = λ domains each.
-    let d = c.in-Some.index.now in
-    let h = c.in-Some.ensures.lookup in
-    c.in-Some-find.ensures ∙ index_at c.args.indexes.now domains c.args.ty d _ each
+    c.find.ensures ∙ index_at c.args.indexes.now domains c.args.ty d _ each
     (slice_get-get_or c.args.indexes.now c.args.ty d h.3.0 ∙ ap Some (sym h.1))
