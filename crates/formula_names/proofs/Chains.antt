@@ -1,6 +1,6 @@
 -- Chains of the grammar as lists.
 use Rattle.std.proofs.Common.{◌≡◌, ℕ, ◌+◌, List, [], ◌∷◌, ◌++◌, length, Option, None, Some, fold, refl, ap, ◌∙◌, sym}
-use Rattle.std.proofs.Common.{map, append-nil, append_assoc, drop, add-one}
+use Rattle.std.proofs.Common.{map, append-nil, append_assoc, drop, add-one, subst}
 use Rattle.std.specs.List.{flat_map}
 use Rattle.std.proofs.lemmas.Grind.{fold-append}
 use Rattle.std.proofs.Math.Seq.{drop-append_seam, drop-length}
@@ -15,11 +15,16 @@ use Rattle.reading_stages.specs.NamesStage.{name_noted}
 use Rattle.kb_text.specs.declared.fault.KbFault.{KbFault}
 use Rattle.reading_stages.specs.Uses.{Context, Use, bound, position_uses, uses_of_vars, var_name, var_text, var_type}
 use Rattle.reading_stages.specs.Uses.{within, terms_count, vars_in, uses_in_links, uses_in_or, uses_in_and}
-use Rattle.reading_stages.specs.Uses.{uses_in_unary, uses_in_term, uses_in_product, uses_in_factor, uses_in_terms}
+use Rattle.reading_stages.specs.Uses.{uses_in_unary, uses_in_term, uses_in_operands, uses_in_product, uses_in_factors}
+use Rattle.reading_stages.specs.Uses.{uses_in_factor, uses_in_terms}
+use Rattle.reading_stages.specs.Standings.{in_product, in_sum}
+use Rattle.reading_stages.specs.declared.standings.Standing.{Standing}
+use Rattle.reading_stages.specs.declared.standings.Standing.TheVariants.{Elsewhere}
 use Rattle.reading_stages.specs.NamedTrees as named
 use Rattle.reading_stages.specs.Numbering.{named_links, named_or, disjuncts, named_and, conjuncts, named_unary}
 use Rattle.reading_stages.specs.Numbering.{named_term, summands, named_product, factors, named_factor, named_terms}
 use Rattle.reading_stages.specs.Numbering.{is_minus}
+use Rattle.formula_names.specs.PartStandings.{factors_stand, operands_stand}
 use Rattle.formula_names.specs.Tails.{tail_var}
 
 pub terms_counted : (x : raw.Term) (xs : List (ℕ × raw.Term)) → terms_count (terms_of x xs) ≡ length xs + 1
@@ -55,22 +60,58 @@ pub uses_in_and-is : (s : Context) (u : raw.Unary) (xs : List (ℕ × raw.Unary)
 uses_in_and-is s u [] = sym (append-nil (uses_in_unary s u))
 uses_in_and-is s u (x ∷ xs) = ap (λ (us : List Use). uses_in_unary s u ++ us) (uses_in_and-is s x.1 xs)
 
-pub uses_in_term-is : (s : Context) (p : raw.Product) (xs : List (Adding × ℕ × raw.Product))
-    → uses_in_term s (term_of p xs) ≡ uses_in_product s p ++ flat_map (λ (x : Adding × ℕ × raw.Product).
-    uses_in_product s x.2) xs
-uses_in_term-is s p [] = sym (append-nil (uses_in_product s p))
-uses_in_term-is s p (x ∷ xs) = ap (λ (us : List Use). uses_in_product s p ++ us) (uses_in_term-is s x.2 xs)
+uses_in_operands-is : (k : Standing) (s : Context) (p : raw.Product) (xs : List (Adding × ℕ × raw.Product))
+    → uses_in_operands k s (term_of p xs) ≡ uses_in_product k s p ++ flat_map (λ (x : Adding × ℕ × raw.Product).
+    uses_in_product k s x.2) xs
+uses_in_operands-is k s p [] = sym (append-nil (uses_in_product k s p))
+uses_in_operands-is k s p (x ∷ xs) =
+    ap (λ (us : List Use). uses_in_product k s p ++ us) (uses_in_operands-is k s x.2 xs)
 
-pub uses_in_product-is : (s : Context) (f : raw.Factor) (xs : List (ℕ × raw.Factor))
-    → uses_in_product s (product_of f xs) ≡ uses_in_factor s f ++ flat_map
-    (λ (x : ℕ × raw.Factor). uses_in_factor s x.1) xs
-uses_in_product-is s f [] = sym (append-nil (uses_in_factor s f))
-uses_in_product-is s f (x ∷ xs) = ap (λ (us : List Use). uses_in_factor s f ++ us) (uses_in_product-is s x.1 xs)
+summed : (k : Standing) (s : Context) (p : raw.Product) (xs : List (Adding × ℕ × raw.Product))
+    → uses_in_term k s (term_of p xs) ≡ uses_in_product (operands_stand k (term_of p xs)) s p
+    ++ flat_map (λ (x : Adding × ℕ × raw.Product). uses_in_product (operands_stand k (term_of p xs)) s x.2) xs
+summed k s p [] = sym (append-nil (uses_in_product k s p))
+summed k s p (x ∷ xs) =
+    ap (λ (us : List Use). uses_in_product (in_sum k) s p ++ us) (uses_in_operands-is (in_sum k) s x.2 xs)
+
+-- the operands of a term that stands as k stand as i
+pub uses_in_term-is : (k i : Standing) (s : Context) (p : raw.Product) (xs : List (Adding × ℕ × raw.Product))
+    → i ≡ operands_stand k (term_of p xs)
+    → uses_in_term k s (term_of p xs) ≡ uses_in_product i s p ++ flat_map (λ (x : Adding × ℕ × raw.Product).
+    uses_in_product i s x.2) xs
+uses_in_term-is k i s p xs e =
+    subst (λ (j : Standing). uses_in_term k s (term_of p xs) ≡ uses_in_product j s p
+    ++ flat_map (λ (x : Adding × ℕ × raw.Product). uses_in_product j s x.2) xs) (sym e) (summed k s p xs)
+
+uses_in_factors-is : (k : Standing) (s : Context) (f : raw.Factor) (xs : List (ℕ × raw.Factor))
+    → uses_in_factors k s (product_of f xs) ≡ uses_in_factor k s f ++ flat_map
+    (λ (x : ℕ × raw.Factor). uses_in_factor k s x.1) xs
+uses_in_factors-is k s f [] = sym (append-nil (uses_in_factor k s f))
+uses_in_factors-is k s f (x ∷ xs) =
+    ap (λ (us : List Use). uses_in_factor k s f ++ us) (uses_in_factors-is k s x.1 xs)
+
+multiplied : (k : Standing) (s : Context) (f : raw.Factor) (xs : List (ℕ × raw.Factor))
+    → uses_in_product k s (product_of f xs) ≡ uses_in_factor (factors_stand k (product_of f xs)) s f
+    ++ flat_map (λ (x : ℕ × raw.Factor). uses_in_factor (factors_stand k (product_of f xs)) s x.1) xs
+multiplied k s f [] = sym (append-nil (uses_in_factor k s f))
+multiplied k s f (x ∷ xs) =
+    let j = in_product k (product_of f (x ∷ xs)) in
+    ap (λ (us : List Use). uses_in_factor j s f ++ us) (uses_in_factors-is j s x.1 xs)
+
+-- the factors of a product that stands as k stand as i
+pub uses_in_product-is : (k i : Standing) (s : Context) (f : raw.Factor) (xs : List (ℕ × raw.Factor))
+    → i ≡ factors_stand k (product_of f xs)
+    → uses_in_product k s (product_of f xs) ≡ uses_in_factor i s f ++ flat_map
+    (λ (x : ℕ × raw.Factor). uses_in_factor i s x.1) xs
+uses_in_product-is k i s f xs e =
+    subst (λ (j : Standing). uses_in_product k s (product_of f xs) ≡ uses_in_factor j s f
+    ++ flat_map (λ (x : ℕ × raw.Factor). uses_in_factor j s x.1) xs) (sym e) (multiplied k s f xs)
 
 pub uses_in_terms-is : (s : Context) (t : raw.Term) (xs : List (ℕ × raw.Term)) → uses_in_terms s (terms_of t xs)
-    ≡ uses_in_term s t ++ flat_map (λ (x : ℕ × raw.Term). uses_in_term s x.1) xs
-uses_in_terms-is s t [] = sym (append-nil (uses_in_term s t))
-uses_in_terms-is s t (x ∷ xs) = ap (λ (us : List Use). uses_in_term s t ++ us) (uses_in_terms-is s x.1 xs)
+    ≡ uses_in_term Elsewhere s t ++ flat_map (λ (x : ℕ × raw.Term). uses_in_term Elsewhere s x.1) xs
+uses_in_terms-is s t [] = sym (append-nil (uses_in_term Elsewhere s t))
+uses_in_terms-is s t (x ∷ xs) =
+    ap (λ (us : List Use). uses_in_term Elsewhere s t ++ us) (uses_in_terms-is s x.1 xs)
 
 -- ---- trees
 

@@ -6,3 +6,5 @@ pub mod Operands
 pub mod ChainEnds
 pub mod PerDeclaration
 pub mod StepLaws
+pub mod LoneTerms
+pub mod Scaled

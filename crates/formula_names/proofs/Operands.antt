@@ -7,6 +7,8 @@ use Rattle.reading_stages.specs.Names.{Names}
 use Rattle.reading_stages.specs.Numbering.{named_or, named_and, named_unary, named_product, named_factor, named_term}
 use Rattle.reading_stages.specs.Numbering.{is_minus}
 use Rattle.reading_stages.specs.Scopes.{Text}
+use Rattle.reading_stages.specs.declared.standings.Standing.{Standing}
+use Rattle.reading_stages.specs.declared.standings.Standing.TheVariants.{Elsewhere}
 use Rattle.reading_stages.specs.Uses.{Context, Use, uses_in_or, uses_in_and, uses_in_unary, uses_in_product}
 use Rattle.reading_stages.specs.Uses.{uses_in_factor, uses_in_term}
 
@@ -31,17 +33,17 @@ conjunct_uses c x = uses_in_unary c x.1
 abbrev pub summand_named : Names → List Text → Adding × ℕ × raw.Product → Bool × NamedTerm
 summand_named names scope x = (is_minus x.0, named_product names scope x.2)
 
-abbrev pub summand_uses : Context → Adding × ℕ × raw.Product → List Use
-summand_uses c x = uses_in_product c x.2
+abbrev pub summand_uses : Standing → Context → Adding × ℕ × raw.Product → List Use
+summand_uses s c x = uses_in_product s c x.2
 
 abbrev pub factor_named : Names → List Text → ℕ × raw.Factor → NamedTerm
 factor_named names scope x = named_factor names scope x.1
 
-abbrev pub factor_uses : Context → ℕ × raw.Factor → List Use
-factor_uses c x = uses_in_factor c x.1
+abbrev pub factor_uses : Standing → Context → ℕ × raw.Factor → List Use
+factor_uses s c x = uses_in_factor s c x.1
 
 abbrev pub argument_named : Names → List Text → ℕ × raw.Term → NamedTerm
 argument_named names scope x = named_term names scope x.1
 
 abbrev pub argument_uses : Context → ℕ × raw.Term → List Use
-argument_uses c x = uses_in_term c x.1
+argument_uses c x = uses_in_term Elsewhere c x.1

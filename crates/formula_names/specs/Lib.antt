@@ -3,3 +3,4 @@ pub mod Levels
 pub mod Tails
 pub mod LaterLinks
 pub mod Steps
+pub mod PartStandings

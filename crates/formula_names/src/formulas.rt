@@ -2,6 +2,7 @@
 ghost use Rattle.std.specs.Prelude.{◌≡◌, [], ◌∷◌, ◌++◌, fold, map, IfOk, OnOk};
 ghost use Rattle.fo_syntax.specs.View as seen;
 ghost use Rattle.reading_stages.specs.NamesStage.{name_noted};
+ghost use Rattle.reading_stages.specs.declared.standings.Standing.TheVariants.{Side};
 ghost use Rattle.reading_stages.specs.NamedTrees.{terms_of};
 ghost use Rattle.reading_stages.specs.NamedViews.{formula_view, term_view, var_view};
 ghost use Rattle.reading_stages.specs.Numbering.{named_formula, named_or, named_and, named_unary, named_prim};
@@ -19,16 +20,15 @@ use crate::closing::{negation, opposite};
 use crate::nodes::{all_of, any_of, multiplied, place_of, placed, signed, summed};
 use crate::resolver::{Known, Resolver};
 use crate::scopes::Scope;
+use crate::standings::{facing, factors_stand, kind_of, operands_stand, scaled};
 use crate::tables::Table;
-use crate::words::{
-    app_count, app_name, application, comparison_of, is_minus, kind_of, note_aggregate, note_number,
-};
+use crate::words::{app_count, app_name, application, comparison_of, is_minus, note_aggregate};
 use fo_syntax::{
     RawAnd, RawApp, RawFactor, RawFormula, RawOpening, RawOr, RawPrim, RawProduct, RawTermTree,
     RawUnary,
 };
 use kb_logic::{AggKind, Memory};
-use reading_stages::{Earliest, NamedFormula, NamedNode, NamedTerm, NamedVar};
+use reading_stages::{Earliest, NamedFormula, NamedNode, NamedTerm, NamedVar, Standing};
 use sqlite_items::Items;
 use std::alloc::Global;
 
@@ -55,7 +55,7 @@ pub fn sentence<'a>(
     named
 }
 
-/// A term in no variable's scope, with numbers for words.
+/// The term of a term block, with numbers for words.
 pub fn block_term<'a>(
     alloc: Global,
     table: &Table<'a>,
@@ -64,7 +64,7 @@ pub fn block_term<'a>(
 ) -> Result<NamedTerm, Memory>
     ensures tree { IfOk result (λ t. term_view t ≡ named_term (names_in table.now) [] (seen.term_view raw.now)) }
     ensures noted { OnOk result (earliest.new.first ≡ fold (name_noted (names_in table.now)) earliest.old.first
-        (uses_in_term (in_scope []) (seen.term_view raw.now))) }
+        (uses_in_term Side (in_scope []) (seen.term_view raw.now))) }
 {
     let defined = Scope::new(alloc);
     let known = Known {
@@ -72,7 +72,7 @@ pub fn block_term<'a>(
         defined: &defined,
     };
     let mut walk = Resolver::begin(alloc, known, earliest);
-    let named = walk.term(raw);
+    let named = walk.term(Standing::Side, raw);
     earliest.first = walk.earliest.first;
     named
 }
@@ -162,8 +162,7 @@ impl<'r, 'a> Resolver<'r, 'a> {
                 let inner = self.formula(inner.get())?;
                 self.universal(outer, vars, inner)
             }
-            RawUnary::Some(place, number, vars, _, inner) => {
-                note_number(number, *place, &mut self.earliest);
+            RawUnary::Some(_, number, vars, _, inner) => {
                 let outer = self.scope.len();
                 let vars = self.binders(vars.get())?;
                 let inner = self.formula(inner.get())?;
@@ -186,19 +185,22 @@ impl<'r, 'a> Resolver<'r, 'a> {
                 Ok(NamedFormula::Atom(predicate, args))
             }
             RawPrim::Compare(left, sign, _, right) => {
-                let left = self.term(left.get())?;
-                let right = self.term(right.get())?;
+                let (left, right) = (left.get(), right.get());
+                let (from_left, from_right) = (facing(left), facing(right));
+                let left = self.term(from_right, left)?;
+                let right = self.term(from_left, right)?;
                 Ok(NamedFormula::Compare(comparison_of(*sign), left, right))
             }
         }
     }
 
-    /// A term with numbers for words.
+    /// A term that stands so, with numbers for words.
     #[cycle(resolve)]
-    pub fn term(&mut self, raw: &'a RawTermTree) -> Result<NamedTerm, Memory>
-        ensures { ResolvesTerm self.old self.new (seen.term_view raw.now) named_term uses_in_term result }
+    pub fn term(&mut self, standing: Standing, raw: &'a RawTermTree) -> Result<NamedTerm, Memory>
+        ensures { ResolvesTerm self.old self.new (seen.term_view raw.now) named_term (uses_in_term standing) result }
     {
-        let first = self.product(&raw.first)?;
+        let inner = operands_stand(standing, raw);
+        let first = self.product(inner, &raw.first)?;
         let more = raw.more.as_slice();
         if more.is_empty() {
             return Ok(first);
@@ -207,17 +209,19 @@ impl<'r, 'a> Resolver<'r, 'a> {
         let mut operands = Vec::new(self.alloc);
         operands.push(signed(false, first))?;
         for tail in more {
-            let term = self.product(&tail.operand)?;
+            let term = self.product(inner, &tail.operand)?;
             operands.push(signed(is_minus(tail.sign), term))?;
         }
         Ok(summed(place, operands))
     }
 
     #[cycle(resolve)]
-    fn product(&mut self, raw: &'a RawProduct) -> Result<NamedTerm, Memory>
-        ensures { ResolvesTerm self.old self.new (seen.product_view raw.now) named_product uses_in_product result }
+    fn product(&mut self, standing: Standing, raw: &'a RawProduct) -> Result<NamedTerm, Memory>
+        ensures { ResolvesTerm self.old self.new (seen.product_view raw.now) named_product (uses_in_product standing)
+            result }
     {
-        let first = self.factor(&raw.first)?;
+        let inner = factors_stand(standing, raw);
+        let first = self.factor(inner, &raw.first)?;
         let more = raw.more.as_slice();
         if more.is_empty() {
             return Ok(first);
@@ -226,14 +230,15 @@ impl<'r, 'a> Resolver<'r, 'a> {
         let mut operands = Vec::new(self.alloc);
         operands.push(first)?;
         for tail in more {
-            operands.push(self.factor(&tail.operand)?)?;
+            operands.push(self.factor(inner, &tail.operand)?)?;
         }
         Ok(multiplied(place, operands))
     }
 
     #[cycle(resolve)]
-    fn factor(&mut self, raw: &'a RawFactor) -> Result<NamedTerm, Memory>
-        ensures { ResolvesTerm self.old self.new (seen.factor_view raw.now) named_factor uses_in_factor result }
+    fn factor(&mut self, standing: Standing, raw: &'a RawFactor) -> Result<NamedTerm, Memory>
+        ensures { ResolvesTerm self.old self.new (seen.factor_view raw.now) named_factor (uses_in_factor standing)
+            result }
     {
         match raw {
             RawFactor::Integer(integer) => {
@@ -246,24 +251,25 @@ impl<'r, 'a> Resolver<'r, 'a> {
                 Ok(placed(name.place, application(meaning, args)))
             }
             RawFactor::Brackets(place, inner, _) => {
-                let inner = self.term(inner.get())?;
+                let inner = self.term(standing, inner.get())?;
                 Ok(placed(*place, inner.node))
             }
             RawFactor::Negative(place, inner) => {
-                let inner = self.factor(inner.get())?;
+                let inner = self.factor(scaled(standing), inner.get())?;
                 opposite(self.alloc, *place, inner)
             }
             RawFactor::Count(opening, inner, _) => {
                 let outer = self.scope.len();
-                let (vars, inner) = self.opened(opening, inner.get())?;
+                let (vars, inner) = self.opened(standing, AggKind::Count, opening, inner.get())?;
                 let one = placed(opening.place, NamedNode::Int(1));
                 self.gathered(outer, opening.place, AggKind::Count, vars, inner, one)
             }
             RawFactor::Aggregate(how, opening, inner, _, weight, _) => {
                 let outer = self.scope.len();
-                let (vars, inner) = self.opened(opening, inner.get())?;
-                let weight = self.term(weight.get())?;
-                self.gathered(outer, opening.place, kind_of(*how), vars, inner, weight)
+                let kind = kind_of(*how);
+                let (vars, inner) = self.opened(standing, kind, opening, inner.get())?;
+                let weight = self.term(Standing::Elsewhere, weight.get())?;
+                self.gathered(outer, opening.place, kind, vars, inner, weight)
             }
         }
     }
@@ -272,6 +278,8 @@ impl<'r, 'a> Resolver<'r, 'a> {
     #[cycle(resolve)]
     fn opened(
         &mut self,
+        standing: Standing,
+        kind: AggKind,
         opening: &'a RawOpening,
         condition: &'a RawFormula,
     ) -> Result<(Items<NamedVar>, NamedFormula), Memory>
@@ -280,11 +288,11 @@ impl<'r, 'a> Resolver<'r, 'a> {
         ensures condition { IfOk result (λ o. IsStep self.old self.new (formula_view o.1)
             (named_formula (names_known self.old) (within self.old.scope (seen.vars_view opening.now.vars))
             (seen.formula_view condition.now))
-            (within self.old.scope (seen.vars_view opening.now.vars)) (an_aggregate opening.now.place
-            ∷ (uses_of_vars [] (vars_in (seen.vars_view opening.now.vars)) ++ uses_in
+            (within self.old.scope (seen.vars_view opening.now.vars)) (an_aggregate standing kind
+            opening.now.place ∷ (uses_of_vars [] (vars_in (seen.vars_view opening.now.vars)) ++ uses_in
             (inside (context_of self.old) (seen.vars_view opening.now.vars)) (seen.formula_view condition.now)))) }
     {
-        note_aggregate(opening.place, &mut self.earliest);
+        note_aggregate(standing, kind, opening.place, &mut self.earliest);
         let vars = self.binders(opening.vars.get())?;
         let condition = self.formula(condition)?;
         Ok((vars, condition))
@@ -300,10 +308,10 @@ impl<'r, 'a> Resolver<'r, 'a> {
             return Ok(args);
         };
         let terms = terms.get();
-        args.push(self.term(&terms.first)?)?;
+        args.push(self.term(Standing::Elsewhere, &terms.first)?)?;
         let more = terms.more.as_slice();
         for tail in more {
-            args.push(self.term(&tail.operand)?)?;
+            args.push(self.term(Standing::Elsewhere, &tail.operand)?)?;
         }
         Ok(args)
     }

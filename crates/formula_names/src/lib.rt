@@ -9,6 +9,7 @@ mod nodes;
 pub mod positions;
 pub mod resolver;
 pub mod scopes;
+pub mod standings;
 pub mod tables;
 pub mod uses;
 pub mod words;

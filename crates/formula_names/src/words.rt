@@ -1,5 +1,5 @@
 //! What single tokens and nodes become.
-ghost use Rattle.std.specs.Prelude.{◌≡◌, IfOk, fold, map};
+ghost use Rattle.std.specs.Prelude.{◌≡◌, IfOk, map};
 ghost use Rattle.reading_stages.specs.NamesStage.{name_noted};
 ghost use Rattle.reading_stages.specs.NamedTrees.{aggregate, at, terms_of};
 ghost use Rattle.reading_stages.specs.Names.{Names};
@@ -9,12 +9,13 @@ ghost use Rattle.fo_syntax.specs.View as raw;
 ghost use Rattle.formula_names.specs.Meanings.{meaning_view};
 ghost use Rattle.reading_stages.specs.NamedViews.{formula_view, node_view, term_view, var_view};
 
+use crate::standings::may_stand;
 use crate::tables::Meaning;
 use crate::uses::within_count;
-use fo_syntax::{Adding, Aggregation, Comparison, RawApp, RawName, RawNumber, RawTerms};
+use fo_syntax::{Adding, Comparison, RawApp, RawName, RawNumber, RawTerms};
 use kb_logic::{AggKind, Cmp, Memory};
 use kb_text::K;
-use reading_stages::{Earliest, NamedFormula, NamedNode, NamedTerm, NamedVar};
+use reading_stages::{Earliest, NamedFormula, NamedNode, NamedTerm, NamedVar, Standing};
 use sqlite_items::Items;
 use std::alloc::Global;
 
@@ -86,41 +87,12 @@ pub fn is_minus(sign: Adding) -> bool
     }
 }
 
-pub fn kind_of(how: Aggregation) -> AggKind
-    ensures { result ≡ numbers.kind_of how }
-{
-    match how {
-        Aggregation::Sum => AggKind::Sum,
-        Aggregation::Min => AggKind::Min,
-        Aggregation::Max => AggKind::Max,
-    }
-}
-
-/// Aggregates are not read yet.
-pub fn note_aggregate(place: usize, earliest: &mut Earliest)
-    ensures { (names : Names) → earliest.new.first ≡ name_noted names earliest.old.first (use_of.an_aggregate place) }
-{
-    earliest.note(K::Unsupported, place);
-}
-
-/// Number quantifiers are not read yet.
-fn note_number_quantifier(place: usize, earliest: &mut Earliest)
+/// Notes an aggregate where none of its kind may stand.
+pub fn note_aggregate(standing: Standing, kind: AggKind, place: usize, earliest: &mut Earliest)
     ensures { (names : Names) → earliest.new.first ≡ name_noted names earliest.old.first
-        (use_of.a_number_quantifier place) }
+        (use_of.an_aggregate standing kind place) }
 {
-    earliest.note(K::Unsupported, place);
-}
-
-/// Notes what is refused of a quantifier with this number.
-pub fn note_number(number: &RawNumber, place: usize, earliest: &mut Earliest)
-    ensures { (names : Names) → earliest.new.first ≡ fold (name_noted names) earliest.old.first
-        (use_of.number_uses place (raw.number_view number.now)) }
-{
-    match number {
-        RawNumber::Any => {}
-        RawNumber::Exactly(_) => note_number_quantifier(place, earliest),
-        RawNumber::Compared(_, _, _) => note_number_quantifier(place, earliest),
-    }
+    earliest.note_if(!may_stand(standing, kind), K::Unsupported, place);
 }
 
 /// `?` with this number of instances.

@@ -7,7 +7,8 @@ use Rattle.kb_logic.specs.Trees as tree
 use Rattle.fo_syntax.specs.Trees.{name}
 use Rattle.reading_stages.specs.Scopes.{Text}
 use Rattle.reading_stages.specs.Names.{Names, Meaning, function, made, variable, meaning_of, meaning_at}
-use Rattle.reading_stages.specs.Numbering.{within_count, type_number, predicate_number, comparison_of, kind_of}
+use Rattle.reading_stages.specs.Numbering.{within_count, type_number, predicate_number, comparison_of}
+use Rattle.reading_stages.specs.Standings.{kind_of}
 use Rattle.reading_stages.specs.TypedTrees.{integer_of, truth_tree}
 use Rattle.formula_texts.specs.Formulas.{Binder, binder, Binders, one_binder, more_binders, Fm, truth, atom, comparison}
 use Rattle.formula_texts.specs.Formulas.{negation, conjunction, disjunction, implication, equivalence, universal}

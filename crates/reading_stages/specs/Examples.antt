@@ -13,7 +13,7 @@ use Rattle.reading_stages.specs.NamesStage.{is_unknown, is_redeclared, is_wrong,
 use Rattle.reading_stages.specs.NamesStage.{is_bad_head, begins_cycle}
 use Rattle.reading_stages.specs.Numbering.{grouped, named_factor, named_product, named_rule, parent_named}
 use Rattle.reading_stages.specs.Scopes.{last_position}
-use Rattle.reading_stages.specs.Uses.{declares, counted, climbs, bound, formula_word, term_word, position, an_aggregate}
+use Rattle.reading_stages.specs.Uses.{declares, counted, climbs, bound, formula_word, term_word, position}
 use Rattle.reading_stages.specs.Uses.{Context, in_scope, function_word, head_argument}
 use Rattle.reading_stages.specs.Uses as use_of
 
@@ -83,7 +83,6 @@ pub record NamesAreWorkedOut : Type 0 where
       (head_argument [] (raw.product (raw.factor (raw.negative 0 (raw.integer 2 1))))) ≡ false
   pub value_in_head : is_bad_head some_names
       (head_argument (codes "x" ∷ []) (raw.product (raw.factor (raw.value value_at_x)))) ≡ true
-  pub aggregates_later : is_unsupported some_names (an_aggregate 7) ≡ true
   -- `int` is taken, and elements' names are names as others
   pub taken : is_redeclared (declares some_names (word (codes "int"))) ≡ true
   pub element_declared_again : is_redeclared (declares some_names (word (codes "Red"))) ≡ true

@@ -1,5 +1,6 @@
 pub mod Earliest
 pub mod Scopes
+pub mod Standings
 pub mod Files
 pub mod NamedTrees
 pub mod Names
@@ -33,4 +34,5 @@ pub mod NamedViews
 pub mod FileViews
 pub mod Failures
 pub mod Examples
+pub mod AggregateExamples
 pub mod FileTrees

@@ -7,13 +7,13 @@ use Rattle.kb_text.specs.declared.fault.K.TheVariants as k
 use Rattle.kb_text.specs.declared.fault.KbFault.{KbFault}
 use Rattle.reading_stages.specs.Earliest.{refusal, noted_at}
 use Rattle.reading_stages.specs.Scopes.{last_position, is_among}
+use Rattle.reading_stages.specs.Standings.{may_stand}
 use Rattle.reading_stages.specs.Files.{Declaration, VocabularyBlock, File}
 use Rattle.fo_syntax.specs.Trees.{Name}
 use Rattle.reading_stages.specs.Names.{Names, Meaning, undeclared, integers, naturals, a_type, predicate, function}
 use Rattle.reading_stages.specs.Names.{made, variable, meaning_in, meaning_of, meaning_at, text_of, names_of}
 use Rattle.reading_stages.specs.Uses.{Use, declares, counted, climbs, parent, position, bound, formula_word, term_word}
-use Rattle.reading_stages.specs.Uses.{function_word, head_argument, an_aggregate, a_number_quantifier, place_of_use}
-use Rattle.reading_stages.specs.Uses.{Context, is_simple}
+use Rattle.reading_stages.specs.Uses.{function_word, head_argument, an_aggregate, place_of_use, Context, is_simple}
 use Rattle.reading_stages.specs.Uses.{uses_of_declarations, uses_in_theory, uses_in_block}
 
 -- ---- what a word may mean
@@ -139,8 +139,7 @@ is_unknown names (formula_word c w n) = is_undeclared (meaning_at names c.scope 
 is_unknown names (term_word c w n) = is_undeclared (meaning_at names c.scope w n)
 is_unknown names (function_word scope w n) = is_undeclared (meaning_at names scope w n)
 is_unknown names (head_argument scope t) = false
-is_unknown names (an_aggregate place) = false
-is_unknown names (a_number_quantifier place) = false
+is_unknown names (an_aggregate s k place) = false
 
 abbrev pub is_redeclared : Use → Bool
 is_redeclared (declares before w) = is_some (meaning_in before (text_of w))
@@ -153,8 +152,7 @@ is_redeclared (formula_word c w n) = false
 is_redeclared (term_word c w n) = false
 is_redeclared (function_word scope w n) = false
 is_redeclared (head_argument scope t) = false
-is_redeclared (an_aggregate place) = false
-is_redeclared (a_number_quantifier place) = false
+is_redeclared (an_aggregate s k place) = false
 
 abbrev pub is_wrong : Names → Use → Bool
 is_wrong names (declares before w) = false
@@ -167,10 +165,8 @@ is_wrong names (formula_word c w n) = is_no_formula (meaning_at names c.scope w 
 is_wrong names (term_word c w n) = is_no_term (meaning_at names c.scope w n) n
 is_wrong names (function_word scope w n) = is_no_function (meaning_at names scope w n) n
 is_wrong names (head_argument scope t) = false
-is_wrong names (an_aggregate place) = false
-is_wrong names (a_number_quantifier place) = false
+is_wrong names (an_aggregate s k place) = false
 
--- the last two rules stand until these forms are read
 abbrev pub is_unsupported : Names → Use → Bool
 is_unsupported names (declares before w) = false
 is_unsupported names (counted greatest number w) = false
@@ -182,8 +178,7 @@ is_unsupported names (formula_word c w n) = is_type (meaning_at names c.scope w 
 is_unsupported names (term_word c w n) = is_type (meaning_at names c.scope w n) || is_defined names c w n
 is_unsupported names (function_word scope w n) = is_type (meaning_at names scope w n)
 is_unsupported names (head_argument scope t) = false
-is_unsupported names (an_aggregate place) = true
-is_unsupported names (a_number_quantifier place) = true
+is_unsupported names (an_aggregate s k place) = not (may_stand s k)
 
 abbrev pub is_bad_head : Names → Use → Bool
 is_bad_head names (declares before w) = false
@@ -196,8 +191,7 @@ is_bad_head names (formula_word c w n) = false
 is_bad_head names (term_word c w n) = false
 is_bad_head names (function_word scope w n) = false
 is_bad_head names (head_argument scope t) = not (is_simple names scope t)
-is_bad_head names (an_aggregate place) = false
-is_bad_head names (a_number_quantifier place) = false
+is_bad_head names (an_aggregate s k place) = false
 
 abbrev pub is_too_many : Use → Bool
 is_too_many (declares before w) = false
@@ -210,8 +204,7 @@ is_too_many (formula_word c w n) = false
 is_too_many (term_word c w n) = false
 is_too_many (function_word scope w n) = false
 is_too_many (head_argument scope t) = false
-is_too_many (an_aggregate place) = false
-is_too_many (a_number_quantifier place) = false
+is_too_many (an_aggregate s k place) = false
 
 -- a constructor for each row
 pub data Refuses (names : Names) (us : List Use) : KbFault → Type 0 where

@@ -2,7 +2,6 @@
 use Rattle.std.specs.Prelude.{ℕ, ◌≡◌, Bool, true, false, nat_lt, List, [], ◌∷◌, ◌++◌, length, map, Option, None, Some}
 use Rattle.std.specs.Prelude.{option_map, is_some, if◌then◌else◌}
 use Rattle.std.specs.List.{flat_map}
-use Rattle.kb_logic.specs.declared.syntax.AggKind.{AggKind}
 use Rattle.kb_logic.specs.declared.syntax.AggKind.TheVariants as kind
 use Rattle.kb_logic.specs.declared.syntax.Cmp.{Cmp}
 use Rattle.kb_logic.specs.declared.syntax.Cmp.TheVariants as cmp
@@ -16,8 +15,6 @@ use Rattle.fo_syntax.specs.declared.terminal.Comparison.{Comparison}
 use Rattle.fo_syntax.specs.declared.terminal.Comparison.TheVariants as sign
 use Rattle.fo_syntax.specs.declared.terminal.Arrow.{Arrow}
 use Rattle.fo_syntax.specs.declared.terminal.Arrow.TheVariants as arrow
-use Rattle.fo_syntax.specs.declared.terminal.Aggregation.{Aggregation}
-use Rattle.fo_syntax.specs.declared.terminal.Aggregation.TheVariants as how
 use Rattle.fo_syntax.specs.declared.terminal.Adding.{Adding}
 use Rattle.fo_syntax.specs.declared.terminal.Adding.TheVariants as adding
 use Rattle.fo_syntax.specs.Trees as raw
@@ -25,6 +22,7 @@ use Rattle.fo_syntax.specs.Trees.{Name, Var, Vars, Formula, Links, Or, And, Unar
 use Rattle.fo_syntax.specs.Trees.{Terms, Number}
 use Rattle.fo_syntax.specs.BlockTrees.{Head, atom_head, value_head, Rule, rule}
 use Rattle.reading_stages.specs.Scopes.{Text}
+use Rattle.reading_stages.specs.Standings.{kind_of}
 use Rattle.reading_stages.specs.Files.{Declaration, type_under, constructed_type, symbol, Part, sentence, definition}
 use Rattle.reading_stages.specs.Files.{VocabularyBlock, TheoryBlock, TermBlock, File}
 use Rattle.reading_stages.specs.Names.{Names, Meaning, integers, naturals, a_type, predicate, function, made, variable}
@@ -117,11 +115,6 @@ comparison_of sign.Less = cmp.Lt
 comparison_of sign.Greater = cmp.Gt
 comparison_of sign.AtMost = cmp.Le
 comparison_of sign.AtLeast = cmp.Ge
-
-abbrev pub kind_of : Aggregation → AggKind
-kind_of how.Sum = kind.Sum
-kind_of how.Min = kind.Min
-kind_of how.Max = kind.Max
 
 abbrev pub is_minus : Adding → Bool
 is_minus adding.Plus = false

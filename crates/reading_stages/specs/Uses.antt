@@ -1,12 +1,17 @@
 -- Each use of a word, with what is known at its place.
 use Rattle.std.specs.Prelude.{ℕ, ◌+◌, Bool, true, false, List, [], ◌∷◌, ◌++◌, length, map, Option, None, Some}
 use Rattle.std.specs.List.{flat_map}
-use Rattle.fo_syntax.specs.Trees.{Name, Var, untyped, typed, Vars, var, beside, comma, Number, any, exactly, compared}
+use Rattle.kb_logic.specs.declared.syntax.AggKind.{AggKind}
+use Rattle.kb_logic.specs.declared.syntax.AggKind.TheVariants as kind
+use Rattle.fo_syntax.specs.Trees.{Name, Var, untyped, typed, Vars, var, beside, comma}
 use Rattle.fo_syntax.specs.Trees.{Formula, alone, linked, Links, last, link, Or, one, or, And, single, and, Unary, not}
 use Rattle.fo_syntax.specs.Trees.{every, some, prim, Prim, group, truth, atom, compare, Term, product, sum, Product}
 use Rattle.fo_syntax.specs.Trees.{factor, times, Factor, integer, value, brackets, negative, count, aggregate, App}
 use Rattle.fo_syntax.specs.Trees.{constant, empty, apply, Terms, final, then}
 use Rattle.reading_stages.specs.Scopes.{Text}
+use Rattle.reading_stages.specs.declared.standings.Standing.{Standing}
+use Rattle.reading_stages.specs.declared.standings.Standing.TheVariants.{Side, Elsewhere}
+use Rattle.reading_stages.specs.Standings.{kind_of, scaled, in_sum, in_product, facing}
 use Rattle.reading_stages.specs.Files.{Declaration, type_under, constructed_type, symbol, Part, sentence, definition}
 use Rattle.reading_stages.specs.Files.{TheoryBlock, TermBlock}
 use Rattle.fo_syntax.specs.BlockTrees.{Binding, binding, Head, atom_head, value_head, Rule, rule}
@@ -41,9 +46,8 @@ pub data Use : Type 0 where
   function_word : List Text → Name → ℕ → Use
   -- an argument of a head, where these variables are in scope
   head_argument : List Text → Term → Use
-  -- an aggregate and a number quantifier, which begin here
-  an_aggregate : ℕ → Use
-  a_number_quantifier : ℕ → Use
+  -- an aggregate of this kind, which stands so and begins here
+  an_aggregate : Standing → AggKind → ℕ → Use
 
 abbrev pub app_name : App → Name
 app_name (constant n) = n
@@ -78,8 +82,7 @@ place_of_use (formula_word c w n) = place_of_name w
 place_of_use (term_word c w n) = place_of_name w
 place_of_use (function_word scope w n) = place_of_name w
 place_of_use (head_argument scope t) = place_of_term t
-place_of_use (an_aggregate place) = place
-place_of_use (a_number_quantifier place) = place
+place_of_use (an_aggregate s k place) = place
 
 -- ---- declarations
 
@@ -184,11 +187,6 @@ app_count (constant n) = 0
 app_count (empty n p q) = 0
 app_count (apply n p ts q) = terms_count ts
 
-abbrev pub number_uses : ℕ → Number → List Use
-number_uses place any = []
-number_uses place (exactly n p) = a_number_quantifier place ∷ []
-number_uses place (compared c p n q) = a_number_quantifier place ∷ []
-
 abbrev mutual
   pub uses_in : Context → Formula → List Use
   uses_in c (alone o) = uses_in_or c o
@@ -209,41 +207,56 @@ abbrev mutual
   pub uses_in_unary : Context → Unary → List Use
   uses_in_unary c (not p u) = uses_in_unary c u
   uses_in_unary c (every p vs q f) = uses_of_vars [] (vars_in vs) ++ uses_in (inside c vs) f
-  uses_in_unary c (some p n vs q f) = number_uses p n ++ (uses_of_vars [] (vars_in vs) ++ uses_in (inside c vs) f)
+  uses_in_unary c (some p n vs q f) = uses_of_vars [] (vars_in vs) ++ uses_in (inside c vs) f
   uses_in_unary c (prim x) = uses_in_prim c x
 
   pub uses_in_prim : Context → Prim → List Use
   uses_in_prim c (group p f q) = uses_in c f
   uses_in_prim c (truth b p) = []
   uses_in_prim c (atom a) = formula_word c (app_name a) (app_count a) ∷ uses_in_arguments c a
-  uses_in_prim c (compare x k p y) = uses_in_term c x ++ uses_in_term c y
+  uses_in_prim c (compare x k p y) = uses_in_term (facing y) c x ++ uses_in_term (facing x) c y
 
-  pub uses_in_term : Context → Term → List Use
-  uses_in_term c (product p) = uses_in_product c p
-  uses_in_term c (sum p a q t) = uses_in_product c p ++ uses_in_term c t
+  -- of a term that stands so
+  pub uses_in_term : Standing → Context → Term → List Use
+  uses_in_term s c (product p) = uses_in_product s c p
+  uses_in_term s c (sum p a q t) = uses_in_product (in_sum s) c p ++ uses_in_operands (in_sum s) c t
 
-  pub uses_in_product : Context → Product → List Use
-  uses_in_product c (factor f) = uses_in_factor c f
-  uses_in_product c (times f p q) = uses_in_factor c f ++ uses_in_product c q
+  -- of the operands of a sum, each of which stands so
+  pub uses_in_operands : Standing → Context → Term → List Use
+  uses_in_operands s c (product p) = uses_in_product s c p
+  uses_in_operands s c (sum p a q t) = uses_in_product s c p ++ uses_in_operands s c t
 
-  pub uses_in_factor : Context → Factor → List Use
-  uses_in_factor c (integer n p) = []
-  uses_in_factor c (value a) = term_word c (app_name a) (app_count a) ∷ uses_in_arguments c a
-  uses_in_factor c (brackets p t q) = uses_in_term c t
-  uses_in_factor c (negative p f) = uses_in_factor c f
-  uses_in_factor c (count p b vs q f r) =
-      an_aggregate p ∷ (uses_of_vars [] (vars_in vs) ++ uses_in (inside c vs) f)
-  uses_in_factor c (aggregate how p b vs q f r t e) =
-      an_aggregate p ∷ (uses_of_vars [] (vars_in vs) ++ (uses_in (inside c vs) f ++ uses_in_term (inside c vs) t))
+  pub uses_in_product : Standing → Context → Product → List Use
+  uses_in_product s c (factor f) = uses_in_factor s c f
+  uses_in_product s c (times f p q) =
+      uses_in_factor (in_product s (times f p q)) c f ++ uses_in_factors (in_product s (times f p q)) c q
+
+  -- of factors, each of which stands so
+  pub uses_in_factors : Standing → Context → Product → List Use
+  uses_in_factors s c (factor f) = uses_in_factor s c f
+  uses_in_factors s c (times f p q) = uses_in_factor s c f ++ uses_in_factors s c q
+
+  -- the condition of an aggregate is a formula like any other
+  pub uses_in_factor : Standing → Context → Factor → List Use
+  uses_in_factor s c (integer n p) = []
+  uses_in_factor s c (value a) = term_word c (app_name a) (app_count a) ∷ uses_in_arguments c a
+  uses_in_factor s c (brackets p t q) = uses_in_term s c t
+  uses_in_factor s c (negative p f) = uses_in_factor (scaled s) c f
+  uses_in_factor s c (count p b vs q f r) =
+      an_aggregate s kind.Count p ∷ (uses_of_vars [] (vars_in vs) ++ uses_in (inside c vs) f)
+  uses_in_factor s c (aggregate how p b vs q f r t e) =
+      an_aggregate s (kind_of how) p ∷ (uses_of_vars [] (vars_in vs)
+      ++ (uses_in (inside c vs) f ++ uses_in_term Elsewhere (inside c vs) t))
 
   pub uses_in_arguments : Context → App → List Use
   uses_in_arguments c (constant n) = []
   uses_in_arguments c (empty n p q) = []
   uses_in_arguments c (apply n p ts q) = uses_in_terms c ts
 
+  -- of arguments
   pub uses_in_terms : Context → Terms → List Use
-  uses_in_terms c (final t) = uses_in_term c t
-  uses_in_terms c (then t p ts) = uses_in_term c t ++ uses_in_terms c ts
+  uses_in_terms c (final t) = uses_in_term Elsewhere c t
+  uses_in_terms c (then t p ts) = uses_in_term Elsewhere c t ++ uses_in_terms c ts
 
 -- ---- rules
 
@@ -320,16 +333,17 @@ arguments_in (apply n p ts q) = terms_in ts
 
 -- an argument of a head, and the uses in it
 abbrev pub argument_uses : List Text → Term → List Use
-argument_uses scope t = head_argument scope t ∷ uses_in_term (in_scope scope) t
+argument_uses scope t = head_argument scope t ∷ uses_in_term Elsewhere (in_scope scope) t
 
 -- the word of a head, where these variables are in scope
 abbrev pub head_use : List Text → Head → Use
 head_use scope (atom_head a) = formula_word (in_scope scope) (app_name a) (app_count a)
 head_use scope (value_head a p t) = function_word scope (app_name a) (app_count a)
 
+-- a head's value is a side of the comparison with the variable that stands for it
 abbrev pub value_uses : Context → Head → List Use
 value_uses c (atom_head a) = []
-value_uses c (value_head a p t) = uses_in_term c t
+value_uses c (value_head a p t) = uses_in_term Side c t
 
 abbrev pub body_uses : Context → Option Formula → List Use
 body_uses c None = []
@@ -357,4 +371,4 @@ abbrev pub uses_in_theory : Names → TheoryBlock → List Use
 uses_in_theory names t = flat_map (uses_in_part names) t.parts
 
 abbrev pub uses_in_block : TermBlock → List Use
-uses_in_block t = uses_in_term (in_scope []) t.term
+uses_in_block t = uses_in_term Side (in_scope []) t.term

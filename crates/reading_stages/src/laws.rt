@@ -4,12 +4,18 @@ ghost use Rattle.reading_stages.specs.Earliest.{IsEarliest};
 ghost use Rattle.reading_stages.specs.Names.{Names};
 ghost use Rattle.reading_stages.specs.NamesStage.{Refuses, name_noted};
 ghost use Rattle.reading_stages.specs.Uses.{Use};
+ghost use Rattle.reading_stages.specs.AggregateExamples.{AggregatesAreWorkedOut};
 ghost use Rattle.reading_stages.specs.Examples.{NamesAreWorkedOut};
 ghost use Rattle.kb_text.specs.declared.fault.KbFault.{KbFault};
 
 /// Words in each place and of each kind, cycles, counts, scopes and the grouping of chains.
 pub fn worked_examples()
     ensures { NamesAreWorkedOut }
+{}
+
+/// Aggregates as sides, as operands of sums, with factors and signs, and where they may not stand.
+pub fn aggregates_worked_out()
+    ensures { AggregatesAreWorkedOut }
 {}
 
 /// What is noted use by use is the earliest refusal of all rows, and nothing where no row refuses.

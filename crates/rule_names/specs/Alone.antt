@@ -1,12 +1,7 @@
 -- Terms that are one factor.
-use Rattle.std.specs.Prelude.{Bool, true, false}
+use Rattle.std.specs.Prelude.{Bool, false}
 use Rattle.fo_syntax.specs.Trees.{Term, product, sum, factor, times}
 use Rattle.reading_stages.specs.Uses.{is_integer}
-
-abbrev pub is_lone : Term → Bool
-is_lone (product (factor f)) = true
-is_lone (product (times f p q)) = false
-is_lone (sum p a q t) = false
 
 -- an integer, in brackets or not
 abbrev pub is_integer_alone : Term → Bool

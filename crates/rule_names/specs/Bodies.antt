@@ -10,6 +10,7 @@ use Rattle.reading_stages.specs.Names.{Names}
 use Rattle.reading_stages.specs.NamesStage.{name_noted}
 use Rattle.reading_stages.specs.Numbering.{named_body, named_formula, named_term, valued_body}
 use Rattle.reading_stages.specs.Scopes.{Text}
+use Rattle.reading_stages.specs.declared.standings.Standing.TheVariants.{Side}
 use Rattle.reading_stages.specs.Uses.{Context, Use, body_uses, place_of_term, uses_in_term, value_scope, written_body}
 use Rattle.formula_names.specs.Steps.{names_known}
 use Rattle.formula_names.specs.declared.resolver.Resolver.{Resolver}
@@ -35,7 +36,7 @@ valued names scope h n t body false =
 
 -- the uses in a value and in the body after it
 abbrev pub uses_behind : Context → Term → Option Formula → List Use
-uses_behind c t body = uses_in_term c t ++ body_uses c body
+uses_behind c t body = uses_in_term Side c t ++ body_uses c body
 
 -- the same with these variables in scope
 abbrev pub under : List Text → Context → Context

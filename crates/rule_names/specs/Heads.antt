@@ -8,6 +8,7 @@ use Rattle.reading_stages.specs.NamedViews.{term_view, var_view}
 use Rattle.reading_stages.specs.Names.{Names, text_of}
 use Rattle.reading_stages.specs.Numbering.{function_at, head_arguments, named_var, predicate_at}
 use Rattle.reading_stages.specs.Scopes.{Text}
+use Rattle.reading_stages.specs.declared.standings.Standing.TheVariants.{Elsewhere}
 use Rattle.reading_stages.specs.Uses.{Context, Use, head_argument, head_app, place_of_term, rule_scope, rule_vars}
 use Rattle.reading_stages.specs.Uses.{arguments_in, head_use, uses_in_term, uses_of_vars, vars_bound}
 use Rattle.rule_names.specs.declared.heads.RuleHead.{RuleHead}
@@ -42,7 +43,7 @@ named_head names bs h = record {
 
 -- an argument of a head, and the uses in it
 abbrev pub argument_uses : Context → Term → List Use
-argument_uses c t = head_argument c.scope t ∷ uses_in_term c t
+argument_uses c t = head_argument c.scope t ∷ uses_in_term Elsewhere c t
 
 -- the uses in a head, where these variables are in scope
 abbrev pub uses_in_head : Context → Head → List Use

@@ -17,7 +17,7 @@ use crate::simple::{is_simple, term_place};
 use fo_syntax::{RawBody, RawName, RawTermTree};
 use formula_names::resolver::Resolver;
 use kb_logic::{Cmp, Memory, Name};
-use reading_stages::{NamedFormula, NamedNode, NamedRule, NamedTerm, NamedVar};
+use reading_stages::{NamedFormula, NamedNode, NamedRule, NamedTerm, NamedVar, Standing};
 use sqlite_items::Items;
 use std::alloc::Global;
 
@@ -97,7 +97,7 @@ fn equated_body<'r, 'a>(
         walk.old.scope level (seen.term_view value.now) (body_in raw.now)) walk.old.scope
         (uses_behind (context_of walk.old) (seen.term_view value.now) (body_in raw.now))) }
 {
-    let term = walk.term(value)?;
+    let term = walk.term(Standing::Side, value)?;
     let first = equation(term_place(value), level, term);
     with_body(walk, first, raw)
 }
@@ -143,7 +143,7 @@ fn given_rule<'r, 'a>(
         walk.old.scope (uses_behind (context_of walk.old) (seen.term_view value.now) (body_in raw.now))) }
 {
     let has_body = is_written(raw);
-    let value = walk.term(value)?;
+    let value = walk.term(Standing::Side, value)?;
     let formula = body(walk, raw)?;
     Ok(close(head, Some(value), has_body, formula))
 }

@@ -17,7 +17,7 @@ use formula_names::resolver::Resolver;
 use formula_names::words::{app_count, app_name};
 use kb_logic::Memory;
 use kb_text::K;
-use reading_stages::{NamedTerm, NamedVar};
+use reading_stages::{NamedTerm, NamedVar, Standing};
 
 /// A head: the rule's variables, the number of its symbol, and its arguments.
 #[derive(Drop)]
@@ -72,7 +72,7 @@ fn argument<'r, 'a>(walk: &mut Resolver<'r, 'a>, raw: &'a RawTermTree) -> Result
 {
     let simple = is_simple(walk.known.table, &walk.scope, raw);
     walk.earliest.note_if(!simple, K::BadHead, term_place(raw));
-    walk.term(raw)
+    walk.term(Standing::Elsewhere, raw)
 }
 
 /// The arguments of a head.

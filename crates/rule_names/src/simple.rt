@@ -3,10 +3,11 @@ ghost use Rattle.std.specs.Prelude.{◌≡◌};
 ghost use Rattle.fo_syntax.specs.View.{factor_view, term_view};
 ghost use Rattle.reading_stages.specs.Uses as use_of;
 ghost use Rattle.formula_names.specs.Meanings.{meaning_view, names_in};
-ghost use Rattle.rule_names.specs.Alone.{is_integer_alone, is_lone};
+ghost use Rattle.rule_names.specs.Alone.{is_integer_alone};
 
 use fo_syntax::{RawFactor, RawTermTree};
 use formula_names::scopes::Scope;
+use formula_names::standings::is_lone;
 use formula_names::tables::{Meaning, Table};
 use formula_names::uses::meaning_at;
 use formula_names::words::{app_count, app_name};
@@ -24,13 +25,6 @@ fn is_given(meaning: Meaning) -> bool
         Meaning::Predicate(_, _) => false,
         Meaning::Function(_, _) => false,
     }
-}
-
-/// Whether a term is one factor.
-fn is_lone(raw: &RawTermTree) -> bool
-    ensures { result ≡ is_lone (term_view raw.now) }
-{
-    raw.more.as_slice().is_empty() && raw.first.more.as_slice().is_empty()
 }
 
 /// An integer, in brackets or not.

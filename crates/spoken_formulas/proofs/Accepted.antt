@@ -15,6 +15,7 @@ use Rattle.reading_stages.specs.NamesStage.{declarations_of}
 use Rattle.reading_stages.specs.Numbering.{NamedFile, type_number, sentences_in, named_theory}
 use Rattle.reading_stages.specs.Numbering.{named_block, named_file, vocabulary_name}
 use Rattle.reading_stages.specs.Scopes.{Text}
+use Rattle.reading_stages.specs.declared.standings.Standing.TheVariants.{Side}
 use Rattle.reading_stages.specs.TypedFiles.{TypedFile, TypedTheoryTree, typed_theory, typed_block, typed_file}
 use Rattle.reading_stages.specs.TypedTrees.{typed_sentence}
 use Rattle.reading_stages.specs.Uses.{uses_of_declarations, uses_in_part}
@@ -113,7 +114,7 @@ module _ (v : Vocabulary) (names : Names)
     terms_spoken (raw.term_block x t d e ∷ bs) h g fine typed =
         let first = uses_in_block (term_of (raw.term_block x t d e)) in
         let later = flat_map uses_in_block (map term_of bs) in
-        let spoken = term_good v names Asked again written called [] t h.0.0 g.0 h.0.1
+        let spoken = term_good v names Asked again written called Side [] t h.0.0 g.0 h.0.1
         (all_left (IsFine names) first later fine) [] [] typed.0.0 in (
           record { means = spoken.0; words = spoken.1 },
           terms_spoken bs h.1 g.1 (all_right (IsFine names) first later fine) typed.1,

@@ -19,17 +19,20 @@ use Rattle.fo_syntax.specs.Trees.{App}
 use Rattle.fo_syntax.specs.Trees.{Terms}
 use Rattle.reading_stages.specs.Names.{Names, meaning_of, meaning_at, text_of}
 use Rattle.reading_stages.specs.NamedTrees.{NamedTerm, at, begun_at}
-use Rattle.reading_stages.specs.Numbering.{type_number, comparison_of, kind_of, named_formula, named_links, named_or}
+use Rattle.reading_stages.specs.Numbering.{type_number, comparison_of, named_formula, named_links, named_or}
 use Rattle.reading_stages.specs.Numbering.{disjuncts, named_and, conjuncts, named_unary, named_prim, named_term}
 use Rattle.reading_stages.specs.Numbering.{summands}
 use Rattle.reading_stages.specs.Numbering.{named_product, factors, named_factor, named_arguments, named_terms}
 use Rattle.reading_stages.specs.Scopes.{Text}
+use Rattle.reading_stages.specs.declared.standings.Standing.{Standing}
+use Rattle.reading_stages.specs.declared.standings.Standing.TheVariants.{Elsewhere}
+use Rattle.reading_stages.specs.Standings.{facing, in_product, in_sum, kind_of, scaled}
 use Rattle.reading_stages.specs.TypedTrees.{typed_formulas, typed_terms, typed_summands}
 use Rattle.reading_stages.specs.Uses.{vars_in, var_text, uses_of_vars, within, in_scope, app_name, app_count}
 use Rattle.reading_stages.specs.Uses.{terms_count}
-use Rattle.reading_stages.specs.Uses.{number_uses, uses_in, uses_in_links, uses_in_or, uses_in_and, uses_in_unary}
-use Rattle.reading_stages.specs.Uses.{uses_in_prim, uses_in_term, uses_in_product, uses_in_factor, uses_in_arguments}
-use Rattle.reading_stages.specs.Uses.{uses_in_terms}
+use Rattle.reading_stages.specs.Uses.{uses_in, uses_in_links, uses_in_or, uses_in_and, uses_in_unary}
+use Rattle.reading_stages.specs.Uses.{uses_in_prim, uses_in_term, uses_in_operands, uses_in_product, uses_in_factors}
+use Rattle.reading_stages.specs.Uses.{uses_in_factor, uses_in_arguments, uses_in_terms}
 use Rattle.block_texts.specs.Names.{IsName}
 use Rattle.formula_texts.specs.Meanings.{others_count, tms_count}
 use Rattle.formula_texts.specs.FormulaPrints.{type_word}
@@ -194,12 +197,11 @@ module _ (v : Vocabulary) (names : Names) (I : ℕ → ℤ → Type 0)
           (all_right (IsFine names) (uses_of_vars [] (vars_in vs)) inner fine))
       unary_good scope (raw.some p n vs q f) ts g h fine =
           let inner = uses_in (in_scope (within scope vs)) f in
-          let rest = all_right (IsFine names) (number_uses p n) (uses_of_vars [] (vars_in vs) ++ inner) fine in
           let behind = number_skip n _ h.1 in
           counted_good v names I again written scope vs (vars_named vs _ behind) n
           (named_formula names (within scope vs) f) g.0
           (formula_good (within scope vs) f ts g.1 (vars_skip vs _ behind).1
-          (all_right (IsFine names) (uses_of_vars [] (vars_in vs)) inner rest))
+          (all_right (IsFine names) (uses_of_vars [] (vars_in vs)) inner fine))
       unary_good scope (raw.prim x) ts g h fine = prim_good scope x ts g h fine
 
       prim_good : (scope : List Text) (x : Prim) (ts : List Tok) → FinePrim x → AreRead (put_prim x ts)
@@ -213,84 +215,90 @@ module _ (v : Vocabulary) (names : Names) (I : ℕ → ℤ → Type 0)
           (meaning_at names scope (app_name a) (app_count a)) refl (called scope (app_name a) (app_count a))
           fine.0.known fine.0.right (no_type (meaning_at names scope (app_name a) (app_count a)) _ fine.0.supported)
       prim_good scope (raw.compare x k p y) ts g h fine =
-          let c = in_scope scope in
+          let us = uses_in_term (facing y) (in_scope scope) x in
+          let vs = uses_in_term (facing x) (in_scope scope) y in
           comparison_good v names I scope (comparison_of k) (named_term names scope x) (named_term names scope y)
-          (term_good scope x _ g.0 h (all_left (IsFine names) (uses_in_term c x) (uses_in_term c y) fine))
-          (term_good scope y ts g.1 (term_skip x _ h).1
-          (all_right (IsFine names) (uses_in_term c x) (uses_in_term c y) fine))
+          (term_good (facing y) scope x _ g.0 h (all_left (IsFine names) us vs fine))
+          (term_good (facing x) scope y ts g.1 (term_skip x _ h).1 (all_right (IsFine names) us vs fine))
 
-      pub term_good : (scope : List Text) (t : Term) (ts : List Tok) → FineTerm t → AreRead (put_term t ts)
-          → AreFine names (uses_in_term (in_scope scope) t) → TermIsGood v names I scope (named_term names scope t)
-      term_good scope (raw.product p) ts g h fine = product_good scope p ts g h fine
-      term_good scope (raw.sum p a q t) ts g h fine =
-          let c = in_scope scope in
+      pub term_good : (k : Standing) (scope : List Text) (t : Term) (ts : List Tok) → FineTerm t
+          → AreRead (put_term t ts) → AreFine names (uses_in_term k (in_scope scope) t)
+          → TermIsGood v names I scope (named_term names scope t)
+      term_good k scope (raw.product p) ts g h fine = product_good k scope p ts g h fine
+      term_good k scope (raw.sum p a q t) ts g h fine =
+          let i = in_sum k in
+          let us = uses_in_product i (in_scope scope) p in
+          let vs = uses_in_operands i (in_scope scope) t in
           sum_good v names I scope (named_product names scope p) (summands names scope a t)
-          (product_good scope p _ g.0 h (all_left (IsFine names) (uses_in_product c p) (uses_in_term c t) fine))
-          (summands_good scope a t ts g.1 (product_skip p _ h).1
-          (all_right (IsFine names) (uses_in_product c p) (uses_in_term c t) fine))
+          (product_good i scope p _ g.0 h (all_left (IsFine names) us vs fine))
+          (summands_good i scope a t ts g.1 (product_skip p _ h).1 (all_right (IsFine names) us vs fine))
           (λ around. has_summand v names scope around a t)
 
-      summands_good : (scope : List Text) (a : Adding) (t : Term) (ts : List Tok) → FineTerm t → AreRead (put_term t ts)
-          → AreFine names (uses_in_term (in_scope scope) t) → SummandsAreGood v names I scope (summands names scope a t)
-      summands_good scope a (raw.product p) ts g h fine = (product_good scope p ts g h fine, tt)
-      summands_good scope a (raw.sum p b q t) ts g h fine =
-          let c = in_scope scope in (
-            product_good scope p _ g.0 h (all_left (IsFine names) (uses_in_product c p) (uses_in_term c t) fine),
-            summands_good scope b t ts g.1 (product_skip p _ h).1
-                (all_right (IsFine names) (uses_in_product c p) (uses_in_term c t) fine),
+      summands_good : (k : Standing) (scope : List Text) (a : Adding) (t : Term) (ts : List Tok) → FineTerm t
+          → AreRead (put_term t ts) → AreFine names (uses_in_operands k (in_scope scope) t)
+          → SummandsAreGood v names I scope (summands names scope a t)
+      summands_good k scope a (raw.product p) ts g h fine = (product_good k scope p ts g h fine, tt)
+      summands_good k scope a (raw.sum p b q t) ts g h fine =
+          let us = uses_in_product k (in_scope scope) p in
+          let vs = uses_in_operands k (in_scope scope) t in (
+            product_good k scope p _ g.0 h (all_left (IsFine names) us vs fine),
+            summands_good k scope b t ts g.1 (product_skip p _ h).1 (all_right (IsFine names) us vs fine),
           )
 
-      product_good : (scope : List Text) (p : Product) (ts : List Tok) → FineProduct p → AreRead (put_product p ts)
-          → AreFine names (uses_in_product (in_scope scope) p)
+      product_good : (k : Standing) (scope : List Text) (p : Product) (ts : List Tok) → FineProduct p
+          → AreRead (put_product p ts) → AreFine names (uses_in_product k (in_scope scope) p)
           → TermIsGood v names I scope (named_product names scope p)
-      product_good scope (raw.factor f) ts g h fine = factor_good scope f ts g h fine
-      product_good scope (raw.times f p q) ts g h fine =
-          let c = in_scope scope in
+      product_good k scope (raw.factor f) ts g h fine = factor_good k scope f ts g h fine
+      product_good k scope (raw.times f p q) ts g h fine =
+          let i = in_product k (raw.times f p q) in
+          let us = uses_in_factor i (in_scope scope) f in
+          let vs = uses_in_factors i (in_scope scope) q in
           times_good v names I scope (named_factor names scope f) (factors names scope q)
-          (factor_good scope f _ g.0 h (all_left (IsFine names) (uses_in_factor c f) (uses_in_product c q) fine))
-          (factors_good scope q ts g.1 (factor_skip f _ h).1
-          (all_right (IsFine names) (uses_in_factor c f) (uses_in_product c q) fine))
+          (factor_good i scope f _ g.0 h (all_left (IsFine names) us vs fine))
+          (factors_good i scope q ts g.1 (factor_skip f _ h).1 (all_right (IsFine names) us vs fine))
           (λ around. has_factor v names scope around q)
 
-      factors_good : (scope : List Text) (p : Product) (ts : List Tok) → FineProduct p → AreRead (put_product p ts)
-          → AreFine names (uses_in_product (in_scope scope) p) → TermsAreGood v names I scope (factors names scope p)
-      factors_good scope (raw.factor f) ts g h fine = (factor_good scope f ts g h fine, tt)
-      factors_good scope (raw.times f p q) ts g h fine =
-          let c = in_scope scope in (
-            factor_good scope f _ g.0 h (all_left (IsFine names) (uses_in_factor c f) (uses_in_product c q) fine),
-            factors_good scope q ts g.1 (factor_skip f _ h).1
-                (all_right (IsFine names) (uses_in_factor c f) (uses_in_product c q) fine),
+      factors_good : (k : Standing) (scope : List Text) (p : Product) (ts : List Tok) → FineProduct p
+          → AreRead (put_product p ts) → AreFine names (uses_in_factors k (in_scope scope) p)
+          → TermsAreGood v names I scope (factors names scope p)
+      factors_good k scope (raw.factor f) ts g h fine = (factor_good k scope f ts g h fine, tt)
+      factors_good k scope (raw.times f p q) ts g h fine =
+          let us = uses_in_factor k (in_scope scope) f in
+          let vs = uses_in_factors k (in_scope scope) q in (
+            factor_good k scope f _ g.0 h (all_left (IsFine names) us vs fine),
+            factors_good k scope q ts g.1 (factor_skip f _ h).1 (all_right (IsFine names) us vs fine),
           )
 
-      factor_good : (scope : List Text) (f : Factor) (ts : List Tok) → FineFactor f → AreRead (put_factor f ts)
-          → AreFine names (uses_in_factor (in_scope scope) f) → TermIsGood v names I scope (named_factor names scope f)
-      factor_good scope (raw.integer n p) ts g h fine = λ around sc typed. (integer_kept n, integer_low n)
-      factor_good scope (raw.value a) ts g h fine =
+      factor_good : (k : Standing) (scope : List Text) (f : Factor) (ts : List Tok) → FineFactor f
+          → AreRead (put_factor f ts) → AreFine names (uses_in_factor k (in_scope scope) f)
+          → TermIsGood v names I scope (named_factor names scope f)
+      factor_good k scope (raw.integer n p) ts g h fine = λ around sc typed. (integer_kept n, integer_low n)
+      factor_good k scope (raw.value a) ts g h fine =
           node_good v names I scope (text_of (app_name a)) (app_count a) (named_arguments names scope a)
           (λ around. arguments_counted v names scope around a) (arguments_good scope a ts g h fine.1) (app_named a ts h)
           (meaning_at names scope (app_name a) (app_count a)) refl (called scope (app_name a) (app_count a))
           fine.0.known fine.0.right (no_type (meaning_at names scope (app_name a) (app_count a)) _ fine.0.supported)
-      factor_good scope (raw.brackets p t q) ts g h fine =
-          begun_good scope p (named_term names scope t) (term_good scope t _ g h.1 fine)
-      factor_good scope (raw.negative p f) ts g h fine =
-          minus_good v names I scope (named_factor names scope f) (factor_good scope f ts g h.1 fine)
-      factor_good scope (raw.count p b vs q f e) ts g h fine =
+      factor_good k scope (raw.brackets p t q) ts g h fine =
+          begun_good scope p (named_term names scope t) (term_good k scope t _ g h.1 fine)
+      factor_good k scope (raw.negative p f) ts g h fine =
+          minus_good v names I scope (named_factor names scope f) (factor_good (scaled k) scope f ts g h.1 fine)
+      factor_good k scope (raw.count p b vs q f e) ts g h fine =
           let inner = uses_in (in_scope (within scope vs)) f in
           count_good v names I again written scope vs (vars_named vs _ h.1.1) p
           (named_formula names (within scope vs) f)
           (formula_good (within scope vs) f _ g (vars_skip vs _ h.1.1).1
           (all_right (IsFine names) (uses_of_vars [] (vars_in vs)) inner fine.1))
-      factor_good scope (raw.aggregate a p b vs q f d t e) ts g h fine =
+      factor_good k scope (raw.aggregate a p b vs q f d t e) ts g h fine =
           let c = in_scope (within scope vs) in
           let inner = all_right (IsFine names) (uses_of_vars [] (vars_in vs))
-          (uses_in c f ++ uses_in_term c t) fine.1 in
+          (uses_in c f ++ uses_in_term Elsewhere c t) fine.1 in
           let behind = (vars_skip vs _ h.1.1).1 in
           aggregate_good v names I again written scope vs (vars_named vs _ h.1.1) (kind_of a)
           (named_formula names (within scope vs) f) (named_term names (within scope vs) t) (is_weighed a)
           (formula_good (within scope vs) f _ g.0 behind
-          (all_left (IsFine names) (uses_in c f) (uses_in_term c t) inner))
-          (term_good (within scope vs) t _ g.1 (formula_skip f _ behind).1
-          (all_right (IsFine names) (uses_in c f) (uses_in_term c t) inner))
+          (all_left (IsFine names) (uses_in c f) (uses_in_term Elsewhere c t) inner))
+          (term_good Elsewhere (within scope vs) t _ g.1 (formula_skip f _ behind).1
+          (all_right (IsFine names) (uses_in c f) (uses_in_term Elsewhere c t) inner))
 
       arguments_good : (scope : List Text) (a : App) (ts : List Tok) → FineApp a → AreRead (put_app a ts)
           → AreFine names (uses_in_arguments (in_scope scope) a)
@@ -302,10 +310,10 @@ module _ (v : Vocabulary) (names : Names) (I : ℕ → ℤ → Type 0)
       terms_good : (scope : List Text) (xs : Terms) (ts : List Tok) → FineTerms xs → AreRead (put_terms xs ts)
           → AreFine names (uses_in_terms (in_scope scope) xs)
           → TermsAreGood v names I scope (named_terms names scope xs)
-      terms_good scope (raw.final x) ts g h fine = (term_good scope x ts g h fine, tt)
+      terms_good scope (raw.final x) ts g h fine = (term_good Elsewhere scope x ts g h fine, tt)
       terms_good scope (raw.then x p xs) ts g h fine =
-          let c = in_scope scope in (
-            term_good scope x _ g.0 h (all_left (IsFine names) (uses_in_term c x) (uses_in_terms c xs) fine),
-            terms_good scope xs ts g.1 (term_skip x _ h).1
-                (all_right (IsFine names) (uses_in_term c x) (uses_in_terms c xs) fine),
+          let us = uses_in_term Elsewhere (in_scope scope) x in
+          let vs = uses_in_terms (in_scope scope) xs in (
+            term_good Elsewhere scope x _ g.0 h (all_left (IsFine names) us vs fine),
+            terms_good scope xs ts g.1 (term_skip x _ h).1 (all_right (IsFine names) us vs fine),
           )

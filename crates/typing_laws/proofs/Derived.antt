@@ -8,6 +8,7 @@ use Rattle.kb_logic.specs.Trees.{TheoryTree}
 use Rattle.kb_logic.specs.Typing.{IsWellTyped}
 use Rattle.kb_logic.proofs.Members.{in_all}
 use Rattle.reading_stages.specs.Scopes.{Text}
+use Rattle.reading_stages.specs.declared.standings.Standing.TheVariants.{Side}
 use Rattle.reading_stages.specs.Files.{Part, sentence, definition, TheoryBlock, TermBlock, File}
 use Rattle.reading_stages.specs.Names.{Names, meaning_of, number_types, declared_names, names_of}
 use Rattle.reading_stages.specs.Uses.{declared_uses, uses_in_declarations, cycle_uses, uses_of_declarations, in_scope}
@@ -117,7 +118,7 @@ module _ (v : Vocabulary) (names : Names) (means : (k : ℕ) (w : Text)
       → AllByRecursion (λ t. TermIsNumbered v 0 t.term) (map (named_block names) bs)
   blocks_numbered [] fine = tt
   blocks_numbered (b ∷ bs) fine = (
-    term_numbered v names means (in_scope []) b.term (all_left (IsFine names) (uses_in_block b)
+    term_numbered v names means Side (in_scope []) b.term (all_left (IsFine names) (uses_in_block b)
         (flat_map uses_in_block bs) fine),
     blocks_numbered bs (all_right (IsFine names) (uses_in_block b) (flat_map uses_in_block bs) fine),
   )

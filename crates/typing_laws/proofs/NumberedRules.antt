@@ -12,6 +12,7 @@ use Rattle.fo_syntax.specs.Trees.{Var, Formula, Term, Factor, App, Terms}
 use Rattle.fo_syntax.specs.BlockTrees.{Binding, Head, atom_head, value_head, Rule}
 use Rattle.fo_syntax.specs.BlockTrees as block
 use Rattle.reading_stages.specs.Scopes.{Text}
+use Rattle.reading_stages.specs.declared.standings.Standing.TheVariants.{Side, Elsewhere}
 use Rattle.reading_stages.specs.Names.{Meaning, undeclared, integers, naturals, a_type, predicate, function, made}
 use Rattle.reading_stages.specs.Names.{variable, Names, meaning_of, meaning_at}
 use Rattle.reading_stages.specs.NamesStage.{is_defined}
@@ -102,10 +103,10 @@ module _ (v : Vocabulary) (names : Names) (means : (k : ℕ) (w : Text)
       → AllByRecursion (IsHeadNumbered v (length scope)) (map (named_term names scope) ts)
   arguments_numbered scope [] fine = tt
   arguments_numbered scope (t ∷ ts) fine =
-      let own = uses_in_term (in_scope scope) t in
+      let own = uses_in_term Elsewhere (in_scope scope) t in
       let later = flat_map (argument_uses scope) ts in (
         record {
-          numbered = term_numbered v names means (in_scope scope) t (all_left (IsFine names) own later fine.1);
+          numbered = term_numbered v names means Elsewhere (in_scope scope) t (all_left (IsFine names) own later fine.1);
           plain = term_plain names scope t (not-false (is_simple names scope t) fine.0.plain);
         },
         arguments_numbered scope ts (all_right (IsFine names) own later fine.1),
@@ -186,7 +187,7 @@ module _ (v : Vocabulary) (names : Names) (means : (k : ℕ) (w : Text)
     module _ (a : App) (t : Term) where
       abbrev value_fine : Bool → Type 0
       value_fine b = AreFine names (head_use scope (value_head a 0 t)
-          ∷ (flat_map (argument_uses scope) (arguments_in a) ++ (uses_in_term (within_value b) t
+          ∷ (flat_map (argument_uses scope) (arguments_in a) ++ (uses_in_term Side (within_value b) t
           ++ body_uses (within_value b) body)))
 
       symbol_is : IsFine names (head_use scope (value_head a 0 t)) → (d : Symbol)
@@ -208,13 +209,13 @@ module _ (v : Vocabulary) (names : Names) (means : (k : ℕ) (w : Text)
       no_more : length scope ≤ length (scope ++ [] ∷ [])
       no_more = let long = length-append scope ([] ∷ []) in omega (arith, long)
 
-      valued : (o : Option Formula) → AreFine names (uses_in_term (within_value false) t)
+      valued : (o : Option Formula) → AreFine names (uses_in_term Side (within_value false) t)
           → AreFine names (body_uses (within_value false) o)
           → FormulaIsNumbered v (length (scope ++ [] ∷ []))
           (valued_body names (value_scope scope false) (length xs) t o)
-      valued None fine later = (last_var, term_numbered v names means (within_value false) t fine)
+      valued None fine later = (last_var, term_numbered v names means Side (within_value false) t fine)
       valued (Some f) fine later = (
-        (last_var, term_numbered v names means (within_value false) t fine),
+        (last_var, term_numbered v names means Side (within_value false) t fine),
         (formula_numbered v names means (within_value false) f later, tt),
       )
 
@@ -223,21 +224,21 @@ module _ (v : Vocabulary) (names : Names) (means : (k : ℕ) (w : Text)
       value_ruled true e fine =
           let c = within_value true in
           let args = flat_map (argument_uses scope) (arguments_in a) in
-          let rest = all_right (IsFine names) args (uses_in_term c t ++ body_uses c body) fine.1 in
+          let rest = all_right (IsFine names) args (uses_in_term Side c t ++ body_uses c body) fine.1 in
           of_rule (length scope) (valued_rule names scope xs a t body true) same written (symbol_is fine.0)
           (arguments_numbered scope (arguments_in a) (all_left (IsFine names) args
-          (uses_in_term c t ++ body_uses c body) fine.1))
+          (uses_in_term Side c t ++ body_uses c body) fine.1))
           (record {
-            numbered = term_numbered v names means c t (all_left (IsFine names) (uses_in_term c t)
+            numbered = term_numbered v names means Side c t (all_left (IsFine names) (uses_in_term Side c t)
                 (body_uses c body) rest);
             plain = term_plain names scope t e;
           })
-          (body_numbered c body (all_right (IsFine names) (uses_in_term c t) (body_uses c body) rest))
+          (body_numbered c body (all_right (IsFine names) (uses_in_term Side c t) (body_uses c body) rest))
           (no_body scope body)
       value_ruled false e fine =
           let c = within_value false in
           let args = flat_map (argument_uses scope) (arguments_in a) in
-          let rest = all_right (IsFine names) args (uses_in_term c t ++ body_uses c body) fine.1 in
+          let rest = all_right (IsFine names) args (uses_in_term Side c t ++ body_uses c body) fine.1 in
           of_rule (length (scope ++ [] ∷ [])) (valued_rule names scope xs a t body false) one_more
           (all_append (λ (x : NamedVar). IfSome x.ty (λ t. t < length v.types)) xs (value_var a t ∷ []) written
           (tt, tt))
@@ -245,10 +246,10 @@ module _ (v : Vocabulary) (names : Names) (means : (k : ℕ) (w : Text)
           (each_of (IsHeadNumbered v (length (scope ++ [] ∷ []))) (IsHeadNumbered v (length scope))
           (wider (length scope) (length (scope ++ [] ∷ [])) no_more) (head_arguments names scope a)
           (arguments_numbered scope (arguments_in a) (all_left (IsFine names) args
-          (uses_in_term c t ++ body_uses c body) fine.1)))
+          (uses_in_term Side c t ++ body_uses c body) fine.1)))
           (record { numbered = last_var; plain = tt })
-          (valued body (all_left (IsFine names) (uses_in_term c t) (body_uses c body) rest)
-          (all_right (IsFine names) (uses_in_term c t) (body_uses c body) rest))
+          (valued body (all_left (IsFine names) (uses_in_term Side c t) (body_uses c body) rest)
+          (all_right (IsFine names) (uses_in_term Side c t) (body_uses c body) rest))
           (λ h. absurd (true≢false h))
 
     ruled_numbered : (h : Head) → AreFine names (uses_under names defined scope h body)

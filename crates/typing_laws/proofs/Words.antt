@@ -20,9 +20,12 @@ use Rattle.reading_stages.specs.Names.{Meaning, undeclared, integers, naturals, 
 use Rattle.reading_stages.specs.Names.{variable, Names, meaning_of, meaning_at, text_of}
 use Rattle.reading_stages.specs.Uses.{Context, counted, position, parent_uses, position_uses, uses_in_declarations}
 use Rattle.reading_stages.specs.Uses.{vars_in, var_type, var_text, uses_of_vars, within, inside, app_name, app_count}
-use Rattle.reading_stages.specs.Uses.{terms_count, number_uses, uses_in, uses_in_links, uses_in_or, uses_in_and}
-use Rattle.reading_stages.specs.Uses.{uses_in_unary, uses_in_prim, uses_in_term, uses_in_product, uses_in_factor}
-use Rattle.reading_stages.specs.Uses.{uses_in_arguments, uses_in_terms}
+use Rattle.reading_stages.specs.declared.standings.Standing.{Standing}
+use Rattle.reading_stages.specs.declared.standings.Standing.TheVariants.{Elsewhere}
+use Rattle.reading_stages.specs.Standings.{facing, in_product, in_sum, scaled}
+use Rattle.reading_stages.specs.Uses.{terms_count, uses_in, uses_in_links, uses_in_or, uses_in_and}
+use Rattle.reading_stages.specs.Uses.{uses_in_unary, uses_in_prim, uses_in_term, uses_in_operands, uses_in_product}
+use Rattle.reading_stages.specs.Uses.{uses_in_factors, uses_in_factor, uses_in_arguments, uses_in_terms}
 use Rattle.reading_stages.specs.NamesStage.{is_undeclared, is_type, is_no_formula, is_no_term, is_no_function}
 use Rattle.reading_stages.specs.NamesStage.{is_defined}
 use Rattle.reading_stages.specs.NamedTrees.{NamedVar, NamedTerm, at, NamedTerms, more_summands, NamedFormula, begun_at}
@@ -282,11 +285,10 @@ module _ (v : Vocabulary) (names : Names) (means : (k : ℕ) (w : Text)
         )
     unary_numbered c (raw.some p n vs q f) fine =
         let inner = uses_in (inside c vs) f in
-        let rest = all_right (IsFine names) (number_uses p n) (uses_of_vars [] (vars_in vs) ++ inner) fine in
         counted_numbered (length c.scope) n (named_vars names vs) (named_formula names (within c.scope vs) f)
-        (vars_written [] (vars_in vs) (all_left (IsFine names) (uses_of_vars [] (vars_in vs)) inner rest))
+        (vars_written [] (vars_in vs) (all_left (IsFine names) (uses_of_vars [] (vars_in vs)) inner fine))
         (formula_within c.scope vs f (formula_numbered (inside c vs) f
-        (all_right (IsFine names) (uses_of_vars [] (vars_in vs)) inner rest)))
+        (all_right (IsFine names) (uses_of_vars [] (vars_in vs)) inner fine)))
     unary_numbered c (raw.prim x) fine = prim_numbered c x fine
 
     prim_numbered : (c : Context) (x : Prim) → AreFine names (uses_in_prim c x)
@@ -299,72 +301,76 @@ module _ (v : Vocabulary) (names : Names) (means : (k : ℕ) (w : Text)
         fine.0.known fine.0.right (no_type m (is_defined names c (app_name a) (app_count a)) fine.0.supported)
         (as_many c.scope a) (arguments_numbered c a fine.1)
     prim_numbered c (raw.compare x k p y) fine = (
-      term_numbered c x (all_left (IsFine names) (uses_in_term c x) (uses_in_term c y) fine),
-      term_numbered c y (all_right (IsFine names) (uses_in_term c x) (uses_in_term c y) fine),
+      term_numbered (facing y) c x (all_left (IsFine names) (uses_in_term (facing y) c x) (uses_in_term (facing x) c y)
+          fine),
+      term_numbered (facing x) c y (all_right (IsFine names) (uses_in_term (facing y) c x) (uses_in_term (facing x) c y)
+          fine),
     )
 
-    pub term_numbered : (c : Context) (t : Term) → AreFine names (uses_in_term c t)
+    pub term_numbered : (s : Standing) (c : Context) (t : Term) → AreFine names (uses_in_term s c t)
         → TermIsNumbered v (length c.scope) (named_term names c.scope t)
-    term_numbered c (raw.product p) fine = product_numbered c p fine
-    term_numbered c (raw.sum p a q t) fine = (
-      is_sum c.scope (named_product names c.scope p) a t,
-      (
-        product_numbered c p (all_left (IsFine names) (uses_in_product c p) (uses_in_term c t) fine),
-        summands_numbered c a t (all_right (IsFine names) (uses_in_product c p) (uses_in_term c t) fine),
-      ),
-    )
+    term_numbered s c (raw.product p) fine = product_numbered s c p fine
+    term_numbered s c (raw.sum p a q t) fine =
+        let i = in_sum s in (
+          is_sum c.scope (named_product names c.scope p) a t,
+          (
+            product_numbered i c p (all_left (IsFine names) (uses_in_product i c p) (uses_in_operands i c t) fine),
+            summands_numbered i c a t (all_right (IsFine names) (uses_in_product i c p) (uses_in_operands i c t) fine),
+          ),
+        )
 
-    summands_numbered : (c : Context) (a : Adding) (t : Term) → AreFine names (uses_in_term c t)
+    summands_numbered : (s : Standing) (c : Context) (a : Adding) (t : Term) → AreFine names (uses_in_operands s c t)
         → SummandsAreNumbered v (length c.scope) (summands names c.scope a t)
-    summands_numbered c a (raw.product p) fine = (product_numbered c p fine, tt)
-    summands_numbered c a (raw.sum p b q t) fine = (
-      product_numbered c p (all_left (IsFine names) (uses_in_product c p) (uses_in_term c t) fine),
-      summands_numbered c b t (all_right (IsFine names) (uses_in_product c p) (uses_in_term c t) fine),
+    summands_numbered s c a (raw.product p) fine = (product_numbered s c p fine, tt)
+    summands_numbered s c a (raw.sum p b q t) fine = (
+      product_numbered s c p (all_left (IsFine names) (uses_in_product s c p) (uses_in_operands s c t) fine),
+      summands_numbered s c b t (all_right (IsFine names) (uses_in_product s c p) (uses_in_operands s c t) fine),
     )
 
-    product_numbered : (c : Context) (p : Product) → AreFine names (uses_in_product c p)
+    product_numbered : (s : Standing) (c : Context) (p : Product) → AreFine names (uses_in_product s c p)
         → TermIsNumbered v (length c.scope) (named_product names c.scope p)
-    product_numbered c (raw.factor f) fine = factor_numbered c f fine
-    product_numbered c (raw.times f p q) fine = (
-      factor_numbered c f (all_left (IsFine names) (uses_in_factor c f) (uses_in_product c q) fine),
-      factors_numbered c q (all_right (IsFine names) (uses_in_factor c f) (uses_in_product c q) fine),
-    )
+    product_numbered s c (raw.factor f) fine = factor_numbered s c f fine
+    product_numbered s c (raw.times f p q) fine =
+        let i = in_product s (raw.times f p q) in (
+          factor_numbered i c f (all_left (IsFine names) (uses_in_factor i c f) (uses_in_factors i c q) fine),
+          factors_numbered i c q (all_right (IsFine names) (uses_in_factor i c f) (uses_in_factors i c q) fine),
+        )
 
-    factors_numbered : (c : Context) (q : Product) → AreFine names (uses_in_product c q)
+    factors_numbered : (s : Standing) (c : Context) (q : Product) → AreFine names (uses_in_factors s c q)
         → TermsAreNumbered v (length c.scope) (factors names c.scope q)
-    factors_numbered c (raw.factor f) fine = (factor_numbered c f fine, tt)
-    factors_numbered c (raw.times f p q) fine = (
-      factor_numbered c f (all_left (IsFine names) (uses_in_factor c f) (uses_in_product c q) fine),
-      factors_numbered c q (all_right (IsFine names) (uses_in_factor c f) (uses_in_product c q) fine),
+    factors_numbered s c (raw.factor f) fine = (factor_numbered s c f fine, tt)
+    factors_numbered s c (raw.times f p q) fine = (
+      factor_numbered s c f (all_left (IsFine names) (uses_in_factor s c f) (uses_in_factors s c q) fine),
+      factors_numbered s c q (all_right (IsFine names) (uses_in_factor s c f) (uses_in_factors s c q) fine),
     )
 
-    factor_numbered : (c : Context) (f : Factor) → AreFine names (uses_in_factor c f)
+    factor_numbered : (s : Standing) (c : Context) (f : Factor) → AreFine names (uses_in_factor s c f)
         → TermIsNumbered v (length c.scope) (named_factor names c.scope f)
-    factor_numbered c (raw.integer n p) fine = tt
-    factor_numbered c (raw.value a) fine =
+    factor_numbered s c (raw.integer n p) fine = tt
+    factor_numbered s c (raw.value a) fine =
         let m = meaning_at names c.scope (app_name a) (app_count a) in
         node_numbered (length c.scope) m (app_count a) (named_arguments names c.scope a) (means_at c.scope a)
         fine.0.known fine.0.right (no_type m (is_defined names c (app_name a) (app_count a)) fine.0.supported)
         (as_many c.scope a) (arguments_numbered c a fine.1)
-    factor_numbered c (raw.brackets p t q) fine = begun_numbered (length c.scope) p (named_term names c.scope t)
-        (term_numbered c t fine)
-    factor_numbered c (raw.negative p f) fine = (tt, (factor_numbered c f fine, tt))
-    factor_numbered c (raw.count p b vs q f r) fine =
+    factor_numbered s c (raw.brackets p t q) fine = begun_numbered (length c.scope) p (named_term names c.scope t)
+        (term_numbered s c t fine)
+    factor_numbered s c (raw.negative p f) fine = (tt, (factor_numbered (scaled s) c f fine, tt))
+    factor_numbered s c (raw.count p b vs q f r) fine =
         let inner = uses_in (inside c vs) f in (
           vars_written [] (vars_in vs) (all_left (IsFine names) (uses_of_vars [] (vars_in vs)) inner fine.1),
           formula_within c.scope vs f (formula_numbered (inside c vs) f
               (all_right (IsFine names) (uses_of_vars [] (vars_in vs)) inner fine.1)),
           tt,
         )
-    factor_numbered c (raw.aggregate how p b vs q f r t e) fine =
+    factor_numbered s c (raw.aggregate how p b vs q f r t e) fine =
         let inner = inside c vs in
         let vars = uses_of_vars [] (vars_in vs) in
-        let rest = all_right (IsFine names) vars (uses_in inner f ++ uses_in_term inner t) fine.1 in (
-          vars_written [] (vars_in vs) (all_left (IsFine names) vars (uses_in inner f ++ uses_in_term inner t) fine.1),
+        let rest = all_right (IsFine names) vars (uses_in inner f ++ uses_in_term Elsewhere inner t) fine.1 in (
+          vars_written [] (vars_in vs) (all_left (IsFine names) vars (uses_in inner f ++ uses_in_term Elsewhere inner t) fine.1),
           formula_within c.scope vs f (formula_numbered inner f
-              (all_left (IsFine names) (uses_in inner f) (uses_in_term inner t) rest)),
-          term_within c.scope vs t (term_numbered inner t
-              (all_right (IsFine names) (uses_in inner f) (uses_in_term inner t) rest)),
+              (all_left (IsFine names) (uses_in inner f) (uses_in_term Elsewhere inner t) rest)),
+          term_within c.scope vs t (term_numbered Elsewhere inner t
+              (all_right (IsFine names) (uses_in inner f) (uses_in_term Elsewhere inner t) rest)),
         )
 
     arguments_numbered : (c : Context) (a : App) → AreFine names (uses_in_arguments c a)
@@ -375,8 +381,8 @@ module _ (v : Vocabulary) (names : Names) (means : (k : ℕ) (w : Text)
 
     terms_numbered : (c : Context) (ts : Terms) → AreFine names (uses_in_terms c ts)
         → TermsAreNumbered v (length c.scope) (named_terms names c.scope ts)
-    terms_numbered c (raw.final t) fine = (term_numbered c t fine, tt)
+    terms_numbered c (raw.final t) fine = (term_numbered Elsewhere c t fine, tt)
     terms_numbered c (raw.then t p ts) fine = (
-      term_numbered c t (all_left (IsFine names) (uses_in_term c t) (uses_in_terms c ts) fine),
-      terms_numbered c ts (all_right (IsFine names) (uses_in_term c t) (uses_in_terms c ts) fine),
+      term_numbered Elsewhere c t (all_left (IsFine names) (uses_in_term Elsewhere c t) (uses_in_terms c ts) fine),
+      terms_numbered c ts (all_right (IsFine names) (uses_in_term Elsewhere c t) (uses_in_terms c ts) fine),
     )

@@ -25,7 +25,6 @@ returns c = record {
   element_in_head = refl;
   minus_in_head = refl;
   value_in_head = refl;
-  aggregates_later = refl;
   taken = refl;
   element_declared_again = refl;
   variable_bound_twice = refl;

@@ -1,4 +1,5 @@
-use Rattle.rule_names.proofs.TermLaws.{begins_with_factor, seen_as}
+use Rattle.formula_names.proofs.LoneTerms.{seen_as}
+use Rattle.rule_names.proofs.TermLaws.{begins_with_factor}
 use Rattle.rule_names.proofs.simple.term_place.Goals as goal
 
 pub returns : goal.returns

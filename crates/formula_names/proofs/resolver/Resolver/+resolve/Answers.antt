@@ -124,15 +124,16 @@ term-returns t c =
     let at : c.place_of-place.result ≡ tree.place_of (named_product (names_known c.args.self.now) c.args.self.now.scope
     (view.product_view (out-RawTermTree c.args.raw.now).first)) = grind (arith, common_steps) in
     rw seen
-    (chain c.args.self.now c.product.new.self c.loop-tail.self summand_named summand_uses
-    view.sum_tail_view _ _ _ _ c.in_ok-first.ensures c.loop-tail.invariant c.loop-tail-test.false
+    (chain c.args.self.now c.product.new.self c.loop-tail.self summand_named
+    (summand_uses c.operands_stand-inner.result) view.sum_tail_view _ _ _ _ c.in_ok-first.ensures c.loop-tail.invariant c.loop-tail-test.false
     c.as_slice-more.ensures
     (λ built. rw c.summed.ensures (sum_built (names_known c.args.self.now) c.args.self.now.scope (view.product_view
     (out-RawTermTree c.args.raw.now).first) view.sum_tail_view c.place_of-place.result _ _ _ _ _ built one
     c.loop-tail-test.false
     c.as_slice-more.ensures some at))
-    (uses_in_term-is (context_of c.args.self.now) (view.product_view (out-RawTermTree c.args.raw.now).first) (map
-    view.sum_tail_view (out-RawTermTree c.args.raw.now).more)))
+    (uses_in_term-is c.args.standing c.operands_stand-inner.result (context_of c.args.self.now)
+    (view.product_view (out-RawTermTree c.args.raw.now).first) (map view.sum_tail_view (out-RawTermTree
+    c.args.raw.now).more) (rw seen at c.operands_stand-inner.ensures)))
 
 pub term-returns-then-is_empty : goal.term-returns-then-is_empty
 term-returns-then-is_empty t c =
@@ -140,7 +141,8 @@ term-returns-then-is_empty t c =
     (map view.sum_tail_view (out-RawTermTree c.args.raw.now).more) = search (rules, the_lemmas) in
     let count : length (out-RawTermTree c.args.raw.now).more ≡ 0 = grind (arith, common_steps) in
     let none : (out-RawTermTree c.args.raw.now).more ≡ [] = nothing _ count in
-    rw (seen, none) c.in_ok-first.ensures
+    let same : c.operands_stand-inner.result ≡ c.args.standing = rw (seen, none) at c.operands_stand-inner.ensures in
+    rw (seen, none) (rw same at c.in_ok-first.ensures)
 
 pub term-loop-tail-preserved : goal.term-loop-tail-preserved
 term-loop-tail-preserved t c =
@@ -154,8 +156,8 @@ term-loop-tail-preserved t c =
     let pushed : map signed_view c.push-in-loop-tail.new.self.items ≡ map signed_view c.loop-tail.operands.items ++
     (c.is_minus.result, term_view c.in_ok-term.term) ∷ [] =
     grind (arith, common_steps) in
-    turn c.product.new.self c.loop-tail.self c.product-in-loop-tail.new.self summand_named summand_uses
-    view.sum_tail_view _ _ c.tail-item.result _ c.loop-tail.invariant c.in_ok-term.ensures pushed
+    turn c.product.new.self c.loop-tail.self c.product-in-loop-tail.new.self summand_named
+    (summand_uses c.operands_stand-inner.result) view.sum_tail_view _ _ c.tail-item.result _ c.loop-tail.invariant c.in_ok-term.ensures pushed
     c.loop-tail-test.true c.tail-item.is (rw (seen, sign) (ap (λ (t : tree.NamedTerm). (
       is_minus (view.sum_tail_view
           c.tail-item.result).0,
@@ -173,15 +175,16 @@ product-returns t c =
     let at : c.place_of-place.result ≡ tree.place_of (named_factor (names_known c.args.self.now) c.args.self.now.scope
     (view.factor_view (out-RawProduct c.args.raw.now).first)) = grind (arith, common_steps) in
     rw seen
-    (chain c.args.self.now c.factor.new.self c.loop-tail.self factor_named factor_uses
-    view.product_tail_view _ _ _ _ c.in_ok-first.ensures c.loop-tail.invariant c.loop-tail-test.false
+    (chain c.args.self.now c.factor.new.self c.loop-tail.self factor_named
+    (factor_uses c.factors_stand-inner.result) view.product_tail_view _ _ _ _ c.in_ok-first.ensures c.loop-tail.invariant c.loop-tail-test.false
     c.as_slice-more.ensures
     (λ built. rw c.multiplied.ensures (product_built (names_known c.args.self.now) c.args.self.now.scope
     (view.factor_view (out-RawProduct c.args.raw.now).first) view.product_tail_view c.place_of-place.result _ _ _ _ _
     built one c.loop-tail-test.false
     c.as_slice-more.ensures some at))
-    (uses_in_product-is (context_of c.args.self.now) (view.factor_view (out-RawProduct c.args.raw.now).first) (map
-    view.product_tail_view (out-RawProduct c.args.raw.now).more)))
+    (uses_in_product-is c.args.standing c.factors_stand-inner.result (context_of c.args.self.now)
+    (view.factor_view (out-RawProduct c.args.raw.now).first) (map view.product_tail_view (out-RawProduct
+    c.args.raw.now).more) (rw seen at c.factors_stand-inner.ensures)))
 
 pub product-returns-then-is_empty : goal.product-returns-then-is_empty
 product-returns-then-is_empty t c =
@@ -190,7 +193,8 @@ product-returns-then-is_empty t c =
     (map view.product_tail_view (out-RawProduct c.args.raw.now).more) = search (rules, the_lemmas) in
     let count : length (out-RawProduct c.args.raw.now).more ≡ 0 = grind (arith, common_steps) in
     let none : (out-RawProduct c.args.raw.now).more ≡ [] = nothing _ count in
-    rw (seen, none) c.in_ok-first.ensures
+    let same : c.factors_stand-inner.result ≡ c.args.standing = rw (seen, none) at c.factors_stand-inner.ensures in
+    rw (seen, none) (rw same at c.in_ok-first.ensures)
 
 pub product-loop-tail-preserved : goal.product-loop-tail-preserved
 product-loop-tail-preserved t c =
@@ -199,8 +203,8 @@ product-loop-tail-preserved t c =
     let pushed : map term_view c.push-in-loop-tail.new.self.items ≡ map term_view c.loop-tail.operands.items ++
     term_view c.in_ok-factor.field-0 ∷ [] =
     grind (arith, common_steps) in
-    turn c.factor.new.self c.loop-tail.self c.factor-in-loop-tail.new.self factor_named factor_uses
-    view.product_tail_view _ _ c.tail-item.result _ c.loop-tail.invariant c.in_ok-factor.ensures pushed
+    turn c.factor.new.self c.loop-tail.self c.factor-in-loop-tail.new.self factor_named
+    (factor_uses c.factors_stand-inner.result) view.product_tail_view _ _ c.tail-item.result _ c.loop-tail.invariant c.in_ok-factor.ensures pushed
     c.loop-tail-test.true c.tail-item.is (rw seen c.in_ok-factor.ensures.tree) (rw seen refl)
 
 pub arguments-returns : goal.arguments-returns
@@ -301,7 +305,8 @@ opened-returns-clause-condition t c =
       scope = rw (vars.scope, c.get.ensures) at condition.scope;
       noted = opened_noted (name_noted (names_known c.args.self.now)) c.args.self.now.earliest.first
           c.note_aggregate.new.earliest.first
-          c.binders.new.self.earliest.first c.formula.new.self.earliest.first (an_aggregate c.args.opening.now.place)
+          c.binders.new.self.earliest.first c.formula.new.self.earliest.first (an_aggregate c.args.standing c.args.kind
+          c.args.opening.now.place)
           (uses_of_vars [] (vars_in (view.vars_view c.args.opening.now.vars)))
           (uses_in (inside (context_of c.args.self.now) (view.vars_view c.args.opening.now.vars))
           (view.formula_view c.args.condition.now)) (c.note_aggregate.ensures (names_known c.args.self.now))

@@ -24,12 +24,12 @@ invariant-conjunction-loop-tail l = Adds l.initial.self l.self conjunct_named co
     (map formula_view l.operands.items)
 
 abbrev pub invariant-term-loop-tail : goal.invariant-term-loop-tail
-invariant-term-loop-tail l = Adds l.initial.self l.self summand_named summand_uses
+invariant-term-loop-tail l = Adds l.initial.self l.self summand_named (summand_uses l.inner)
     sum_tail_view (take l.tail-index l.more) (map signed_view l.initial.operands.items)
     (map signed_view l.operands.items)
 
 abbrev pub invariant-product-loop-tail : goal.invariant-product-loop-tail
-invariant-product-loop-tail l = Adds l.initial.self l.self factor_named factor_uses
+invariant-product-loop-tail l = Adds l.initial.self l.self factor_named (factor_uses l.inner)
     product_tail_view (take l.tail-index l.more) (map term_view l.initial.operands.items)
     (map term_view l.operands.items)
 

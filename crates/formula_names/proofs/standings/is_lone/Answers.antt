@@ -1,7 +1,7 @@
 use Rattle.std.proofs.Common.{◌≡◌, ◌∙◌, ◌==◌, true, false, length, sym}
 use Rattle.fo_syntax.specs.declared.raw.RawTermTree.{out-RawTermTree}
-use Rattle.rule_names.proofs.TermLaws.{lone_raw}
-use Rattle.rule_names.proofs.simple.is_lone.Goals as goal
+use Rattle.formula_names.proofs.LoneTerms.{lone_raw}
+use Rattle.formula_names.proofs.standings.is_lone.Goals as goal
 
 pub returns-then-is_empty : goal.returns-then-is_empty
 returns-then-is_empty c =
