@@ -18,7 +18,7 @@ use Rattle.def_ground.specs.Cases.{with_clauses}
 use Rattle.def_ground.specs.Forms.{signed_result, same_of}
 use Rattle.def_ground.specs.Meanings.{Means, AssertsMore}
 use Rattle.def_ground.proofs.Growing.{lit-more, lits-more}
-use Rattle.def_ground.proofs.FormLaws.{iff-right}
+use Rattle.def_ground.proofs.FormSteps.{iff-right}
 use Rattle.def_ground.proofs.AssertSteps.{any-of, Local, signed-truth, signed-means, any-local, or-local, clause-right}
 use Rattle.def_ground.proofs.AssertSteps.{says-after, says-clauses}
 

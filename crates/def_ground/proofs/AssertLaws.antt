@@ -1,6 +1,6 @@
 -- Sentences as clauses.
 use Rattle.std.proofs.Common.{◌≡◌, ℕ, ◌≤◌, Bool, true, false, not, ◌&&◌, ◌||◌, List, [], ◌∷◌, ◌++◌, if◌then◌else◌, refl}
-use Rattle.std.proofs.Common.{sym, ap, ◌∙◌, arith}
+use Rattle.std.proofs.Common.{sym, ap, ◌∙◌, arith, inl, inr}
 use Rattle.std.specs.List.{list_all, list_any}
 use Rattle.kb_logic.specs.declared.elements.Elem.{Elem}
 use Rattle.kb_logic.specs.declared.structures.Structure.{Structure}
@@ -9,13 +9,16 @@ use Rattle.kb_logic.specs.Trees.{implication, equivalence, universal, existentia
 use Rattle.kb_logic.specs.Trees.{more_formulas}
 use Rattle.kb_logic.specs.Structures.{choices}
 use Rattle.kb_logic.specs.Meaning.{truth_of}
+use Rattle.kb_logic.proofs.Has.{Has}
 use Rattle.lit_core.specs.declared.literals.Lit.{Lit}
 use Rattle.ground_core.specs.Problems.{ProblemState, IsProblem, AreLitsOf}
 use Rattle.ground_core.specs.Meaning.{Satisfies}
 use Rattle.ground_core.specs.Growth.{with_clause}
 use Rattle.term_values.specs.GroundBases.{GroundBase, structure_of}
+use Rattle.term_values.specs.Rows.{rows_of_term}
 use Rattle.def_ground.specs.Answers.{GroundResult}
-use Rattle.def_ground.specs.CaseSentences.{or_clause}
+use Rattle.def_ground.specs.CaseSentences.{or_clause, assert_comparison}
+use Rattle.def_ground.specs.Counting.{has_aggregate}
 use Rattle.def_ground.specs.Disjuncts.{disjuncts_of}
 use Rattle.def_ground.specs.Forms.{Parts, with_answer, parts_each, signed_result, form_of}
 use Rattle.def_ground.specs.Sentences.{assert_of, assert_all, assert_any, assert_each, parts_clause, unless_settled}
@@ -24,8 +27,11 @@ use Rattle.def_ground.specs.Meanings.{Means, AssertsMore, HasAtoms, HasRoom}
 use Rattle.def_ground.specs.Laws.{AssertionIsRight}
 use Rattle.def_ground.specs.GroundForms.{IsGroundForm, AreGroundForms}
 use Rattle.def_ground.proofs.Growing.{lits-more}
-use Rattle.def_ground.proofs.FormLaws.{taken-fine, next-right, none-left, has-room, PartsMean}
-use Rattle.def_ground.proofs.Leaves.{form-is-right, atom-says, comparison-says}
+use Rattle.def_ground.proofs.FormSteps.{taken-fine, next-right, none-left, has-room, PartsMean}
+use Rattle.def_ground.proofs.FormLaws.{not-both, form-is-right}
+use Rattle.def_ground.proofs.Leaves.{atom-says, comparison-says}
+use Rattle.def_ground.proofs.SideValues.{all-has}
+use Rattle.def_ground.proofs.SplitTerms.{both-false, ground-plain}
 use Rattle.def_ground.proofs.AssertSteps.{any-of, Local, or-true, or-false, or-assoc, or-and, says-is, says-nothing}
 use Rattle.def_ground.proofs.AssertSteps.{says-clause, says-after, says-two, any-local, or-local, clause-right}
 use Rattle.def_ground.proofs.AssertSteps.{signed-truth, signed-means}
@@ -44,20 +50,20 @@ not-and false d = refl
 
 -- literals of instances
 each-any : (b : GroundBase) (G : List Elem → ProblemState → GroundResult) (F : List Elem → (ℕ → Bool) → Bool)
-    → ((a : List Elem) (p : ProblemState) → IsProblem p → HasAtoms b p → HasRoom b p
-    → Means p (G a p).problem (G a p).answer (F a))
-    → (as' : List (List Elem)) (ls : List Lit) (p : ProblemState) → IsProblem p → HasAtoms b p → HasRoom b p
+    (as' : List (List Elem)) → ((a : List Elem) → Has as' a → (p : ProblemState) → IsProblem p → HasAtoms b p
+    → HasRoom b p → Means p (G a p).problem (G a p).answer (F a))
+    → (ls : List Lit) (p : ProblemState) → IsProblem p → HasAtoms b p → HasRoom b p
     → AreLitsOf p.vars ls
     → (let r = parts_each G false as' ls p in
     PartsMean p r.problem false ls r.lits r.settled (λ v. list_any (λ a. F a v) as'))
-each-any b G F right [] ls p fine at room within = none-left p false ls (λ v. false) fine within (λ v. refl)
-each-any b G F right (a ∷ as') ls p fine at room within =
+each-any b G F [] right ls p fine at room within = none-left p false ls (λ v. false) fine within (λ v. refl)
+each-any b G F (a ∷ as') right ls p fine at room within =
     let g = G a p in
-    let one = right a p fine at room in
+    let one = right a (inl refl) p fine at room in
     next-right p g false ls (λ xs q. parts_each G false as' xs q) (F a) (λ v. list_any (λ a. F a v) as')
     (λ v. list_any (λ a. F a v) (a ∷ as')) (λ v. refl) within one
-    (each-any b G F right as' (with_answer g.answer ls) g.problem one.fine (λ v s. at v (one.more.restricts v s))
-    (has-room b p g.problem one.more room) (taken-fine p g ls (F a) within one))
+    (each-any b G F as' (λ c m. right c (inr m)) (with_answer g.answer ls) g.problem one.fine
+    (λ v s. at v (one.more.restricts v s)) (has-room b p g.problem one.more room) (taken-fine p g ls (F a) within one))
 
 -- literals of parts, unless they settle the whole, and then the rest
 unless-right : (p : ProblemState) (r : Parts) (ls : List Lit) (rest : List Lit → ProblemState → ProblemState)
@@ -102,6 +108,11 @@ either-says : (few : Bool) (p q r : ProblemState) (V : (ℕ → Bool) → Bool) 
 either-says true p q r V h k = h
 either-says false p q r V h k = k
 
+says-if : (p : ProblemState) (c : Bool) (q r : ProblemState) (V : (ℕ → Bool) → Bool) → (c ≡ true → AssertsMore p q V)
+    → (c ≡ false → AssertsMore p r V) → AssertsMore p (if c then q else r) V
+says-if p true q r V h k = h refl
+says-if p false q r V h k = k refl
+
 pub room-grown : (b : GroundBase) (p q : ProblemState) → p.vars ≤ q.vars → HasRoom b p → HasRoom b q
 room-grown b p q le h = record {
   same = λ v w e. h.same v w (λ k low high. e k low (omega (arith, high, le)));
@@ -132,16 +143,16 @@ module _ (b : GroundBase) where
 
   -- under each assignment
   each-says : (S : List Elem → ProblemState → ProblemState) (T : List Elem → Structure → Bool) (ls : List Lit)
-      → ((a : List Elem) (p : ProblemState) → IsProblem p → HasAtoms b p → HasRoom b p → AreLitsOf p.vars ls
-      → AssertsMore p (S a p) (λ v. any-of ls v || T a (structure_of b v)))
-      → (as' : List (List Elem)) (p : ProblemState) → IsProblem p → HasAtoms b p → HasRoom b p → AreLitsOf p.vars ls
+      (as' : List (List Elem)) → ((a : List Elem) → Has as' a → (p : ProblemState) → IsProblem p → HasAtoms b p
+      → HasRoom b p → AreLitsOf p.vars ls → AssertsMore p (S a p) (λ v. any-of ls v || T a (structure_of b v)))
+      → (p : ProblemState) → IsProblem p → HasAtoms b p → HasRoom b p → AreLitsOf p.vars ls
       → AssertsMore p (assert_each S as' p) (λ v. any-of ls v || list_all (λ a. T a (structure_of b v)) as')
-  each-says S T ls right [] p fine at room within =
+  each-says S T ls [] right p fine at room within =
       says-nothing p (λ v. any-of ls v || true) fine (λ v. or-true (any-of ls v))
-  each-says S T ls right (a ∷ as') p fine at room within =
+  each-says S T ls (a ∷ as') right p fine at room within =
       let q = S a p in
-      let one = right a p fine at room within in
-      let rest = each-says S T ls right as' q one.fine (λ v s. at v (one.gives v s).0)
+      let one = right a (inl refl) p fine at room within in
+      let rest = each-says S T ls as' (λ c m. right c (inr m)) q one.fine (λ v s. at v (one.gives v s).0)
       (room-grown b p q one.grows room) (lits-more p.vars q.vars one.grows ls within) in
       let W : (ℕ → Bool) → Bool = λ v. any-of ls v || list_all (λ a. T a (structure_of b v)) as' in
       says-is p (assert_each S as' q) (λ v. (any-of ls v || T a (structure_of b v)) && W v)
@@ -151,7 +162,7 @@ module _ (b : GroundBase) where
       (or-local p.vars (any-of ls) (λ v. list_all (λ a. T a (structure_of b v)) as') (any-local p.vars ls within)
       (truth-local p room (λ m. list_all (λ a. T a m) as'))) one rest)
 
-  leaf-says : (sign : Bool) (f : FormulaTree) (e : List Elem) (ls : List Lit) (p : ProblemState) → IsGroundForm b f
+  leaf-says : (sign : Bool) (f : FormulaTree) (e : List Elem) (ls : List Lit) (p : ProblemState) → IsGroundForm b f e
       → IsProblem p → HasAtoms b p → HasRoom b p → AreLitsOf p.vars ls
       → AssertsMore p (or_clause ls (signed_result sign (form_of b f e p)))
       (λ v. any-of ls v || signed-truth sign (truth_of (structure_of b v) f e))
@@ -164,7 +175,8 @@ module _ (b : GroundBase) where
 
   -- some instance, with the sign
   some-says : (sign : Bool) (f : FormulaTree) (e : List Elem) (as' : List (List Elem)) (ls : List Lit)
-      (p : ProblemState) → IsGroundForm b f → IsProblem p → HasAtoms b p → HasRoom b p → AreLitsOf p.vars ls
+      (p : ProblemState) → ((a : List Elem) → Has as' a → IsGroundForm b f (e ++ a)) → IsProblem p → HasAtoms b p
+      → HasRoom b p → AreLitsOf p.vars ls
       → AssertsMore p (parts_clause (parts_each (λ a q. signed_result sign (form_of b f (e ++ a) q)) false as' ls p))
       (λ v. any-of ls v || list_any (λ a. signed-truth sign (truth_of (structure_of b v) f (e ++ a))) as')
   some-says sign f e as' ls p h fine at room within =
@@ -172,13 +184,13 @@ module _ (b : GroundBase) where
       let F : List Elem → (ℕ → Bool) → Bool = λ a v. signed-truth sign (truth_of (structure_of b v) f (e ++ a)) in
       parts-clause p (parts_each G false as' ls p) ls (λ v. list_any (λ a. F a v) as') within
       (truth-local p room (λ m. list_any (λ a. signed-truth sign (truth_of m f (e ++ a))) as'))
-      (each-any b G F (λ a q fine at room. signed-means q sign (form_of b f (e ++ a) q)
+      (each-any b G F as' (λ a m q fine at room. signed-means q sign (form_of b f (e ++ a) q)
       (λ v. truth_of (structure_of b v) f (e ++ a))
-      (form-is-right b f (e ++ a) q fine at room h)) as' ls p fine at room within)
+      (form-is-right b f (e ++ a) q fine at room (h a m))) ls p fine at room within)
 
   mutual
     pub says-right : (sign : Bool) (f : FormulaTree) (e : List Elem) (ls : List Lit) (p : ProblemState)
-        → IsGroundForm b f → IsProblem p → HasAtoms b p → HasRoom b p → AreLitsOf p.vars ls
+        → IsGroundForm b f e → IsProblem p → HasAtoms b p → HasRoom b p → AreLitsOf p.vars ls
         → AssertsMore p (assert_of b sign f e ls p)
         (λ v. any-of ls v || signed-truth sign (truth_of (structure_of b v) f e))
     says-right true verum e ls p h fine at room within =
@@ -193,8 +205,21 @@ module _ (b : GroundBase) where
         says-nothing p (λ v. any-of ls v || true) fine (λ v. or-true (any-of ls v))
     says-right sign (atom s ts) e ls p h fine at room within =
         atom-says s ts b e p sign ls fine at room h within
-    says-right sign (comparison c x y) e ls p h fine at room within =
-        comparison-says c x y b e p sign ls fine at room h within
+    says-right sign (comparison c x y) e ls p (inl h) fine at room within =
+        let plain = both-false (has_aggregate x) (has_aggregate y) (ground-plain b x h.0) (ground-plain b y h.1) in
+        says-if p (has_aggregate x || has_aggregate y)
+        (or_clause ls (signed_result sign (form_of b (comparison c x y) e p)))
+        (assert_comparison sign c (rows_of_term b x e) (rows_of_term b y e) ls p)
+        (λ v. any-of ls v || signed-truth sign (truth_of (structure_of b v) (comparison c x y) e))
+        (λ is. absurd (not-both (has_aggregate x || has_aggregate y) is plain))
+        (λ none. comparison-says c x y b e p sign ls fine at room h within)
+    says-right sign (comparison c x y) e ls p (inr h) fine at room within =
+        says-if p (has_aggregate x || has_aggregate y)
+        (or_clause ls (signed_result sign (form_of b (comparison c x y) e p)))
+        (assert_comparison sign c (rows_of_term b x e) (rows_of_term b y e) ls p)
+        (λ v. any-of ls v || signed-truth sign (truth_of (structure_of b v) (comparison c x y) e))
+        (λ is. leaf-says sign (comparison c x y) e ls p (inr h) fine at room within)
+        (λ none. absurd (not-both (has_aggregate x || has_aggregate y) h.0 none))
     says-right sign (equivalence f g) e ls p h fine at room within =
         let x = form_of b f e p in
         let y = form_of b g e x.problem in
@@ -204,7 +229,8 @@ module _ (b : GroundBase) where
         alike-says p x.problem y.problem ls (λ v. truth_of (structure_of b v) f e)
         (λ v. truth_of (structure_of b v) g e) within (truth-local p room (λ m. truth_of m f e))
         (truth-local p room (λ m. truth_of m g e)) sign x.answer y.answer one two
-    says-right sign (numbered c n bs f) e ls p h fine at room within = absurd h
+    says-right sign (numbered c n bs f) e ls p h fine at room within =
+        leaf-says sign (numbered c n bs f) e ls p h fine at room within
     says-right sign (negation f) e ls p h fine at room within =
         says-is p (assert_of b (not sign) f e ls p)
         (λ v. any-of ls v || signed-truth (not sign) (truth_of (structure_of b v) f e))
@@ -244,17 +270,21 @@ module _ (b : GroundBase) where
         (truth-local p room (λ m. not (truth_of m g e)))) one two)
     says-right true (universal bs f) e ls p h fine at room within =
         each-says (λ a q. assert_of b true f (e ++ a) ls q) (λ a m. truth_of m f (e ++ a)) ls
-        (λ a q fine at room within. says-right true f (e ++ a) ls q h fine at room within)
-        (choices b.domains bs) p fine at room within
+        (choices b.domains bs)
+        (λ a m q fine at room within. says-right true f (e ++ a) ls q
+        (all-has (λ a. IsGroundForm b f (e ++ a)) (choices b.domains bs) a h m) fine at room within) p fine at room
+        within
     says-right false (universal bs f) e ls p h fine at room within =
         says-is p (assert_of b false (universal bs f) e ls p)
         (λ v. any-of ls v || list_any (λ a. not (truth_of (structure_of b v) f (e ++ a))) (choices b.domains bs))
         (λ v. any-of ls v || not (list_all (λ a. truth_of (structure_of b v) f (e ++ a)) (choices b.domains bs)))
         (λ v. ap (λ c. any-of ls v || c)
         (some-not (λ a. truth_of (structure_of b v) f (e ++ a)) (choices b.domains bs)))
-        (some-says false f e (choices b.domains bs) ls p h fine at room within)
+        (some-says false f e (choices b.domains bs) ls p
+        (λ a m. all-has (λ a. IsGroundForm b f (e ++ a)) (choices b.domains bs) a h m) fine at room within)
     says-right true (existential bs f) e ls p h fine at room within =
-        some-says true f e (choices b.domains bs) ls p h fine at room within
+        some-says true f e (choices b.domains bs) ls p
+        (λ a m. all-has (λ a. IsGroundForm b f (e ++ a)) (choices b.domains bs) a h m) fine at room within
     says-right false (existential bs f) e ls p h fine at room within =
         says-is p (assert_of b false (existential bs f) e ls p)
         (λ v. any-of ls v || list_all (λ a. not (truth_of (structure_of b v) f (e ++ a))) (choices b.domains bs))
@@ -262,11 +292,13 @@ module _ (b : GroundBase) where
         (λ v. ap (λ c. any-of ls v || c)
         (every-not (λ a. truth_of (structure_of b v) f (e ++ a)) (choices b.domains bs)))
         (each-says (λ a q. assert_of b false f (e ++ a) ls q) (λ a m. not (truth_of m f (e ++ a))) ls
-        (λ a q fine at room within. says-right false f (e ++ a) ls q h fine at room within)
-        (choices b.domains bs) p fine at room within)
+        (choices b.domains bs)
+        (λ a m q fine at room within. says-right false f (e ++ a) ls q
+        (all-has (λ a. IsGroundForm b f (e ++ a)) (choices b.domains bs) a h m) fine at room within) p fine at room
+        within)
 
     all-says : (sign : Bool) (fs : FormulaTrees) (e : List Elem) (ls : List Lit) (p : ProblemState)
-        → AreGroundForms b fs → IsProblem p → HasAtoms b p → HasRoom b p → AreLitsOf p.vars ls
+        → AreGroundForms b fs e → IsProblem p → HasAtoms b p → HasRoom b p → AreLitsOf p.vars ls
         → AssertsMore p (assert_all b sign fs e ls p) (λ v. any-of ls v || all-signed sign (structure_of b v) fs e)
     all-says sign no_formulas e ls p h fine at room within =
         says-nothing p (λ v. any-of ls v || all-signed sign (structure_of b v) no_formulas e) fine
@@ -289,7 +321,7 @@ module _ (b : GroundBase) where
         (truth-local p room (λ m. all-signed sign m fs e))) one two)
 
     any-says : (sign : Bool) (fs : FormulaTrees) (e : List Elem) (ls : List Lit) (p : ProblemState)
-        → AreGroundForms b fs → IsProblem p → HasAtoms b p → HasRoom b p → AreLitsOf p.vars ls
+        → AreGroundForms b fs e → IsProblem p → HasAtoms b p → HasRoom b p → AreLitsOf p.vars ls
         → AssertsMore p (assert_any b sign fs e ls p) (λ v. any-of ls v || any-signed sign (structure_of b v) fs e)
     any-says sign no_formulas e ls p h fine at room within =
         says-is p (with_clause p ls) (any-of ls) (λ v. any-of ls v || any-signed sign (structure_of b v) no_formulas e)

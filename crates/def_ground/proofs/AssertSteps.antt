@@ -18,7 +18,7 @@ use Rattle.def_ground.specs.Cases.{with_clauses}
 use Rattle.def_ground.specs.CaseSentences.{or_clause}
 use Rattle.def_ground.specs.Forms.{settles, with_answer, signed_result}
 use Rattle.def_ground.specs.Meanings.{Means, AssertsMore}
-use Rattle.def_ground.proofs.FormLaws.{taken-value, taken-fine, means-not}
+use Rattle.def_ground.proofs.FormSteps.{taken-value, taken-fine, means-not}
 
 abbrev pub any-of : List Lit → (ℕ → Bool) → Bool
 any-of ls v = list_any (literal_value v) ls

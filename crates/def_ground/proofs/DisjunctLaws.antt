@@ -13,8 +13,8 @@ use Rattle.def_ground.specs.Forms.{Parts, with_answer, no_more_parts, signed_res
 use Rattle.def_ground.specs.Disjuncts.{more_parts, own_part, disjuncts_of, all_disjuncts}
 use Rattle.def_ground.specs.Meanings.{HasAtoms, HasRoom}
 use Rattle.def_ground.specs.GroundForms.{IsGroundForm, AreGroundForms}
-use Rattle.def_ground.proofs.FormLaws.{taken-fine, next-right, none-left, has-room, PartsMean}
-use Rattle.def_ground.proofs.Leaves.{form-is-right}
+use Rattle.def_ground.proofs.FormSteps.{taken-fine, next-right, none-left, has-room, PartsMean}
+use Rattle.def_ground.proofs.FormLaws.{form-is-right}
 use Rattle.def_ground.proofs.AssertSteps.{any-of, or-false, or-assoc, signed-truth, signed-means}
 use Rattle.def_ground.proofs.SignedTruths.{any-signed, any-none, any-step, signed-not}
 
@@ -56,7 +56,7 @@ module _ (b : GroundBase) where
   SaysPart sign f e ls p r =
       PartsMean p r.problem false ls r.lits r.settled (λ v. signed-truth sign (truth_of (structure_of b v) f e))
 
-  own-right : (sign : Bool) (f : FormulaTree) (e : List Elem) (ls : List Lit) (p : ProblemState) → IsGroundForm b f
+  own-right : (sign : Bool) (f : FormulaTree) (e : List Elem) (ls : List Lit) (p : ProblemState) → IsGroundForm b f e
       → IsProblem p → HasAtoms b p → HasRoom b p → AreLitsOf p.vars ls
       → SaysPart sign f e ls p (own_part b sign f e ls p)
   own-right sign f e ls p h fine at room within =
@@ -70,7 +70,7 @@ module _ (b : GroundBase) where
 
   mutual
     pub disjuncts-right : (sign : Bool) (f : FormulaTree) (e : List Elem) (ls : List Lit) (p : ProblemState)
-        → IsGroundForm b f → IsProblem p → HasAtoms b p → HasRoom b p → AreLitsOf p.vars ls
+        → IsGroundForm b f e → IsProblem p → HasAtoms b p → HasRoom b p → AreLitsOf p.vars ls
         → (let r = disjuncts_of b sign f e ls p in
         PartsMean p r.problem false ls r.lits r.settled (λ v. signed-truth sign (truth_of (structure_of b v) f e)))
     disjuncts-right sign verum e ls p h fine at room within = own-right sign verum e ls p h fine at room within
@@ -85,7 +85,8 @@ module _ (b : GroundBase) where
         own-right sign (universal bs f) e ls p h fine at room within
     disjuncts-right sign (existential bs f) e ls p h fine at room within =
         own-right sign (existential bs f) e ls p h fine at room within
-    disjuncts-right sign (numbered c n bs f) e ls p h fine at room within = absurd h
+    disjuncts-right sign (numbered c n bs f) e ls p h fine at room within =
+        own-right sign (numbered c n bs f) e ls p h fine at room within
     disjuncts-right sign (negation f) e ls p h fine at room within =
         let r = disjuncts_of b (not sign) f e ls p in
         let k = disjuncts-right (not sign) f e ls p h fine at room within in
@@ -116,7 +117,7 @@ module _ (b : GroundBase) where
         own-right false (implication f g) e ls p h fine at room within
 
     all-disjuncts-right : (sign : Bool) (fs : FormulaTrees) (e : List Elem) (ls : List Lit) (p : ProblemState)
-        → AreGroundForms b fs → IsProblem p → HasAtoms b p → HasRoom b p → AreLitsOf p.vars ls
+        → AreGroundForms b fs e → IsProblem p → HasAtoms b p → HasRoom b p → AreLitsOf p.vars ls
         → (let r = all_disjuncts b sign fs e ls p in
         PartsMean p r.problem false ls r.lits r.settled (λ v. any-signed sign (structure_of b v) fs e))
     all-disjuncts-right sign no_formulas e ls p h fine at room within =

@@ -1,419 +1,312 @@
 -- What a formula comes to, by induction.
-use Rattle.std.proofs.Common.{◌≡◌, ℕ, ◌+◌, Bool, true, false, not, ◌&&◌, ◌||◌, List, [], ◌∷◌, ◌++◌, All, if◌then◌else◌}
-use Rattle.std.proofs.Common.{refl, sym, ap, ◌∙◌, arith}
-use Rattle.std.specs.Bool.{beq}
-use Rattle.std.specs.List.{list_all, list_any}
-use Rattle.std.proofs.lemmas.List.Elements.{All-cons, All-nil, All-push}
-use Rattle.std.proofs.lemmas.List.Folds.{list_all-append, list_any-append}
+use Rattle.std.proofs.Common.{◌≡◌, ℕ, ◌+◌, ℤ, pos, neg_ℤ, ◌+ℤ◌, ◌-ℤ◌, ◌*ℤ◌, Bool, true, false, not, ◌||◌, List, []}
+use Rattle.std.proofs.Common.{◌∷◌, ◌++◌, if◌then◌else◌, Some, None, cond, fold, refl, sym, ap, subst}
+use Rattle.std.proofs.Common.{◌∙◌}
+use Rattle.std.proofs.Common.{arith, inl, inr}
+use Rattle.std.specs.List.{list_all, list_any, count_by, AllByRecursion}
+use Rattle.std.proofs.lemmas.Int.{ints}
+use Rattle.std.proofs.lemmas.List.Elements.{All-nil}
+use Rattle.std.proofs.lemmas.List.Sums.{sum_by-cons}
 use Rattle.kb_logic.specs.declared.elements.Elem.{Elem}
-use Rattle.kb_logic.specs.declared.structures.Structure.{Structure}
+use Rattle.kb_logic.specs.declared.syntax.AggKind.{AggKind}
+use Rattle.kb_logic.specs.declared.syntax.AggKind.TheVariants as kind
 use Rattle.kb_logic.specs.declared.syntax.Cmp.{Cmp}
-use Rattle.kb_logic.specs.Trees.{TermTree, TermTrees, FormulaTree, verum, falsum, atom, comparison, negation}
+use Rattle.kb_logic.specs.declared.vocabularies.Bound.{Bound}
+use Rattle.kb_logic.specs.Denotations.{number}
+use Rattle.kb_logic.specs.Trees.{TermTree, variable, integer, constructed, application, summation, product, aggregate}
+use Rattle.kb_logic.specs.Trees.{TermTrees, no_terms, more_terms, SummandTrees, no_summands, more_summands}
+use Rattle.kb_logic.specs.Trees.{FormulaTree, verum, falsum, atom, comparison, negation}
 use Rattle.kb_logic.specs.Trees.{conjunction, disjunction, implication, equivalence, universal, existential, numbered}
 use Rattle.kb_logic.specs.Trees.{FormulaTrees, no_formulas, more_formulas}
 use Rattle.kb_logic.specs.Structures.{choices}
-use Rattle.kb_logic.specs.Meaning.{truth_of, all_true, any_true, same_truth}
+use Rattle.kb_logic.specs.Meaning.{value_of, truth_of, all_true, any_true, signed_of}
+use Rattle.kb_logic.proofs.Has.{Has}
 use Rattle.lit_core.specs.declared.literals.Lit.{Lit}
-use Rattle.lit_core.specs.Literals.{literal_value, negated, by_sign}
-use Rattle.lit_core.proofs.Soundness.{value-negated}
-use Rattle.ground_core.specs.declared.parts.Gate.{Gate}
-use Rattle.ground_core.specs.Problems.{ProblemState, IsProblem, IsLitOf, AreLitsOf, IsGateOf}
-use Rattle.ground_core.specs.Meaning.{Satisfies, joined}
-use Rattle.ground_core.specs.More.{DefinesMore}
-use Rattle.ground_core.specs.Growth.{next_lit, with_same, clauses_of_same}
-use Rattle.ground_core.proofs.Fronts.{All-front}
-use Rattle.ground_core.proofs.Mores.{more-trans, gate-added, same-added}
-use Rattle.def_ground.specs.declared.answers.Answer.{Answer}
-use Rattle.def_ground.specs.declared.answers.Answer.TheVariants.{Constant, Literal}
+use Rattle.ground_core.specs.Problems.{ProblemState, IsProblem, IsLitOf, AreLitsOf}
 use Rattle.term_values.specs.GroundBases.{GroundBase, structure_of}
-use Rattle.def_ground.specs.Answers.{GroundResult, answer_value, opposite_of, gate_of, AnswerWithin}
-use Rattle.def_ground.specs.Forms.{Parts, settles, with_answer, next_parts, no_more_parts, parts_each, close_parts}
-use Rattle.def_ground.specs.Forms.{opposite_result, same_of, form_of, parts_of}
+use Rattle.term_values.specs.Rows.{rows_of_term}
+use Rattle.def_ground.specs.Answers.{GroundResult, opposite_of}
+use Rattle.def_ground.specs.Comparisons.{comparison_of}
+use Rattle.def_ground.specs.Counting.{has_aggregate, have_aggregates, sum_has_aggregate, integer_factor, extreme_of}
+use Rattle.def_ground.specs.Forms.{with_answer, next_parts, no_more_parts, parts_each, no_parts_yet, compared_sides}
+use Rattle.def_ground.specs.Forms.{opposite_result, form_of, parts_of, sums_of, sums_of_summands, sums_of_factors}
+use Rattle.def_ground.specs.GroundForms.{IsGroundForm, AreGroundForms, IsGroundSide, IsAddend, AreGroundAddends}
+use Rattle.def_ground.specs.GroundForms.{IsOneAddend}
+use Rattle.def_ground.specs.Laws.{FormIsRight}
+use Rattle.def_ground.specs.Linear.{Linear, instance_step}
+use Rattle.def_ground.specs.LinearValues.{Comes, joined_values}
 use Rattle.def_ground.specs.Meanings.{Means, HasAtoms, HasRoom}
-use Rattle.def_ground.specs.GroundForms.{IsGroundForm, AreGroundForms}
-use Rattle.def_ground.proofs.Growing.{more-refl, lit-more, lits-more, problem-grown}
+use Rattle.def_ground.proofs.ComparedSides.{AreRight, comes-is, adding-comes, extreme-comes, joined-sum, IsSplit}
+use Rattle.def_ground.proofs.ComparedSides.{compared-right}
+use Rattle.def_ground.proofs.FormSteps.{closed-right, constant-right, parts-none, parts-more, each-none, each-more}
+use Rattle.def_ground.proofs.FormSteps.{PartsMean, next-right, none-left, taken-fine, means-not, iff-right, or-false}
+use Rattle.def_ground.proofs.FormSteps.{parts-truth, each-truth}
+use Rattle.def_ground.proofs.Leaves.{atom-right, comparison-right}
+use Rattle.def_ground.proofs.LinearInstances.{instances-come}
+use Rattle.def_ground.proofs.LinearStart.{start-comes}
+use Rattle.def_ground.proofs.Products.{times-plus, times-assoc, times-zero, one-times, neg-times, signed-times}
+use Rattle.def_ground.proofs.SideValues.{weight_sum, all-has, addend-splits}
+use Rattle.def_ground.proofs.SplitTerms.{counted_in, counted_summands, counted_factors, no-factor-counted, ground-plain}
+use Rattle.def_ground.proofs.SplitTerms.{grounds-plain, both-false, neither, nothing-counted, integer-plain}
+use Rattle.def_ground.proofs.SplitTerms.{integers-plain}
+use Rattle.def_ground.proofs.ThresholdComparisons.{comes-compared}
+use Rattle.def_ground.proofs.FormSteps.{has-atoms, has-room}
 
-abbrev pub joint : Bool → Bool → Bool → Bool
-joint true a b = a && b
-joint false a b = a || b
+-- ---- choices that are settled
 
-and-true : (c : Bool) → (c && true) ≡ c
-and-true true = refl
-and-true false = refl
+means-if : (p : ProblemState) (c : Bool) (x y : GroundResult) (V : (ℕ → Bool) → Bool)
+    → (c ≡ true → Means p x.problem x.answer V) → (c ≡ false → Means p y.problem y.answer V)
+    → (let g = if c then x else y in Means p g.problem g.answer V)
+means-if p true x y V h k = h refl
+means-if p false x y V h k = k refl
 
-or-false : (c : Bool) → (c || false) ≡ c
-or-false true = refl
-or-false false = refl
+comes-if : (p : ProblemState) (c : Bool) (x y : Linear) (V : (ℕ → Bool) → ℤ)
+    → (c ≡ true → Comes kind.Sum p x (λ v. number (V v))) → (c ≡ false → Comes kind.Sum p y (λ v. number (V v)))
+    → Comes kind.Sum p (if c then x else y) (λ v. number (V v))
+comes-if p true x y V h k = h refl
+comes-if p false x y V h k = k refl
 
-joint-assoc : (all x y z : Bool) → joint all (joint all x y) z ≡ joint all x (joint all y z)
-joint-assoc true true y z = refl
-joint-assoc true false y z = refl
-joint-assoc false true y z = refl
-joint-assoc false false y z = refl
+pub not-both : (c : Bool) → c ≡ true → c ≡ false → ⊥
+not-both true h k = absurd cc
+not-both false h k = absurd cc
 
-absorbed : (all c : Bool) → joint all (not all) c ≡ not all
-absorbed true c = refl
-absorbed false c = refl
+-- ---- sides
 
-neutral : (all c : Bool) → joint all all c ≡ c
-neutral true c = refl
-neutral false c = refl
+-- what the comparison of two sides comes to where there are aggregates
+abbrev sides_of : GroundBase → Cmp → TermTree → TermTree → List Elem → ProblemState → GroundResult
+sides_of b c x y e p =
+    let left = sums_of b (pos 1) x e (no_parts_yet p) in
+    compared_sides (extreme_of x) (extreme_of y) c left (sums_of b (pos 1) y e (no_parts_yet p))
+    (sums_of b (neg_ℤ (pos 1)) y e left) (rows_of_term b x e) (rows_of_term b y e)
 
-neutral-right : (all c : Bool) → joint all c all ≡ c
-neutral-right true c = and-true c
-neutral-right false c = or-false c
+-- a minimum or a maximum stands opposite a side without aggregates
+extreme-alone : (b : GroundBase) (x : TermTree) (other : Bool) (e : List Elem) (k : AggKind) → extreme_of x ≡ Some k
+    → IsGroundSide b other x e → other ≡ false
+extreme-alone b (variable n) other e k is h = absurd cc
+extreme-alone b (integer z) other e k is h = absurd cc
+extreme-alone b (constructed ty n) other e k is h = absurd cc
+extreme-alone b (application s ts) other e k is h = absurd cc
+extreme-alone b (summation ss) other e k is h = absurd cc
+extreme-alone b (product ts) other e k is h = absurd cc
+extreme-alone b (aggregate kind.Count bs f t) other e k is h = absurd cc
+extreme-alone b (aggregate kind.Sum bs f t) other e k is h = absurd cc
+extreme-alone b (aggregate kind.Min bs f t) other e k is h = h.0
+extreme-alone b (aggregate kind.Max bs f t) other e k is h = h.0
 
-joined-none : (all : Bool) (v : ℕ → Bool) → joined all v [] ≡ all
-joined-none true v = refl
-joined-none false v = refl
+-- a side that is no minimum or maximum is an operand of a sum
+pub adding-side : (b : GroundBase) (other : Bool) (x : TermTree) (e : List Elem) → extreme_of x ≡ None
+    → IsGroundSide b other x e → IsAddend b x e
+adding-side b other (variable n) e none h = h
+adding-side b other (integer z) e none h = h
+adding-side b other (constructed ty n) e none h = h
+adding-side b other (application s ts) e none h = h
+adding-side b other (summation ss) e none h = h
+adding-side b other (product ts) e none h = h
+adding-side b other (aggregate kind.Count bs f t) e none h = h
+adding-side b other (aggregate kind.Sum bs f t) e none h = h
+adding-side b other (aggregate kind.Min bs f t) e none h = absurd cc
+adding-side b other (aggregate kind.Max bs f t) e none h = absurd cc
 
-joined-one : (all : Bool) (v : ℕ → Bool) (l : Lit) → literal_value v l ≡ joined all v (l ∷ [])
-joined-one true v l = sym (and-true (literal_value v l))
-joined-one false v l = sym (or-false (literal_value v l))
+plain-extreme : (x : TermTree) → has_aggregate x ≡ false → extreme_of x ≡ None
+plain-extreme (variable n) h = refl
+plain-extreme (integer z) h = refl
+plain-extreme (constructed ty n) h = refl
+plain-extreme (application s ts) h = refl
+plain-extreme (summation ss) h = refl
+plain-extreme (product ts) h = refl
+plain-extreme (aggregate k bs f t) h = absurd cc
 
-joined-push : (all : Bool) (v : ℕ → Bool) (ls : List Lit) (l : Lit)
-    → joined all v (ls ++ l ∷ []) ≡ joint all (joined all v ls) (literal_value v l)
-joined-push true v ls l =
-    list_all-append (literal_value v) ls (l ∷ [])
-    ∙ ap (λ c. list_all (literal_value v) ls && c) (and-true (literal_value v l))
-joined-push false v ls l =
-    list_any-append (literal_value v) ls (l ∷ [])
-    ∙ ap (λ c. list_any (literal_value v) ls || c) (or-false (literal_value v l))
+-- a term without aggregates adds no parts
+module _ (b : GroundBase) where
+  mutual
+    no-parts : (t : TermTree) (z : ℤ) (e : List Elem) (st : Linear) → has_aggregate t ≡ false → sums_of b z t e st ≡ st
+    no-parts (variable n) z e st h = refl
+    no-parts (integer y) z e st h = refl
+    no-parts (constructed ty n) z e st h = refl
+    no-parts (application s ts) z e st h = refl
+    no-parts (summation ss) z e st h = no-operand-parts ss z e st h
+    no-parts (product ts) z e st h =
+        ap (λ c. if c then sums_of_factors b (z *ℤ integer_factor ts) ts e st else st) h
+    no-parts (aggregate k bs f t) z e st h = absurd cc
 
-constant-again : (all c : Bool) (j : Bool) → (if not (beq c all) then not all else j) ≡ joint all j c
-constant-again true true j = sym (and-true j)
-constant-again true false j = last j
+    no-operand-parts : (ss : SummandTrees) (z : ℤ) (e : List Elem) (st : Linear) → sum_has_aggregate ss ≡ false
+        → sums_of_summands b z ss e st ≡ st
+    no-operand-parts no_summands z e st h = refl
+    no-operand-parts (more_summands minus t ss) z e st h =
+        let both = neither (has_aggregate t) (sum_has_aggregate ss) h in
+        ap (sums_of_summands b z ss e) (no-parts t (signed_of minus z) e st both.0)
+        ∙ no-operand-parts ss z e st both.1
+
+  no-factor-parts : (ts : TermTrees) (z : ℤ) (e : List Elem) (st : Linear) → have_aggregates ts ≡ false
+      → sums_of_factors b z ts e st ≡ st
+  no-factor-parts no_terms z e st h = refl
+  no-factor-parts (more_terms t ts) z e st h =
+      let both = neither (has_aggregate t) (have_aggregates ts) h in
+      ap (sums_of_factors b z ts e) (no-parts t z e st both.0) ∙ no-factor-parts ts z e st both.1
+
+-- the next sum, with what was before
+sum-after : (z : ℤ) (minus : Bool) (y c s : ℤ)
+    → (y +ℤ signed_of minus z *ℤ c) +ℤ z *ℤ s ≡ y +ℤ z *ℤ (signed_of minus c +ℤ s)
+sum-after z minus y c s =
+    let e = signed-times minus z c in let f = times-plus z (signed_of minus c) s in omega (arith, ints, e, f)
+
+factor-after : (z y c s : ℤ) → (y +ℤ z *ℤ c) +ℤ z *ℤ s ≡ y +ℤ z *ℤ (c +ℤ s)
+factor-after z y c s = let f = times-plus z c s in omega (arith, ints, f)
+
+scaled : (z y f c : ℤ) → y +ℤ (z *ℤ f) *ℤ c ≡ y +ℤ z *ℤ (f *ℤ c)
+scaled z y f c = ap (λ x. y +ℤ x) (times-assoc z f c)
+
+unscaled : (z y f c : ℤ) → c ≡ pos 0 → y ≡ y +ℤ z *ℤ (f *ℤ c)
+unscaled z y f c none =
+    let e = ap (λ x. z *ℤ (f *ℤ x)) none ∙ ap (λ x. z *ℤ x) (times-zero f) ∙ times-zero z in omega (arith, ints, e)
+
+nothing-more : (z y c : ℤ) → c ≡ pos 0 → y ≡ y +ℤ z *ℤ c
+nothing-more z y c none = let e = ap (λ x. z *ℤ x) none ∙ times-zero z in omega (arith, ints, e)
+
+last-factor : (z y c s : ℤ) → s ≡ pos 0 → y +ℤ z *ℤ c ≡ y +ℤ z *ℤ (c +ℤ s)
+last-factor z y c s none = let same : c ≡ c +ℤ s = omega (arith, ints, none) in ap (λ x. y +ℤ z *ℤ x) same
+
+first-factor : (z y c s : ℤ) → c ≡ pos 0 → y +ℤ z *ℤ s ≡ y +ℤ z *ℤ (c +ℤ s)
+first-factor z y c s none = let same : s ≡ c +ℤ s = omega (arith, ints, none) in ap (λ x. y +ℤ z *ℤ x) same
+
+difference : (x y : ℤ) → (pos 0 +ℤ pos 1 *ℤ x) +ℤ neg_ℤ (pos 1) *ℤ y ≡ x -ℤ y
+difference x y =
+    let e = one-times x in
+    let f = neg-times (pos 1) y in
+    let g = one-times y in omega (arith, ints, e, f, g)
+
+-- ---- number quantifiers
+
+-- how many instances are true
+counted-instances : (T : List Elem → Bool) (as' : List (List Elem))
+    → pos (count_by T as') ≡ weight_sum T (λ a. pos 1) as'
+counted-instances T [] = refl
+counted-instances T (a ∷ as') =
+    ap pos (sum_by-cons (λ c. cond (T c) 1 0) a as') ∙ by_truth (T a) (counted-instances T as')
   where
-    last : (k : Bool) → false ≡ (k && false)
-    last true = refl
-    last false = refl
-constant-again false true j = last j
-  where
-    last : (k : Bool) → true ≡ (k || true)
-    last true = refl
-    last false = refl
-constant-again false false j = sym (or-false j)
+    by_truth : (c : Bool) → pos (count_by T as') ≡ weight_sum T (λ a. pos 1) as'
+        → pos (cond c 1 0 + count_by T as') ≡ (if c then pos 1 else pos 0) +ℤ weight_sum T (λ a. pos 1) as'
+    by_truth true e = omega (arith, ints, e)
+    by_truth false e = omega (arith, ints, e)
 
-pub taken-value : (all : Bool) (a : Answer) (ls : List Lit) (v : ℕ → Bool)
-    → (if settles all a then not all else joined all v (with_answer a ls)) ≡ joint all (joined all v ls)
-    (answer_value v a)
-taken-value all (Constant c) ls v = constant-again all c (joined all v ls)
-taken-value all (Literal l) ls v = joined-push all v ls l
-
-taken-within : (n : ℕ) (a : Answer) (ls : List Lit) → AreLitsOf n ls → AnswerWithin n a → AreLitsOf n (with_answer a ls)
-taken-within n (Constant c) ls h k = h
-taken-within n (Literal l) ls h k = All-push (IsLitOf n) ls l h k
-
--- what the literals say, with what is left
-pub record PartsMean (p q : ProblemState) (all : Bool) (ls ks : List Lit) (s : Bool)
-    (F : (ℕ → Bool) → Bool) : Type 0 where
-  pub fine : IsProblem q
-  pub more : DefinesMore p q
-  pub within : AreLitsOf q.vars ks
-  pub right : (v : ℕ → Bool) → Satisfies q v
-      → (if s then not all else joined all v ks) ≡ joint all (joined all v ls) (F v)
-
-next-by : (s : Bool) (p q : ProblemState) (a : Answer) (all : Bool) (ls : List Lit) (rest : Parts)
-    (F G H : (ℕ → Bool) → Bool) → s ≡ settles all a → ((v : ℕ → Bool) → H v ≡ joint all (F v) (G v))
-    → AreLitsOf p.vars ls
-    → Means p q a F → PartsMean q rest.problem all (with_answer a ls) rest.lits rest.settled G
-    → (let r : Parts = (if s then record { settled = true; lits = with_answer a ls; problem = q } else rest) in
-    PartsMean p r.problem all ls r.lits r.settled H)
-next-by true p q a all ls rest F G H is law within h k = record {
-  fine = h.fine;
-  more = h.more;
-  within = taken-within q.vars a ls (lits-more p.vars q.vars h.more.grows ls within) h.within;
-  right = λ v t.
-      let J = joined all v ls in
-      let here : not all ≡ joint all J (F v) = ap (λ c. if c then not all else joined all v (with_answer a ls)) is
-      ∙ taken-value all a ls v ∙ ap (joint all J) (h.right v t) in
-      sym (absorbed all (G v)) ∙ ap (λ c. joint all c (G v)) here ∙ joint-assoc all J (F v) (G v)
-      ∙ ap (joint all J) (sym (law v));
-}
-next-by false p q a all ls rest F G H is law within h k = record {
-  fine = k.fine;
-  more = more-trans p q rest.problem h.more k.more;
-  within = k.within;
-  right = λ v t.
-      let J = joined all v ls in
-      let here : joined all v (with_answer a ls) ≡ joint all J (F v) = ap
-      (λ c. if c then not all else joined all v (with_answer a ls)) is ∙ taken-value all a ls v
-      ∙ ap (joint all J) (h.right v (k.more.restricts v t)) in
-      k.right v t ∙ ap (λ c. joint all c (G v)) here ∙ joint-assoc all J (F v) (G v) ∙ ap (joint all J) (sym (law v));
-}
-
-pub next-right : (p : ProblemState) (g : GroundResult) (all : Bool) (ls : List Lit)
-    (rest : List Lit → ProblemState → Parts) (F G H : (ℕ → Bool) → Bool)
-    → ((v : ℕ → Bool) → H v ≡ joint all (F v) (G v)) → AreLitsOf p.vars ls
-    → Means p g.problem g.answer F
-    → (let t = rest (with_answer g.answer ls) g.problem in
-    PartsMean g.problem t.problem all (with_answer g.answer ls) t.lits t.settled G)
-    → (let r = next_parts all g ls rest in PartsMean p r.problem all ls r.lits r.settled H)
-next-right p g all ls rest F G H law within h k =
-    next-by (settles all g.answer) p g.problem g.answer all ls
-    (rest (with_answer g.answer ls) g.problem) F G H refl law within h k
-
-pub taken-fine : (p : ProblemState) (g : GroundResult) (ls : List Lit) (F : (ℕ → Bool) → Bool) → AreLitsOf p.vars ls
-    → Means p g.problem g.answer F → AreLitsOf g.problem.vars (with_answer g.answer ls)
-taken-fine p g ls F within h =
-    taken-within g.problem.vars g.answer ls (lits-more p.vars g.problem.vars h.more.grows ls within) h.within
-
-pub none-left : (p : ProblemState) (all : Bool) (ls : List Lit) (F : (ℕ → Bool) → Bool) → IsProblem p
-    → AreLitsOf p.vars ls → ((v : ℕ → Bool) → F v ≡ all) → PartsMean p p all ls ls false F
-none-left p all ls F fine within e =
-    record {
-      fine = fine;
-      more = more-refl p;
-      within = within;
-      right = λ v s. sym
-          (ap (joint all (joined all v ls)) (e v) ∙ neutral-right all (joined all v ls));
-    }
-
-pub gate-right : (p : ProblemState) (all : Bool) (ls : List Lit) → IsProblem p → AreLitsOf p.vars ls
-    → Means p (gate_of all ls p).problem (gate_of all ls p).answer (λ v. joined all v ls)
-gate-right p all [] fine within =
-    record { fine = fine; more = more-refl p; within = tt; right = λ v s. sym (joined-none all v) }
-gate-right p all (l ∷ []) fine within =
-    record { fine = fine; more = more-refl p; within = within 0 l (omega arith); right = λ v s. joined-one all v l }
-gate-right p all (l ∷ m ∷ ls) fine within =
-    let add = gate-added p all (l ∷ m ∷ ls) fine within in
-    let g : Gate = record { out = next_lit p; all = all; parts = l ∷ m ∷ ls } in
-    let grown = problem-grown p (p.vars + 1) (g ∷ []) [] fine (omega arith)
-    (All-cons (IsGateOf (p.vars + 1)) g []
-    ((omega arith, omega arith), lits-more p.vars (p.vars + 1) (omega arith) (l ∷ m ∷ ls) within)
-    (All-nil (IsGateOf (p.vars + 1)))) (All-nil (AreLitsOf (p.vars + 1))) in
-    record {
-      fine =
-          record {
-            atoms = grown.atoms;
-            gates = grown.gates;
-            clauses = All-front
-                (AreLitsOf (p.vars + 1)) p.clauses [] grown.clauses;
-            sums = grown.sums;
-            terms = grown.terms;
-            bounds = grown.bounds;
-            retired = grown.retired;
-          };
-      more = add.more;
-      within = add.within;
-      right = add.means;
-    }
-
-pub means-then : (p q r : ProblemState) (a : Answer) (F G : (ℕ → Bool) → Bool) → DefinesMore p q → Means q r a F
-    → ((v : ℕ → Bool) → Satisfies q v → F v ≡ G v) → Means p r a G
-means-then p q r a F G m h e =
-    record {
-      fine = h.fine;
-      more = more-trans p q r m h.more;
-      within = h.within;
-      right = λ v s. h.right v s
-          ∙ e v (h.more.restricts v s);
-    }
-
-closed-right : (p : ProblemState) (all : Bool) (r : Parts) (H : (ℕ → Bool) → Bool)
-    → PartsMean p r.problem all [] r.lits r.settled H → Means p (close_parts all r).problem (close_parts all r).answer H
-closed-right p all r H h = by r.settled refl
-  where
-    start : (v : ℕ → Bool) → joint all (joined all v []) (H v) ≡ H v
-    start v = ap (λ c. joint all c (H v)) (joined-none all v) ∙ neutral all (H v)
-
-    by : (s : Bool) → r.settled ≡ s
-        → (let g : GroundResult = (if s then record {
-          answer = Constant
-              (not all);
-          problem = r.problem;
-        } else gate_of all r.lits r.problem) in Means p g.problem g.answer H)
-    by true e =
-        record {
-          fine = h.fine;
-          more = h.more;
-          within = tt;
-          right = λ v s. ap
-              (λ c. if c then not all else joined all v r.lits) (sym e) ∙ h.right v s ∙ start v;
-        }
-    by false e =
-        means-then p r.problem (gate_of all r.lits r.problem).problem (gate_of all r.lits r.problem).answer
-        (λ v. joined all v r.lits) H h.more (gate-right r.problem all r.lits h.fine h.within)
-        (λ v s. ap (λ c. if c then not all else joined all v r.lits) (sym e) ∙ h.right v s ∙ start v)
-
-pub means-not : (p : ProblemState) (g : GroundResult) (F : (ℕ → Bool) → Bool) → Means p g.problem g.answer F
-    → Means p (opposite_result g).problem (opposite_result g).answer (λ v. not (F v))
-means-not p g F h = by g.answer h.within (λ v s. h.right v s)
-  where
-    by : (a : Answer) → AnswerWithin g.problem.vars a
-        → ((v : ℕ → Bool) → Satisfies g.problem v → answer_value v a ≡ F v)
-        → Means p g.problem (opposite_of a) (λ v. not (F v))
-    by (Constant c) w r = record { fine = h.fine; more = h.more; within = tt; right = λ v s. ap not (r v s) }
-    by (Literal l) w r =
-        record { fine = h.fine; more = h.more; within = w; right = λ v s. value-negated v l ∙ ap not (r v s) }
-
-same-one : (c d : Bool) → d ≡ same_truth true d
-same-one c d = refl
-
--- whether two answers are the same
-pub iff-right : (p q r : ProblemState) (x y : Answer) (F G : (ℕ → Bool) → Bool) → Means p q x F → Means q r y G
-    → (let g = same_of x y r in Means p g.problem g.answer (λ v. same_truth (F v) (G v)))
-iff-right p q r (Constant true) y F G h k =
-    record {
-      fine = k.fine;
-      more = more-trans p q r h.more k.more;
-      within = k.within;
-      right = λ v s. k.right v s
-          ∙ ap (λ c. same_truth c (G v)) (h.right v (k.more.restricts v s));
-    }
-iff-right p q r (Constant false) y F G h k =
-    let n = means-not q (record { answer = y; problem = r }) G k in
-    record {
-      fine = k.fine;
-      more = more-trans p q r h.more k.more;
-      within = n.within;
-      right = λ v s. n.right v s
-          ∙ ap (λ c. same_truth c (G v)) (h.right v (k.more.restricts v s));
-    }
-iff-right p q r (Literal l) (Constant true) F G h k = record {
-  fine = k.fine;
-  more = more-trans p q r h.more k.more;
-  within = lit-more q.vars r.vars k.more.grows l h.within;
-  right = λ v s. h.right v (k.more.restricts v s) ∙ same-true-right (F v) ∙ ap (same_truth (F v)) (k.right v s);
-}
-  where
-    same-true-right : (c : Bool) → c ≡ same_truth c true
-    same-true-right true = refl
-    same-true-right false = refl
-iff-right p q r (Literal l) (Constant false) F G h k = record {
-  fine = k.fine;
-  more = more-trans p q r h.more k.more;
-  within = lit-more q.vars r.vars k.more.grows l h.within;
-  right =
-      λ v s. value-negated v l ∙ ap not (h.right v (k.more.restricts v s)) ∙ same-false-right (F v)
-      ∙ ap (same_truth (F v)) (k.right v s);
-}
-  where
-    same-false-right : (c : Bool) → not c ≡ same_truth c false
-    same-false-right true = refl
-    same-false-right false = refl
-iff-right p q r (Literal l) (Literal m) F G h k =
-    let l_in = lit-more q.vars r.vars k.more.grows l h.within in
-    let add = same-added r l m k.fine l_in k.within in
-    let n = r.vars + 1 in
-    let o : IsLitOf n (next_lit r) = (omega arith, omega arith) in
-    let a = lit-more r.vars n (omega arith) l l_in in
-    let b = lit-more r.vars n (omega arith) m k.within in
-    let three = λ (x y z : Lit) (hx : IsLitOf n x) (hy : IsLitOf n y) (hz : IsLitOf n z).
-    All-cons (IsLitOf n) x (y ∷ z ∷ []) hx
-    (All-cons (IsLitOf n) y (z ∷ []) hy (All-cons (IsLitOf n) z [] hz (All-nil (IsLitOf n)))) in
-    let four : All (AreLitsOf n) (clauses_of_same (next_lit r) l m) =
-    let c : Lit = next_lit r in
-    let c4 : List Lit = c ∷ negated l ∷ negated m ∷ [] in
-    let c3 : List Lit = c ∷ l ∷ m ∷ [] in
-    let c2 : List Lit = negated c ∷ l ∷ negated m ∷ [] in
-    All-cons (AreLitsOf n) (negated c ∷ negated l ∷ m ∷ []) (c2 ∷ c3 ∷ c4 ∷ []) (three (negated c) (negated l) m o a b)
-    (All-cons (AreLitsOf n) c2 (c3 ∷ c4 ∷ []) (three (negated c) l (negated m) o a b)
-    (All-cons (AreLitsOf n) c3 (c4 ∷ []) (three c l m o a b)
-    (All-cons (AreLitsOf n) c4 [] (three c (negated l) (negated m) o a b) (All-nil (AreLitsOf n))))) in
-    let grown = problem-grown r n [] (clauses_of_same (next_lit r) l m) k.fine (omega arith)
-    (All-nil (IsGateOf n)) four in
-    record {
-      fine =
-          record {
-            atoms = grown.atoms;
-            gates = All-front
-                (IsGateOf n) r.gates [] grown.gates;
-            clauses = grown.clauses;
-            sums = grown.sums;
-            terms = grown.terms;
-            bounds = grown.bounds;
-            retired = grown.retired;
-          };
-      more = more-trans p q (with_same r l m) h.more (more-trans q r (with_same r l m) k.more add.more);
-      within = add.within;
-      right = λ v s.
-          let old = add.more.restricts v s in
-          add.means v s ∙ sign-same (literal_value v l) (literal_value v m)
-          ∙ ap (λ c. same_truth c (literal_value v m)) (h.right v (k.more.restricts v old))
-          ∙ ap (same_truth (F v)) (k.right v old);
-    }
-  where
-    sign-same : (c d : Bool) → by_sign c d ≡ same_truth c d
-    sign-same true d = refl
-    sign-same false d = refl
-
-constant-right : (p : ProblemState) (x : Bool) (F : (ℕ → Bool) → Bool) → ((v : ℕ → Bool) → x ≡ F v) → IsProblem p
-    → Means p p (Constant x) F
-constant-right p x F is fine = record { fine = fine; more = more-refl p; within = tt; right = λ v s. is v }
-
--- what holds of the atoms stays so
-pub has-atoms : (b : GroundBase) (p q : ProblemState) → DefinesMore p q → HasAtoms b p → HasAtoms b q
-has-atoms b p q m h = λ v s. h v (m.restricts v s)
-
-pub has-room : (b : GroundBase) (p q : ProblemState) → DefinesMore p q → HasRoom b p → HasRoom b q
-has-room b p q m h = record {
-  same = λ v w e. h.same v w (λ k low high. e k low (omega (arith, high, m.grows)));
-  predicates = λ s i n below. let x = h.predicates s i n below in omega (arith, x, m.grows);
-  functions = λ s i j bi bj. let x = h.functions s i j bi bj in omega (arith, x, m.grows);
-}
-
-abbrev pub parts-truth : Bool → Structure → FormulaTrees → List Elem → Bool
-parts-truth true m fs e = all_true m fs e
-parts-truth false m fs e = any_true m fs e
-
-abbrev pub each-truth : Bool → (List Elem → Bool) → List (List Elem) → Bool
-each-truth true T as' = list_all T as'
-each-truth false T as' = list_any T as'
-
-parts-none : (all : Bool) (m : Structure) (e : List Elem) → parts-truth all m no_formulas e ≡ all
-parts-none true m e = refl
-parts-none false m e = refl
-
-parts-more : (all : Bool) (m : Structure) (f : FormulaTree) (fs : FormulaTrees) (e : List Elem)
-    → parts-truth all m (more_formulas f fs) e ≡ joint all (truth_of m f e) (parts-truth all m fs e)
-parts-more true m f fs e = refl
-parts-more false m f fs e = refl
-
-each-none : (all : Bool) (T : List Elem → Bool) → each-truth all T [] ≡ all
-each-none true T = refl
-each-none false T = refl
-
-each-more : (all : Bool) (T : List Elem → Bool) (a : List Elem) (as' : List (List Elem))
-    → each-truth all T (a ∷ as') ≡ joint all (T a) (each-truth all T as')
-each-more true T a as' = refl
-each-more false T a as' = refl
-
--- the leaves of formulas
-abbrev pub LeafIsRight : FormulaTree → Type 0
-LeafIsRight f =
-    (b : GroundBase) (e : List Elem) (p : ProblemState) → IsProblem p → HasAtoms b p → HasRoom b p → IsGroundForm b f
-    → Means p (form_of b f e p).problem (form_of b f e p).answer (λ v. truth_of (structure_of b v) f e)
-
-module _ (b : GroundBase) (atoms : (s : ℕ) (ts : TermTrees) → LeafIsRight (atom s ts))
-    (comparisons : (c : Cmp) (x y : TermTree) → LeafIsRight (comparison c x y)) where
-  each-right : (all : Bool) (f : FormulaTree) (e : List Elem)
-      → ((a : List Elem) (p : ProblemState) → IsProblem p → HasAtoms b p → HasRoom b p
+module _ (b : GroundBase) where
+  -- each of these instances is right
+  abbrev FormsAreRight : FormulaTree → List Elem → List (List Elem) → Type 0
+  FormsAreRight f e as' =
+      (a : List Elem) → Has as' a → (p : ProblemState) → IsProblem p → HasAtoms b p → HasRoom b p
       → Means p (form_of b f (e ++ a) p).problem (form_of b f (e ++ a) p).answer
-      (λ v. truth_of (structure_of b v) f (e ++ a)))
-      → (as' : List (List Elem)) (ls : List Lit) (p : ProblemState) → IsProblem p → HasAtoms b p → HasRoom b p
+      (λ v. truth_of (structure_of b v) f (e ++ a))
+
+  each-right : (all : Bool) (f : FormulaTree) (e : List Elem) (as' : List (List Elem)) → FormsAreRight f e as'
+      → (ls : List Lit) (p : ProblemState) → IsProblem p → HasAtoms b p → HasRoom b p
       → AreLitsOf p.vars ls
       → (let r = parts_each (λ a q. form_of b f (e ++ a) q) all as' ls p in
       PartsMean p r.problem all ls r.lits r.settled
       (λ v. each-truth all (λ a. truth_of (structure_of b v) f (e ++ a)) as'))
-  each-right all f e right [] ls p fine at room within =
+  each-right all f e [] right ls p fine at room within =
       none-left p all ls (λ v. each-truth all (λ a. truth_of (structure_of b v) f (e ++ a)) []) fine within
       (λ v. each-none all (λ a. truth_of (structure_of b v) f (e ++ a)))
-  each-right all f e right (a ∷ as') ls p fine at room within =
+  each-right all f e (a ∷ as') right ls p fine at room within =
       let G : List Elem → ProblemState → GroundResult = λ a q. form_of b f (e ++ a) q in
       let g = form_of b f (e ++ a) p in
-      let one = right a p fine at room in
+      let one = right a (inl refl) p fine at room in
       next-right p g all ls (λ xs q. parts_each G all as' xs q)
       (λ v. truth_of (structure_of b v) f (e ++ a))
       (λ v. each-truth all (λ a. truth_of (structure_of b v) f (e ++ a)) as')
       (λ v. each-truth all (λ a. truth_of (structure_of b v) f (e ++ a)) (a ∷ as'))
       (λ v. each-more all (λ a. truth_of (structure_of b v) f (e ++ a)) a as') within one
-      (each-right all f e right as' (with_answer g.answer ls) g.problem one.fine (has-atoms b p g.problem one.more at)
-      (has-room b p g.problem one.more room)
+      (each-right all f e as' (λ c m. right c (inr m)) (with_answer g.answer ls) g.problem one.fine
+      (has-atoms b p g.problem one.more at) (has-room b p g.problem one.more room)
       (taken-fine p g ls (λ v. truth_of (structure_of b v) f (e ++ a)) within one))
 
+  instances-of : (f : FormulaTree) (bs : List Bound) (e : List Elem)
+      → AllByRecursion (λ a. IsGroundForm b f (e ++ a)) (choices b.domains bs)
+      → ((a : List Elem) → IsGroundForm b f (e ++ a) → (p : ProblemState) → IsProblem p → HasAtoms b p → HasRoom b p
+      → Means p (form_of b f (e ++ a) p).problem (form_of b f (e ++ a) p).answer
+      (λ v. truth_of (structure_of b v) f (e ++ a)))
+      → FormsAreRight f e (choices b.domains bs)
+  instances-of f bs e h right a m =
+      right a (all-has (λ a. IsGroundForm b f (e ++ a)) (choices b.domains bs) a h m)
+
+  -- so it is after whatever came before
+  after-right : (f : FormulaTree) (bs : List Bound) (e : List Elem) → FormsAreRight f e (choices b.domains bs)
+      → (p : ProblemState) (at : HasAtoms b p) (room : HasRoom b p) → AreRight b p at room bs f e
+  after-right f bs e right p at room a m q fine more =
+      right a m q fine (has-atoms b p q more at) (has-room b p q more room)
+
+  -- a number quantifier
+  number-right : (c : Cmp) (n : ℤ) (bs : List Bound) (f : FormulaTree) (e : List Elem)
+      → FormsAreRight f e (choices b.domains bs) → (p : ProblemState) → IsProblem p → HasAtoms b p → HasRoom b p
+      → (let g = form_of b (numbered c n bs f) e p in
+      Means p g.problem g.answer (λ v. truth_of (structure_of b v) (numbered c n bs f) e))
+  number-right c n bs f e right p fine at room =
+      let F : List Elem → ProblemState → GroundResult = λ a q. form_of b f (e ++ a) q in
+      let T : (ℕ → Bool) → List Elem → Bool = λ v a. truth_of (structure_of b v) f (e ++ a) in
+      let W : (ℕ → Bool) → List Elem → ℤ = λ v a. pos 1 in
+      let as' = choices b.domains bs in
+      let st = fold (instance_step kind.Count (pos 1) F (λ a. [])) (no_parts_yet p) as' in
+      let made = instances-come kind.Count (pos 1) p F (λ a. []) T W as'
+      (λ a m. record { right = after-right f bs e right p at room a m; weight = tt }) (no_parts_yet p)
+      (λ v. number (pos 0)) (start-comes kind.Count p fine) in
+      comes-compared kind.Count c p st (λ v. number (pos (count_by (T v) as'))) n
+      (comes-is kind.Count p st (λ v. joined_values kind.Count (pos 1) (T v) (W v) (number (pos 0)) as')
+      (λ v. number (pos (count_by (T v) as')))
+      (λ v s. joined-sum kind.Count (pos 1) (T v) (W v) (pos 0) as' tt ∙ ap number (once (count-is v as'))) made)
+    where
+      count-is : (v : ℕ → Bool) (as' : List (List Elem))
+          → pos (count_by (λ a. truth_of (structure_of b v) f (e ++ a)) as')
+          ≡ weight_sum (λ a. truth_of (structure_of b v) f (e ++ a)) (λ a. pos 1) as'
+      count-is v as' = counted-instances (λ a. truth_of (structure_of b v) f (e ++ a)) as'
+
+      once : {x y : ℤ} → y ≡ x → pos 0 +ℤ pos 1 *ℤ x ≡ y
+      once {x} {y} h = let e = one-times x in omega (arith, ints, e, h)
+
+  -- what is said of a side: as a minimum or a maximum, and as an operand of a sum
+  abbrev ComesAsExtreme : TermTree → List Elem → ProblemState → Type 0
+  ComesAsExtreme x e p =
+      (k : AggKind) → extreme_of x ≡ Some k
+      → Comes k p (sums_of b (pos 1) x e (no_parts_yet p)) (λ v. value_of (structure_of b v) x e)
+
+  abbrev ComesAsSum : TermTree → List Elem → ProblemState → Type 0
+  ComesAsSum x e p =
+      (z : ℤ) (st : Linear) (V : (ℕ → Bool) → ℤ) → IsAddend b x e → Comes kind.Sum p st (λ v. number (V v))
+      → Comes kind.Sum p (sums_of b z x e st) (λ v. number (V v +ℤ z *ℤ counted_in (structure_of b v) x e))
+
+  -- a comparison of sides with aggregates
+  sides-right : (c : Cmp) (x y : TermTree) (e : List Elem) (p : ProblemState)
+      → IsGroundSide b (has_aggregate y) x e → IsGroundSide b (has_aggregate x) y e → IsProblem p → HasAtoms b p
+      → HasRoom b p → ComesAsExtreme x e p → ComesAsExtreme y e p → ComesAsSum x e p → ComesAsSum y e p
+      → Means p (sides_of b c x y e p).problem (sides_of b c x y e p).answer
+      (λ v. truth_of (structure_of b v) (comparison c x y) e)
+  sides-right c x y e p hx hy fine at room extreme-x extreme-y sum-x sum-y =
+      let left = sums_of b (pos 1) x e (no_parts_yet p) in
+      let right = sums_of b (pos 1) y e (no_parts_yet p) in
+      let both = sums_of b (neg_ℤ (pos 1)) y e left in
+      let split : (t : TermTree) (other : Bool) → extreme_of t ≡ None → IsGroundSide b other t e
+      → IsSplit b p at room c x y e t =
+      λ t other none h v over. addend-splits b v over t e (adding-side b other t e none h) in
+      compared-right b p at room c x y e (extreme_of x) (extreme_of y) left right both
+      (λ k is.
+      let plain = extreme-alone b x (has_aggregate y) e k is hx in
+      (extreme-x k is, plain, split y (has_aggregate x) (plain-extreme y plain) hy))
+      (λ k is.
+      let plain = extreme-alone b y (has_aggregate x) e k is hy in
+      (extreme-y k is, plain, split x (has_aggregate y) (plain-extreme x plain) hx))
+      (λ no nor.
+      let cx : (ℕ → Bool) → ℤ = λ v. counted_in (structure_of b v) x e in
+      let cy : (ℕ → Bool) → ℤ = λ v. counted_in (structure_of b v) y e in
+      let one = sum-x (pos 1) (no_parts_yet p) (λ v. pos 0) (adding-side b (has_aggregate y) x e no hx)
+      (start-comes kind.Sum p fine) in
+      let two = sum-y (neg_ℤ (pos 1)) left (λ v. pos 0 +ℤ pos 1 *ℤ cx v)
+      (adding-side b (has_aggregate x) y e nor hy) one in (
+        comes-is kind.Sum p both (λ v. number ((pos 0 +ℤ pos 1 *ℤ cx v) +ℤ neg_ℤ (pos 1) *ℤ cy v))
+            (λ v. number (cx v -ℤ cy v)) (λ v s. ap number (difference (cx v) (cy v))) two,
+        split x (has_aggregate y) no hx,
+        split y (has_aggregate x) nor hy,
+      ))
+
   mutual
-    pub form-right : (f : FormulaTree) (e : List Elem) (p : ProblemState) → IsGroundForm b f → IsProblem p
+    pub form-right : (f : FormulaTree) (e : List Elem) (p : ProblemState) → IsGroundForm b f e → IsProblem p
         → HasAtoms b p → HasRoom b p → Means p (form_of b f e p).problem (form_of b f e p).answer
         (λ v. truth_of (structure_of b v) f e)
     form-right verum e p h fine at room = constant-right p true (λ v. true) (λ v. refl) fine
@@ -449,10 +342,27 @@ module _ (b : GroundBase) (atoms : (s : ℕ) (ts : TermTrees) → LeafIsRight (a
     form-right (existential bs f) e p h fine at room =
         closed-right p false (parts_each (λ a q. form_of b f (e ++ a) q) false (choices b.domains bs) [] p)
         (λ v. list_any (λ a. truth_of (structure_of b v) f (e ++ a)) (choices b.domains bs))
-        (each-right false f e (λ a q. form-right f (e ++ a) q h) (choices b.domains bs) [] p fine at room
-        (All-nil (IsLitOf p.vars)))
-    form-right (atom s ts) e p h fine at room = atoms s ts b e p fine at room h
-    form-right (comparison c x y) e p h fine at room = comparisons c x y b e p fine at room h
+        (each-right false f e (choices b.domains bs)
+        (instances-of f bs e h (λ a g q fine at room. form-right f (e ++ a) q g fine at room)) [] p fine at
+        room (All-nil (IsLitOf p.vars)))
+    form-right (atom s ts) e p h fine at room = atom-right s ts b e p fine at room h
+    form-right (comparison c x y) e p (inl h) fine at room =
+        let plain = both-false (has_aggregate x) (has_aggregate y) (ground-plain b x h.0) (ground-plain b y h.1) in
+        means-if p (has_aggregate x || has_aggregate y) (sides_of b c x y e p)
+        (comparison_of c (rows_of_term b x e) (rows_of_term b y e) p)
+        (λ v. truth_of (structure_of b v) (comparison c x y) e)
+        (λ is. absurd (not-both (has_aggregate x || has_aggregate y) is plain))
+        (λ none. comparison-right c x y b e p fine at room h)
+    form-right (comparison c x y) e p (inr h) fine at room =
+        means-if p (has_aggregate x || has_aggregate y) (sides_of b c x y e p)
+        (comparison_of c (rows_of_term b x e) (rows_of_term b y e) p)
+        (λ v. truth_of (structure_of b v) (comparison c x y) e)
+        (λ is. sides-right c x y e p h.1 h.2 fine at room
+        (λ k is. extreme-right x (has_aggregate y) e p k is h.1 fine at room)
+        (λ k is. extreme-right y (has_aggregate x) e p k is h.2 fine at room)
+        (λ z st V a made. sums-right x e z p st V a at room made)
+        (λ z st V a made. sums-right y e z p st V a at room made))
+        (λ none. absurd (not-both (has_aggregate x || has_aggregate y) h.0 none))
     form-right (negation f) e p h fine at room =
         means-not p (form_of b f e p) (λ v. truth_of (structure_of b v) f e) (form-right f e p h fine at room)
     form-right (conjunction fs) e p h fine at room =
@@ -461,12 +371,15 @@ module _ (b : GroundBase) (atoms : (s : ℕ) (ts : TermTrees) → LeafIsRight (a
     form-right (universal bs f) e p h fine at room =
         closed-right p true (parts_each (λ a q. form_of b f (e ++ a) q) true (choices b.domains bs) [] p)
         (λ v. list_all (λ a. truth_of (structure_of b v) f (e ++ a)) (choices b.domains bs))
-        (each-right true f e (λ a q. form-right f (e ++ a) q h) (choices b.domains bs) [] p fine at room
-        (All-nil (IsLitOf p.vars)))
-    form-right (numbered c n bs f) e p h fine at room = absurd h
+        (each-right true f e (choices b.domains bs)
+        (instances-of f bs e h (λ a g q fine at room. form-right f (e ++ a) q g fine at room)) [] p fine at
+        room (All-nil (IsLitOf p.vars)))
+    form-right (numbered c n bs f) e p h fine at room =
+        number-right c n bs f e
+        (instances-of f bs e h (λ a g q fine at room. form-right f (e ++ a) q g fine at room)) p fine at room
 
     parts-right : (all : Bool) (fs : FormulaTrees) (e : List Elem) (ls : List Lit) (p : ProblemState)
-        → AreGroundForms b fs → IsProblem p → HasAtoms b p → HasRoom b p → AreLitsOf p.vars ls
+        → AreGroundForms b fs e → IsProblem p → HasAtoms b p → HasRoom b p → AreLitsOf p.vars ls
         → (let r = parts_of b all fs e ls p in
         PartsMean p r.problem all ls r.lits r.settled (λ v. parts-truth all (structure_of b v) fs e))
     parts-right all no_formulas e ls p h fine at room within =
@@ -480,3 +393,127 @@ module _ (b : GroundBase) (atoms : (s : ℕ) (ts : TermTrees) → LeafIsRight (a
         (λ v. parts-more all (structure_of b v) f fs e) within one
         (parts-right all fs e (with_answer g.answer ls) g.problem h.1 one.fine (has-atoms b p g.problem one.more at)
         (has-room b p g.problem one.more room) (taken-fine p g ls (λ v. truth_of (structure_of b v) f e) within one))
+
+    -- a minimum or a maximum as a whole side
+    pub extreme-right : (x : TermTree) (other : Bool) (e : List Elem) (p : ProblemState) (k : AggKind)
+        → extreme_of x ≡ Some k → IsGroundSide b other x e → IsProblem p → HasAtoms b p → HasRoom b p
+        → Comes k p (sums_of b (pos 1) x e (no_parts_yet p)) (λ v. value_of (structure_of b v) x e)
+    extreme-right (variable n) other e p k is h fine at room = absurd cc
+    extreme-right (integer z) other e p k is h fine at room = absurd cc
+    extreme-right (constructed ty n) other e p k is h fine at room = absurd cc
+    extreme-right (application s ts) other e p k is h fine at room = absurd cc
+    extreme-right (summation ss) other e p k is h fine at room = absurd cc
+    extreme-right (product ts) other e p k is h fine at room = absurd cc
+    extreme-right (aggregate kind.Count bs f t) other e p k is h fine at room = absurd cc
+    extreme-right (aggregate kind.Sum bs f t) other e p k is h fine at room = absurd cc
+    extreme-right (aggregate kind.Min bs f t) other e p k is h fine at room =
+        let same : kind.Min ≡ k = cc in
+        subst (λ k. Comes k p (sums_of b (pos 1) (aggregate kind.Min bs f t) e (no_parts_yet p))
+        (λ v. value_of (structure_of b v) (aggregate kind.Min bs f t) e)) same
+        (extreme-comes b p at room kind.Min bs f t e fine tt
+        (after-right f bs e
+        (instances-of f bs e h.1 (λ a g q fine at room. form-right f (e ++ a) q g fine at room)) p at room)
+        h.2)
+    extreme-right (aggregate kind.Max bs f t) other e p k is h fine at room =
+        let same : kind.Max ≡ k = cc in
+        subst (λ k. Comes k p (sums_of b (pos 1) (aggregate kind.Max bs f t) e (no_parts_yet p))
+        (λ v. value_of (structure_of b v) (aggregate kind.Max bs f t) e)) same
+        (extreme-comes b p at room kind.Max bs f t e fine tt
+        (after-right f bs e
+        (instances-of f bs e h.1 (λ a g q fine at room. form-right f (e ++ a) q g fine at room)) p at room)
+        h.2)
+
+    -- an operand of a sum adds what its aggregates come to, times the factor
+    pub sums-right : (x : TermTree) (e : List Elem) (z : ℤ) (p : ProblemState) (st : Linear) (V : (ℕ → Bool) → ℤ)
+        → IsAddend b x e → HasAtoms b p → HasRoom b p → Comes kind.Sum p st (λ v. number (V v))
+        → Comes kind.Sum p (sums_of b z x e st) (λ v. number (V v +ℤ z *ℤ counted_in (structure_of b v) x e))
+    sums-right (variable n) e z p st V a at room h =
+        comes-is kind.Sum p st (λ v. number (V v)) (λ v. number (V v +ℤ z *ℤ pos 0))
+        (λ v s. ap number (nothing-more z (V v) (pos 0) refl)) h
+    sums-right (integer y) e z p st V a at room h =
+        comes-is kind.Sum p st (λ v. number (V v)) (λ v. number (V v +ℤ z *ℤ pos 0))
+        (λ v s. ap number (nothing-more z (V v) (pos 0) refl)) h
+    sums-right (constructed ty n) e z p st V a at room h =
+        comes-is kind.Sum p st (λ v. number (V v)) (λ v. number (V v +ℤ z *ℤ pos 0))
+        (λ v s. ap number (nothing-more z (V v) (pos 0) refl)) h
+    sums-right (application s ts) e z p st V a at room h =
+        comes-is kind.Sum p st (λ v. number (V v)) (λ v. number (V v +ℤ z *ℤ pos 0))
+        (λ v s. ap number (nothing-more z (V v) (pos 0) refl)) h
+    sums-right (summation ss) e z p st V a at room h = operands-right ss e z p st V a at room h
+    sums-right (product ts) e z p st V (inl plain) at room h =
+        let none = grounds-plain b ts plain.term in
+        comes-if p (have_aggregates ts) (sums_of_factors b (z *ℤ integer_factor ts) ts e st) st
+        (λ v. V v +ℤ z *ℤ counted_in (structure_of b v) (product ts) e)
+        (λ is. absurd (not-both (have_aggregates ts) is none))
+        (λ is. comes-is kind.Sum p st (λ v. number (V v))
+        (λ v. number (V v +ℤ z *ℤ counted_in (structure_of b v) (product ts) e))
+        (λ v s. ap number (unscaled z (V v) (integer_factor ts) (counted_factors (structure_of b v) ts e)
+        (no-factor-counted (structure_of b v) ts e none))) h)
+    sums-right (product ts) e z p st V (inr one) at room h =
+        let F = integer_factor ts in
+        let next = sums_of_factors b (z *ℤ F) ts e st in
+        comes-if p (have_aggregates ts) next st
+        (λ v. V v +ℤ z *ℤ counted_in (structure_of b v) (product ts) e)
+        (λ is. comes-is kind.Sum p next
+        (λ v. number (V v +ℤ (z *ℤ F) *ℤ counted_factors (structure_of b v) ts e))
+        (λ v. number (V v +ℤ z *ℤ counted_in (structure_of b v) (product ts) e))
+        (λ v s. ap number (scaled z (V v) F (counted_factors (structure_of b v) ts e)))
+        (factors-right ts e (z *ℤ F) p st V one at room h))
+        (λ none. comes-is kind.Sum p st (λ v. number (V v))
+        (λ v. number (V v +ℤ z *ℤ counted_in (structure_of b v) (product ts) e))
+        (λ v s. ap number (unscaled z (V v) F (counted_factors (structure_of b v) ts e)
+        (no-factor-counted (structure_of b v) ts e none))) h)
+    sums-right (aggregate k bs f t) e z p st V a at room h =
+        adding-comes b p at room k z bs f t e a.0
+        (after-right f bs e
+        (instances-of f bs e a.1 (λ c g q fine at room. form-right f (e ++ c) q g fine at room)) p at room)
+        a.2 st V h
+
+    operands-right : (ss : SummandTrees) (e : List Elem) (z : ℤ) (p : ProblemState) (st : Linear) (V : (ℕ → Bool) → ℤ)
+        → AreGroundAddends b ss e → HasAtoms b p → HasRoom b p → Comes kind.Sum p st (λ v. number (V v))
+        → Comes kind.Sum p (sums_of_summands b z ss e st)
+        (λ v. number (V v +ℤ z *ℤ counted_summands (structure_of b v) ss e))
+    operands-right no_summands e z p st V a at room h =
+        comes-is kind.Sum p st (λ v. number (V v)) (λ v. number (V v +ℤ z *ℤ pos 0))
+        (λ v s. ap number (nothing-more z (V v) (pos 0) refl)) h
+    operands-right (more_summands minus t ss) e z p st V a at room h =
+        let next = sums_of b (signed_of minus z) t e st in
+        let c : (ℕ → Bool) → ℤ = λ v. counted_in (structure_of b v) t e in
+        let one = sums-right t e (signed_of minus z) p st V a.0 at room h in
+        let rest = operands-right ss e z p next (λ v. V v +ℤ signed_of minus z *ℤ c v) a.1 at room one in
+        comes-is kind.Sum p (sums_of_summands b z ss e next)
+        (λ v. number ((V v +ℤ signed_of minus z *ℤ c v) +ℤ z *ℤ counted_summands (structure_of b v) ss e))
+        (λ v. number (V v +ℤ z *ℤ counted_summands (structure_of b v) (more_summands minus t ss) e))
+        (λ v s. ap number (sum-after z minus (V v) (c v) (counted_summands (structure_of b v) ss e))) rest
+
+    factors-right : (ts : TermTrees) (e : List Elem) (z : ℤ) (p : ProblemState) (st : Linear) (V : (ℕ → Bool) → ℤ)
+        → IsOneAddend b ts e → HasAtoms b p → HasRoom b p → Comes kind.Sum p st (λ v. number (V v))
+        → Comes kind.Sum p (sums_of_factors b z ts e st)
+        (λ v. number (V v +ℤ z *ℤ counted_factors (structure_of b v) ts e))
+    factors-right no_terms e z p st V a at room h = absurd a
+    factors-right (more_terms t ts) e z p st V (inl a) at room h =
+        let next = sums_of b z t e st in
+        let c : (ℕ → Bool) → ℤ = λ v. counted_in (structure_of b v) t e in
+        let plain = integers-plain ts a.1 in
+        let one = sums-right t e z p st V a.0 at room h in
+        subst (λ (x : Linear). Comes kind.Sum p x
+        (λ v. number (V v +ℤ z *ℤ counted_factors (structure_of b v) (more_terms t ts) e)))
+        (sym (no-factor-parts b ts z e next plain))
+        (comes-is kind.Sum p next (λ v. number (V v +ℤ z *ℤ c v))
+        (λ v. number (V v +ℤ z *ℤ counted_factors (structure_of b v) (more_terms t ts) e))
+        (λ v s. ap number (last-factor z (V v) (c v) (counted_factors (structure_of b v) ts e)
+        (no-factor-counted (structure_of b v) ts e plain))) one)
+    factors-right (more_terms t ts) e z p st V (inr a) at room h =
+        let plain = integer-plain t a.0 in
+        let rest = factors-right ts e z p st V a.1 at room h in
+        subst (λ (x : Linear). Comes kind.Sum p (sums_of_factors b z ts e x)
+        (λ v. number (V v +ℤ z *ℤ counted_factors (structure_of b v) (more_terms t ts) e)))
+        (sym (no-parts b t z e st plain))
+        (comes-is kind.Sum p (sums_of_factors b z ts e st)
+        (λ v. number (V v +ℤ z *ℤ counted_factors (structure_of b v) ts e))
+        (λ v. number (V v +ℤ z *ℤ counted_factors (structure_of b v) (more_terms t ts) e))
+        (λ v s. ap number (first-factor z (V v) (counted_in (structure_of b v) t e)
+        (counted_factors (structure_of b v) ts e) (nothing-counted (structure_of b v) t e plain))) rest)
+
+pub form-is-right : FormIsRight
+form-is-right b f e p fine at room h = form-right b f e p h fine at room

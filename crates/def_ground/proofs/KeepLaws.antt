@@ -1,10 +1,14 @@
--- What is said stays said: a problem that grows keeps its atoms, and its clauses stay the first ones.
-use Rattle.std.proofs.Common.{◌≡◌, ℕ, ◌+◌, Bool, true, false, List, [], ◌∷◌, ◌++◌, map, if◌then◌else◌, Option, Some}
+-- What formulas and sentences come to keeps what is said.
+use Rattle.std.proofs.Common.{ℤ, pos, neg_ℤ, ◌*ℤ◌, ◌||◌, fold}
+use Rattle.std.proofs.Common.{◌+◌, Bool, true, false, List, [], ◌∷◌, ◌++◌, map, if◌then◌else◌, Option, Some}
 use Rattle.std.proofs.Common.{None, refl}
-use Rattle.std.proofs.Common.{sym, ap, ◌∙◌}
-use Rattle.std.proofs.lemmas.List.{append-nil, append_assoc}
 use Rattle.kb_logic.specs.declared.elements.Elem.{Elem}
+use Rattle.kb_logic.specs.declared.syntax.AggKind.{AggKind}
+use Rattle.kb_logic.specs.declared.syntax.AggKind.TheVariants as kind
 use Rattle.kb_logic.specs.declared.syntax.Cmp.{Cmp}
+use Rattle.kb_logic.specs.Meaning.{signed_of}
+use Rattle.kb_logic.specs.Trees.{TermTree, variable, integer, constructed, application, summation, product, aggregate}
+use Rattle.kb_logic.specs.Trees.{TermTrees, no_terms, more_terms, SummandTrees, no_summands, more_summands}
 use Rattle.kb_logic.specs.Structures.{choices}
 use Rattle.kb_logic.specs.Denotations.{Denotation}
 use Rattle.kb_logic.specs.Trees.{FormulaTree, verum, falsum, atom, comparison, negation, conjunction, disjunction}
@@ -12,76 +16,29 @@ use Rattle.kb_logic.specs.Trees.{implication, equivalence, universal, existentia
 use Rattle.kb_logic.specs.Trees.{more_formulas}
 use Rattle.lit_core.specs.declared.literals.Lit.{Lit}
 use Rattle.lit_core.specs.Literals.{negated}
-use Rattle.ground_core.specs.declared.parts.Gate.{Gate}
 use Rattle.ground_core.specs.Problems.{ProblemState}
-use Rattle.ground_core.specs.Growth.{next_lit, with_clause, with_gate, clauses_of_same}
+use Rattle.ground_core.specs.Growth.{next_lit, with_clause, clauses_of_same}
 use Rattle.term_values.specs.GroundBases.{GroundBase}
 use Rattle.term_values.specs.Rows.{rows_of_term, rows_of_terms}
 use Rattle.def_ground.specs.declared.answers.Answer.{Answer}
 use Rattle.def_ground.specs.declared.answers.Answer.TheVariants.{Constant, Literal}
 use Rattle.def_ground.specs.Answers.{GroundResult, gate_of}
-use Rattle.def_ground.specs.Cases.{Case, answer_or_cases, answer_without, clauses_of_cases, clauses_saying, cases_of}
-use Rattle.def_ground.specs.Cases.{with_clauses}
+use Rattle.def_ground.specs.Cases.{Case, answer_without, clauses_saying, cases_of}
 use Rattle.def_ground.specs.Comparisons.{guard_answers, comparison_case, comparison_of}
 use Rattle.def_ground.specs.Forms.{Parts, settles, with_answer, next_parts, no_more_parts, parts_each, close_parts}
-use Rattle.def_ground.specs.Forms.{opposite_result, signed_result, same_of, atom_case, form_of, parts_of}
+use Rattle.def_ground.specs.Forms.{opposite_result, signed_result, same_of, atom_case, form_of, parts_of, no_parts_yet}
+use Rattle.def_ground.specs.Forms.{compared_sides, sums_of, sums_of_summands, sums_of_factors}
+use Rattle.def_ground.specs.Counting.{has_aggregate, have_aggregates, integer_factor, extreme_of}
+use Rattle.def_ground.specs.Linear.{Linear, instance_step, compared_at}
+use Rattle.def_ground.specs.Thresholds.{compared_with_rows, flipped, rows_between_sides}
+use Rattle.def_ground.proofs.LinearKeeps.{compared-keeps, compared-rows-keep, instances-keep}
 use Rattle.def_ground.specs.CaseSentences.{or_clause, answer_or_clauses, assert_cases}
 use Rattle.def_ground.specs.CaseSentences.{assert_comparison, alike_clauses, assert_alike}
 use Rattle.def_ground.specs.Disjuncts.{own_part, disjuncts_of, all_disjuncts}
 use Rattle.def_ground.specs.Sentences.{are_few, parts_clause, assert_each, assert_of, assert_all, assert_any}
 use Rattle.def_ground.specs.Sentences.{assert_sentences}
-
--- q has p's atoms, and p's clauses first, and otherwise only more gates
-pub record Keeps (p q : ProblemState) : Type 0 where
-  pub atoms : q.atoms ≡ p.atoms
-  pub more : List (List Lit)
-  pub clauses : q.clauses ≡ p.clauses ++ more
-  pub sums : q.sums ≡ p.sums
-  pub terms : q.terms ≡ p.terms
-  pub bounds : q.bounds ≡ p.bounds
-  pub retired : q.retired ≡ p.retired
-
--- what differs in variables, gates and clauses alone
-grown : (p : ProblemState) (n : ℕ) (gates : List Gate) (cs more : List (List Lit)) → cs ≡ p.clauses ++ more
-    → Keeps p (record p { vars = n; gates = gates; clauses = cs })
-grown p n gates cs more h = record {
-  atoms = refl;
-  more = more;
-  clauses = h;
-  sums = refl;
-  terms = refl;
-  bounds = refl;
-  retired = refl;
-}
-
-pub keeps-all : (p : ProblemState) → Keeps p p
-keeps-all p = grown p p.vars p.gates p.clauses [] (sym (append-nil p.clauses))
-
-pub keeps-on : (p q r : ProblemState) → Keeps p q → Keeps q r → Keeps p r
-keeps-on p q r h k = record {
-  atoms = k.atoms ∙ h.atoms;
-  more = h.more ++ k.more;
-  clauses = k.clauses ∙ ap (λ cs. cs ++ k.more) h.clauses ∙ append_assoc p.clauses h.more k.more;
-  sums = k.sums ∙ h.sums;
-  terms = k.terms ∙ h.terms;
-  bounds = k.bounds ∙ h.bounds;
-  retired = k.retired ∙ h.retired;
-}
-
-pub keeps-clause : (p : ProblemState) (c : List Lit) → Keeps p (with_clause p c)
-keeps-clause p c = grown p p.vars p.gates (p.clauses ++ c ∷ []) (c ∷ []) refl
-
-pub keeps-clauses : (p : ProblemState) (cs : List (List Lit)) → Keeps p (with_clauses p cs)
-keeps-clauses p cs = grown p p.vars p.gates (p.clauses ++ cs) cs refl
-
-pub keeps-gate : (p : ProblemState) (all : Bool) (ls : List Lit) → Keeps p (with_gate p all ls)
-keeps-gate p all ls =
-    let q = with_gate p all ls in grown p q.vars q.gates p.clauses [] (sym (append-nil p.clauses))
-
-gate-keeps : (all : Bool) (ls : List Lit) (p : ProblemState) → Keeps p (gate_of all ls p).problem
-gate-keeps all [] p = keeps-all p
-gate-keeps all (l ∷ []) p = keeps-all p
-gate-keeps all (l ∷ m ∷ ls) p = keeps-gate p all (l ∷ m ∷ ls)
+pub use Rattle.def_ground.proofs.KeepSteps.{Keeps, keeps-all, keeps-on, keeps-clause, keeps-clauses}
+use Rattle.def_ground.proofs.KeepSteps.{grown, gate-keeps, cases-keep}
 
 close-keeps : (all s : Bool) (ls : List Lit) (p q : ProblemState) → Keeps p q
     → Keeps p (close_parts all (record { settled = s; lits = ls; problem = q })).problem
@@ -92,14 +49,6 @@ next-keeps : (s : Bool) (ls : List Lit) (p q : ProblemState) (rest : Parts) → 
     → Keeps p (if s then record { settled = true; lits = ls; problem = q } else rest).problem
 next-keeps true ls p q rest h k = h
 next-keeps false ls p q rest h k = keeps-on p q rest.problem h k
-
-answer-keeps : (o : Option Answer) (cs : List Case) (p : ProblemState) → Keeps p (answer_or_cases o cs p).problem
-answer-keeps (Some a) cs p = keeps-all p
-answer-keeps None cs p =
-    let more = clauses_of_cases (next_lit p) cs in grown p (p.vars + 1) p.gates (p.clauses ++ more) more refl
-
-cases-keep : (cs : List Case) (p : ProblemState) → Keeps p (cases_of cs p).problem
-cases-keep cs p = answer-keeps (answer_without cs) cs p
 
 guards-keep : (bs : List (List Lit × Denotation)) (p : ProblemState) → Keeps p (guard_answers bs p).problem
 guards-keep [] p = keeps-all p
@@ -134,13 +83,46 @@ each-keeps G h all (a ∷ xs) ls p =
     (parts_each G all xs (with_answer g.answer ls) g.problem) (h a p)
     (each-keeps G h all xs (with_answer g.answer ls) g.problem)
 
+result-keeps : (c : Bool) (p : ProblemState) (x y : GroundResult) → Keeps p x.problem → Keeps p y.problem
+    → Keeps p (if c then x else y).problem
+result-keeps true p x y h k = h
+result-keeps false p x y h k = k
+
+linear-keeps : (c : Bool) (p : ProblemState) (x y : Linear) → Keeps p x.problem → Keeps p y.problem
+    → Keeps p (if c then x else y).problem
+linear-keeps true p x y h k = h
+linear-keeps false p x y h k = k
+
+sides-keep : (ox oy : Option AggKind) (c : Cmp) (p : ProblemState) (left right both : Linear)
+    (xs ys : List (List Lit × Denotation)) → Keeps p left.problem → Keeps p right.problem → Keeps p both.problem
+    → Keeps p (compared_sides ox oy c left right both xs ys).problem
+sides-keep (Some k) oy c p left right both xs ys l r m =
+    keeps-on p left.problem (compared_with_rows k c left ys).problem l (compared-rows-keep k c left ys)
+sides-keep None (Some k) c p left right both xs ys l r m =
+    keeps-on p right.problem (compared_with_rows k (flipped c) right xs).problem r
+    (compared-rows-keep k (flipped c) right xs)
+sides-keep None None c p left right both xs ys l r m =
+    let rs = rows_between_sides xs ys in
+    keeps-on p both.problem (compared_with_rows kind.Sum c both rs).problem m (compared-rows-keep kind.Sum c both rs)
+
 module _ (b : GroundBase) where
   mutual
     pub form-keeps : (f : FormulaTree) (e : List Elem) (p : ProblemState) → Keeps p (form_of b f e p).problem
     form-keeps verum e p = keeps-all p
     form-keeps falsum e p = keeps-all p
     form-keeps (atom s ts) e p = cases-keep (map (atom_case b s) (rows_of_terms b ts e)) p
-    form-keeps (comparison c x y) e p = comparison-keeps c (rows_of_term b x e) (rows_of_term b y e) p
+    form-keeps (comparison c x y) e p =
+        let left = sums_of b (pos 1) x e (no_parts_yet p) in
+        let right = sums_of b (pos 1) y e (no_parts_yet p) in
+        let both = sums_of b (neg_ℤ (pos 1)) y e left in
+        let one : Keeps p left.problem = sums-keep x e (pos 1) (no_parts_yet p) in
+        result-keeps (has_aggregate x || has_aggregate y) p
+        (compared_sides (extreme_of x) (extreme_of y) c left right both (rows_of_term b x e) (rows_of_term b y e))
+        (comparison_of c (rows_of_term b x e) (rows_of_term b y e) p)
+        (sides-keep (extreme_of x) (extreme_of y) c p left right both (rows_of_term b x e) (rows_of_term b y e) one
+        (sums-keep y e (pos 1) (no_parts_yet p))
+        (keeps-on p left.problem both.problem one (sums-keep y e (neg_ℤ (pos 1)) left)))
+        (comparison-keeps c (rows_of_term b x e) (rows_of_term b y e) p)
     form-keeps (negation f) e p = form-keeps f e p
     form-keeps (conjunction fs) e p =
         let r = parts_of b true fs e [] p in close-keeps true r.settled r.lits p r.problem (parts-keep true fs e [] p)
@@ -172,7 +154,12 @@ module _ (b : GroundBase) where
         let r = parts_each (λ a q. form_of b f (e ++ a) q) false (choices b.domains bs) [] p in
         close-keeps false r.settled r.lits p r.problem
         (each-keeps (λ a q. form_of b f (e ++ a) q) (λ a q. form-keeps f (e ++ a) q) false (choices b.domains bs) [] p)
-    form-keeps (numbered c n bs f) e p = keeps-all p
+    form-keeps (numbered c n bs f) e p =
+        let F : List Elem → ProblemState → GroundResult = λ a q. form_of b f (e ++ a) q in
+        let st = fold (instance_step kind.Count (pos 1) F (λ a. [])) (no_parts_yet p) (choices b.domains bs) in
+        keeps-on p st.problem (compared_at kind.Count c st n).problem
+        (instances-keep kind.Count (pos 1) F (λ a. []) (λ a q. form-keeps f (e ++ a) q) (choices b.domains bs)
+        (no_parts_yet p)) (compared-keeps kind.Count c st n)
 
     parts-keep : (all : Bool) (fs : FormulaTrees) (e : List Elem) (ls : List Lit) (p : ProblemState)
         → Keeps p (parts_of b all fs e ls p).problem
@@ -182,6 +169,36 @@ module _ (b : GroundBase) where
         next-keeps (settles all g.answer) (with_answer g.answer ls) p g.problem
         (parts_of b all fs e (with_answer g.answer ls) g.problem) (form-keeps f e p)
         (parts-keep all fs e (with_answer g.answer ls) g.problem)
+
+    -- the aggregates of a term
+    pub sums-keep : (t : TermTree) (e : List Elem) (z : ℤ) (st : Linear) → Keeps st.problem (sums_of b z t e st).problem
+    sums-keep (variable n) e z st = keeps-all st.problem
+    sums-keep (integer y) e z st = keeps-all st.problem
+    sums-keep (constructed ty n) e z st = keeps-all st.problem
+    sums-keep (application s ts) e z st = keeps-all st.problem
+    sums-keep (summation ss) e z st = operands-keep ss e z st
+    sums-keep (product ts) e z st =
+        linear-keeps (have_aggregates ts) st.problem (sums_of_factors b (z *ℤ integer_factor ts) ts e st) st
+        (factors-keep ts e (z *ℤ integer_factor ts) st) (keeps-all st.problem)
+    sums-keep (aggregate k bs f t) e z st =
+        instances-keep k z (λ a q. form_of b f (e ++ a) q) (λ a. rows_of_term b t (e ++ a))
+        (λ a q. form-keeps f (e ++ a) q) (choices b.domains bs) st
+
+    operands-keep : (ss : SummandTrees) (e : List Elem) (z : ℤ) (st : Linear)
+        → Keeps st.problem (sums_of_summands b z ss e st).problem
+    operands-keep no_summands e z st = keeps-all st.problem
+    operands-keep (more_summands minus t ss) e z st =
+        let next = sums_of b (signed_of minus z) t e st in
+        keeps-on st.problem next.problem (sums_of_summands b z ss e next).problem
+        (sums-keep t e (signed_of minus z) st) (operands-keep ss e z next)
+
+    factors-keep : (ts : TermTrees) (e : List Elem) (z : ℤ) (st : Linear)
+        → Keeps st.problem (sums_of_factors b z ts e st).problem
+    factors-keep no_terms e z st = keeps-all st.problem
+    factors-keep (more_terms t ts) e z st =
+        let next = sums_of b z t e st in
+        keeps-on st.problem next.problem (sums_of_factors b z ts e next).problem (sums-keep t e z st)
+        (factors-keep ts e z next)
 
 -- assertions
 signed-keeps : (sign : Bool) (p : ProblemState) (g : GroundResult) → Keeps p g.problem
@@ -299,10 +316,10 @@ module _ (b : GroundBase) where
         more-keep r.settled p r (all_disjuncts b sign fs e r.lits r.problem) (disjuncts-keep sign f e ls p)
         (all-disjuncts-keep sign fs e r.lits r.problem)
 
-  instances-keep : (sign : Bool) (f : FormulaTree) (e : List Elem) (ls : List Lit) (xs : List (List Elem))
+  parts-each-keep : (sign : Bool) (f : FormulaTree) (e : List Elem) (ls : List Lit) (xs : List (List Elem))
       (p : ProblemState)
       → Keeps p (parts_clause (parts_each (λ a q. signed_result sign (form_of b f (e ++ a) q)) false xs ls p))
-  instances-keep sign f e ls xs p =
+  parts-each-keep sign f e ls xs p =
       parts-clause-keeps p (parts_each (λ a q. signed_result sign (form_of b f (e ++ a) q)) false xs ls p)
       (each-keeps (λ a q. signed_result sign (form_of b f (e ++ a) q))
       (λ a q. signed-keeps sign q (form_of b f (e ++ a) q) (form-keeps b f (e ++ a) q)) false xs ls p)
@@ -317,7 +334,11 @@ module _ (b : GroundBase) where
     assert-keeps sign (atom s ts) e ls p =
         assert-cases-keep sign ls (map (atom_case b s) (rows_of_terms b ts e)) p
     assert-keeps sign (comparison c x y) e ls p =
-        assert-comparison-keeps sign c (rows_of_term b x e) (rows_of_term b y e) ls p
+        either-keeps (has_aggregate x || has_aggregate y) p
+        (or_clause ls (signed_result sign (form_of b (comparison c x y) e p)))
+        (assert_comparison sign c (rows_of_term b x e) (rows_of_term b y e) ls p)
+        (leaf-keeps sign (comparison c x y) e ls p)
+        (assert-comparison-keeps sign c (rows_of_term b x e) (rows_of_term b y e) ls p)
     assert-keeps sign (equivalence f g) e ls p =
         let x = form_of b f e p in
         let y = form_of b g e x.problem in
@@ -344,8 +365,8 @@ module _ (b : GroundBase) where
     assert-keeps true (universal bs f) e ls p =
         assert-each-keeps (λ a q. assert_of b true f (e ++ a) ls q) (λ a q. assert-keeps true f (e ++ a) ls q)
         (choices b.domains bs) p
-    assert-keeps false (universal bs f) e ls p = instances-keep false f e ls (choices b.domains bs) p
-    assert-keeps true (existential bs f) e ls p = instances-keep true f e ls (choices b.domains bs) p
+    assert-keeps false (universal bs f) e ls p = parts-each-keep false f e ls (choices b.domains bs) p
+    assert-keeps true (existential bs f) e ls p = parts-each-keep true f e ls (choices b.domains bs) p
     assert-keeps false (existential bs f) e ls p =
         assert-each-keeps (λ a q. assert_of b false f (e ++ a) ls q) (λ a q. assert-keeps false f (e ++ a) ls q)
         (choices b.domains bs) p

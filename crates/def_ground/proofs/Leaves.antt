@@ -9,7 +9,6 @@ use Rattle.kb_logic.specs.declared.elements.Elem.{Elem}
 use Rattle.kb_logic.specs.declared.syntax.Cmp.{Cmp}
 use Rattle.kb_logic.specs.Trees.{TermTree, variable, integer, constructed, application, summation, product, aggregate}
 use Rattle.kb_logic.specs.Trees.{TermTrees, no_terms, more_terms, SummandTrees, no_summands, more_summands, atom}
-use Rattle.kb_logic.specs.Trees.{FormulaTree}
 use Rattle.kb_logic.specs.Trees.{comparison}
 use Rattle.kb_logic.specs.Denotations.{Denotation, denotation_of, compared}
 use Rattle.kb_logic.specs.Meaning.{has_row, value_of, values_of, truth_of, number_value, summand_plus, product_from}
@@ -30,28 +29,19 @@ use Rattle.def_ground.specs.Comparisons.{comparison_case}
 use Rattle.def_ground.specs.Cases.{Case, case_of}
 use Rattle.def_ground.specs.CaseSentences.{assert_comparison}
 use Rattle.def_ground.specs.Sentences.{assert_of}
-use Rattle.def_ground.specs.GroundForms.{IsGroundForm}
+use Rattle.def_ground.specs.GroundForms.{IsPredicateOf}
 use Rattle.def_ground.specs.Answers.{answer_value, gate_of, AnswerWithin}
-use Rattle.def_ground.specs.Forms.{answer_of_atom, atom_answer, atom_case, signed_result}
+use Rattle.def_ground.specs.Forms.{answer_of_atom, atom_answer, atom_case, form_of, signed_result}
 use Rattle.def_ground.specs.Meanings.{Means, AssertsMore, HasAtoms, HasRoom, IsCaseOf, SideWithin}
-use Rattle.term_values.specs.GroundTerms.{IsGroundTerm}
-use Rattle.def_ground.specs.Laws.{FormIsRight}
+use Rattle.term_values.specs.GroundTerms.{IsGroundTerm, AreGroundTerms}
 use Rattle.term_values.proofs.RowFacts.{place-below}
 use Rattle.term_values.proofs.RowLaws.{term-right, terms-right}
 use Rattle.def_ground.proofs.Growing.{more-refl, lit-more, lits-more}
-use Rattle.def_ground.proofs.FormLaws.{LeafIsRight, gate-right, form-right}
+use Rattle.def_ground.proofs.FormSteps.{gate-right}
 use Rattle.def_ground.proofs.AssertSteps.{any-of, signed-truth, signed-means, clause-right}
 use Rattle.def_ground.proofs.ReadyCases.{AreReady, ready-means, ready-asserts}
 use Rattle.def_ground.proofs.LeafLaws.{predicate-is, predicate-rows-at, atom-value, case-selected, case-yes, case-no}
 use Rattle.def_ground.proofs.LeafLaws.{case-guards, chosen-answers, side-right}
-
--- a leaf of a sentence: it is asserted, or its opposite, or one of the literals
-abbrev pub LeafSays : FormulaTree → Type 0
-LeafSays f =
-    (b : GroundBase) (e : List Elem) (p : ProblemState) (sign : Bool) (ls : List Lit) → IsProblem p → HasAtoms b p
-    → HasRoom b p → IsGroundForm b f → AreLitsOf p.vars ls
-    → AssertsMore p (assert_of b sign f e ls p)
-    (λ v. any-of ls v || signed-truth sign (truth_of (structure_of b v) f e))
 
 abbrev pub RowsIn : {X : Type 0} → ℕ → List (List Lit × X) → Type 0
 RowsIn n rs = AllByRecursion (λ r. AreLitsOf n r.0) rs
@@ -65,7 +55,7 @@ rows-with : {X Y Z : Type 0} (n : ℕ) (op : X → Y → Z) (g : List Lit) (x : 
 rows-with n op g x [] h k = tt
 rows-with n op g x (y ∷ ys) h k = (All-append (IsLitOf n) g y.0 h k.0, rows-with n op g x ys h k.1)
 
-rows-paired : {X Y Z : Type 0} (n : ℕ) (op : X → Y → Z) (xs : List (List Lit × X)) (ys : List (List Lit × Y))
+pub rows-paired : {X Y Z : Type 0} (n : ℕ) (op : X → Y → Z) (xs : List (List Lit × X)) (ys : List (List Lit × Y))
     → RowsIn n xs → RowsIn n ys → RowsIn n (pair_rows op xs ys)
 rows-paired n op [] ys h k = tt
 rows-paired n op (x ∷ xs) ys h k =
@@ -119,7 +109,7 @@ module _ (b : GroundBase) (p : ProblemState) (room : HasRoom b p) (e : List Elem
     term-in (summation ss) = rows-mapped p.vars number_value (rows_of_sum b ss e) (sum-in ss)
     term-in (product ts) =
         rows-mapped p.vars (λ vs. number_value (product_from (pos 1) vs)) (rows_of_terms b ts e) (terms-in ts)
-    term-in (aggregate k bs f t) = tt
+    term-in (aggregate k bs f t) = (All-nil (IsLitOf p.vars), tt)
 
     pub terms-in : (ts : TermTrees) → RowsIn p.vars (rows_of_terms b ts e)
     terms-in no_terms = (All-nil (IsLitOf p.vars), tt)
@@ -150,7 +140,7 @@ cases-in n m C (r ∷ rs) f h = (f r h.0, cases-in n m C rs f h.1)
 
 -- the cases of an atom say what it is
 pub atom-ready : (s : ℕ) (ts : TermTrees) (b : GroundBase) (e : List Elem) (p : ProblemState) → IsProblem p
-    → HasAtoms b p → HasRoom b p → IsGroundForm b (atom s ts)
+    → HasAtoms b p → HasRoom b p → IsPredicateOf b s × AreGroundTerms b ts
     → AreReady p p (map (atom_case b s) (rows_of_terms b ts e)) (λ v. truth_of (structure_of b v) (atom s ts) e)
 atom-ready s ts b e p fine at room h =
     let rows = rows_of_terms b ts e in
@@ -189,13 +179,20 @@ atom-ready s ts b e p fine at room h =
         let low = first-above b s in known-in p.vars (first_var b s + i) (known_of b (first_var b s + i))
         (omega (arith, low)) (room.predicates s i h.0.value (f i refl))
 
-pub atom-right : (s : ℕ) (ts : TermTrees) → LeafIsRight (atom s ts)
+pub atom-right : (s : ℕ) (ts : TermTrees) (b : GroundBase) (e : List Elem) (p : ProblemState) → IsProblem p
+    → HasAtoms b p → HasRoom b p → IsPredicateOf b s × AreGroundTerms b ts
+    → Means p (form_of b (atom s ts) e p).problem (form_of b (atom s ts) e p).answer
+    (λ v. truth_of (structure_of b v) (atom s ts) e)
 atom-right s ts b e p fine at room h =
     ready-means p p (map (atom_case b s) (rows_of_terms b ts e)) (λ v. truth_of (structure_of b v) (atom s ts) e)
     (atom-ready s ts b e p fine at room h)
 
 -- an atom that is asserted
-pub atom-says : (s : ℕ) (ts : TermTrees) → LeafSays (atom s ts)
+pub atom-says : (s : ℕ) (ts : TermTrees) (b : GroundBase) (e : List Elem) (p : ProblemState) (sign : Bool)
+    (ls : List Lit) → IsProblem p → HasAtoms b p → HasRoom b p → IsPredicateOf b s × AreGroundTerms b ts
+    → AreLitsOf p.vars ls
+    → AssertsMore p (assert_of b sign (atom s ts) e ls p)
+    (λ v. any-of ls v || signed-truth sign (truth_of (structure_of b v) (atom s ts) e))
 atom-says s ts b e p sign ls fine at room h within =
     ready-asserts p p (map (atom_case b s) (rows_of_terms b ts e)) (λ v. truth_of (structure_of b v) (atom s ts) e)
     sign ls (atom-ready s ts b e p fine at room h) within
@@ -317,7 +314,11 @@ comparison-by c x y b e p fine at room h (x1 ∷ more) within sel =
     (λ v. truth_of (structure_of b v) (comparison c x y) e)
     (comparison-ready c x y b e p fine at room h (x1 ∷ more) within sel)
 
-pub comparison-right : (c : Cmp) (x y : TermTree) → LeafIsRight (comparison c x y)
+-- a comparison of terms without aggregates
+pub comparison-right : (c : Cmp) (x y : TermTree) (b : GroundBase) (e : List Elem) (p : ProblemState) → IsProblem p
+    → HasAtoms b p → HasRoom b p → IsGroundTerm b x × IsGroundTerm b y
+    → (let g = comparison_of c (rows_of_term b x e) (rows_of_term b y e) p in
+    Means p g.problem g.answer (λ v. truth_of (structure_of b v) (comparison c x y) e))
 comparison-right c x y b e p fine at room h =
     comparison-by c x y b e p fine at room h.1 (rows_of_term b x e) (term-in b p room e x)
     (λ v s. term-right b v (at v s) e x h.0)
@@ -341,10 +342,11 @@ comparison-says-by c x y b e p sign ls fine at room h inside (x1 ∷ more) withi
     (λ v. truth_of (structure_of b v) (comparison c x y) e) sign ls
     (comparison-ready c x y b e p fine at room h (x1 ∷ more) within sel) inside
 
-pub comparison-says : (c : Cmp) (x y : TermTree) → LeafSays (comparison c x y)
+pub comparison-says : (c : Cmp) (x y : TermTree) (b : GroundBase) (e : List Elem) (p : ProblemState) (sign : Bool)
+    (ls : List Lit) → IsProblem p → HasAtoms b p → HasRoom b p → IsGroundTerm b x × IsGroundTerm b y
+    → AreLitsOf p.vars ls
+    → AssertsMore p (assert_comparison sign c (rows_of_term b x e) (rows_of_term b y e) ls p)
+    (λ v. any-of ls v || signed-truth sign (truth_of (structure_of b v) (comparison c x y) e))
 comparison-says c x y b e p sign ls fine at room h inside =
     comparison-says-by c x y b e p sign ls fine at room h.1 inside (rows_of_term b x e) (term-in b p room e x)
     (λ v s. term-right b v (at v s) e x h.0)
-
-pub form-is-right : FormIsRight
-form-is-right b f e p fine at room h = form-right b atom-right comparison-right f e p h fine at room

@@ -2,6 +2,20 @@ pub mod Growing
 pub mod ShownCases
 pub mod CaseLaws
 pub mod CaseSteps
+pub mod Products
+pub mod SplitTerms
+pub mod SideValues
+pub mod FormSteps
+pub mod LinearParts
+pub mod LinearGuards
+pub mod LinearSteps
+pub mod LinearInstances
+pub mod LinearStart
+pub mod ThresholdSums
+pub mod ThresholdExtremes
+pub mod ThresholdComparisons
+pub mod ThresholdRows
+pub mod ComparedSides
 pub mod FormLaws
 pub mod LeafLaws
 pub mod Leaves
@@ -15,6 +29,7 @@ pub mod AssertLaws
 pub mod SentenceLaws
 pub mod TypedForms
 pub mod StartLaws
+pub mod KeepSteps
 pub mod KeepLaws
 pub mod NumberTerms
 pub mod WeighedRows
@@ -25,3 +40,8 @@ pub mod Counting
 pub mod FewLaws
 pub mod WithClauses
 pub mod SideSteps
+pub mod LinearCalls
+pub mod ThresholdSides
+pub mod ThresholdCalls
+pub mod LinearFew
+pub mod LinearKeeps

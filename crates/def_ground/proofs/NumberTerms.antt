@@ -1,13 +1,12 @@
--- The rows of a well typed number have numbers, and so it has a number as its value.
-use Rattle.std.proofs.Common.{◌≡◌, ℕ, ◌<◌, ℤ, pos, ◌+ℤ◌, ◌*ℤ◌, List, [], ◌∷◌, ◌++◌, map, length, Bool, true, false}
-use Rattle.std.proofs.Common.{Option, Some, None, if◌then◌else◌, option_map, slice_get, refl, sym, ap, subst, ◌∙◌}
+-- The rows of a well typed number have numbers.
+use Rattle.std.proofs.Common.{◌≡◌, ℕ, ◌<◌, ℤ, pos, ◌+ℤ◌, ◌*ℤ◌, List, [], ◌∷◌, ◌++◌, map, length}
+use Rattle.std.proofs.Common.{Option, Some, None, option_map, slice_get, refl, sym, ap, subst, ◌∙◌}
 use Rattle.std.proofs.Common.{arith}
 use Rattle.std.specs.Option.{unwrap_or}
-use Rattle.std.specs.List.{list_all, Contains, AllByRecursion}
+use Rattle.std.specs.List.{Contains, AllByRecursion}
 use Rattle.std.proofs.lemmas.List.{length-map}
 use Rattle.kb_logic.specs.declared.elements.Elem.{Elem}
 use Rattle.kb_logic.specs.declared.elements.Elem.TheVariants.{Named, Num}
-use Rattle.kb_logic.specs.declared.structures.Structure.{Structure}
 use Rattle.kb_logic.specs.declared.vocabularies.Parent.{Parent}
 use Rattle.kb_logic.specs.declared.vocabularies.Parent.TheVariants.{Root, Int, Nat, Of}
 use Rattle.kb_logic.specs.declared.vocabularies.TypeDecl.{TypeDecl}
@@ -16,21 +15,21 @@ use Rattle.kb_logic.specs.Trees.{TermTree, variable, integer, constructed, appli
 use Rattle.kb_logic.specs.Trees.{TermTrees, no_terms, more_terms, SummandTrees, no_summands, more_summands}
 use Rattle.kb_logic.specs.Structures.{domain_at}
 use Rattle.kb_logic.specs.Denotations.{Denotation, number, denotation_of}
-use Rattle.kb_logic.specs.Meaning.{value_of, sum_of, number_value, product_from, signed_of, summand_plus}
-use Rattle.kb_logic.specs.Bounds.{value_type_of}
+use Rattle.kb_logic.specs.Meaning.{number_value, product_from, signed_of, summand_plus}
+use Rattle.kb_logic.specs.Bounds.{value_type_of, HasTypes}
 use Rattle.kb_logic.specs.Domains.{IsUnder, IsDomainOf, AreDomainsOf}
 use Rattle.kb_logic.specs.Typing.{IsBelow, itself, under, IsNumberParent, IsNumberType, IsNumeric, element_of, sort_of}
 use Rattle.kb_logic.specs.Typing.{IsIntegerIn, TermIsTyped, FactorsAreTyped, OperandsAreTyped}
 use Rattle.kb_logic.proofs.Members.{all_in}
 use Rattle.lit_core.specs.declared.literals.Lit.{Lit}
-use Rattle.lit_core.specs.Literals.{literal_value}
-use Rattle.term_values.specs.GroundBases.{GroundBase, structure_of, IsOver}
-use Rattle.term_values.specs.GroundTerms.{TermHasNoCounting, TermsHaveNoCounting, SummandsHaveNoCounting}
-use Rattle.term_values.specs.Rows.{rows_of_term, rows_of_terms, rows_of_sum, selected_values}
+use Rattle.term_values.specs.GroundBases.{GroundBase}
+use Rattle.term_values.specs.GroundTerms.{TermHasNoCounting}
+use Rattle.term_values.specs.Rows.{rows_of_term, rows_of_terms, rows_of_sum}
 use Rattle.term_values.proofs.FewRows.{all-flat, all-mapped, IsIn, of-type}
-use Rattle.term_values.proofs.RowLaws.{term-right}
 use Rattle.term_values.proofs.StructureLaws.{each-at}
 use Rattle.term_values.proofs.TypedLaws.{typed-term, ground-term}
+use Rattle.def_ground.specs.GroundForms.{IsNumberRow, IsNumberTerm}
+use Rattle.def_ground.proofs.SideValues.{IsNumberValue}
 
 -- ---- the elements of a number type are numbers
 
@@ -68,12 +67,6 @@ some-name (q ∷ names) n h e = absurd cc
 
 -- ---- rows
 
-abbrev pub IsNumberValue : Denotation → Type 0
-IsNumberValue d = (z : ℤ) × (d ≡ number z)
-
-abbrev pub IsNumberRow : List Lit × Denotation → Type 0
-IsNumberRow r = IsNumberValue r.1
-
 abbrev IsSumRow : List Lit × Option ℤ → Type 0
 IsSumRow r = (z : ℤ) × (r.1 ≡ Some z)
 
@@ -86,7 +79,8 @@ product-number [] w h = (w, refl)
 product-number (d ∷ ds) w h =
     let rest = product-number ds (w *ℤ h.0.0) h.1 in (rest.0, ap (λ y. product_from w (y ∷ ds)) h.0.1 ∙ rest.1)
 
-module _ (b : GroundBase) (given : AreDomainsOf b.vocabulary b.domains) where
+module _ (b : GroundBase) (given : AreDomainsOf b.vocabulary b.domains) (scope : List ℕ) (e : List Elem)
+    (types : HasTypes b.domains scope e) where
   in-numbers : (ty : ℕ) (rs : List (List Lit × Denotation)) → IsNumberType b.vocabulary ty
       → AllByRecursion (IsIn b.domains ty) rs → AllByRecursion IsNumberRow rs
   in-numbers ty [] h k = tt
@@ -97,94 +91,70 @@ module _ (b : GroundBase) (given : AreDomainsOf b.vocabulary b.domains) where
 
   applied-numbers : (s : ℕ) (ts : TermTrees) (o : Option ℕ) → value_type_of b.vocabulary s ≡ o
       → IsNumeric b.vocabulary (option_map element_of o)
-      → TermIsTyped b.vocabulary (IsIntegerIn b.domains) (application s ts) [] → TermHasNoCounting (application s ts)
-      → AllByRecursion IsNumberRow (rows_of_term b (application s ts) [])
-  applied-numbers s ts None e h typed none = absurd h
-  applied-numbers s ts (Some ty) e h typed none =
+      → TermIsTyped b.vocabulary (IsIntegerIn b.domains) (application s ts) scope
+      → AllByRecursion IsNumberRow (rows_of_term b (application s ts) e)
+  applied-numbers s ts None is h typed = absurd h
+  applied-numbers s ts (Some ty) is h typed =
       let t = application s ts in
-      in-numbers ty (rows_of_term b t []) h
-      (of-type b [] [] tt ty t (ty, e, λ x at. at) (typed-term b.vocabulary b.domains given t [] typed none))
+      in-numbers ty (rows_of_term b t e) h
+      (of-type b scope e types ty t (ty, is, λ x at. at) (typed-term b.vocabulary b.domains given t scope typed))
 
   mutual
-    pub number-rows : (t : TermTree) → TermIsTyped b.vocabulary (IsIntegerIn b.domains) t []
-        → IsNumeric b.vocabulary (sort_of b.vocabulary t []) → TermHasNoCounting t
-        → AllByRecursion IsNumberRow (rows_of_term b t [])
-    number-rows (variable n) typed numeric none = absurd numeric
-    number-rows (integer z) typed numeric none = ((z, refl), tt)
-    number-rows (constructed ty n) typed numeric none =
+    pub number-rows : (t : TermTree) → TermIsTyped b.vocabulary (IsIntegerIn b.domains) t scope
+        → IsNumeric b.vocabulary (sort_of b.vocabulary t scope) → AllByRecursion IsNumberRow (rows_of_term b t e)
+    number-rows (variable n) typed numeric =
+        let is = subst (λ o. IsNumeric b.vocabulary (option_map element_of o)) typed.1 numeric in
+        in-numbers typed.0 (rows_of_term b (variable n) e) is
+        (of-type b scope e types typed.0 (variable n) (typed.0, typed.1, λ x at. at) tt)
+    number-rows (integer z) typed numeric = ((z, refl), tt)
+    number-rows (constructed ty n) typed numeric =
         let d = typed.0 in
         let domain = domain-of b.vocabulary b.domains given ty d typed.1 in
         let names : domain_at b.domains ty ≡ map Named d.made = domain.names (some-name d.made n typed.2) in
         let size = ap length names ∙ length-map d.made Named in
         let inside = typed.2 in
-        in-numbers ty (rows_of_term b (constructed ty n) []) numeric
-        (of-type b [] [] tt ty (constructed ty n) (omega (arith, size, inside), λ x at. at) tt)
-    number-rows (application s ts) typed numeric none =
-        applied-numbers s ts (value_type_of b.vocabulary s) refl numeric typed none
-    number-rows (summation ss) typed numeric none =
+        in-numbers ty (rows_of_term b (constructed ty n) e) numeric
+        (of-type b scope e types ty (constructed ty n) (omega (arith, size, inside), λ x at. at) tt)
+    number-rows (application s ts) typed numeric =
+        applied-numbers s ts (value_type_of b.vocabulary s) refl numeric typed
+    number-rows (summation ss) typed numeric =
         all-mapped IsSumRow IsNumberRow (λ r. (r.0, number_value r.1)) (λ r h. (h.0, ap number_value h.1))
-        (rows_of_sum b ss []) (sum-rows ss typed none)
-    number-rows (product ts) typed numeric none =
+        (rows_of_sum b ss e) (sum-rows ss typed)
+    number-rows (product ts) typed numeric =
         all-mapped AreNumbersRow IsNumberRow (λ r. (r.0, number_value (product_from (pos 1) r.1)))
-        (λ r h. let z = product-number r.1 (pos 1) h in (z.0, ap number_value z.1)) (rows_of_terms b ts [])
-        (factor-rows ts typed none)
-    number-rows (aggregate k bs f t) typed numeric none = absurd none
+        (λ r h. let z = product-number r.1 (pos 1) h in (z.0, ap number_value z.1)) (rows_of_terms b ts e)
+        (factor-rows ts typed)
+    number-rows (aggregate k bs f t) typed numeric = ((pos 0, refl), tt)
 
-    sum-rows : (ss : SummandTrees) → OperandsAreTyped b.vocabulary (IsIntegerIn b.domains) ss []
-        → SummandsHaveNoCounting ss → AllByRecursion IsSumRow (rows_of_sum b ss [])
-    sum-rows no_summands typed none = ((pos 0, refl), tt)
-    sum-rows (more_summands minus t ss) typed none =
-        let rest = sum-rows ss typed.2 none.1 in
+    sum-rows : (ss : SummandTrees) → OperandsAreTyped b.vocabulary (IsIntegerIn b.domains) ss scope
+        → AllByRecursion IsSumRow (rows_of_sum b ss e)
+    sum-rows no_summands typed = ((pos 0, refl), tt)
+    sum-rows (more_summands minus t ss) typed =
+        let rest = sum-rows ss typed.2 in
         all-flat IsNumberRow IsSumRow
-        (λ (x : List Lit × Denotation). map (λ y. (x.0 ++ y.0, summand_plus minus x.1 y.1)) (rows_of_sum b ss []))
+        (λ (x : List Lit × Denotation). map (λ y. (x.0 ++ y.0, summand_plus minus x.1 y.1)) (rows_of_sum b ss e))
         (λ x h. all-mapped IsSumRow IsSumRow (λ y. (x.0 ++ y.0, summand_plus minus x.1 y.1))
         (λ y k. (
           signed_of minus h.0 +ℤ k.0,
           ap (λ d. summand_plus minus d y.1) h.1
               ∙ ap (summand_plus minus (number h.0)) k.1,
-        )) (rows_of_sum b ss []) rest)
-        (rows_of_term b t []) (number-rows t typed.0 typed.1 none.0)
+        )) (rows_of_sum b ss e) rest)
+        (rows_of_term b t e) (number-rows t typed.0 typed.1)
 
-    factor-rows : (ts : TermTrees) → FactorsAreTyped b.vocabulary (IsIntegerIn b.domains) ts []
-        → TermsHaveNoCounting ts → AllByRecursion AreNumbersRow (rows_of_terms b ts [])
-    factor-rows no_terms typed none = (tt, tt)
-    factor-rows (more_terms t ts) typed none =
-        let rest = factor-rows ts typed.2 none.1 in
+    factor-rows : (ts : TermTrees) → FactorsAreTyped b.vocabulary (IsIntegerIn b.domains) ts scope
+        → AllByRecursion AreNumbersRow (rows_of_terms b ts e)
+    factor-rows no_terms typed = (tt, tt)
+    factor-rows (more_terms t ts) typed =
+        let rest = factor-rows ts typed.2 in
         all-flat IsNumberRow AreNumbersRow
-        (λ (x : List Lit × Denotation). map (λ y. (x.0 ++ y.0, x.1 ∷ y.1)) (rows_of_terms b ts []))
+        (λ (x : List Lit × Denotation). map (λ y. (x.0 ++ y.0, x.1 ∷ y.1)) (rows_of_terms b ts e))
         (λ x h. all-mapped AreNumbersRow AreNumbersRow (λ y. (x.0 ++ y.0, x.1 ∷ y.1)) (λ y k. (h, k))
-        (rows_of_terms b ts []) rest) (rows_of_term b t []) (number-rows t typed.0 typed.1 none.0)
+        (rows_of_terms b ts e) rest) (rows_of_term b t e) (number-rows t typed.0 typed.1)
 
--- ---- values
-
-selected-number : (v : ℕ → Bool) (rs : List (List Lit × Denotation)) (x : Denotation) → AllByRecursion IsNumberRow rs
-    → selected_values v rs ≡ x ∷ [] → IsNumberValue x
-selected-number v [] x h e = absurd cc
-selected-number v (r ∷ rs) x h e =
-    by_guards (list_all (literal_value v) r.0) e (λ k. selected-number v rs x h.1 k)
-  where
-    by_guards : (c : Bool) → (if c then r.1 ∷ selected_values v rs else selected_values v rs) ≡ x ∷ []
-        → (selected_values v rs ≡ x ∷ [] → IsNumberValue x) → IsNumberValue x
-    by_guards true k rest = let same : r.1 ≡ x = cc in subst IsNumberValue same h.0
-    by_guards false k rest = rest k
-
-module _ (b : GroundBase) (v : ℕ → Bool) (over : IsOver b v) (given : AreDomainsOf b.vocabulary b.domains) where
-  abbrev m : Structure
-  m = structure_of b v
-
-  pub number-value : (t : TermTree) → TermIsTyped b.vocabulary (IsIntegerIn b.domains) t []
-      → IsNumeric b.vocabulary (sort_of b.vocabulary t []) → TermHasNoCounting t
-      → (z : ℤ) × (value_of m t [] ≡ number z)
-  number-value t typed numeric none =
-      selected-number v (rows_of_term b t []) (value_of m t []) (number-rows b given t typed numeric none)
-      (term-right b v over [] t (ground-term b (IsIntegerIn b.domains) t [] typed none))
-
-  pub number-sum : (ss : SummandTrees) → OperandsAreTyped b.vocabulary (IsIntegerIn b.domains) ss []
-      → SummandsHaveNoCounting ss → (z : ℤ) × (sum_of m ss [] ≡ Some z)
-  number-sum no_summands typed none = (pos 0, refl)
-  number-sum (more_summands minus t ss) typed none =
-      let n = number-value t typed.0 typed.1 none.0 in
-      let s = number-sum ss typed.2 none.1 in (
-        signed_of minus n.0 +ℤ s.0,
-        ap (λ d. summand_plus minus d (sum_of m ss [])) n.1 ∙ ap (summand_plus minus (number n.0)) s.1,
-      )
+  -- a well typed number without aggregates
+  pub number-term-is : (t : TermTree) → TermIsTyped b.vocabulary (IsIntegerIn b.domains) t scope
+      → IsNumeric b.vocabulary (sort_of b.vocabulary t scope) → TermHasNoCounting t → IsNumberTerm b t e
+  number-term-is t typed numeric none = record {
+    term = ground-term b (IsIntegerIn b.domains) t scope typed none;
+    rows = number-rows t typed numeric;
+  }

@@ -10,7 +10,7 @@ use Rattle.def_ground.specs.CaseSentences.{assert_cases}
 use Rattle.def_ground.specs.Meanings.{Means, AssertsMore, IsCaseOf, CasesSay}
 use Rattle.def_ground.proofs.Growing.{lits-more}
 use Rattle.def_ground.proofs.CaseLaws.{cases-hold}
-use Rattle.def_ground.proofs.FormLaws.{means-then}
+use Rattle.def_ground.proofs.FormSteps.{means-then}
 use Rattle.def_ground.proofs.AssertSteps.{any-of, Local, signed-truth, any-local, or-local, says-after}
 use Rattle.def_ground.proofs.CaseSentenceLaws.{cases-asserted}
 

@@ -1,57 +1,28 @@
 -- Rows as weighted literals: what the true ones come to.
-use Rattle.std.proofs.Common.{◌≡◌, ℕ, ◌+◌, ◌≤◌, ℤ, pos, ◌+ℤ◌, ◌-ℤ◌, Bool, true, false, cond, List, [], ◌∷◌, ◌++◌}
-use Rattle.std.proofs.Common.{map, fold, filter, length, get_or, if◌then◌else◌, refl, ap, ◌∙◌, arith}
+use Rattle.std.proofs.Common.{◌≡◌, ℕ, ◌+◌, ◌≤◌, ℤ, pos, ◌+ℤ◌, ◌-ℤ◌, Bool, true, false, List, [], ◌∷◌, ◌++◌}
+use Rattle.std.proofs.Common.{map, length, get_or, if◌then◌else◌, refl, ap, ◌∙◌, arith}
 use Rattle.std.specs.List.{list_all}
 use Rattle.std.proofs.lemmas.Int.{ints}
-use Rattle.std.proofs.lemmas.List.Elements.{All-cons, All-nil, All-push}
-use Rattle.kb_logic.specs.declared.syntax.AggKind.TheVariants as kind
-use Rattle.kb_logic.specs.Denotations.{Denotation, number, added}
+use Rattle.std.proofs.lemmas.List.Elements.{All-nil, All-push}
+use Rattle.kb_logic.specs.Denotations.{Denotation}
 use Rattle.kb_logic.specs.Meaning.{signed_of}
 use Rattle.lit_core.specs.declared.literals.Lit.{Lit}
 use Rattle.lit_core.specs.Literals.{literal_value}
-use Rattle.ground_core.specs.declared.parts.Gate.{Gate}
 use Rattle.ground_core.specs.declared.parts.Part.{Part}
-use Rattle.ground_core.specs.Problems.{ProblemState, IsProblem, IsLitOf, AreLitsOf, ArePartsOf, IsGateOf}
-use Rattle.ground_core.specs.Meaning.{Satisfies, joined, parts_value, weights_of}
+use Rattle.ground_core.specs.Problems.{ProblemState, IsProblem, IsLitOf, AreLitsOf, ArePartsOf}
+use Rattle.ground_core.specs.Meaning.{Satisfies}
 use Rattle.ground_core.specs.More.{DefinesMore}
-use Rattle.ground_core.specs.Growth.{next_lit, with_gate}
-use Rattle.ground_core.proofs.Fronts.{All-front}
-use Rattle.ground_core.proofs.Mores.{more-trans, gate-added}
+use Rattle.ground_core.proofs.Mores.{more-trans}
 use Rattle.term_values.specs.Rows.{selected_values}
-use Rattle.def_ground.specs.declared.answers.Answer.TheVariants.{Literal}
-use Rattle.def_ground.specs.AskedTerms.{number_of, first_weight, other_weights, guarded_by, WeightedParts, weigh}
+use Rattle.def_ground.specs.AskedTerms.{number_of, first_weight, other_weights, WeightedParts, weigh}
+use Rattle.def_ground.specs.Guards.{guarded_by}
 use Rattle.def_ground.specs.AskedTerms.{weigh_all}
-use Rattle.def_ground.specs.Meanings.{Means}
-use Rattle.def_ground.proofs.FormLaws.{gate-right}
-use Rattle.def_ground.proofs.Growing.{more-refl, lit-more, lits-more, problem-grown}
-use Rattle.def_ground.proofs.KeepLaws.{Keeps, keeps-all, keeps-on, keeps-gate}
+use Rattle.def_ground.proofs.Growing.{more-refl, lit-more, lits-more}
+use Rattle.def_ground.proofs.KeepSteps.{Keeps, keeps-all, keeps-on}
 use Rattle.def_ground.proofs.Leaves.{RowsIn}
-
--- what the weights of the true parts come to
-abbrev pub part_sum : (ℕ → Bool) → List Part → ℤ
-part_sum v [] = pos 0
-part_sum v (p ∷ ps) = (if literal_value v p.lit then p.weight else pos 0) +ℤ part_sum v ps
-
-fold-sum : (v : ℕ → Bool) (ps : List Part) (z : ℤ)
-    → fold added (number z) (weights_of v ps) ≡ number (z +ℤ part_sum v ps)
-fold-sum v [] z = let same : z ≡ z +ℤ pos 0 = omega (arith, ints) in ap number same
-fold-sum v (p ∷ ps) z = by_value (literal_value v p.lit) (fold-sum v ps)
-  where
-    by_value : (c : Bool) → ((w : ℤ) → fold added (number w) (weights_of v ps) ≡ number (w +ℤ part_sum v ps))
-        → fold added (number z) (map (λ (q : Part). number q.weight) (cond c
-        (p ∷ filter (λ (q : Part). literal_value v q.lit) ps) (filter (λ (q : Part). literal_value v q.lit) ps)))
-        ≡ number (z +ℤ ((if c then p.weight else pos 0) +ℤ part_sum v ps))
-    by_value true rest =
-        let same : (z +ℤ p.weight) +ℤ part_sum v ps ≡ z +ℤ (p.weight +ℤ part_sum v ps) = omega (arith, ints) in
-        rest (z +ℤ p.weight) ∙ ap number same
-    by_value false rest =
-        let same : z +ℤ part_sum v ps ≡ z +ℤ (pos 0 +ℤ part_sum v ps) = omega (arith, ints) in
-        rest z ∙ ap number same
-
-pub parts-sum : (v : ℕ → Bool) (ps : List Part) → parts_value v kind.Sum ps ≡ number (part_sum v ps)
-parts-sum v ps =
-    let same : pos 0 +ℤ part_sum v ps ≡ part_sum v ps = omega (arith, ints) in
-    fold-sum v ps (pos 0) ∙ ap number same
+use Rattle.def_ground.proofs.LinearGuards.{guarded-means, guarded-few}
+use Rattle.def_ground.proofs.LinearKeeps.{guarded-keeps}
+use Rattle.def_ground.proofs.LinearParts.{part_sum}
 
 part-push : (v : ℕ → Bool) (ps : List Part) (q : Part)
     → part_sum v (ps ++ q ∷ []) ≡ part_sum v ps +ℤ (if literal_value v q.lit then q.weight else pos 0)
@@ -84,7 +55,8 @@ mapped-sum v D (r ∷ rs) = by_guards (list_all (literal_value v) r.0) (mapped-s
     by_guards true e = ap (λ z. D r.1 +ℤ z) e
     by_guards false e = omega (arith, ints, e)
 
-signed-difference : (minus : Bool) (x y : ℤ) → signed_of minus y +ℤ (signed_of minus (x -ℤ y) +ℤ pos 0) ≡ signed_of minus x
+signed-difference : (minus : Bool) (x y : ℤ)
+    → signed_of minus y +ℤ (signed_of minus (x -ℤ y) +ℤ pos 0) ≡ signed_of minus x
 signed-difference true x y = omega (arith, ints)
 signed-difference false x y = omega (arith, ints)
 
@@ -115,32 +87,6 @@ summand-sum v minus (r ∷ rs) x h =
         (λ d. signed_of minus (number_of d -ℤ number_of r.1)) ds) e
         ∙ signed-difference minus (number_of x) (number_of r.1)
 
--- ---- guards as literals
-
-any-gate : (p : ProblemState) (ls : List Lit) → IsProblem p → AreLitsOf p.vars ls
-    → Means p (with_gate p true ls) (Literal (next_lit p)) (λ v. joined true v ls)
-any-gate p ls fine within =
-    let add = gate-added p true ls fine within in
-    let g : Gate = record { out = next_lit p; all = true; parts = ls } in
-    let grown = problem-grown p (p.vars + 1) (g ∷ []) [] fine (omega arith)
-    (All-cons (IsGateOf (p.vars + 1)) g []
-    ((omega arith, omega arith), lits-more p.vars (p.vars + 1) (omega arith) ls within)
-    (All-nil (IsGateOf (p.vars + 1)))) (All-nil (AreLitsOf (p.vars + 1))) in
-    record {
-      fine = record {
-        atoms = grown.atoms;
-        gates = grown.gates;
-        clauses = All-front (AreLitsOf (p.vars + 1)) p.clauses [] grown.clauses;
-        sums = grown.sums;
-        terms = grown.terms;
-        bounds = grown.bounds;
-        retired = grown.retired;
-      };
-      more = add.more;
-      within = add.within;
-      right = add.means;
-    }
-
 -- q defines more than p, and the parts come to V in each valuation that satisfies it
 pub record Weighs (p : ProblemState) (st : WeightedParts) (V : (ℕ → Bool) → ℤ) : Type 0 where
   pub fine : IsProblem st.problem
@@ -156,23 +102,12 @@ weighs-nothing p fine = record {
   right = λ v s. refl;
 }
 
--- the literal that stands for guards
-guarded-means : (p : ProblemState) (g : List Lit) → IsProblem p → AreLitsOf p.vars g
-    → Means p (guarded_by g p).problem (Literal (guarded_by g p).lit) (λ v. joined true v g)
-guarded-means p [] fine within = any-gate p [] fine within
-guarded-means p (l ∷ []) fine within = gate-right p true (l ∷ []) fine within
-guarded-means p (l ∷ m ∷ ls) fine within = any-gate p (l ∷ m ∷ ls) fine within
-
-guarded-keeps : (p : ProblemState) (g : List Lit) → Keeps p (guarded_by g p).problem
-guarded-keeps p [] = keeps-gate p true []
-guarded-keeps p (l ∷ []) = keeps-all p
-guarded-keeps p (l ∷ m ∷ ls) = keeps-gate p true (l ∷ m ∷ ls)
-
 pub weigh-all-keeps : (rs : List (List Lit × ℤ)) (st : WeightedParts) → Keeps st.problem (weigh_all rs st).problem
 weigh-all-keeps [] st = keeps-all st.problem
 weigh-all-keeps (r ∷ rs) st =
     let next = weigh r.1 r.0 st in
-    keeps-on st.problem next.problem (weigh_all rs next).problem (guarded-keeps st.problem r.0) (weigh-all-keeps rs next)
+    keeps-on st.problem next.problem (weigh_all rs next).problem (guarded-keeps st.problem r.0)
+    (weigh-all-keeps rs next)
 
 weigh-right : (p : ProblemState) (st : WeightedParts) (V : (ℕ → Bool) → ℤ) (h : Weighs p st V) (w : ℤ) (g : List Lit)
     → AreLitsOf st.problem.vars g
@@ -212,15 +147,10 @@ weigh-all-right p (r ∷ rs) st V ins h =
     (λ v. omega (arith, ints)) (weigh-all-right p rs (weigh r.1 r.0 st) W ins.1 now)
 
 -- how many variables they add
-guarded-vars : (g : List Lit) (p : ProblemState) → (guarded_by g p).problem.vars ≤ p.vars + 1
-guarded-vars [] p = omega arith
-guarded-vars (l ∷ []) p = omega arith
-guarded-vars (l ∷ m ∷ ls) p = omega arith
-
 pub weigh-all-vars : (rs : List (List Lit × ℤ)) (st : WeightedParts)
     → (weigh_all rs st).problem.vars ≤ st.problem.vars + length rs
 weigh-all-vars [] st = omega arith
 weigh-all-vars (r ∷ rs) st =
-    let one = guarded-vars r.0 st.problem in
+    let one = guarded-few st.problem r.0 in
     let more = weigh-all-vars rs (weigh r.1 r.0 st) in
     omega (arith, one, more)

@@ -3,8 +3,8 @@
 -- Of the rows of a summand exactly one holds. So the summand has the value of its first row, and for each other row the
 -- difference to it where that row holds: one part less, and none where there is only one row. A sum is split into its
 -- summands, so that no row of the one is joined with a row of the other.
-use Rattle.std.specs.Prelude.{ℤ, pos, ◌+ℤ◌, ◌-ℤ◌, List, [], ◌∷◌, ◌++◌, map, flat_map, fold, Bool, true, false}
-use Rattle.std.specs.Prelude.{if◌then◌else◌}
+use Rattle.std.specs.Prelude.{ℕ, ℤ, pos, ◌+ℤ◌, ◌-ℤ◌, List, [], ◌∷◌, ◌++◌, map, flat_map, fold, Bool, true, false}
+use Rattle.std.specs.Prelude.{if◌then◌else◌, Option, Some, None}
 use Rattle.std.specs.List.{list_any}
 use Rattle.kb_logic.specs.declared.syntax.AggKind.TheVariants as kind
 use Rattle.kb_logic.specs.Bases.{NamedTerm}
@@ -15,9 +15,14 @@ use Rattle.kb_logic.specs.Trees.{SummandTrees, no_summands, more_summands}
 use Rattle.lit_core.specs.declared.literals.Lit.{Lit}
 use Rattle.ground_core.specs.declared.parts.Part.{Part}
 use Rattle.ground_core.specs.Problems.{ProblemState}
-use Rattle.ground_core.specs.Growth.{next_lit, with_gate, with_term}
+use Rattle.ground_core.specs.Growth.{with_term}
+use Rattle.kb_logic.specs.declared.syntax.AggKind.{AggKind}
 use Rattle.term_values.specs.GroundBases.{GroundBase}
 use Rattle.term_values.specs.Rows.{rows_of_term}
+use Rattle.def_ground.specs.Counting.{extreme_of}
+use Rattle.def_ground.specs.Forms.{no_parts_yet, sums_of}
+use Rattle.def_ground.specs.Guards.{guarded_by}
+use Rattle.def_ground.specs.Linear.{Linear}
 
 -- the number that a value is in a sum
 abbrev pub number_of : Denotation → ℤ
@@ -78,17 +83,6 @@ abbrev pub first_sum : List Summand → ℤ
 first_sum [] = pos 0
 first_sum (s ∷ ss) = first_weight s.minus s.rows +ℤ first_sum ss
 
--- a literal, and the problem that defines it
-pub record Guarded : Type 0 where
-  pub lit : Lit
-  pub problem : ProblemState
-
--- a literal that says that all of the guards are true: one alone says so itself, else a gate does
-abbrev pub guarded_by : List Lit → ProblemState → Guarded
-guarded_by [] p = record { lit = next_lit p; problem = with_gate p true [] }
-guarded_by (l ∷ []) p = record { lit = l; problem = p }
-guarded_by (l ∷ m ∷ ls) p = record { lit = next_lit p; problem = with_gate p true (l ∷ m ∷ ls) }
-
 -- weighted literals, and the problem that defines them
 pub record WeightedParts : Type 0 where
   pub parts : List Part
@@ -113,13 +107,23 @@ parts_of_summands ss p =
 abbrev pub base_of_summands : List Summand → ℤ
 base_of_summands ss = if list_any (λ (s : Summand). is_rowless s.rows) ss then pos 0 else first_sum ss
 
--- the problem that also names the term
-abbrev pub with_asked : GroundBase → ProblemState → NamedTerm → ProblemState
-with_asked b p t =
-    let ss = summands_of_term b t.term in
+-- the number and the parts of a term: those of its summands, and with them those of its counts and sums
+abbrev pub asked_sum : GroundBase → TermTree → ProblemState → Linear
+asked_sum b t p =
+    let ss = summands_of_term b t in
     let st = parts_of_summands ss p in
-    with_term st.problem
-    (record { name = t.name; kind = kind.Sum; base = base_of_summands ss; parts = st.parts })
+    sums_of b (pos 1) t [] (record { base = base_of_summands ss; parts = st.parts; problem = st.problem })
+
+abbrev pub named_parts : List ℕ → AggKind → Linear → ProblemState
+named_parts name k st = with_term st.problem (record { name = name; kind = k; base = st.base; parts = st.parts })
+
+-- the problem that also names the term; a minimum or a maximum is the parts of its aggregate
+abbrev pub asked_by : Option AggKind → GroundBase → ProblemState → NamedTerm → ProblemState
+asked_by (Some k) b p t = named_parts t.name k (sums_of b (pos 1) t.term [] (no_parts_yet p))
+asked_by None b p t = named_parts t.name kind.Sum (asked_sum b t.term p)
+
+abbrev pub with_asked : GroundBase → ProblemState → NamedTerm → ProblemState
+with_asked b p t = asked_by (extreme_of t.term) b p t
 
 -- so for each term of a list
 abbrev pub with_all_asked : GroundBase → List NamedTerm → ProblemState → ProblemState

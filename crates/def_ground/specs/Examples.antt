@@ -1,13 +1,16 @@
 -- Ground problems worked out by hand.
 use Rattle.std.specs.Prelude.{◌≡◌, ℕ, pos, negsuc, List, [], ◌∷◌, true, false, Some, None}
 use Rattle.kb_logic.specs.declared.elements.Elem.TheVariants.{Named, Num}
+use Rattle.kb_logic.specs.declared.elements.ExtInt.TheVariants as ext
 use Rattle.kb_logic.specs.declared.syntax.AggKind.TheVariants as kind
 use Rattle.kb_logic.specs.declared.syntax.Cmp.TheVariants as cmp
-use Rattle.kb_logic.specs.Trees.{TermTree, variable, constructed, application, summation, no_terms, more_terms}
+use Rattle.kb_logic.specs.Trees.{TermTree, variable, integer, constructed, application, summation, aggregate}
+use Rattle.kb_logic.specs.Trees.{no_terms, more_terms}
 use Rattle.kb_logic.specs.Trees.{no_summands, more_summands, FormulaTree, verum, atom, comparison, negation}
 use Rattle.kb_logic.specs.Trees.{conjunction, disjunction, universal, no_formulas, more_formulas, DefinitionTree}
 use Rattle.lit_core.specs.declared.literals.Lit.{Lit}
 use Rattle.ground_core.specs.declared.parts.GroundTerm.{GroundTerm}
+use Rattle.ground_core.specs.declared.parts.Part.{Part}
 use Rattle.term_values.specs.GroundBases.{GroundBase}
 use Rattle.def_ground.specs.AskedTerms.{with_asked}
 use Rattle.def_ground.specs.Definitions.{define_of}
@@ -103,12 +106,45 @@ difference =
 abbrev difference_named : List GroundTerm
 difference_named = (with_asked constants (problem_of constants []) (record { name = []; term = difference })).terms
 
+-- the number of elements of which Q holds
+abbrev number_of_q : TermTree
+number_of_q = aggregate kind.Count (record { name = []; ty = 0 } ∷ []) (holds 1) (integer (pos 1))
+
+-- it is at least 2
+abbrev two_of_q : List FormulaTree
+two_of_q = comparison cmp.Ge number_of_q (integer (pos 2)) ∷ []
+
+-- the terms of the problem that says nothing but names that number
+abbrev number_named : List GroundTerm
+number_named = (with_asked predicates (problem_of predicates []) (record { name = []; term = number_of_q })).terms
+
+-- a predicate R over the type {1; 2; 3}
+abbrev numbers : GroundBase
+numbers = record {
+  vocabulary =
+      record { name = []; types = []; symbols = record { name = []; args = 0 ∷ []; value = None } ∷ [] };
+  domains = (Num (pos 1) ∷ Num (pos 2) ∷ Num (pos 3) ∷ []) ∷ [];
+  known = None ∷ None ∷ None ∷ [];
+}
+
+-- the least number of which R holds is at least 3
+abbrev least_from_three : List FormulaTree
+least_from_three =
+    comparison cmp.Ge (aggregate kind.Min (record { name = []; ty = 0 } ∷ []) (holds 0) (variable 0)) (integer (pos 3))
+    ∷ []
+
+-- a literal that counts 1
+abbrev once : Lit → Part
+once l = record { lit = l; weight = pos 1 }
+
 -- P(a), P(b), Q(a) and Q(b) are the variables 1 to 4: the facts, then Q(b) and not Q(a), with no gate.
 -- Since P(a) is known to hold and P(b) not to, that P is defined by Q says Q(a), and not Q(b); that Q holds of just a
 -- says the same.
 -- c = 1, c = 2, d = 1 and d = 2 are the variables 1 to 4 too: one value each, and no variable more for the comparison,
 -- which says that c and d are not both 1, and that c is not 2, since no value of d is greater.
--- The difference c - d is 0 where both are 1; it is 1 more where c = 2, and 1 less where d = 2
+-- The difference c - d is 0 where both are 1; it is 1 more where c = 2, and 1 less where d = 2.
+-- The number of elements of Q is a literal for each of both. That it is at least 2 is the variable 5, the output of a
+-- constraint. That the least number of R is at least 3 is a gate, the variable 4: neither 1 nor 2 is in R
 pub record ProblemsAsWorkedOut : Type 0 where
   pub plain_vars : (problem_of predicates one_of_both).vars ≡ 4
   pub plain_gates : (problem_of predicates one_of_both).gates ≡ []
@@ -129,3 +165,18 @@ pub record ProblemsAsWorkedOut : Type 0 where
         base = pos 0;
         parts = record { lit = yes_ 2; weight = pos 1 } ∷ record { lit = yes_ 4; weight = negsuc 0 } ∷ [];
       } ∷ []
+  pub count_sums :
+      (problem_of predicates two_of_q).sums ≡ record {
+        out = yes_ 5;
+        kind = kind.Sum;
+        parts = once (yes_ 3) ∷ once (yes_ 4) ∷ [];
+        least = ext.Num (pos 2);
+      } ∷ []
+  pub count_clauses : (problem_of predicates two_of_q).clauses ≡ (yes_ 1 ∷ []) ∷ (no_ 2 ∷ []) ∷ (yes_ 5 ∷ []) ∷ []
+  pub count_named :
+      number_named
+      ≡ record { name = []; kind = kind.Sum; base = pos 0; parts = once (yes_ 3) ∷ once (yes_ 4) ∷ [] } ∷ []
+  pub least_gates :
+      (problem_of numbers least_from_three).gates
+      ≡ record { out = yes_ 4; all = true; parts = no_ 1 ∷ no_ 2 ∷ [] } ∷ []
+  pub least_clauses : (problem_of numbers least_from_three).clauses ≡ (yes_ 4 ∷ []) ∷ []

@@ -1,5 +1,5 @@
 -- A ground problem of a knowledge base: each model is one valuation, and each valuation one model.
-use Rattle.std.specs.Prelude.{◌∷◌, Some, Contains, ◌≡◌, ℕ, [], Bool, length, slice_get}
+use Rattle.std.specs.Prelude.{◌∷◌, Some, Contains, ◌≡◌, ℕ, [], Bool, false, length, slice_get}
 use Rattle.std.specs.List.{AllByRecursion}
 use Rattle.kb_logic.specs.declared.structures.Structure.{Structure}
 use Rattle.kb_logic.specs.Bounds.{TermIsBounded}
@@ -12,30 +12,29 @@ use Rattle.ground_core.specs.Growing.{value_at}
 use Rattle.ground_core.specs.More.{Agree}
 use Rattle.ground_core.specs.Atoms.{ground_atoms}
 use Rattle.term_values.specs.GroundBases.{GroundBase, known_of, structure_of}
-use Rattle.term_values.specs.GroundTerms.{TermHasNoCounting}
 use Rattle.term_values.specs.KnownBases.{base_of_data, AreDataOf}
 use Rattle.def_ground.specs.AskedTerms.{with_all_asked}
 use Rattle.def_ground.specs.Definitions.{define_all}
 use Rattle.def_ground.specs.Problems.{fact_of, problem_of}
-use Rattle.def_ground.specs.GroundForms.{HasNoCounting}
+use Rattle.def_ground.specs.GroundForms.{IsPlaced, IsSide}
 use Rattle.def_ground.specs.Rules.{IsTypedDefinition}
 
 -- what is known of the ground atoms of a knowledge base
 abbrev pub ground_base : Base → GroundBase
 ground_base base = base_of_data base.vocabulary base.known
 
--- the term is well typed over the data's domains, a number, and without aggregates
+-- the term is well typed over the data's domains, a number, and its aggregates stand where they may
 pub record IsGroundNumber (base : Base) (t : NamedTerm) : Type 0 where
   pub typed : TermIsTypedOver base.vocabulary base.known.domains t.term []
   pub numeric : IsNumeric base.vocabulary (sort_of base.vocabulary t.term [])
-  pub plain : TermHasNoCounting t.term
+  pub placed : IsSide false t.term
 
--- the data are of the vocabulary, the theory is well typed sentences and definitions without aggregates and number
--- quantifiers, and the terms that may be asked for are such numbers
+-- the data are of the vocabulary, the theory is well typed sentences and definitions whose aggregates stand where they
+-- may, and the terms that may be asked for are such numbers
 pub record IsGroundTheory (base : Base) : Type 0 where
   pub known : AreDataOf base.vocabulary base.known
   pub typed : AllByRecursion (λ f. IsTypedOver base.vocabulary base.known.domains f []) base.theory.sentences
-  pub plain : AllByRecursion HasNoCounting base.theory.sentences
+  pub placed : AllByRecursion IsPlaced base.theory.sentences
   pub definitions :
       AllByRecursion (IsTypedDefinition base.vocabulary base.known.domains) base.theory.definitions
   pub terms : AllByRecursion (IsGroundNumber base) base.terms
@@ -66,9 +65,8 @@ theory_problem base =
     let b = ground_base base in
     with_all_asked b base.terms (define_all b base.theory.definitions (problem_of b base.theory.sentences))
 
--- it says clauses and gates alone, and nothing of sums and bounds
-pub record SaysClausesAlone (p : ProblemState) : Type 0 where
-  pub sums : p.sums ≡ []
+-- it says nothing of bounds, and no selector is retired
+pub record HasNoBounds (p : ProblemState) : Type 0 where
   pub bounds : p.bounds ≡ []
   pub retired : p.retired ≡ []
 

@@ -19,7 +19,7 @@ use Rattle.def_ground.specs.Cases.{Case, cases_of}
 use Rattle.def_ground.specs.Forms.{form_of}
 use Rattle.def_ground.specs.Sentences.{assert_of, assert_sentences}
 use Rattle.def_ground.specs.Problems.{one_of_clauses, open_variables}
-use Rattle.def_ground.specs.GroundForms.{IsGroundForm, HasNoCounting}
+use Rattle.def_ground.specs.GroundForms.{IsGroundForm}
 use Rattle.def_ground.specs.Meanings.{Means, AssertsMore, HasAtoms, HasRoom, IsCaseOf, CasesSay}
 
 -- what cases come to is what they say
@@ -33,7 +33,7 @@ CasesAreRight =
 abbrev pub FormIsRight : Type 0
 FormIsRight =
     (b : GroundBase) (f : FormulaTree) (e : List Elem) (p : ProblemState)
-    → IsProblem p → HasAtoms b p → HasRoom b p → IsGroundForm b f
+    → IsProblem p → HasAtoms b p → HasRoom b p → IsGroundForm b f e
     → Means p (form_of b f e p).problem (form_of b f e p).answer (λ v. truth_of (structure_of b v) f e)
 
 -- exactly the valuations remain in which one of the literals is true, or the formula is, or where the sign is false is
@@ -41,7 +41,7 @@ FormIsRight =
 abbrev pub AssertionIsRight : Type 0
 AssertionIsRight =
     (b : GroundBase) (sign : Bool) (f : FormulaTree) (e : List Elem) (ls : List Lit) (p : ProblemState)
-    → IsProblem p → HasAtoms b p → HasRoom b p → IsGroundForm b f → AreLitsOf p.vars ls
+    → IsProblem p → HasAtoms b p → HasRoom b p → IsGroundForm b f e → AreLitsOf p.vars ls
     → AssertsMore p (assert_of b sign f e ls p)
     (λ v. list_any (literal_value v) ls ||
     (if sign then truth_of (structure_of b v) f e else not (truth_of (structure_of b v) f e)))
@@ -50,7 +50,7 @@ AssertionIsRight =
 abbrev pub SentencesAreAsserted : Type 0
 SentencesAreAsserted =
     (b : GroundBase) (fs : List FormulaTree) (p : ProblemState)
-    → IsProblem p → HasAtoms b p → HasRoom b p → AllByRecursion (IsGroundForm b) fs
+    → IsProblem p → HasAtoms b p → HasRoom b p → AllByRecursion (λ f. IsGroundForm b f []) fs
     → AssertsMore p (assert_sentences b fs p) (λ v. list_all (λ f. truth_of (structure_of b v) f []) fs)
 
 -- in a valuation with what is known, the clauses of exactly one of the open variables say that exactly one of the
@@ -66,5 +66,5 @@ abbrev pub FewVariables : Type 0
 FewVariables =
     (b : GroundBase) (f : FormulaTree) (scope : List ℕ) (e : List Elem) (p : ProblemState)
     → AreDomainsOf b.vocabulary b.domains → HasTypes b.domains scope e
-    → IsTypedOver b.vocabulary b.domains f scope → HasNoCounting f
+    → IsTypedOver b.vocabulary b.domains f scope
     → (form_of b f e p).problem.vars ≤ p.vars + 4 * occurrences b.vocabulary b.domains f 1

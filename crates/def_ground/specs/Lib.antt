@@ -2,6 +2,10 @@ pub mod Answers
 pub mod Cases
 pub mod CaseViews
 pub mod Comparisons
+pub mod Guards
+pub mod Counting
+pub mod Linear
+pub mod Thresholds
 pub mod Forms
 pub mod CaseSentences
 pub mod Disjuncts
@@ -12,6 +16,9 @@ pub mod Rules
 pub mod Definitions
 pub mod AskedTerms
 pub mod Meanings
+pub mod LinearValues
+pub mod LinearViews
+pub mod ThresholdViews
 pub mod Groundings
 pub mod Laws
 pub mod Examples

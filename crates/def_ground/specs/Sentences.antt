@@ -1,5 +1,6 @@
 -- Sentences as clauses: what stands at the top needs no gate.
 use Rattle.std.specs.Prelude.{ℕ, nat_le, List, [], ◌∷◌, ◌++◌, length, map, fold, Bool, true, false, not, if◌then◌else◌}
+use Rattle.std.specs.Prelude.{◌||◌}
 use Rattle.kb_logic.specs.declared.elements.Elem.{Elem}
 use Rattle.kb_logic.specs.Trees.{FormulaTree, verum, falsum, atom, comparison, negation, conjunction, disjunction}
 use Rattle.kb_logic.specs.Trees.{implication, equivalence, universal, existential, numbered}
@@ -12,6 +13,7 @@ use Rattle.term_values.specs.GroundBases.{GroundBase}
 use Rattle.term_values.specs.Rows.{rows_of_term, rows_of_terms}
 use Rattle.def_ground.specs.Forms.{Parts, parts_each, signed_result, form_of, atom_case}
 use Rattle.def_ground.specs.CaseSentences.{or_clause, assert_cases, assert_comparison, assert_alike}
+use Rattle.def_ground.specs.Counting.{has_aggregate}
 use Rattle.def_ground.specs.Disjuncts.{disjuncts_of}
 
 -- unless the parts settle the clause, what comes next, with their literals
@@ -44,7 +46,9 @@ abbrev mutual
   assert_of b false falsum e ls p = p
   assert_of b sign (atom s ts) e ls p = assert_cases sign ls (map (atom_case b s) (rows_of_terms b ts e)) p
   assert_of b sign (comparison c x y) e ls p =
-      assert_comparison sign c (rows_of_term b x e) (rows_of_term b y e) ls p
+      if has_aggregate x || has_aggregate y then
+      or_clause ls (signed_result sign (form_of b (comparison c x y) e p))
+      else assert_comparison sign c (rows_of_term b x e) (rows_of_term b y e) ls p
   assert_of b sign (equivalence f g) e ls p =
       let x = form_of b f e p in
       let y = form_of b g e x.problem in

@@ -33,7 +33,7 @@ pub fn few_variables()
     ensures { FewVariables }
 {}
 
-/// Two small problems, as they are worked out by hand.
+/// Small problems, as they are worked out by hand.
 pub fn problems_as_worked_out()
     ensures { ProblemsAsWorkedOut }
 {}

@@ -6,11 +6,15 @@ mod answers;
 mod asserted_cases;
 mod case_answers;
 mod cases;
+mod checked;
 mod exactly_one;
 mod gates;
 mod laws;
+mod linear;
 mod shown_cases;
 mod sides;
+mod threshold_rows;
+mod thresholds;
 
 pub use answers::Answer;
 pub use asserted_cases::{push_alike, push_answer, push_cases};
@@ -22,4 +26,7 @@ pub use laws::{
     assertion_is_right, cases_are_right, few_variables, form_is_right, one_each_by_clauses,
     problems_as_worked_out, sentences_are_asserted,
 };
+pub use linear::{Linear, Weighing, guarded_literal, push_counted, push_weighed};
 pub use sides::{GuardedValue, case_of_row};
+pub use threshold_rows::{compared_between, compared_with_rows};
+pub use thresholds::{compared_at, flipped};

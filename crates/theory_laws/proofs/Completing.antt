@@ -26,8 +26,8 @@ use Rattle.def_ground.specs.Cases.{with_clauses}
 use Rattle.def_ground.specs.Forms.{form_of, answer_of_atom}
 use Rattle.def_ground.specs.Meanings.{AssertsMore, HasAtoms, HasRoom}
 use Rattle.def_ground.proofs.Growing.{lit-more, more-refl}
-use Rattle.def_ground.proofs.FormLaws.{has-atoms, has-room}
-use Rattle.def_ground.proofs.Leaves.{form-is-right}
+use Rattle.def_ground.proofs.FormLaws.{form-is-right}
+use Rattle.def_ground.proofs.FormSteps.{has-atoms, has-room}
 use Rattle.def_ground.proofs.AssertSteps.{any-of, Local, or-false, or-true, or-assoc, says-is, says-nothing}
 use Rattle.def_ground.proofs.AssertSteps.{says-clause, says-clauses, says-after, says-two}
 use Rattle.def_ground.specs.Definitions.{Instances, with_body, instance_step, rule_instances, all_instances, head_var}
@@ -36,9 +36,9 @@ use Rattle.def_ground.specs.Definitions.{define_of}
 use Rattle.theory_laws.specs.DefinitionLaws.{is_head_at, is_derived, is_completed}
 use Rattle.def_ground.specs.GroundForms.{IsGroundForm}
 
--- bodies can be grounded
+-- the body can be grounded under each assignment of the rule's variables
 abbrev pub IsGroundRule : GroundBase → RuleTree → Type 0
-IsGroundRule b r = IsGroundForm b r.body
+IsGroundRule b r = AllByRecursion (λ e. IsGroundForm b r.body e) (choices b.domains r.vars)
 
 abbrev pub IsGroundDefinition : GroundBase → DefinitionTree → Type 0
 IsGroundDefinition b d = AllByRecursion (IsGroundRule b) d.rules
@@ -237,8 +237,8 @@ module _ (b : GroundBase) (p : ProblemState) (at : HasAtoms b p) (room : HasRoom
   abbrev told : RuleTree → (ℕ → Bool) → ℕ → List Elem → Bool
   told r v n e = is_head_at (head_var b r e) n && truth_of (structure_of b v) r.body e
 
-  one-body : (r : RuleTree) (e : List Elem) (st : Instances) (X : (ℕ → Bool) → ℕ → Bool) → IsGroundRule b r
-      → AreInstances p st X
+  one-body : (r : RuleTree) (e : List Elem) (st : Instances) (X : (ℕ → Bool) → ℕ → Bool)
+      → IsGroundForm b r.body e → AreInstances p st X
       → (o : Option ℕ) → AreInstances p (with_body o (form_of b r.body e st.problem) st)
       (λ v n. X v n || (is_head_at o n && truth_of (structure_of b v) r.body e))
   one-body r e st X ground h None = instances-are p st X (λ v n. X v n || false) (λ v n. sym (or-false (X v n))) h
@@ -255,15 +255,15 @@ module _ (b : GroundBase) (p : ProblemState) (at : HasAtoms b p) (room : HasRoom
             ∙ ap (λ c. X v n || (nat_eq k n && c)) (m.right v s);
       }
 
-  each-body : (r : RuleTree) → IsGroundRule b r → (es : List (List Elem)) (st : Instances) (X : (ℕ → Bool) → ℕ → Bool)
-      → AreInstances p st X
+  each-body : (r : RuleTree) (es : List (List Elem)) → AllByRecursion (λ e. IsGroundForm b r.body e) es
+      → (st : Instances) (X : (ℕ → Bool) → ℕ → Bool) → AreInstances p st X
       → AreInstances p (fold (instance_step b r) st es) (λ v n. X v n || list_any (told r v n) es)
-  each-body r ground [] st X h = instances-are p st X (λ v n. X v n || false) (λ v n. sym (or-false (X v n))) h
-  each-body r ground (e ∷ es) st X h = instances-are p (fold (instance_step b r) (instance_step b r st e) es)
+  each-body r [] ground st X h = instances-are p st X (λ v n. X v n || false) (λ v n. sym (or-false (X v n))) h
+  each-body r (e ∷ es) ground st X h = instances-are p (fold (instance_step b r) (instance_step b r st e) es)
       (λ v n. (X v n || told r v n e) || list_any (told r v n) es) (λ v n. X v n || list_any (told r v n) (e ∷ es))
       (λ v n. or-assoc (X v n) (told r v n e) (list_any (told r v n) es))
-      (each-body r ground es (instance_step b r st e) (λ v n. X v n || told r v n e)
-      (one-body r e st X ground h (head_var b r e)))
+      (each-body r es ground.1 (instance_step b r st e) (λ v n. X v n || told r v n e)
+      (one-body r e st X ground.0 h (head_var b r e)))
 
   each-rule : (rs : List RuleTree) → AllByRecursion (IsGroundRule b) rs → (st : Instances) (X : (ℕ → Bool) → ℕ → Bool)
       → AreInstances p st X
@@ -274,7 +274,7 @@ module _ (b : GroundBase) (p : ProblemState) (at : HasAtoms b p) (room : HasRoom
       (λ v n. X v n || is_derived b v (r ∷ rs) n)
       (λ v n. or-assoc (X v n) (list_any (told r v n) (choices b.domains r.vars)) (is_derived b v rs n))
       (each-rule rs ground.1 (rule_instances b st r) (λ v n. X v n || list_any (told r v n) (choices b.domains r.vars))
-      (each-body r ground.0 (choices b.domains r.vars) st X h))
+      (each-body r (choices b.domains r.vars) ground.0 st X h))
 
   all-instances : (d : DefinitionTree) → IsProblem p → IsGroundDefinition b d
       → AreInstances p (all_instances b d p) (λ v n. is_derived b v d.rules n)

@@ -1,6 +1,6 @@
 -- Definitions one after another: what they say, and what stays said.
-use Rattle.std.proofs.Common.{◌≡◌, ◌≤◌, ℕ, ◌*◌, Bool, true, false, List, [], ◌∷◌, map, fold, Option, Some, None}
-use Rattle.std.proofs.Common.{refl, sym, subst, ◌∙◌, arith}
+use Rattle.std.proofs.Common.{◌≤◌, ℕ, Bool, true, false, List, [], ◌∷◌, map, fold, Option, Some, None}
+use Rattle.std.proofs.Common.{refl, subst, ◌∙◌, arith}
 use Rattle.std.specs.List.{AllByRecursion}
 use Rattle.kb_logic.specs.declared.elements.Elem.{Elem}
 use Rattle.kb_logic.specs.declared.structures.Structure.{Structure}
@@ -23,7 +23,8 @@ use Rattle.def_ground.specs.Forms.{form_of, answer_of_atom}
 use Rattle.def_ground.specs.Meanings.{HasAtoms, HasRoom}
 use Rattle.def_ground.specs.Rules.{IsTypedDefinition}
 use Rattle.def_ground.proofs.AssertLaws.{room-grown}
-use Rattle.def_ground.proofs.KeepLaws.{Keeps, keeps-all, keeps-on, keeps-clause, keeps-clauses, form-keeps}
+use Rattle.def_ground.proofs.KeepSteps.{Keeps, keeps-all, keeps-on, keeps-clause, keeps-clauses}
+use Rattle.def_ground.proofs.KeepLaws.{form-keeps}
 use Rattle.theory_laws.specs.DefinitionLaws.{AssertsThat}
 use Rattle.theory_laws.proofs.Completing.{made_by, made-same}
 use Rattle.theory_laws.proofs.Models.{definition-is-asserted}

@@ -62,7 +62,7 @@ module _ (b : GroundBase) (given : AreDomainsOf b.vocabulary b.domains) where
           (if t then occurrences b.vocabulary b.domains r.body 1 else 0)
       by true w =
           few-variables b r.body (types_of r.vars) e p given
-          (tuple_elements b.domains (types_of r.vars) e (contains_from (choices b.domains r.vars) e m)) h.typed h.plain
+          (tuple_elements b.domains (types_of r.vars) e (contains_from (choices b.domains r.vars) e m)) h.typed
       by false w =
           let none : (form_of b r.body e p).problem.vars ≡ p.vars =
           ap (λ (f : FormulaTree). (form_of b f e p).problem.vars) (h.unwritten w) in

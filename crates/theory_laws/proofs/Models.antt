@@ -13,7 +13,8 @@ use Rattle.kb_logic.specs.Meaning.{truth_of}
 use Rattle.kb_logic.specs.Bounds.{value_type_of, types_of}
 use Rattle.kb_logic.specs.Models.{GroundAtom, IsDerived, IsDefined, ModelOfDefinition}
 use Rattle.kb_logic.specs.KnownAtoms.{atoms_over}
-use Rattle.kb_logic.specs.Typing.{IsIntegerIn}
+use Rattle.kb_logic.specs.Domains.{AreDomainsOf}
+use Rattle.kb_logic.proofs.Atoms.{tuple_elements}
 use Rattle.kb_logic.proofs.AllAtoms.{atom_listed, listed_over}
 use Rattle.kb_logic.proofs.Has.{Has, has_from, has_get, contains_from, has_map, map_has, has_enumerated, enumerated_has}
 use Rattle.kb_logic.proofs.Tables.{has_filter, passes_filter}
@@ -30,6 +31,8 @@ use Rattle.term_values.proofs.VariableLemmas.{slice_inside}
 use Rattle.def_ground.specs.Answers.{answer_value}
 use Rattle.def_ground.specs.Forms.{answer_of_atom}
 use Rattle.def_ground.specs.Meanings.{HasRoom}
+use Rattle.def_ground.specs.GroundForms.{IsGroundForm}
+use Rattle.def_ground.proofs.SideValues.{has-all}
 use Rattle.def_ground.proofs.TypedForms.{ground-form}
 use Rattle.def_ground.specs.Definitions.{head_var, is_defined, defined_vars}
 use Rattle.theory_laws.specs.DefinitionLaws.{is_head_at, is_derived}
@@ -225,15 +228,20 @@ module _ (b : GroundBase) (p : ProblemState) (room : HasRoom b p) where
         ],
       ))
 
-rules-ground : (b : GroundBase) (rs : List RuleTree) → AllByRecursion (IsTypedRule b.vocabulary b.domains) rs
-    → AllByRecursion (IsGroundRule b) rs
-rules-ground b [] h = tt
-rules-ground b (r ∷ rs) h =
-    (ground-form b (IsIntegerIn b.domains) r.body (types_of r.vars) h.0.typed h.0.plain, rules-ground b rs h.1)
+rules-ground : (b : GroundBase) → AreDomainsOf b.vocabulary b.domains → (rs : List RuleTree)
+    → AllByRecursion (IsTypedRule b.vocabulary b.domains) rs → AllByRecursion (IsGroundRule b) rs
+rules-ground b given [] h = tt
+rules-ground b given (r ∷ rs) h = (
+  has-all (λ e. IsGroundForm b r.body e) (choices b.domains r.vars)
+      (λ e m. ground-form b given r.body (types_of r.vars) e
+      (tuple_elements b.domains (types_of r.vars) e (contains_from (choices b.domains r.vars) e m)) h.0.typed
+      h.0.placed),
+  rules-ground b given rs h.1,
+)
 
 pub completion-is-right : CompletionIsRight
 completion-is-right b d p domains typed fine at room =
-    completion b d p fine at room (rules-ground b d.rules typed) (in-range b p room d)
+    completion b d p fine at room (rules-ground b domains d.rules typed) (in-range b p room d)
 
 pub definition-is-asserted : DefinitionIsAsserted
 definition-is-asserted b d p domains typed fine at room =

@@ -30,16 +30,17 @@ use Rattle.def_ground.specs.Definitions.{define_all}
 use Rattle.def_ground.specs.Groundings.{ground_base, IsGroundNumber, IsGroundTheory, IsGroundingOf, theory_problem}
 use Rattle.def_ground.proofs.AskedLaws.{IsNumberOver, Names, names-all, asked-alike}
 use Rattle.def_ground.proofs.AssertLaws.{room-grown}
-use Rattle.def_ground.specs.GroundForms.{IsGroundForm, HasNoCounting}
-use Rattle.kb_logic.specs.Typing.{IsTypedOver, IsIntegerIn}
+use Rattle.def_ground.specs.GroundForms.{IsGroundForm, IsPlaced}
+use Rattle.kb_logic.specs.Typing.{IsTypedOver}
 use Rattle.def_ground.proofs.TypedForms.{ground-form}
 use Rattle.def_ground.proofs.SentenceLaws.{sentences-said}
 use Rattle.def_ground.proofs.StartLaws.{atoms-length, start-fine, start-room, start-atoms, start-satisfied}
 use Rattle.def_ground.proofs.StartLaws.{fact-in-start}
-use Rattle.def_ground.proofs.KeepLaws.{Keeps, keeps-on, sentences-keep}
+use Rattle.def_ground.proofs.KeepSteps.{Keeps, keeps-on}
+use Rattle.def_ground.proofs.KeepLaws.{sentences-keep}
 use Rattle.kb_logic.proofs.Has.{Has, has_left, contains_from}
 use Rattle.theory_laws.specs.DefinitionLaws.{AssertsThat}
-use Rattle.theory_laws.specs.TheoryLaws.{ProblemIsRight, ProblemSaysClauses}
+use Rattle.theory_laws.specs.TheoryLaws.{ProblemIsRight, ProblemHasNoBounds}
 use Rattle.theory_laws.proofs.DefinitionSteps.{AreModelsOf, definitions-asserted, definitions-keep}
 
 all-one : (p : FormulaTree → Bool) (fs : List FormulaTree) → list_all p fs ≡ true
@@ -68,15 +69,14 @@ numbers-over : (base : Base) (ts : List NamedTerm) → AllByRecursion (IsGroundN
     → AllByRecursion (λ t. IsNumberOver (base_of_data base.vocabulary base.known) t.term) ts
 numbers-over base [] h = tt
 numbers-over base (t ∷ ts) h =
-    (record { typed = h.0.typed; numeric = h.0.numeric; plain = h.0.plain }, numbers-over base ts h.1)
+    (record { typed = h.0.typed; numeric = h.0.numeric; placed = h.0.placed }, numbers-over base ts h.1)
 
 pub all-ground : (base : Base) (theory : IsGroundTheory base) (fs : List FormulaTree)
-    → AllByRecursion (λ f. IsTypedOver base.vocabulary base.known.domains f []) fs → AllByRecursion HasNoCounting fs
-    → AllByRecursion (IsGroundForm (base_of_data base.vocabulary base.known)) fs
+    → AllByRecursion (λ f. IsTypedOver base.vocabulary base.known.domains f []) fs → AllByRecursion IsPlaced fs
+    → AllByRecursion (λ f. IsGroundForm (base_of_data base.vocabulary base.known) f []) fs
 all-ground base theory [] h k = tt
 all-ground base theory (f ∷ fs) h k = (
-  ground-form (base_of_data base.vocabulary base.known)
-      (IsIntegerIn base.known.domains) f [] h.0 k.0,
+  ground-form (base_of_data base.vocabulary base.known) theory.known.domains f [] [] tt h.0 k.0,
   all-ground base theory fs h.1 k.1,
 )
 
@@ -107,7 +107,7 @@ module _ (base : Base) (theory : IsGroundTheory base) where
       (start_problem (base_of_data base.vocabulary base.known))
       (start-fine (base_of_data base.vocabulary base.known) is known-size)
       (start-atoms (base_of_data base.vocabulary base.known) is) room
-      (all-ground base theory base.theory.sentences theory.typed theory.plain)
+      (all-ground base theory base.theory.sentences theory.typed theory.placed)
 
   -- what the sentences leave
   abbrev said : ProblemState
@@ -248,14 +248,13 @@ module _ (base : Base) (theory : IsGroundTheory base) where
 pub problem-is-right : ProblemIsRight
 problem-is-right base theory = problem-right base theory
 
-pub problem-says-clauses : ProblemSaysClauses
-problem-says-clauses base =
+pub problem-has-no-bounds : ProblemHasNoBounds
+problem-has-no-bounds base =
     let b = ground_base base in
     let said = problem_of b base.theory.sentences in
     let k = sentences-keep b base.theory.sentences (start_problem b) in
     let d = definitions-keep b base.theory.definitions said in
     let a = asked-alike b base.terms (define_all b base.theory.definitions said) in record {
-      sums = a.sums ∙ d.sums ∙ k.sums;
       bounds = a.bounds ∙ d.bounds ∙ k.bounds;
       retired = a.retired ∙ d.retired ∙ k.retired;
     }

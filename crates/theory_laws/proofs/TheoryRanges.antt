@@ -1,11 +1,9 @@
 -- Where the static bounds of the terms that may be asked for are small, their values are in range.
-use Rattle.std.proofs.Common.{◌≡◌, ℕ, zero, suc, ◌<◌, ℤ, Bool, List, [], ◌∷◌, length, get_or, sym, subst, arith}
+use Rattle.std.proofs.Common.{◌≡◌, ℕ, zero, suc, ◌<◌, Bool, List, [], ◌∷◌, length, get_or, sym, subst, arith}
 use Rattle.std.specs.List.{AllByRecursion}
-use Rattle.std.proofs.lemmas.Int.{ints}
 use Rattle.kb_logic.specs.declared.structures.Structure.{Structure}
 use Rattle.kb_logic.specs.Bases.{Base, NamedTerm}
-use Rattle.kb_logic.specs.Bounds.{Interval, bounds_of, IsSmall, TermIsBounded, ValueIsWithin}
-use Rattle.kb_logic.specs.Denotations.{number}
+use Rattle.kb_logic.specs.Bounds.{bounds_of, TermIsBounded}
 use Rattle.kb_logic.specs.Meaning.{value_of}
 use Rattle.kb_logic.specs.Structures.{EachWith, IsStructure}
 use Rattle.kb_logic.proofs.WithinBounds.{values_lie_within_bounds}
@@ -13,13 +11,9 @@ use Rattle.ground_core.specs.declared.parts.GroundTerm.{GroundTerm}
 use Rattle.ground_core.specs.Meaning.{Satisfies, term_value, IsInRange}
 use Rattle.term_values.specs.GroundBases.{structure_of, IsOver}
 use Rattle.def_ground.specs.Groundings.{ground_base, IsGroundNumber, IsGroundTheory, theory_problem}
-use Rattle.def_ground.proofs.AskedRanges.{bounded-small}
-use Rattle.def_ground.proofs.NumberTerms.{number-value}
+use Rattle.def_ground.proofs.AskedRanges.{bounded-small, value-in-range}
 use Rattle.theory_laws.specs.TheoryLaws.{TermsAreInRange}
 use Rattle.theory_laws.proofs.ProblemLaws.{names, all-named, problem-right, problem-over}
-
-number-in : (i : Interval) (z : ℤ) → IsSmall i → ValueIsWithin i (number z) → IsInRange (number z)
-number-in i z small h = (omega (arith, ints, small.0, h.low), omega (arith, ints, small.1, h.high))
 
 all-at : {X : Type 0} (P : X → Type 0) (xs : List X) → AllByRecursion P xs → (k : ℕ) (d : X) → k < length xs
     → P (get_or xs k d)
@@ -35,12 +29,10 @@ module _ (base : Base) (theory : IsGroundTheory base) (v : ℕ → Bool) (over :
   value-in : (t : NamedTerm) → IsGroundNumber base t → TermIsBounded base.vocabulary base.known.domains t.term []
       → IsInRange (value_of m t.term [])
   value-in t is bounded =
-      let n = number-value (ground_base base) v over theory.known.domains t.term is.typed is.numeric is.plain in
-      let i = bounds_of base.vocabulary base.known.domains t.term [] in
-      let within : ValueIsWithin i (value_of m t.term []) =
-      values_lie_within_bounds base.vocabulary m structure t.term [] [] tt in
-      subst IsInRange (sym n.1) (number-in i n.0
-      (bounded-small base.vocabulary base.known.domains t.term [] bounded) (subst (ValueIsWithin i) n.1 within))
+      value-in-range (ground_base base) theory.known.domains v over t.term is.typed is.numeric is.placed
+      (bounds_of base.vocabulary base.known.domains t.term [])
+      (bounded-small base.vocabulary base.known.domains t.term [] bounded)
+      (values_lie_within_bounds base.vocabulary m structure t.term [] [] tt)
 
   values-in : (ts : List NamedTerm) (gs : List GroundTerm) → AllByRecursion (IsGroundNumber base) ts
       → AllByRecursion (λ (t : NamedTerm). TermIsBounded base.vocabulary base.known.domains t.term []) ts

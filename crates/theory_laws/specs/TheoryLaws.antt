@@ -3,16 +3,16 @@ use Rattle.std.specs.Prelude.{◌≤◌, map}
 use Rattle.kb_logic.specs.Weights.{weight_of}
 use Rattle.kb_logic.specs.Bases.{Base, NamedTerm}
 use Rattle.ground_core.specs.Meaning.{HasTermsInRange}
-use Rattle.def_ground.specs.Groundings.{IsGroundTheory, IsGroundingOf, theory_problem, SaysClausesAlone}
+use Rattle.def_ground.specs.Groundings.{IsGroundTheory, IsGroundingOf, theory_problem, HasNoBounds}
 use Rattle.def_ground.specs.Groundings.{TermsAreBounded}
 
 -- its valuations are the models of the theory that extend the data
 abbrev pub ProblemIsRight : Type 0
 ProblemIsRight = (base : Base) → IsGroundTheory base → IsGroundingOf base (theory_problem base)
 
--- it says clauses and gates alone
-abbrev pub ProblemSaysClauses : Type 0
-ProblemSaysClauses = (base : Base) → SaysClausesAlone (theory_problem base)
+-- it says nothing of bounds
+abbrev pub ProblemHasNoBounds : Type 0
+ProblemHasNoBounds = (base : Base) → HasNoBounds (theory_problem base)
 
 -- it has no more variables than the weight of the knowledge base
 abbrev pub ProblemIsSmall : Type 0

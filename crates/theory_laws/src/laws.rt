@@ -1,7 +1,7 @@
 //! Laws of definitions and of the problem of a theory.
 ghost use Rattle.theory_laws.specs.DefinitionLaws.{CompletedIsModel, CompletionIsRight, DefinitionIsAsserted};
 ghost use Rattle.theory_laws.specs.DefinitionLaws.{FewForDefinitions};
-ghost use Rattle.theory_laws.specs.TheoryLaws.{ProblemIsRight, ProblemIsSmall, ProblemSaysClauses, TermsAreInRange};
+ghost use Rattle.theory_laws.specs.TheoryLaws.{ProblemIsRight, ProblemIsSmall, ProblemHasNoBounds, TermsAreInRange};
 
 /// A definition is completed exactly in its models.
 pub fn completed_is_model()
@@ -34,9 +34,9 @@ pub fn problem_is_small()
     ensures { ProblemIsSmall }
 {}
 
-/// The problem of a theory says nothing of sums and bounds.
-pub fn problem_says_clauses()
-    ensures { ProblemSaysClauses }
+/// The problem of a theory says nothing of bounds.
+pub fn problem_has_no_bounds()
+    ensures { ProblemHasNoBounds }
 {}
 
 /// Where the static bounds of the terms that may be asked for are small, the problem's terms have values in range.

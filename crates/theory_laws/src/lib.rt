@@ -5,5 +5,5 @@ mod laws;
 
 pub use laws::{
     completed_is_model, completion_is_right, definition_is_asserted, few_for_definitions,
-    problem_is_right, problem_is_small, problem_says_clauses, terms_are_in_range,
+    problem_has_no_bounds, problem_is_right, problem_is_small, terms_are_in_range,
 };

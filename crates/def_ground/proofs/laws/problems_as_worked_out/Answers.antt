@@ -12,4 +12,9 @@ returns c = record {
   order_gates = refl;
   order_clauses = refl;
   difference_terms = refl;
+  count_sums = refl;
+  count_clauses = refl;
+  count_named = refl;
+  least_gates = refl;
+  least_clauses = refl;
 }
