@@ -175,7 +175,7 @@ module _ (same : FilesAreTheirBlocks) (c : Choice) (bytes : List ℕ) (kb : RawK
       → IsKnowledgeBase (opened typed t title known)
   is_opened grounded bounded formed typed x known sizes title is measured = record {
     theory = omega (arith, theory_within (typed_view typed) is, length-map typed.theories named_theory_view);
-    ground = (grounded (file_in kb) is.0 (typed_view typed) is.1 is.2 t (structure_view x) known measured.given).0;
+    ground = grounded (file_in kb) is.0 (typed_view typed) is.1 is.2 t (structure_view x) known measured.given;
     bounded = (bounded is.0 (typed_view typed) is.2 t known sizes measured.sized).theory;
     asked = (bounded is.0 (typed_view typed) is.2 t known sizes measured.sized).terms;
     sized = measured.sized.accepted;

@@ -1,5 +1,5 @@
 -- Bodies that grow, one step after another.
-use Rattle.std.proofs.Common.{◌≡◌, ◌≤◌, ℕ, refl, ◌∙◌, arith}
+use Rattle.std.proofs.Common.{ℕ, refl, ◌∙◌, arith}
 use Rattle.ground_core.specs.Problems.{ProblemState}
 use Rattle.term_values.specs.GroundBases.{GroundBase}
 use Rattle.definition_walk.specs.declared.bodies.Bodies.{Bodies}

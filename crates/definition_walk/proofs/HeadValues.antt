@@ -1,45 +1,40 @@
 -- The terms of heads have one row each, and a head's variable is one of its symbol's atoms.
-use Rattle.std.proofs.Common.{◌≡◌, ◌≤◌, ◌<◌, ℕ, zero, suc, ◌+◌, ◌*◌, List, [], ◌∷◌, map, length, Bool, true, false}
-use Rattle.std.proofs.Common.{Option, Some, None, option_map, slice_get, get_or, is_some, if◌then◌else◌, refl, sym, ap}
-use Rattle.std.proofs.Common.{subst, ◌∙◌, arith, IsNone, drop, IfSome}
-use Rattle.std.specs.List.{AllByRecursion, sum_by}
+use Rattle.std.proofs.Common.{◌≡◌, ◌≤◌, ◌<◌, ℕ, suc, ◌+◌, ◌*◌, List, [], ◌∷◌, map, length, true, false}
+use Rattle.std.proofs.Common.{Option, Some, None, option_map, slice_get, get_or, is_some, refl, sym, ap}
+use Rattle.std.proofs.Common.{subst, ◌∙◌, arith, IsNone, IfSome}
+use Rattle.std.specs.List.{AllByRecursion}
 use Rattle.std.specs.Option.{option_and_then}
 use Rattle.std.proofs.Math.Nat.{mul-one}
 use Rattle.std.proofs.lemmas.Nat.{mul-le}
-use Rattle.std.proofs.lemmas.Option.{slice_get-get_or, slice_get-map}
+use Rattle.std.proofs.lemmas.Option.{slice_get-get_or}
 use Rattle.kb_logic.specs.declared.elements.Elem.{Elem}
 use Rattle.kb_logic.specs.declared.syntax.Rule.{Rule}
 use Rattle.kb_logic.specs.declared.syntax.Term.{Term}
 use Rattle.kb_logic.specs.declared.values.Value.{Value}
 use Rattle.kb_logic.specs.declared.vocabularies.Symbol.{Symbol}
-use Rattle.kb_logic.specs.Bounds.{value_type_of, domain_if}
-use Rattle.kb_logic.specs.Denotations.{Denotation, denotation_of, same_value}
-use Rattle.kb_logic.specs.Meaning.{behind, is_end}
-use Rattle.kb_logic.specs.Structures.{IsDistinct, domain_at, tuples_of}
+use Rattle.kb_logic.specs.Bounds.{value_type_of}
+use Rattle.kb_logic.specs.Denotations.{Denotation}
+use Rattle.kb_logic.specs.Structures.{domain_at, tuples_of}
 use Rattle.kb_logic.specs.Trees.{TermTree, variable, integer, constructed, application, summation, product, aggregate}
 use Rattle.kb_logic.specs.Trees.{SummandTrees, terms_of, RuleTree}
 use Rattle.kb_logic.specs.Values.{value_view}
 use Rattle.kb_logic.specs.Views.{term_view, rule_view}
 use Rattle.kb_logic.specs.Weights.{value_count}
-use Rattle.kb_logic.proofs.Choices.{domain_is_distinct}
-use Rattle.kb_logic.proofs.Members.{distinct-map}
 use Rattle.lit_core.specs.declared.literals.Lit.{Lit}
+use Rattle.term_values.specs.DomainIndexes.{elem_index}
 use Rattle.term_values.specs.GroundBases.{GroundBase, atoms_in, first_var, row_index, tuples_at, values_at}
-use Rattle.term_values.specs.KnownBases.{IsGroundBase}
 use Rattle.term_values.specs.RowArithmetic.{TupleRowsFit}
 use Rattle.term_values.specs.declared.rows.RowValue.{RowValue}
 use Rattle.term_values.specs.RowValues.{row_value}
 use Rattle.term_values.specs.Rows.{pair_rows, rows_of_term, rows_of_terms}
-use Rattle.term_values.proofs.Chosen.{index-is}
+use Rattle.term_values.proofs.IndexLemmas.{single-index}
 use Rattle.term_values.proofs.Offsets.{some-same}
 use Rattle.term_values.proofs.RowFacts.{place-below}
 use Rattle.term_values.proofs.StructureAtoms.{tuples-are, values-are}
 use Rattle.term_values.proofs.VariableLemmas.{declared_at, slice_inside}
 use Rattle.def_ground.specs.Definitions.{head_value, plain_var, valued_var, var_of_value, head_var}
 use Rattle.def_ground.specs.Rules.{IsHeadTerm}
-use Rattle.definition_walk.specs.Places.{single_index, index_from}
 use Rattle.definition_walk.specs.Steps.{IsVarOf, IsPlainTerm, IsPlainHead}
-use Rattle.theory_laws.proofs.Heads.{index-found, mapped-item, one-same}
 use Rattle.definition_walk.proofs.SymbolSteps.{vars-next}
 
 -- ---- rows
@@ -78,102 +73,15 @@ only-one rs x e = let size = ap length e in omega (arith, size)
 
 -- ---- places of values
 
-single-step : (x : Elem) (xs : List Elem) (d : Denotation) (t : Bool) → same_value (denotation_of x) d ≡ t
-    → single_index (x ∷ xs) d ≡ (if t then Some 0 else option_map (λ i. 1 + i) (single_index xs d))
-single-step x xs d true e =
-    ap (λ c. if is_end (if c then Some [] else None) then Some 0 else option_map (λ i. 1 + i) (single_index xs d)) e
-single-step x xs d false e =
-    ap (λ c. if is_end (if c then Some [] else None) then Some 0 else option_map (λ i. 1 + i) (single_index xs d)) e
-
-further : (o : Option ℕ) (k : ℕ) → option_map (λ i. k + i) (option_map (λ i. 1 + i) o) ≡ option_map (λ i. (k + 1) + i) o
-further None k = refl
-further (Some i) k = let e : k + (1 + i) ≡ (k + 1) + i = omega arith in ap Some e
-
-drop-more : (xs : List Elem) (k : ℕ) (x : Elem) → k < length xs → drop k xs ≡ get_or xs k x ∷ drop (k + 1) xs
-drop-more [] k x h = absurd (omega (arith, h))
-drop-more (y ∷ xs) zero x h = refl
-drop-more (y ∷ xs) (suc k) x h =
-    let next : suc (k + 1) ≡ suc k + 1 = omega arith in
-    drop-more xs k x (omega (arith, h)) ∙ ap (λ m. get_or xs k x ∷ drop m (y ∷ xs)) next
-
-module _ (xs : List Elem) (d : Denotation) (k : ℕ) (x : Elem) (inside : k < length xs) (is : x ≡ get_or xs k x) where
-  front : drop k xs ≡ x ∷ drop (k + 1) xs
-  front = drop-more xs k x inside ∙ ap (λ y. y ∷ drop (k + 1) xs) (sym is)
-
-  pub place-found : same_value (denotation_of x) d ≡ true → index_from xs d k ≡ Some k
-  place-found h =
-      let e : k + 0 ≡ k = omega arith in
-      ap (λ ys. option_map (λ i. k + i) (single_index ys d)) front
-      ∙ ap (option_map (λ i. k + i)) (single-step x (drop (k + 1) xs) d true h) ∙ ap Some e
-
-  pub place-further : same_value (denotation_of x) d ≡ false → index_from xs d k ≡ index_from xs d (k + 1)
-  place-further h =
-      ap (λ ys. option_map (λ i. k + i) (single_index ys d)) front
-      ∙ ap (option_map (λ i. k + i)) (single-step x (drop (k + 1) xs) d false h)
-      ∙ further (single_index (drop (k + 1) xs) d) k
-
-pub index-start : (xs : List Elem) (d : Denotation) → index_from xs d 0 ≡ single_index xs d
-index-start xs d = by (single_index xs d)
-  where
-    by : (o : Option ℕ) → option_map (λ i. 0 + i) o ≡ o
-    by None = refl
-    by (Some i) = let e : 0 + i ≡ i = omega arith in ap Some e
-
-pub index-past : (xs : List Elem) (d : Denotation) (k : ℕ) → length xs ≤ k → index_from xs d k ≡ None
-index-past xs d k h = ap (λ ys. option_map (λ i. k + i) (single_index ys d)) (none-left xs k h)
-  where
-    none-left : (ys : List Elem) (k : ℕ) → length ys ≤ k → drop k ys ≡ []
-    none-left [] zero h = refl
-    none-left [] (suc k) h = refl
-    none-left (y ∷ ys) zero h = absurd (omega (arith, h))
-    none-left (y ∷ ys) (suc k) h = none-left ys k (omega (arith, h))
-
-dropped-item : (ys : List Elem) (k i : ℕ) (x : Elem) → slice_get (drop k ys) i ≡ Some x
-    → slice_get ys (k + i) ≡ Some x
-dropped-item [] zero i x h = cc
-dropped-item [] (suc k) i x h = cc
-dropped-item (y ∷ ys) zero i x h = let e : 0 + i ≡ i = omega arith in ap (slice_get (y ∷ ys)) e ∙ h
-dropped-item (y ∷ ys) (suc k) i x h =
-    let e : suc k + i ≡ suc (k + i) = omega arith in
-    ap (slice_get (y ∷ ys)) e ∙ dropped-item ys k i x h
-
--- among distinct elements there is one place
-pub index-is-first : (xs : List Elem) (d : Denotation) (k p : ℕ) → IsDistinct xs → index_from xs d k ≡ Some p
-    → single_index xs d ≡ Some p
-index-is-first xs d k p distinct h = by (single_index (drop k xs) d) refl h
-  where
-    by : (o : Option ℕ) → single_index (drop k xs) d ≡ o → option_map (λ i. k + i) o ≡ Some p
-        → single_index xs d ≡ Some p
-    by None e h = cc
-    by (Some i) e h =
-        let f = index-found (map (λ (x : Elem). x ∷ []) (drop k xs)) (d ∷ []) i e in
-        let x = mapped-item (λ (y : Elem). y ∷ []) (drop k xs) i f.0 f.1 in
-        let here : slice_get xs (k + i) ≡ Some x.0 = dropped-item xs k i x.0 x.1 in
-        let one : slice_get (map (λ (y : Elem). y ∷ []) xs) (k + i) ≡ Some (x.0 ∷ []) =
-        slice_get-map (λ (y : Elem). y ∷ []) xs (k + i) ∙ ap (option_map (λ (y : Elem). y ∷ [])) here in
-        let same : d ∷ [] ≡ denotation_of x.0 ∷ [] = f.2 ∙ ap (map denotation_of) x.2 in
-        ap (row_index (map (λ (y : Elem). y ∷ []) xs)) same
-        ∙ index-is (map (λ (y : Elem). y ∷ []) xs) (k + i) (x.0 ∷ [])
-        (distinct-map (λ (y : Elem). y ∷ []) one-same xs distinct) one
-        ∙ h
-
 single-count : (xs : List Elem) → length (map (λ (x : Elem). x ∷ []) xs) ≡ length xs
 single-count [] = refl
 single-count (x ∷ xs) = ap suc (single-count xs)
 
-pub index-within : (xs : List Elem) (d : Denotation) (i : ℕ) → Some i ≡ single_index xs d → i < length xs
+pub index-within : (xs : List Elem) (d : Denotation) (i : ℕ) → Some i ≡ elem_index xs d → i < length xs
 index-within xs d i h =
-    let below = place-below (map (λ (x : Elem). x ∷ []) xs) (d ∷ []) i (sym h) in
+    let below = place-below (map (λ (x : Elem). x ∷ []) xs) (d ∷ []) i (single-index xs d ∙ sym h) in
     let size = single-count xs in
     omega (arith, below, size)
-
--- the values of a function are distinct
-pub values-distinct : (b : GroundBase) → IsGroundBase b → (s : ℕ) → IsDistinct (values_at b s)
-values-distinct b is s = by (value_type_of b.vocabulary s)
-  where
-    by : (o : Option ℕ) → IsDistinct (domain_if b.domains o)
-    by None = tt
-    by (Some ty) = domain_is_distinct b.domains ty is.distinct
 
 -- a function's variable, by that of its first value and the place of its value
 pub valued-at : (b : GroundBase) (s m j : ℕ) (o q : Option ℕ)
@@ -312,7 +220,7 @@ module _ (b : GroundBase) (e : List Elem) where
     pub valued-head : (t : Term) (ws : List (List Lit × Denotation)) (x : Value) (o : Option ℕ) → r.value ≡ Some t
         → ws ≡ rows_of_term b (term_view t) e → option_map (λ q. q.1) (slice_get ws 0) ≡ Some (value_view x)
         → o ≡ valued_var b r.symbol (row_index (tuples_at b r.symbol) (map row_value vs))
-        (single_index (values_at b r.symbol) (value_view x))
+        (elem_index (values_at b r.symbol) (value_view x))
         → o ≡ head_var b (rule_view r) e
     valued-head t ws x o some rows value var =
         let plain : IsPlainTerm (term_view t) =
@@ -322,8 +230,9 @@ module _ (b : GroundBase) (e : List Elem) where
         let place = row_index (tuples_at b r.symbol) (map (head_value b e) (map term_view r.args)) in
         var
         ∙ ap (λ us. valued_var b r.symbol (row_index (tuples_at b r.symbol) us)
-        (single_index (values_at b r.symbol) (value_view x))) args-are
-        ∙ ap (λ d. valued_var b r.symbol place (single_index (values_at b r.symbol) d)) is
+        (elem_index (values_at b r.symbol) (value_view x))) args-are
+        ∙ ap (λ d. valued_var b r.symbol place (elem_index (values_at b r.symbol) d)) is
+        ∙ ap (valued_var b r.symbol place) (sym (single-index (values_at b r.symbol) (head_value b e (term_view t))))
         ∙ ap (λ v. var_of_value b r.symbol place (option_map (head_value b e) (option_map term_view v))) (sym some)
 
 pub own-if : (b : GroundBase) (r : RuleTree) (e : List Elem) (o : Option ℕ) → IsPlainHead b r → o ≡ head_var b r e

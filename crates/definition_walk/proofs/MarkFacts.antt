@@ -2,13 +2,12 @@
 use Rattle.std.proofs.Common.{◌-◌}
 use Rattle.std.proofs.Common.{◌≡◌, ◌<◌, ℕ, zero, suc, ◌+◌, List, [], ◌∷◌, ◌++◌, map, length, set, slice_get, Bool, true}
 use Rattle.std.proofs.Common.{false, ◌||◌, Some, nat_eq, refl, sym, ap, ◌∙◌, arith, inl, inr, eq-eqb, get_or, take}
-use Rattle.std.specs.List.{list_any}
 use Rattle.std.proofs.lemmas.Bool.{cases_Bool, eqb-true}
 use Rattle.std.proofs.lemmas.List.{length-set}
 use Rattle.clause_base.proofs.ListFacts.{slice_get-set_same, slice_get-set_other}
 use Rattle.std.proofs.lemmas.Option.{slice_get-get_or}
 use Rattle.kb_logic.specs.declared.syntax.Rule.{Rule}
-use Rattle.kb_logic.specs.Trees.{RuleTree, DefinitionTree}
+use Rattle.kb_logic.specs.Trees.{DefinitionTree}
 use Rattle.kb_logic.specs.Views.{rule_view}
 use Rattle.term_values.specs.GroundBases.{GroundBase}
 use Rattle.term_values.proofs.Offsets.{some-same}

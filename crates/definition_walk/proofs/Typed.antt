@@ -7,7 +7,6 @@ use Rattle.kb_logic.specs.Bounds.{types_of, TermIsBounded}
 use Rattle.kb_logic.specs.Structures.{choices}
 use Rattle.kb_logic.specs.Trees.{TermTree, variable, integer, constructed, application, summation, product, aggregate}
 use Rattle.kb_logic.specs.Trees.{SummandTrees, more_summands, no_summands}
-use Rattle.kb_logic.specs.Typing.{IsIntegerIn}
 use Rattle.kb_logic.proofs.Atoms.{tuple_elements}
 use Rattle.kb_logic.proofs.Members.{in_all}
 use Rattle.term_values.specs.RowArithmetic.{RowsFit}
@@ -30,7 +29,7 @@ module _ (v : Vocabulary) (domains : List (List Elem)) (scope : List ℕ) where
       record {
         head = h;
         fits = λ b e. subst (λ (us : SummandTrees). RowsFit b (summation us) e) (sym h.1)
-            (small-rows-fit b (summation (more_summands true (integer h.0) no_summands)) [] [] tt bounded);
+            (small-rows-fit b (summation (more_summands true (integer h.0) no_summands)) [] [] tt (tt, tt) bounded);
       }
   plain-term (product ts) h k = absurd h
   plain-term (aggregate a bs f t) h k = absurd h
@@ -54,6 +53,7 @@ typed-can-be-ground b r given typed bounded = record {
   };
   body =
       in_all (IsGroundable b r.body) (choices b.domains r.vars)
-      (λ e c. groundable b r.body (types_of r.vars) e (tuple_elements b.domains (types_of r.vars) e c)
-      (ground-form b (IsIntegerIn b.domains) r.body (types_of r.vars) typed.typed typed.plain) bounded.body);
+      (λ e c. let types = tuple_elements b.domains (types_of r.vars) e c in
+      groundable b r.body (types_of r.vars) e types
+      (ground-form b given r.body (types_of r.vars) e types typed.typed typed.placed) bounded.body);
 }

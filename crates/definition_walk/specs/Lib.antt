@@ -1,5 +1,4 @@
 pub mod Lists
-pub mod Places
 pub mod Marks
 pub mod Steps
 pub mod WalkLaws

@@ -14,8 +14,6 @@ use std::alloc::Global;
 pub struct Bodies {
     pub first: u64,
     pub lists: Vec<Vec<Answer>>,
-    // The place of the last head's value among its function's values.
-    pub last: usize,
 }
 
 /// Empty lists for so many variables.

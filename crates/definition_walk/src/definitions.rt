@@ -37,7 +37,6 @@ pub fn push_definition(
     let mut bodies = Bodies {
         first: span.first,
         lists: empty_lists(alloc, span.past.saturating_sub(span.first) as usize)?,
-        last: 0,
     };
     push_rules(alloc, base, rules, &mut bodies, problem)?;
     complete_marked(alloc, base, marks.as_slice(), &bodies, problem)

@@ -45,7 +45,7 @@ fn push_instance<'a>(
         problem.new) }
     ensures grows { OnOk result (BodiesGrow bodies.old bodies.new problem.old problem.new) }
 {
-    match head_var(alloc, walk.base, walk.rule, env, &mut bodies.last)? {
+    match head_var(alloc, walk.base, walk.rule, env)? {
         None => Ok(()),
         Some(var) => {
             let body = form(alloc, walk.base, &walk.rule.body, env, problem)?;

@@ -1,4 +1,4 @@
-mod Plain
+mod Placed
 mod Consistent
 mod BoundedBases
 mod CanBeGrounded

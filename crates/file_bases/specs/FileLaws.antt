@@ -12,16 +12,14 @@ use Rattle.reading_stages.specs.TypedFiles.{TypedFile}
 use Rattle.reading_stages.specs.TypesStage.{IsTyped}
 use Rattle.reading_stages.specs.DataAnswer.{IsDataOf}
 use Rattle.reading_stages.specs.SizesStage.{Sizes, AreSizesOf}
-use Rattle.term_values.specs.GroundTerms.{TermHasNoCounting}
 use Rattle.def_ground.specs.Groundings.{IsGroundTheory}
 
--- what the stages of names, types and data accept can be grounded, and no term that may be asked for has an aggregate
+-- what the stages of names, types and data accept can be grounded
 abbrev pub AcceptedCanBeGrounded : Type 0
 AcceptedCanBeGrounded =
     (file : File) (named : NamedFile) (typed : TypedFile) → IsNamed file named → IsTyped named typed
     → (theory : ℕ) (s : raw.Structure) (answer : KnownAtoms) → IsDataOf typed theory s answer
     → IsGroundTheory (base_of_file typed theory answer)
-    × AllByRecursion (λ t. TermHasNoCounting t.term) (base_of_file typed theory answer).terms
 
 -- the static bounds of each term are small, in the theory and in each term that may be asked for
 pub record IsBoundedBase (base : Base) : Type 0 where

@@ -7,7 +7,7 @@ use structure_laws::{
 use typing_laws::accepted_is_typed_over;
 
 /// What the stages of names, types and data accept can be grounded: its data are consistent and of its vocabulary, its
-/// sentences are well typed over them, and have no aggregate and no number quantifier.
+/// sentences, rules and terms are well typed over them, and their aggregates stand where they may.
 pub fn accepted_can_be_grounded()
     ensures { AcceptedCanBeGrounded }
 {

@@ -1,8 +1,8 @@
+pub mod CountingSteps
 pub mod LeafSteps
 pub mod FormSteps
 pub mod SentenceSteps
 pub mod StartSteps
 pub mod BoundedRows
 pub mod GroundableLaws
-pub mod AskableLaws
-pub mod AskedSteps
+pub mod AggregateSteps

@@ -1,4 +1,5 @@
 pub mod Groundable
 pub mod Steps
-pub mod Askable
+pub mod Sides
+pub mod Weighing
 pub mod Laws

@@ -1,14 +1,9 @@
 //! Laws of what the walk asks of its callers.
-ghost use Rattle.ground_walk.specs.Laws.{BoundedAreGroundable, BoundedAreAskable, DataKnowAtoms};
+ghost use Rattle.ground_walk.specs.Laws.{BoundedAreGroundable, DataKnowAtoms};
 
 /// A formula whose terms have small bounds can be grounded under elements of the types of its scope.
 pub fn bounded_are_groundable()
     ensures { BoundedAreGroundable }
-{}
-
-/// A well typed term whose bounds are small can be made a number and weighted literals.
-pub fn bounded_are_askable()
-    ensures { BoundedAreAskable }
 {}
 
 /// Data say of each ground atom whether it is known.

@@ -2,12 +2,13 @@
 ghost use Rattle.std.specs.Prelude.{◌≡◌, ◌≤◌, IsNone, IfSome, MatchOption, Some, map, true, IfOk, OnOk, ⊤};
 ghost use Rattle.std.specs.List.{AllByRecursion};
 ghost use Rattle.kb_logic.specs.Bounds.{value_type_of};
-ghost use Rattle.kb_logic.specs.Trees.{terms_of, atom, comparison};
+ghost use Rattle.kb_logic.specs.Trees.{terms_of, atom};
 ghost use Rattle.kb_logic.specs.Views.{term_view};
 ghost use Rattle.plain_evaluation.specs.Environments.{env_view};
 ghost use Rattle.ground_core.specs.Problems.{AreLitsOf, ProblemState};
 ghost use Rattle.term_values.specs.GroundBases.{row_index, tuples_at};
 ghost use Rattle.term_values.specs.KnownBases.{IsGroundBase};
+ghost use Rattle.term_values.specs.RowArithmetic.{RowsFit};
 ghost use Rattle.term_values.specs.Rows.{rows_of_term};
 ghost use Rattle.term_values.specs.RowValues.{row_value};
 ghost use Rattle.def_ground.specs.declared.answers.Answer.TheVariants.{Constant};
@@ -228,7 +229,7 @@ fn plain_comparison<'a>(
     Some(compare(cmp, x, y))
 }
 
-/// What a comparison comes to.
+/// What a comparison of terms without aggregates comes to.
 pub(crate) fn comparison<'a>(
     alloc: Global,
     base: &'a GroundData<'a>,
@@ -240,11 +241,11 @@ pub(crate) fn comparison<'a>(
 ) -> Result<Answer, Memory>
     requires given { IsGroundBase base.now }
     requires room { HasVars base.now problem.old }
-    requires fits { IsGroundable base.now (comparison cmp (term_view left.now) (term_view right.now))
-        (env_view env.now) }
+    requires left { RowsFit base.now (term_view left.now) (env_view env.now) }
+    requires right { RowsFit base.now (term_view right.now) (env_view env.now) }
     ensures made { IfOk result
-        (λ a. Makes (form_of base.now (comparison cmp (term_view left.now) (term_view right.now))
-        (env_view env.now) problem.old) a problem.new) }
+        (λ a. Makes (comparison_of cmp (rows_of_term base.now (term_view left.now) (env_view env.now))
+        (rows_of_term base.now (term_view right.now) (env_view env.now)) problem.old) a problem.new) }
     ensures grows { IfOk result (λ a. Grows problem.old problem.new a) }
 {
     if let Some(value) = plain_comparison(base, cmp, left, right, env) {
@@ -281,7 +282,8 @@ fn push_compared(
     push_cases(alloc, sign, lits, cases.as_slice(), problem)
 }
 
-/// Says that one of the literals is true, or the comparison is, or where the sign is false is not.
+/// Says that one of the literals is true, or the comparison of terms without aggregates is, or where the sign is false
+/// is not.
 pub(crate) fn push_comparison<'a>(
     alloc: Global,
     base: &'a GroundData<'a>,
@@ -295,12 +297,12 @@ pub(crate) fn push_comparison<'a>(
 ) -> Result<(), Memory>
     requires given { IsGroundBase base.now }
     requires room { HasVars base.now problem.old }
-    requires fits { IsGroundable base.now (comparison cmp (term_view left.now) (term_view right.now))
-        (env_view env.now) }
+    requires left { RowsFit base.now (term_view left.now) (env_view env.now) }
+    requires right { RowsFit base.now (term_view right.now) (env_view env.now) }
     requires lits { AreLitsOf problem.old.vars lits.now }
     ensures made { OnOk result
-        (problem.new ≡ assert_of base.now sign (comparison cmp (term_view left.now) (term_view right.now))
-        (env_view env.now) lits.now problem.old) }
+        (problem.new ≡ assert_comparison sign cmp (rows_of_term base.now (term_view left.now) (env_view env.now))
+        (rows_of_term base.now (term_view right.now) (env_view env.now)) lits.now problem.old) }
     ensures grows { OnOk result (problem.old.vars ≤ problem.new.vars) }
 {
     let left_rows = base.rows(alloc, left, env)?;

@@ -2,6 +2,7 @@
 //! definition of `def_ground`.
 #![tactic(auto)]
 
+mod counting;
 mod disjuncts;
 mod forms;
 mod laws;
@@ -9,11 +10,11 @@ mod leaves;
 mod problems;
 mod sentences;
 mod starts;
-mod terms;
+mod weights;
 
-pub use forms::form;
-pub use laws::{bounded_are_askable, bounded_are_groundable, data_know_atoms};
+pub use counting::extreme_of;
+pub use forms::{add_aggregates, aggregates_of, form};
+pub use laws::{bounded_are_groundable, data_know_atoms};
 pub use problems::problem_of;
 pub use sentences::push_sentence;
 pub use starts::start;
-pub use terms::push_term;

@@ -15,6 +15,7 @@ ghost use Rattle.ground_walk.specs.Groundable.{HasVars, IsGroundable, AreGrounda
 ghost use Rattle.ground_walk.specs.Steps.{open_parts, part_step, assert_last, assert_under, assert_step, assert_joined};
 ghost use Rattle.ground_walk.specs.Steps.{assert_quantified};
 
+use crate::counting::are_plain;
 use crate::disjuncts::disjuncts;
 use crate::forms::{form, instances, signed_form};
 use crate::leaves::{push_atom, push_comparison};
@@ -164,17 +165,21 @@ fn push<'a>(
             )
         }
         Formula::Compare(cmp, left, right) => {
-            push_comparison(
-                alloc,
-                base,
-                sign,
-                *cmp,
-                left,
-                right,
-                env,
-                lits.as_slice(),
-                problem,
-            )
+            if are_plain(left, right) {
+                push_comparison(
+                    alloc,
+                    base,
+                    sign,
+                    *cmp,
+                    left,
+                    right,
+                    env,
+                    lits.as_slice(),
+                    problem,
+                )
+            } else {
+                push_leaf(alloc, base, sign, formula, env, lits, problem)
+            }
         }
         Formula::Iff(left, right) => {
             push_iff(

@@ -8,16 +8,16 @@ use Rattle.ground_core.specs.Problems.{ProblemState}
 use Rattle.ground_core.specs.Meaning.{HasTermsInRange}
 use Rattle.def_ground.specs.AskedTerms.{with_all_asked}
 use Rattle.def_ground.specs.Definitions.{define_all}
-use Rattle.def_ground.specs.Groundings.{ground_base, IsGroundNumber, IsGroundTheory, IsGroundingOf, SaysClausesAlone}
+use Rattle.def_ground.specs.Groundings.{ground_base, IsGroundNumber, IsGroundTheory, IsGroundingOf, HasNoBounds}
 use Rattle.def_ground.specs.Groundings.{theory_problem, TermsAreBounded}
 use Rattle.def_ground.specs.Problems.{problem_of}
 use Rattle.def_ground.specs.Rules.{IsTypedRule, IsTypedDefinition}
 use Rattle.theory_laws.proofs.FewTheories.{problem-is-small}
-use Rattle.theory_laws.proofs.ProblemLaws.{all-ground, problem-is-right, problem-says-clauses}
+use Rattle.theory_laws.proofs.ProblemLaws.{all-ground, problem-is-right, problem-has-no-bounds}
 use Rattle.theory_laws.proofs.TheoryRanges.{terms-in-range}
-use Rattle.ground_walk.specs.Askable.{IsAskable}
+use Rattle.term_walk.specs.Askable.{IsAskable}
 use Rattle.ground_walk.specs.Groundable.{IsGroundable}
-use Rattle.ground_walk.proofs.AskableLaws.{bounded-askable}
+use Rattle.term_walk.proofs.AskableLaws.{bounded-askable}
 use Rattle.ground_walk.proofs.GroundableLaws.{sentences-groundable}
 use Rattle.definition_walk.specs.Steps.{CanBeGround}
 use Rattle.definition_walk.proofs.Typed.{typed-can-be-ground}
@@ -29,7 +29,7 @@ pub theory-groundable : (base : Base) → IsGroundTheory base
     → AllByRecursion (λ f. IsGroundable (ground_base base) f []) base.theory.sentences
 theory-groundable base typed bounded =
     sentences-groundable (ground_base base) base.theory.sentences
-    (all-ground base typed base.theory.sentences typed.typed typed.plain) bounded.sentences
+    (all-ground base typed base.theory.sentences typed.typed typed.placed) bounded.sentences
 
 -- and so can its rules
 pub rules-groundable : (base : Base) → IsGroundTheory base
@@ -61,7 +61,7 @@ terms-askable base typed bounded = each base.terms typed.terms bounded
         → AllByRecursion (λ t. IsAskable (ground_base base) t.term) ts
     each [] h k = tt
     each (t ∷ ts) h k = (
-      bounded-askable (ground_base base) typed.known.domains t.term h.0.typed h.0.plain k.0,
+      bounded-askable (ground_base base) typed.known.domains t.term h.0.typed h.0.placed k.0,
       each ts h.1 k.1,
     )
 
@@ -85,8 +85,8 @@ module _ (base : Base) (typed : IsGroundTheory base) (t : TheoryTree) (ts : List
   problem-small =
       subst (λ (q : ProblemState). q.vars ≤ base_weight base) (sym problem-value) (problem-is-small base typed)
 
-  pub problem-of-clauses : SaysClausesAlone p
-  problem-of-clauses = subst SaysClausesAlone (sym problem-value) (problem-says-clauses base)
+  pub problem-says-no-bounds : HasNoBounds p
+  problem-says-no-bounds = subst HasNoBounds (sym problem-value) (problem-has-no-bounds base)
 
   pub problem-in-range : TermsAreBounded base → HasTermsInRange p
   problem-in-range bounded = subst HasTermsInRange (sym problem-value) (terms-in-range base typed bounded)

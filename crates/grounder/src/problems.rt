@@ -10,10 +10,10 @@ ghost use Rattle.type_derivation.specs.TypedViews.{named_term_view, typed_view};
 ghost use Rattle.term_values.specs.KnownBases.{AreDataOf, IsGroundBase, base_of_data};
 ghost use Rattle.def_ground.specs.AskedTerms.{with_all_asked};
 ghost use Rattle.def_ground.specs.Definitions.{define_all};
-ghost use Rattle.def_ground.specs.Groundings.{IsGroundTheory, IsGroundingOf, SaysClausesAlone, TermsAreBounded};
+ghost use Rattle.def_ground.specs.Groundings.{IsGroundTheory, IsGroundingOf, HasNoBounds, TermsAreBounded};
 ghost use Rattle.def_ground.specs.Groundings.{theory_problem};
 ghost use Rattle.def_ground.specs.Problems.{problem_of as problem_of_sentences};
-ghost use Rattle.ground_walk.specs.Askable.{IsAskable};
+ghost use Rattle.term_walk.specs.Askable.{IsAskable};
 ghost use Rattle.ground_walk.specs.Groundable.{HasVars, IsGroundable};
 ghost use Rattle.definition_walk.specs.Steps.{CanBeGround};
 ghost use Rattle.grounder.specs.Weighing.{base_weight, IsRefused};
@@ -21,12 +21,13 @@ ghost use Rattle.grounder.specs.Weighing.{base_weight, IsRefused};
 use crate::errors::GroundError;
 use definition_walk::push_definitions;
 use ground_core::{Memory, Problem};
-use ground_walk::{problem_of, push_term};
+use ground_walk::problem_of;
 use kb_logic::{Term, Theory, Vocabulary};
 use kb_sizes::weight;
 use partial_structures::Partial;
 use std::alloc::Global;
 use term_values::GroundData;
+use term_walk::push_term;
 use type_derivation::{Named, TypedKb};
 
 /// The greatest weight of a knowledge base that is made into a ground problem.
@@ -103,8 +104,8 @@ fn problem(
 
 /// The ground problem of the theory with this number over its data, with a term for each term of the file.
 ///
-/// The theory has no aggregates and number quantifiers, and is well typed over the domains of its data, and so are the
-/// terms. The bounds of all terms lie from -10^15 to 10^15.
+/// The theory and the terms are well typed over the domains of the data, and their aggregates stand where they may. The
+/// bounds of all terms lie from -10^15 to 10^15.
 pub fn ground(
     alloc: Global,
     kb: &TypedKb,
@@ -118,7 +119,7 @@ pub fn ground(
     requires asked { TermsAreBounded (base_of_file (typed_view kb.now) theory known.now) }
     ensures value { IfOk result (λ p. p ≡ theory_problem (base_of_file (typed_view kb.now) theory known.now)) }
     ensures right { IfOk result (λ p. IsGroundingOf (base_of_file (typed_view kb.now) theory known.now) p) }
-    ensures clauses { IfOk result (λ p. SaysClausesAlone p) }
+    ensures bounds { IfOk result (λ p. HasNoBounds p) }
     ensures range { IfOk result (λ p. HasTermsInRange p) }
     ensures small { IfOk result (λ p. p.vars ≤ base_weight (base_of_file (typed_view kb.now) theory known.now)) }
     ensures light { IfOk result (λ p. base_weight (base_of_file (typed_view kb.now) theory known.now) ≤ weight_limit) }

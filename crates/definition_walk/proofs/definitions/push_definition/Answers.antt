@@ -1,7 +1,6 @@
 use Rattle.std.proofs.Common.{◌≡◌, [], length, map, fold, refl, subst, sym, ap, ◌∙◌}
 use Rattle.std.proofs.lemmas.Result.{on_ok_weaker}
 use Rattle.kb_logic.specs.declared.vocabularies.Vocabulary.{Vocabulary}
-use Rattle.kb_logic.specs.Trees.{RuleTree}
 use Rattle.kb_logic.specs.Views.{rule_view, definition_view}
 use Rattle.def_ground.specs.Definitions.{Instances, rule_instances, all_instances, complete_atom}
 use Rattle.definition_walk.specs.Lists.{lists_of}
@@ -20,7 +19,7 @@ push_rules-requires-clause-lists c =
     ∙ c.len.ensures ∙ ap (λ (v : Vocabulary). length v.symbols) c.vocabulary.ensures in
     span-lists b c.args.definition.now.rules c.as_slice-rules.result.now c.in_ok-marks.marks.items
     c.as_slice.result.now c.span_of-span.result
-    (record { first = c.span_of-span.result.first; lists = c.in_ok-empty_lists.field-0; last = 0 })
+    (record { first = c.span_of-span.result.first; lists = c.in_ok-empty_lists.field-0 })
     c.as_slice-rules.ensures c.in_ok-marks.ensures.1 c.as_slice.ensures.value size c.span_of-span.ensures refl
     (c.in_ok-empty_lists.ensures.0 ∙ c.saturating_sub.ensures)
 

@@ -17,7 +17,7 @@ returns-in_ok-body-in-Some-clause-made c =
     let low = own.low in
     let lists = c.requires.lists.low own.declared in
     on_ok_weaker c.add_body.result (λ more st. instance-stands b r (env_view c.args.env.now) st c.args.bodies.now
-    (record { first = c.args.bodies.now.first; lists = c.add_body.new.lists; last = c.head_var.new.last })
+    (record { first = c.args.bodies.now.first; lists = c.add_body.new.lists })
     c.args.problem.now c.form.new.problem c.in-Some.var _ c.in_ok-body-in-Some.body
     (sym c.in-Some.is ∙ c.in_ok-head_var.ensures.var) (omega (arith, low, lists)) refl refl
     c.in_ok-body-in-Some.ensures.made more) c.add_body.ensures.more

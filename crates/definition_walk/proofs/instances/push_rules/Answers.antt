@@ -1,4 +1,4 @@
-use Rattle.std.proofs.Common.{map, take, fold, subst, sym, ◌∙◌, arith}
+use Rattle.std.proofs.Common.{map, take, fold, subst, sym, arith}
 use Rattle.kb_logic.specs.Views.{rule_view}
 use Rattle.def_ground.specs.Definitions.{Instances, rule_instances}
 use Rattle.definition_walk.specs.Steps.{Stands, CanBeGround, HasLists}

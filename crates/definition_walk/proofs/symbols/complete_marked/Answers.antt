@@ -1,6 +1,5 @@
-use Rattle.std.proofs.Common.{◌≡◌, ◌<◌, ◌-◌, ◌+◌, fold, length, true, false, ap, sym, ◌∙◌, arith}
+use Rattle.std.proofs.Common.{◌<◌, fold, length, true, false, ap, ◌∙◌, arith}
 use Rattle.ground_core.specs.Problems.{ProblemState}
-use Rattle.term_values.specs.GroundBases.{first_var}
 use Rattle.def_ground.specs.Definitions.{complete_atom}
 use Rattle.definition_walk.specs.WalkLaws.{ranges}
 use Rattle.definition_walk.proofs.MarkFacts.{mark-is}

@@ -1,12 +1,14 @@
 use Rattle.std.proofs.Common.{◌≡◌, ◌+◌, ◌*◌, ◌^◌, ◌≤◌, ◌++◌, map, drop, fold, length}
 use Rattle.plain_evaluation.specs.Environments.{env_view}
 use Rattle.kb_logic.specs.Structures.{choices}
-use Rattle.kb_logic.specs.Trees.{formulas_of}
-use Rattle.kb_logic.specs.Views.{formula_view}
-use Rattle.ground_core.specs.Problems.{AreLitsOf}
-use Rattle.def_ground.specs.Forms.{parts_of}
-use Rattle.ground_walk.specs.Groundable.{AreGroundable}
+use Rattle.kb_logic.specs.Trees.{formulas_of, terms_of, summands_of}
+use Rattle.kb_logic.specs.Views.{formula_view, term_view, signed_view}
+use Rattle.ground_core.specs.Problems.{AreLitsOf, ArePartsOf}
+use Rattle.def_ground.specs.Forms.{parts_of, sums_of_summands, sums_of_factors}
+use Rattle.def_ground.specs.LinearViews.{linear_view}
+use Rattle.ground_walk.specs.Groundable.{AreGroundable, AreSummandsGroundable, AreFactorsGroundable}
 use Rattle.ground_walk.specs.Steps.{open_parts, part_step}
+use Rattle.ground_walk.specs.Weighing.{weight_view, weighed_step}
 use Rattle.plain_evaluation.proofs.Folds.{after_front}
 use Rattle.ground_walk.proofs.forms.+form.Given as goal
 
@@ -59,3 +61,67 @@ decreases-quantified l = 2 ^ 65 * goal.size-quantified l + length l.bounds.now +
 
 abbrev pub decreases-instances : goal.decreases-instances
 decreases-instances l = 2 ^ 65 * goal.size-instances l + length l.bounds.now + 2
+
+-- with the operands that are left come all
+abbrev pub invariant-add_of_operands-loop-operand : goal.invariant-add_of_operands-loop-operand
+invariant-add_of_operands-loop-operand l =
+    let left = summands_of (map signed_view (drop l.operand-index l.operands)) in
+    record {
+      same : sums_of_summands l.base l.factor left (env_view l.env) (linear_view l.linear l.problem)
+          ≡ sums_of_summands l.base l.factor (summands_of (map signed_view l.operands)) (env_view l.env)
+          (linear_view l.fn.linear l.fn.problem);
+      fits : AreSummandsGroundable l.base left (env_view l.env);
+      vars : l.fn.problem.vars ≤ l.problem.vars;
+      parts : ArePartsOf l.problem.vars l.linear.parts;
+    }
+
+-- with the factors that are left come all
+abbrev pub invariant-add_of_factors-loop-term : goal.invariant-add_of_factors-loop-term
+invariant-add_of_factors-loop-term l =
+    let left = terms_of (map term_view (drop l.term-index l.terms)) in
+    record {
+      same : sums_of_factors l.base l.factor left (env_view l.env) (linear_view l.linear l.problem)
+          ≡ sums_of_factors l.base l.factor (terms_of (map term_view l.terms)) (env_view l.env)
+          (linear_view l.fn.linear l.fn.problem);
+      fits : AreFactorsGroundable l.base left (env_view l.env);
+      vars : l.fn.problem.vars ≤ l.problem.vars;
+      parts : ArePartsOf l.problem.vars l.linear.parts;
+    }
+
+-- with the instances that are left come all
+abbrev pub invariant-add_instances-loop-number : goal.invariant-add_instances-loop-number
+invariant-add_instances-loop-number l =
+    let F = after_front (λ st x. weighed_step l.base l.weights.kind l.weights.factor (formula_view l.formula)
+    (weight_view l.weights) st (env_view l.env ++ x))
+    (choices l.base.domains l.others) in
+    let cs = choices l.base.domains l.block.bounds.now in
+    record {
+      same : fold F (linear_view l.linear l.problem) (drop l.number cs)
+          ≡ fold F (linear_view l.fn.linear l.fn.problem) cs;
+      vars : l.fn.problem.vars ≤ l.problem.vars;
+      parts : ArePartsOf l.problem.vars l.linear.parts;
+    }
+
+abbrev pub decreases-compare_count : goal.decreases-compare_count
+decreases-compare_count l = 2 ^ 65 * goal.size-compare_count l + length l.bounds.now + 3
+
+abbrev pub decreases-compare_extreme : goal.decreases-compare_extreme
+decreases-compare_extreme l = 2 ^ 65 * goal.size-compare_extreme l + 2
+
+abbrev pub decreases-compare_sums : goal.decreases-compare_sums
+decreases-compare_sums l = 2 ^ 65 * goal.size-compare_sums l + 1
+
+abbrev pub decreases-aggregates_of : goal.decreases-aggregates_of
+decreases-aggregates_of l = 2 ^ 65 * goal.size-aggregates_of l + 1
+
+abbrev pub decreases-add_aggregates : goal.decreases-add_aggregates
+decreases-add_aggregates l = 2 ^ 65 * goal.size-add_aggregates l
+
+abbrev pub decreases-add_of_operands : goal.decreases-add_of_operands
+decreases-add_of_operands l = 2 ^ 65 * goal.size-add_of_operands l + 1
+
+abbrev pub decreases-add_of_factors : goal.decreases-add_of_factors
+decreases-add_of_factors l = 2 ^ 65 * goal.size-add_of_factors l + 1
+
+abbrev pub decreases-add_instances : goal.decreases-add_instances
+decreases-add_instances l = 2 ^ 65 * goal.size-add_instances l + length l.bounds.now + 2

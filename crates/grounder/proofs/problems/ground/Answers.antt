@@ -8,7 +8,7 @@ use Rattle.type_derivation.specs.TypedViews.{named_term_view, typed_view}
 use Rattle.def_ground.specs.Groundings.{ground_base}
 use Rattle.ground_walk.specs.Groundable.{IsGroundable}
 use Rattle.definition_walk.specs.Steps.{CanBeGround}
-use Rattle.grounder.proofs.Theories.{problem-of-clauses, problem-right, problem-small, problem-in-range}
+use Rattle.grounder.proofs.Theories.{problem-says-no-bounds, problem-right, problem-small, problem-in-range}
 use Rattle.grounder.proofs.Theories.{problem-value, theory-groundable, rules-groundable, terms-askable}
 use Rattle.grounder.proofs.problems.ground.Goals as goal
 
@@ -53,12 +53,12 @@ returns-in-Ok-clause-small c =
     problem-small base c.requires.typed (theory_view c.theory_of.result.now) ts c.theory_of.ensures alike c.in-Ok.made
     c.in-Ok.ensures
 
-pub returns-in-Ok-clause-clauses : goal.returns-in-Ok-clause-clauses
-returns-in-Ok-clause-clauses c =
+pub returns-in-Ok-clause-bounds : goal.returns-in-Ok-clause-bounds
+returns-in-Ok-clause-bounds c =
     let base : Base = base_of_file (typed_view c.args.kb.now) c.args.theory c.args.known.now in
     let ts = map named_term (map named_term_view c.as_slice-terms.result.now) in
     let alike : ts ≡ base.terms = ap (λ us. map named_term (map named_term_view us)) c.as_slice-terms.ensures in
-    problem-of-clauses base c.requires.typed
+    problem-says-no-bounds base c.requires.typed
     (theory_view c.theory_of.result.now) ts c.theory_of.ensures alike c.in-Ok.made
     c.in-Ok.ensures
 

@@ -6,7 +6,7 @@ use Rattle.term_values.specs.KnownBases.{IsGroundBase, base_of_data}
 use Rattle.term_values.proofs.KnownLaws.{ground-base}
 use Rattle.reading_stages.specs.FileBases.{named_term}
 use Rattle.type_derivation.specs.TypedViews.{named_term_view}
-use Rattle.ground_walk.specs.Askable.{IsAskable}
+use Rattle.term_walk.specs.Askable.{IsAskable}
 use Rattle.ground_walk.specs.Groundable.{IsGroundable, KnowsAtoms}
 use Rattle.ground_walk.proofs.GroundableLaws.{knows-atoms}
 use Rattle.definition_walk.specs.Steps.{CanBeGround}

@@ -3,7 +3,7 @@ use Rattle.std.specs.List.{AllByRecursion}
 use Rattle.reading_stages.specs.FileBases.{named_term}
 use Rattle.type_derivation.specs.TypedViews.{named_term_view}
 use Rattle.def_ground.specs.AskedTerms.{with_all_asked}
-use Rattle.ground_walk.specs.Askable.{IsAskable}
+use Rattle.term_walk.specs.Askable.{IsAskable}
 use Rattle.ground_walk.specs.Groundable.{HasVars}
 use Rattle.grounder.proofs.problems.push_terms.Given as goal
 

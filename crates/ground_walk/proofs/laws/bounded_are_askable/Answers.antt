@@ -1,5 +1,0 @@
-use Rattle.ground_walk.proofs.AskableLaws.{bounded-askable}
-use Rattle.ground_walk.proofs.laws.bounded_are_askable.Goals as goal
-
-pub returns : goal.returns
-returns c = λ b t given typed none bounded. bounded-askable b given t typed none bounded
