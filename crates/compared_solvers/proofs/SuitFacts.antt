@@ -13,6 +13,7 @@ use Rattle.std.proofs.lemmas.List.Elements.{Contains-push_cases, Contains-append
 use Rattle.std.proofs.lemmas.List.Sums.{fold-append}
 use Rattle.kb_logic.specs.declared.elements.ExtInt.{ExtInt}
 use Rattle.kb_logic.specs.declared.elements.ExtInt.TheVariants.{Num}
+use Rattle.kb_logic.specs.declared.syntax.AggKind.{AggKind}
 use Rattle.kb_logic.specs.declared.syntax.Cmp.TheVariants as cmp
 use Rattle.kb_logic.specs.Denotations.{compared}
 use Rattle.lit_core.specs.declared.literals.Lit.{Lit}
@@ -20,11 +21,13 @@ use Rattle.lit_core.specs.Literals.{by_sign, literal_value, valuation, negated}
 use Rattle.lit_core.specs.Truth.{IsSatisfied}
 use Rattle.lit_core.proofs.Soundness.{value-negated}
 use Rattle.ground_core.specs.declared.parts.GroundTerm.{GroundTerm}
+use Rattle.ground_core.specs.declared.parts.Part.{Part}
 use Rattle.ground_core.specs.declared.parts.TermBound.{TermBound}
 use Rattle.ground_core.specs.Problems.{ProblemState}
-use Rattle.ground_core.specs.Meaning.{joined, GateHolds, BoundHolds, term_value, denotation_of_bound}
+use Rattle.ground_core.specs.Meaning.{joined, GateHolds, BoundHolds, SumHolds, term_value, denotation_of_bound}
+use Rattle.ground_core.specs.Meaning.{parts_value}
 use Rattle.ground_core.specs.Growth.{clauses_of_same, falsified_by, next_lit, with_clause, with_gate, with_same}
-use Rattle.ground_core.specs.Growth.{with_term, with_bound, with_exclusion}
+use Rattle.ground_core.specs.Growth.{with_sum, with_term, with_bound, with_exclusion}
 use Rattle.ground_core.specs.Growing.{with_retired}
 use Rattle.ground_core.specs.Laws.{Differs}
 use Rattle.ground_core.proofs.Fronts.{All-front, All-back}
@@ -121,6 +124,40 @@ module _ (values : List Bool) where
     All-contains (GateHolds v) (p.gates ++ record { out = next_lit p; all = all; parts = ls } ∷ [])
         (record { out = next_lit p; all = all; parts = ls }) s.1.gates
         (Contains-push p.gates (record { out = next_lit p; all = all; parts = ls })),
+  )
+
+  -- constraints on sums
+  pub sum-made : (p : ProblemState) (k : AggKind) (ps : List Part) (n : ExtInt) → Suits p values
+      → p.vars + 1 < length values → v (p.vars + 1) ≡ compared cmp.Ge (parts_value v k ps) (denotation_of_bound n)
+      → Suits (with_sum p k ps n) values
+  sum-made p k ps n s lt h = (
+    lt,
+    record {
+      gates = s.1.gates;
+      clauses = s.1.clauses;
+      sums = All-push (SumHolds v) p.sums (record { out = next_lit p; kind = k; parts = ps; least = n }) s.1.sums h;
+      bounds = s.1.bounds;
+      retired = s.1.retired;
+    },
+  )
+
+  pub sum-back : (p : ProblemState) (k : AggKind) (ps : List Part) (n : ExtInt) → Suits (with_sum p k ps n) values
+      → Suits p values × (v (p.vars + 1) ≡ compared cmp.Ge (parts_value v k ps) (denotation_of_bound n))
+  sum-back p k ps n s = (
+    (
+      less p s.0,
+      record {
+        gates = s.1.gates;
+        clauses = s.1.clauses;
+        sums = All-front (SumHolds v) p.sums (record { out = next_lit p; kind = k; parts = ps; least = n } ∷ [])
+            s.1.sums;
+        bounds = s.1.bounds;
+        retired = s.1.retired;
+      },
+    ),
+    All-contains (SumHolds v) (p.sums ++ record { out = next_lit p; kind = k; parts = ps; least = n } ∷ [])
+        (record { out = next_lit p; kind = k; parts = ps; least = n }) s.1.sums
+        (Contains-push p.sums (record { out = next_lit p; kind = k; parts = ps; least = n })),
   )
 
   -- one value of two literals
@@ -331,6 +368,7 @@ pub saying-fine : (p : ProblemState) (x : Said) → p.bounds ≡ [] → (saying 
 saying-fine p (says.Clause lits) none = none
 saying-fine p (says.Gate all parts) none = none
 saying-fine p (says.Same a b) none = none
+saying-fine p (says.Sum kind least parts) none = none
 saying-fine p (says.Term kind base parts) none = none
 
 pub saying-back : (values : List Bool) (p : ProblemState) (x : Said) → p.bounds ≡ [] → Suits (saying p x) values
@@ -338,6 +376,7 @@ pub saying-back : (values : List Bool) (p : ProblemState) (x : Said) → p.bound
 saying-back values p (says.Clause lits) none s = (clause-back values p lits.items s).0
 saying-back values p (says.Gate all parts) none s = (gate-back values p all parts.items s).0
 saying-back values p (says.Same a b) none s = (same-back values p a b s).0
+saying-back values p (says.Sum kind least parts) none s = (sum-back values p kind parts.items least s).0
 saying-back values p (says.Term kind base parts) none s =
     term-back values p (term_of kind base parts.items) none s
 
@@ -362,6 +401,7 @@ said-atoms p [] = refl
 said-atoms p (says.Clause lits ∷ xs) = said-atoms (with_clause p lits.items) xs
 said-atoms p (says.Gate all parts ∷ xs) = said-atoms (with_gate p all parts.items) xs
 said-atoms p (says.Same a b ∷ xs) = said-atoms (with_same p a b) xs
+said-atoms p (says.Sum kind least parts ∷ xs) = said-atoms (with_sum p kind parts.items least) xs
 said-atoms p (says.Term kind base parts ∷ xs) = said-atoms (with_term p (term_of kind base parts.items)) xs
 
 -- a problem that grows step by step: values that suit it suited it before

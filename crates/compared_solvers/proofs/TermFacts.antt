@@ -16,9 +16,9 @@ use Rattle.lit_core.specs.Literals.{literal_value}
 use Rattle.ground_core.specs.declared.parts.Part.{Part}
 use Rattle.ground_core.specs.Problems.{ProblemState}
 use Rattle.ground_core.specs.Meaning.{parts_value, weights_of}
-use Rattle.ground_core.specs.Growth.{empty_problem, with_clause, with_gate, with_same, with_term}
+use Rattle.ground_core.specs.Growth.{empty_problem, with_clause, with_gate, with_same, with_sum, with_term}
 use Rattle.compared_solvers.specs.declared.problems.Said.{Said}
-use Rattle.compared_solvers.specs.declared.problems.Said.TheVariants.{Clause, Gate, Same, Term}
+use Rattle.compared_solvers.specs.declared.problems.Said.TheVariants.{Clause, Gate, Same, Sum, Term}
 use Rattle.compared_solvers.specs.declared.totals.Total.{Total}
 use Rattle.compared_solvers.specs.declared.totals.Total.TheVariants as total
 use Rattle.compared_solvers.specs.Sayings.{saying, problem_said, term_of, terms_of}
@@ -29,6 +29,7 @@ terms-after p [] = sym (append-nil p.terms)
 terms-after p (Clause lits ∷ more) = terms-after (with_clause p lits.items) more
 terms-after p (Gate all parts ∷ more) = terms-after (with_gate p all parts.items) more
 terms-after p (Same a b ∷ more) = terms-after (with_same p a b) more
+terms-after p (Sum kind least parts ∷ more) = terms-after (with_sum p kind parts.items least) more
 terms-after p (Term kind base parts ∷ more) =
     terms-after (with_term p (term_of kind base parts.items)) more
     ∙ append_assoc p.terms (term_of kind base parts.items ∷ []) (terms_of more)

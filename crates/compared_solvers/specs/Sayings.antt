@@ -7,13 +7,13 @@ use Rattle.kb_logic.specs.declared.syntax.AggKind.{AggKind}
 use Rattle.ground_core.specs.declared.parts.GroundTerm.{GroundTerm}
 use Rattle.ground_core.specs.declared.parts.Part.{Part}
 use Rattle.ground_core.specs.Problems.{ProblemState}
-use Rattle.ground_core.specs.Growth.{empty_problem, with_clause, with_gate, with_same, with_term, with_bound}
-use Rattle.ground_core.specs.Growth.{with_exclusion}
+use Rattle.ground_core.specs.Growth.{empty_problem, with_clause, with_gate, with_same, with_sum, with_term}
+use Rattle.ground_core.specs.Growth.{with_bound, with_exclusion}
 use Rattle.ground_core.specs.Growing.{HasValue, with_retired}
 use Rattle.compared_solvers.specs.declared.additions.Event.{Event}
 use Rattle.compared_solvers.specs.declared.additions.Event.TheVariants.{Bound, Exclusion, Retired}
 use Rattle.compared_solvers.specs.declared.problems.Said.{Said}
-use Rattle.compared_solvers.specs.declared.problems.Said.TheVariants.{Clause, Gate, Same, Term}
+use Rattle.compared_solvers.specs.declared.problems.Said.TheVariants.{Clause, Gate, Same, Sum, Term}
 
 -- a term of this kind, with this base and these parts
 abbrev pub term_of : AggKind → ℤ → List Part → GroundTerm
@@ -25,6 +25,7 @@ terms_of [] = []
 terms_of (Clause lits ∷ more) = terms_of more
 terms_of (Gate all parts ∷ more) = terms_of more
 terms_of (Same a b ∷ more) = terms_of more
+terms_of (Sum kind least parts ∷ more) = terms_of more
 terms_of (Term kind base parts ∷ more) = term_of kind base parts.items ∷ terms_of more
 
 -- the problem, of which this is said
@@ -32,6 +33,7 @@ abbrev pub saying : ProblemState → Said → ProblemState
 saying p (Clause lits) = with_clause p lits.items
 saying p (Gate all parts) = with_gate p all parts.items
 saying p (Same a b) = with_same p a b
+saying p (Sum kind least parts) = with_sum p kind parts.items least
 saying p (Term kind base parts) = with_term p (term_of kind base parts.items)
 
 -- the problem, to which this is added, or of which it is given up

@@ -16,7 +16,7 @@ ghost use Rattle.compared_solvers.specs.Suiting.{IsLastIfSuited, Suits};
 
 use crate::additions::Event;
 use crate::problems::Said;
-use crate::totals::{Total, is_below, is_value, term_total};
+use crate::totals::{Total, is_at_least, is_below, is_value, parts_total, term_total};
 use crate::truths::{is_set, is_true, joined_value, makes_true, satisfies};
 use kb_logic::ExtInt;
 use lit_core::{Lit, Values};
@@ -112,6 +112,10 @@ fn last_saying(values: &Values, last: u64, said: &Said) -> Option<u64>
         Said::Clause(lits) => satisfies(values, lits).then_some(last),
         Said::Gate(all, parts) => defined(values, last, joined_value(values, *all, parts)),
         Said::Same(a, b) => defined(values, last, is_true(values, *a) == is_true(values, *b)),
+        Said::Sum(kind, least, parts) => {
+            let total = parts_total(values, *kind, parts);
+            defined(values, last, is_at_least(total, *least))
+        }
         Said::Term(_, _, _) => Some(last),
     }
 }

@@ -1,13 +1,12 @@
 //! Problems that lines say.
-ghost use Rattle.std.specs.Prelude.{◌≡◌, [], IsTrue, IfOk};
-ghost use Rattle.ground_core.specs.Problems.{ArePartsOf};
+ghost use Rattle.std.specs.Prelude.{◌≡◌, [], IfOk};
 
 use crate::faults::Fault;
 use crate::rules::Rule;
 use ground_core::{GroundTerm, LitList, Part, PartList, Problem};
-use kb_logic::{AggKind, Name};
+use kb_logic::{AggKind, ExtInt, Name};
 use lit_core::Lit;
-use problem_fixtures::{are_over, problem_of};
+use problem_fixtures::{are_over, are_parts_over, problem_of};
 use std::alloc::Global;
 
 /// What is said of a problem.
@@ -18,6 +17,8 @@ pub enum Said {
     Gate(bool, Vec<Lit>),
     /// The next variable is true where the two literals have one value.
     Same(Lit, Lit),
+    /// The next variable is true where the parts come to at least the bound.
+    Sum(AggKind, ExtInt, Vec<Part>),
     Term(AggKind, i64, Vec<Part>),
 }
 
@@ -29,17 +30,7 @@ pub struct Spoken {
     pub said: Vec<Said>,
 }
 
-/// Whether the parts have variables up to this one.
-fn are_parts_over(vars: u64, parts: &[Part]) -> bool
-    ensures { IsTrue result → ArePartsOf vars parts.now }
-{
-    parts
-        .iter()
-        .all(|part| 1 <= part.lit.var.0 && part.lit.var.0 <= vars)
-}
-
 fn add_gate(alloc: Global, problem: &mut Problem, all: bool, lits: &[Lit]) -> Result<(), Fault>
-    ensures sums { problem.new.sums ≡ problem.old.sums }
     ensures bounds { problem.new.bounds ≡ problem.old.bounds }
     ensures retired { problem.new.retired ≡ problem.old.retired }
 {
@@ -52,7 +43,6 @@ fn add_gate(alloc: Global, problem: &mut Problem, all: bool, lits: &[Lit]) -> Re
 }
 
 fn add_same(alloc: Global, problem: &mut Problem, a: Lit, b: Lit) -> Result<(), Fault>
-    ensures sums { problem.new.sums ≡ problem.old.sums }
     ensures bounds { problem.new.bounds ≡ problem.old.bounds }
     ensures retired { problem.new.retired ≡ problem.old.retired }
 {
@@ -64,6 +54,24 @@ fn add_same(alloc: Global, problem: &mut Problem, a: Lit, b: Lit) -> Result<(), 
     Ok(())
 }
 
+fn add_sum(
+    alloc: Global,
+    problem: &mut Problem,
+    kind: AggKind,
+    least: ExtInt,
+    parts: &[Part],
+) -> Result<(), Fault>
+    ensures bounds { problem.new.bounds ≡ problem.old.bounds }
+    ensures retired { problem.new.retired ≡ problem.old.retired }
+{
+    if !are_parts_over(problem.vars(), parts) {
+        return Err(Fault::Literal);
+    }
+    let parts = PartList::from_vec(Vec::from_slice(alloc, parts)?);
+    let _out = problem.add_sum(kind, parts, least)?;
+    Ok(())
+}
+
 fn add_term(
     alloc: Global,
     problem: &mut Problem,
@@ -71,7 +79,6 @@ fn add_term(
     base: i64,
     parts: &[Part],
 ) -> Result<(), Fault>
-    ensures sums { problem.new.sums ≡ problem.old.sums }
     ensures bounds { problem.new.bounds ≡ problem.old.bounds }
     ensures retired { problem.new.retired ≡ problem.old.retired }
 {
@@ -90,7 +97,6 @@ fn add_term(
 }
 
 fn add_clause(problem: &mut Problem, lits: &[Lit]) -> Result<(), Fault>
-    ensures sums { problem.new.sums ≡ problem.old.sums }
     ensures bounds { problem.new.bounds ≡ problem.old.bounds }
     ensures retired { problem.new.retired ≡ problem.old.retired }
 {
@@ -103,7 +109,6 @@ fn add_clause(problem: &mut Problem, lits: &[Lit]) -> Result<(), Fault>
 
 /// Says one thing more.
 pub fn add(alloc: Global, problem: &mut Problem, said: &Said) -> Result<(), Fault>
-    ensures sums { problem.new.sums ≡ problem.old.sums }
     ensures bounds { problem.new.bounds ≡ problem.old.bounds }
     ensures retired { problem.new.retired ≡ problem.old.retired }
 {
@@ -111,13 +116,13 @@ pub fn add(alloc: Global, problem: &mut Problem, said: &Said) -> Result<(), Faul
         Said::Clause(lits) => add_clause(problem, lits),
         Said::Gate(all, parts) => add_gate(alloc, problem, *all, parts),
         Said::Same(a, b) => add_same(alloc, problem, *a, *b),
+        Said::Sum(kind, least, parts) => add_sum(alloc, problem, *kind, *least, parts),
         Said::Term(kind, base, parts) => add_term(alloc, problem, *kind, *base, parts),
     }
 }
 
 /// The problem of which this is said.
 pub fn made(alloc: Global, spoken: &Spoken) -> Result<Problem, Fault>
-    ensures sums { IfOk result (λ p. p.sums ≡ []) }
     ensures bounds { IfOk result (λ p. p.bounds ≡ []) }
     ensures retired { IfOk result (λ p. p.retired ≡ []) }
 {

@@ -65,7 +65,6 @@ fn marks_of(alloc: Global, problem: &Problem) -> Marks
 
 /// A solver of the problem.
 fn solver_of(alloc: Global, rule: Rule, problem: &Problem) -> Result<Solver<Rule>, Fault>
-    requires sums { problem.now.sums ≡ [] }
     requires bounds { problem.now.bounds ≡ [] }
     ensures vars { IfOk result (λ solver. solver.kept.problem.vars ≡ problem.now.vars) }
     ensures atoms { IfOk result (λ solver. solver.kept.problem.atoms ≡ problem.now.atoms) }
@@ -84,7 +83,6 @@ fn solver_of(alloc: Global, rule: Rule, problem: &Problem) -> Result<Solver<Rule
 impl Kept {
     /// The solver of a problem, which decides by the rule.
     pub fn new(alloc: Global, rule: Rule, problem: &Problem) -> Result<Kept, Fault>
-        requires sums { problem.now.sums ≡ [] }
         requires bounds { problem.now.bounds ≡ [] }
         requires retired { problem.now.retired ≡ [] }
     {
@@ -130,7 +128,6 @@ impl Kept {
 impl Force {
     /// Brute force of a problem.
     pub fn new(alloc: Global, problem: Problem) -> Result<Force, Fault>
-        requires sums { problem.sums ≡ [] }
         requires bounds { problem.bounds ≡ [] }
         requires retired { problem.retired ≡ [] }
     {

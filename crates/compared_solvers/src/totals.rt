@@ -99,7 +99,7 @@ fn with_part(values: &Values, kind: AggKind, total: Total, part: Part) -> Total
 }
 
 /// What the parts come to together.
-fn parts_total(values: &Values, kind: AggKind, parts: &[Part]) -> Total
+pub fn parts_total(values: &Values, kind: AggKind, parts: &[Part]) -> Total
     ensures value { denoted result ≡ parts_value (valuation values.now) kind parts.now }
     ensures size { IsOf kind (2 ^ 126) result }
 {
@@ -125,6 +125,20 @@ pub fn is_below(total: Total, below: i64) -> bool
         Total::NegInf => true,
         Total::Num(number) => number < i128::from(below),
         Total::PosInf => false,
+    }
+}
+
+/// Whether the total is at least the bound.
+pub fn is_at_least(total: Total, least: ExtInt) -> bool
+    ensures { result ≡ compared cmp.Ge (denoted total) (denotation_of_bound least) }
+{
+    match (total, least) {
+        (Total::NegInf, ExtInt::NegInf) => true,
+        (Total::NegInf, ExtInt::Num(_) | ExtInt::PosInf) => false,
+        (Total::Num(_), ExtInt::NegInf) => true,
+        (Total::Num(number), ExtInt::Num(least)) => i128::from(least) <= number,
+        (Total::Num(_), ExtInt::PosInf) => false,
+        (Total::PosInf, ExtInt::NegInf | ExtInt::Num(_) | ExtInt::PosInf) => true,
     }
 }
 

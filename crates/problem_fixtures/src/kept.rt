@@ -11,7 +11,7 @@ pub type Kept = Solver<FirstGreatest>;
 
 /// A solver of the problem. A term that may leave the range counts as out of memory.
 pub fn solver_of(alloc: Global, problem: &Problem) -> Result<Kept, Memory>
-    requires plain { (problem.now.sums ≡ []) × (problem.now.bounds ≡ []) }
+    requires bounds { problem.now.bounds ≡ [] }
     ensures vars { IfOk result (λ solver. solver.kept.problem.vars ≡ problem.now.vars) }
     ensures atoms { IfOk result (λ solver. solver.kept.problem.atoms ≡ problem.now.atoms) }
     ensures terms { IfOk result (λ solver. solver.kept.problem.terms ≡ problem.now.terms) }

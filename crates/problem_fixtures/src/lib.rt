@@ -5,4 +5,4 @@ mod kept;
 mod problems;
 
 pub use kept::{Kept, solver_of};
-pub use problems::{are_over, name_sum, no, problem_of, said, say, yes};
+pub use problems::{are_over, are_parts_over, name_term, no, problem_of, said, say, say_sum, yes};

@@ -2,8 +2,8 @@
 ghost use Rattle.std.specs.Prelude.{◌≡◌, ◌+◌, [], length, IsTrue, IfOk, OnOk};
 ghost use Rattle.ground_core.specs.Problems.{AreLitsOf, ArePartsOf};
 
-use ground_core::{AtomTable, GroundTerm, Memory, Part, Problem};
-use kb_logic::{AggKind, ElemList, ListOf, Literal, LiteralList, Name};
+use ground_core::{AtomTable, GroundTerm, Memory, Part, PartList, Problem};
+use kb_logic::{AggKind, ElemList, ExtInt, Literal, LiteralList, Name};
 use lit_core::{Clause, Lit, Var};
 use std::alloc::Global;
 
@@ -84,7 +84,7 @@ pub fn said(alloc: Global, atoms: u32, clauses: &[[Lit; 4]]) -> Result<Problem, 
 }
 
 /// Whether the parts have variables up to this one.
-fn are_parts_over(vars: u64, parts: &[Part]) -> bool
+pub fn are_parts_over(vars: u64, parts: &[Part]) -> bool
     ensures { IsTrue result → ArePartsOf vars parts.now }
 {
     parts
@@ -92,8 +92,13 @@ fn are_parts_over(vars: u64, parts: &[Part]) -> bool
         .all(|part| 1 <= part.lit.var.0 && part.lit.var.0 <= vars)
 }
 
-/// Names the sum of the parts as the next term. Parts of other variables count as out of memory.
-pub fn name_sum(alloc: Global, problem: &mut Problem, parts: Vec<Part>) -> Result<(), Memory>
+/// Names what the parts come to as the next term. Parts of other variables count as out of memory.
+pub fn name_term(
+    alloc: Global,
+    problem: &mut Problem,
+    kind: AggKind,
+    parts: Vec<Part>,
+) -> Result<(), Memory>
     ensures one { OnOk result (length problem.new.terms ≡ length problem.old.terms + 1) }
     ensures vars { problem.new.vars ≡ problem.old.vars }
     ensures sums { problem.new.sums ≡ problem.old.sums }
@@ -103,12 +108,31 @@ pub fn name_sum(alloc: Global, problem: &mut Problem, parts: Vec<Part>) -> Resul
     if !are_parts_over(problem.vars(), parts.as_slice()) {
         return Err(Memory);
     }
-    let name = Name::new(alloc, b"sum")?;
+    let name = Name::new(alloc, b"term")?;
     let term = GroundTerm {
         name,
-        kind: AggKind::Sum,
+        kind,
         base: 0,
-        parts: ListOf::from_vec(parts),
+        parts: PartList::from_vec(parts),
     };
     problem.add_term(term)
+}
+
+/// Says that the next variable is true where the parts come to at least the bound. Parts of other variables count as
+/// out of memory.
+pub fn say_sum(
+    problem: &mut Problem,
+    kind: AggKind,
+    parts: Vec<Part>,
+    least: ExtInt,
+) -> Result<(), Memory>
+    ensures bounds { problem.new.bounds ≡ problem.old.bounds }
+    ensures terms { problem.new.terms ≡ problem.old.terms }
+    ensures retired { problem.new.retired ≡ problem.old.retired }
+{
+    if !are_parts_over(problem.vars(), parts.as_slice()) {
+        return Err(Memory);
+    }
+    let _out = problem.add_sum(kind, PartList::from_vec(parts), least)?;
+    Ok(())
 }

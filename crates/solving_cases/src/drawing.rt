@@ -8,7 +8,7 @@ use compared_solvers::faults::Fault;
 use compared_solvers::problems::{Said, Spoken};
 use compared_solvers::rules::Rule;
 use ground_core::Part;
-use kb_logic::AggKind;
+use kb_logic::{AggKind, ExtInt};
 use lit_core::{Lit, Var};
 use problem_fixtures::yes;
 use std::alloc::{AllocError, Global};
@@ -63,6 +63,59 @@ pub struct Tally {
     pub wrong: Option<Wrong>,
 }
 
+/// A kind of terms.
+fn drawn_kind(source: &mut Source) -> AggKind {
+    match source.below(4) {
+        0 => AggKind::Count,
+        1 => AggKind::Min,
+        2 => AggKind::Max,
+        _ => AggKind::Sum,
+    }
+}
+
+/// A bound: one in eight is infinite.
+fn drawn_least(source: &mut Source) -> ExtInt {
+    match source.below(16) {
+        0 => ExtInt::NegInf,
+        1 => ExtInt::PosInf,
+        _ => ExtInt::Num(source.below(15) as i64 - 7),
+    }
+}
+
+/// A constraint over the variables below the next one. A variable may stand in it twice, with either sign.
+fn drawn_constraint(alloc: Global, source: &mut Source, vars: u32) -> Result<Said, AllocError> {
+    let kind = drawn_kind(source);
+    let least = drawn_least(source);
+    let mut parts = Vec::new(alloc);
+    for _ in 0..source.below(6) {
+        let lit = source.lit(vars);
+        let weight = source.below(9) as i64 - 4;
+        parts.push(Part { lit, weight })?;
+    }
+    Ok(Said::Sum(kind, least, parts))
+}
+
+/// Draws constraints, and after each a clause that has its result.
+fn draw_constraints(
+    alloc: Global,
+    source: &mut Source,
+    draw: Draw,
+    said: &mut Vec<Said>,
+) -> Result<(), AllocError> {
+    let mut vars = draw.atoms;
+    for _ in 0..draw.sums {
+        said.push(drawn_constraint(alloc, source, vars)?)?;
+        vars = vars.saturating_add(1);
+        let mut lits = source.lits(alloc, vars, 1)?;
+        lits.push(Lit {
+            var: Var(u64::from(vars)),
+            positive: source.below(2) == 0,
+        })?;
+        said.push(Said::Clause(lits))?;
+    }
+    Ok(())
+}
+
 /// The sum of the atoms with drawn weights.
 fn drawn_sum(alloc: Global, source: &mut Source, atoms: u32) -> Result<Said, AllocError> {
     let mut parts = Vec::new(alloc);
@@ -81,6 +134,7 @@ fn spoken_of(alloc: Global, source: &mut Source, rule: Rule, draw: Draw) -> Resu
     for _ in 0..draw.clauses {
         said.push(Said::Clause(source.lits(alloc, draw.atoms, 3)?))?;
     }
+    draw_constraints(alloc, source, draw, &mut said)?;
     said.push(drawn_sum(alloc, source, draw.atoms)?)?;
     Ok(Spoken {
         rule,
@@ -90,8 +144,7 @@ fn spoken_of(alloc: Global, source: &mut Source, rule: Rule, draw: Draw) -> Resu
 }
 
 /// Assumes the selectors that are not retired.
-fn assume_all(spoken: &Spoken, sides: &Sides, lits: &mut Vec<Lit>) -> Result<(), Fault> {
-    let first = u64::from(spoken.atoms).saturating_add(1);
+fn assume_all(sides: &Sides, first: u64, lits: &mut Vec<Lit>) -> Result<(), Fault> {
     for var in first..sides.kept.vars().saturating_add(1) {
         if !is_retired(&sides.events, var) {
             lits.push(yes(var))?;
@@ -114,12 +167,12 @@ fn is_retired(events: &[Event], var: u64) -> bool {
 /// Changes what is asked before a question: the selector of what is added is assumed.
 fn prepare(
     alloc: Global,
-    spoken: &Spoken,
     sides: &mut Sides,
+    first: u64,
     source: &mut Source,
     lits: &mut Vec<Lit>,
 ) -> Result<Option<u64>, Fault> {
-    let added = sides.kept.vars().saturating_sub(u64::from(spoken.atoms));
+    let added = sides.kept.vars().saturating_add(1).saturating_sub(first);
     match source.below(8) {
         1 => return Ok(Some(source.below(41))),
         2 if added < MOST_ADDITIONS => {
@@ -132,13 +185,11 @@ fn prepare(
             lits.push(yes(sides.kept.vars()))?;
         }
         4 if added > 0 => {
-            let var = u64::from(spoken.atoms)
-                .saturating_add(1)
-                .saturating_add(source.below(added));
+            let var = first.saturating_add(source.below(added));
             change(sides, Event::Retired(var))?;
         }
         5 => sides.kept.forget(),
-        6 => assume_all(spoken, sides, lits)?,
+        6 => assume_all(sides, first, lits)?,
         7 => sides.kept.prepare()?,
         _ => {}
     }
@@ -155,17 +206,18 @@ fn counted(tally: &mut Tally, outcome: Outcome, limited: bool) {
     }
 }
 
-/// One question, with what is changed before it.
+/// One question, with what is changed before it; selectors have the numbers from the first one on.
 fn round(
     alloc: Global,
     spoken: &Spoken,
     sides: &mut Sides,
+    first: u64,
     source: &mut Source,
     tally: &mut Tally,
 ) -> Result<(), Fault> {
     let count = source.below(3).saturating_add(1);
     let mut lits = source.lits(alloc, spoken.atoms, count)?;
-    let limit = prepare(alloc, spoken, sides, source, &mut lits)?;
+    let limit = prepare(alloc, sides, first, source, &mut lits)?;
     let outcome = question(alloc, spoken, sides, &lits, limit)?;
     counted(tally, outcome, limit.is_some());
     Ok(())
@@ -185,8 +237,9 @@ fn rounds(
         limited: 0,
         wrong: None,
     };
+    let first = sides.kept.vars().saturating_add(1);
     for _ in 0..count {
-        round(alloc, spoken, sides, source, &mut tally)?;
+        round(alloc, spoken, sides, first, source, &mut tally)?;
     }
     Ok(tally)
 }

@@ -3,7 +3,7 @@ use crate::words::{lit_of, lits_of, numbers_of, parts_of, words_of};
 use compared_solvers::faults::Fault;
 use compared_solvers::problems::Said;
 use compared_solvers::rules::{Rule, rule_of};
-use kb_logic::AggKind;
+use kb_logic::{AggKind, ExtInt};
 use lit_core::Lit;
 use std::alloc::Global;
 
@@ -34,6 +34,7 @@ pub struct Draw {
     pub atoms: u32,
     pub clauses: u64,
     pub rounds: u64,
+    pub sums: u64,
 }
 
 /// What a line says.
@@ -80,6 +81,31 @@ fn term_line(alloc: Global, kind: AggKind, numbers: &[i64]) -> Result<Line, Faul
     Ok(Line::Said(Said::Term(kind, *base, parts_of(alloc, parts)?)))
 }
 
+/// The bound that the word is.
+fn least_of(word: &str) -> Result<ExtInt, Fault> {
+    match word {
+        "-inf" => Ok(ExtInt::NegInf),
+        "inf" => Ok(ExtInt::PosInf),
+        _ => match word.parse::<i64>() {
+            Ok(number) => Ok(ExtInt::Num(number)),
+            Err(_) => Err(Fault::Number),
+        },
+    }
+}
+
+/// A constraint: the name of a kind, a bound, and parts.
+fn sum_line(alloc: Global, words: &[String]) -> Result<Line, Fault> {
+    let [kind, least, parts @ ..] = words else {
+        return Err(Fault::Number);
+    };
+    let Some(kind) = kind_of(kind.as_str()) else {
+        return Err(Fault::Word);
+    };
+    let least = least_of(least.as_str())?;
+    let numbers = numbers_of(alloc, parts)?;
+    Ok(Line::Said(Said::Sum(kind, least, parts_of(alloc, &numbers)?)))
+}
+
 fn same_line(numbers: &[i64]) -> Result<Line, Fault> {
     match numbers {
         [a, b] => Ok(Line::Said(Said::Same(lit_of(*a), lit_of(*b)))),
@@ -108,15 +134,16 @@ fn bound_line(numbers: &[i64]) -> Result<Line, Fault> {
 }
 
 fn draw_line(numbers: &[i64]) -> Result<Line, Fault> {
-    match numbers {
-        [seed, atoms, clauses, rounds] => Ok(Line::Random(Draw {
-            seed: natural(*seed)?,
-            atoms: small(*atoms)?,
-            clauses: natural(*clauses)?,
-            rounds: natural(*rounds)?,
-        })),
-        _ => Err(Fault::Number),
-    }
+    let [seed, atoms, clauses, rounds, sums @ ..] = numbers else {
+        return Err(Fault::Number);
+    };
+    Ok(Line::Random(Draw {
+        seed: natural(*seed)?,
+        atoms: small(*atoms)?,
+        clauses: natural(*clauses)?,
+        rounds: natural(*rounds)?,
+        sums: if sums.is_empty() { 0 } else { one(sums)? },
+    }))
 }
 
 fn one(numbers: &[i64]) -> Result<u64, Fault> {
@@ -191,6 +218,7 @@ pub fn line_of(alloc: Global, text: &str) -> Result<Line, Fault> {
     match word.as_str() {
         "case" => Ok(Line::Case),
         "rule" => rule_line(further),
+        "at-least" => sum_line(alloc, further),
         other => {
             let numbers = numbers_of(alloc, further)?;
             number_line(alloc, other, &numbers)

@@ -5,7 +5,7 @@ use crate::asking::ask;
 use crate::reading::{Asked, Input, read};
 use brute_force::BruteForce;
 use ground_core::{Memory, Problem, has_small_terms};
-use problem_fixtures::{Kept, name_sum, problem_of, solver_of};
+use problem_fixtures::{Kept, name_term, problem_of, solver_of};
 use std::alloc::Global;
 use std::mem;
 
@@ -24,7 +24,7 @@ fn prepare_for(asked: &Asked, solver: &mut Kept) -> Result<(), Memory>
 
 /// What the kept solver answers.
 fn kept_answer(alloc: Global, problem: &Problem, asked: &Asked) -> Result<String, Memory>
-    requires plain { (problem.now.sums ≡ []) × (problem.now.bounds ≡ []) }
+    requires bounds { problem.now.bounds ≡ [] }
     requires term { length problem.now.terms ≡ 1 }
 {
     let mut solver = solver_of(alloc, problem)?;
@@ -35,7 +35,7 @@ fn kept_answer(alloc: Global, problem: &Problem, asked: &Asked) -> Result<String
 
 /// What brute force answers.
 fn brute_answer(alloc: Global, problem: Problem, asked: &Asked) -> Result<String, Memory>
-    requires plain { (problem.sums ≡ []) × (problem.bounds ≡ []) }
+    requires bounds { problem.bounds ≡ [] }
     requires term { (length problem.terms ≡ 1) × (problem.retired ≡ []) }
 {
     if !has_small_terms(&problem) {
@@ -55,13 +55,13 @@ fn judged(alloc: Global, kept: String, brute: &str) -> Result<String, Memory> {
     format!(in alloc; "{kept} (brute force: {brute})")
 }
 
-/// What is answered, the sum being named.
+/// What is answered, the term being named.
 fn answered(alloc: Global, input: &mut Input) -> Result<String, Memory>
-    requires plain { (input.old.problem.sums ≡ []) × (input.old.problem.bounds ≡ []) }
+    requires bounds { input.old.problem.bounds ≡ [] }
     requires unnamed { (input.old.problem.terms ≡ []) × (input.old.problem.retired ≡ []) }
 {
     let parts = mem::replace(&mut input.parts, Vec::new(alloc));
-    name_sum(alloc, &mut input.problem, parts)?;
+    name_term(alloc, &mut input.problem, input.kind, parts)?;
     let kept = kept_answer(alloc, &input.problem, &input.asked)?;
     if FEW < input.problem.vars() {
         return Ok(kept);

@@ -1,13 +1,15 @@
 use Rattle.std.proofs.Common.{◌≡◌, Some, refl, sym, ap, ◌∙◌, subst}
 use Rattle.std.specs.Bool.{beq, then_some}
+use Rattle.kb_logic.specs.declared.syntax.Cmp.TheVariants as cmp
+use Rattle.kb_logic.specs.Denotations.{compared}
 use Rattle.lit_core.specs.Literals.{by_sign, literal_value, valuation}
 use Rattle.lit_core.specs.Truth.{IsSatisfied}
-use Rattle.ground_core.specs.Meaning.{joined}
-use Rattle.ground_core.specs.Growth.{with_clause, with_gate, with_same}
-use Rattle.compared_solvers.specs.declared.problems.Said.TheVariants.{Clause, Gate, Same, Term}
+use Rattle.ground_core.specs.Meaning.{joined, parts_value, denotation_of_bound}
+use Rattle.ground_core.specs.Growth.{with_clause, with_gate, with_same, with_sum}
+use Rattle.compared_solvers.specs.declared.problems.Said.TheVariants.{Clause, Gate, Same, Sum, Term}
 use Rattle.compared_solvers.specs.Sayings.{saying, term_of}
 use Rattle.compared_solvers.proofs.SuitFacts.{if-named, if-so, turned, beq-sign, clause-made, clause-back, gate-made}
-use Rattle.compared_solvers.proofs.SuitFacts.{gate-back, same-made, same-back, term-made}
+use Rattle.compared_solvers.proofs.SuitFacts.{gate-back, same-made, same-back, sum-made, sum-back, term-made}
 use Rattle.compared_solvers.proofs.holding.last_saying.Goals as goal
 
 pub returns-in-Clause-clause-last : goal.returns-in-Clause-clause-last
@@ -51,6 +53,23 @@ returns-in-Same-clause-last c = λ p is none s.
     c.is_true-in-Same.result) c.defined-in-Same.result is c.defined-in-Same.ensures refl
     (λ lt h. same-made values p a b s lt (h ∙ value))
     (λ t. (same-back values p a b t).1 ∙ sym value))
+
+pub returns-in-Sum-clause-last : goal.returns-in-Sum-clause-last
+returns-in-Sum-clause-last c = λ p is none s.
+    let values = c.args.values.now in
+    let v = valuation values in
+    let k = c.in-Sum.kind in
+    let ps = c.in-Sum.parts.items in
+    let least = denotation_of_bound c.in-Sum.least in
+    let value : c.is_at_least.result ≡ compared cmp.Ge (parts_value v k ps) least = c.is_at_least.ensures
+    ∙ ap (λ d. compared cmp.Ge d least) (c.parts_total-total.ensures.value
+    ∙ ap (parts_value v k) c.deref-in-Sum.ensures.value) in
+    turned values (saying p) c.args.said.now (Sum k c.in-Sum.least c.in-Sum.parts) c.defined-in-Sum.result
+    c.defined-in-Sum.result c.in-Sum.is refl
+    (if-named values p (with_sum p k ps c.in-Sum.least) c.args.last (λ n. v n ≡ c.is_at_least.result)
+    c.defined-in-Sum.result is c.defined-in-Sum.ensures refl
+    (λ lt h. sum-made values p k ps c.in-Sum.least s lt (h ∙ value))
+    (λ t. (sum-back values p k ps c.in-Sum.least t).1 ∙ sym value))
 
 pub returns-in-Term-clause-last : goal.returns-in-Term-clause-last
 returns-in-Term-clause-last c = λ p is none s.

@@ -1,10 +1,9 @@
 use Rattle.std.proofs.Common.{◌≡◌, []}
 use Rattle.compared_solvers.proofs.problems.made.Given as goal
 
--- nothing is said of sums and bounds
+-- nothing is said of bounds
 abbrev pub invariant-loop-it : goal.invariant-loop-it
 invariant-loop-it l = record {
-  sums : l.problem.sums ≡ [];
   bounds : l.problem.bounds ≡ [];
   retired : l.problem.retired ≡ [];
 }

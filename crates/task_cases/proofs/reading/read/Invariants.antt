@@ -3,5 +3,4 @@ use Rattle.task_cases.proofs.reading.read.Given as goal
 
 abbrev pub invariant-loop-word : goal.invariant-loop-word
 invariant-loop-word l =
-    (l.input.problem.sums ≡ []) × (l.input.problem.bounds ≡ []) × (l.input.problem.terms ≡ [])
-    × (l.input.problem.retired ≡ [])
+    (l.input.problem.bounds ≡ []) × (l.input.problem.terms ≡ []) × (l.input.problem.retired ≡ [])
