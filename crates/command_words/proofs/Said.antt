@@ -1,5 +1,5 @@
 -- What words say, by the values that are found and by what clap answers.
-use Rattle.std.proofs.Common.{◌≡◌, refl, Option, Some, None, List, [], ◌∷◌, true, option_map}
+use Rattle.std.proofs.Common.{◌≡◌, refl, Bool, Option, Some, None, List, [], ◌∷◌, true, option_map}
 use Rattle.std.specs.Prelude.{Box}
 use Rattle.std.specs.Box.{box_value}
 use Rattle.clap.specs.Words.{IsAmong, Kinds, Row, Text, fault_of, is_simple, is_simple_and_free, subcommand_of}
@@ -8,12 +8,15 @@ use Rattle.clap.specs.declared.error.kind.ErrorKind.{ErrorKind}
 use Rattle.clap.specs.declared.parser.matches.SubCommand.{SubCommand}
 use Rattle.clap.specs.declared.parser.matches.ArgMatches.TheViews.{out-SubCommand}
 use Rattle.clap.proofs.OnLiterals.{clap_on_literals}
-use Rattle.command_words.specs.CommandLine.{command_line, said_with, said_in, said_by}
+use Rattle.command_words.specs.CommandLine.{command_line, file_with, generation_with, said_in, said_by}
 
 -- equal values say the same
-pub same_said : (command : Text) {f f' t t' s s' b b' : Option Text} → f ≡ f' → t ≡ t' → s ≡ s' → b ≡ b'
-    → said_with command f t s b ≡ said_with command f' t' s' b'
-same_said command ef et es eb = rw (ef, et, es, eb) refl
+pub same_file : {f f' t t' s s' : Option Text} → f ≡ f' → t ≡ t' → s ≡ s' → file_with f t s ≡ file_with f' t' s'
+same_file ef et es = rw (ef, et, es) refl
+
+pub same_generation : {k k' n n' : Option Text} {t t' : Bool} → k ≡ k' → n ≡ n' → t ≡ t'
+    → generation_with k n t ≡ generation_with k' n' t'
+same_generation ek en et = rw (ek, en, et) refl
 
 -- the command line is one of which clap says all
 pub is_exact : is_simple_and_free command_line ≡ true
@@ -42,3 +45,9 @@ module _ {Z : Type 0} where
       → Some rows ≡ option_map (λ p. p.1) (subcommand_rows o) → subcommand_rows o ≡ Some (name, rows)
   met_of None name rows named found = absurd (cc named)
   met_of (Some b) name rows named found = cc (named, found)
+
+  -- the name of a subcommand is the one that its rows have
+  pub name_of_rows : (o : Option (Box SubCommand Z))
+      → option_map (λ p. p.0) (subcommand_rows o) ≡ option_map (λ b. (out-SubCommand (box_value b)).name.now) o
+  name_of_rows None = refl
+  name_of_rows (Some b) = refl

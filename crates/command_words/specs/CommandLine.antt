@@ -1,23 +1,31 @@
 -- The command line of the program as a simple command of clap, and what words say by it.
-use Rattle.std.specs.Prelude.{◌≡◌, List, [], ◌∷◌, false, true, Option, Some, None, codes, option_map, option_and_then}
+use Rattle.std.specs.Prelude.{◌≡◌, List, [], ◌∷◌, Bool, false, true, if◌then◌else◌, Option, Some, None, codes}
+use Rattle.std.specs.Prelude.{option_map, option_and_then}
+use Rattle.std.specs.Option.{option_map_or}
+use Rattle.std.specs.Str.{bytes_eq}
 use Rattle.clap.specs.Words.{App, Kinds, Row, Rule, Text, app_of, fault_of, first_of, new_app, new_rule}
 use Rattle.clap.specs.Words.{subcommand_of, with_rule, with_subcommand}
 use Rattle.clap.specs.Simple.{on_top}
+use Rattle.clap.specs.declared.builder.action.ArgAction.TheVariants.{SetTrue}
 use Rattle.clap.specs.declared.builder.command.Command.{Command}
 use Rattle.clap.specs.declared.builder.command.Command.TheViews.{out-Command}
 
--- the word that has to stand there, FILE
-abbrev pub file_rule : Rule
-file_rule = record (new_rule (codes "FILE")) { required = true }
+-- a word that has to stand there
+abbrev pub word_rule : Text → Rule
+word_rule name = record (new_rule name) { required = true }
 
 -- an option with a value
 abbrev pub option_rule : Text → Rule
 option_rule name = record (new_rule name) { long = Some name }
 
+-- an option without a value
+abbrev pub flag_rule : Text → Rule
+flag_rule name = record (new_rule name) { long = Some name; action = Some SetTrue }
+
 -- a subcommand with a file, and with options that choose in it
 abbrev pub choosing : Text → App
 choosing name =
-    with_rule (with_rule (with_rule (new_app name) file_rule) (option_rule (codes "theory")))
+    with_rule (with_rule (with_rule (new_app name) (word_rule (codes "FILE"))) (option_rule (codes "theory")))
     (option_rule (codes "structure"))
 
 -- `consult FILE [--theory NAME] [--structure NAME] [--budget N]`
@@ -28,43 +36,78 @@ consulting = with_rule (choosing (codes "consult")) (option_rule (codes "budget"
 abbrev pub checking : App
 checking = choosing (codes "check")
 
+-- `generate KIND N [--text]`
+abbrev pub generating : App
+generating =
+    with_rule (with_rule (with_rule (new_app (codes "generate")) (word_rule (codes "KIND"))) (word_rule (codes "N")))
+    (flag_rule (codes "text"))
+
 -- a command line that has to have a subcommand, by words without the program's name; it has a version
 abbrev pub program : App
 program =
     on_top (λ s. record s { no_binary_name = true; subcommand_required = true; has_version = true })
     (new_app (codes "idp"))
 
--- with one of these two
+-- with one of these three
 abbrev pub command_line : App
-command_line = with_subcommand (with_subcommand program consulting.top) checking.top
+command_line = with_subcommand (with_subcommand (with_subcommand program consulting.top) checking.top) generating.top
 
 -- clap reads the command by this line, and no option is handed down to subcommands
 abbrev pub IsReadBy : App → Command → Type 0
 IsReadBy line c = (app_of c ≡ line) × ((out-Command c).has_globals ≡ false)
 
--- what words say: a command, its file, and the values of options
-pub record Said : Type 0 where
-  pub command : Text
+-- a file, and the names of the theory and of the structure that are chosen in it, where they are named
+pub record FileSaid : Type 0 where
   pub file : Text
   pub theory : Option Text
   pub structure : Option Text
-  pub budget : Option Text
 
--- what a command with these values says; nothing where it has no file
-abbrev pub said_with : Text → Option Text → Option Text → Option Text → Option Text → Option Said
-said_with command file theory structure budget = option_map (λ file. record {
-  command = command;
+-- What words say: to consult about a file, with a budget where one is given; to check a file; or to generate a file of
+-- this kind and number, and whether its text is what is wanted.
+pub data Said : Type 0 where
+  consult : FileSaid → (budget : Option Text) → Said
+  check : FileSaid → Said
+  generate : (kind number : Text) → (text : Bool) → Said
+
+-- the file with these values of options; nothing where there is no file
+abbrev pub file_with : Option Text → Option Text → Option Text → Option FileSaid
+file_with file theory structure = option_map (λ file. record {
   file = file;
   theory = theory;
   structure = structure;
-  budget = budget;
 }) file
 
--- what the matches of a subcommand say
+-- the file that the matches name
+abbrev pub file_in : List Row → Option FileSaid
+file_in rows =
+    file_with (first_of (codes "FILE") rows) (first_of (codes "theory") rows) (first_of (codes "structure") rows)
+
+-- an option without a value is given: clap has `true` for it, and `false` where it is not
+abbrev pub has_flag : Text → List Row → Bool
+has_flag name rows = option_map_or (λ value. bytes_eq value (codes "true")) (first_of name rows) false
+
+-- a kind and a number; nothing where one of them is wanting
+abbrev pub generation_with : Option Text → Option Text → Bool → Option Said
+generation_with None number text = None
+generation_with (Some kind) number text = option_map (λ number. generate kind number text) number
+
+-- the kind and the number that the matches name
+abbrev pub generation_in : List Row → Option Said
+generation_in rows =
+    generation_with (first_of (codes "KIND") rows) (first_of (codes "N") rows) (has_flag (codes "text") rows)
+
+-- what the matches of each subcommand say
+abbrev pub consultation_in : List Row → Option Said
+consultation_in rows = option_map (λ f. consult f (first_of (codes "budget") rows)) (file_in rows)
+
+abbrev pub check_in : List Row → Option Said
+check_in rows = option_map check (file_in rows)
+
 abbrev pub said_in : Text → List Row → Option Said
-said_in command rows =
-    said_with command (first_of (codes "FILE") rows) (first_of (codes "theory") rows)
-    (first_of (codes "structure") rows) (first_of (codes "budget") rows)
+said_in name rows =
+    if bytes_eq name (codes "consult") then consultation_in rows
+    else (if bytes_eq name (codes "check") then check_in rows
+    else (if bytes_eq name (codes "generate") then generation_in rows else None))
 
 -- this where clap has no error, and nothing where it has one
 abbrev pub said_unless : Kinds → Option Said → Option Said

@@ -1,21 +1,22 @@
-//! The command line: two subcommands, each with a file and options.
+//! The command line: its subcommands, with their words and options.
 ghost use Rattle.std.specs.Prelude.{◌≡◌, IfOk, false};
 ghost use Rattle.clap.specs.Words.{rule_of};
 ghost use Rattle.command_words.specs.CommandLine as spec;
 
-use clap::{Arg, Command};
+use clap::{Arg, ArgAction, Command};
 use std::alloc::{AllocError, Global};
 
 /// How each command is called; what follows the first line stands under it.
 const USAGE: &str = "idp consult FILE [--theory NAME] [--structure NAME] [--budget N]\n       \
-idp check FILE [--theory NAME] [--structure NAME]";
+idp check FILE [--theory NAME] [--structure NAME]\n       \
+idp generate KIND N [--text]";
 
-/// The word that has to stand there.
-fn file_word<'a>(alloc: Global) -> Arg<'a>
-    ensures rule { rule_of result ≡ spec.file_rule }
+/// A word that has to stand there.
+fn word_of<'a>(alloc: Global, name: &'a str) -> Arg<'a>
+    ensures rule { rule_of result ≡ spec.word_rule name.entry.now }
     ensures local { result.global ≡ false }
 {
-    Arg::new(alloc, "FILE").required(true)
+    Arg::new(alloc, name).required(true)
 }
 
 /// An option with a value.
@@ -26,13 +27,21 @@ fn option_of<'a>(alloc: Global, name: &'a str) -> Arg<'a>
     Arg::new(alloc, name).long(name)
 }
 
+/// An option without a value.
+fn flag_of<'a>(alloc: Global, name: &'a str) -> Arg<'a>
+    ensures rule { rule_of result ≡ spec.flag_rule name.entry.now }
+    ensures local { result.global ≡ false }
+{
+    Arg::new(alloc, name).long(name).action(ArgAction::SetTrue)
+}
+
 /// A subcommand with a file, and with options that choose in it.
 fn choosing<'a>(alloc: Global, name: &'a str) -> Result<Command<'a>, AllocError>
     ensures { IfOk result (spec.IsReadBy (spec.choosing name.entry.now)) }
 {
     Command::new(alloc, name)
         .override_usage(USAGE)
-        .arg(file_word(alloc))?
+        .arg(word_of(alloc, "FILE"))?
         .arg(option_of(alloc, "theory"))?
         .arg(option_of(alloc, "structure"))
 }
@@ -42,6 +51,17 @@ fn consulting<'a>(alloc: Global) -> Result<Command<'a>, AllocError>
     ensures { IfOk result (spec.IsReadBy spec.consulting) }
 {
     choosing(alloc, "consult")?.arg(option_of(alloc, "budget"))
+}
+
+/// The subcommand with a kind of file and its number.
+fn generating<'a>(alloc: Global) -> Result<Command<'a>, AllocError>
+    ensures { IfOk result (spec.IsReadBy spec.generating) }
+{
+    Command::new(alloc, "generate")
+        .override_usage(USAGE)
+        .arg(word_of(alloc, "KIND"))?
+        .arg(word_of(alloc, "N"))?
+        .arg(flag_of(alloc, "text"))
 }
 
 /// The command without its subcommands.
@@ -61,5 +81,9 @@ pub fn command_line<'a>(alloc: Global) -> Result<Command<'a>, AllocError>
 {
     let consult = consulting(alloc)?;
     let check = choosing(alloc, "check")?;
-    program(alloc).subcommand(consult)?.subcommand(check)
+    let generate = generating(alloc)?;
+    program(alloc)
+        .subcommand(consult)?
+        .subcommand(check)?
+        .subcommand(generate)
 }

@@ -6,4 +6,4 @@ mod complaints;
 mod line;
 
 pub use complaints::{Complaint, complaint_on};
-pub use line::{Line, line_of};
+pub use line::{FileWords, Line, line_of};

@@ -1,12 +1,19 @@
 -- The words ask one job at most.
-use Rattle.std.proofs.Common.{◌≡◌, ℕ, List, Bool, true, false, refl, sym, ap, ◌∙◌, subst, codes, Option, Some, None}
+use Rattle.std.proofs.Common.{◌≡◌, ◌≤◌, ℕ, arith, List, true, false, refl, sym, ap, ◌∙◌, subst, codes}
+use Rattle.std.proofs.Common.{Option, Some, None}
 use Rattle.std.specs.List.{list_all}
 use Rattle.std.specs.Str.{bytes_eq}
 use Rattle.std.proofs.lemmas.Bool.{false≢true}
 use Rattle.std.proofs.lemmas.Slice.Eq.{bytes_eq-Decides}
 use Rattle.kb_text.specs.Bytes.{between}
 use Rattle.command_words.specs.CommandLine.{Said, said_by}
-use Rattle.idp_cli.specs.Jobs.{Job, consult, check, IsBudgetText, IsFirstBudget, AsksBy, Asks}
+use Rattle.command_words.specs.CommandLine as words
+use Rattle.consult_text.specs.Budgets.{IsBudget, most_budget}
+use Rattle.generated_files.specs.Texts.{kind_name, most}
+use Rattle.generated_files.specs.declared.kinds.Kind.{Kind}
+use Rattle.generated_files.specs.declared.kinds.Kind.TheVariants.{Timetable, Roster}
+use Rattle.idp_cli.specs.Jobs.{Job, consult, check, make, summarise, AreOfFile, IsBudgetText, IsFirstBudget}
+use Rattle.idp_cli.specs.Jobs.{IsNumberText, AsksBy, Asks}
 
 -- two words are not one text
 pub apart : {A : Type 0} (w x y : List ℕ) → bytes_eq x y ≡ false → w ≡ x → w ≡ y → A
@@ -32,21 +39,77 @@ one_said words a b h k = some_inj a b (sym h ∙ k)
     some_inj : (a b : Said) → Some a ≡ Some b → a ≡ b
     some_inj a b e = cc
 
+-- a kind has one name
+one_kind : (name : List ℕ) (k j : Kind) → name ≡ kind_name k → name ≡ kind_name j → k ≡ j
+one_kind name Timetable Timetable h i = refl
+one_kind name Timetable Roster h i = apart name (codes "timetable") (codes "roster") refl h i
+one_kind name Roster Timetable h i = apart name (codes "timetable") (codes "roster") refl i h
+one_kind name Roster Roster h i = refl
+
+-- and texts are a kind and a number in one way
+pub one_file : (kind number : List ℕ) (k j : Kind) (n m : ℕ) → AreOfFile kind number k n → AreOfFile kind number j m
+    → (k ≡ j) × (n ≡ m)
+one_file kind number k j n m h i = (one_kind kind k j h.0 i.0, h.1.value ∙ sym i.1.value)
+
 -- and by it they ask one job
 one_asked : (said : Said) (a b : Job) → AsksBy said a → AsksBy said b → a ≡ b
-one_asked said (consult file c budget) (consult file' c' budget') h k =
-    let same_file : file ≡ file' = h.1 ∙ sym k.1 in
-    let choice : c ≡ c' = h.2 ∙ sym k.2 in
-    let first : budget ≡ budget' = one_first said.budget budget budget' h.3 k.3 in
+one_asked (words.consult f text) (consult file c budget) (consult file' c' budget') h k =
+    let same_file : file ≡ file' = h.0 ∙ sym k.0 in
+    let choice : c ≡ c' = h.1 ∙ sym k.1 in
+    let first : budget ≡ budget' = one_first text budget budget' h.2 k.2 in
     λ i. consult (same_file i) (choice i) (first i)
-one_asked said (consult file c budget) (check file' c') h k =
-    apart said.command (codes "consult") (codes "check") refl h.0 k.0
-one_asked said (check file c) (consult file' c' budget') h k =
-    apart said.command (codes "consult") (codes "check") refl k.0 h.0
-one_asked said (check file c) (check file' c') h k =
-    let same_file : file ≡ file' = h.1 ∙ sym k.1 in
-    let choice : c ≡ c' = h.2 ∙ sym k.2 in
+one_asked (words.check f) (check file c) (check file' c') h k =
+    let same_file : file ≡ file' = h.0 ∙ sym k.0 in
+    let choice : c ≡ c' = h.1 ∙ sym k.1 in
     λ i. check (same_file i) (choice i)
+one_asked (words.generate kind number true) (make k n) (make j m) h i =
+    let same = one_file kind number k j n m h i in
+    λ t. make (same.0 t) (same.1 t)
+one_asked (words.generate kind number false) (summarise k n) (summarise j m) h i =
+    let same = one_file kind number k j n m h i in
+    λ t. summarise (same.0 t) (same.1 t)
+one_asked (words.consult f text) (check file c) b h k = absurd h
+one_asked (words.consult f text) (make q n) b h k = absurd h
+one_asked (words.consult f text) (summarise q n) b h k = absurd h
+one_asked (words.consult f text) (consult file c budget) (check file' c') h k = absurd k
+one_asked (words.consult f text) (consult file c budget) (make q n) h k = absurd k
+one_asked (words.consult f text) (consult file c budget) (summarise q n) h k = absurd k
+one_asked (words.check f) (consult file c budget) b h k = absurd h
+one_asked (words.check f) (make q n) b h k = absurd h
+one_asked (words.check f) (summarise q n) b h k = absurd h
+one_asked (words.check f) (check file c) (consult file' c' budget) h k = absurd k
+one_asked (words.check f) (check file c) (make q n) h k = absurd k
+one_asked (words.check f) (check file c) (summarise q n) h k = absurd k
+one_asked (words.generate kind number true) (consult file c budget) b h k = absurd h
+one_asked (words.generate kind number true) (check file c) b h k = absurd h
+one_asked (words.generate kind number true) (summarise q n) b h k = absurd h
+one_asked (words.generate kind number true) (make q n) (consult file c budget) h k = absurd k
+one_asked (words.generate kind number true) (make q n) (check file c) h k = absurd k
+one_asked (words.generate kind number true) (make q n) (summarise j m) h k = absurd k
+one_asked (words.generate kind number false) (consult file c budget) b h k = absurd h
+one_asked (words.generate kind number false) (check file c) b h k = absurd h
+one_asked (words.generate kind number false) (make q n) b h k = absurd h
+one_asked (words.generate kind number false) (summarise q n) (consult file c budget) h k = absurd k
+one_asked (words.generate kind number false) (summarise q n) (check file c) h k = absurd k
+one_asked (words.generate kind number false) (summarise q n) (make j m) h k = absurd k
+
+-- where the kind is known and the number is none of it, they are no kind and number
+pub no_file : (name number : List ℕ) (k : Kind) → name ≡ kind_name k → ((n : ℕ) → IsNumberText k number n → ⊥)
+    → (j : Kind) (n : ℕ) → AreOfFile name number j n → ⊥
+no_file name number k named none j n is =
+    none n (subst (λ (q : Kind). IsNumberText q number n) (one_kind name j k is.0 named) is.1)
+
+-- a number of a kind is within what budgets may be
+within_budgets : (k : Kind) → most k ≤ most_budget
+within_budgets Timetable = omega arith
+within_budgets Roster = omega arith
+
+pub number_is_budget : (k : Kind) (text : List ℕ) (n : ℕ) → IsNumberText k text n → IsBudget text
+number_is_budget k text n is =
+    let value = is.value in
+    let most = is.within.most in
+    let least = is.within.least in
+    record { least = omega (arith, value, least); most = omega (arith, value, most, within_budgets k) }
 
 pub one_job : (words : List (List ℕ)) (a b : Job) → Asks words a → Asks words b → a ≡ b
 one_job words a b h k =

@@ -1,8 +1,5 @@
 -- How a job ends, from how its file is loaded and what is done with it.
 use Rattle.std.proofs.Common.{◌≡◌, ℕ, List, refl, sym, subst, Option, Some, None, inl, inr}
-use Rattle.std.specs.Io.KnownBytes.{Appends}
-use Rattle.kb_io.specs.ReadWrite.{AppendsPrefix}
-use Rattle.kb_io.specs.Outside.{Rose}
 use Rattle.consult_text.specs.States.{first_state}
 use Rattle.base_reader.specs.FileMeanings.{Choice, Meaning, FileMeans, base_of_meaning}
 use Rattle.idp_cli.specs.Files.{IfObservable}

@@ -1,15 +1,17 @@
 -- The statuses come exactly where they should, by elimination.
-use Rattle.std.proofs.Common.{◌≡◌, ℕ, ◌<◌, List, length, refl, sym, ◌∙◌, ap, subst, arith, Option, Some, inl, inr}
+use Rattle.std.proofs.Common.{◌≡◌, ℕ, ◌<◌, List, length, refl, sym, ◌∙◌, ap, subst, arith, Option, Some, None, inl, inr}
 use Rattle.kb_text.specs.declared.fault.K.{K}
 use Rattle.kb_text.specs.declared.fault.KbFault.{KbFault}
-use Rattle.base_reader.specs.FileMeanings.{Choice, Meaning, FileMeans, IsRefused}
+use Rattle.base_reader.specs.FileMeanings.{Choice, Meaning, FileMeans}
 use Rattle.base_reader.specs.Laws.{HasOneRefusal, MeansOrIsRefused}
-use Rattle.idp_cli.specs.Jobs.{Job, consult, check, file_of, Asks, IsUsage}
+use Rattle.idp_cli.specs.Jobs.{Job, consult, check, make, summarise, file_of, Asks}
 use Rattle.idp_cli.specs.Files.{IfObservable, IsRefusedAt, line_of}
 use Rattle.idp_cli.specs.Runs.{Words, texts_of, Outside, StaysAsBefore, ConsultationEnds, CheckEnds}
 use Rattle.idp_cli.specs.Runs.{JobEnds, RunEnds}
 use Rattle.idp_cli.specs.Laws.{IsUnlessFailed, choice_of, UsageLaw, CommandLaw, RefusalLaw, TakingLaw, LengthLaw}
-use Rattle.idp_cli.specs.Laws.{ShortLaw, DoneLaw, CheckedLaw}
+use Rattle.idp_cli.specs.Laws.{ShortLaw, DoneLaw, CheckedLaw, MadeLaw, SummarisedLaw}
+use Rattle.idp_cli.specs.Summaries.{no_choice}
+use Rattle.generated_files.specs.Texts.{file_text}
 use Rattle.idp_cli.specs.declared.status.Status.{Status}
 use Rattle.idp_cli.specs.declared.status.Status.TheVariants as status
 use Rattle.idp_cli.proofs.Asked.{one_job}
@@ -20,6 +22,8 @@ told o bytes P is holds = let Q : Option (List ℕ) → Type 0 = λ o. IfObserva
 stays : (job : Job) (before now : Outside) → StaysAsBefore before now → JobEnds status.Memory job before now
 stays (consult file c budget) before now is = inl is
 stays (check file c) before now is = is
+stays (make k n) before now is = is
+stays (summarise k n) before now is = is
 
 -- where the words ask a job, the run ended as that job, or memory ran out, which is an end of every job
 pub done : (s : Status) (words : Words) (before now : Outside) (job : Job) → Asks (texts_of words) job
@@ -45,9 +49,33 @@ usage_law status.ScriptTooLong words before now usage (inl ends) = absurd ends.1
 no_usage : (job : Job) (before now : Outside) → JobEnds status.Usage job before now → ⊥
 no_usage (consult file c budget) before now ends = ends
 no_usage (check file c) before now ends = ends
+no_usage (make k n) before now ends = ends
+no_usage (summarise k n) before now ends = ends
 
 pub command_law : CommandLaw
 command_law words before now job is ends = no_usage job before now (done status.Usage words before now job is ends)
+
+some_is : {A : Type 0} (a b : A) → Some a ≡ Some b → a ≡ b
+some_is a b e = cc
+
+none_is : {A : Type 0} (a : A) → None ≡ Some a → ⊥
+none_is a e = cc
+
+-- what is held of the file of a job
+held_by : (before : Outside) (name file bytes : List ℕ) → Some name ≡ Some file → before.files file ≡ Some bytes
+    → before.files name ≡ Some bytes
+held_by before name file bytes of held = ap before.files (some_is name file of) ∙ held
+
+pub made_law : MadeLaw
+made_law status.Done words before now k n is ends = refl
+made_law (status.KbRefused q line) words before now k n is ends =
+    absurd (done (status.KbRefused q line) words before now (make k n) is ends)
+made_law status.Usage words before now k n is ends = absurd (done status.Usage words before now (make k n) is ends)
+made_law status.ReadFault words before now k n is ends = tt
+made_law status.WriteFault words before now k n is ends = tt
+made_law status.Memory words before now k n is ends = tt
+made_law status.ScriptTooLong words before now k n is ends =
+    absurd (done status.ScriptTooLong words before now (make k n) is ends)
 
 module _ (one : HasOneRefusal) (never : MeansOrIsRefused) where
   -- no file is both refused and means something
@@ -65,42 +93,64 @@ module _ (one : HasOneRefusal) (never : MeansOrIsRefused) where
       let at : line' ≡ line = h'.3 ∙ (ap (λ (q : KbFault). line_of q.place bytes) same ∙ sym h.3) in
       λ i. status.KbRefused (cause i) (at i)
 
-  refusal_ends : (s : Status) (before now : Outside) (job : Job) (bytes : List ℕ) (k : K) (line : ℕ)
-      → before.files (file_of job) ≡ Some bytes
-      → IsRefusedAt (choice_of job) k line bytes → JobEnds s job before now → IsUnlessFailed (status.KbRefused k line) s
-  refusal_ends status.Done before now (consult file c budget) bytes k line is refused ends =
-      let taken = told (before.files file) bytes _ is ends.answers in
+  consultation_refused : (s : Status) (before now : Outside) (file bytes : List ℕ) (c : Choice) (budget : Option ℕ)
+      (k : K) (line : ℕ) → before.files file ≡ Some bytes → IsRefusedAt c k line bytes
+      → ConsultationEnds s file c budget before now → IsUnlessFailed (status.KbRefused k line) s
+  consultation_refused status.Done before now file bytes c budget k line held refused ends =
+      let taken = told (before.files file) bytes _ held ends.answers in
       absurd (refused_or_taken c k line bytes taken.0 refused taken.1)
-  refusal_ends status.Done before now (check file c) bytes k line is refused ends =
-      absurd (refused_or_taken c k line bytes ends.0 refused (told (before.files file) bytes _ is ends.1))
-  refusal_ends (status.KbRefused k' line') before now (consult file c budget) bytes k line is refused ends =
-      one_refusal c k k' line line' bytes refused (told (before.files file) bytes _ is ends.0)
-  refusal_ends (status.KbRefused k' line') before now (check file c) bytes k line is refused ends =
-      one_refusal c k k' line line' bytes refused (told (before.files file) bytes _ is ends.0)
-  refusal_ends status.Usage before now job bytes k line is refused ends = absurd (no_usage job before now ends)
-  refusal_ends status.ReadFault before now job bytes k line is refused ends = tt
-  refusal_ends status.WriteFault before now job bytes k line is refused ends = tt
-  refusal_ends status.Memory before now job bytes k line is refused ends = tt
-  refusal_ends status.ScriptTooLong before now (consult file c budget) bytes k line is refused ends =
-      let taken = told (before.files file) bytes _ is ends.answers in
+  consultation_refused (status.KbRefused k' line') before now file bytes c budget k line held refused ends =
+      one_refusal c k k' line line' bytes refused (told (before.files file) bytes _ held ends.0)
+  consultation_refused status.Usage before now file bytes c budget k line held refused ends = absurd ends
+  consultation_refused status.ReadFault before now file bytes c budget k line held refused ends = tt
+  consultation_refused status.WriteFault before now file bytes c budget k line held refused ends = tt
+  consultation_refused status.Memory before now file bytes c budget k line held refused ends = tt
+  consultation_refused status.ScriptTooLong before now file bytes c budget k line held refused ends =
+      let taken = told (before.files file) bytes _ held ends.answers in
       absurd (refused_or_taken c k line bytes taken.0 refused taken.1)
-  refusal_ends status.ScriptTooLong before now (check file c) bytes k line is refused ends = absurd ends
+
+  check_refused : (s : Status) (before now : Outside) (file bytes : List ℕ) (c : Choice) (k : K) (line : ℕ)
+      → before.files file ≡ Some bytes → IsRefusedAt c k line bytes → CheckEnds s file c before now
+      → IsUnlessFailed (status.KbRefused k line) s
+  check_refused status.Done before now file bytes c k line held refused ends =
+      absurd (refused_or_taken c k line bytes ends.0 refused (told (before.files file) bytes _ held ends.1))
+  check_refused (status.KbRefused k' line') before now file bytes c k line held refused ends =
+      one_refusal c k k' line line' bytes refused (told (before.files file) bytes _ held ends.0)
+  check_refused status.Usage before now file bytes c k line held refused ends = absurd ends
+  check_refused status.ReadFault before now file bytes c k line held refused ends = tt
+  check_refused status.WriteFault before now file bytes c k line held refused ends = tt
+  check_refused status.Memory before now file bytes c k line held refused ends = tt
+  check_refused status.ScriptTooLong before now file bytes c k line held refused ends = absurd ends
+
+  refused_by : (s : Status) (before now : Outside) (job : Job) (file bytes : List ℕ) (k : K) (line : ℕ)
+      → file_of job ≡ Some file → before.files file ≡ Some bytes → IsRefusedAt (choice_of job) k line bytes
+      → JobEnds s job before now → IsUnlessFailed (status.KbRefused k line) s
+  refused_by s before now (consult name c budget) file bytes k line of held refused ends =
+      consultation_refused s before now name bytes c budget k line (held_by before name file bytes of held) refused ends
+  refused_by s before now (check name c) file bytes k line of held refused ends =
+      check_refused s before now name bytes c k line (held_by before name file bytes of held) refused ends
+  refused_by s before now (make q n) file bytes k line of held refused ends = absurd (none_is file of)
+  refused_by s before now (summarise q n) file bytes k line of held refused ends = absurd (none_is file of)
 
   pub refusal_law : RefusalLaw
-  refusal_law s words before now job bytes k line is told' refused ends =
-      refusal_ends s before now job bytes k line told' refused (done s words before now job is ends)
+  refusal_law s words before now job file bytes k line is of held refused ends =
+      refused_by s before now job file bytes k line of held refused (done s words before now job is ends)
 
-  taking_ends : (k : K) (line : ℕ) (before now : Outside) (job : Job) (bytes : List ℕ) (m : Meaning)
-      → before.files (file_of job) ≡ Some bytes
-      → FileMeans (choice_of job) bytes m → JobEnds (status.KbRefused k line) job before now → ⊥
-  taking_ends k line before now (consult file c budget) bytes m is means ends =
-      refused_or_taken c k line bytes m (told (before.files file) bytes _ is ends.0) means
-  taking_ends k line before now (check file c) bytes m is means ends =
-      refused_or_taken c k line bytes m (told (before.files file) bytes _ is ends.0) means
+  taken_by : (k : K) (line : ℕ) (before now : Outside) (job : Job) (file bytes : List ℕ) (m : Meaning)
+      → file_of job ≡ Some file → before.files file ≡ Some bytes → FileMeans (choice_of job) bytes m
+      → JobEnds (status.KbRefused k line) job before now → ⊥
+  taken_by k line before now (consult name c budget) file bytes m of held means ends =
+      let held' = held_by before name file bytes of held in
+      refused_or_taken c k line bytes m (told (before.files name) bytes _ held' ends.0) means
+  taken_by k line before now (check name c) file bytes m of held means ends =
+      let held' = held_by before name file bytes of held in
+      refused_or_taken c k line bytes m (told (before.files name) bytes _ held' ends.0) means
+  taken_by k line before now (make q n) file bytes m of held means ends = none_is file of
+  taken_by k line before now (summarise q n) file bytes m of held means ends = none_is file of
 
   pub taking_law : TakingLaw
-  taking_law k line words before now job bytes m is told' means ends =
-      taking_ends k line before now job bytes m told' means
+  taking_law k line words before now job file bytes m is of held means ends =
+      taken_by k line before now job file bytes m of held means
       (done (status.KbRefused k line) words before now job is ends)
 
   length_ends : (s : Status) (before now : Outside) (file bytes script : List ℕ) (c : Choice) (budget : Option ℕ)
@@ -135,7 +185,7 @@ module _ (one : HasOneRefusal) (never : MeansOrIsRefused) where
   pub done_law : DoneLaw
   done_law status.Done words before now file bytes script c budget m is held means held' short ends = refl
   done_law (status.KbRefused k line) words before now file bytes script c budget m is held means held' short ends =
-      absurd (taking_law k line words before now (consult file c budget) bytes m is held means ends)
+      absurd (taking_law k line words before now (consult file c budget) file bytes m is refl held means ends)
   done_law status.Usage words before now file bytes script c budget m is held means held' short ends =
       absurd (command_law words before now (consult file c budget) is ends)
   done_law status.ReadFault words before now file bytes script c budget m is held means held' short ends = tt
@@ -147,7 +197,7 @@ module _ (one : HasOneRefusal) (never : MeansOrIsRefused) where
   pub checked_law : CheckedLaw
   checked_law status.Done words before now file bytes c m is held means ends = refl
   checked_law (status.KbRefused k line) words before now file bytes c m is held means ends =
-      absurd (taking_law k line words before now (check file c) bytes m is held means ends)
+      absurd (taking_law k line words before now (check file c) file bytes m is refl held means ends)
   checked_law status.Usage words before now file bytes c m is held means ends =
       absurd (command_law words before now (check file c) is ends)
   checked_law status.ReadFault words before now file bytes c m is held means ends = tt
@@ -155,3 +205,16 @@ module _ (one : HasOneRefusal) (never : MeansOrIsRefused) where
   checked_law status.Memory words before now file bytes c m is held means ends = tt
   checked_law status.ScriptTooLong words before now file bytes c m is held means ends =
       absurd (done status.ScriptTooLong words before now (check file c) is ends)
+
+  pub summarised_law : SummarisedLaw
+  summarised_law status.Done words before now k n m is means ends = refl
+  summarised_law (status.KbRefused q line) words before now k n m is means ends =
+      let said = done (status.KbRefused q line) words before now (summarise k n) is ends in
+      absurd (refused_or_taken no_choice q line (file_text k n) m said.0 means)
+  summarised_law status.Usage words before now k n m is means ends =
+      absurd (done status.Usage words before now (summarise k n) is ends)
+  summarised_law status.ReadFault words before now k n m is means ends = tt
+  summarised_law status.WriteFault words before now k n m is means ends = tt
+  summarised_law status.Memory words before now k n m is means ends = tt
+  summarised_law status.ScriptTooLong words before now k n m is means ends =
+      absurd (done status.ScriptTooLong words before now (summarise k n) is ends)

@@ -5,6 +5,7 @@ mod Progress
 mod Ending
 mod Replying
 mod Consulting
+mod Generating
 mod Elimination
 mod LiteralsOver
 mod ReadableValues

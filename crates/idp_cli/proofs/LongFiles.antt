@@ -1,5 +1,5 @@
 -- A file that is longer than it may be is refused for that.
-use Rattle.std.proofs.Common.{◌≡◌, ℕ, ◌+◌, ◌<◌, List, length, take, refl, ap, Option, Some, None}
+use Rattle.std.proofs.Common.{◌≡◌, ℕ, ◌+◌, ◌<◌, List, length, take, refl, sym, ap, subst, Option, Some, None}
 use Rattle.fo_syntax.specs.FileReads.{most_bytes, too_long}
 use Rattle.kb_io.specs.Lines.{newlines}
 use Rattle.kb_text.specs.declared.fault.K.TheVariants.{TooLong}
@@ -17,3 +17,9 @@ long_file c n (Some told) is = (
   refl,
   ap (λ (x : ℕ). x + 1) is.1,
 )
+
+-- the line is the one at which the bytes end that are taken
+pub long_at : (c : Choice) (line : ℕ) (bytes : List ℕ) → most_bytes < length bytes
+    → line ≡ newlines (take most_bytes bytes) + 1 → IsRefusedAt c TooLong line bytes
+long_at c line bytes long is =
+    subst (λ (l : ℕ). IsRefusedAt c TooLong l bytes) (sym is) (long_file c _ (Some bytes) (long, refl))

@@ -1,5 +1,4 @@
 -- What the words ask, as the program holds it.
-use Rattle.std.specs.Prelude.{ℕ, List}
 use Rattle.block_choice.specs.Choices.{word_given}
 use Rattle.base_reader.specs.FileMeanings.{Choice}
 use Rattle.idp_cli.specs.Jobs as asked
@@ -13,3 +12,5 @@ choice_view o = record { theory = word_given o.theory; structure = word_given o.
 abbrev pub job_view : Job → asked.Job
 job_view (job.Consult file options budget) = asked.consult file.now (choice_view options) budget
 job_view (job.Check file options) = asked.check file.now (choice_view options)
+job_view (job.Make kind number) = asked.make kind number
+job_view (job.Summarise kind number) = asked.summarise kind number

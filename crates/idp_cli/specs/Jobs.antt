@@ -1,40 +1,66 @@
 -- What the words of a command line ask.
-use Rattle.std.specs.Prelude.{◌≡◌, ℕ, List, true, Option, Some, None, codes}
+use Rattle.std.specs.Prelude.{◌≡◌, ℕ, List, true, false, Option, Some, None, codes}
 use Rattle.std.specs.List.{list_all}
 use Rattle.kb_text.specs.Bytes.{between}
 use Rattle.kb_text.specs.Tokens.{decimal}
-use Rattle.command_words.specs.CommandLine.{Said, said_by}
+use Rattle.command_words.specs.CommandLine as words
+use Rattle.command_words.specs.CommandLine.{FileSaid, Said, said_by}
+use Rattle.generated_files.specs.Texts.{kind_name, IsNumberOf}
+use Rattle.generated_files.specs.declared.kinds.Kind.{Kind}
 use Rattle.consult_text.specs.Budgets.{IsBudget, default_budget}
 use Rattle.base_reader.specs.FileMeanings.{Choice}
 
--- to answer the commands by what a file means, with a first budget, or to print the chosen structure of a file
+-- to answer the commands by what a file means, with a first budget; to print the chosen structure of a file; to print
+-- the file that is made of a number; or to print a summary of what follows from that file
 pub data Job : Type 0 where
   consult : (file : List ℕ) → Choice → (budget : Option ℕ) → Job
   check : (file : List ℕ) → Choice → Job
+  make : Kind → (number : ℕ) → Job
+  summarise : Kind → (number : ℕ) → Job
 
--- the file that it is about
-abbrev pub file_of : Job → List ℕ
-file_of (consult file c budget) = file
-file_of (check file c) = file
+-- the file that it is about; one that is made is none of the shelf's
+abbrev pub file_of : Job → Option (List ℕ)
+file_of (consult file c budget) = Some file
+file_of (check file c) = Some file
+file_of (make k n) = None
+file_of (summarise k n) = None
+
+-- the text is digits alone
+abbrev pub IsDigits : List ℕ → Type 0
+IsDigits text = list_all (between 48 57) text ≡ true
 
 -- the text is a budget: `unlimited`, or decimal digits of a number in its range
 abbrev pub IsBudgetText : List ℕ → Option ℕ → Type 0
 IsBudgetText text None = text ≡ codes "unlimited"
-IsBudgetText text (Some n) = (list_all (between 48 57) text ≡ true) × IsBudget text × (n ≡ decimal text)
+IsBudgetText text (Some n) = IsDigits text × IsBudget text × (n ≡ decimal text)
 
 -- the first budget: the one that is given, or the one of every session
 abbrev pub IsFirstBudget : Option (List ℕ) → Option ℕ → Type 0
 IsFirstBudget None budget = budget ≡ Some default_budget
 IsFirstBudget (Some text) budget = IsBudgetText text budget
 
-abbrev pub choice_in : Said → Choice
-choice_in said = record { theory = said.theory; structure = said.structure }
+abbrev pub choice_in : FileSaid → Choice
+choice_in f = record { theory = f.theory; structure = f.structure }
 
--- what is said asks this: `consult` or `check`, about its file, with its options
+-- the text is decimal digits of a number of the kind
+pub record IsNumberText (k : Kind) (text : List ℕ) (n : ℕ) : Type 0 where
+  pub digits : IsDigits text
+  pub value : n ≡ decimal text
+  pub within : IsNumberOf k n
+
+-- the texts are a kind of file and a number of it
+abbrev pub AreOfFile : List ℕ → List ℕ → Kind → ℕ → Type 0
+AreOfFile kind number k n = (kind ≡ kind_name k) × IsNumberText k number n
+
+-- what is said asks this: `consult` or `check`, about its file, with its options; `generate` with `--text`, to make the
+-- file; and `generate` without it, to summarise it
 abbrev pub AsksBy : Said → Job → Type 0
-AsksBy said (consult file c budget) =
-    (said.command ≡ codes "consult") × (file ≡ said.file) × (c ≡ choice_in said) × IsFirstBudget said.budget budget
-AsksBy said (check file c) = (said.command ≡ codes "check") × (file ≡ said.file) × (c ≡ choice_in said)
+AsksBy (words.consult f text) (consult file c budget) =
+    (file ≡ f.file) × (c ≡ choice_in f) × IsFirstBudget text budget
+AsksBy (words.check f) (check file c) = (file ≡ f.file) × (c ≡ choice_in f)
+AsksBy (words.generate kind number true) (make k n) = AreOfFile kind number k n
+AsksBy (words.generate kind number false) (summarise k n) = AreOfFile kind number k n
+AsksBy _ _ = ⊥
 
 -- the words are a command line that asks this
 abbrev pub Asks : List (List ℕ) → Job → Type 0

@@ -2,7 +2,10 @@
 use Rattle.std.specs.Prelude.{◌≡◌, ◌<◌, ◌≤◌, ℕ, List, Option, Some, length}
 use Rattle.kb_text.specs.declared.fault.K.{K}
 use Rattle.base_reader.specs.FileMeanings.{Choice, Meaning, FileMeans}
-use Rattle.idp_cli.specs.Jobs.{Job, consult, check, file_of, Asks, IsUsage}
+use Rattle.generated_files.specs.Texts.{file_text}
+use Rattle.generated_files.specs.declared.kinds.Kind.{Kind}
+use Rattle.idp_cli.specs.Jobs.{Job, consult, check, make, summarise, file_of, Asks, IsUsage}
+use Rattle.idp_cli.specs.Summaries.{no_choice}
 use Rattle.idp_cli.specs.Files.{IsRefusedAt}
 use Rattle.idp_cli.specs.Runs.{Words, texts_of, Outside, RunEnds}
 use Rattle.kb_io.specs.Pending.{most_bytes}
@@ -30,18 +33,20 @@ CommandLaw = (words : Words) (before now : Outside) (job : Job) → Asks (texts_
 abbrev pub choice_of : Job → Choice
 choice_of (consult file c budget) = c
 choice_of (check file c) = c
+choice_of (make k n) = no_choice
+choice_of (summarise k n) = no_choice
 
 -- a file that is refused gives this refusal
 abbrev pub RefusalLaw : Type 0
-RefusalLaw = (s : Status) (words : Words) (before now : Outside) (job : Job) (bytes : List ℕ) (k : K) (line : ℕ)
-    → Asks (texts_of words) job → before.files (file_of job) ≡ Some bytes → IsRefusedAt (choice_of job) k line bytes
-    → RunEnds s words before now → IsUnlessFailed (status.KbRefused k line) s
+RefusalLaw = (s : Status) (words : Words) (before now : Outside) (job : Job) (file bytes : List ℕ) (k : K) (line : ℕ)
+    → Asks (texts_of words) job → file_of job ≡ Some file → before.files file ≡ Some bytes
+    → IsRefusedAt (choice_of job) k line bytes → RunEnds s words before now → IsUnlessFailed (status.KbRefused k line) s
 
 -- and a file that means something gives none
 abbrev pub TakingLaw : Type 0
-TakingLaw = (k : K) (line : ℕ) (words : Words) (before now : Outside) (job : Job) (bytes : List ℕ) (m : Meaning)
-    → Asks (texts_of words) job → before.files (file_of job) ≡ Some bytes → FileMeans (choice_of job) bytes m
-    → RunEnds (status.KbRefused k line) words before now → ⊥
+TakingLaw = (k : K) (line : ℕ) (words : Words) (before now : Outside) (job : Job) (file bytes : List ℕ) (m : Meaning)
+    → Asks (texts_of words) job → file_of job ≡ Some file → before.files file ≡ Some bytes
+    → FileMeans (choice_of job) bytes m → RunEnds (status.KbRefused k line) words before now → ⊥
 
 -- more commands than are read give ScriptTooLong
 abbrev pub LengthLaw : Type 0
@@ -72,3 +77,14 @@ abbrev pub CheckedLaw : Type 0
 CheckedLaw = (s : Status) (words : Words) (before now : Outside) (file bytes : List ℕ) (c : Choice) (m : Meaning)
     → Asks (texts_of words) (check file c) → before.files file ≡ Some bytes → FileMeans c bytes m
     → RunEnds s words before now → IsUnlessFailed status.Done s
+
+-- a file that is made is printed
+abbrev pub MadeLaw : Type 0
+MadeLaw = (s : Status) (words : Words) (before now : Outside) (k : Kind) (n : ℕ) → Asks (texts_of words) (make k n)
+    → RunEnds s words before now → IsUnlessFailed status.Done s
+
+-- and where it means something, its summary is
+abbrev pub SummarisedLaw : Type 0
+SummarisedLaw = (s : Status) (words : Words) (before now : Outside) (k : Kind) (n : ℕ) (m : Meaning)
+    → Asks (texts_of words) (summarise k n) → FileMeans no_choice (file_text k n) m → RunEnds s words before now
+    → IsUnlessFailed status.Done s

@@ -6,6 +6,7 @@ pub mod Consultation
 pub mod EndedLines
 pub mod Answering
 pub mod Turns
+pub mod Summaries
 pub mod Runs
 pub mod Printing
 pub mod Laws

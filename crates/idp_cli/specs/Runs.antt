@@ -1,5 +1,5 @@
 -- The top call: when each status comes.
-use Rattle.std.specs.Prelude.{◌≡◌, ◌⊎◌, ℕ, List, map, codes, Option}
+use Rattle.std.specs.Prelude.{◌≡◌, ◌⊎◌, ℕ, List, length, map, Option, Some}
 use Rattle.std.specs.String.{string_bytes}
 use Rattle.std.specs.Io.KnownBytes.{Appends}
 use Rattle.std.specs.declared.string.String.{String}
@@ -8,11 +8,16 @@ use Rattle.kb_io.specs.Outside.{Rose, GrewByName, KeptNames}
 use Rattle.kb_io.specs.ReadWrite.{AppendsPrefix}
 use Rattle.kb_text.specs.declared.fault.K.{K}
 use Rattle.consult_text.specs.States.{first_state}
+use Rattle.generated_files.specs.Texts.{file_text}
+use Rattle.generated_files.specs.declared.kinds.Kind.{Kind}
+use Rattle.kb_logic.specs.declared.elements.ExtInt.{ExtInt}
+use Rattle.kb_logic.specs.declared.structures.Literal.{Literal}
 use Rattle.block_texts.specs.Texts.{block_text}
 use Rattle.base_reader.specs.FileMeanings.{Choice, Meaning, FileMeans, base_of_meaning}
-use Rattle.idp_cli.specs.Jobs.{Job, consult, check, file_of, Asks, IsUsage}
+use Rattle.idp_cli.specs.Jobs.{Job, consult, check, make, summarise, file_of, Asks, IsUsage}
 use Rattle.idp_cli.specs.Files.{IfObservable, IsRefusedAt, refusal_text, usage_text}
-use Rattle.idp_cli.specs.Answering.{Streams, IsWithoutFault, HasReason, AnswersScript}
+use Rattle.idp_cli.specs.Summaries.{FileAnswers, no_choice, summary_text}
+use Rattle.idp_cli.specs.Answering.{Streams, streams, IsWithoutFault, HasReason, AnswersScript}
 use Rattle.idp_cli.specs.declared.status.Status.{Status}
 use Rattle.idp_cli.specs.declared.status.Status.TheVariants as status
 
@@ -114,10 +119,50 @@ CheckEnds status.Memory file c before now = StaysAsBefore before now
 CheckEnds status.Done file c before now = PrintsStructure Says file c before now
 CheckEnds status.ScriptTooLong file c before now = ⊥
 
+-- What each status says of a text that is printed: no command is taken, and nothing else is written.
+abbrev pub TextEnds : Status → List ℕ → Outside → Outside → Type 0
+TextEnds status.WriteFault text before now = SaysInPart text before now
+TextEnds status.Memory text before now = StaysAsBefore before now
+TextEnds status.Done text before now = Says text before now
+TextEnds (status.KbRefused k line) text before now = ⊥
+TextEnds status.Usage text before now = ⊥
+TextEnds status.ReadFault text before now = ⊥
+TextEnds status.ScriptTooLong text before now = ⊥
+
+-- the summary of a file that is made is printed, or a part of it: the number of the literals that a right reply to
+-- `propagate.` has, and the value that one to `minimize cost.` has
+abbrev pub PrintsSummary : (List ℕ → Outside → Outside → Type 0) → Kind → ℕ → Outside → Outside → Type 0
+PrintsSummary Prints k n before now =
+    (forced : List Literal) × (least : ExtInt) × FileAnswers (file_text k n) forced least
+    × Prints (summary_text k n (length forced) least) before now
+
+-- What each status says of a summary of a file that is made: no command is taken, and nothing is written but the
+-- summary or that the file is refused.
+abbrev pub SummaryEnds : Status → Kind → ℕ → Outside → Outside → Type 0
+SummaryEnds (status.KbRefused q line) k n before now =
+    IsRefusedAt no_choice q line (file_text k n) × Says (refusal_text q line) before now
+SummaryEnds status.Usage k n before now = ⊥
+SummaryEnds status.ReadFault k n before now = ⊥
+SummaryEnds status.WriteFault k n before now =
+    ((q : K) × (line : ℕ) × IsRefusedAt no_choice q line (file_text k n) × SaysInPart (refusal_text q line) before now)
+    ⊎ PrintsSummary SaysInPart k n before now
+SummaryEnds status.Memory k n before now = StaysAsBefore before now
+SummaryEnds status.Done k n before now = PrintsSummary Says k n before now
+SummaryEnds status.ScriptTooLong k n before now = ⊥
+
 -- how a job ends
 abbrev pub JobEnds : Status → Job → Outside → Outside → Type 0
 JobEnds s (consult file c budget) before now = ConsultationEnds s file c budget before now
 JobEnds s (check file c) before now = CheckEnds s file c before now
+JobEnds s (make k n) before now = TextEnds s (file_text k n) before now
+JobEnds s (summarise k n) before now = SummaryEnds s k n before now
+
+-- a run that has to do with the output alone ends so, whatever the other devices are; it leaves them as they are
+abbrev pub OnOutput : (Outside → Outside → Type 0) → Option (List ℕ) → Option (List ℕ) → ℕ → ℕ → Type 0
+OnOutput Ends old new before now =
+    (files : List ℕ → Option (List ℕ)) (shelf_faults : ℕ) (script : Option (List ℕ)) (script_faults : ℕ)
+    → Ends (outside files shelf_faults (streams script script_faults old before))
+    (outside files shelf_faults (streams script script_faults new now))
 
 -- the words are no command line, and that is said, or could not be said whole
 abbrev pub UsageEnds : Status → Outside → Outside → Type 0
@@ -140,4 +185,6 @@ RunEnds s words before now =
 -- the shelf was asked for nothing, or for the file of the words
 abbrev pub AsksForFile : Words → Option (List (List ℕ)) → Option (List (List ℕ)) → Type 0
 AsksForFile words before now =
-    KeptNames before now ⊎ ((job : Job) × Asks (texts_of words) job × GrewByName before now (file_of job))
+    KeptNames before now
+    ⊎ ((job : Job) × (file : List ℕ) × Asks (texts_of words) job × (file_of job ≡ Some file)
+    × GrewByName before now file)

@@ -19,7 +19,7 @@ use std::alloc::Global;
 use std::marker::Model;
 
 /// The reply to a line; none to a blank one.
-fn reply_to(
+pub fn reply_to(
     alloc: Global,
     session: &mut Session<FirstGreatest>,
     line: &[u8],

@@ -3,14 +3,17 @@ ghost use Rattle.std.specs.Prelude.{◌≡◌, ℕ, Option, IfOk, MatchOption};
 ghost use Rattle.kb_text.specs.Bytes.{between};
 ghost use Rattle.std.specs.List.{list_all};
 ghost use Rattle.block_choice.specs.Choices.{word_given};
-ghost use Rattle.command_words.specs.LineView.{line_view};
-ghost use Rattle.idp_cli.specs.Jobs.{Asks, AsksBy, IsBudgetText, IsFirstBudget, IsUsage};
+ghost use Rattle.command_words.specs.CommandLine as words;
+ghost use Rattle.command_words.specs.LineView.{file_view, line_view};
+ghost use Rattle.idp_cli.specs.Jobs.{AreOfFile, Asks, AsksBy, IsBudgetText, IsFirstBudget, IsNumberText};
+ghost use Rattle.idp_cli.specs.Jobs.{IsUsage, choice_in};
 ghost use Rattle.idp_cli.specs.Jobs as asked;
-ghost use Rattle.idp_cli.specs.JobViews.{job_view};
+ghost use Rattle.idp_cli.specs.JobViews.{choice_view, job_view};
 ghost use Rattle.idp_cli.specs.Runs.{texts_of};
 
-use command_words::{Line, line_of};
+use command_words::{FileWords, Line, line_of};
 use consult_text::budget_of;
+use generated_files::Kind;
 use std::alloc::{AllocError, Global};
 
 /// How many conflicts a query may meet where no budget is given.
@@ -30,6 +33,10 @@ pub enum Job<'a> {
     Consult(&'a str, Options<'a>, Option<u64>),
     /// To print the chosen structure of a file.
     Check(&'a str, Options<'a>),
+    /// To print the file that is made of a number.
+    Make(Kind, u32),
+    /// To print what follows from that file, and the least cost of its models.
+    Summarise(Kind, u32),
 }
 
 fn has_digits_alone(text: &[u8]) -> bool
@@ -70,22 +77,81 @@ fn first_budget(text: Option<&str>) -> Option<Option<u64>>
     }
 }
 
+/// The number of the kind that the text is.
+#[tactic(auto, using(crate::proofs::Asked::number_is_budget))]
+fn number_in(kind: Kind, text: &str) -> Option<u32>
+    ensures { MatchOption result ((n : ℕ) → IsNumberText kind text.now n → ⊥) (λ n. IsNumberText kind text.now n) }
+{
+    if !has_digits_alone(text.as_bytes()) {
+        return None;
+    }
+    // What budgets may be goes further than any number of a kind.
+    match budget_of(text.as_bytes()) {
+        Some(number) => {
+            if number <= u64::from(kind.most()) {
+                Some(number as u32)
+            } else {
+                None
+            }
+        }
+        None => None,
+    }
+}
+
+/// The kind and the number that the texts are.
+#[tactic(auto, using(crate::proofs::Asked::no_file))]
+fn made_of(kind: &str, number: &str) -> Option<(Kind, u32)>
+    ensures { MatchOption result ((k : Kind) (n : ℕ) → AreOfFile kind.now number.now k n → ⊥)
+        (λ made. AreOfFile kind.now number.now made.0 made.1) }
+{
+    match Kind::from_name(kind) {
+        Some(kind) => match number_in(kind, number) {
+            Some(number) => Some((kind, number)),
+            None => None,
+        },
+        None => None,
+    }
+}
+
+/// What is asked about a file that is made.
+fn generation<'a>(kind: &str, number: &str, text: bool) -> Option<Job<'a>>
+    ensures { MatchOption result ((job : asked.Job) → AsksBy (words.generate kind.now number.now text) job → ⊥)
+        (λ job. AsksBy (words.generate kind.now number.now text) (job_view job)) }
+{
+    match made_of(kind, number) {
+        Some((kind, number)) => {
+            if text {
+                Some(Job::Make(kind, number))
+            } else {
+                Some(Job::Summarise(kind, number))
+            }
+        }
+        None => None,
+    }
+}
+
+/// What is chosen in a file.
+fn options_in<'a>(words: FileWords<'a>) -> Options<'a>
+    ensures { choice_view result ≡ choice_in (file_view words.entry) }
+{
+    Options {
+        theory: words.theory,
+        structure: words.structure,
+    }
+}
+
 /// What is asked by what the words say.
 fn job_in<'a>(line: Line<'a>) -> Option<Job<'a>>
     ensures { MatchOption result ((job : asked.Job) → AsksBy (line_view line.entry) job → ⊥)
         (λ job. AsksBy (line_view line.entry) (job_view job)) }
 {
-    let options = Options {
-        theory: line.theory,
-        structure: line.structure,
-    };
-    match line.command {
-        "consult" => match first_budget(line.budget) {
-            Some(budget) => Some(Job::Consult(line.file, options, budget)),
+    match line {
+        Line::Consult(words, text) => match first_budget(text) {
+            Some(budget) => Some(Job::Consult(words.file, options_in(words), budget)),
             None => None,
         },
-        "check" => Some(Job::Check(line.file, options)),
-        _ => None,
+        Line::Check(words) => Some(Job::Check(words.file, options_in(words))),
+        Line::Generate(kind, number, text) => generation(kind, number, text),
     }
 }
 

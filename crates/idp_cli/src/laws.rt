@@ -1,6 +1,6 @@
 //! Laws on how a run ends, and on what it prints. The functions do nothing else: their contracts are laws.
 ghost use Rattle.idp_cli.specs.Laws.{UsageLaw, CommandLaw, RefusalLaw, TakingLaw, LengthLaw, ShortLaw, DoneLaw};
-ghost use Rattle.idp_cli.specs.Laws.{CheckedLaw};
+ghost use Rattle.idp_cli.specs.Laws.{CheckedLaw, MadeLaw, SummarisedLaw};
 ghost use Rattle.idp_cli.specs.OneAnswer.{OneAnswerLaw, OneConsultationLaw, StatesLaw};
 ghost use Rattle.idp_cli.specs.FileLaws.{FileRepliesLaw, CheckedIsReadBackLaw};
 
@@ -18,6 +18,8 @@ pub fn statuses_come_where_they_should()
     ensures short { ShortLaw }
     ensures done { DoneLaw }
     ensures checked { CheckedLaw }
+    ensures made { MadeLaw }
+    ensures summarised { SummarisedLaw }
 {
     one_file_refusal();
     accepted_or_refused();

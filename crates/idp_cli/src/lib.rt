@@ -2,12 +2,14 @@
 #![tactic(auto)]
 
 mod consultation;
+mod generation;
 mod jobs;
 pub mod laws;
 mod load;
 mod printing;
 mod runs;
 mod status;
+mod summaries;
 
 pub use jobs::{Job, Options, job_of};
 pub use runs::run;

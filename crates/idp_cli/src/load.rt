@@ -1,6 +1,7 @@
 //! The knowledge base of a file.
-ghost use Rattle.std.specs.Prelude.{◌≡◌, ◌<◌, ◌≤◌, length};
+ghost use Rattle.std.specs.Prelude.{◌≡◌, ◌+◌, ◌<◌, ◌≤◌, length, take};
 ghost use Rattle.fo_syntax.specs.FileReads.{most_bytes};
+ghost use Rattle.kb_io.specs.Lines.{newlines};
 ghost use Rattle.kb_io.specs.Outside.{GrewByName, KeptNumber};
 ghost use Rattle.idp_cli.specs.Files.{Loads, Takes, line_of};
 ghost use Rattle.idp_cli.specs.JobViews.{choice_view};
@@ -70,6 +71,26 @@ fn knowledge_base(
             line_at(bytes, fault.place),
         )),
     }
+}
+
+/// The line at which bytes end that are taken up to a limit.
+fn line_at_limit(bytes: &[u8], limit: usize) -> u64
+    requires longer { limit < length bytes.now }
+    requires few { limit ≤ most_bytes }
+    ensures { result ≡ newlines (take limit bytes.now) + 1 }
+{
+    newlines_in(&bytes[..limit]) as u64 + 1
+}
+
+/// The knowledge base that bytes mean, however many they are.
+pub fn take(alloc: Global, bytes: &[u8], options: Options<'_>) -> Result<KnowledgeBase, LoadError>
+    ensures { Takes (choice_view options.entry) result bytes.now }
+{
+    if bytes.len() > MOST_FILE_BYTES {
+        let line = line_at_limit(bytes, MOST_FILE_BYTES);
+        return Err(LoadError::Refused(K::TooLong, line));
+    }
+    knowledge_base(alloc, bytes, options)
 }
 
 /// Loads the knowledge base of the named file.

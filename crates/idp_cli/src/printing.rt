@@ -65,16 +65,23 @@ fn structure_text(alloc: Global, kb: &KnowledgeBase) -> Result<Vec<u8>, Memory>
     Ok(text)
 }
 
+/// Prints a text.
+pub fn print_text<W: Sink>(text: &[u8], out: &mut W) -> Status
+    ensures { PrintsText result text.now (W.holds out.old) (W.holds out.new) (W.faults out.old) (W.faults out.new) }
+{
+    match say(out, text) {
+        Ok(()) => Status::Done,
+        Err(_) => Status::WriteFault,
+    }
+}
+
 /// Prints the structure that is chosen.
 pub fn print_structure<W: Sink>(alloc: Global, kb: &KnowledgeBase, out: &mut W) -> Status
     ensures { PrintsText result (structure_text (meaning_of kb.now))
         (W.holds out.old) (W.holds out.new) (W.faults out.old) (W.faults out.new) }
 {
-    let Ok(text) = structure_text(alloc, kb) else {
-        return Status::Memory;
-    };
-    match say(out, &text) {
-        Ok(()) => Status::Done,
-        Err(_) => Status::WriteFault,
+    match structure_text(alloc, kb) {
+        Ok(text) => print_text(&text, out),
+        Err(_) => Status::Memory,
     }
 }

@@ -8,6 +8,7 @@ ghost use Rattle.idp_cli.specs.JobViews.{choice_view};
 ghost use Rattle.idp_cli.specs.Runs.{outside, RunEnds, CheckEnds, ConsultationEnds, AsksForFile};
 
 use crate::consultation::Consultant;
+use crate::generation::{make, summarise};
 use crate::jobs::{Job, Options, job_of};
 use crate::load::{LoadError, load};
 use crate::printing::{print_structure, refuse, refuse_words};
@@ -114,6 +115,8 @@ pub fn run<H: Shelf, C: Source, W: Sink, L: Sink>(
             consult(alloc, name, options, budget, shelf, commands, out)
         }
         Ok(Some(Job::Check(name, options))) => check(alloc, name, options, shelf, out),
+        Ok(Some(Job::Make(kind, number))) => make(alloc, kind, number, out),
+        Ok(Some(Job::Summarise(kind, number))) => summarise(alloc, kind, number, out),
         Ok(None) => refuse_words(out),
         Err(_) => Status::Memory,
     }

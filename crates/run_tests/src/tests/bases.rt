@@ -116,10 +116,12 @@ procedure main() {
 }
 ";
 
-pub(super) const A_SUM: &[u8] = b"vocabulary V { type Item  type Num isa nat  P(Item)  w(Item):Num }
+/// A minimum stands in a sum.
+pub(super) const A_MINIMUM_IN_A_SUM: &[u8] =
+    b"vocabulary V { type Item  type Num isa nat  P(Item)  w(Item):Num }
 theory T : V { ?x: P(x). }
 structure S : V { Item = {a; b}  Num = {0..6}  w = {a->2; b->3} }
-term cost : V { sum{x : P(x) : w(x)} }
+term cost : V { min{x : P(x) : w(x)} + 1 }
 ";
 
 pub(super) const A_DEFINITION: &[u8] =

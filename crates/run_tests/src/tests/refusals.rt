@@ -53,7 +53,7 @@ const CHANGES: [(usize, &[u8], &[u8]); 19] = [
     ),
     (
         7,
-        b"  ?=1 x: color(x) = Red.",
+        b"  -min{x y: Border(x,y): 1} = 1.",
         b"error K10 Unsupported line 8\n",
     ),
     (

@@ -1,9 +1,9 @@
 //! Files, commands and replies that were worked out by hand, whole and with every device cut after each byte.
 
 use super::bases::{
-    A_DEFINITION, A_FUNCTION, A_HEAVY_THEORY, A_SUM, BOTH_GIVEN, CONSTANT_OF_AN_EMPTY_TYPE, COVER,
-    EITHER_P_OR_Q, EMPTY_TYPE, FIVE_PIGEONS, FOUR_QUEENS, MAP, MAP_IN_ONE_COLOUR, MAP_TEXT,
-    MARKED_MAP, MARKED_MAP_TEXT, TWENTY_TWO,
+    A_DEFINITION, A_FUNCTION, A_HEAVY_THEORY, A_MINIMUM_IN_A_SUM, BOTH_GIVEN,
+    CONSTANT_OF_AN_EMPTY_TYPE, COVER, EITHER_P_OR_Q, EMPTY_TYPE, FIVE_PIGEONS, FOUR_QUEENS, MAP,
+    MAP_IN_ONE_COLOUR, MAP_TEXT, MARKED_MAP, MARKED_MAP_TEXT, TWENTY_TWO,
 };
 use super::runs::{CHECK, CONSULT, PLAN, Plan, gives};
 use std::test::Fail;
@@ -143,7 +143,7 @@ const CONSULTATIONS: [(&[u8], &[u8], &[u8]); 21] = [
 const REFUSED_FILES: [(&[u8], &[u8]); 4] = [
     // A function where a formula stands.
     (A_FUNCTION, b"error K4 WrongArity line 2\n"),
-    (A_SUM, b"error K10 Unsupported line 4\n"),
+    (A_MINIMUM_IN_A_SUM, b"error K10 Unsupported line 4\n"),
     (A_DEFINITION, b"error K10 Unsupported line 2\n"),
     (A_HEAVY_THEORY, b"error K14 TooLarge line 2\n"),
 ];

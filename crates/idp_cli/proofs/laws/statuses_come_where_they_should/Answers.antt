@@ -1,5 +1,5 @@
 use Rattle.idp_cli.proofs.Elimination.{usage_law, command_law, refusal_law, taking_law, length_law, short_law, done_law}
-use Rattle.idp_cli.proofs.Elimination.{checked_law}
+use Rattle.idp_cli.proofs.Elimination.{checked_law, made_law, summarised_law}
 use Rattle.idp_cli.proofs.laws.statuses_come_where_they_should.Goals as goal
 
 pub returns : goal.returns
@@ -15,4 +15,6 @@ returns c =
       short = short_law one never;
       done = done_law one never;
       checked = checked_law one never;
+      made = made_law;
+      summarised = summarised_law one never;
     }
