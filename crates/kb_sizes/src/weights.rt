@@ -108,7 +108,8 @@ fn rule_weight(vocab: &Vocabulary, domains: &Domains<'_, '_>, rule: &Rule) -> u6
     plus(plus(1, heads), body(vocab, domains, rule, heads))
 }
 
-fn rules(vocab: &Vocabulary, domains: &Domains<'_, '_>, all: &[Rule]) -> u64
+/// The weight of a definition, which is its rules.
+pub fn rules(vocab: &Vocabulary, domains: &Domains<'_, '_>, all: &[Rule]) -> u64
     ensures { result ≡ capped (sum_by (rule_occurrences vocab.now domains.now) (map rule_view all.now)) }
 {
     let mut count = 0u64;

@@ -36,7 +36,13 @@ const RANGE: &[u8] =
 const RECURSION: &[u8] =
     b"the rules of a definition do not ask for what it defines: recursive definitions are not read";
 
-const COUNT: &[u8] = b"aggregates and number quantifiers are not read yet";
+const SUMMED: &[u8] =
+    b"a count or a sum is a side of a comparison, or an operand of its sum, with integers as factors; no weight has one";
+
+const EXTREMUM: &[u8] =
+    b"min and max are a whole side of a comparison, and the other side has no aggregate: name it by a function";
+
+const PRODUCT: &[u8] = b"there is no product over assignments";
 
 const INTEGERS: &[u8] =
     b"an argument or a value has a type of its own: type Number isa int, listed in the structure";
@@ -54,9 +60,6 @@ const NARROWER: &[u8] =
 const SIZES: &[u8] = b"what counts, and how to write it lighter: docs/LANGUAGE.md, 'Sizes'";
 
 const DEEP: &[u8] = b"take brackets out, or cut the sentence into several";
-
-/// How aggregates and number quantifiers begin.
-const COUNTS: [&[u8]; 7] = [b"#", b"sum", b"prod", b"min", b"max", b"card", b"?"];
 
 /// Whether a structure behind this text lists the name.
 fn is_listed(text: &[u8], name: &[u8]) -> bool {
@@ -129,16 +132,28 @@ fn advice_on_word(place: &Place<'_>) -> &'static [u8] {
     RECURSION
 }
 
+/// How an aggregate is mended that may not stand there.
+fn advice_on_aggregate(sign: &[u8]) -> Option<&'static [u8]> {
+    if sign == b"#".as_slice() || sign == b"sum".as_slice() {
+        return Some(SUMMED);
+    }
+    if sign == b"min".as_slice() || sign == b"max".as_slice() {
+        return Some(EXTREMUM);
+    }
+    if sign == b"prod".as_slice() {
+        return Some(PRODUCT);
+    }
+    None
+}
+
 /// How a form that is not read is mended.
 fn advice_on_form(place: &Place<'_>) -> Option<&'static [u8]> {
     let sign = place.sign;
     if place.front.ends_with(b"..") || behind_word(place).starts_with(b"..") {
         return Some(RANGE);
     }
-    for count in &COUNTS {
-        if sign == *count {
-            return Some(COUNT);
-        }
+    if let Some(advice) = advice_on_aggregate(sign) {
+        return Some(advice);
     }
     if sign == b"int".as_slice() || sign == b"nat".as_slice() {
         return Some(INTEGERS);

@@ -16,4 +16,6 @@ mod usage;
 pub use note::{Memory, fault_note, file_note, long_file_note};
 pub use replies::reply_note;
 pub use spots::{column_of, line_of};
-pub use usage::{BUDGET_NOTE, MEMORY_LOST, OUTPUT_LOST, SCRIPT_TOO_LONG, USAGE, VERSION};
+pub use usage::{
+    BUDGET_NOTE, GENERATION_NOTE, MEMORY_LOST, OUTPUT_LOST, SCRIPT_TOO_LONG, USAGE, VERSION,
+};

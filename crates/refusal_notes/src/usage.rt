@@ -11,6 +11,9 @@ idp answers questions about a knowledge base, line by line
                     answers the commands on standard input by what FILE means
   idp check FILE [--theory NAME] [--structure NAME]
                     prints the structure of FILE that is chosen
+  idp generate KIND N [--text]
+                    makes a large file, and prints how much follows from it and its least cost; with --text, the file
+                    KIND is timetable, with N from 1 to 40, or roster, with N from 1 to 100
 
 options, before or after FILE, each at most once, as --theory NAME or --theory=NAME:
   --theory NAME     the theory that is worked on, where FILE has several
@@ -40,6 +43,10 @@ to begin with: idp consult examples/laptop.idp, and docs/TUTORIAL.md
 /// What is told where a number of a command line is out of its range.
 pub const BUDGET_NOTE: &str =
     "idp: --budget wants a number from 1 to 1000000000000, or unlimited\n";
+
+/// What is told where no file can be made of the words of `generate`.
+pub const GENERATION_NOTE: &str =
+    "idp: generate wants timetable and a number from 1 to 40, or roster and a number from 1 to 100\n";
 
 /// What is told where the output is closed or full.
 pub const OUTPUT_LOST: &str = "idp: standard output is closed, or cannot be written\n";

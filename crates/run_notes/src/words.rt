@@ -1,6 +1,6 @@
 //! What is told of words that are no command line.
 use command_words::{Complaint, complaint_on};
-use refusal_notes::{BUDGET_NOTE, USAGE, VERSION};
+use refusal_notes::{BUDGET_NOTE, GENERATION_NOTE, USAGE, VERSION};
 use std::alloc::{AllocError, Global};
 
 /// The bytes of a text.
@@ -14,7 +14,8 @@ fn told_of(alloc: Global, complaint: &Complaint) -> Result<Vec<u8>, AllocError> 
         Complaint::Help => bytes_of(alloc, USAGE),
         Complaint::Version => bytes_of(alloc, VERSION),
         Complaint::Wrong(lines) => bytes_of(alloc, lines.as_str()),
-        Complaint::Number => bytes_of(alloc, BUDGET_NOTE),
+        Complaint::Budget => bytes_of(alloc, BUDGET_NOTE),
+        Complaint::Generation => bytes_of(alloc, GENERATION_NOTE),
     }
 }
 
