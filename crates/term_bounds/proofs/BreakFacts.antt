@@ -1,5 +1,5 @@
 -- What the least that parts may count says of a bound.
-use Rattle.std.proofs.Common.{◌≡◌, ℕ, suc, ◌<◌, ◌+◌, ℤ, ◌+ℤ◌, ◌≤ℤ◌, Bool, true, false, not, Option}
+use Rattle.std.proofs.Common.{◌≡◌, ℕ, suc, ◌<◌, ◌+◌, ℤ, pos, ◌+ℤ◌, ◌≤ℤ◌, Bool, true, false, not, Option}
 use Rattle.std.proofs.Common.{Some, None, List, [], ◌∷◌, length, get_or, drop, slice_get, refl, sym, ap, ◌∙◌, subst}
 use Rattle.std.proofs.Common.{◌⊎◌, inl, inr, ⊎_elim, arith, All, Any, Contains}
 use Rattle.std.proofs.lemmas.Bool.{both_ways}
@@ -19,16 +19,17 @@ use Rattle.ground_core.specs.declared.parts.Part.{Part}
 use Rattle.ground_core.specs.declared.parts.TermBound.{TermBound}
 use Rattle.ground_core.specs.Meaning.{AreAllFalse, BoundHolds, term_value}
 use Rattle.term_bounds.specs.Amounts.{is_under, lessened}
-use Rattle.term_bounds.specs.Breaking.{HasLits, Holds, IsBroken, IsBrokenBy, IsNoTighter}
+use Rattle.term_bounds.specs.Breaking.{HasLits, Holds, IsBroken, IsBrokenAt, IsNoTighter}
 use Rattle.term_bounds.specs.Breaking.{IsOfBounds}
 use Rattle.term_bounds.specs.Reasons.{IsReason}
-use Rattle.term_bounds.specs.Shares.{IsDecidedAs, least_total}
+use Rattle.term_bounds.specs.Shares.{IsDecidedAs, least_total, opened_total}
 use Rattle.term_bounds.specs.Totals.{total, total_bound}
-use Rattle.term_bounds.proofs.ShareFacts.{decided-total}
+use Rattle.term_bounds.proofs.ShareFacts.{decided-total, opened-total-low}
+use Rattle.std.proofs.lemmas.Int.{ints}
 use Rattle.term_bounds.proofs.TotalFacts.{bounds-by-totals}
 
 -- a valuation satisfies a clause, or makes all of it false
-some-or-none : (v : ℕ → Bool) (c : List Lit) → IsSatisfied v c ⊎ AreAllFalse v c
+pub some-or-none : (v : ℕ → Bool) (c : List Lit) → IsSatisfied v c ⊎ AreAllFalse v c
 some-or-none v [] = inr (All-nil (λ l. literal_value v l ≡ false))
 some-or-none v (l ∷ c) = by_value (some-or-none v c) (literal_value v l) refl
   where
@@ -40,7 +41,7 @@ some-or-none v (l ∷ c) = by_value (some-or-none v c) (literal_value v l) refl
         (λ rest. inr (All-cons (λ m. literal_value v m ≡ false) l c e rest))
         r
 
-negated-off : (s x : Bool) → by_sign (not s) x ≡ false → by_sign s x ≡ true
+pub negated-off : (s x : Bool) → by_sign (not s) x ≡ false → by_sign s x ≡ true
 negated-off true true e = refl
 negated-off true false e = sym e
 negated-off false true e = sym e
@@ -65,25 +66,32 @@ module _ (t : GroundTerm) (b : TermBound) (a : List (Option Bool)) (k : AggKind)
   pub broken-where-not : (spare : ℤ) (c : List Lit) → IsReason a k bound b.out ps spare c
       → ((z : ℤ) → least_total a k bound ps ≤ℤ (z +ℤ spare) → is_under (total_bound k bound) (number z) ≡ false)
       → IsBroken t b a c
-  broken-where-not spare c r not-below = record {
-    falsified = r.falsified;
-    implied = λ v holds. ⊎_elim
-        (λ s. s)
-        (λ off.
-        let out-off : literal_value v (negated b.out) ≡ false = All-contains (λ l. literal_value v l ≡ false) c
-        (negated b.out) off r.output in
-        let on : literal_value v b.out ≡ true = negated-off b.out.positive (v b.out.var.0) out-off in
-        let under : is_under (total_bound k bound) (number (total v k bound ps)) ≡ true = sym (by-total v) ∙ holds on in
-        absurd (both_ways false refl (sym (not-below (total v k bound ps) (r.total v off)) ∙ under)))
-        (some-or-none v c);
-    within = subst (λ (qs : List Part). All (λ (l : Lit). (b.out.var.0 ≡ l.var.0)
-        ⊎ Any (λ (u : Part). u.lit.var.0 ≡ l.var.0) qs) c) parts r.within;
-  }
+  broken-where-not spare c r not-below =
+      let enough : (v : ℕ → Bool) → AreAllFalse v c → least_total a k bound ps ≤ℤ (total v k bound ps +ℤ spare) =
+      λ v off. (
+      let more : (least_total a k bound ps +ℤ opened_total a v k bound ps) ≤ℤ (total v k bound ps +ℤ spare) =
+      r.total v off in
+      let low : pos 0 ≤ℤ opened_total a v k bound ps = opened-total-low a v k bound ps in
+      omega (arith, ints, more, low)) in
+      record {
+        falsified = r.falsified;
+        implied = λ v holds. ⊎_elim
+            (λ s. s)
+            (λ off.
+            let out-off : literal_value v (negated b.out) ≡ false = All-contains (λ l. literal_value v l ≡ false) c
+            (negated b.out) off r.output in
+            let on : literal_value v b.out ≡ true = negated-off b.out.positive (v b.out.var.0) out-off in
+            let under : is_under (total_bound k bound) (number (total v k bound ps)) ≡ true = sym (by-total v) ∙ holds on in
+            absurd (both_ways false refl (sym (not-below (total v k bound ps) (enough v off)) ∙ under)))
+            (some-or-none v c);
+        within = subst (λ (qs : List Part). All (λ (l : Lit). (b.out.var.0 ≡ l.var.0)
+            ⊎ Any (λ (u : Part). u.lit.var.0 ≡ l.var.0) qs) c) parts r.within;
+      }
 
 -- one of the bounds, and its term
 module _ (terms : List GroundTerm) (bounds : List TermBound) (a : List (Option Bool)) (i : ℕ) (b : TermBound)
     (t : GroundTerm) (at-bound : slice_get bounds i ≡ Some b) (at-term : slice_get terms b.term ≡ Some t) where
-  bound-held : (v : ℕ → Bool) → BoundHolds v terms b → Holds v t b
+  pub bound-held : (v : ℕ → Bool) → BoundHolds v terms b → Holds v t b
   bound-held v h on = by_term (slice_get terms b.term) at-term (h on)
     where
       by_term : (o : Option GroundTerm) → o ≡ Some t → IfSome o (λ u. is_under b.below (term_value v u) ≡ true)
@@ -104,10 +112,12 @@ module _ (terms : List GroundTerm) (bounds : List TermBound) (a : List (Option B
   is-term = get_or_from_slice_get terms b.term t t at-term
 
   -- where it is broken, one of all is
-  pub broken-one : (c : List Lit) → IsBroken t b a c → IsBrokenBy terms bounds a c
+  pub broken-one : (c : List Lit) → IsBroken t b a c → IsBrokenAt terms bounds a i c
   broken-one c h = record {
     falsified = h.falsified;
-    implied = (i, b, in-bounds, is-bound, λ v holds. h.implied v (bound-held v holds));
+    bound = b;
+    there = at-bound;
+    implied = λ v holds. h.implied v (bound-held v holds);
     within = All-weaker (λ (l : Lit). (b.out.var.0 ≡ l.var.0) ⊎ Any (λ (u : Part). u.lit.var.0 ≡ l.var.0) t.parts)
         (IsOfBounds terms bounds)
         (λ l way. ⊎_elim

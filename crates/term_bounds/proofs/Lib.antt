@@ -3,3 +3,4 @@ pub mod ShareFacts
 pub mod ListFacts
 pub mod ReasonFacts
 pub mod BreakFacts
+pub mod ImplyFacts

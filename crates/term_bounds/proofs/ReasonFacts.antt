@@ -14,7 +14,7 @@ use Rattle.lit_core.specs.Truth.{IsFalsified}
 use Rattle.ground_core.specs.declared.parts.Part.{Part}
 use Rattle.ground_core.specs.Meaning.{AreAllFalse}
 use Rattle.term_bounds.specs.Reasons.{AreReasons, IsReason, differ}
-use Rattle.term_bounds.specs.Shares.{least_total, raised, share}
+use Rattle.term_bounds.specs.Shares.{least_total, opened, opened_total, raised, share}
 use Rattle.term_bounds.specs.Totals.{counted_as, total, where_true}
 use Rattle.term_bounds.proofs.ShareFacts.{none-least}
 
@@ -60,14 +60,22 @@ is-false a l b e = some-false l.positive b (slot a l) e
     slot xs k = get_or xs k.var.0 None
 
 -- the literal has its value where that one is false
-was-value : (v : ℕ → Bool) (l : Lit) (b : Bool) → literal_value v (false_lit l b) ≡ false → literal_value v l ≡ b
+pub was-value : (v : ℕ → Bool) (l : Lit) (b : Bool) → literal_value v (false_lit l b) ≡ false → literal_value v l ≡ b
 was-value v l b e = back-by l.positive b (v l.var.0) e
 
--- what parts may count least, more than what they count
+-- what parts with values may count least, more than what they count
 abbrev pub gap : List (Option Bool) → (ℕ → Bool) → AggKind → ExtInt → List Part → ℤ
-gap a v k bound ps = least_total a k bound ps -ℤ total v k bound ps
+gap a v k bound ps = (least_total a k bound ps +ℤ opened_total a v k bound ps) -ℤ total v k bound ps
 
-get_or-itself : (xs : List Part) (j : ℕ) (e : Part) → j < length xs → get_or xs j (get_or xs j e) ≡ get_or xs j e
+-- the same of one part
+abbrev pub part_gap : Option Bool → Bool → ℤ → ℤ
+part_gap o x w = (share o w +ℤ opened o x w) -ℤ where_true x w
+
+part-raised : (o : Option Bool) (x : Bool) (w : ℤ) → part_gap o x w ≤ℤ raised o w
+part-raised None x w = omega (arith, ints)
+part-raised (Some b) x w = let least : share None w ≤ℤ where_true x w = none-least w x in omega (arith, ints, least)
+
+pub get_or-itself : (xs : List Part) (j : ℕ) (e : Part) → j < length xs → get_or xs j (get_or xs j e) ≡ get_or xs j e
 get_or-itself [] j e l = absurd (omega arith)
 get_or-itself (x ∷ xs) zero e l = refl
 get_or-itself (x ∷ xs) (suc j) e l = get_or-itself xs j e (omega arith)
@@ -103,8 +111,8 @@ module _ (a : List (Option Bool)) (k : AggKind) (bound : ExtInt) (ps : List Part
     abbrev rest : List Part
     rest = drop (i + 1) ps
 
-    gap-here : (v : ℕ → Bool) → gap a v k bound (drop i ps) ≡ (share (value_in a p.lit) w -ℤ where_true
-        (literal_value v p.lit) w) +ℤ gap a v k bound rest
+    gap-here : (v : ℕ → Bool) → gap a v k bound (drop i ps) ≡ part_gap (value_in a p.lit) (literal_value v p.lit) w
+        +ℤ gap a v k bound rest
     gap-here v =
         let e : gap a v k bound (drop i ps) ≡ gap a v k bound (p ∷ rest) = at_drop_more (gap a v k bound) ps i d lt in
         omega (arith, ints, e)
@@ -126,10 +134,9 @@ module _ (a : List (Option Bool)) (k : AggKind) (bound : ExtInt) (ps : List Part
           let last : literal_value v (false_lit p.lit b) ≡ false = All-contains (λ l. literal_value v l ≡ false) more
           (false_lit p.lit b) off (Contains-push c (false_lit p.lit b)) in
           let same : literal_value v p.lit ≡ b = was-value v p.lit b last in
-          let none : share (value_in a p.lit) w -ℤ where_true (literal_value v p.lit) w ≡ share (Some b) w -ℤ where_true
-          b w = ap (λ o. share o w -ℤ where_true (literal_value v p.lit) w) e
-          ∙ ap (λ x. share (Some b) w -ℤ where_true x w) same in
-          let zero-is : share (Some b) w -ℤ where_true b w ≡ pos 0 = omega (arith, ints) in
+          let none : part_gap (value_in a p.lit) (literal_value v p.lit) w ≡ part_gap (Some b) b w =
+          ap (λ o. part_gap o (literal_value v p.lit) w) e ∙ ap (λ x. part_gap (Some b) x w) same in
+          let zero-is : part_gap (Some b) b w ≡ pos 0 = omega (arith, ints) in
           omega (arith, ints, h.total v before, gap-here v, none, zero-is);
       within = All-push Within c (false_lit p.lit b) h.within in-parts;
     }
@@ -141,7 +148,8 @@ module _ (a : List (Option Bool)) (k : AggKind) (bound : ExtInt) (ps : List Part
       falsified = h.falsified;
       low = low;
       total = λ v off.
-          let least : share None w ≤ℤ where_true (literal_value v p.lit) w = none-least w (literal_value v p.lit) in
+          let least : part_gap (value_in a p.lit) (literal_value v p.lit) w ≤ℤ raised (value_in a p.lit) w =
+          part-raised (value_in a p.lit) (literal_value v p.lit) w in
           omega (arith, ints, h.total v off, gap-here v, least, e);
       within = h.within;
     }

@@ -1,5 +1,5 @@
 -- Bounds that cannot hold any more, and why.
-use Rattle.std.specs.Prelude.{◌≡◌, ℕ, ◌<◌, Bool, true, Option, List, length, All, Any, ◌⊎◌}
+use Rattle.std.specs.Prelude.{◌≡◌, ℕ, ◌<◌, Bool, true, Option, Some, List, length, slice_get, All, Any, ◌⊎◌}
 use Rattle.kb_logic.specs.Denotations.{Denotation}
 use Rattle.lit_core.specs.declared.literals.Lit.{Lit}
 use Rattle.lit_core.specs.Literals.{literal_value}
@@ -38,6 +38,15 @@ pub record IsBrokenBy (terms : List GroundTerm) (bounds : List TermBound) (a : L
     (c : List Lit) : Type 0 where
   pub falsified : IsFalsified a c
   pub implied : Any (λ b. (v : ℕ → Bool) → BoundHolds v terms b → IsSatisfied v c) bounds
+  pub within : All (IsOfBounds terms bounds) c
+
+-- the same, by the bound at this place
+pub record IsBrokenAt (terms : List GroundTerm) (bounds : List TermBound) (a : List (Option Bool)) (place : ℕ)
+    (c : List Lit) : Type 0 where
+  pub falsified : IsFalsified a c
+  pub bound : TermBound
+  pub there : slice_get bounds place ≡ Some bound
+  pub implied : (v : ℕ → Bool) → BoundHolds v terms bound → IsSatisfied v c
   pub within : All (IsOfBounds terms bounds) c
 
 -- the same of one bound on one term

@@ -5,3 +5,4 @@ pub mod Shares
 pub mod Reasons
 pub mod Breaking
 pub mod Laws
+pub mod Implying

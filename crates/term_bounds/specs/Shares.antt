@@ -22,6 +22,17 @@ abbrev pub least_total : List (Option Bool) → AggKind → ExtInt → List Part
 least_total a k bound [] = pos 0
 least_total a k bound (p ∷ ps) = share (value_in a p.lit) (counted_as k bound p.weight) +ℤ least_total a k bound ps
 
+-- what a part counts more than the least that it may, where its literal has no value yet and has this one then
+abbrev pub opened : Option Bool → Bool → ℤ → ℤ
+opened (Some b) x w = pos 0
+opened None x w = where_true x w -ℤ share None w
+
+-- the same of all parts under a valuation
+abbrev pub opened_total : List (Option Bool) → (ℕ → Bool) → AggKind → ExtInt → List Part → ℤ
+opened_total a v k bound [] = pos 0
+opened_total a v k bound (p ∷ ps) = opened (value_in a p.lit) (literal_value v p.lit) (counted_as k bound p.weight)
+    +ℤ opened_total a v k bound ps
+
 -- the literal has a value, which is that under the valuation
 abbrev pub IsDecidedAs : List (Option Bool) → (ℕ → Bool) → Lit → Type 0
 IsDecidedAs a v l = value_in a l ≡ Some (literal_value v l)

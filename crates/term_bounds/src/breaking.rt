@@ -5,7 +5,7 @@ ghost use Rattle.lit_core.specs.declared.literals.Lit.{Lit as LitRow};
 ghost use Rattle.lit_core.specs.Literals.{value_in};
 ghost use Rattle.ground_core.specs.declared.parts.Part.{Part as PartRow};
 ghost use Rattle.ground_core.specs.Meaning.{BoundHolds};
-ghost use Rattle.term_bounds.specs.Breaking.{AreOnTerms, HasLits, Holds, IsBroken, IsBrokenBy};
+ghost use Rattle.term_bounds.specs.Breaking.{AreOnTerms, HasLits, Holds, IsBroken, IsBrokenAt};
 ghost use Rattle.term_bounds.specs.Breaking.{IsNoTighter};
 ghost use Rattle.term_bounds.specs.Shares.{IsDecidedAs};
 
@@ -16,6 +16,13 @@ use crate::shares::{least_of, spare_of};
 use ground_core::{GroundTerm, Memory, TermBound};
 use lit_core::{Assignment, Lit};
 use std::alloc::Global;
+
+/// A clause that is false now, and the place of the bound that implies it.
+#[derive(Drop)]
+pub struct BrokenBound {
+    pub place: usize,
+    pub clause: Vec<Lit>,
+}
 
 /// A false clause that the bound implies, where its output is true and its term cannot be below its number.
 fn broken_by(
@@ -43,7 +50,7 @@ fn broken_by(
 
 /// Whether the bound holds wherever the other one does, whose output is true: they are on one term, and its number is
 /// no lower.
-fn follows_from(bound: TermBound, other: Option<TermBound>) -> bool
+pub fn follows_from(bound: TermBound, other: Option<TermBound>) -> bool
     ensures { IsTrue result → IfSome other (λ tight. IsNoTighter bound tight) × IsSome other }
 {
     match other {
@@ -68,17 +75,18 @@ fn in_force(
     }
 }
 
-/// A clause that is false now and that one of the bounds implies, or None where none is found. Where every
-/// variable of terms and bounds has a value, None says that all bounds hold.
+/// A clause that is false now and that one of the bounds implies, with the bound's place, or None where none is found.
+/// Where every variable of terms and bounds has a value, None says that all bounds hold.
 pub fn broken(
     alloc: Global,
     terms: &[GroundTerm],
     bounds: &[TermBound],
     assignment: &Assignment,
-) -> Result<Option<Vec<Lit>>, Memory>
+) -> Result<Option<BrokenBound>, Memory>
     requires terms { AreOnTerms terms.now bounds.now }
     requires within { HasLits (λ l. l.var.0 < length assignment.now) terms.now bounds.now }
-    ensures broken { IfOk result (λ o. IfSome o (λ c. IsBrokenBy terms.now bounds.now assignment.now c.items)) }
+    ensures broken { IfOk result (λ o. IfSome o (λ found. IsBrokenAt terms.now bounds.now assignment.now found.place
+        found.clause.items)) }
     ensures hold { IfOk result (λ o. IfNone o ((v : ℕ → Bool) → HasLits (IsDecidedAs assignment.now v) terms.now
         bounds.now → All (BoundHolds v terms.now) bounds.now)) }
 {
@@ -93,7 +101,12 @@ pub fn broken(
         }
         let term = &terms[bound.term as usize];
         match broken_by(alloc, term, bound, assignment)? {
-            Some(clause) => return Ok(Some(clause)),
+            Some(clause) => {
+                return Ok(Some(BrokenBound {
+                    place: left,
+                    clause,
+                }));
+            }
             None => tight = in_force(bound, tight, assignment),
         }
     }

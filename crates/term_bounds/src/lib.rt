@@ -4,6 +4,7 @@
 
 mod amounts;
 mod breaking;
+mod implying;
 mod laws;
 mod linear;
 mod reasons;
@@ -12,7 +13,8 @@ mod term_values;
 mod trials;
 
 pub use amounts::is_at_most;
-pub use breaking::broken;
+pub use breaking::{BrokenBound, broken};
+pub use implying::{Implication, implied};
 pub use laws::{bounds_by_totals, least_is_least};
 pub use term_values::value_of;
 pub use trials::is_term_below;

@@ -15,7 +15,7 @@ use lit_core::{Assignment, Lit};
 use std::alloc::Global;
 
 /// The literal of the variable that is false, where this literal has this value.
-fn false_one(lit: Lit, value: bool) -> Lit
+pub fn false_one(lit: Lit, value: bool) -> Lit
     ensures { result ≡ record { var = lit.var; positive = differ lit.positive value } }
 {
     Lit {
