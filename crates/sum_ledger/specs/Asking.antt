@@ -1,5 +1,5 @@
 -- What constraints on sums imply.
-use Rattle.std.specs.Prelude.{ℕ, Bool, Option, List, All, Any, ◌⊎◌}
+use Rattle.std.specs.Prelude.{◌≡◌, ℕ, Bool, Option, Some, List, All, Any, slice_get, ◌⊎◌}
 use Rattle.lit_core.specs.declared.literals.Lit.{Lit}
 use Rattle.lit_core.specs.Truth.{IsFalsified, IsSatisfied, IsUnitAt}
 use Rattle.ground_core.specs.declared.parts.AggCon.{AggCon}
@@ -15,3 +15,10 @@ pub record IsOf (s : AggCon) (c : List Lit) : Type 0 where
 pub record IsImplied (sums : List AggCon) (a : List (Option Bool)) (c : List Lit) : Type 0 where
   pub acts : IsFalsified a c ⊎ ((l : Lit) × IsUnitAt a c l)
   pub by : Any (λ s. IsOf s c) sums
+
+-- the same, by the constraint at this place
+pub record IsImpliedAt (sums : List AggCon) (a : List (Option Bool)) (place : ℕ) (c : List Lit) : Type 0 where
+  pub acts : IsFalsified a c ⊎ ((l : Lit) × IsUnitAt a c l)
+  pub sum : AggCon
+  pub there : slice_get sums place ≡ Some sum
+  pub by : IsOf sum c

@@ -2,13 +2,14 @@
 ghost use Rattle.std.specs.Prelude.{All, IfOk, IfSome};
 ghost use Rattle.clause_store.specs.StoreState.{IsStore};
 ghost use Rattle.aggregate_propagators.specs.Implied.{IsWithin};
-ghost use Rattle.sum_ledger.specs.Asking.{IsImplied};
+ghost use Rattle.sum_ledger.specs.Asking.{IsImpliedAt};
 
 use crate::accounts::Account;
+use crate::consequences::Consequence;
 use aggregate_propagators::{gain_of, implied, threshold_of};
 use clause_store::Store;
 use ground_core::{AggCon, Memory};
-use lit_core::{Clause, Lit};
+use lit_core::Lit;
 use std::alloc::Global;
 
 /// A place where a variable stands in a constraint.
@@ -209,10 +210,10 @@ impl Ledger {
         sums: &[AggCon],
         store: &Store,
         place: usize,
-    ) -> Result<Option<Clause>, Memory>
+    ) -> Result<Option<Consequence>, Memory>
         requires laws { IsStore store.now }
         requires within { All (IsWithin store.now.trail.values) sums.now }
-        ensures { IfOk result (λ o. IfSome o (IsImplied sums.now store.now.trail.values)) }
+        ensures { IfOk result (λ o. IfSome o (λ found. IsImpliedAt sums.now store.now.trail.values found.place found.clause)) }
     {
         let Some(account) = self.accounts.get_mut(place) else {
             return Ok(None);
@@ -225,23 +226,23 @@ impl Ledger {
             Some(clause) => {
                 // It may imply more.
                 self.wake(place);
-                Ok(Some(clause))
+                Ok(Some(Consequence { place, clause }))
             }
             None => Ok(None),
         }
     }
 
-    /// A clause that one of the constraints implies, and that is false now or has one literal left; None where none was
-    /// found among those that changed.
+    /// A clause that one of the constraints implies, and that is false now or has one literal left, with the constraint's
+    /// place; None where none was found among those that changed.
     pub fn ask(
         &mut self,
         alloc: Global,
         sums: &[AggCon],
         store: &Store,
-    ) -> Result<Option<Clause>, Memory>
+    ) -> Result<Option<Consequence>, Memory>
         requires laws { IsStore store.now }
         requires within { All (IsWithin store.now.trail.values) sums.now }
-        ensures { IfOk result (λ o. IfSome o (IsImplied sums.now store.now.trail.values)) }
+        ensures { IfOk result (λ o. IfSome o (λ found. IsImpliedAt sums.now store.now.trail.values found.place found.clause)) }
     {
         if self.accounts.is_empty() {
             return Ok(None);
@@ -251,8 +252,8 @@ impl Ledger {
             let Some(place) = self.waiting.pop() else {
                 return Ok(None);
             };
-            if let Some(clause) = self.ask_one(alloc, sums, store, place)? {
-                return Ok(Some(clause));
+            if let Some(found) = self.ask_one(alloc, sums, store, place)? {
+                return Ok(Some(found));
             }
         }
         Ok(None)

@@ -2,8 +2,10 @@
 #![tactic(auto)]
 
 mod accounts;
+mod consequences;
 mod ledger;
 mod scan;
 
+pub use consequences::Consequence;
 pub use ledger::Ledger;
 pub use scan::first_implied;

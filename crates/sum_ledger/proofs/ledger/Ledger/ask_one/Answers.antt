@@ -1,4 +1,5 @@
-use Rattle.std.proofs.Common.{◌⊎◌, ℕ, Bool, Option, List, All, IfSome, sym, subst}
+use Rattle.std.proofs.Common.{◌⊎◌, ℕ, Bool, Option, Some, List, All, IfSome, sym, ap, ◌∙◌, subst}
+use Rattle.std.proofs.lemmas.Option.{slice_get-get_or}
 use Rattle.lit_core.specs.declared.literals.Lit.{Lit}
 use Rattle.lit_core.specs.Truth.{IsFalsified, IsSatisfied, IsUnitAt}
 use Rattle.ground_core.specs.declared.parts.AggCon.{AggCon}
@@ -15,16 +16,13 @@ returns-in-Some-2 c =
     record {
       acts = subst (λ (xs : List (Option Bool)). acts xs clause) c.assignment-2.ensures.value
           (subst (λ (o : Option (List Lit)). IfSome o (acts c.assignment-2.result.now)) is c.in_ok-clause.ensures.acts);
-      by = (
-        c.args.place,
-        s,
-        c.if-place-sums.false,
-        sym c.index-sums-place.is,
-        record {
-          holds = subst (λ (o : Option (List Lit)). IfSome o (λ cl. (v : ℕ → Bool) → SumHolds v s → IsSatisfied v cl))
-              is c.in_ok-clause.ensures.holds;
-          variables = subst (λ (o : Option (List Lit)). IfSome o (All (λ l. IsOfSum l s))) is
-              c.in_ok-clause.ensures.variables;
-        },
-      );
+      sum = s;
+      there = slice_get-get_or c.args.sums.now c.args.place s c.if-place-sums.false
+          ∙ ap Some (sym c.index-sums-place.is);
+      by = record {
+        holds = subst (λ (o : Option (List Lit)). IfSome o (λ cl. (v : ℕ → Bool) → SumHolds v s → IsSatisfied v cl))
+            is c.in_ok-clause.ensures.holds;
+        variables = subst (λ (o : Option (List Lit)). IfSome o (All (λ l. IsOfSum l s))) is
+            c.in_ok-clause.ensures.variables;
+      };
     }
