@@ -5,6 +5,7 @@ ghost use Rattle.lit_core.specs.Literals.{value_in};
 ghost use Rattle.clause_store.specs.StoreState.{IsStore};
 ghost use Rattle.search_decisions.specs.Scores.{AreListed, AreListedFirst, HaveValues, IsOpenBetween, Raises};
 
+use crate::costs::Costs;
 use crate::order::Order;
 use crate::phases::Phases;
 use crate::scores::Scores;
@@ -20,6 +21,8 @@ use std::alloc::Global;
 pub struct Decider {
     /// What decides the sign.
     pub phases: Phases,
+    /// What decides it where a term is to be small.
+    pub costs: Costs,
     /// What the rule chooses from.
     pub scores: Scores,
     /// The ground atoms by falling score.
@@ -33,6 +36,7 @@ impl Decider {
     pub fn new(alloc: Global) -> Decider {
         Decider {
             phases: Phases::new(alloc),
+            costs: Costs::new(alloc),
             scores: Scores::new(alloc),
             atoms: Order::new(alloc),
             others: Order::new(alloc),
@@ -157,8 +161,27 @@ impl Decider {
             return Ok(None);
         };
         let var = Var(number);
-        let positive = self.phases.sign(problem, store.assignment(), var, salt);
+        let positive = self.sign(problem, store.assignment(), var, salt);
         Ok(Some(Lit { var, positive }))
+    }
+
+    /// The sign of a decision: the cheaper value, or else the one that was seen least.
+    fn sign(
+        &mut self,
+        problem: &KeptProblem,
+        assignment: &Assignment,
+        var: Var,
+        salt: u64,
+    ) -> bool {
+        self.costs.look(problem, assignment);
+        let choice = match self.phases.choice_of(var) {
+            Some(place) => Some(problem.clause(place)),
+            None => None,
+        };
+        match self.costs.sign(assignment, choice, var) {
+            Some(positive) => positive,
+            None => self.phases.sign(problem, assignment, var, salt),
+        }
     }
 
     /// Begins a search, in which nothing is decided.

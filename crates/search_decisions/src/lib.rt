@@ -1,11 +1,13 @@
 //! What a search decides next: which variable, by a rule over scores, and with which sign.
 #![tactic(auto)]
 
+mod costs;
 mod decider;
 mod order;
 mod phases;
 mod scores;
 
+pub use costs::Costs;
 pub use decider::Decider;
 pub use order::Order;
 pub use phases::{First, Phases};

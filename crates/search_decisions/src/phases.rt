@@ -223,7 +223,7 @@ impl Phases {
     }
 
     /// The place of the first choice that has the variable.
-    fn choice_of(&self, var: Var) -> Option<usize>
+    pub fn choice_of(&self, var: Var) -> Option<usize>
         ensures { result ≡ choice_of self.now var.0 }
     {
         match self.choices.get(var.0 as usize) {
