@@ -2,3 +2,4 @@ pub mod Numbers
 pub mod NumberFields
 pub mod Tables
 pub mod Unknown
+pub mod Laws
