@@ -4,6 +4,7 @@ use Rattle.std.proofs.Common.{get_or, refl, sym, ap, ◌∙◌, subst, ◌⊎◌
 use Rattle.std.proofs.Common.{Contains}
 use Rattle.std.specs.Prelude.{Result, Ok, Err, IfOk, OnErr}
 use Rattle.std.proofs.lemmas.List.Elements.{All-weaker}
+use Rattle.std.proofs.lemmas.Option.{get_or_from_slice_get, slice_get_within}
 use Rattle.kb_logic.specs.declared.elements.ExtInt.{ExtInt}
 use Rattle.lit_core.specs.declared.literals.Lit.{Lit}
 use Rattle.lit_core.specs.Literals.{literal_value, negated}
@@ -19,7 +20,7 @@ use Rattle.ground_core.specs.GateClauses.{clauses_of}
 use Rattle.ground_core.specs.Solving.{IsLearnt}
 use Rattle.ground_core.proofs.GrowthFacts.{bound-problem, bound-restricts}
 use Rattle.kept_problem.proofs.JoinLaws.{lits-wider}
-use Rattle.term_bounds.specs.Breaking.{AreOnTerms, HasLits, IsBrokenBy, IsOfBounds}
+use Rattle.term_bounds.specs.Breaking.{AreOnTerms, HasLits, IsBrokenAt, IsBrokenBy, IsOfBounds}
 use Rattle.search_engine.specs.declared.engine.Engine.{Engine}
 use Rattle.search_engine.specs.Knowledge.{IsOfConstraint, IsOfSum, IsConstrained, Occurs, Knows}
 use Rattle.search_engine.specs.Resting.{Bounds, IsResting, Reserves, SameLists, Stays, held_of}
@@ -116,6 +117,7 @@ with_problem e q = record {
   moments = e.moments;
   decider = e.decider;
   ledger = e.ledger;
+  log = e.log;
   searches = e.searches;
   known = e.known;
   conflicts = e.conflicts;
@@ -172,6 +174,21 @@ lits-below p n fine sized = (
   (λ k d lt. let high : (get_or p.bounds k d).out.var.0 ≤ p.vars = (fine.bounds k d lt).0.1 in
       omega (arith, high, sized)),
 )
+
+-- the bound at a place is one of them
+pub broken-somewhere : (ts : List GroundTerm) (bs : List TermBound) (a : List (Option Bool)) (place : ℕ) (c : List Lit)
+    → IsBrokenAt ts bs a place c → IsBrokenBy ts bs a c
+broken-somewhere ts bs a place c h = record {
+  falsified = h.falsified;
+  implied = (
+    place,
+    h.bound,
+    slice_get_within bs place h.bound h.there,
+    get_or_from_slice_get bs place h.bound h.bound h.there,
+    h.implied,
+  );
+  within = h.within;
+}
 
 -- a clause that a bound implies, which is false
 pub broken-explained : (e : Engine) → IsSearch e → (c : List Lit)

@@ -23,3 +23,5 @@ pub mod Removed
 pub mod BoundFacts
 pub mod Explained
 pub mod SumFacts
+pub mod LogFacts
+pub mod BoundingFacts

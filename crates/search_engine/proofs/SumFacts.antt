@@ -3,6 +3,7 @@ use Rattle.std.proofs.Common.{◌≡◌, ℕ, ◌+◌, ◌<◌, ◌≤◌, Bool,
 use Rattle.std.proofs.Common.{sym, ap, subst, ◌⊎◌, inl, inr, ⊎_elim, arith, All, Any, Contains}
 use Rattle.std.specs.Prelude.{IfSome, IsSome}
 use Rattle.std.proofs.lemmas.List.Elements.{All-weaker, All-contains}
+use Rattle.std.proofs.lemmas.Option.{get_or_from_slice_get, slice_get_within}
 use Rattle.lit_core.specs.declared.literals.Lit.{Lit}
 use Rattle.lit_core.specs.Literals.{value_in, by_sign_if_any}
 use Rattle.lit_core.specs.Truth.{IsFalsified, IsUnitAt}
@@ -11,7 +12,8 @@ use Rattle.ground_core.specs.declared.parts.AggCon.{AggCon}
 use Rattle.ground_core.specs.declared.parts.Part.{Part}
 use Rattle.ground_core.specs.Problems.{ProblemState, IsProblem, IsLitOf, IsSumOf}
 use Rattle.aggregate_propagators.specs.Implied.{IsOfSum, IsWithin}
-use Rattle.sum_ledger.specs.Asking.{IsImplied}
+use Rattle.sum_ledger.specs.declared.consequences.Consequence.{Consequence}
+use Rattle.sum_ledger.specs.Asking.{IsImplied, IsImpliedAt}
 use Rattle.search_decisions.specs.Scores.{HaveValues}
 use Rattle.sum_ledger.specs.declared.ledger.Ledger.{Ledger}
 use Rattle.search_engine.specs.declared.engine.Engine.{Engine}
@@ -31,7 +33,7 @@ sums-within p xs fine sized = All-weaker (IsSumOf p.vars) (IsWithin xs)
           (λ t lit. let high : t.lit.var.0 ≤ p.vars = lit.1 in omega (arith, high, sized)) s.parts of.1,
     )) p.sums fine.sums
 
-lit-of : (n : ℕ) (l m : Lit) → m.var.0 ≡ l.var.0 → IsLitOf n m → IsLitOf n l
+pub lit-of : (n : ℕ) (l m : Lit) → m.var.0 ≡ l.var.0 → IsLitOf n m → IsLitOf n l
 lit-of n l m same is = subst (λ (k : ℕ). (1 ≤ k) × (k ≤ n)) same is
 
 sum-lit : (n : ℕ) (s : AggCon) (l : Lit) → IsSumOf n s → IsOfSum l s → IsLitOf n l
@@ -143,12 +145,30 @@ module _ (e : Engine) (h : IsSearch e) (lits k : List Lit) (s : StoreState)
   followed-implies l has none = unit-explained e h lits k s why once is laws l (acts-unit e.store.trail.values lits
       implied.acts l has (subst (λ (xs : List (Option Bool)). value_in xs l ≡ None) same-values none))
 
+-- the constraint at a place is one of them
+implied-somewhere : (sums : List AggCon) (a : List (Option Bool)) (place : ℕ) (c : List Lit)
+    → IsImpliedAt sums a place c → IsImplied sums a c
+implied-somewhere sums a place c h = record {
+  acts = h.acts;
+  by = (
+    place,
+    h.sum,
+    slice_get_within sums place h.sum h.there,
+    get_or_from_slice_get sums place h.sum h.sum h.there,
+    h.by,
+  );
+}
+
 -- what was found is implied by the problem's own constraints
-pub implied-here : (ss sums : List AggCon) (xs values : List (Option Bool)) (o : Option (List Lit)) (c : List Lit)
-    → ss ≡ sums → xs ≡ values → o ≡ Some c → IfSome o (IsImplied ss xs) → IsImplied sums values c
-implied-here ss sums xs values o c a b is h =
-    let found : IsImplied ss xs c = subst (λ (p : Option (List Lit)). IfSome p (IsImplied ss xs)) is h in
-    subst (λ (t : List AggCon). IsImplied t values c) a (subst (λ (t : List (Option Bool)). IsImplied ss t c) b found)
+pub implied-here : (ss sums : List AggCon) (xs values : List (Option Bool)) (o : Option Consequence) (f : Consequence)
+    → ss ≡ sums → xs ≡ values → o ≡ Some f → IfSome o (λ (g : Consequence). IsImpliedAt ss xs g.place g.clause)
+    → IsImplied sums values f.clause
+implied-here ss sums xs values o f a b is h =
+    let found : IsImpliedAt ss xs f.place f.clause = subst (λ (p : Option Consequence).
+    IfSome p (λ (g : Consequence). IsImpliedAt ss xs g.place g.clause)) is h in
+    let one : IsImplied ss xs f.clause = implied-somewhere ss xs f.place f.clause found in
+    subst (λ (t : List AggCon). IsImplied t values f.clause) a
+    (subst (λ (t : List (Option Bool)). IsImplied ss t f.clause) b one)
 
 -- where all variables have values it is false
 pub implied-false : (e : Engine) → IsSearch e → (end : ℕ) (c : List Lit) → HaveValues e.store.trail.values 1 end

@@ -169,6 +169,10 @@ pub record IsExplained (p : ProblemState) (c : List Lit) : Type 0 where
   pub occurs : All (Occurs p) c
   pub constraint : IsOfConstraint p c
 
+-- each of the literals with the reasons is such a clause
+abbrev pub AreExplained : ProblemState → List Lit → List Lit → Type 0
+AreExplained p reasons lits = All (λ l. IsExplained p (l ∷ reasons)) lits
+
 -- no value of a variable alone contradicts a constraint on sums
 abbrev pub AreQuietSums : Engine → Type 0
 AreQuietSums e = All (IsQuietSum (assigned e.store.trail.values)) e.problem.sums

@@ -1,17 +1,20 @@
 //! Learning from conflicts.
 ghost use Rattle.std.specs.Prelude.{◌≡◌, ℕ, ◌+◌, ◌≤◌, Some, None, length, IfOk, OnOk, MatchOption};
 ghost use Rattle.clause_store.specs.StoreState.{IsConflict, IsQuiet};
-ghost use Rattle.search_engine.specs.Searching.{Continues, Extends, IsFirstAssigned, IsFirstOpen, IsLesson, IsSearch};
+ghost use Rattle.search_engine.specs.Searching.{Continues, Extends, IsFirstAssigned, IsFirstOpen, IsLesson, IsLevelOf};
+ghost use Rattle.search_engine.specs.Searching.{IsSearch};
 ghost use Rattle.search_engine.specs.Searching.{KeepsAssumed, LessonGives, SameCounts, SettleGives, StandsAt};
 ghost use Rattle.search_engine.specs.Searching.{TurnGives};
 
 use crate::levels::conflict_level;
+use crate::noting::note_refuted;
 use clause_store::Store;
-use conflict_analysis::analyse;
+use conflict_analysis::{Analysis, analyse};
 use ground_core::{Memory, Moment};
 use kept_problem::KeptProblem;
 use lit_core::{ClauseList, Lit};
 use search_decisions::Decider;
+use search_log::SearchLog;
 use std::alloc::Global;
 use sum_ledger::Ledger;
 
@@ -40,6 +43,8 @@ pub struct Engine {
     pub decider: Decider,
     /// Which constraints on sums are asked.
     pub ledger: Ledger,
+    /// What is stated of the problem on the way, where that is asked for.
+    pub log: SearchLog,
     /// How many searches were begun.
     pub searches: u64,
     /// How many clauses had been learnt when the search began.
@@ -57,10 +62,24 @@ pub struct Engine {
 }
 
 impl Engine {
+    /// States that the problem is refuted by a clause that is false at level 0, and goes back to there.
+    fn refute(&mut self, conflict: u64) -> Result<(), Memory>
+        requires search { IsSearch self.old }
+        requires level { IsLevelOf self.old.store conflict 0 }
+        ensures search { IsSearch self.new }
+        ensures same { Continues self.old self.new }
+        ensures decisions { KeepsAssumed self.old.store.trail.steps self.new.store.trail.steps }
+        ensures learnt { self.new.learnt ≡ self.old.learnt }
+        ensures counts { SameCounts self.old self.new }
+    {
+        self.store.back_to(0);
+        note_refuted(self.alloc, &mut self.log, &self.store, conflict)
+    }
+
     /// Learns from a false clause, and goes back to where the learnt clause is unit.
     ///
     /// The false clause may be false at a lower level already.
-    fn learn_from(&mut self, conflict: u64) -> Result<Option<Vec<Lit>>, Memory>
+    fn learn_from(&mut self, conflict: u64) -> Result<Option<Analysis>, Memory>
         requires search { IsSearch self.old }
         requires conflict { IsConflict self.old.store conflict }
         requires unrefuted { self.old.root_conflicts ≡ 0 }
@@ -71,11 +90,12 @@ impl Engine {
         ensures assumed { self.new.assumed ≡ 0 }
         ensures learnt { self.new.learnt ≡ self.old.learnt }
         ensures lesson { IfOk result (λ lesson. MatchOption lesson (LessonGives self.old self.new None)
-            (λ c. LessonGives self.old self.new (Some c.items))) }
+            (λ a. LessonGives self.old self.new (Some a.clause.items))) }
     {
         let level = conflict_level(&self.store, conflict);
         self.assumed = 0;
         if level == 0 {
+            self.refute(conflict)?;
             self.root_conflicts += 1;
             return Ok(None);
         }
@@ -88,11 +108,11 @@ impl Engine {
         self.decider.takes_back(&self.store, analysis.level);
         self.ledger.take_back(&self.store, analysis.level);
         self.store.back_to(analysis.level);
-        Ok(Some(analysis.clause))
+        Ok(Some(analysis))
     }
 
-    /// Holds a clause that is unit, and makes its first literal true.
-    fn learn(&mut self, clause: &[Lit]) -> Result<(), Memory>
+    /// Holds a clause that is unit and follows in order from held ones, and makes its first literal true.
+    fn learn(&mut self, clause: &[Lit], hints: &[u64]) -> Result<(), Memory>
         requires search { IsSearch self.old }
         requires quiet { IsQuiet self.old.store }
         requires lesson { IsLesson self.old clause.now }
@@ -107,6 +127,7 @@ impl Engine {
         self.store.reserve_clause(clause.len())?;
         self.ids.reserve(1)?;
         self.moments.reserve(1)?;
+        self.log.learnt(self.store.len() as u64, clause, hints)?;
         self.learnt.push(clause)?;
         let _count = self.learnt.len();
         let id = match self.store.push_clause(clause) {
@@ -120,7 +141,7 @@ impl Engine {
     }
 
     /// Learns the clause, unless its first literal has got a value.
-    fn learn_if_open(&mut self, clause: &[Lit]) -> Result<(), Memory>
+    fn learn_if_open(&mut self, clause: &[Lit], hints: &[u64]) -> Result<(), Memory>
         requires search { IsSearch self.old }
         requires quiet { IsQuiet self.old.store }
         requires lesson { IsLesson self.old clause.now }
@@ -133,7 +154,7 @@ impl Engine {
     {
         match self.store.assignment().value(clause[0]) {
             Some(_) => Ok(()),
-            None => self.learn(clause),
+            None => self.learn(clause, hints),
         }
     }
 
@@ -153,7 +174,7 @@ impl Engine {
         ensures one { length self.new.learnt ≤ length self.old.learnt + 1 }
         ensures turn { IfOk result (TurnGives self.old self.new) }
     {
-        let Some(clause) = self.learn_from(conflict)? else {
+        let Some(analysis) = self.learn_from(conflict)? else {
             return Ok(Turn::Refuted);
         };
         // Without the clause first: what is false then is learnt from in its turn, and only where nothing
@@ -161,7 +182,7 @@ impl Engine {
         match self.store.propagate() {
             Some(next) => Ok(Turn::Conflict(next)),
             None => {
-                self.learn_if_open(&clause)?;
+                self.learn_if_open(&analysis.clause, &analysis.hints)?;
                 Ok(Turn::Follows)
             }
         }

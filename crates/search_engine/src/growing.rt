@@ -7,8 +7,10 @@ ghost use Rattle.ground_core.specs.Selectors.{AreSelectors};
 ghost use Rattle.kept_problem.specs.Joining.{CanJoin, with_selected};
 ghost use Rattle.search_engine.specs.Resting.{Bounds, Excludes, Grows, IsHalfDone, IsNew, IsResting, KeepsProblem};
 ghost use Rattle.search_engine.specs.Resting.{Reserves, SameSearches, Stays};
+ghost use Rattle.search_log.specs.Entries.{Grows as Says};
 
 use crate::engine::Engine;
+use crate::noting::{note_bound, note_exclusion};
 use crate::pushing::{push_problem, remove_all, remove_from};
 use clause_store::Store;
 use ground_core::{Memory, Problem, exclusion};
@@ -16,6 +18,7 @@ use kb_logic::ExtInt;
 use kept_problem::KeptProblem;
 use lit_core::{ClauseList, Lit, Values, Var};
 use search_decisions::Decider;
+use search_log::SearchLog;
 use std::alloc::Global;
 use sum_ledger::Ledger;
 
@@ -24,6 +27,7 @@ impl Engine {
     pub fn new(alloc: Global) -> Result<Engine, Memory>
         ensures resting { IfOk result IsResting }
         ensures empty { IfOk result IsNew }
+        ensures unsaid { IfOk result (λ e. e.log.entries ≡ []) }
     {
         let mut store = Store::new(alloc)?;
         store.reserve_vars(1)?;
@@ -36,6 +40,7 @@ impl Engine {
             ids: Vec::new(alloc),
             decider: Decider::new(alloc),
             ledger: Ledger::new(alloc),
+            log: SearchLog::new(alloc),
             searches: 0,
             known: 0,
             conflicts: 0,
@@ -57,6 +62,7 @@ impl Engine {
         ensures resting { OnOk result (IsResting self.new) }
         ensures ok { OnOk result (Grows self.old more.now self.new) }
         ensures err { OnErr result (IsHalfDone self.old self.new) }
+        ensures log { self.new.log ≡ self.old.log }
     {
         push_problem(self.alloc, &mut self.store, more)?;
         self.problem.join(self.alloc, more)
@@ -68,6 +74,7 @@ impl Engine {
         requires { IsResting self.old }
         ensures resting { IsResting self.new }
         ensures same { KeepsProblem self.old self.new }
+        ensures log { self.new.log ≡ self.old.log }
     {
         let _ = self.store.propagate();
     }
@@ -78,6 +85,7 @@ impl Engine {
         requires resting { IsResting self.old }
         ensures resting { IsResting self.new }
         ensures same { Stays self.old self.new }
+        ensures log { self.new.log ≡ self.old.log }
     {
         self.store.clear();
         let packed = self.store.pack();
@@ -93,6 +101,7 @@ impl Engine {
         ensures resting { IsResting self.new }
         ensures ok { OnOk result (Grows self.old more.now self.new) }
         ensures err { OnErr result (Stays self.old self.new) }
+        ensures log { self.new.log ≡ self.old.log }
     {
         let Some(count) = more.vars().checked_add(1) else {
             return Err(Memory);
@@ -120,6 +129,7 @@ impl Engine {
         ensures resting { IsResting self.new }
         ensures reserves { Reserves self.old self.new }
         ensures ok { OnOk result (count ≤ length self.new.store.trail.values) }
+        ensures log { self.new.log ≡ self.old.log }
     {
         self.decider.reserve(count as usize)?;
         self.store.reserve_vars(count)?;
@@ -135,6 +145,7 @@ impl Engine {
         ensures ok { OnOk result ((self.new.problem ≡ with_selected self.old.problem clause.now)
             × SameSearches self.old self.new) }
         ensures err { OnErr result (Stays self.old self.new) }
+        ensures log { self.new.log ≡ self.old.log }
     {
         self.store.reserve_clause(clause.len())?;
         self.problem.add_selected(clause)?;
@@ -151,6 +162,29 @@ impl Engine {
         ensures resting { IsResting self.new }
         ensures ok { IfOk result (λ out. (out ≡ next_lit self.old.problem) × Excludes self.old values.now self.new) }
         ensures err { OnErr result (Stays self.old self.new) }
+        ensures says { Says self.old.log.entries self.new.log.entries }
+        ensures unsaid { OnErr result (self.new.log.entries ≡ self.old.log.entries) }
+    {
+        let mark = self.log.mark();
+        let id = self.store.len() as u64;
+        note_exclusion(self.alloc, &mut self.log, &self.problem, id, values)?;
+        match self.hold_exclusion(values) {
+            Ok(out) => Ok(out),
+            Err(error) => {
+                self.log.back_to(mark);
+                Err(error)
+            }
+        }
+    }
+
+    /// Holds the clause of a new selector under which the ground atoms differ from these values somewhere.
+    fn hold_exclusion(&mut self, values: &Values) -> Result<Lit, Memory>
+        requires resting { IsResting self.old }
+        requires atoms { length self.old.problem.atoms < length values.now }
+        ensures resting { IsResting self.new }
+        ensures ok { IfOk result (λ out. (out ≡ next_lit self.old.problem) × Excludes self.old values.now self.new) }
+        ensures err { OnErr result (Stays self.old self.new) }
+        ensures log { self.new.log ≡ self.old.log }
     {
         let Some(var) = self.problem.vars().checked_add(1) else {
             return Err(Memory);
@@ -169,14 +203,35 @@ impl Engine {
         Ok(out)
     }
 
-    /// Adds a selector under which the term is below the number. No clause is held for it: a search looks
-    /// whether bounds hold.
+    /// Adds a selector under which the term is below the number.
     pub fn bound(&mut self, term: u32, below: ExtInt) -> Result<Lit, Memory>
         requires resting { IsResting self.old }
         requires term { term < length self.old.problem.terms }
         ensures resting { IsResting self.new }
         ensures ok { IfOk result (λ out. (out ≡ next_lit self.old.problem) × Bounds self.old term below self.new) }
         ensures err { OnErr result (Stays self.old self.new) }
+        ensures says { Says self.old.log.entries self.new.log.entries }
+        ensures unsaid { OnErr result (self.new.log.entries ≡ self.old.log.entries) }
+    {
+        let mark = self.log.mark();
+        note_bound(&mut self.log, &self.problem, term, below)?;
+        match self.hold_bound(term, below) {
+            Ok(out) => Ok(out),
+            Err(error) => {
+                self.log.back_to(mark);
+                Err(error)
+            }
+        }
+    }
+
+    /// Keeps a bound under a new selector. No clause is held for it: a search looks whether bounds hold.
+    fn hold_bound(&mut self, term: u32, below: ExtInt) -> Result<Lit, Memory>
+        requires resting { IsResting self.old }
+        requires term { term < length self.old.problem.terms }
+        ensures resting { IsResting self.new }
+        ensures ok { IfOk result (λ out. (out ≡ next_lit self.old.problem) × Bounds self.old term below self.new) }
+        ensures err { OnErr result (Stays self.old self.new) }
+        ensures log { self.new.log ≡ self.old.log }
     {
         let Some(var) = self.problem.vars().checked_add(1) else {
             return Err(Memory);
@@ -200,6 +255,7 @@ impl Engine {
         ensures selectors { AreSelectors self.new.problem.retired }
         ensures same { SameSearches self.old self.new }
         ensures held { self.new.store ≡ self.old.store }
+        ensures log { self.new.log ≡ self.old.log }
     {
         self.problem.retire(selector);
         // What is known of retired selectors comes with this.
@@ -216,7 +272,9 @@ impl Engine {
         ensures searches { self.new.searches ≡ self.old.searches }
         ensures conflicts { self.new.conflicts ≡ self.old.conflicts }
         ensures root_conflicts { self.new.root_conflicts ≡ self.old.root_conflicts }
+        ensures entries { self.new.log.entries ≡ self.old.log.entries }
     {
+        self.log.forget();
         // Where nothing was learnt the store may keep its watches.
         if self.ids.is_empty() {
             return;

@@ -2,11 +2,13 @@
 //! under assumptions, and learns clauses from its conflicts.
 #![tactic(auto)]
 
+mod bounding;
 mod cores;
 mod engine;
 mod growing;
 mod levels;
 mod lit_sets;
+mod noting;
 mod pushing;
 mod searching;
 mod summing;

@@ -16,6 +16,7 @@ ghost use Rattle.search_decisions.specs.Scores.{HaveValues};
 
 use crate::cores::core_of;
 use crate::engine::Engine;
+use crate::noting::note_refuted;
 use chooser::Choose;
 use clause_store::Store;
 use conflict_analysis::final_core;
@@ -106,6 +107,7 @@ impl Engine {
         }
         let refuted = final_core(self.alloc, &self.store, lit)?;
         let core = core_of(self.alloc, assume, lit, &refuted.lits)?;
+        self.log.refute(core.as_slice(), &refuted.hints)?;
         Ok(Outcome::Answered(Verdict::Unsat(core)))
     }
 
@@ -251,9 +253,18 @@ impl Engine {
     {
         let terms = self.problem.terms();
         let bounds = self.problem.bounds();
+        // Constraints are counted from 1: those on sums, and then the bounds.
+        let sum_count = self.problem.sums().len() as u64;
         match broken(self.alloc, terms, bounds, self.store.assignment()) {
             Ok(None) => self.decide_next(rule, assume, most),
-            Ok(Some(clause)) => self.settle_broken(&clause, most),
+            Ok(Some(found)) => {
+                let number = sum_count + found.place as u64 + 1;
+                let id = self.store.len() as u64;
+                if self.log.implied(id, number, &found.clause).is_err() {
+                    return Err(Halt::Memory);
+                }
+                self.settle_broken(&found.clause, most)
+            }
             Err(_) => Err(Halt::Memory),
         }
     }
@@ -347,6 +358,7 @@ impl Engine {
         ensures searches { self.new.searches ≡ counted (self.old.searches + 1) }
         ensures conflicts { self.new.conflicts ≡ 0 }
         ensures root_conflicts { self.new.root_conflicts ≡ 0 }
+        ensures log { self.new.log ≡ self.old.log }
     {
         self.searches = self.searches.saturating_add(1);
         self.conflicts = 0;
@@ -360,6 +372,7 @@ impl Engine {
         ensures resting { IsResting self.new }
         ensures same { KeepsProblem self.old self.new }
         ensures closed { OnOk result (self.new.closed ≡ self.old.closed + 1) }
+        ensures log { self.new.log ≡ self.old.log }
     {
         // So the sum below fits.
         let _count = self.problem.retired_count();
@@ -375,6 +388,7 @@ impl Engine {
         ensures resting { IsResting self.new }
         ensures same { KeepsProblem self.old self.new }
         ensures closed { OnOk result (self.new.closed ≡ length self.new.problem.retired) }
+        ensures log { self.new.log ≡ self.old.log }
     {
         while self.closed < self.problem.retired_count() {
             self.close_next()?;
@@ -397,7 +411,10 @@ impl Engine {
         self.base = self.store.trail().len();
         match conflict {
             None => Ok(true),
-            Some(_) => Ok(false),
+            Some(conflict) => {
+                note_refuted(self.alloc, &mut self.log, &self.store, conflict)?;
+                Ok(false)
+            }
         }
     }
 

@@ -57,7 +57,7 @@ impl Engine {
         }
     }
 
-    /// Holds what the constraints on sums imply, one clause at a time; where they imply nothing, assumes further.
+    /// Holds what the constraints on sums imply, one clause at a time; where they imply nothing, asks the bounds.
     ///
     /// They are asked before each assumption and each decision: what follows then has a literal that became false at
     /// the level where it follows, and the store need not watch its clauses anew.
@@ -78,8 +78,13 @@ impl Engine {
         // What is known of the problem comes with this.
         let sums = self.problem.sums();
         match self.ledger.ask(self.alloc, sums, &self.store)? {
-            None => self.advance(assume),
-            Some(clause) => self.follow(clause.as_slice(), most),
+            None => self.infer_bounds(assume, most),
+            Some(found) => {
+                let id = self.store.len() as u64;
+                let number = found.place as u64 + 1;
+                self.log.implied(id, number, found.clause.as_slice())?;
+                self.follow(found.clause.as_slice(), most)
+            }
         }
     }
 
@@ -136,7 +141,15 @@ impl Engine {
             return Err(Halt::Memory);
         };
         match found {
-            Some(clause) => self.settle_broken(clause.as_slice(), most),
+            Some(found) => {
+                let number = found.place as u64 + 1;
+                let id = self.store.len() as u64;
+                let noted = self.log.implied(id, number, found.clause.as_slice());
+                if noted.is_err() {
+                    return Err(Halt::Memory);
+                }
+                self.settle_broken(found.clause.as_slice(), most)
+            }
             None => match self.answer(assume, end) {
                 Ok(verdict) => Ok(Some(verdict)),
                 Err(_) => Err(Halt::Memory),

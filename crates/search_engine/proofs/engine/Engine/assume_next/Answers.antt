@@ -6,6 +6,7 @@ use Rattle.ground_core.specs.Problems.{IsLitOf}
 use Rattle.search_engine.specs.declared.engine.Engine.{Engine}
 use Rattle.search_engine.proofs.AnswerFacts.{core-refuted}
 use Rattle.search_engine.proofs.DecideFacts.{with_store, same-but, decide-goes, decide-search, decide-turn}
+use Rattle.search_engine.proofs.LogFacts.{search-logged, turn-logged}
 use Rattle.search_engine.proofs.engine.Engine.assume_next.Goals as goal
 
 module _ (c : goal.After-assign) where
@@ -47,3 +48,16 @@ returns-clause-answer c =
       core-refuted e c.requires.search c.args.assume.now c.requires.turn.decisions
           c.args.lit c.requires.assumed c.requires.untrue r c.in_ok-refuted.ensures c.in_ok-core.core covers,
     )
+
+-- only the log was written
+pub returns-clause-search : goal.returns-clause-search
+returns-clause-search c = search-logged c.args.self.now c.refute.new.self c.requires.search
+
+pub returns-clause-turn : goal.returns-clause-turn
+returns-clause-turn c = turn-logged c.args.self.now c.refute.new.self c.args.assume.now c.requires.turn
+
+pub returns-in_err-refute-clause-search : goal.returns-in_err-refute-clause-search
+returns-in_err-refute-clause-search c = search-logged c.args.self.now c.refute.new.self c.requires.search
+
+pub returns-in_err-refute-clause-turn : goal.returns-in_err-refute-clause-turn
+returns-in_err-refute-clause-turn c = turn-logged c.args.self.now c.refute.new.self c.args.assume.now c.requires.turn

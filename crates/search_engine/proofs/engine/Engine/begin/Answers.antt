@@ -27,17 +27,31 @@ returns-in-None-clause-begun c =
     ap length c.trail.ensures.value ∙ length-map c.propagate-conflict.new.self.trail.steps (λ (t : Step). t.lit) in
     (c.in-None.ensures.quiet, long, all, omega (arith, few, long))
 
-pub returns-in-Some-clause-resting : goal.returns-in-Some-clause-resting
-returns-in-Some-clause-resting c =
+pub note_refuted-requires-clause-conflict : goal.note_refuted-requires-clause-conflict
+note_refuted-requires-clause-conflict c = c.in-Some.ensures.conflict
+
+pub note_refuted-requires-clause-level : goal.note_refuted-requires-clause-level
+note_refuted-requires-clause-level c = c.propagate-conflict.ensures.same.level ∙ c.close_retired.ensures.resting.level
+
+pub returns-in_err-note_refuted-in-Some-clause-resting : goal.returns-in_err-note_refuted-in-Some-clause-resting
+returns-in_err-note_refuted-in-Some-clause-resting c =
     let h = resting-propagated c.close_retired.new.self c.propagate-conflict.new.self c.close_retired.ensures.resting
     c.propagate-conflict.ensures.same c.propagate-conflict.ensures.laws in
     let mid : Engine = with_store c.close_retired.new.self c.propagate-conflict.new.self in
     resting-same mid _ h (record { same = same-itself mid _ refl refl refl refl refl; ids = refl; closed = refl }) refl
     refl refl c.propagate-conflict.ensures.laws
 
-pub returns-in-Some-clause-begun : goal.returns-in-Some-clause-begun
-returns-in-Some-clause-begun c =
+pub returns-in_ok-note_refuted-in-Some-clause-resting : goal.returns-in_ok-note_refuted-in-Some-clause-resting
+returns-in_ok-note_refuted-in-Some-clause-resting c =
+    let h = resting-propagated c.close_retired.new.self c.propagate-conflict.new.self c.close_retired.ensures.resting
+    c.propagate-conflict.ensures.same c.propagate-conflict.ensures.laws in
+    let mid : Engine = with_store c.close_retired.new.self c.propagate-conflict.new.self in
+    resting-same mid _ h (record { same = same-itself mid _ refl refl refl refl refl; ids = refl; closed = refl }) refl
+    refl refl c.propagate-conflict.ensures.laws
+
+pub returns-in_ok-note_refuted-in-Some-clause-begun : goal.returns-in_ok-note_refuted-in-Some-clause-begun
+returns-in_ok-note_refuted-in-Some-clause-begun c =
     let rest : Engine = c.close_retired.new.self in
     let h = resting-propagated rest c.propagate-conflict.new.self c.close_retired.ensures.resting
     c.propagate-conflict.ensures.same c.propagate-conflict.ensures.laws in
-    rest-refuted (with_store rest c.propagate-conflict.new.self) c.in-Some.field-0 h c.in-Some.ensures.conflict
+    rest-refuted (with_store rest c.propagate-conflict.new.self) c.in-Some.conflict h c.in-Some.ensures.conflict

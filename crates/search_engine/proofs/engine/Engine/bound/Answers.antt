@@ -1,32 +1,36 @@
-use Rattle.std.proofs.Common.{◌≡◌, ◌+◌, ◌<◌, length, ap, subst, sym, arith}
-use Rattle.ground_core.specs.Problems.{ProblemState}
-use Rattle.search_engine.specs.declared.engine.Engine.{Engine}
-use Rattle.search_engine.proofs.BoundFacts.{bounds-if-ok, resting-either, stays-if-err}
+use Rattle.std.proofs.Common.{sym, ◌∙◌, subst}
+use Rattle.search_log.specs.Entries.{AreEntries}
+use Rattle.search_engine.proofs.LogFacts.{bounds-logged, on-err, resting-logged, stays-logged, stays-only, taken-back}
 use Rattle.search_engine.proofs.engine.Engine.bound.Goals as goal
 
-pub returns-clause-resting : goal.returns-clause-resting
-returns-clause-resting c =
-    let m : Engine = c.make_room.new.self in
-    let same : m.problem ≡ c.args.self.now.problem = c.make_room.ensures.reserves.problem in
-    let lt : c.args.term < length m.problem.terms = subst (λ (p : ProblemState). c.args.term < length p.terms)
-    (sym same) c.requires.term in
-    let vars : m.problem.vars ≡ c.args.self.now.problem.vars = ap (λ (p : ProblemState). p.vars) same in
-    let sized : m.problem.vars + 1 < length m.store.trail.values =
-    omega (
-      arith,
-      c.in-Some.ensures,
-      c.in-Some-checked_add.ensures,
-      c.vars.ensures.value,
-      vars,
-      c.in_ok-make_room.ensures.ok,
-    ) in
-    resting-either m c.add_bound.new.self c.args.term c.args.below _ c.add_bound.result lt c.make_room.ensures.resting
-    sized c.add_bound.ensures.ok c.add_bound.ensures.err
+pub returns-in_err-note_bound-clause-resting : goal.returns-in_err-note_bound-clause-resting
+returns-in_err-note_bound-clause-resting c = resting-logged c.args.self.now c.note_bound.new.log c.requires.resting
 
-pub returns-clause-ok : goal.returns-clause-ok
-returns-clause-ok c = bounds-if-ok c.make_room.new.self c.add_bound.new.self c.args.term c.args.below c.args.self.now
-    c.make_room.ensures.reserves c.add_bound.result c.add_bound.ensures.ok
+pub returns-in_err-note_bound-clause-err : goal.returns-in_err-note_bound-clause-err
+returns-in_err-note_bound-clause-err c = on-err c.from_residual.result _ (stays-only c.args.self.now c.note_bound.new.log)
 
-pub returns-clause-err : goal.returns-clause-err
-returns-clause-err c = stays-if-err c.make_room.new.self c.add_bound.new.self c.args.term c.args.below c.args.self.now
-    c.make_room.ensures.reserves c.add_bound.result c.add_bound.ensures.err
+pub hold_bound-requires-clause-resting : goal.hold_bound-requires-clause-resting
+hold_bound-requires-clause-resting c = resting-logged c.args.self.now c.note_bound.new.log c.requires.resting
+
+pub returns-in-Ok-clause-ok : goal.returns-in-Ok-clause-ok
+returns-in-Ok-clause-ok c = (
+  c.in-Ok.ensures.ok.0,
+  bounds-logged c.args.self.now c.note_bound.new.log c.args.term c.args.below c.hold_bound.new.self
+      c.in-Ok.ensures.ok.1,
+)
+
+-- what was written is taken away
+pub back_to-requires : goal.back_to-requires
+back_to-requires c = subst AreEntries (sym (taken-back c.mark-mark.result.len c.args.self.now.log c.note_bound.new.log
+    c.hold_bound.new.self.log c.hold_bound.ensures.log c.note_bound.ensures.grows c.mark-mark.ensures.len)) c.mark-mark.ensures.texts
+
+pub returns-in-Err-clause-resting : goal.returns-in-Err-clause-resting
+returns-in-Err-clause-resting c = resting-logged c.hold_bound.new.self c.back_to.new.self c.hold_bound.ensures.resting
+
+pub returns-in-Err-clause-err : goal.returns-in-Err-clause-err
+returns-in-Err-clause-err c = stays-logged c.args.self.now c.note_bound.new.log c.hold_bound.new.self c.back_to.new.self
+    c.in-Err.ensures.err
+
+pub returns-in-Err-clause-unsaid : goal.returns-in-Err-clause-unsaid
+returns-in-Err-clause-unsaid c = c.back_to.ensures.entries ∙ taken-back c.mark-mark.result.len c.args.self.now.log c.note_bound.new.log
+    c.hold_bound.new.self.log c.hold_bound.ensures.log c.note_bound.ensures.grows c.mark-mark.ensures.len

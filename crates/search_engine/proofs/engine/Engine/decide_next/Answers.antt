@@ -18,6 +18,7 @@ with_choice e s decider = record {
   moments = e.moments;
   decider = decider;
   ledger = e.ledger;
+  log = e.log;
   searches = e.searches;
   known = e.known;
   conflicts = e.conflicts;

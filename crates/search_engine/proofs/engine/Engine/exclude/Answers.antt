@@ -1,26 +1,36 @@
-use Rattle.std.proofs.Common.{◌≡◌, ◌+◌, ◌∷◌, ◌++◌, [], ℕ, List, length, sym, ap, ◌∙◌, subst, arith, true}
-use Rattle.std.proofs.lemmas.List.Elements.{All-contains, Contains-push}
-use Rattle.lit_core.specs.declared.literals.Lit.{Lit}
-use Rattle.lit_core.specs.Literals.{negated}
-use Rattle.ground_core.specs.Problems.{ProblemState, AreLitsOf}
-use Rattle.ground_core.specs.Growth.{falsified_by, next_lit}
-use Rattle.ground_core.proofs.GrowthFacts.{exclusion-problem}
+use Rattle.std.proofs.Common.{sym, ◌∙◌, subst}
+use Rattle.search_log.specs.Entries.{AreEntries}
+use Rattle.search_engine.proofs.LogFacts.{excludes-logged, on-err, resting-logged, stays-logged, stays-only, taken-back}
 use Rattle.search_engine.proofs.engine.Engine.exclude.Goals as goal
 
-pub hold_last-requires-clause-lits : goal.hold_last-requires-clause-lits
-hold_last-requires-clause-lits c =
-    let q : ProblemState = c.make_room.new.self.problem in
-    let vs = c.args.values.now in
-    let e : List Lit = negated (next_lit q) ∷ falsified_by vs (length q.atoms) in
-    let fine = exclusion-problem q vs c.make_room.ensures.resting.engine.problem in
-    let lits : AreLitsOf (q.vars + 1) e = All-contains (AreLitsOf (q.vars + 1)) (q.clauses ++ e ∷ []) e fine.clauses
-    (Contains-push q.clauses e) in
-    let vars : q.vars ≡ c.args.self.now.problem.vars = ap (λ (p : ProblemState). p.vars)
-    c.make_room.ensures.reserves.problem in
-    let var : c.in-Some.var ≡ q.vars + 1 = omega (arith, c.in-Some.ensures, c.vars.ensures.value, vars) in
-    let same : c.as_slice.result.now ≡ e =
-    c.as_slice.ensures ∙ c.in_ok-clause.ensures
-    ∙ (ap (λ (n : ℕ). negated (record { var = record { 0 = n }; positive = true }) ∷ falsified_by vs
-    c.atom_count-atoms.result) var
-    ∙ ap (λ (n : ℕ). negated (next_lit q) ∷ falsified_by vs n) c.atom_count-atoms.ensures) in
-    subst (AreLitsOf (q.vars + 1)) (sym same) lits
+pub returns-in_err-note_exclusion-clause-resting : goal.returns-in_err-note_exclusion-clause-resting
+returns-in_err-note_exclusion-clause-resting c = resting-logged c.args.self.now c.note_exclusion.new.log c.requires.resting
+
+pub returns-in_err-note_exclusion-clause-err : goal.returns-in_err-note_exclusion-clause-err
+returns-in_err-note_exclusion-clause-err c = on-err c.from_residual.result _ (stays-only c.args.self.now c.note_exclusion.new.log)
+
+pub hold_exclusion-requires-clause-resting : goal.hold_exclusion-requires-clause-resting
+hold_exclusion-requires-clause-resting c = resting-logged c.args.self.now c.note_exclusion.new.log c.requires.resting
+
+pub returns-in-Ok-clause-ok : goal.returns-in-Ok-clause-ok
+returns-in-Ok-clause-ok c = (
+  c.in-Ok.ensures.ok.0,
+  excludes-logged c.args.self.now c.note_exclusion.new.log c.args.values.now c.hold_exclusion.new.self
+      c.in-Ok.ensures.ok.1,
+)
+
+-- what was written is taken away
+pub back_to-requires : goal.back_to-requires
+back_to-requires c = subst AreEntries (sym (taken-back c.mark-mark.result.len c.args.self.now.log c.note_exclusion.new.log
+    c.hold_exclusion.new.self.log c.hold_exclusion.ensures.log c.note_exclusion.ensures.grows c.mark-mark.ensures.len)) c.mark-mark.ensures.texts
+
+pub returns-in-Err-clause-resting : goal.returns-in-Err-clause-resting
+returns-in-Err-clause-resting c = resting-logged c.hold_exclusion.new.self c.back_to.new.self c.hold_exclusion.ensures.resting
+
+pub returns-in-Err-clause-err : goal.returns-in-Err-clause-err
+returns-in-Err-clause-err c = stays-logged c.args.self.now c.note_exclusion.new.log c.hold_exclusion.new.self c.back_to.new.self
+    c.in-Err.ensures.err
+
+pub returns-in-Err-clause-unsaid : goal.returns-in-Err-clause-unsaid
+returns-in-Err-clause-unsaid c = c.back_to.ensures.entries ∙ taken-back c.mark-mark.result.len c.args.self.now.log c.note_exclusion.new.log
+    c.hold_exclusion.new.self.log c.hold_exclusion.ensures.log c.note_exclusion.ensures.grows c.mark-mark.ensures.len

@@ -34,6 +34,7 @@ returns-clause-resting c =
       moments = c.clear-3.new.self;
       decider = e.decider;
       ledger = e.ledger;
+      log = c.forget.new.self;
       searches = e.searches;
       known = e.known;
       conflicts = e.conflicts;

@@ -20,8 +20,8 @@ returns-in-Some-propagate-clause-decisions c assume h = let m : Engine = c.learn
 pub returns-in-Some-propagate-clause-turn : goal.returns-in-Some-propagate-clause-turn
 returns-in-Some-propagate-clause-turn c =
     let m : Engine = c.learn_from.new.self in
-    let lesson : LessonGives c.args.self.now m (Some c.in-Some.clause.items) =
-    rw c.in-Some.is at c.in_ok-clause.ensures.lesson in
+    let lesson : LessonGives c.args.self.now m (Some c.in-Some.analysis.clause.items) =
+    rw c.in-Some.is at c.in_ok-analysis.ensures.lesson in
     let level : c.propagate.new.self.trail.level ≡ m.store.trail.level = c.propagate.ensures.same.level in (
       lesson.0,
       c.in-Some-propagate.ensures.conflict,
@@ -40,11 +40,11 @@ learn_if_open-requires-clause-search c = let m : Engine = c.learn_from.new.self 
 pub learn_if_open-requires-clause-lesson : goal.learn_if_open-requires-clause-lesson
 learn_if_open-requires-clause-lesson c =
     let m : Engine = c.learn_from.new.self in
-    let lesson : LessonGives c.args.self.now m (Some c.in-Some.clause.items) =
-    rw c.in-Some.is at c.in_ok-clause.ensures.lesson in
-    let here : IsLesson (with_store m c.propagate.new.self) c.in-Some.clause.items =
+    let lesson : LessonGives c.args.self.now m (Some c.in-Some.analysis.clause.items) =
+    rw c.in-Some.is at c.in_ok-analysis.ensures.lesson in
+    let here : IsLesson (with_store m c.propagate.new.self) c.in-Some.analysis.clause.items =
     prop-lesson m (with_store m c.propagate.new.self) (same-but m c.propagate.new.self) c.learn_from.ensures.search
-    c.propagate.ensures.same c.propagate.ensures.laws c.in-Some.clause.items lesson.1 in
+    c.propagate.ensures.same c.propagate.ensures.laws c.in-Some.analysis.clause.items lesson.1 in
     subst (IsLesson (with_store m c.propagate.new.self)) (sym c.deref.ensures.value) here
 
 pub returns-in_err-learn_if_open-in-None-clause-decisions : goal.returns-in_err-learn_if_open-in-None-clause-decisions
@@ -69,19 +69,19 @@ pub returns-clause-turn : goal.returns-clause-turn
 returns-clause-turn c =
     let m : Engine = c.learn_from.new.self in
     let f : Engine = c.learn_if_open.new.self in
-    let lesson : LessonGives c.args.self.now m (Some c.in-Some.clause.items) =
-    rw c.in-Some.is at c.in_ok-clause.ensures.lesson in
+    let lesson : LessonGives c.args.self.now m (Some c.in-Some.analysis.clause.items) =
+    rw c.in-Some.is at c.in_ok-analysis.ensures.lesson in
     let grown : Extends m.store.trail.steps c.propagate.new.self.trail.steps =
     extends-propagates m.store c.propagate.new.self c.propagate.ensures.same in
     let all : Extends m.store.trail.steps f.store.trail.steps =
     extends-trans m.store.trail.steps c.propagate.new.self.trail.steps f.store.trail.steps grown
     c.learn_if_open.ensures.steps in
-    let assigned : IsFirstAssigned f.store.trail.values c.in-Some.clause.items =
+    let assigned : IsFirstAssigned f.store.trail.values c.in-Some.analysis.clause.items =
     subst (IsFirstAssigned f.store.trail.values) c.deref.ensures.value
     c.in_ok-learn_if_open-in-None.ensures.first in (
       c.learn_if_open.ensures.counts.root_conflicts ∙ lesson.0,
       λ goal-of s. lesson-follows m f c.learn_from.ensures.search c.learn_if_open.ensures.search
           c.learn_if_open.ensures.same.problem c.learn_if_open.ensures.counts.conflicts
           c.learn_if_open.ensures.same.base
-          all c.in-Some.clause.items lesson.2 assigned goal-of (lesson.4 goal-of s),
+          all c.in-Some.analysis.clause.items lesson.2 assigned goal-of (lesson.4 goal-of s),
     )

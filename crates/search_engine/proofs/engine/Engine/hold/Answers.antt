@@ -17,6 +17,7 @@ returns-clause-resting c =
       moments = e.moments;
       decider = e.decider;
       ledger = e.ledger;
+      log = e.log;
       searches = e.searches;
       known = e.known;
       conflicts = e.conflicts;

@@ -3,12 +3,14 @@ use Rattle.std.proofs.lemmas.Result.{IfOk-weaker}
 use Rattle.lit_core.specs.declared.literals.Lit.{Lit}
 use Rattle.ground_core.specs.declared.parts.AggCon.{AggCon}
 use Rattle.aggregate_propagators.specs.Implied.{IsWithin}
+use Rattle.sum_ledger.specs.Asking.{IsImplied}
 use Rattle.search_engine.specs.declared.engine.Engine.{Engine}
 use Rattle.search_engine.specs.declared.searching.Outcome.{Outcome}
-use Rattle.search_engine.specs.Searching.{OutcomeGives, TurnEnds}
+use Rattle.search_engine.specs.Searching.{TurnEnds}
 use Rattle.search_engine.proofs.DecideFacts.{with_ledger}
-use Rattle.search_engine.proofs.SumFacts.{sums-within, turn-noted}
-use Rattle.search_engine.proofs.TurnFacts.{settled-from, turn-from}
+use Rattle.search_engine.proofs.LogFacts.{search-logged, turn-logged, with_log}
+use Rattle.search_engine.proofs.SumFacts.{implied-here, search-noted, sums-within, turn-noted}
+use Rattle.search_engine.proofs.TurnFacts.{settled-from}
 use Rattle.search_engine.proofs.engine.Engine.infer.Goals as goal
 
 pub ask-requires-clause-within : goal.ask-requires-clause-within
@@ -21,20 +23,34 @@ pub returns-in-None-clause-answer : goal.returns-in-None-clause-answer
 returns-in-None-clause-answer c =
     let e : Engine = c.args.self.now in
     let m : Engine = with_ledger e c.ask.new.self in
-    let f : Engine = c.advance.new.self in
-    let from = λ (x : Outcome) (h : OutcomeGives c.args.assume.now m f x). turn-from c.args.assume.now c.args.most e m f
-    x refl (λ goal-of a. a) h in
-    IfOk-weaker c.advance.result (OutcomeGives c.args.assume.now m f) (TurnEnds c.args.assume.now c.args.most e f) from
-    c.advance.ensures.answer
+    let f : Engine = c.infer_bounds.new.self in
+    let most = c.args.most in
+    let from = λ (x : Outcome) (h : TurnEnds c.args.assume.now most m f x). settled-from c.args.assume.now most e m f x
+    refl (λ goal-of a. a) h in
+    IfOk-weaker c.infer_bounds.result (TurnEnds c.args.assume.now most m f) (TurnEnds c.args.assume.now most e f) from
+    c.infer_bounds.ensures.answer
 
-pub returns-in-Some-clause-turn : goal.returns-in-Some-clause-turn
-returns-in-Some-clause-turn c = c.follow.ensures.turn c.args.assume.now
-    (turn-noted c.args.self.now c.ask.new.self c.args.assume.now c.requires.turn)
+-- the engine that has asked, and stated what follows
+pub follow-requires-clause-search : goal.follow-requires-clause-search
+follow-requires-clause-search c = search-logged (with_ledger c.args.self.now c.ask.new.self) c.implied.new.self
+    (search-noted c.args.self.now c.ask.new.self c.requires.search)
 
-pub returns-in-Some-clause-answer : goal.returns-in-Some-clause-answer
-returns-in-Some-clause-answer c =
+pub follow-requires-clause-implied : goal.follow-requires-clause-implied
+follow-requires-clause-implied c =
     let e : Engine = c.args.self.now in
-    let m : Engine = with_ledger e c.ask.new.self in
+    let found = implied-here c.sums-sums.result.now e.problem.sums e.store.trail.values e.store.trail.values _
+    c.in-Some.found c.sums-sums.ensures.value refl c.in-Some.is c.in_ok-ask.ensures in
+    subst (IsImplied e.problem.sums e.store.trail.values) (sym c.as_slice-in-Some.ensures) found
+
+pub returns-in_ok-implied-in-Some-clause-turn : goal.returns-in_ok-implied-in-Some-clause-turn
+returns-in_ok-implied-in-Some-clause-turn c = c.follow.ensures.turn c.args.assume.now
+    (turn-logged (with_ledger c.args.self.now c.ask.new.self) c.implied.new.self c.args.assume.now
+    (turn-noted c.args.self.now c.ask.new.self c.args.assume.now c.requires.turn))
+
+pub returns-in_ok-implied-in-Some-clause-answer : goal.returns-in_ok-implied-in-Some-clause-answer
+returns-in_ok-implied-in-Some-clause-answer c =
+    let e : Engine = c.args.self.now in
+    let m : Engine = with_log (with_ledger e c.ask.new.self) c.implied.new.self in
     let f : Engine = c.follow.new.self in
     let most = c.args.most in
     let from = λ (x : Outcome) (h : (assume : List Lit) → TurnEnds assume most m f x).

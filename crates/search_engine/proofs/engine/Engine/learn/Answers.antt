@@ -12,6 +12,7 @@ use Rattle.search_engine.proofs.SearchFacts.{search-spare}
 use Rattle.search_engine.proofs.TrailChange.{extends-refl}
 use Rattle.search_engine.proofs.LearntFacts.{first_of, pushed-implies, pushed-clauses, pushed-trail, pushed-number}
 use Rattle.search_engine.proofs.LearntFacts.{learnt-search, learnt-extends}
+use Rattle.search_engine.proofs.LogFacts.{spare-continues}
 use Rattle.search_engine.proofs.engine.Engine.learn.Goals as goal
 
 pub assign-requires-clause-reason : goal.assign-requires-clause-reason
@@ -45,6 +46,7 @@ module _ (c : goal.After-assign) where
     moments = c.push_reserved-2.new.self;
     decider = c.args.self.now.decider;
     ledger = c.args.self.now.ledger;
+    log = c.learnt.new.self;
     searches = c.args.self.now.searches;
     known = c.args.self.now.known;
     conflicts = c.args.self.now.conflicts;
@@ -145,3 +147,22 @@ pub returns-in_err-push-clause-steps : goal.returns-in_err-push-clause-steps
 returns-in_err-push-clause-steps c = subst (λ (t : TrailState). Extends c.args.self.now.store.trail.steps t.steps)
     (sym (ap (λ (s : StoreState). s.trail) c.in_ok-reserve_clause.ensures.ok))
     (extends-refl c.args.self.now.store.trail.steps)
+
+pub returns-in_err-learnt-clause-search : goal.returns-in_err-learnt-clause-search
+returns-in_err-learnt-clause-search c = search-spare c.args.self.now _ refl refl c.in_ok-reserve.ensures.items
+    c.in_ok-reserve-2.ensures.items refl refl refl refl refl (ap (λ (s : StoreState). s.clauses)
+    c.in_ok-reserve_clause.ensures.ok) (ap (λ (s : StoreState). s.trail) c.in_ok-reserve_clause.ensures.ok)
+    c.reserve_clause.ensures.laws c.requires.search
+
+pub returns-in_err-learnt-clause-steps : goal.returns-in_err-learnt-clause-steps
+returns-in_err-learnt-clause-steps c = subst (λ (t : TrailState). Extends c.args.self.now.store.trail.steps t.steps)
+    (sym (ap (λ (s : StoreState). s.trail) c.in_ok-reserve_clause.ensures.ok))
+    (extends-refl c.args.self.now.store.trail.steps)
+
+pub returns-in_err-learnt-clause-same : goal.returns-in_err-learnt-clause-same
+returns-in_err-learnt-clause-same c = spare-continues c.args.self.now _ refl refl refl refl refl
+    c.in_ok-reserve-2.ensures.items
+
+pub returns-in_err-push-clause-same : goal.returns-in_err-push-clause-same
+returns-in_err-push-clause-same c = spare-continues c.args.self.now _ refl refl refl refl c.in_err-push.ensures.err
+    c.in_ok-reserve-2.ensures.items

@@ -10,8 +10,15 @@ pub returns-then-level-eq0-clause-lesson : goal.returns-then-level-eq0-clause-le
 returns-then-level-eq0-clause-lesson c =
     let at : IsLevelOf c.args.self.now.store c.args.conflict 0 =
     subst (λ (n : ℕ). IsLevelOf c.args.self.now.store c.args.conflict n) c.if-level-eq0.true
-    c.conflict_level-level.ensures in
-    (let u = c.requires.unrefuted in omega arith, root-gives c.args.self.now c.args.conflict c.requires.search at, refl)
+    c.conflict_level-level.ensures in (
+      (let u = c.requires.unrefuted in let r = c.refute.ensures.counts.root_conflicts in omega (arith, u, r)),
+      root-gives c.args.self.now c.args.conflict c.requires.search at,
+      c.refute.ensures.counts.conflicts,
+    )
+
+pub refute-requires-clause-level : goal.refute-requires-clause-level
+refute-requires-clause-level c = subst (λ (n : ℕ). IsLevelOf c.args.self.now.store c.args.conflict n)
+    c.if-level-eq0.true c.conflict_level-level.ensures
 
 pub back_to-requires : goal.back_to-requires
 back_to-requires c = level-within c.args.self.now.store c.requires.search.engine.store c.args.conflict
@@ -39,6 +46,7 @@ returns-in_err-analysis-clause-search c =
       moments = e.moments;
       decider = c.takes_back.new.self;
       ledger = c.take_back.new.self;
+      log = e.log;
       searches = e.searches;
       known = e.known;
       conflicts = e.conflicts;
@@ -68,7 +76,7 @@ pub returns-in_err-analysis-clause-decisions : goal.returns-in_err-analysis-clau
 returns-in_err-analysis-clause-decisions c = cut-assumed c.conflict_level-level.result c.args.self.now.store.trail
     c.back_to.new.self.trail c.back_to.ensures.trail
 
-module _ (c : goal.After-drop-analysis) where
+module _ (c : goal.After-back_to-2) where
   abbrev done : Engine
   done = record {
     alloc = c.args.self.now.alloc;
@@ -79,6 +87,7 @@ module _ (c : goal.After-drop-analysis) where
     moments = c.args.self.now.moments;
     decider = c.takes_back-2.new.self;
     ledger = c.take_back-2.new.self;
+    log = c.args.self.now.log;
     searches = c.args.self.now.searches;
     known = c.args.self.now.known;
     conflicts = c.saturating_add-self.result;
