@@ -197,6 +197,17 @@ core-contained cores lits c core set blamed j is made at all h = (
       ((made l).1 has)) c (All-contains_itself c),
 )
 
+-- so they contain one
+pub within-of : (cores : List (List Lit)) (lits c : List Lit) (set : LitSet) (j : ℕ) → IsSetOf lits set
+    → slice_get cores j ≡ Some c → All (HasLit set) c → HasCoreWithin cores lits
+within-of cores lits c set j is at all = (
+  j,
+  c,
+  slice_get_within cores j c at,
+  get_or_from_slice_get cores j c c at,
+  All-weaker (HasLit set) (Contains lits) (λ l has. (is l).0 has) c all,
+)
+
 -- a core without literals is contained in any
 pub empty-contained : (cores : List (List Lit)) (core : List Lit) → Contains cores [] → HasCoreWithin cores core
 empty-contained cores core has = (has.0, [], has.1, has.2, All-nil (Contains core))

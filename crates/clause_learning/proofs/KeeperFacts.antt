@@ -27,6 +27,8 @@ use Rattle.search_engine.specs.Joining.{joined_problem, CanJoin}
 use Rattle.search_engine.proofs.Joined.{joined-first, joined-second}
 use Rattle.search_engine.specs.declared.engine.Engine.{Engine}
 use Rattle.search_engine.specs.Resting.{IsResting, Grows}
+use Rattle.search_log.specs.Logs.{LogState}
+use Rattle.search_engine.proofs.LogFacts.{resting-logged, with_log}
 use Rattle.clause_learning.specs.declared.keeper.Keeper.{Keeper}
 use Rattle.clause_learning.specs.Keeping.{AnswersWidened, IsKeeper, IsMost, IsNewRefusal, IsWidened}
 use Rattle.clause_learning.specs.LiveBounds.{IsLive, IsOutputOfWider}
@@ -226,3 +228,25 @@ widened-later a b assumed lits v live problem wide answers = (
       more) (sym live) wide,
   subst (λ (p : ProblemState). Answers p lits v) (sym problem) answers,
 )
+
+-- another log
+abbrev pub logged : Keeper → LogState → Keeper
+logged a l = record {
+  alloc = a.alloc;
+  engine = with_log a.engine l;
+  index = a.index;
+  additions = a.additions;
+  live = a.live;
+}
+
+pub keeper-logged : (a : Keeper) (l : LogState) → IsKeeper a → IsKeeper (logged a l)
+keeper-logged a l h = record {
+  resting = resting-logged a.engine l h.resting;
+  terms = h.terms;
+  few = h.few;
+  selectors = h.selectors;
+  indexed = h.indexed;
+  refuted = h.refuted;
+  counted = h.counted;
+  live = h.live;
+}

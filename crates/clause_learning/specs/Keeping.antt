@@ -41,6 +41,7 @@ pub record IsNewKeeper (a : Keeper) : Type 0 where
   pub engine : IsNew a.engine
   pub cores : a.index.cores.items ≡ []
   pub additions : a.additions.items ≡ []
+  pub entries : a.engine.log.entries ≡ []
 
 -- the learnt list, of so many clauses, may become this long within the budget
 abbrev pub IsMost : ℕ → Budget → Option ℕ → Type 0
@@ -66,7 +67,8 @@ pub record SameCounts (old new : Keeper) : Type 0 where
   pub conflicts : new.engine.conflicts ≡ old.engine.conflicts
   pub root_conflicts : new.engine.root_conflicts ≡ old.engine.root_conflicts
 
--- what contracts see stays, and the clauses that are held
+-- what contracts see stays, the clauses that are held, and what was stated
 pub record SameKeeping (old new : Keeper) : Type 0 where
   pub kept : kept_of new ≡ kept_of old
   pub held : held_of new.engine.store.clauses ≡ held_of old.engine.store.clauses
+  pub entries : new.engine.log.entries ≡ old.engine.log.entries

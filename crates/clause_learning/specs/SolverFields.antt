@@ -11,4 +11,5 @@ state_of a = record {
   held = held_of a.engine.store.clauses;
   conflicts = a.engine.conflicts;
   root_conflicts = a.engine.root_conflicts;
+  entries = a.engine.log.entries;
 }

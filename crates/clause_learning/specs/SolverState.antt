@@ -1,9 +1,11 @@
 -- A solver as its callers see it.
-use Rattle.std.specs.Prelude.{◌≡◌, ℕ, ◌+◌, ◌-◌, ◌<◌, ◌≤◌, ◌^◌, Bool, List, [], All, Contains, ◌⊎◌}
+use Rattle.std.specs.Prelude.{◌≡◌, ℕ, ◌+◌, ◌-◌, ◌<◌, ◌≤◌, ◌^◌, Bool, Option, List, [], length, slice_get, option_map}
+use Rattle.std.specs.Prelude.{All, Contains, ◌⊎◌}
 use Rattle.lit_core.specs.declared.literals.Lit.{Lit}
 use Rattle.lit_core.specs.Truth.{IsSatisfied}
 use Rattle.clause_store.specs.StoreState.{IsEachOnceOf}
 use Rattle.ground_core.specs.Problems.{ProblemState}
+use Rattle.ground_core.specs.declared.parts.TermBound.{TermBound}
 use Rattle.ground_core.specs.Meaning.{Satisfies}
 use Rattle.ground_core.specs.GateClauses.{clauses_of}
 use Rattle.ground_core.specs.Growth.{empty_problem}
@@ -19,6 +21,8 @@ pub record SolverState : Type 0 where
   -- how many conflicts the last search met above level 0, and at level 0
   pub conflicts : ℕ
   pub root_conflicts : ℕ
+  -- the bytes of what it stated on the way, where a log is kept
+  pub entries : List ℕ
 
 -- some held clause has the same literals
 abbrev pub HasClause : List (List Lit) → List Lit → Type 0
@@ -54,7 +58,7 @@ empty_state = record {
 }
 
 abbrev pub empty_solver : SolverState
-empty_solver = record { kept = empty_state; held = []; conflicts = 0; root_conflicts = 0 }
+empty_solver = record { kept = empty_state; held = []; conflicts = 0; root_conflicts = 0; entries = [] }
 
 -- what another problem says is said, too
 abbrev pub joined_state : SolveState → ProblemState → SolveState
@@ -73,6 +77,7 @@ pub record AddsProblem (old : SolverState) (more : ProblemState) (new : SolverSt
   pub kept : new.kept ≡ joined_state old.kept more
   pub conflicts : new.conflicts ≡ old.conflicts
   pub root_conflicts : new.root_conflicts ≡ old.root_conflicts
+  pub entries : new.entries ≡ old.entries
 
 -- what was learnt is given up, with the kept cores
 abbrev pub forgotten : SolveState → SolveState
@@ -91,6 +96,21 @@ pub record Forgets (old new : SolverState) : Type 0 where
   pub kept : new.kept ≡ forgotten old.kept
   pub conflicts : new.conflicts ≡ old.conflicts
   pub root_conflicts : new.root_conflicts ≡ old.root_conflicts
+  pub entries : new.entries ≡ old.entries
+
+-- the entries were taken away
+abbrev pub without_entries : SolverState → SolverState
+without_entries s = record {
+  kept = s.kept;
+  held = s.held;
+  conflicts = s.conflicts;
+  root_conflicts = s.root_conflicts;
+  entries = [];
+}
+
+-- the selector of the last bound
+abbrev pub last_output : List TermBound → Option Lit
+last_output bs = option_map (λ (b : TermBound). b.out) (slice_get bs (length bs - 1))
 
 -- the counts of the last search stay
 pub record SameCounts (old new : SolverState) : Type 0 where

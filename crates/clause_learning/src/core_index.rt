@@ -22,14 +22,26 @@ pub struct CoreIndex {
     pub negative: Vec<usize>,
     /// For each core the newest one before it with the same last literal, counted from 1, or 0.
     pub older: Vec<usize>,
+    /// For each core the number of its negation in the log, or 0.
+    pub numbers: Vec<u64>,
     /// Whether one of the cores has no literals.
     pub refuted: bool,
+    /// The number of that one's negation.
+    pub refuted_number: u64,
 }
 
 /// The number at a place, and 0 past the end.
 fn number_at(numbers: &[usize], place: usize) -> usize
     ensures { result ≡ slice_index_or numbers.now place 0 }
 {
+    match numbers.get(place) {
+        Some(number) => *number,
+        None => 0,
+    }
+}
+
+/// The same of numbers in a log.
+fn log_number(numbers: &[u64], place: usize) -> u64 {
     match numbers.get(place) {
         Some(number) => *number,
         None => 0,
@@ -66,7 +78,9 @@ impl CoreIndex {
             positive: Vec::new(alloc),
             negative: Vec::new(alloc),
             older: Vec::new(alloc),
+            numbers: Vec::new(alloc),
             refuted: false,
+            refuted_number: 0,
         }
     }
 
@@ -137,6 +151,22 @@ impl CoreIndex {
         }
     }
 
+    /// The number in the log of a kept core's negation, if the literals contain such a core.
+    pub fn number_within(&self, alloc: Global, lits: &[Lit]) -> Result<Option<u64>, Memory>
+        requires indexed { IsIndexed self.now }
+        ensures { IfOk result (λ found. MatchOption found (HasCoreWithin self.now.cores.items lits.now → ⊥)
+            (λ number. HasCoreWithin self.now.cores.items lits.now)) }
+    {
+        if self.refuted {
+            return Ok(Some(self.refuted_number));
+        }
+        let set = LitSet::of(alloc, lits)?;
+        match self.find(&set, lits) {
+            None => Ok(None),
+            Some(place) => Ok(Some(log_number(&self.numbers, place))),
+        }
+    }
+
     /// Makes a core with this number, counted from 1, the newest that ends with the literal, and
     /// hands back the one that was.
     fn make_newest(&mut self, lit: Lit, number: usize) -> Result<usize, Memory>
@@ -147,6 +177,8 @@ impl CoreIndex {
         ensures cores { self.new.cores ≡ self.old.cores }
         ensures older { self.new.older ≡ self.old.older }
         ensures refuted { self.new.refuted ≡ self.old.refuted }
+        ensures numbers { self.new.numbers ≡ self.old.numbers }
+        ensures refuted_number { self.new.refuted_number ≡ self.old.refuted_number }
     {
         let var = lit.var.0 as usize;
         if lit.positive {
@@ -157,7 +189,7 @@ impl CoreIndex {
     }
 
     /// Keeps a core that ends with the literal.
-    fn push(&mut self, core: LitList, lit: Lit) -> Result<(), Memory>
+    fn push(&mut self, core: LitList, lit: Lit, number: u64) -> Result<(), Memory>
         requires indexed { IsIndexed self.old }
         requires last { slice_get core (length core - 1) ≡ Some lit }
         ensures indexed { IsIndexed self.new }
@@ -166,15 +198,17 @@ impl CoreIndex {
     {
         self.cores.reserve(1)?;
         self.older.reserve(1)?;
-        let number = self.cores.len() + 1;
-        let was = self.make_newest(lit, number)?;
+        self.numbers.reserve(1)?;
+        let newest = self.cores.len() + 1;
+        let was = self.make_newest(lit, newest)?;
         self.older.push_reserved(was);
         self.cores.push_reserved(core);
+        self.numbers.push_reserved(number);
         Ok(())
     }
 
     /// Keeps a core without literals.
-    fn push_empty(&mut self, core: LitList) -> Result<(), Memory>
+    fn push_empty(&mut self, core: LitList, number: u64) -> Result<(), Memory>
         requires indexed { IsIndexed self.old }
         requires empty { core ≡ [] }
         ensures indexed { IsIndexed self.new }
@@ -183,14 +217,17 @@ impl CoreIndex {
     {
         self.cores.reserve(1)?;
         self.older.reserve(1)?;
+        self.numbers.reserve(1)?;
         self.older.push_reserved(0);
         self.cores.push_reserved(core);
+        self.numbers.push_reserved(number);
         self.refuted = true;
+        self.refuted_number = number;
         Ok(())
     }
 
-    /// Keeps one more core.
-    pub fn keep(&mut self, alloc: Global, core: &[Lit]) -> Result<(), Memory>
+    /// Keeps one more core, whose negation has this number in the log.
+    pub fn keep(&mut self, alloc: Global, core: &[Lit], number: u64) -> Result<(), Memory>
         requires indexed { IsIndexed self.old }
         ensures indexed { IsIndexed self.new }
         ensures ok { OnOk result (self.new.cores.items ≡ self.old.cores.items ++ core.now ∷ []) }
@@ -198,8 +235,8 @@ impl CoreIndex {
     {
         let copy = LitList::from_vec(Vec::from_slice(alloc, core)?);
         match core.last() {
-            Some(lit) => self.push(copy, *lit),
-            None => self.push_empty(copy),
+            Some(lit) => self.push(copy, *lit, number),
+            None => self.push_empty(copy, number),
         }
     }
 
@@ -212,6 +249,7 @@ impl CoreIndex {
         self.positive.clear();
         self.negative.clear();
         self.older.clear();
+        self.numbers.clear();
         self.refuted = false;
     }
 }

@@ -11,6 +11,7 @@ ghost use Rattle.lit_core.specs.Literals.{valuation};
 ghost use Rattle.clause_learning.specs.Keeping.{AnswersWidened, IsKeeper, IsMost, IsNewRefusal, IsNewKeeper, IsWidened};
 ghost use Rattle.clause_learning.specs.Keeping.{SameCounts, SameKeeping};
 ghost use Rattle.clause_learning.specs.Keeping.{kept_of};
+ghost use Rattle.search_log.specs.Entries.{Grows};
 
 use crate::core_index::CoreIndex;
 use crate::live_bounds::{give_up, narrowed, outputs_of_wider};
@@ -156,6 +157,34 @@ impl Keeper {
         }
     }
 
+    /// Searches within the budget. Where a log is kept nothing more is assumed: the claim of a least value cites the
+    /// selector of its own bound, and of no wider one.
+    fn search_assumed<C: Choose>(
+        &mut self,
+        rule: &C,
+        assume: &[Lit],
+        budget: &mut Budget,
+    ) -> Result<Verdict, Halt>
+        requires keeper { IsKeeper self.old }
+        requires literals { AreLitsOf self.old.engine.problem.vars assume.now }
+        requires budget { IsBudgetOf self.old.engine.learnt budget.old }
+        ensures keeper { IsKeeper self.new }
+        ensures index { self.new.index ≡ self.old.index }
+        ensures additions { self.new.additions ≡ self.old.additions }
+        ensures verdict { IfOk result (Answers self.old.engine.problem assume.now) }
+        ensures halt { IfErr result (HaltedAt budget.new) }
+        ensures problem { self.new.engine.problem ≡ self.old.engine.problem }
+        ensures searches { self.new.engine.searches ≡ counted (self.old.engine.searches + 1) }
+        ensures spends { Spends (kept_of self.old) (kept_of self.new) budget.old budget.new }
+        ensures counted { length self.new.engine.learnt ≤ length self.old.engine.learnt + self.new.engine.conflicts }
+        ensures fewer { self.new.engine.conflicts < 2 ^ (kept_of self.old).free }
+    {
+        if self.engine.log.is_kept() {
+            return self.search(rule, assume, budget);
+        }
+        self.search_widened(rule, assume, budget)
+    }
+
     /// Keeps the core of an answer.
     fn keep(&mut self, verdict: Verdict) -> Result<Verdict, Halt>
         requires keeper { IsKeeper self.old }
@@ -169,10 +198,13 @@ impl Keeper {
     {
         match verdict {
             Verdict::Sat(values) => Ok(Verdict::Sat(values)),
-            Verdict::Unsat(core) => match self.index.keep(self.alloc, core.as_slice()) {
-                Ok(()) => Ok(Verdict::Unsat(core)),
-                Err(_) => Err(Halt::Memory),
-            },
+            Verdict::Unsat(core) => {
+                let number = self.engine.log.refutation();
+                match self.index.keep(self.alloc, core.as_slice(), number) {
+                    Ok(()) => Ok(Verdict::Unsat(core)),
+                    Err(_) => Err(Halt::Memory),
+                }
+            }
         }
     }
 
@@ -200,7 +232,7 @@ impl Keeper {
         ensures fewer { self.new.engine.conflicts < 2 ^ (kept_of self.old).free }
     {
         match self.index.contained(self.alloc, assume) {
-            Ok(None) => match self.search_widened(rule, assume, budget) {
+            Ok(None) => match self.search_assumed(rule, assume, budget) {
                 Ok(verdict) => self.keep(verdict),
                 Err(halt) => Err(halt),
             },
@@ -224,6 +256,7 @@ impl Keeper {
             × (kept_of self.new ≡ excluded (kept_of self.old) values.now)) }
         ensures err { OnErr result (SameKeeping self.old self.new) }
         ensures counts { SameCounts self.old self.new }
+        ensures says { Grows self.old.engine.log.entries self.new.engine.log.entries }
     {
         let copy = values.copy(self.alloc)?;
         self.additions.reserve(1)?;
@@ -252,6 +285,7 @@ impl Keeper {
             × (kept_of self.new ≡ bounded (kept_of self.old) term below)) }
         ensures err { OnErr result (SameKeeping self.old self.new) }
         ensures counts { SameCounts self.old self.new }
+        ensures says { Grows self.old.engine.log.entries self.new.engine.log.entries }
     {
         self.additions.reserve(1)?;
         self.live.reserve(1)?;
@@ -270,6 +304,7 @@ impl Keeper {
         ensures retired { (Contains self.old.engine.problem.retired selector → ⊥)
             → kept_of self.new ≡ retired (kept_of self.old) selector }
         ensures counts { SameCounts self.old self.new }
+        ensures log { self.new.engine.log ≡ self.old.engine.log }
     {
         self.engine.retire(selector);
         give_up(&mut self.live, selector);

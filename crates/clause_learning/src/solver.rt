@@ -1,5 +1,6 @@
 //! The solver that callers keep.
 ghost use Rattle.std.specs.Prelude.{◌≡◌, ◌≤◌, ◌<◌, ◌+◌, ◌^◌, ℕ, [], length, Contains, IfOk, IfErr, OnOk, OnErr};
+ghost use Rattle.std.specs.Prelude.{MatchOption};
 ghost use Rattle.ground_core.specs.Problems.{AreLitsOf};
 ghost use Rattle.ground_core.specs.Solving.{Answers, AreUnretired, HaltedAt, HasCoreWithin, IsBudgetOf, IsKept};
 ghost use Rattle.ground_core.specs.Solving.{IsKnown, KeepsCores, Spends, counted};
@@ -10,6 +11,8 @@ ghost use Rattle.kb_logic.specs.declared.elements.ExtInt.TheVariants.{NegInf};
 ghost use Rattle.search_engine.specs.Joining.{CanJoin};
 ghost use Rattle.clause_learning.specs.GoingOn.{GoesOn};
 ghost use Rattle.clause_learning.specs.SolverState.{AddsProblem, Forgets, IsSolver, SameCounts, empty_solver};
+ghost use Rattle.clause_learning.specs.SolverState.{last_output, without_entries};
+ghost use Rattle.search_log.specs.Entries.{AreEntries, Grows};
 
 use crate::keeper::Keeper;
 use chooser::Choose;
@@ -117,6 +120,50 @@ impl<C: Choose + Drop> Solver<C> {
         self.keeper.engine.root_conflicts
     }
 
+    /// Keeps a log from now on. It is of the problem as it is now: to be called once, right after `add_problem`.
+    pub fn keep_log(&mut self) -> Result<(), Memory>
+        ensures same { self.new ≡ self.old }
+        ensures laws { IsSolver self.new }
+    {
+        let count = self.keeper.engine.store.len();
+        self.keeper.engine.log.begin(count)
+    }
+
+    /// The bytes of the log's entries since they were last taken away.
+    pub fn entries(&self) -> &[u8]
+        ensures value { result.now ≡ self.now.entries }
+        ensures texts { AreEntries self.now.entries }
+    {
+        self.keeper.engine.log.entries()
+    }
+
+    /// Takes the log's entries away.
+    pub fn clear_entries(&mut self)
+        ensures cleared { self.new ≡ without_entries self.old }
+        ensures laws { IsSolver self.new }
+    {
+        self.keeper.engine.log.clear();
+    }
+
+    /// The number of the clause in the log that says why nothing makes the literals true, where the literals contain a
+    /// kept core: that core's negation. It is 0 where the core has a literal with its negation.
+    pub fn clause_of(&self, lits: &[Lit]) -> Result<Option<u64>, Memory>
+        ensures { IfOk result (λ found. MatchOption found (HasCoreWithin self.now.kept.cores lits.now → ⊥)
+            (λ number. HasCoreWithin self.now.kept.cores lits.now)) }
+    {
+        self.keeper.index.number_within(self.keeper.alloc, lits)
+    }
+
+    /// The selector of the bound that was added last.
+    pub fn last_bound(&self) -> Option<Lit>
+        ensures { result ≡ last_output self.now.kept.problem.bounds }
+    {
+        match self.keeper.engine.problem.bounds().last() {
+            Some(bound) => Some(bound.out),
+            None => None,
+        }
+    }
+
     /// Lists the short clauses that are held, for a caller that asks many questions: a search then reads them in order,
     /// which takes less than half of the time on problems with many of them. This call takes as long as some eight
     /// searches. Where memory runs out searches go on as before.
@@ -191,6 +238,7 @@ impl<C: Choose + Drop> Grow for Solver<C> {
         ensures kept { IsKept self.new.kept }
         ensures later { GoesOn self.old.kept self.new.kept }
         ensures counts { SameCounts self.old self.new }
+        ensures entries { Grows self.old.entries self.new.entries }
         ensures laws { IsSolver self.new }
     {
         self.keeper.bound(term, below)
@@ -204,6 +252,7 @@ impl<C: Choose + Drop> Grow for Solver<C> {
         ensures kept { IsKept self.new.kept }
         ensures later { GoesOn self.old.kept self.new.kept }
         ensures counts { SameCounts self.old self.new }
+        ensures entries { Grows self.old.entries self.new.entries }
         ensures laws { IsSolver self.new }
     {
         self.keeper.exclude(values)
@@ -217,6 +266,7 @@ impl<C: Choose + Drop> Grow for Solver<C> {
         ensures kept { IsKept self.new.kept }
         ensures later { GoesOn self.old.kept self.new.kept }
         ensures counts { SameCounts self.old self.new }
+        ensures entries { self.new.entries ≡ self.old.entries }
         ensures laws { IsSolver self.new }
     {
         self.keeper.retire(selector);

@@ -10,9 +10,10 @@ returns-in_err-reserve-clause-indexed c =
       cores = c.reserve.new.self;
       positive = k.positive;
       negative = k.negative;
-      older =
-          k.older;
+      older = k.older;
+      numbers = k.numbers;
       refuted = k.refuted;
+      refuted_number = k.refuted_number;
     } in
     same-index k m c.in_err-reserve.ensures.items refl (λ l. refl) refl c.requires.indexed
 
@@ -23,11 +24,26 @@ returns-in_err-reserve-2-clause-indexed c =
       cores = c.reserve.new.self;
       positive = k.positive;
       negative = k.negative;
-      older =
-          c.reserve-2.new.self;
+      older = c.reserve-2.new.self;
+      numbers = k.numbers;
       refuted = k.refuted;
+      refuted_number = k.refuted_number;
     } in
     same-index k m c.in_ok-reserve.ensures.items c.in_err-reserve-2.ensures.items (λ l. refl) refl c.requires.indexed
+
+pub returns-in_err-reserve-3-clause-indexed : goal.returns-in_err-reserve-3-clause-indexed
+returns-in_err-reserve-3-clause-indexed c =
+    let k : CoreIndex = c.args.self.now in
+    let m : CoreIndex = record {
+      cores = c.reserve.new.self;
+      positive = k.positive;
+      negative = k.negative;
+      older = c.reserve-2.new.self;
+      numbers = c.reserve-3.new.self;
+      refuted = k.refuted;
+      refuted_number = k.refuted_number;
+    } in
+    same-index k m c.in_ok-reserve.ensures.items c.in_ok-reserve-2.ensures.items (λ l. refl) refl c.requires.indexed
 
 pub returns-in_err-was-clause-indexed : goal.returns-in_err-was-clause-indexed
 returns-in_err-was-clause-indexed c =
@@ -45,11 +61,13 @@ returns-clause-indexed c =
       positive = n.positive;
       negative = n.negative;
       older = c.push_reserved.new.self;
+      numbers = c.push_reserved-3.new.self;
       refuted = n.refuted;
+      refuted_number = n.refuted_number;
     } in
-    let len : c.len-number.result ≡ length k.cores.items = omega (
+    let len : c.len-newest.result ≡ length k.cores.items = omega (
       arith,
-      c.len-number.ensures,
+      c.len-newest.ensures,
       ap length c.in_ok-reserve.ensures.items,
       c.reserve.new.self.ok.0,
     ) in

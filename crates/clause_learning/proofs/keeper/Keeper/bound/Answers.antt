@@ -8,6 +8,7 @@ use Rattle.ground_core.specs.Selectors.{AreSelectors}
 use Rattle.ground_core.specs.Meaning.{HasTermsInRange, RefutesAll}
 use Rattle.ground_core.specs.Growth.{with_bound}
 use Rattle.ground_core.proofs.GrowthFacts.{bound-restricts}
+use Rattle.search_log.specs.Entries.{grows-itself}
 use Rattle.clause_learning.specs.declared.keeper.Keeper.{Keeper}
 use Rattle.clause_learning.proofs.KeeperFacts.{range-more, refuted-more}
 use Rattle.clause_learning.proofs.keeper.Keeper.bound.Goals as goal
@@ -43,4 +44,28 @@ returns-clause-keeper c =
           ∙ ap (λ (o : Lit). a.live.items ++ record { out = o; term = c.args.term; below = c.args.below } ∷ [])
           c.in_ok-out.ensures.ok.0))
           (live-with-bound p h.resting.engine.problem c.args.term c.args.below a.live.items h.live));
+    }
+
+pub returns-in_err-reserve-clause-says : goal.returns-in_err-reserve-clause-says
+returns-in_err-reserve-clause-says c = grows-itself c.args.self.now.engine.log.entries
+
+pub returns-in_err-reserve-2-clause-says : goal.returns-in_err-reserve-2-clause-says
+returns-in_err-reserve-2-clause-says c = grows-itself c.args.self.now.engine.log.entries
+
+-- there was no memory
+pub returns-in_err-out-clause-keeper : goal.returns-in_err-out-clause-keeper
+returns-in_err-out-clause-keeper c =
+    let a : Keeper = c.args.self.now in
+    let h = c.requires.keeper in
+    let stays = c.in_err-out.ensures.err in
+    record {
+      resting = c.bound.ensures.resting;
+      terms = subst HasTermsInRange (sym stays.problem) h.terms;
+      few = subst (λ (p : ProblemState). length p.retired ≤ p.vars) (sym stays.problem) h.few;
+      selectors = subst (λ (p : ProblemState). AreSelectors p.retired) (sym stays.problem) h.selectors;
+      indexed = h.indexed;
+      refuted = subst (λ (p : ProblemState). All (RefutesAll p) a.index.cores.items) (sym stays.problem) h.refuted;
+      counted = rw stays.same.searches h.counted;
+      live = subst (λ (p : ProblemState). All (IsLive p) c.reserve-2.new.self.items) (sym stays.problem)
+          (subst (All (IsLive a.engine.problem)) (sym c.in_ok-reserve-2.ensures.items) h.live);
     }

@@ -7,6 +7,7 @@ use Rattle.ground_core.specs.Selectors.{AreSelectors}
 use Rattle.ground_core.specs.Meaning.{HasTermsInRange, RefutesAll}
 use Rattle.ground_core.specs.Growth.{with_exclusion}
 use Rattle.ground_core.proofs.GrowthFacts.{exclusion-restricts}
+use Rattle.search_log.specs.Entries.{grows-itself}
 use Rattle.clause_learning.specs.declared.keeper.Keeper.{Keeper}
 use Rattle.clause_learning.proofs.KeeperFacts.{range-more, refuted-more}
 use Rattle.clause_learning.proofs.keeper.Keeper.exclude.Goals as goal
@@ -33,4 +34,28 @@ returns-clause-keeper c =
       live = subst (λ (r : ProblemState). All (IsLive r) a.live.items) (sym made.problem)
           (All-weaker (IsLive p) (IsLive (with_exclusion p c.args.values.now))
           (live-excluded p h.resting.engine.problem c.args.values.now) a.live.items h.live);
+    }
+
+pub returns-in_err-copy-clause-says : goal.returns-in_err-copy-clause-says
+returns-in_err-copy-clause-says c = grows-itself c.args.self.now.engine.log.entries
+
+pub returns-in_err-reserve-clause-says : goal.returns-in_err-reserve-clause-says
+returns-in_err-reserve-clause-says c = grows-itself c.args.self.now.engine.log.entries
+
+-- there was no memory
+pub returns-in_err-out-clause-keeper : goal.returns-in_err-out-clause-keeper
+returns-in_err-out-clause-keeper c =
+    let a : Keeper = c.args.self.now in
+    let h = c.requires.keeper in
+    let stays = c.in_err-out.ensures.err in
+    record {
+      resting = c.exclude.ensures.resting;
+      terms = subst HasTermsInRange (sym stays.problem) h.terms;
+      few = subst (λ (p : ProblemState). length p.retired ≤ p.vars) (sym stays.problem) h.few;
+      selectors = subst (λ (p : ProblemState). AreSelectors p.retired) (sym stays.problem) h.selectors;
+      indexed = h.indexed;
+      refuted = subst (λ (p : ProblemState). All (RefutesAll p) a.index.cores.items) (sym stays.problem) h.refuted;
+      counted = rw stays.same.searches h.counted;
+      live = subst (λ (p : ProblemState). All (IsLive p) a.live.items) (sym stays.problem)
+          h.live;
     }
