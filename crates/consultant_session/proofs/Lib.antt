@@ -8,3 +8,5 @@ pub mod QueryLemmas
 pub mod MinimumLemmas
 pub mod OpenLemmas
 pub mod FoundLemmas
+pub mod LiteralsOver
+pub mod ForcedReplies

@@ -10,6 +10,7 @@ ghost use Rattle.consult_text.specs.RightReplies.{RightReply};
 ghost use Rattle.consult_text.specs.States.{state_after};
 
 mod asking;
+mod logging;
 
 use crate::literals::{is_among, is_known, remove};
 use crate::tasks::opened;
@@ -37,6 +38,8 @@ pub struct Session<C: Choose + Copy + Drop> {
     unknown: Vec<Lit>,
     choices: LiteralList,
     budget: Option<u64>,
+    /// Whether the solver keeps a log: its numbers then go on from one query to the next.
+    logs: bool,
 }
 
 impl<C: Choose + Copy + Drop> Model for Session<C> {
@@ -78,6 +81,7 @@ impl<C: Choose + Copy + Drop> Session<C> {
             unknown,
             choices: LiteralList::new(alloc),
             budget,
+            logs: false,
         })
     }
 

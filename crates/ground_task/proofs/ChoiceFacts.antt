@@ -9,28 +9,8 @@ use Rattle.lit_core.specs.declared.literals.Lit.{Lit}
 use Rattle.ground_core.specs.Solving.{IsSublist}
 use Rattle.term_values.specs.GroundBases.{GroundBase}
 use Rattle.atom_numbers.specs.Numbers.{HasNumber}
+pub use Rattle.atom_numbers.proofs.LiteralFacts.{each-push, each-length, each-next}
 use Rattle.ground_task.specs.Choices.{AreChosen}
-
-pub each-push : {A B : Type 0} (R : A → B → Type 0) (xs : List A) (ys : List B) (x : A) (y : B) → EachWith R xs ys
-    → R x y → EachWith R (xs ++ x ∷ []) (ys ++ y ∷ [])
-each-push R [] [] x y h r = (r, tt)
-each-push R [] (z ∷ ys) x y h r = absurd h
-each-push R (w ∷ xs) [] x y h r = absurd h
-each-push R (w ∷ xs) (z ∷ ys) x y h r = (h.0, each-push R xs ys x y h.1 r)
-
-pub each-length : {A B : Type 0} (R : A → B → Type 0) (xs : List A) (ys : List B) → EachWith R xs ys
-    → length xs ≡ length ys
-each-length R [] [] h = refl
-each-length R [] (z ∷ ys) h = absurd h
-each-length R (w ∷ xs) [] h = absurd h
-each-length R (w ∷ xs) (z ∷ ys) h = ap suc (each-length R xs ys h.1)
-
-pub each-next : {A B : Type 0} (R : A → B → Type 0) (xs : List A) (ys : List B) (i : ℕ) (x : A) (y : B) → i < length xs
-    → x ≡ get_or xs i x → R x y → EachWith R (take i xs) ys → EachWith R (take (i + 1) xs) (ys ++ y ∷ [])
-each-next {A = A} R xs ys i x y lt is r h =
-    subst (λ (zs : List A). EachWith R zs (ys ++ y ∷ []))
-    (sym (take_more xs i x lt ∙ ap (λ (z : A). take i xs ++ z ∷ []) (sym is)))
-    (each-push R (take i xs) ys x y h r)
 
 sublist-push : {A : Type 0} (xs ys : List A) (y : A) → IsSublist xs ys → IsSublist (xs ++ y ∷ []) (ys ++ y ∷ [])
 sublist-push [] [] y s = inl (refl, tt)

@@ -2,12 +2,14 @@
 ghost use Rattle.std.specs.Prelude.{◌≡◌};
 ghost use Rattle.kb_logic.specs.Bases.{Base};
 ghost use Rattle.clause_learning.specs.SolverState.{Forgets};
+ghost use Rattle.search_log.specs.Entries.{AreEntries};
 ghost use Rattle.ground_task.specs.Tasks.{IsTaskOf};
 
 use crate::task::Task;
 use chooser::Choose;
 use clause_learning::Solver;
-use lit_core::ClauseList;
+use kb_logic::Memory;
+use lit_core::{ClauseList, Lit};
 
 impl<C: Choose + Drop> Task<Solver<C>> {
     /// The clauses that were learnt, in their order. Each follows from the problem and those before it.
@@ -42,5 +44,37 @@ impl<C: Choose + Drop> Task<Solver<C>> {
             → IsTaskOf base self.new.numbers self.new.solver.kept.problem }
     {
         self.solver.forget();
+    }
+
+    /// From now on the solver tells what it derives, as entries of a log. To be called before the first search.
+    pub fn keep_log(&mut self) -> Result<(), Memory>
+        ensures { self.new ≡ self.old }
+    {
+        self.solver.keep_log()
+    }
+
+    /// The texts of the entries that the solver left since they were given up; none of them is a mark.
+    pub fn entries(&self) -> &[u8]
+        ensures { AreEntries result.now }
+    {
+        self.solver.entries()
+    }
+
+    /// Gives these up.
+    pub fn clear_entries(&mut self)
+        ensures kept { self.new.solver.kept ≡ self.old.solver.kept }
+        ensures numbers { self.new.numbers ≡ self.old.numbers }
+    {
+        self.solver.clear_entries();
+    }
+
+    /// The number that the log has for a clause by which the literals are not all true, where a core is among them.
+    pub fn clause_of(&self, lits: &[Lit]) -> Result<Option<u64>, Memory> {
+        self.solver.clause_of(lits)
+    }
+
+    /// The selector of the bound that was added last.
+    pub fn last_bound(&self) -> Option<Lit> {
+        self.solver.last_bound()
     }
 }

@@ -19,6 +19,12 @@ const MOST_ADDITIONS: u64 = 1_000;
 /// As many additions as one `minimize` is taken to make: a bound for each value that is found.
 const BOUNDS: u32 = 64;
 
+/// Whether the task stays though so much was added to its problem: always where a log is kept, since the log's numbers
+/// are those of the task's clauses and variables.
+fn keeps_task(logs: bool, added: u64) -> bool {
+    logs || added <= MOST_ADDITIONS
+}
+
 impl<C: Choose + Copy + Drop> Session<C> {
     /// A model, if there is one.
     pub(super) fn model(&mut self) -> Result<Reply, Memory>
@@ -65,7 +71,7 @@ impl<C: Choose + Copy + Drop> Session<C> {
         ensures solver { IsSolverOf (base_of self.old.kb) self.new.solver }
     {
         self.task.forget();
-        if self.added <= MOST_ADDITIONS {
+        if keeps_task(self.logs, self.added) {
             self.added = self.added.saturating_add(more as u64);
             return Ok(());
         }

@@ -14,18 +14,18 @@ invariant_of-self g c = record {
       (c.forget.ensures.task (base_of c.self.inside.kb)) c.self.invariant.over;
 }
 
-pub returns-then-self-le-MOST_ADDITIONS-clause-state : goal.returns-then-self-le-MOST_ADDITIONS-clause-state
-returns-then-self-le-MOST_ADDITIONS-clause-state g c = ap (λ (s : SessionState). s.state) c.self.view_is
+pub returns-then-keeps_task-clause-state : goal.returns-then-keeps_task-clause-state
+returns-then-keeps_task-clause-state g c = ap (λ (s : SessionState). s.state) c.self.view_is
 
-pub returns-then-self-le-MOST_ADDITIONS-clause-kb : goal.returns-then-self-le-MOST_ADDITIONS-clause-kb
-returns-then-self-le-MOST_ADDITIONS-clause-kb g c = ap (λ (s : SessionState). s.kb) c.self.view_is
+pub returns-then-keeps_task-clause-kb : goal.returns-then-keeps_task-clause-kb
+returns-then-keeps_task-clause-kb g c = ap (λ (s : SessionState). s.kb) c.self.view_is
 
-pub returns-then-self-le-MOST_ADDITIONS-clause-learnt : goal.returns-then-self-le-MOST_ADDITIONS-clause-learnt
-returns-then-self-le-MOST_ADDITIONS-clause-learnt g c =
+pub returns-then-keeps_task-clause-learnt : goal.returns-then-keeps_task-clause-learnt
+returns-then-keeps_task-clause-learnt g c =
     ap (λ (s : SolveState). s.learnt) c.forget.ensures.forgotten.kept
 
-pub returns-then-self-le-MOST_ADDITIONS-clause-solver : goal.returns-then-self-le-MOST_ADDITIONS-clause-solver
-returns-then-self-le-MOST_ADDITIONS-clause-solver g c =
+pub returns-then-keeps_task-clause-solver : goal.returns-then-keeps_task-clause-solver
+returns-then-keeps_task-clause-solver g c =
     rw (← c.self.view_is) (solver-of (base_of c.self.inside.kb) c.forget.new.self.numbers c.forget.new.self.solver.kept
     (forgotten-over (base_of c.self.inside.kb) c.self.inside.task.numbers c.forget.new.self.numbers
     c.self.inside.task.solver.kept c.forget.new.self.solver.kept c.forget.ensures.forgotten.kept
