@@ -1,0 +1,2 @@
+mod ClaimFacts
+mod LineFacts

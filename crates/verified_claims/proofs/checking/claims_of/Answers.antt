@@ -1,0 +1,43 @@
+use Rattle.std.proofs.Common.{◌≡◌, ◌∙◌, ℕ, ap, subst}
+use Rattle.std.proofs.lemmas.Result.{IfErr-weaker, IfOk-weaker}
+use Rattle.kb_logic.specs.Bases.{Base}
+use Rattle.kb_logic.specs.KnownAtoms.{KnownAtoms}
+use Rattle.reading_stages.specs.FileBases.{base_of_file}
+use Rattle.type_derivation.specs.declared.typed.TypedKb.{TypedKb}
+use Rattle.type_derivation.specs.TypedViews.{typed_view}
+use Rattle.consult_base.specs.Opened.{Opened, base_of}
+use Rattle.def_ground.specs.Groundings.{IsGroundingOf, theory_problem}
+use Rattle.verified_claims.specs.RightClaims.{AreClaimsOf}
+use Rattle.verified_claims.specs.Verdicts.{IsLogError}
+use Rattle.verified_claims.proofs.checking.claims_of.Goals as goal
+
+-- the base that was ground is the knowledge base's
+abbrev IsSame : Opened → TypedKb → ℕ → KnownAtoms → Type 0
+IsSame kb typed theory known = base_of_file (typed_view typed) theory known ≡ base_of kb
+
+same-base : (kb : Opened) (typed : TypedKb) (theory : ℕ) (known : KnownAtoms) → typed ≡ kb.typed → theory ≡ kb.theory
+    → known ≡ kb.known → IsSame kb typed theory known
+same-base kb typed theory known t n k =
+    ap (λ (x : TypedKb). base_of_file (typed_view x) theory known) t
+    ∙ ap (λ (x : ℕ). base_of_file (typed_view kb.typed) x known) n
+    ∙ ap (λ (x : KnownAtoms). base_of_file (typed_view kb.typed) kb.theory x) k
+
+pub returns-clause-claims : goal.returns-clause-claims
+returns-clause-claims c =
+    let same = same-base c.args.kb.now c.typed.result.now c.theory.result c.«data».result.now c.typed.ensures.typed
+    c.theory.ensures c.«data».ensures.known in
+    IfOk-weaker c.claims_over.result _ (λ claims. AreClaimsOf (base_of c.args.kb.now) c.args.log.now claims.list)
+    (λ claims told. told (base_of c.args.kb.now)
+    (subst (λ (b : Base). c.in-Ok.problem ≡ theory_problem b) same c.in-Ok.ensures.value)
+    c.typed.ensures.is.ground
+    (subst (λ (b : Base). IsGroundingOf b c.in-Ok.problem) same c.in-Ok.ensures.right))
+    c.claims_over.ensures.claims
+
+pub returns-clause-error : goal.returns-clause-error
+returns-clause-error c =
+    let same = same-base c.args.kb.now c.typed.result.now c.theory.result c.«data».result.now c.typed.ensures.typed
+    c.theory.ensures c.«data».ensures.known in
+    IfErr-weaker c.claims_over.result _ (IsLogError (base_of c.args.kb.now) c.args.log.now)
+    (λ error told. told (base_of c.args.kb.now)
+    (subst (λ (b : Base). c.in-Ok.problem ≡ theory_problem b) same c.in-Ok.ensures.value))
+    c.claims_over.ensures.error

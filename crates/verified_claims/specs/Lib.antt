@@ -1,0 +1,4 @@
+pub mod SaidClaims
+pub mod ClaimLines
+pub mod Verdicts
+pub mod RightClaims

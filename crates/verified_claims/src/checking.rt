@@ -1,0 +1,41 @@
+//! The claims of a log over the ground problem of a knowledge base.
+ghost use Rattle.std.specs.Prelude.{◌≡◌, IfOk, IfErr};
+ghost use Rattle.consult_base.specs.Opened.{base_of};
+ghost use Rattle.kb_logic.specs.Bases.{Base};
+ghost use Rattle.def_ground.specs.Groundings.{IsGroundTheory, IsGroundingOf, theory_problem};
+ghost use Rattle.verified_claims.specs.Verdicts.{IsLogError};
+ghost use Rattle.verified_claims.specs.RightClaims.{AreClaimsOf};
+
+use crate::verdicts::LogError;
+use consult_base::KnowledgeBase;
+use ground_core::Problem;
+use grounder::ground;
+use log_checker::{Claims, Refused, verify};
+use std::alloc::Global;
+
+/// The claims of a log over the ground problem of a knowledge base.
+fn claims_over(alloc: Global, problem: &Problem, log: &[u8]) -> Result<Claims, LogError>
+    ensures claims { IfOk result (λ claims. (base : Base) → problem.now ≡ theory_problem base
+        → IsGroundTheory base → IsGroundingOf base problem.now → AreClaimsOf base log.now claims.list) }
+    ensures error { IfErr result (λ error. (base : Base) → problem.now ≡ theory_problem base
+        → IsLogError base log.now error) }
+{
+    match verify(alloc, problem, log) {
+        Ok(claims) => Ok(claims),
+        Err(Refused::Entry(number)) => Err(LogError::Refused(number)),
+        Err(Refused::Memory) => Err(LogError::Memory),
+    }
+}
+
+// The problem has one way out: wherever it is given up, all its lists are.
+/// The claims of a log. The ground problem is not too large, since the knowledge base's weight is within its limit:
+/// only memory may be wanting for it.
+pub(crate) fn claims_of(alloc: Global, kb: &KnowledgeBase, log: &[u8]) -> Result<Claims, LogError>
+    ensures claims { IfOk result (λ claims. AreClaimsOf (base_of kb.now) log.now claims.list) }
+    ensures error { IfErr result (IsLogError (base_of kb.now) log.now) }
+{
+    let Ok(problem) = ground(alloc, kb.typed(), kb.theory(), kb.data()) else {
+        return Err(LogError::Memory);
+    };
+    claims_over(alloc, &problem, log)
+}
