@@ -1,10 +1,11 @@
 //! How many literals follow from a knowledge base, and the least cost of its models.
-ghost use Rattle.std.specs.Prelude.{◌≡◌, ◌++◌, List, length, IfOk, OnOk, Some, codes};
+ghost use Rattle.std.specs.Prelude.{◌≡◌, ◌++◌, List, length, IfOk, OnOk, Some, None, codes};
 ghost use Rattle.std.specs.Option.{IfSome};
 ghost use Rattle.kb_logic.specs.Decimals.{decimal_text};
 ghost use Rattle.kb_logic.specs.declared.structures.Literal.{Literal};
 ghost use Rattle.kb_logic.specs.declared.structures.Structure.{Structure};
 ghost use Rattle.consult_base.specs.Opened.{base_of};
+ghost use Rattle.consult_text.specs.States.{first_state};
 ghost use Rattle.consult_text.specs.declared.replies.Reply.TheVariants as reply;
 ghost use Rattle.idp_cli.specs.Summaries.{AnswersQuestions, summary_text};
 ghost use Rattle.idp_cli.specs.Turns.{RepliesTo};
@@ -54,19 +55,32 @@ fn least(alloc: Global, session: &mut Session<FirstGreatest>) -> Result<Option<E
     }
 }
 
+/// The summary of the knowledge base of a session in its first state; none where it has no model, or no cost.
+fn summary_by(
+    alloc: Global,
+    session: &mut Session<FirstGreatest>,
+) -> Result<Option<Summary>, Memory>
+    requires { session.old.state ≡ first_state None }
+    ensures { IfOk result (λ found. IfSome found (λ summary. (ls : List Literal) × (summary.forced ≡ length ls)
+        × AnswersQuestions (base_of session.old.kb) ls summary.least)) }
+{
+    let Some(forced) = forced(alloc, session)? else {
+        return Ok(None);
+    };
+    match least(alloc, session)? {
+        Some(least) => Ok(Some(Summary { forced, least })),
+        None => Ok(None),
+    }
+}
+
 /// The summary of a knowledge base; none where it has no model, or no cost.
 pub fn summary_of(alloc: Global, kb: KnowledgeBase) -> Result<Option<Summary>, Memory>
     ensures { IfOk result (λ found. IfSome found (λ summary. (ls : List Literal) × (summary.forced ≡ length ls)
         × AnswersQuestions (base_of kb) ls summary.least)) }
 {
     let mut session = Session::open(alloc, kb, None, FirstGreatest)?;
-    let Some(forced) = forced(alloc, &mut session)? else {
-        return Ok(None);
-    };
-    match least(alloc, &mut session)? {
-        Some(least) => Ok(Some(Summary { forced, least })),
-        None => Ok(None),
-    }
+    // There is one exit behind the session's start: each proves anew how a whole session is dropped.
+    summary_by(alloc, &mut session)
 }
 
 /// Appends a line.
