@@ -7,7 +7,7 @@ syntax keyword idpBlock vocabulary theory structure term procedure
 syntax keyword idpDeclaration type isa constructed from
 syntax keyword idpType int nat
 syntax keyword idpTruth true false
-syntax keyword idpAggregate sum prod min max card
+syntax keyword idpAggregate sum min max
 syntax match idpNumber "\<[0-9]\+\>"
 syntax match idpMark "<\(ct\|cf\)>"
 syntax match idpOperator "<=>\|=>\|<=\|=<\|>=\|\~=\|->\|\.\.\|[~&|=<>+*!?#-]"
