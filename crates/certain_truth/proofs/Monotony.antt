@@ -37,7 +37,7 @@ use Rattle.partial_structures.proofs.Walks.{given_found, given_some, row_denotes
 use Rattle.certain_truth.proofs.Soundness.{same_sym, denotes, rows_same}
 
 -- u is certain where t is, and the same
-abbrev Above : Truth → Truth → Type 0
+abbrev pub Above : Truth → Truth → Type 0
 Above Yes u = u ≡ Yes
 Above No u = u ≡ No
 Above Unknown u = Unit {0}
@@ -192,7 +192,7 @@ or_else_both No u v h i = h
 or_else_both Unknown u v h i = i
 
 -- with all ways below a certain truth that comes last, this is the whole
-or_else_last : (t u : Truth) (b : Bool) → Above t (truth_if b) → Above u (truth_if b)
+pub or_else_last : (t u : Truth) (b : Bool) → Above t (truth_if b) → Above u (truth_if b)
     → or_else t (or_else u (truth_if b)) ≡ truth_if b
 or_else_last Yes u b h i = sym h
 or_else_last No u b h i = sym h
@@ -211,7 +211,7 @@ second_only t u r s e f h = subst (λ x. Above (or_else x r) (or_else u s)) (sym
 
 -- what is certain of the equation of a value v with a term of the value w, where both are known, is whether they are
 -- equal
-abbrev Agrees : Truth → Option Denotation → Option Denotation → Type 0
+abbrev pub Agrees : Truth → Option Denotation → Option Denotation → Type 0
 Agrees t None w = Unit {0}
 Agrees t (Some v) None = Unit {0}
 Agrees t (Some v) (Some w) = Above t (truth_if (same_value w v))
@@ -264,7 +264,7 @@ value_none : (k : KnownAtoms) (s : ℕ) (o : Option (List Denotation)) → value
 value_none k s None = refl
 value_none k s (Some vs) = refl
 
-equation_none : (k : KnownAtoms) (t : TermTree) (e : List Elem) → equation_certain k t None e ≡ Unknown
+pub equation_none : (k : KnownAtoms) (t : TermTree) (e : List Elem) → equation_certain k t None e ≡ Unknown
 equation_none k (variable n) e = refl
 equation_none k (integer z) e = refl
 equation_none k (constructed ty n) e = refl
@@ -391,7 +391,7 @@ module _ (j : KnownAtoms) (whole : IsConsistent j) where
       by None e = tt
       by (Some x) e = value_agrees s vs x v e
 
-  equation_agrees : (t : TermTree) (v : Option Denotation) (e : List Elem) → Agrees (equation_certain j t v e) v
+  pub equation_agrees : (t : TermTree) (v : Option Denotation) (e : List Elem) → Agrees (equation_certain j t v e) v
       (known_value j t e)
   equation_agrees (variable n) v e = agrees_unknown v (known_value j (variable n) e)
   equation_agrees (integer z) v e = agrees_unknown v (known_value j (integer z) e)

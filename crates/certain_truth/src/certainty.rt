@@ -297,6 +297,14 @@ pub fn kleene<'a>(s: &'a Partial, f: &'a Formula, env: &'a [Elem]) -> Truth
     certainty(s.lent(), f, env)
 }
 
+/// As `kleene`, under an environment.
+pub fn certain_formula<'a>(s: &'a Partial, f: &'a Formula, env: &'a Env<'a>) -> Truth
+    requires { CertaintyFits s.now (formula_view f.now) (env_view env.now) }
+    ensures { result ≡ certain_truth s.now (formula_view f.now) (env_view env.now) }
+{
+    certain(s.lent(), f, env)
+}
+
 /// The value of the term, whose free variables have the elements of `env`, where it is known. It is `Nothing` where the
 /// term is not well typed.
 pub fn known_term<'a>(s: &'a Partial, t: &'a Term, env: &'a Env<'a>) -> Option<Value<'a>>

@@ -8,4 +8,4 @@ pub mod laws;
 mod sides;
 mod totals;
 
-pub use certainty::{kleene, known_term};
+pub use certainty::{certain_formula, kleene, known_term};
