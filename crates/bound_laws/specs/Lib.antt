@@ -1,0 +1,4 @@
+pub mod Lone
+pub mod Heads
+pub mod Closures
+pub mod Laws
