@@ -1,9 +1,4 @@
 mod Asked
-mod Ended
-mod Answered
-mod Progress
-mod Ending
-mod Replying
 mod Consulting
 mod Generating
 mod Elimination

@@ -12,11 +12,6 @@ use Rattle.base_reader.specs.Readings.{meaning_of}
 use Rattle.idp_cli.specs.declared.load.LoadError.{LoadError}
 use Rattle.idp_cli.specs.declared.load.LoadError.TheVariants as load_error
 
--- a fact about what is observable, where it is
-abbrev pub IfObservable : Option (List ℕ) → (List ℕ → Type 0) → Type 0
-IfObservable None P = Unit {0}
-IfObservable (Some bytes) P = P bytes
-
 -- the line of a place in the bytes: one more than the newlines before it
 abbrev pub line_of : ℕ → List ℕ → ℕ
 line_of place bytes = newlines (take place bytes) + 1

@@ -2,10 +2,6 @@ pub mod Jobs
 pub mod JobViews
 pub mod Files
 pub mod Reading
-pub mod Consultation
-pub mod EndedLines
-pub mod Answering
-pub mod Turns
 pub mod Summaries
 pub mod Runs
 pub mod Printing

@@ -1,7 +1,6 @@
 //! The top call: one run of the program, over devices that the caller hands in.
 #![tactic(auto)]
 
-mod consultation;
 mod generation;
 mod jobs;
 pub mod laws;

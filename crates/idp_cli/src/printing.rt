@@ -17,16 +17,6 @@ use kb_logic::Memory;
 use kb_text::K;
 use std::alloc::{AllocError, Global};
 
-/// Writes a text and flushes.
-pub fn say<W: Sink>(out: &mut W, text: &[u8]) -> Result<(), Failed>
-    ensures ok { OnOk result (Appends (W.holds out.old) (W.holds out.new) text.now) }
-    ensures err { OnErr result (AppendsPrefix (W.holds out.old) (W.holds out.new) text.now) }
-    ensures cause { HasCause (W.faults out.old) (W.faults out.new) result }
-{
-    write_all(out, text)?;
-    out.flush()
-}
-
 fn refusal_line(alloc: Global, k: K, line: u64) -> Result<String, AllocError>
     ensures { IfOk result (λ text. string_bytes text ≡ refusal_text k line) }
 {

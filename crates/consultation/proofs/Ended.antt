@@ -4,7 +4,7 @@ use Rattle.std.proofs.Common.{append-nil}
 use Rattle.std.specs.List.{AllByRecursion}
 use Rattle.kb_io.specs.Lines.{newlines, command_lines, ended}
 use Rattle.kb_io.proofs.LineLemmas.{newlines-append, first_line}
-use Rattle.idp_cli.specs.EndedLines.{ended_lines}
+use Rattle.consultation.specs.EndedLines.{ended_lines}
 
 -- no line has a newline
 abbrev pub AreWhole : List (List ℕ) → Type 0

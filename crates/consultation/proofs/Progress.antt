@@ -12,10 +12,10 @@ use Rattle.kb_io.proofs.LineLemmas.{newlines-append, last_line}
 use Rattle.kb_io.specs.Pending.{Pending, TakesLine, NextLine, most_bytes}
 use Rattle.kb_io.specs.declared.lines.LineError.TheVariants as line_error
 use Rattle.kb_io.specs.declared.lines.Next.TheVariants as next
-use Rattle.idp_cli.specs.Files.{IfObservable}
-use Rattle.idp_cli.specs.EndedLines.{ended_lines, HaveEnded}
-use Rattle.idp_cli.specs.Answering.{lines_within}
-use Rattle.idp_cli.proofs.Ended.{AreWhole, whole_more, ended_more, lines_after, ended_after, ended_are}
+use Rattle.consultation.specs.Streams.{IfObservable}
+use Rattle.consultation.specs.EndedLines.{ended_lines, HaveEnded}
+use Rattle.consultation.specs.Answering.{lines_within}
+use Rattle.consultation.proofs.Ended.{AreWhole, whole_more, ended_more, lines_after, ended_after, ended_are}
 
 -- a newline ended each of the lines, and the rest is ahead and left
 abbrev pub IsUnderWay : List ℕ → List ℕ → List (List ℕ) → Pending → Type 0

@@ -1,0 +1,4 @@
+mod Ended
+mod Progress
+mod Answered
+mod Ending

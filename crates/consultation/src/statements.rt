@@ -1,0 +1,90 @@
+//! The bytes of an answer, and what a log states of it.
+ghost use Rattle.std.specs.Prelude.{◌≡◌, IfOk};
+ghost use Rattle.derivation_log.specs.Lines.{entry_text};
+ghost use Rattle.derivation_log.specs.declared.entries.Entry.TheVariants.{Mark};
+ghost use Rattle.consult_text.specs.RightReplies.{RightReply};
+ghost use Rattle.consult_text.specs.States.{State};
+ghost use Rattle.consult_text.specs.Texts.{reply_text};
+ghost use Rattle.consult_base.specs.Opened.{base_of};
+ghost use Rattle.consultation.specs.Consultation.{said_text};
+ghost use Rattle.consultation.specs.Statements.{IsRightSomewhere, IsStatement};
+ghost use Rattle.consultation.specs.declared.said.Said.TheVariants as said;
+
+use crate::said::Said;
+use chooser::FirstGreatest;
+use consult_text::{Command, F, Reply, write_reply};
+use consultant_session::Session;
+use derivation_log::{Entry, write_entry};
+use kb_logic::{Memory, Vocabulary};
+use std::alloc::Global;
+
+/// The bytes of a reply.
+fn text_of_reply(alloc: Global, vocab: &Vocabulary, reply: &Reply) -> Result<Vec<u8>, Memory>
+    ensures { IfOk result (λ text. text.items ≡ reply_text vocab.now reply.now) }
+{
+    let mut text = Vec::new(alloc);
+    write_reply(alloc, &mut text, vocab, reply)?;
+    Ok(text)
+}
+
+/// The bytes of what is said.
+pub(crate) fn text_of(alloc: Global, vocab: &Vocabulary, said: &Said) -> Result<Vec<u8>, Memory>
+    ensures { IfOk result (λ text. text.items ≡ said_text vocab.now said.now) }
+{
+    match said {
+        Said::Nothing => Ok(Vec::new(alloc)),
+        Said::TooLong => text_of_reply(alloc, vocab, &Reply::Refused(F::LineTooLong)),
+        Said::Refused(f) => text_of_reply(alloc, vocab, &Reply::Refused(*f)),
+        Said::Replied(_, reply) => text_of_reply(alloc, vocab, reply),
+    }
+}
+
+/// The mark of the line with this number.
+fn mark_of(alloc: Global, number: u64) -> Result<Vec<u8>, Memory>
+    ensures { IfOk result (λ bytes. bytes.items ≡ entry_text (Mark number)) }
+{
+    let mut bytes = Vec::new(alloc);
+    write_entry(&mut bytes, &Entry::Mark(number))?;
+    Ok(bytes)
+}
+
+/// The mark of the line with this number, the entries that the session left, and the claims that belong to the reply
+/// to the command.
+fn statement_of_reply(
+    alloc: Global,
+    session: &Session<FirstGreatest>,
+    number: u64,
+    command: &Command,
+    reply: &Reply,
+) -> Result<Vec<u8>, Memory>
+    requires { (s : State) × RightReply (base_of session.now.kb) s command.now reply.now }
+    ensures { IfOk result (λ bytes. IsStatement (base_of session.now.kb) session.now.state number
+        (said.Replied command.now reply.now) bytes.items) }
+{
+    let claims = session.claims(command, reply)?;
+    let mut bytes = mark_of(alloc, number)?;
+    bytes.extend_from_slice(session.entries())?;
+    bytes.extend_from_slice(&claims)?;
+    Ok(bytes)
+}
+
+/// What is stated of the line with this number, to which this is said.
+pub(crate) fn statement_of(
+    alloc: Global,
+    session: &Session<FirstGreatest>,
+    number: u64,
+    said: &Said,
+) -> Result<Vec<u8>, Memory>
+    requires { IsRightSomewhere (base_of session.now.kb) said.now }
+    ensures { IfOk result
+        (λ bytes. IsStatement (base_of session.now.kb) session.now.state number said.now bytes.items) }
+{
+    match said {
+        Said::Nothing => Ok(Vec::new(alloc)),
+        Said::TooLong => mark_of(alloc, number),
+        Said::Refused(_) => mark_of(alloc, number),
+        Said::Replied(command, reply) => {
+            statement_of_reply(alloc, session, number, command, reply)
+        }
+    }
+}
