@@ -4,11 +4,12 @@ use Rattle.std.proofs.Common.{length-append, Bool, true, false, Option, Some, No
 use Rattle.kb_io.specs.Outside.{Rose}
 use Rattle.kb_io.specs.Pending.{Pending, TakesLine, most_bytes}
 use Rattle.kb_logic.specs.Bases.{Base}
-use Rattle.consult_text.specs.States.{State}
+use Rattle.consult_base.specs.Opened.{base_of}
+use Rattle.consult_text.specs.States.{State, first_state}
 use Rattle.consultation.specs.Answering.{AnswersCommands}
 use Rattle.consultation.specs.Answers.{AnswersTo, IsPrintedInPart, IsStatedInPart}
-use Rattle.consultation.specs.Streams.{IfObservable, Held, Streams, held_by, IsWithoutFault}
-use Rattle.consultation.specs.Turns.{Turns}
+use Rattle.consultation.specs.Streams.{IfObservable, Streams, held_by, IsWithoutFault}
+use Rattle.consultation.specs.Turns.{ConsultantState, just_opened, Turns}
 use Rattle.consultation.specs.declared.stop.Stop.{Stop}
 use Rattle.consultation.specs.declared.stop.Stop.TheVariants as stop
 use Rattle.consultation.proofs.Answered.{answers_none, answers_more}
@@ -26,7 +27,7 @@ pub record IsSoFar (logs : Bool) (kb : Base) (first s : State) (number : ℕ) (p
   pub answered : AnswersTo logs kb first lines s (held_by before) (held_by now)
   pub given : Given before.script now.script lines p
 
-pub begins : (logs : Bool) (kb : Base) (first : State) (before : Streams)
+begins : (logs : Bool) (kb : Base) (first : State) (before : Streams)
     → IsSoFar logs kb first first 0 (record { taken = 0; ahead = []; line = [] }) before before
 begins logs kb first before = record {
   within = omega arith;
@@ -37,6 +38,19 @@ begins logs kb first before = record {
   answered = answers_none logs kb first (held_by before);
   given = none_given before.script;
 }
+
+-- a consultant that was just opened begins so
+pub began : (c : ConsultantState) (before : Streams) → c ≡ just_opened c.kb c.state.budget c.logs
+    → IsSoFar c.logs (base_of c.kb) (first_state c.state.budget) c.state c.number c.lines before before
+began c before is =
+    let kb : Base = base_of c.kb in
+    let first : State = first_state c.state.budget in
+    subst (λ (s : State). IsSoFar c.logs kb first s c.number c.lines before before)
+    (sym (ap (λ (d : ConsultantState). d.state) is))
+    (subst (λ (n : ℕ). IsSoFar c.logs kb first first n c.lines before before)
+    (sym (ap (λ (d : ConsultantState). d.number) is))
+    (subst (λ (p : Pending). IsSoFar c.logs kb first first 0 p before before)
+    (sym (ap (λ (d : ConsultantState). d.lines) is)) (begins c.logs kb first before)))
 
 no_fault : (before mid now : Streams) → IsWithoutFault before mid → IsWithoutFault mid now → IsWithoutFault before now
 no_fault before mid now first second = record {
