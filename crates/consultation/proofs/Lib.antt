@@ -2,3 +2,4 @@ mod Ended
 mod Progress
 mod Answered
 mod Ending
+mod Telling
