@@ -28,13 +28,18 @@ choosing name =
     with_rule (with_rule (with_rule (new_app name) (word_rule (codes "FILE"))) (option_rule (codes "theory")))
     (option_rule (codes "structure"))
 
--- `consult FILE [--theory NAME] [--structure NAME] [--budget N]`
+-- `consult FILE [--theory NAME] [--structure NAME] [--budget N] [--log P]`
 abbrev pub consulting : App
-consulting = with_rule (choosing (codes "consult")) (option_rule (codes "budget"))
+consulting =
+    with_rule (with_rule (choosing (codes "consult")) (option_rule (codes "budget"))) (option_rule (codes "log"))
 
 -- `check FILE [--theory NAME] [--structure NAME]`
 abbrev pub checking : App
 checking = choosing (codes "check")
+
+-- `verify FILE LOG [--theory NAME] [--structure NAME]`
+abbrev pub verifying : App
+verifying = with_rule (choosing (codes "verify")) (word_rule (codes "LOG"))
 
 -- `generate KIND N [--text]`
 abbrev pub generating : App
@@ -48,9 +53,13 @@ program =
     on_top (λ s. record s { no_binary_name = true; subcommand_required = true; has_version = true })
     (new_app (codes "idp"))
 
--- with one of these three
+-- with the three that are about a file
+abbrev pub about_files : App
+about_files = with_subcommand (with_subcommand (with_subcommand program consulting.top) checking.top) verifying.top
+
+-- and with the one that makes a file
 abbrev pub command_line : App
-command_line = with_subcommand (with_subcommand (with_subcommand program consulting.top) checking.top) generating.top
+command_line = with_subcommand about_files generating.top
 
 -- clap reads the command by this line, and no option is handed down to subcommands
 abbrev pub IsReadBy : App → Command → Type 0
@@ -62,11 +71,13 @@ pub record FileSaid : Type 0 where
   pub theory : Option Text
   pub structure : Option Text
 
--- What words say: to consult about a file, with a budget where one is given; to check a file; or to generate a file of
--- this kind and number, and whether its text is what is wanted.
+-- What words say: to consult about a file, with a budget and with a file for the log where they are given; to check a
+-- file; to verify a log of what was derived from a file; or to generate a file of this kind and number, and whether its
+-- text is what is wanted.
 pub data Said : Type 0 where
-  consult : FileSaid → (budget : Option Text) → Said
+  consult : FileSaid → (budget log : Option Text) → Said
   check : FileSaid → Said
+  verify : FileSaid → (log : Text) → Said
   generate : (kind number : Text) → (text : Bool) → Said
 
 -- the file with these values of options; nothing where there is no file
@@ -86,6 +97,11 @@ file_in rows =
 abbrev pub has_flag : Text → List Row → Bool
 has_flag name rows = option_map_or (λ value. bytes_eq value (codes "true")) (first_of name rows) false
 
+-- a file and a log; nothing where one of them is wanting
+abbrev pub verification_with : Option FileSaid → Option Text → Option Said
+verification_with None log = None
+verification_with (Some f) log = option_map (λ log. verify f log) log
+
 -- a kind and a number; nothing where one of them is wanting
 abbrev pub generation_with : Option Text → Option Text → Bool → Option Said
 generation_with None number text = None
@@ -98,16 +114,21 @@ generation_in rows =
 
 -- what the matches of each subcommand say
 abbrev pub consultation_in : List Row → Option Said
-consultation_in rows = option_map (λ f. consult f (first_of (codes "budget") rows)) (file_in rows)
+consultation_in rows =
+    option_map (λ f. consult f (first_of (codes "budget") rows) (first_of (codes "log") rows)) (file_in rows)
 
 abbrev pub check_in : List Row → Option Said
 check_in rows = option_map check (file_in rows)
+
+abbrev pub verification_in : List Row → Option Said
+verification_in rows = verification_with (file_in rows) (first_of (codes "LOG") rows)
 
 abbrev pub said_in : Text → List Row → Option Said
 said_in name rows =
     if bytes_eq name (codes "consult") then consultation_in rows
     else (if bytes_eq name (codes "check") then check_in rows
-    else (if bytes_eq name (codes "generate") then generation_in rows else None))
+    else (if bytes_eq name (codes "verify") then verification_in rows
+    else (if bytes_eq name (codes "generate") then generation_in rows else None)))
 
 -- this where clap has no error, and nothing where it has one
 abbrev pub said_unless : Kinds → Option Said → Option Said

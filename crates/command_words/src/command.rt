@@ -7,8 +7,10 @@ use clap::{Arg, ArgAction, Command};
 use std::alloc::{AllocError, Global};
 
 /// How each command is called; what follows the first line stands under it.
-const USAGE: &str = "idp consult FILE [--theory NAME] [--structure NAME] [--budget N]\n       \
+const USAGE: &str =
+    "idp consult FILE [--theory NAME] [--structure NAME] [--budget N] [--log P]\n       \
 idp check FILE [--theory NAME] [--structure NAME]\n       \
+idp verify FILE LOG [--theory NAME] [--structure NAME]\n       \
 idp generate KIND N [--text]";
 
 /// A word that has to stand there.
@@ -46,11 +48,20 @@ fn choosing<'a>(alloc: Global, name: &'a str) -> Result<Command<'a>, AllocError>
         .arg(option_of(alloc, "structure"))
 }
 
-/// The subcommand with a budget.
+/// The subcommand with a budget, and with a file for the log.
 fn consulting<'a>(alloc: Global) -> Result<Command<'a>, AllocError>
     ensures { IfOk result (spec.IsReadBy spec.consulting) }
 {
-    choosing(alloc, "consult")?.arg(option_of(alloc, "budget"))
+    choosing(alloc, "consult")?
+        .arg(option_of(alloc, "budget"))?
+        .arg(option_of(alloc, "log"))
+}
+
+/// The subcommand with a log.
+fn verifying<'a>(alloc: Global) -> Result<Command<'a>, AllocError>
+    ensures { IfOk result (spec.IsReadBy spec.verifying) }
+{
+    choosing(alloc, "verify")?.arg(word_of(alloc, "LOG"))
 }
 
 /// The subcommand with a kind of file and its number.
@@ -75,15 +86,23 @@ fn program<'a>(alloc: Global) -> Command<'a>
         .version("0.1")
 }
 
+/// The command with the subcommands that are about a file.
+fn about_files<'a>(alloc: Global) -> Result<Command<'a>, AllocError>
+    ensures { IfOk result (spec.IsReadBy spec.about_files) }
+{
+    let consult = consulting(alloc)?;
+    let check = choosing(alloc, "check")?;
+    let verify = verifying(alloc)?;
+    program(alloc)
+        .subcommand(consult)?
+        .subcommand(check)?
+        .subcommand(verify)
+}
+
 /// The command line of the program, for words without the program's name.
 pub fn command_line<'a>(alloc: Global) -> Result<Command<'a>, AllocError>
     ensures { IfOk result (spec.IsReadBy spec.command_line) }
 {
-    let consult = consulting(alloc)?;
-    let check = choosing(alloc, "check")?;
     let generate = generating(alloc)?;
-    program(alloc)
-        .subcommand(consult)?
-        .subcommand(check)?
-        .subcommand(generate)
+    about_files(alloc)?.subcommand(generate)
 }

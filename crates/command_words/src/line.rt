@@ -4,6 +4,7 @@ ghost use Rattle.std.specs.String.{string_bytes};
 ghost use Rattle.clap.specs.Words.{first_of, found_of, rows_of};
 ghost use Rattle.command_words.specs.CommandLine.{check_in, consultation_in, file_in, file_with};
 ghost use Rattle.command_words.specs.CommandLine.{generation_in, generation_with, has_flag, said_by, said_in};
+ghost use Rattle.command_words.specs.CommandLine.{verification_in, verification_with};
 ghost use Rattle.command_words.specs.LineView.{file_view, line_view};
 
 use crate::command::command_line;
@@ -22,10 +23,12 @@ pub struct FileWords<'a> {
 /// What words say.
 #[derive(Clone, Copy)]
 pub enum Line<'a> {
-    /// To consult about a file, with a budget where one is given.
-    Consult(FileWords<'a>, Option<&'a str>),
+    /// To consult about a file, with a budget and with a file for the log where they are given.
+    Consult(FileWords<'a>, Option<&'a str>, Option<&'a str>),
     /// To check a file.
     Check(FileWords<'a>),
+    /// To verify a log of what was derived from a file.
+    Verify(FileWords<'a>, &'a str),
     /// To generate a file of this kind and number, and whether its text is what is wanted.
     Generate(&'a str, &'a str, bool),
 }
@@ -76,6 +79,16 @@ fn file_in<'a>(matches: &ArgMatches<'a>) -> Option<FileWords<'a>>
     )
 }
 
+fn verification_with<'a>(file: Option<FileWords<'a>>, log: Option<&'a str>) -> Option<Line<'a>>
+    ensures { option_map line_view result ≡ verification_with (option_map file_view file.entry)
+        (option_map (λ s. s.now) log.entry) }
+{
+    match (file, log) {
+        (Some(file), Some(log)) => Some(Line::Verify(file, log)),
+        _ => None,
+    }
+}
+
 fn generation_with<'a>(
     kind: Option<&'a str>,
     number: Option<&'a str>,
@@ -105,8 +118,9 @@ fn consultation_in<'a>(matches: &ArgMatches<'a>) -> Option<Line<'a>>
     ensures { option_map line_view result ≡ consultation_in (rows_of (found_of matches.now)) }
 {
     let budget = value_of(matches, "budget");
+    let log = value_of(matches, "log");
     match file_in(matches) {
-        Some(file) => Some(Line::Consult(file, budget)),
+        Some(file) => Some(Line::Consult(file, budget, log)),
         None => None,
     }
 }
@@ -120,6 +134,12 @@ fn check_in<'a>(matches: &ArgMatches<'a>) -> Option<Line<'a>>
     }
 }
 
+fn verification_in<'a>(matches: &ArgMatches<'a>) -> Option<Line<'a>>
+    ensures { option_map line_view result ≡ verification_in (rows_of (found_of matches.now)) }
+{
+    verification_with(file_in(matches), value_of(matches, "LOG"))
+}
+
 /// What the matches of a subcommand say.
 fn line_in<'a>(command: &'a str, matches: &ArgMatches<'a>) -> Option<Line<'a>>
     ensures { option_map line_view result ≡ said_in command.entry.now (rows_of (found_of matches.now)) }
@@ -127,6 +147,7 @@ fn line_in<'a>(command: &'a str, matches: &ArgMatches<'a>) -> Option<Line<'a>>
     match command {
         "consult" => consultation_in(matches),
         "check" => check_in(matches),
+        "verify" => verification_in(matches),
         "generate" => generation_in(matches),
         _ => None,
     }
