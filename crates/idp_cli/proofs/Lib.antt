@@ -1,9 +1,4 @@
-mod Asked
+pub mod Asked
 mod Consulting
 mod Generating
-mod Elimination
-mod LiteralsOver
-mod ReadableValues
-mod OneAnswer
 mod LongFiles
-mod FileLaws

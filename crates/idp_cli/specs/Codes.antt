@@ -12,3 +12,4 @@ code_of status.ReadFault = 3
 code_of status.WriteFault = 4
 code_of status.Memory = 5
 code_of status.ScriptTooLong = 6
+code_of (status.LogRefused n) = 7

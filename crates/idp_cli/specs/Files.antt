@@ -1,5 +1,5 @@
 -- How a file is refused, and how it is loaded.
-use Rattle.std.specs.Prelude.{◌≡◌, ℕ, ◌+◌, List, ◌++◌, take, codes, Option, Some, None, Result, Ok, Err}
+use Rattle.std.specs.Prelude.{◌≡◌, ℕ, ◌+◌, List, ◌++◌, take, codes, Option, Result, Ok, Err}
 use Rattle.std.specs.Fmt.{decimal}
 use Rattle.kb_io.specs.Lines.{newlines}
 use Rattle.kb_io.specs.Outside.{Rose}
@@ -9,6 +9,7 @@ use Rattle.kb_text.specs.declared.fault.KbFault.{KbFault}
 use Rattle.consult_base.specs.Opened.{Opened}
 use Rattle.base_reader.specs.FileMeanings.{Choice, FileMeans, IsRefused}
 use Rattle.base_reader.specs.Readings.{meaning_of}
+use Rattle.consultation.specs.Streams.{IfObservable}
 use Rattle.idp_cli.specs.declared.load.LoadError.{LoadError}
 use Rattle.idp_cli.specs.declared.load.LoadError.TheVariants as load_error
 
@@ -23,6 +24,10 @@ IsRefusedAt c k line bytes = (q : KbFault) × IsRefused c bytes q × (k ≡ q.ca
 -- the line that says so
 abbrev pub refusal_text : K → ℕ → List ℕ
 refusal_text k line = codes "error " ++ (text_of k ++ (codes " line " ++ (decimal line ++ codes "\n")))
+
+-- the line that says that this entry of a log is no step
+abbrev pub log_refusal_text : ℕ → List ℕ
+log_refusal_text n = codes "error log entry " ++ (decimal n ++ codes "\n")
 
 -- the line that says that words ask nothing
 abbrev pub usage_text : List ℕ

@@ -1,5 +1,5 @@
 -- What the words of a command line ask.
-use Rattle.std.specs.Prelude.{◌≡◌, ℕ, List, true, false, Option, Some, None, codes}
+use Rattle.std.specs.Prelude.{◌≡◌, ℕ, List, Bool, true, false, Option, Some, None, is_some, codes}
 use Rattle.std.specs.List.{list_all}
 use Rattle.kb_text.specs.Bytes.{between}
 use Rattle.kb_text.specs.Tokens.{decimal}
@@ -10,18 +10,21 @@ use Rattle.generated_files.specs.declared.kinds.Kind.{Kind}
 use Rattle.consult_text.specs.Budgets.{IsBudget, default_budget}
 use Rattle.base_reader.specs.FileMeanings.{Choice}
 
--- to answer the commands by what a file means, with a first budget; to print the chosen structure of a file; to print
--- the file that is made of a number; or to print a summary of what follows from that file
+-- to answer the commands by what a file means, with a first budget, and with a log or without one; to print the chosen
+-- structure of a file; to verify a log of what was derived from a file; to print the file that is made of a number; or
+-- to print a summary of what follows from that file
 pub data Job : Type 0 where
-  consult : (file : List ℕ) → Choice → (budget : Option ℕ) → Job
+  consult : (file : List ℕ) → Choice → (budget : Option ℕ) → (logs : Bool) → Job
   check : (file : List ℕ) → Choice → Job
+  verify : (file : List ℕ) → Choice → (log : List ℕ) → Job
   make : Kind → (number : ℕ) → Job
   summarise : Kind → (number : ℕ) → Job
 
 -- the file that it is about; one that is made is none of the shelf's
 abbrev pub file_of : Job → Option (List ℕ)
-file_of (consult file c budget) = Some file
+file_of (consult file c budget logs) = Some file
 file_of (check file c) = Some file
+file_of (verify file c log) = Some file
 file_of (make k n) = None
 file_of (summarise k n) = None
 
@@ -52,12 +55,13 @@ pub record IsNumberText (k : Kind) (text : List ℕ) (n : ℕ) : Type 0 where
 abbrev pub AreOfFile : List ℕ → List ℕ → Kind → ℕ → Type 0
 AreOfFile kind number k n = (kind ≡ kind_name k) × IsNumberText k number n
 
--- what is said asks this: `consult` or `check`, about its file, with its options; `generate` with `--text`, to make the
--- file; and `generate` without it, to summarise it
+-- what is said asks this: `consult`, `check` or `verify`, about its file, with its options and its log; `generate` with
+-- `--text`, to make the file; and `generate` without it, to summarise it
 abbrev pub AsksBy : Said → Job → Type 0
-AsksBy (words.consult f text) (consult file c budget) =
-    (file ≡ f.file) × (c ≡ choice_in f) × IsFirstBudget text budget
+AsksBy (words.consult f text path) (consult file c budget logs) =
+    (file ≡ f.file) × (c ≡ choice_in f) × IsFirstBudget text budget × (logs ≡ is_some path)
 AsksBy (words.check f) (check file c) = (file ≡ f.file) × (c ≡ choice_in f)
+AsksBy (words.verify f path) (verify file c log) = (file ≡ f.file) × (c ≡ choice_in f) × (log ≡ path)
 AsksBy (words.generate kind number true) (make k n) = AreOfFile kind number k n
 AsksBy (words.generate kind number false) (summarise k n) = AreOfFile kind number k n
 AsksBy _ _ = ⊥
@@ -69,3 +73,16 @@ Asks words job = (said : Said) × (said_by words ≡ Some said) × AsksBy said j
 -- the words ask nothing
 abbrev pub IsUsage : List (List ℕ) → Type 0
 IsUsage words = (job : Job) → Asks words job → ⊥
+
+-- the words ask for a consultation with a log
+abbrev pub AskForLog : List (List ℕ) → Type 0
+AskForLog words = (file : List ℕ) × (c : Choice) × (budget : Option ℕ) × Asks words (consult file c budget true)
+
+-- what is said names this file for a log: it is `consult`, with a budget that is one
+abbrev pub NamesLog : Said → List ℕ → Type 0
+NamesLog (words.consult f text (Some path)) p = (p ≡ path) × ((budget : Option ℕ) × IsFirstBudget text budget)
+NamesLog _ p = ⊥
+
+-- the words are a command line that names this file for a log
+abbrev pub IsLogPath : List (List ℕ) → List ℕ → Type 0
+IsLogPath words p = (said : Said) × (said_by words ≡ Some said) × NamesLog said p

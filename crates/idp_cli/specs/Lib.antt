@@ -5,7 +5,5 @@ pub mod Reading
 pub mod Summaries
 pub mod Runs
 pub mod Printing
-pub mod Laws
-pub mod OneAnswer
-pub mod FileLaws
+pub mod Verifying
 pub mod Codes

@@ -5,7 +5,7 @@ use Rattle.kb_io.specs.Lines.{newlines}
 use Rattle.kb_io.specs.Outside.{Rose}
 use Rattle.kb_io.specs.declared.read_write.ReadError.{ReadError}
 use Rattle.kb_io.specs.declared.read_write.ReadError.TheVariants.{TooLong, Fault, Memory}
-use Rattle.idp_cli.specs.Files.{IfObservable}
+use Rattle.consultation.specs.Streams.{IfObservable}
 
 -- The file was read to its end, or why not. The shelf's count of faults rises at a fault alone.
 abbrev pub ReadsFile : Result (Vec ℕ Global) ReadError → ℕ → Option (List ℕ) → ℕ → ℕ → Type 0

@@ -12,7 +12,8 @@ use Rattle.base_reader.specs.FileMeanings.{Choice, Meaning, FileMeans, base_of_m
 use Rattle.consult_text.specs.States.{State, first_state}
 use Rattle.consult_text.specs.declared.commands.Command.{Command}
 use Rattle.consult_text.specs.declared.replies.Reply.TheVariants as reply
-use Rattle.idp_cli.specs.Consultation.{replied, Consultation}
+use Rattle.consultation.specs.Consultation.{Consultation}
+use Rattle.consultation.specs.declared.said.Said.TheVariants as said
 
 -- a file that is made has one theory and one structure, and none is chosen
 abbrev pub no_choice : Choice
@@ -30,7 +31,7 @@ pub record AnswersQuestions (kb : Base) (forced : List Literal) (least : ExtInt)
   pub model : Structure
   pub state : State
   pub right : Consultation kb (first_state None) questions
-      (replied propagate (reply.Forced forced) ∷ replied minimize (reply.Minimum least model) ∷ []) state
+      (said.Replied propagate (reply.Forced forced) ∷ said.Replied minimize (reply.Minimum least model) ∷ []) state
 
 -- the bytes mean a knowledge base, and these are right replies to the questions about it
 pub record FileAnswers (bytes : List ℕ) (forced : List Literal) (least : ExtInt) : Type 0 where

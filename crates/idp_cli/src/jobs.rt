@@ -1,12 +1,13 @@
 //! What the words of a command line ask.
-ghost use Rattle.std.specs.Prelude.{◌≡◌, ℕ, Option, IfOk, MatchOption};
+ghost use Rattle.std.specs.Prelude.{◌≡◌, ℕ, List, Option, is_some, IfOk, MatchOption};
+ghost use Rattle.std.specs.String.{string_bytes};
 ghost use Rattle.kb_text.specs.Bytes.{between};
 ghost use Rattle.std.specs.List.{list_all};
 ghost use Rattle.block_choice.specs.Choices.{word_given};
 ghost use Rattle.command_words.specs.CommandLine as words;
 ghost use Rattle.command_words.specs.LineView.{file_view, line_view};
 ghost use Rattle.idp_cli.specs.Jobs.{AreOfFile, Asks, AsksBy, IsBudgetText, IsFirstBudget, IsNumberText};
-ghost use Rattle.idp_cli.specs.Jobs.{IsUsage, choice_in};
+ghost use Rattle.idp_cli.specs.Jobs.{IsLogPath, IsUsage, NamesLog, choice_in};
 ghost use Rattle.idp_cli.specs.Jobs as asked;
 ghost use Rattle.idp_cli.specs.JobViews.{choice_view, job_view};
 ghost use Rattle.idp_cli.specs.Runs.{texts_of};
@@ -26,13 +27,26 @@ pub struct Options<'a> {
     pub structure: Option<&'a str>,
 }
 
+/// What is asked of a consultation.
+#[derive(Clone, Copy)]
+pub struct ConsultJob<'a> {
+    pub file: &'a str,
+    pub options: Options<'a>,
+    /// How many conflicts a query may meet; without a limit where there is no number.
+    pub budget: Option<u64>,
+    /// A log of it is kept.
+    pub logs: bool,
+}
+
 /// What the words ask.
 #[derive(Clone, Copy)]
 pub enum Job<'a> {
-    /// To answer the commands by what a file means, with a budget; without a limit where there is no number.
-    Consult(&'a str, Options<'a>, Option<u64>),
+    /// To answer the commands by what a file means.
+    Consult(ConsultJob<'a>),
     /// To print the chosen structure of a file.
     Check(&'a str, Options<'a>),
+    /// To verify a log of what was derived from a file.
+    Verify(&'a str, Options<'a>, &'a str),
     /// To print the file that is made of a number.
     Make(Kind, u32),
     /// To print what follows from that file, and the least cost of its models.
@@ -140,17 +154,39 @@ fn options_in<'a>(words: FileWords<'a>) -> Options<'a>
     }
 }
 
+/// What is asked of a consultation; nothing where the budget that is given is none.
+fn consultation_in<'a>(
+    words: FileWords<'a>,
+    text: Option<&'a str>,
+    log: Option<&'a str>,
+) -> Option<ConsultJob<'a>>
+    ensures { MatchOption result ((budget : Option ℕ) → IsFirstBudget (word_given text.entry) budget → ⊥)
+        (λ job. (job.file.now ≡ words.entry.file.now) × (choice_view job.options ≡ choice_in (file_view words.entry))
+        × IsFirstBudget (word_given text.entry) job.budget × (job.logs ≡ is_some (word_given log.entry))) }
+{
+    match first_budget(text) {
+        Some(budget) => Some(ConsultJob {
+            file: words.file,
+            options: options_in(words),
+            budget,
+            logs: log.is_some(),
+        }),
+        None => None,
+    }
+}
+
 /// What is asked by what the words say.
 fn job_in<'a>(line: Line<'a>) -> Option<Job<'a>>
     ensures { MatchOption result ((job : asked.Job) → AsksBy (line_view line.entry) job → ⊥)
         (λ job. AsksBy (line_view line.entry) (job_view job)) }
 {
     match line {
-        Line::Consult(words, text) => match first_budget(text) {
-            Some(budget) => Some(Job::Consult(words.file, options_in(words), budget)),
+        Line::Consult(words, text, log) => match consultation_in(words, text, log) {
+            Some(job) => Some(Job::Consult(job)),
             None => None,
         },
         Line::Check(words) => Some(Job::Check(words.file, options_in(words))),
+        Line::Verify(words, log) => Some(Job::Verify(words.file, options_in(words), log)),
         Line::Generate(kind, number, text) => generation(kind, number, text),
     }
 }
@@ -162,6 +198,35 @@ pub fn job_of<'a>(alloc: Global, words: &'a [String]) -> Result<Option<Job<'a>>,
 {
     match line_of(alloc, words) {
         Ok(Some(line)) => Ok(job_in(line)),
+        Ok(None) => Ok(None),
+        Err(e) => Err(e),
+    }
+}
+
+/// The file that is named for a log by what the words say.
+fn log_in<'a>(line: Line<'a>) -> Option<&'a str>
+    ensures { MatchOption result ((p : List ℕ) → NamesLog (line_view line.entry) p → ⊥)
+        (λ path. NamesLog (line_view line.entry) path.now) }
+{
+    match line {
+        Line::Consult(_, text, Some(path)) => match first_budget(text) {
+            Some(_) => Some(path),
+            None => None,
+        },
+        _ => None,
+    }
+}
+
+/// The file that the words name for a log; none where they name none, or are no command line.
+pub fn log_path(alloc: Global, words: &[String]) -> Result<Option<String>, AllocError>
+    ensures { IfOk result (λ path. MatchOption path ((p : List ℕ) → IsLogPath (texts_of words.now) p → ⊥)
+        (λ path. IsLogPath (texts_of words.now) (string_bytes path))) }
+{
+    match line_of(alloc, words) {
+        Ok(Some(line)) => match log_in(line) {
+            Some(path) => Ok(Some(String::from_str(alloc, path)?)),
+            None => Ok(None),
+        },
         Ok(None) => Ok(None),
         Err(e) => Err(e),
     }

@@ -3,13 +3,13 @@
 
 mod generation;
 mod jobs;
-pub mod laws;
 mod load;
 mod printing;
 mod runs;
 mod status;
 mod summaries;
+mod verification;
 
-pub use jobs::{Job, Options, job_of};
+pub use jobs::{ConsultJob, Job, Options, job_of, log_path};
 pub use runs::run;
 pub use status::Status;

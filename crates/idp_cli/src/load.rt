@@ -1,16 +1,19 @@
 //! The knowledge base of a file.
-ghost use Rattle.std.specs.Prelude.{◌≡◌, ◌+◌, ◌<◌, ◌≤◌, length, take};
+ghost use Rattle.std.specs.Prelude.{◌≡◌, ◌≢◌, ℕ, ◌+◌, ◌<◌, ◌≤◌, List, length, take, Ok, IfOk, IfErr, OnOk};
 ghost use Rattle.fo_syntax.specs.FileReads.{most_bytes};
 ghost use Rattle.kb_io.specs.Lines.{newlines};
 ghost use Rattle.kb_io.specs.Outside.{GrewByName, KeptNumber};
 ghost use Rattle.idp_cli.specs.Files.{Loads, Takes, line_of};
 ghost use Rattle.idp_cli.specs.JobViews.{choice_view};
 ghost use Rattle.idp_cli.specs.Reading.{ReadsFile};
+ghost use Rattle.idp_cli.specs.Runs.{FileFails, OnFiles, outside};
 
 use crate::jobs::Options;
+use crate::printing::refuse;
+use crate::status::Status;
 use base_reader::{KbError, read_base};
 use consult_base::KnowledgeBase;
-use kb_io::{ReadError, Shelf, newlines_in, read_up_to};
+use kb_io::{ReadError, Shelf, Sink, newlines_in, read_up_to};
 use kb_text::K;
 use std::alloc::Global;
 
@@ -25,8 +28,8 @@ pub enum LoadError {
     Memory,
 }
 
-/// Reads the named file to its end.
-fn read_file<H: Shelf>(
+/// Reads the named file to its end. What is under other names stays.
+pub fn read_file<H: Shelf>(
     alloc: Global,
     shelf: &mut H,
     name: &str,
@@ -34,6 +37,7 @@ fn read_file<H: Shelf>(
 ) -> Result<Vec<u8>, ReadError>
     requires { limit < usize.MAX }
     ensures read { ReadsFile result limit (H.file shelf.old name.now) (H.faults shelf.old) (H.faults shelf.new) }
+    ensures others { (other : List ℕ) → other ≢ name.now → H.file shelf.new other ≡ H.file shelf.old other }
     ensures asked { GrewByName (H.asked shelf.old) (H.asked shelf.new) name.now }
     ensures closed { KeptNumber (H.open_sources shelf.old) (H.open_sources shelf.new) }
 {
@@ -93,8 +97,8 @@ pub fn take(alloc: Global, bytes: &[u8], options: Options<'_>) -> Result<Knowled
     knowledge_base(alloc, bytes, options)
 }
 
-/// Loads the knowledge base of the named file.
-pub fn load<H: Shelf>(
+/// Loads the knowledge base of the named file. What is under other names stays.
+fn load<H: Shelf>(
     alloc: Global,
     shelf: &mut H,
     name: &str,
@@ -102,6 +106,7 @@ pub fn load<H: Shelf>(
 ) -> Result<KnowledgeBase, LoadError>
     ensures loaded { Loads (choice_view options.entry) result (H.file shelf.old name.now) (H.faults shelf.old)
         (H.faults shelf.new) }
+    ensures others { (other : List ℕ) → other ≢ name.now → H.file shelf.new other ≡ H.file shelf.old other }
     ensures asked { GrewByName (H.asked shelf.old) (H.asked shelf.new) name.now }
     ensures closed { KeptNumber (H.open_sources shelf.old) (H.open_sources shelf.new) }
 {
@@ -110,5 +115,31 @@ pub fn load<H: Shelf>(
         Err(ReadError::TooLong(newlines)) => Err(LoadError::Refused(K::TooLong, newlines + 1)),
         Err(ReadError::Fault) => Err(LoadError::ReadFault),
         Err(ReadError::Memory) => Err(LoadError::Memory),
+    }
+}
+
+/// Opens the named file: its knowledge base, or how the run ends without one. That the file is refused is printed.
+pub fn open_file<H: Shelf, W: Sink>(
+    alloc: Global,
+    name: &str,
+    options: Options<'_>,
+    shelf: &mut H,
+    out: &mut W,
+) -> Result<KnowledgeBase, Status>
+    ensures loaded { IfOk result (λ kb. Loads (choice_view options.entry) (Ok kb) (H.file shelf.old name.now)
+        (H.faults shelf.old) (H.faults shelf.new)) }
+    ensures silent { OnOk result (out.new ≡ out.old) }
+    ensures fails { IfErr result (λ status. OnFiles (FileFails status name.now (choice_view options.entry))
+        (outside (H.file shelf.old) (H.faults shelf.old)) (outside (H.file shelf.new) (H.faults shelf.new))
+        (W.holds out.old) (W.holds out.new) (W.faults out.old) (W.faults out.new)) }
+    ensures others { (other : List ℕ) → other ≢ name.now → H.file shelf.new other ≡ H.file shelf.old other }
+    ensures asked { GrewByName (H.asked shelf.old) (H.asked shelf.new) name.now }
+    ensures closed { KeptNumber (H.open_sources shelf.old) (H.open_sources shelf.new) }
+{
+    match load(alloc, shelf, name, options) {
+        Ok(kb) => Ok(kb),
+        Err(LoadError::Refused(k, line)) => Err(refuse(alloc, out, k, line)),
+        Err(LoadError::ReadFault) => Err(Status::ReadFault),
+        Err(LoadError::Memory) => Err(Status::Memory),
     }
 }

@@ -1,18 +1,16 @@
-//! What is printed of a file or of words that are refused, and of a file that is checked.
-ghost use Rattle.std.specs.Prelude.{◌≡◌, OnOk, OnErr, IfOk};
-ghost use Rattle.std.specs.Io.KnownBytes.{Appends};
+//! What is printed of a file, of a log or of words that are refused, and of a file that is checked.
+ghost use Rattle.std.specs.Prelude.{◌≡◌, IfOk};
 ghost use Rattle.std.specs.String.{string_bytes};
-ghost use Rattle.kb_io.specs.Outside.{HasCause};
-ghost use Rattle.kb_io.specs.ReadWrite.{AppendsPrefix};
 ghost use Rattle.base_reader.specs.Readings.{meaning_of};
-ghost use Rattle.idp_cli.specs.Files.{refusal_text};
-ghost use Rattle.idp_cli.specs.Printing.{PrintsRefusal, PrintsText, PrintsUsage};
+ghost use Rattle.idp_cli.specs.Files.{refusal_text, log_refusal_text};
+ghost use Rattle.idp_cli.specs.Printing.{PrintsRefusal, PrintsLogRefusal, PrintsText, PrintsUsage};
 ghost use Rattle.idp_cli.specs.Runs.{structure_text};
 
 use crate::status::Status;
 use consult_base::KnowledgeBase;
+use consultation::say;
 use fo_printer::print_block;
-use kb_io::{Failed, Sink, write_all};
+use kb_io::Sink;
 use kb_logic::Memory;
 use kb_text::K;
 use std::alloc::{AllocError, Global};
@@ -32,6 +30,25 @@ pub fn refuse<W: Sink>(alloc: Global, out: &mut W, k: K, line: u64) -> Status
     };
     match say(out, text.as_bytes()) {
         Ok(()) => Status::KbRefused(k, line),
+        Err(_) => Status::WriteFault,
+    }
+}
+
+fn log_refusal_line(alloc: Global, entry: u64) -> Result<String, AllocError>
+    ensures { IfOk result (λ text. string_bytes text ≡ log_refusal_text entry) }
+{
+    format!(in alloc; "error log entry {entry}\n")
+}
+
+/// Says that this entry of the log is no step.
+pub fn refuse_log<W: Sink>(alloc: Global, out: &mut W, entry: u64) -> Status
+    ensures { PrintsLogRefusal result entry (W.holds out.old) (W.holds out.new) (W.faults out.old) (W.faults out.new) }
+{
+    let Ok(text) = log_refusal_line(alloc, entry) else {
+        return Status::Memory;
+    };
+    match say(out, text.as_bytes()) {
+        Ok(()) => Status::LogRefused(entry),
         Err(_) => Status::WriteFault,
     }
 }

@@ -12,8 +12,10 @@ pub enum Status {
     ReadFault,
     WriteFault,
     Memory,
-    /// More bytes of commands were offered than are read.
+    /// More bytes of commands, or of a log, were offered than are read.
     ScriptTooLong,
+    /// This entry of a log, counted from 1, is the first that is no step.
+    LogRefused(u64),
 }
 
 impl Status {
@@ -32,6 +34,7 @@ impl Status {
             Status::WriteFault => 4,
             Status::Memory => 5,
             Status::ScriptTooLong => 6,
+            Status::LogRefused(_) => 7,
         }
     }
 }

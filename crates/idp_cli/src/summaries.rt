@@ -7,14 +7,14 @@ ghost use Rattle.kb_logic.specs.declared.structures.Structure.{Structure};
 ghost use Rattle.consult_base.specs.Opened.{base_of};
 ghost use Rattle.consult_text.specs.States.{first_state};
 ghost use Rattle.consult_text.specs.declared.replies.Reply.TheVariants as reply;
+ghost use Rattle.consultation.specs.Turns.{RepliesTo};
 ghost use Rattle.idp_cli.specs.Summaries.{AnswersQuestions, summary_text};
-ghost use Rattle.idp_cli.specs.Turns.{RepliesTo};
 
-use crate::consultation::reply_to;
 use chooser::FirstGreatest;
 use consult_base::KnowledgeBase;
 use consult_text::Reply;
 use consultant_session::Session;
+use consultation::reply_to;
 use generated_files::Kind;
 use kb_logic::{ExtInt, Memory, decimal};
 use std::alloc::Global;

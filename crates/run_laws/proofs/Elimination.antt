@@ -5,11 +5,12 @@ use Rattle.kb_text.specs.declared.fault.KbFault.{KbFault}
 use Rattle.base_reader.specs.FileMeanings.{Choice, Meaning, FileMeans}
 use Rattle.base_reader.specs.Laws.{HasOneRefusal, MeansOrIsRefused}
 use Rattle.idp_cli.specs.Jobs.{Job, consult, check, make, summarise, file_of, Asks}
-use Rattle.idp_cli.specs.Files.{IfObservable, IsRefusedAt, line_of}
+use Rattle.consultation.specs.Streams.{IfObservable}
+use Rattle.idp_cli.specs.Files.{IsRefusedAt, line_of}
 use Rattle.idp_cli.specs.Runs.{Words, texts_of, Outside, StaysAsBefore, ConsultationEnds, CheckEnds}
 use Rattle.idp_cli.specs.Runs.{JobEnds, RunEnds}
-use Rattle.idp_cli.specs.Laws.{IsUnlessFailed, choice_of, UsageLaw, CommandLaw, RefusalLaw, TakingLaw, LengthLaw}
-use Rattle.idp_cli.specs.Laws.{ShortLaw, DoneLaw, CheckedLaw, MadeLaw, SummarisedLaw}
+use Rattle.run_laws.specs.Laws.{IsUnlessFailed, choice_of, UsageLaw, CommandLaw, RefusalLaw, TakingLaw, LengthLaw}
+use Rattle.run_laws.specs.Laws.{ShortLaw, DoneLaw, CheckedLaw, MadeLaw, SummarisedLaw}
 use Rattle.idp_cli.specs.Summaries.{no_choice}
 use Rattle.generated_files.specs.Texts.{file_text}
 use Rattle.idp_cli.specs.declared.status.Status.{Status}

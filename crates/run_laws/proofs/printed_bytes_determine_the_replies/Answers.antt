@@ -1,5 +1,5 @@
-use Rattle.idp_cli.proofs.OneAnswer.{one_answer, one_consultation, states_over}
-use Rattle.idp_cli.proofs.laws.printed_bytes_determine_the_replies.Goals as goal
+use Rattle.run_laws.proofs.OneAnswer.{one_answer, one_consultation, states_over}
+use Rattle.run_laws.proofs.printed_bytes_determine_the_replies.Goals as goal
 
 pub returns : goal.returns
 returns c =

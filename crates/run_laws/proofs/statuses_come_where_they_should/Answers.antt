@@ -1,6 +1,6 @@
-use Rattle.idp_cli.proofs.Elimination.{usage_law, command_law, refusal_law, taking_law, length_law, short_law, done_law}
-use Rattle.idp_cli.proofs.Elimination.{checked_law, made_law, summarised_law}
-use Rattle.idp_cli.proofs.laws.statuses_come_where_they_should.Goals as goal
+use Rattle.run_laws.proofs.Elimination.{usage_law, command_law, refusal_law, taking_law, length_law, short_law, done_law}
+use Rattle.run_laws.proofs.Elimination.{checked_law, made_law, summarised_law}
+use Rattle.run_laws.proofs.statuses_come_where_they_should.Goals as goal
 
 pub returns : goal.returns
 returns c =

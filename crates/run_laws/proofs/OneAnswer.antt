@@ -23,12 +23,13 @@ use Rattle.consult_text.specs.States.{State, first_state, same_literal, command_
 use Rattle.consult_text.specs.States.{state_after}
 use Rattle.consult_text.specs.RightReplies.{in_force, IsSo, RightAnswer, RightUnless, RightReply}
 use Rattle.consultant_session.proofs.FoundLemmas.{of_some}
-use Rattle.idp_cli.proofs.LiteralsOver.{some_over}
-use Rattle.idp_cli.proofs.ReadableValues.{readable}
-use Rattle.idp_cli.specs.Turns.{reply_of}
-use Rattle.idp_cli.specs.Consultation.{Said, nothing, too_long, refused, replied, IsRightAnswer, state_left, said_text}
-use Rattle.idp_cli.specs.Consultation.{said_texts, Consultation}
-use Rattle.idp_cli.specs.OneAnswer.{IsBudgetInRange, IsStateOver, OneAnswerLaw, OneConsultationLaw, StatesLaw}
+use Rattle.run_laws.proofs.LiteralsOver.{some_over}
+use Rattle.run_laws.proofs.ReadableValues.{readable}
+use Rattle.consultation.specs.Consultation.{reply_of}
+use Rattle.consultation.specs.declared.said.Said.{Said}
+use Rattle.consultation.specs.Consultation.{nothing, too_long, refused, replied, IsRightAnswer, state_left, said_text}
+use Rattle.consultation.specs.Consultation.{said_texts, Consultation}
+use Rattle.run_laws.specs.OneAnswer.{IsBudgetInRange, IsStateOver, OneAnswerLaw, OneConsultationLaw, StatesLaw}
 
 -- a budget in its range has 64 bits
 small_budget : (budget : Option ℕ) (k : ℕ) → IsBudgetInRange budget → budget ≡ Some k → k < 2 ^ 64

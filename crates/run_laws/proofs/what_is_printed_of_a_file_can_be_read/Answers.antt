@@ -1,5 +1,5 @@
-use Rattle.idp_cli.proofs.FileLaws.{file_replies, checked_is_read_back}
-use Rattle.idp_cli.proofs.laws.what_is_printed_of_a_file_can_be_read.Goals as goal
+use Rattle.run_laws.proofs.FileLaws.{file_replies, checked_is_read_back}
+use Rattle.run_laws.proofs.what_is_printed_of_a_file_can_be_read.Goals as goal
 
 pub returns : goal.returns
 returns c = record {

@@ -4,11 +4,12 @@ use Rattle.std.specs.Io.KnownBytes.{Appends}
 use Rattle.block_laws.specs.ReadBack.{IsReadBack}
 use Rattle.base_reader.specs.FileMeanings.{Choice, Meaning, FileMeans, base_of_meaning}
 use Rattle.consult_text.specs.States.{State, first_state}
-use Rattle.idp_cli.specs.Consultation.{Said, said_texts, Consultation}
+use Rattle.consultation.specs.declared.said.Said.{Said}
+use Rattle.consultation.specs.Consultation.{said_texts, Consultation}
 use Rattle.idp_cli.specs.Jobs.{check, Asks}
-use Rattle.idp_cli.specs.OneAnswer.{IsBudgetInRange}
+use Rattle.run_laws.specs.OneAnswer.{IsBudgetInRange}
 use Rattle.idp_cli.specs.Runs.{Words, texts_of, Outside, RunEnds, structure_text}
-use Rattle.idp_cli.specs.Turns.{reply_of}
+use Rattle.consultation.specs.Consultation.{reply_of}
 use Rattle.idp_cli.specs.declared.status.Status.TheVariants as status
 
 -- two consultations of the same lines about what a file means that print the same bytes have the same replies, line by

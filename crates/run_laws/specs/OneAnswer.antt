@@ -6,8 +6,9 @@ use Rattle.consult_text.specs.Budgets.{most_budget}
 use Rattle.consult_text.specs.Literals.{IsLiteralOver}
 use Rattle.consult_text.specs.OneText.{HasWordNames}
 use Rattle.consult_text.specs.States.{State, first_state}
-use Rattle.idp_cli.specs.Turns.{reply_of}
-use Rattle.idp_cli.specs.Consultation.{Said, IsRightAnswer, state_left, said_text, said_texts, Consultation}
+use Rattle.consultation.specs.Consultation.{reply_of}
+use Rattle.consultation.specs.declared.said.Said.{Said}
+use Rattle.consultation.specs.Consultation.{IsRightAnswer, state_left, said_text, said_texts, Consultation}
 
 -- a budget that can be given
 abbrev pub IsBudgetInRange : Option ℕ → Type 0

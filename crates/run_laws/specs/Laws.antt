@@ -1,13 +1,17 @@
 -- Where each status comes: what the words, the file and the commands leave to it.
-use Rattle.std.specs.Prelude.{◌≡◌, ◌<◌, ◌≤◌, ℕ, List, Option, Some, length}
+use Rattle.std.specs.Prelude.{◌≡◌, ◌≢◌, ◌<◌, ◌≤◌, ℕ, List, Bool, true, Option, Some, length}
 use Rattle.kb_text.specs.declared.fault.K.{K}
-use Rattle.base_reader.specs.FileMeanings.{Choice, Meaning, FileMeans}
+use Rattle.base_reader.specs.FileMeanings.{Choice, Meaning, FileMeans, base_of_meaning}
+use Rattle.def_ground.specs.Groundings.{theory_problem}
+use Rattle.derivation_log.specs.Checks.{IsAccepted, IsFirstBad}
+use Rattle.derivation_log.specs.declared.claims.Claim.{Claim}
 use Rattle.generated_files.specs.Texts.{file_text}
 use Rattle.generated_files.specs.declared.kinds.Kind.{Kind}
-use Rattle.idp_cli.specs.Jobs.{Job, consult, check, make, summarise, file_of, Asks, IsUsage}
+use Rattle.idp_cli.specs.Jobs.{Job, consult, check, verify, make, summarise, file_of, Asks, IsUsage}
+use Rattle.idp_cli.specs.Jobs.{AskForLog, IsLogPath}
 use Rattle.idp_cli.specs.Summaries.{no_choice}
 use Rattle.idp_cli.specs.Files.{IsRefusedAt}
-use Rattle.idp_cli.specs.Runs.{Words, texts_of, Outside, RunEnds}
+use Rattle.idp_cli.specs.Runs.{Words, texts_of, Outside, RunEnds, most_log_bytes}
 use Rattle.kb_io.specs.Pending.{most_bytes}
 use Rattle.idp_cli.specs.declared.status.Status.{Status}
 use Rattle.idp_cli.specs.declared.status.Status.TheVariants as status
@@ -31,8 +35,9 @@ CommandLaw = (words : Words) (before now : Outside) (job : Job) → Asks (texts_
 
 -- the choice among the file's theories and structures
 abbrev pub choice_of : Job → Choice
-choice_of (consult file c budget) = c
+choice_of (consult file c budget logs) = c
 choice_of (check file c) = c
+choice_of (verify file c log) = c
 choice_of (make k n) = no_choice
 choice_of (summarise k n) = no_choice
 
@@ -51,7 +56,7 @@ TakingLaw = (k : K) (line : ℕ) (words : Words) (before now : Outside) (job : J
 -- more commands than are read give ScriptTooLong
 abbrev pub LengthLaw : Type 0
 LengthLaw = (s : Status) (words : Words) (before now : Outside) (file bytes script : List ℕ) (c : Choice)
-    (budget : Option ℕ) (m : Meaning) → Asks (texts_of words) (consult file c budget)
+    (budget : Option ℕ) (logs : Bool) (m : Meaning) → Asks (texts_of words) (consult file c budget logs)
     → before.files file ≡ Some bytes → FileMeans c bytes m
     → before.streams.script ≡ Some script → most_bytes < length script → RunEnds s words before now
     → IsUnlessFailed status.ScriptTooLong s
@@ -59,7 +64,7 @@ LengthLaw = (s : Status) (words : Words) (before now : Outside) (file bytes scri
 -- and no others do
 abbrev pub ShortLaw : Type 0
 ShortLaw = (words : Words) (before now : Outside) (file bytes script : List ℕ) (c : Choice) (budget : Option ℕ)
-    → Asks (texts_of words) (consult file c budget) → before.files file ≡ Some bytes
+    (logs : Bool) → Asks (texts_of words) (consult file c budget logs) → before.files file ≡ Some bytes
     → before.streams.script ≡ Some script → length script ≤ most_bytes
     → RunEnds status.ScriptTooLong words before now → ⊥
 
@@ -67,7 +72,7 @@ ShortLaw = (words : Words) (before now : Outside) (file bytes script : List ℕ)
 -- answered
 abbrev pub DoneLaw : Type 0
 DoneLaw = (s : Status) (words : Words) (before now : Outside) (file bytes script : List ℕ) (c : Choice)
-    (budget : Option ℕ) (m : Meaning) → Asks (texts_of words) (consult file c budget)
+    (budget : Option ℕ) (logs : Bool) (m : Meaning) → Asks (texts_of words) (consult file c budget logs)
     → before.files file ≡ Some bytes → FileMeans c bytes m
     → before.streams.script ≡ Some script → length script ≤ most_bytes → RunEnds s words before now
     → IsUnlessFailed status.Done s
@@ -77,6 +82,62 @@ abbrev pub CheckedLaw : Type 0
 CheckedLaw = (s : Status) (words : Words) (before now : Outside) (file bytes : List ℕ) (c : Choice) (m : Meaning)
     → Asks (texts_of words) (check file c) → before.files file ≡ Some bytes → FileMeans c bytes m
     → RunEnds s words before now → IsUnlessFailed status.Done s
+
+-- Words ask to verify this log, which has these bytes, by a file that means this. The log is under another name, since
+-- what a shelf hands out under a name for the second time is not known.
+pub record AskToVerify (words : Words) (before : Outside) (log : List ℕ) (m : Meaning) : Type 0 where
+  pub file : List ℕ
+  pub bytes : List ℕ
+  pub choice : Choice
+  pub path : List ℕ
+  pub asks : Asks (texts_of words) (verify file choice path)
+  pub held : before.files file ≡ Some bytes
+  pub means : FileMeans choice bytes m
+  pub other : path ≢ file
+  pub log_held : before.files path ≡ Some log
+
+-- a log that is accepted over the ground problem of what the file means, and has no more bytes than are read, gives
+-- Done
+abbrev pub AcceptedLogLaw : Type 0
+AcceptedLogLaw = (s : Status) (words : Words) (before now : Outside) (log : List ℕ) (m : Meaning)
+    (claims : List Claim) → AskToVerify words before log m → length log ≤ most_log_bytes
+    → IsAccepted (theory_problem (base_of_meaning m)) log claims → RunEnds s words before now
+    → IsUnlessFailed status.Done s
+
+-- and no other does
+abbrev pub VerifiedLaw : Type 0
+VerifiedLaw = (words : Words) (before now : Outside) (log : List ℕ) (m : Meaning)
+    → AskToVerify words before log m → RunEnds status.Done words before now
+    → (claims : List Claim) × IsAccepted (theory_problem (base_of_meaning m)) log claims
+
+-- one whose entry n is the first that is no step gives LogRefused with n
+abbrev pub RefusedLogLaw : Type 0
+RefusedLogLaw = (s : Status) (words : Words) (before now : Outside) (log : List ℕ) (m : Meaning) (n : ℕ)
+    → AskToVerify words before log m → length log ≤ most_log_bytes
+    → IsFirstBad (theory_problem (base_of_meaning m)) log n → RunEnds s words before now
+    → IsUnlessFailed (status.LogRefused n) s
+
+-- and no other does
+abbrev pub BadEntryLaw : Type 0
+BadEntryLaw = (words : Words) (before now : Outside) (log : List ℕ) (m : Meaning) (n : ℕ)
+    → AskToVerify words before log m → RunEnds (status.LogRefused n) words before now
+    → IsFirstBad (theory_problem (base_of_meaning m)) log n
+
+-- one that has more bytes than are read gives ScriptTooLong
+abbrev pub LongLogLaw : Type 0
+LongLogLaw = (s : Status) (words : Words) (before now : Outside) (log : List ℕ) (m : Meaning)
+    → AskToVerify words before log m → most_log_bytes < length log → RunEnds s words before now
+    → IsUnlessFailed status.ScriptTooLong s
+
+-- and no other does
+abbrev pub ShortLogLaw : Type 0
+ShortLogLaw = (words : Words) (before now : Outside) (log : List ℕ) (m : Meaning) → AskToVerify words before log m
+    → length log ≤ most_log_bytes → RunEnds status.ScriptTooLong words before now → ⊥
+
+-- words ask for a log exactly where they name a file for it
+abbrev pub LogPathLaw : Type 0
+LogPathLaw = (words : Words) → (AskForLog (texts_of words) → (p : List ℕ) × IsLogPath (texts_of words) p)
+    × ((p : List ℕ) → IsLogPath (texts_of words) p → AskForLog (texts_of words))
 
 -- a file that is made is printed
 abbrev pub MadeLaw : Type 0

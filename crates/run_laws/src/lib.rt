@@ -1,11 +1,16 @@
 //! Laws on how a run ends, and on what it prints. The functions do nothing else: their contracts are laws.
-ghost use Rattle.idp_cli.specs.Laws.{UsageLaw, CommandLaw, RefusalLaw, TakingLaw, LengthLaw, ShortLaw, DoneLaw};
-ghost use Rattle.idp_cli.specs.Laws.{CheckedLaw, MadeLaw, SummarisedLaw};
-ghost use Rattle.idp_cli.specs.OneAnswer.{OneAnswerLaw, OneConsultationLaw, StatesLaw};
-ghost use Rattle.idp_cli.specs.FileLaws.{FileRepliesLaw, CheckedIsReadBackLaw};
+#![tactic(auto)]
 
-use base_reader::{accepted_or_refused, one_file_refusal};
+ghost use Rattle.run_laws.specs.Laws.{UsageLaw, CommandLaw, RefusalLaw, TakingLaw, LengthLaw, ShortLaw, DoneLaw};
+ghost use Rattle.run_laws.specs.Laws.{CheckedLaw, MadeLaw, SummarisedLaw};
+ghost use Rattle.run_laws.specs.Laws.{AcceptedLogLaw, VerifiedLaw, RefusedLogLaw, BadEntryLaw, LongLogLaw, ShortLogLaw};
+ghost use Rattle.run_laws.specs.Laws.{LogPathLaw};
+ghost use Rattle.run_laws.specs.OneAnswer.{OneAnswerLaw, OneConsultationLaw, StatesLaw};
+ghost use Rattle.run_laws.specs.FileLaws.{FileRepliesLaw, CheckedIsReadBackLaw};
+
+use base_reader::{accepted_or_refused, one_file_meaning, one_file_refusal};
 use consult_text::{commands_are_over_the_base, no_two_replies_have_one_text, one_meaning};
+use derivation_log::one_answer;
 use file_laws::{files_have_word_names, structures_are_read_back};
 
 /// Usage, a refusal, ScriptTooLong and Done come exactly where they should, unless a device failed or memory ran out.
@@ -23,6 +28,22 @@ pub fn statuses_come_where_they_should()
 {
     one_file_refusal();
     accepted_or_refused();
+}
+
+/// Of a log that is verified: Done, LogRefused with an entry's number and ScriptTooLong come exactly where they should,
+/// unless a device failed or memory ran out. And words ask for a log exactly where they name a file for it.
+pub fn logs_are_verified_as_they_should_be()
+    ensures accepted { AcceptedLogLaw }
+    ensures verified { VerifiedLaw }
+    ensures refused { RefusedLogLaw }
+    ensures bad_entry { BadEntryLaw }
+    ensures long { LongLogLaw }
+    ensures short { ShortLogLaw }
+    ensures path { LogPathLaw }
+{
+    statuses_come_where_they_should();
+    one_file_meaning();
+    one_answer();
 }
 
 /// The printed bytes determine what was answered: over a knowledge base whose names are words, two right

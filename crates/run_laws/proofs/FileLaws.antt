@@ -2,12 +2,12 @@
 use Rattle.std.specs.Prelude.{ℕ, List, Option, Some}
 use Rattle.base_reader.specs.FileMeanings.{Choice, Meaning, FileMeans, base_of_meaning}
 use Rattle.file_laws.specs.FileLaws.{FilesHaveWordNames, StructuresAreReadBack}
-use Rattle.idp_cli.specs.FileLaws.{FileRepliesLaw, CheckedIsReadBackLaw}
+use Rattle.run_laws.specs.FileLaws.{FileRepliesLaw, CheckedIsReadBackLaw}
 use Rattle.idp_cli.specs.Jobs.{check}
-use Rattle.idp_cli.specs.OneAnswer.{OneConsultationLaw}
+use Rattle.run_laws.specs.OneAnswer.{OneConsultationLaw}
 use Rattle.idp_cli.specs.declared.status.Status.TheVariants as status
 use Rattle.consult_text.specs.States.{first_state}
-use Rattle.idp_cli.proofs.Elimination.{done, told}
+use Rattle.run_laws.proofs.Elimination.{done, told}
 
 pub file_replies : OneConsultationLaw → FilesHaveWordNames → FileRepliesLaw
 file_replies one words c bytes m budget t u lines a b means within is is' same =

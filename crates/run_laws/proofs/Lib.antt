@@ -1,0 +1,5 @@
+mod Elimination
+mod LiteralsOver
+mod ReadableValues
+mod OneAnswer
+mod FileLaws
