@@ -28,7 +28,7 @@ choosing name =
     with_rule (with_rule (with_rule (new_app name) (word_rule (codes "FILE"))) (option_rule (codes "theory")))
     (option_rule (codes "structure"))
 
--- `consult FILE [--theory NAME] [--structure NAME] [--budget N] [--log P]`
+-- `consult FILE [--theory NAME] [--structure NAME] [--budget N] [--log LOG]`
 abbrev pub consulting : App
 consulting =
     with_rule (with_rule (choosing (codes "consult")) (option_rule (codes "budget"))) (option_rule (codes "log"))

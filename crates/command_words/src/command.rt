@@ -8,9 +8,9 @@ use std::alloc::{AllocError, Global};
 
 /// How each command is called; what follows the first line stands under it.
 const USAGE: &str =
-    "idp consult FILE [--theory NAME] [--structure NAME] [--budget N] [--log P]\n       \
-idp check FILE [--theory NAME] [--structure NAME]\n       \
+    "idp consult FILE [--theory NAME] [--structure NAME] [--budget N] [--log LOG]\n       \
 idp verify FILE LOG [--theory NAME] [--structure NAME]\n       \
+idp check FILE [--theory NAME] [--structure NAME]\n       \
 idp generate KIND N [--text]";
 
 /// A word that has to stand there.
