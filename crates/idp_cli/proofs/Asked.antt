@@ -12,7 +12,7 @@ use Rattle.consult_text.specs.Budgets.{IsBudget, most_budget}
 use Rattle.generated_files.specs.Texts.{kind_name, most}
 use Rattle.generated_files.specs.declared.kinds.Kind.{Kind}
 use Rattle.generated_files.specs.declared.kinds.Kind.TheVariants.{Timetable, Roster}
-use Rattle.idp_cli.specs.Jobs.{Job, consult, check, make, summarise, AreOfFile, IsBudgetText, IsFirstBudget}
+use Rattle.idp_cli.specs.Jobs.{Job, consult, check, verify, make, summarise, AreOfFile, IsBudgetText, IsFirstBudget}
 use Rattle.idp_cli.specs.Jobs.{IsNumberText, AsksBy, Asks}
 
 -- two words are not one text
@@ -53,44 +53,66 @@ one_file kind number k j n m h i = (one_kind kind k j h.0 i.0, h.1.value ∙ sym
 
 -- and by it they ask one job
 one_asked : (said : Said) (a b : Job) → AsksBy said a → AsksBy said b → a ≡ b
-one_asked (words.consult f text) (consult file c budget) (consult file' c' budget') h k =
+one_asked (words.consult f text path) (consult file c budget logs) (consult file' c' budget' logs') h k =
     let same_file : file ≡ file' = h.0 ∙ sym k.0 in
     let choice : c ≡ c' = h.1 ∙ sym k.1 in
     let first : budget ≡ budget' = one_first text budget budget' h.2 k.2 in
-    λ i. consult (same_file i) (choice i) (first i)
+    let kept : logs ≡ logs' = h.3 ∙ sym k.3 in
+    λ i. consult (same_file i) (choice i) (first i) (kept i)
 one_asked (words.check f) (check file c) (check file' c') h k =
     let same_file : file ≡ file' = h.0 ∙ sym k.0 in
     let choice : c ≡ c' = h.1 ∙ sym k.1 in
     λ i. check (same_file i) (choice i)
+one_asked (words.verify f path) (verify file c log) (verify file' c' log') h k =
+    let same_file : file ≡ file' = h.0 ∙ sym k.0 in
+    let choice : c ≡ c' = h.1 ∙ sym k.1 in
+    let same_log : log ≡ log' = h.2 ∙ sym k.2 in
+    λ i. verify (same_file i) (choice i) (same_log i)
 one_asked (words.generate kind number true) (make k n) (make j m) h i =
     let same = one_file kind number k j n m h i in
     λ t. make (same.0 t) (same.1 t)
 one_asked (words.generate kind number false) (summarise k n) (summarise j m) h i =
     let same = one_file kind number k j n m h i in
     λ t. summarise (same.0 t) (same.1 t)
-one_asked (words.consult f text) (check file c) b h k = absurd h
-one_asked (words.consult f text) (make q n) b h k = absurd h
-one_asked (words.consult f text) (summarise q n) b h k = absurd h
-one_asked (words.consult f text) (consult file c budget) (check file' c') h k = absurd k
-one_asked (words.consult f text) (consult file c budget) (make q n) h k = absurd k
-one_asked (words.consult f text) (consult file c budget) (summarise q n) h k = absurd k
-one_asked (words.check f) (consult file c budget) b h k = absurd h
+one_asked (words.consult f text path) (check file c) b h k = absurd h
+one_asked (words.consult f text path) (verify file c log) b h k = absurd h
+one_asked (words.consult f text path) (make q n) b h k = absurd h
+one_asked (words.consult f text path) (summarise q n) b h k = absurd h
+one_asked (words.consult f text path) (consult file c budget logs) (check file' c') h k = absurd k
+one_asked (words.consult f text path) (consult file c budget logs) (verify file' c' log') h k = absurd k
+one_asked (words.consult f text path) (consult file c budget logs) (make j m) h k = absurd k
+one_asked (words.consult f text path) (consult file c budget logs) (summarise j m) h k = absurd k
+one_asked (words.check f) (consult file c budget logs) b h k = absurd h
+one_asked (words.check f) (verify file c log) b h k = absurd h
 one_asked (words.check f) (make q n) b h k = absurd h
 one_asked (words.check f) (summarise q n) b h k = absurd h
-one_asked (words.check f) (check file c) (consult file' c' budget) h k = absurd k
-one_asked (words.check f) (check file c) (make q n) h k = absurd k
-one_asked (words.check f) (check file c) (summarise q n) h k = absurd k
-one_asked (words.generate kind number true) (consult file c budget) b h k = absurd h
+one_asked (words.check f) (check file c) (consult file' c' budget' logs') h k = absurd k
+one_asked (words.check f) (check file c) (verify file' c' log') h k = absurd k
+one_asked (words.check f) (check file c) (make j m) h k = absurd k
+one_asked (words.check f) (check file c) (summarise j m) h k = absurd k
+one_asked (words.verify f path) (consult file c budget logs) b h k = absurd h
+one_asked (words.verify f path) (check file c) b h k = absurd h
+one_asked (words.verify f path) (make q n) b h k = absurd h
+one_asked (words.verify f path) (summarise q n) b h k = absurd h
+one_asked (words.verify f path) (verify file c log) (consult file' c' budget' logs') h k = absurd k
+one_asked (words.verify f path) (verify file c log) (check file' c') h k = absurd k
+one_asked (words.verify f path) (verify file c log) (make j m) h k = absurd k
+one_asked (words.verify f path) (verify file c log) (summarise j m) h k = absurd k
+one_asked (words.generate kind number true) (consult file c budget logs) b h k = absurd h
 one_asked (words.generate kind number true) (check file c) b h k = absurd h
+one_asked (words.generate kind number true) (verify file c log) b h k = absurd h
 one_asked (words.generate kind number true) (summarise q n) b h k = absurd h
-one_asked (words.generate kind number true) (make q n) (consult file c budget) h k = absurd k
-one_asked (words.generate kind number true) (make q n) (check file c) h k = absurd k
+one_asked (words.generate kind number true) (make q n) (consult file' c' budget' logs') h k = absurd k
+one_asked (words.generate kind number true) (make q n) (check file' c') h k = absurd k
+one_asked (words.generate kind number true) (make q n) (verify file' c' log') h k = absurd k
 one_asked (words.generate kind number true) (make q n) (summarise j m) h k = absurd k
-one_asked (words.generate kind number false) (consult file c budget) b h k = absurd h
+one_asked (words.generate kind number false) (consult file c budget logs) b h k = absurd h
 one_asked (words.generate kind number false) (check file c) b h k = absurd h
+one_asked (words.generate kind number false) (verify file c log) b h k = absurd h
 one_asked (words.generate kind number false) (make q n) b h k = absurd h
-one_asked (words.generate kind number false) (summarise q n) (consult file c budget) h k = absurd k
-one_asked (words.generate kind number false) (summarise q n) (check file c) h k = absurd k
+one_asked (words.generate kind number false) (summarise q n) (consult file' c' budget' logs') h k = absurd k
+one_asked (words.generate kind number false) (summarise q n) (check file' c') h k = absurd k
+one_asked (words.generate kind number false) (summarise q n) (verify file' c' log') h k = absurd k
 one_asked (words.generate kind number false) (summarise q n) (make j m) h k = absurd k
 
 -- where the kind is known and the number is none of it, they are no kind and number

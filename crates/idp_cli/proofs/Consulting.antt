@@ -1,11 +1,14 @@
--- How a job ends, from how its file is loaded and what is done with it.
-use Rattle.std.proofs.Common.{◌≡◌, ℕ, List, refl, sym, subst, Option, Some, None, inl, inr}
+-- How a job about a file ends, from how the file is opened and what is done with it.
+use Rattle.std.proofs.Common.{◌≡◌, ℕ, List, Bool, refl, sym, subst, Option, Some, None, Result, Ok, Err, inl, inr}
 use Rattle.consult_text.specs.States.{first_state}
 use Rattle.base_reader.specs.FileMeanings.{Choice, Meaning, FileMeans, base_of_meaning}
-use Rattle.idp_cli.specs.Files.{IfObservable}
-use Rattle.idp_cli.specs.Answering.{AnswersCommands, OpensAndAnswers}
+use Rattle.consultation.specs.Answering.{AnswersCommands, OpensAndAnswers}
+use Rattle.consultation.specs.Streams.{IfObservable, Streams, streams}
+use Rattle.consultation.specs.declared.stop.Stop.{Stop}
+use Rattle.consultation.specs.declared.stop.Stop.TheVariants as stop
 use Rattle.idp_cli.specs.Printing.{PrintsText}
-use Rattle.idp_cli.specs.Runs.{Outside, AnswersByFile, ConsultationEnds, CheckEnds, structure_text}
+use Rattle.idp_cli.specs.Runs.{Outside, outside, AnswersByFile, ConsultationEnds, CheckEnds, FileFails, IsMeantBy}
+use Rattle.idp_cli.specs.Runs.{OnFiles, ended_as, structure_text}
 use Rattle.idp_cli.specs.declared.status.Status.{Status}
 use Rattle.idp_cli.specs.declared.status.Status.TheVariants as status
 
@@ -15,64 +18,95 @@ with_meaning : (file : Option (List ℕ)) (c : Choice) (m : Meaning) (P : Meanin
 with_meaning None c m P is holds = tt
 with_meaning (Some bytes) c m P is holds = (m, is, holds)
 
-module _ (file : List ℕ) (c : Choice) (m : Meaning) (before now : Outside)
-    (shelf : now.shelf_faults ≡ before.shelf_faults)
-    (is : IfObservable (before.files file) (λ bytes. FileMeans c bytes m)) where
-  by_file : (s : Status) (budget : Option ℕ)
-      → AnswersCommands s (base_of_meaning m) (first_state budget) before.streams now.streams
-      → AnswersByFile s file c budget before now
-  by_file s budget ends =
+-- without a knowledge base a consultation ends so
+pub consultation_fails : (s : Status) (file : List ℕ) (c : Choice) (budget : Option ℕ) (logs : Bool)
+    (before now : Outside) → FileFails s file c before now → ConsultationEnds s file c budget logs before now
+consultation_fails (status.KbRefused k line) file c budget logs before now fails = fails
+consultation_fails status.ReadFault file c budget logs before now fails = inl fails
+consultation_fails status.WriteFault file c budget logs before now fails = inl fails
+consultation_fails status.Memory file c budget logs before now fails = inl fails
+consultation_fails status.Done file c budget logs before now fails = absurd fails
+consultation_fails status.Usage file c budget logs before now fails = absurd fails
+consultation_fails status.ScriptTooLong file c budget logs before now fails = absurd fails
+consultation_fails (status.LogRefused n) file c budget logs before now fails = absurd fails
+
+-- and so does a check
+pub check_fails : (s : Status) (file : List ℕ) (c : Choice) (before now : Outside) → FileFails s file c before now
+    → CheckEnds s file c before now
+check_fails (status.KbRefused k line) file c before now fails = fails
+check_fails status.ReadFault file c before now fails = fails
+check_fails status.WriteFault file c before now fails = inl fails
+check_fails status.Memory file c before now fails = fails
+check_fails status.Done file c before now fails = absurd fails
+check_fails status.Usage file c before now fails = absurd fails
+check_fails status.ScriptTooLong file c before now fails = absurd fails
+check_fails (status.LogRefused n) file c before now fails = absurd fails
+
+module _ (file : List ℕ) (c : Choice) (m : Meaning) (budget : Option ℕ) (logs : Bool) (before now : Outside)
+    (shelf : now.shelf_faults ≡ before.shelf_faults) (is : IsMeantBy m file c before) where
+  by_file : (result : Result Unit Stop)
+      → AnswersCommands logs result (base_of_meaning m) (first_state budget) before.streams now.streams
+      → AnswersByFile result file c budget logs before now
+  by_file result ends =
       record { shelf = shelf; reason = ends.0; answers = with_meaning (before.files file) c m _ is ends.1 }
 
-  answered_ends : (s : Status) (budget : Option ℕ)
-      → AnswersCommands s (base_of_meaning m) (first_state budget) before.streams now.streams
-      → ConsultationEnds s file c budget before now
-  answered_ends status.Done budget ends = by_file status.Done budget ends
-  answered_ends status.ReadFault budget ends = inr (by_file status.ReadFault budget ends)
-  answered_ends status.WriteFault budget ends = inr (by_file status.WriteFault budget ends)
-  answered_ends status.Memory budget ends = inr (by_file status.Memory budget ends)
-  answered_ends status.ScriptTooLong budget ends = by_file status.ScriptTooLong budget ends
-  answered_ends (status.KbRefused k line) budget ends = absurd ends.0
-  answered_ends status.Usage budget ends = absurd ends.0
+  answered_ends : (result : Result Unit Stop)
+      → AnswersCommands logs result (base_of_meaning m) (first_state budget) before.streams now.streams
+      → ConsultationEnds (ended_as result) file c budget logs before now
+  answered_ends (Ok x) ends = by_file (Ok tt) ends
+  answered_ends (Err stop.ReadFault) ends = inr (by_file (Err stop.ReadFault) ends)
+  answered_ends (Err stop.WriteFault) ends = inr (inl (by_file (Err stop.WriteFault) ends))
+  answered_ends (Err stop.LogFault) ends = inr (inr (by_file (Err stop.LogFault) ends))
+  answered_ends (Err stop.Memory) ends = inr (by_file (Err stop.Memory) ends)
+  answered_ends (Err stop.ScriptTooLong) ends = by_file (Err stop.ScriptTooLong) ends
 
   -- the commands were answered, or memory ran out before that
-  pub consultation_ends : (s : Status) (budget : Option ℕ)
-      → OpensAndAnswers s (base_of_meaning m) (first_state budget) before.streams now.streams
-      → ConsultationEnds s file c budget before now
-  consultation_ends s budget (inl wanting) =
-      subst (λ (t : Status). ConsultationEnds t file c budget before now) (sym wanting.0) (inl (shelf, wanting.1))
-  consultation_ends s budget (inr ends) = answered_ends s budget ends
+  pub consultation_ends : (result : Result Unit Stop)
+      → OpensAndAnswers logs result (base_of_meaning m) (first_state budget) before.streams now.streams
+      → ConsultationEnds (ended_as result) file c budget logs before now
+  consultation_ends result (inl wanting) =
+      subst (λ (r : Result Unit Stop). ConsultationEnds (ended_as r) file c budget logs before now) (sym wanting.0)
+      (inl (shelf, wanting.1))
+  consultation_ends result (inr ends) = answered_ends result ends
 
 -- the structure was printed, or could not be printed whole
 pub check_ends : (s : Status) (file : List ℕ) (c : Choice) (m : Meaning) (files files' : List ℕ → Option (List ℕ))
-    (before now : ℕ)
-    (script : Option (List ℕ)) (script_faults : ℕ) (old new : Option (List ℕ)) (faults faults' : ℕ) → now ≡ before
+    (before now : ℕ) (old new : Option (List ℕ)) (faults faults' : ℕ) → now ≡ before
     → IfObservable (files file) (λ bytes. FileMeans c bytes m) → PrintsText s (structure_text m) old new faults faults'
-    → CheckEnds s file c
-    (record {
-      files = files;
-      shelf_faults = before;
-      streams =
-          record { script = script; script_faults = script_faults; out = old; out_faults = faults };
-    })
-    (record {
-      files = files';
-      shelf_faults = now;
-      streams =
-          record { script = script; script_faults = script_faults; out = new; out_faults = faults' };
-    })
-check_ends status.Done file c m files files' before now script script_faults old new faults faults' shelf is prints =
-    (m, is, record { shelf = shelf; faults = record { script = refl; out = prints.0 }; script = refl; out = prints.1 })
-check_ends status.WriteFault file c m files files' before now script script_faults old new faults faults'
-    shelf is prints =
-    inr (m, is, record { shelf = shelf; script_faults = refl; fault = prints.0; script = refl; out = prints.1 })
-check_ends status.Memory file c m files files' before now script script_faults old new faults faults' shelf is prints =
-    (shelf, λ i. record { script = script; script_faults = script_faults; out = prints.1 i; out_faults = prints.0 i })
-check_ends status.ReadFault file c m files files' before now script script_faults old new faults faults' shelf is
-    prints = absurd prints
-check_ends status.Usage file c m files files' before now script script_faults old new faults faults' shelf is prints =
+    → OnFiles (CheckEnds s file c) (outside files before) (outside files' now) old new faults faults'
+check_ends status.Done file c m files files' before now old new faults faults' shelf is prints =
+    λ script script_faults log log_faults. (
+      m,
+      is,
+      record {
+        shelf = shelf;
+        faults = record { script = refl; out = prints.0; log = refl };
+        script = refl;
+        log = refl;
+        out = prints.1;
+      },
+    )
+check_ends status.WriteFault file c m files files' before now old new faults faults' shelf is prints =
+    λ script script_faults log log_faults. inr (
+      m,
+      is,
+      record {
+        shelf = shelf;
+        script_faults = refl;
+        log_faults = refl;
+        fault = prints.0;
+        script = refl;
+        log = refl;
+        out = prints.1;
+      },
+    )
+check_ends status.Memory file c m files files' before now old new faults faults' shelf is prints =
+    λ script script_faults log log_faults.
+    (shelf, λ i. streams script script_faults (prints.1 i) (prints.0 i) log log_faults)
+check_ends status.ReadFault file c m files files' before now old new faults faults' shelf is prints = absurd prints
+check_ends status.Usage file c m files files' before now old new faults faults' shelf is prints = absurd prints
+check_ends status.ScriptTooLong file c m files files' before now old new faults faults' shelf is prints = absurd prints
+check_ends (status.KbRefused k line) file c m files files' before now old new faults faults' shelf is prints =
     absurd prints
-check_ends status.ScriptTooLong file c m files files' before now script script_faults old new faults faults' shelf is
-    prints = absurd prints
-check_ends (status.KbRefused k line) file c m files files' before now script script_faults old new faults faults' shelf
-    is prints = absurd prints
+check_ends (status.LogRefused n) file c m files files' before now old new faults faults' shelf is prints =
+    absurd prints

@@ -16,20 +16,23 @@ use Rattle.consult_text.specs.declared.replies.Reply.{Reply}
 use Rattle.consult_text.specs.declared.replies.Reply.TheVariants as reply
 use Rattle.generated_files.specs.Texts.{file_text}
 use Rattle.generated_files.specs.declared.kinds.Kind.{Kind}
-use Rattle.idp_cli.specs.Consultation.{Said, nothing, too_long, refused, replied, IsRightAnswer, state_left}
+use Rattle.consultation.specs.Consultation.{IsRightAnswer, state_left, reply_of}
+use Rattle.consultation.specs.Streams.{streams}
+use Rattle.consultation.specs.Turns.{RepliesTo}
+use Rattle.consultation.specs.declared.said.Said.{Said}
+use Rattle.consultation.specs.declared.said.Said.TheVariants.{Nothing, TooLong, Refused, Replied}
 use Rattle.base_reader.specs.Readings.{meaning_of}
 use Rattle.consult_base.specs.Opened.{Opened, base_of}
 use Rattle.idp_cli.specs.Files.{IsRefusedAt, Takes}
 use Rattle.idp_cli.specs.Printing.{PrintsRefusal, PrintsText}
 use Rattle.idp_cli.specs.Runs.{OnOutput, SummaryEnds, TextEnds}
 use Rattle.idp_cli.specs.Summaries.{AnswersQuestions, FileAnswers, no_choice, summary_text}
-use Rattle.idp_cli.specs.Turns.{RepliesTo, reply_of}
 use Rattle.idp_cli.specs.declared.status.Status.{Status}
 use Rattle.idp_cli.specs.declared.status.Status.TheVariants as status
 
 -- the line has this right answer, which leaves the state t
 abbrev pub HasReply : Base → State → List ℕ → Reply → State → Type 0
-HasReply kb s line r t = (c : Command) × IsRightAnswer kb s line (replied c r) × (t ≡ state_left kb s (replied c r))
+HasReply kb s line r t = (c : Command) × IsRightAnswer kb s line (Replied c r) × (t ≡ state_left kb s (Replied c r))
 
 some_is : {A : Type 0} (a b : A) → Some a ≡ Some b → a ≡ b
 some_is a b e = cc
@@ -47,11 +50,11 @@ reply_is kb s t line r fine replies = by_said replies.said replies.right replies
 
     by_said : (said : Said) → IsRightAnswer kb s line said → Some r ≡ reply_of said → t ≡ state_left kb s said
         → HasReply kb s line r t
-    by_said nothing right same leaves = absurd (none same)
-    by_said too_long right same leaves = absurd (refuses refusal.LineTooLong (some_is r _ same))
-    by_said (refused f) right same leaves = absurd (refuses f (some_is r _ same))
-    by_said (replied c q) right same leaves =
-        subst (λ (q : Reply). IsRightAnswer kb s line (replied c q) → t ≡ state_left kb s (replied c q)
+    by_said Nothing right same leaves = absurd (none same)
+    by_said TooLong right same leaves = absurd (refuses refusal.LineTooLong (some_is r _ same))
+    by_said (Refused f) right same leaves = absurd (refuses f (some_is r _ same))
+    by_said (Replied c q) right same leaves =
+        subst (λ (q : Reply). IsRightAnswer kb s line (Replied c q) → t ≡ state_left kb s (Replied c q)
         → HasReply kb s line r t) (some_is r q same) (λ right leaves. (c, right, leaves)) right leaves
 
 -- both questions are answered, one after the other
@@ -64,7 +67,7 @@ both_answered kb s t u forced least model begins propagates minimizes =
     let P : State → Type 0 = λ s. RepliesTo kb s first (Some (reply.Forced forced)) t in
     let one = reply_is kb (first_state None) t first (reply.Forced forced) (λ no. no) (subst P begins propagates) in
     let two = reply_is kb t u second (reply.Minimum least model) (λ no. no) minimizes in
-    let said : Said = replied two.0 (reply.Minimum least model) in
+    let said : Said = Replied two.0 (reply.Minimum least model) in
     record {
       propagate = one.0;
       minimize = two.0;
@@ -106,18 +109,19 @@ both_found kb kb0 kb1 s t u found value count least opened kept begins is_found 
 -- a text was printed, or could not be printed whole
 pub text_ends : (s : Status) (text : List ℕ) (old new : Option (List ℕ)) (before now : ℕ)
     → PrintsText s text old new before now → OnOutput (TextEnds s text) old new before now
-text_ends status.Done text old new before now prints = λ files shelf_faults script script_faults.
-    record { shelf = refl; faults = record { script = refl; out = prints.0 }; script = refl; out = prints.1 }
-text_ends status.WriteFault text old new before now prints = λ files shelf_faults script script_faults.
-    record { shelf = refl; script_faults = refl; fault = prints.0; script = refl; out = prints.1 }
-text_ends status.Memory text old new before now prints = λ files shelf_faults script script_faults. (
+text_ends status.Done text old new before now prints = λ files shelf_faults script script_faults log log_faults.
+    record { shelf = refl; faults = record { script = refl; out = prints.0; log = refl }; script = refl; log = refl; out = prints.1 }
+text_ends status.WriteFault text old new before now prints = λ files shelf_faults script script_faults log log_faults.
+    record { shelf = refl; script_faults = refl; log_faults = refl; fault = prints.0; script = refl; log = refl; out = prints.1 }
+text_ends status.Memory text old new before now prints = λ files shelf_faults script script_faults log log_faults. (
   refl,
-  λ i. record { script = script; script_faults = script_faults; out = prints.1 i; out_faults = prints.0 i },
+  λ i. streams script script_faults (prints.1 i) (prints.0 i) log log_faults,
 )
 text_ends status.Usage text old new before now prints = absurd prints
 text_ends status.ReadFault text old new before now prints = absurd prints
 text_ends status.ScriptTooLong text old new before now prints = absurd prints
 text_ends (status.KbRefused k line) text old new before now prints = absurd prints
+text_ends (status.LogRefused n) text old new before now prints = absurd prints
 
 -- so was the summary
 pub summary_ends : (s : Status) (k : Kind) (n : ℕ) (forced : List Literal) (least : ExtInt) (old new : Option (List ℕ))
@@ -125,28 +129,29 @@ pub summary_ends : (s : Status) (k : Kind) (n : ℕ) (forced : List Literal) (le
     → PrintsText s (summary_text k n (length forced) least) old new before now
     → OnOutput (SummaryEnds s k n) old new before now
 summary_ends status.Done k n forced least old new before now answers prints =
-    λ files shelf_faults script script_faults. (
+    λ files shelf_faults script script_faults log log_faults. (
       forced,
       least,
       answers,
-      record { shelf = refl; faults = record { script = refl; out = prints.0 }; script = refl; out = prints.1 },
+      record { shelf = refl; faults = record { script = refl; out = prints.0; log = refl }; script = refl; log = refl; out = prints.1 },
     )
 summary_ends status.WriteFault k n forced least old new before now answers prints =
-    λ files shelf_faults script script_faults. inr (
+    λ files shelf_faults script script_faults log log_faults. inr (
       forced,
       least,
       answers,
-      record { shelf = refl; script_faults = refl; fault = prints.0; script = refl; out = prints.1 },
+      record { shelf = refl; script_faults = refl; log_faults = refl; fault = prints.0; script = refl; log = refl; out = prints.1 },
     )
 summary_ends status.Memory k n forced least old new before now answers prints =
-    λ files shelf_faults script script_faults. (
+    λ files shelf_faults script script_faults log log_faults. (
       refl,
-      λ i. record { script = script; script_faults = script_faults; out = prints.1 i; out_faults = prints.0 i },
+      λ i. streams script script_faults (prints.1 i) (prints.0 i) log log_faults,
     )
 summary_ends status.Usage k n forced least old new before now answers prints = absurd prints
 summary_ends status.ReadFault k n forced least old new before now answers prints = absurd prints
 summary_ends status.ScriptTooLong k n forced least old new before now answers prints = absurd prints
 summary_ends (status.KbRefused q line) k n forced least old new before now answers prints = absurd prints
+summary_ends (status.LogRefused entry) k n forced least old new before now answers prints = absurd prints
 
 -- what is said of a knowledge base, where it is what the file means
 file_answers : (kb : Opened) (bytes : List ℕ) (forced : List Literal) (least : ExtInt) → Takes no_choice (Ok kb) bytes
@@ -174,24 +179,25 @@ pub refusal_ends : (s : Status) (k : Kind) (n : ℕ) (q : K) (line : ℕ) (old n
     → OnOutput (SummaryEnds s k n) old new before now
 refusal_ends (status.KbRefused cause place) k n q line old new before now is prints =
     let P : K → ℕ → Type 0 = λ c l. OnOutput (SummaryEnds (status.KbRefused c l) k n) old new before now in
-    let said : P q line = λ files shelf_faults script script_faults. (
+    let said : P q line = λ files shelf_faults script script_faults log log_faults. (
       is,
-      record { shelf = refl; faults = record { script = refl; out = prints.0 }; script = refl; out = prints.3 },
+      record { shelf = refl; faults = record { script = refl; out = prints.0; log = refl }; script = refl; log = refl; out = prints.3 },
     ) in
     subst (λ (c : K). P c place) (sym prints.1) (subst (λ (l : ℕ). P q l) (sym prints.2) said)
 refusal_ends status.WriteFault k n q line old new before now is prints =
-    λ files shelf_faults script script_faults. inl (
+    λ files shelf_faults script script_faults log log_faults. inl (
       q,
       line,
       is,
-      record { shelf = refl; script_faults = refl; fault = prints.0; script = refl; out = prints.1 },
+      record { shelf = refl; script_faults = refl; log_faults = refl; fault = prints.0; script = refl; log = refl; out = prints.1 },
     )
 refusal_ends status.Memory k n q line old new before now is prints =
-    λ files shelf_faults script script_faults. (
+    λ files shelf_faults script script_faults log log_faults. (
       refl,
-      λ i. record { script = script; script_faults = script_faults; out = prints.1 i; out_faults = prints.0 i },
+      λ i. streams script script_faults (prints.1 i) (prints.0 i) log log_faults,
     )
 refusal_ends status.Done k n q line old new before now is prints = absurd prints
 refusal_ends status.Usage k n q line old new before now is prints = absurd prints
 refusal_ends status.ReadFault k n q line old new before now is prints = absurd prints
 refusal_ends status.ScriptTooLong k n q line old new before now is prints = absurd prints
+refusal_ends (status.LogRefused entry) k n q line old new before now is prints = absurd prints

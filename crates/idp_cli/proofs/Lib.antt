@@ -2,3 +2,4 @@ pub mod Asked
 mod Consulting
 mod Generating
 mod LongFiles
+mod VerificationLemmas

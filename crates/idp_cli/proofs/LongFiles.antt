@@ -4,7 +4,8 @@ use Rattle.fo_syntax.specs.FileReads.{most_bytes, too_long}
 use Rattle.kb_io.specs.Lines.{newlines}
 use Rattle.kb_text.specs.declared.fault.K.TheVariants.{TooLong}
 use Rattle.base_reader.specs.FileMeanings.{Choice, text}
-use Rattle.idp_cli.specs.Files.{IfObservable, IsRefusedAt}
+use Rattle.consultation.specs.Streams.{IfObservable}
+use Rattle.idp_cli.specs.Files.{IsRefusedAt}
 
 pub long_file : (c : Choice) (n : ℕ) (file : Option (List ℕ))
     → IfObservable file (λ told. (most_bytes < length told) × (n ≡ newlines (take most_bytes told)))

@@ -32,12 +32,12 @@ fn answer_commands<C: Source, W: Sink, L: Sink>(
     out: &mut W,
     log: &mut L,
 ) -> Result<(), Stop>
-    ensures ends { OpensAndAnswers job.logs result (base_of kb) (first_state job.budget)
+    ensures ends { OpensAndAnswers job.entry.logs result (base_of kb) (first_state job.entry.budget)
         (streams (C.left commands.old) (C.faults commands.old) (W.holds out.old) (W.faults out.old) (L.holds log.old)
         (L.faults log.old))
         (streams (C.left commands.new) (C.faults commands.new) (W.holds out.new) (W.faults out.new) (L.holds log.new)
         (L.faults log.new)) }
-    ensures log { OnFalse job.logs (log.new ≡ log.old) }
+    ensures log { OnFalse job.entry.logs (log.new ≡ log.old) }
 {
     let Ok(mut consultant) = Consultant::open(alloc, kb, job.budget, job.logs) else {
         return Err(Stop::Memory);
@@ -67,16 +67,16 @@ fn consult<H: Shelf, C: Source, W: Sink, L: Sink>(
     out: &mut W,
     log: &mut L,
 ) -> Status
-    ensures ends { ConsultationEnds result job.file.now (choice_view job.options) job.budget job.logs
+    ensures ends { ConsultationEnds result job.entry.file.now (choice_view job.entry.options) job.entry.budget job.entry.logs
         (outside (H.file shelf.old) (H.faults shelf.old)
         (streams (C.left commands.old) (C.faults commands.old) (W.holds out.old) (W.faults out.old) (L.holds log.old)
         (L.faults log.old)))
         (outside (H.file shelf.new) (H.faults shelf.new)
         (streams (C.left commands.new) (C.faults commands.new) (W.holds out.new) (W.faults out.new) (L.holds log.new)
         (L.faults log.new))) }
-    ensures asked { GrewByName (H.asked shelf.old) (H.asked shelf.new) job.file.now }
+    ensures asked { GrewByName (H.asked shelf.old) (H.asked shelf.new) job.entry.file.now }
     ensures closed { KeptNumber (H.open_sources shelf.old) (H.open_sources shelf.new) }
-    ensures log { OnFalse job.logs (log.new ≡ log.old) }
+    ensures log { OnFalse job.entry.logs (log.new ≡ log.old) }
 {
     match open_file(alloc, job.file, job.options, shelf, out) {
         Ok(kb) => status_of(answer_commands(alloc, kb, job, commands, out, log)),

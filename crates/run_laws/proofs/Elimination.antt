@@ -1,13 +1,13 @@
 -- The statuses come exactly where they should, by elimination.
-use Rattle.std.proofs.Common.{◌≡◌, ℕ, ◌<◌, List, length, refl, sym, ◌∙◌, ap, subst, arith, Option, Some, None, inl, inr}
+use Rattle.std.proofs.Common.{◌≡◌, ℕ, ◌<◌, List, length, Bool, refl, sym, ◌∙◌, ap, subst, arith, Option, Some, None, inl, inr}
 use Rattle.kb_text.specs.declared.fault.K.{K}
 use Rattle.kb_text.specs.declared.fault.KbFault.{KbFault}
 use Rattle.base_reader.specs.FileMeanings.{Choice, Meaning, FileMeans}
 use Rattle.base_reader.specs.Laws.{HasOneRefusal, MeansOrIsRefused}
-use Rattle.idp_cli.specs.Jobs.{Job, consult, check, make, summarise, file_of, Asks}
+use Rattle.idp_cli.specs.Jobs.{Job, consult, check, verify, make, summarise, file_of, Asks}
 use Rattle.consultation.specs.Streams.{IfObservable}
 use Rattle.idp_cli.specs.Files.{IsRefusedAt, line_of}
-use Rattle.idp_cli.specs.Runs.{Words, texts_of, Outside, StaysAsBefore, ConsultationEnds, CheckEnds}
+use Rattle.idp_cli.specs.Runs.{Words, texts_of, Outside, StaysAsBefore, ConsultationEnds, CheckEnds, VerificationEnds}
 use Rattle.idp_cli.specs.Runs.{JobEnds, RunEnds}
 use Rattle.run_laws.specs.Laws.{IsUnlessFailed, choice_of, UsageLaw, CommandLaw, RefusalLaw, TakingLaw, LengthLaw}
 use Rattle.run_laws.specs.Laws.{ShortLaw, DoneLaw, CheckedLaw, MadeLaw, SummarisedLaw}
@@ -21,8 +21,9 @@ pub told : (o : Option (List ℕ)) (bytes : List ℕ) (P : List ℕ → Type 0) 
 told o bytes P is holds = let Q : Option (List ℕ) → Type 0 = λ o. IfObservable o P in subst Q is holds
 
 stays : (job : Job) (before now : Outside) → StaysAsBefore before now → JobEnds status.Memory job before now
-stays (consult file c budget) before now is = inl is
+stays (consult file c budget logs) before now is = inl is
 stays (check file c) before now is = is
+stays (verify file c log) before now is = is
 stays (make k n) before now is = is
 stays (summarise k n) before now is = is
 
@@ -46,10 +47,12 @@ usage_law (status.KbRefused k line) words before now usage (inl ends) = absurd e
 usage_law status.ReadFault words before now usage (inl ends) = tt
 usage_law status.Memory words before now usage (inl ends) = tt
 usage_law status.ScriptTooLong words before now usage (inl ends) = absurd ends.1
+usage_law (status.LogRefused n) words before now usage (inl ends) = absurd ends.1
 
 no_usage : (job : Job) (before now : Outside) → JobEnds status.Usage job before now → ⊥
-no_usage (consult file c budget) before now ends = ends
+no_usage (consult file c budget logs) before now ends = ends
 no_usage (check file c) before now ends = ends
+no_usage (verify file c log) before now ends = ends
 no_usage (make k n) before now ends = ends
 no_usage (summarise k n) before now ends = ends
 
@@ -77,6 +80,8 @@ made_law status.WriteFault words before now k n is ends = tt
 made_law status.Memory words before now k n is ends = tt
 made_law status.ScriptTooLong words before now k n is ends =
     absurd (done status.ScriptTooLong words before now (make k n) is ends)
+made_law (status.LogRefused entry) words before now k n is ends =
+    absurd (done (status.LogRefused entry) words before now (make k n) is ends)
 
 module _ (one : HasOneRefusal) (never : MeansOrIsRefused) where
   -- no file is both refused and means something
@@ -94,21 +99,22 @@ module _ (one : HasOneRefusal) (never : MeansOrIsRefused) where
       let at : line' ≡ line = h'.3 ∙ (ap (λ (q : KbFault). line_of q.place bytes) same ∙ sym h.3) in
       λ i. status.KbRefused (cause i) (at i)
 
-  consultation_refused : (s : Status) (before now : Outside) (file bytes : List ℕ) (c : Choice) (budget : Option ℕ)
+  consultation_refused : (s : Status) (before now : Outside) (file bytes : List ℕ) (c : Choice) (budget : Option ℕ) (logs : Bool)
       (k : K) (line : ℕ) → before.files file ≡ Some bytes → IsRefusedAt c k line bytes
-      → ConsultationEnds s file c budget before now → IsUnlessFailed (status.KbRefused k line) s
-  consultation_refused status.Done before now file bytes c budget k line held refused ends =
+      → ConsultationEnds s file c budget logs before now → IsUnlessFailed (status.KbRefused k line) s
+  consultation_refused status.Done before now file bytes c budget logs k line held refused ends =
       let taken = told (before.files file) bytes _ held ends.answers in
       absurd (refused_or_taken c k line bytes taken.0 refused taken.1)
-  consultation_refused (status.KbRefused k' line') before now file bytes c budget k line held refused ends =
+  consultation_refused (status.KbRefused k' line') before now file bytes c budget logs k line held refused ends =
       one_refusal c k k' line line' bytes refused (told (before.files file) bytes _ held ends.0)
-  consultation_refused status.Usage before now file bytes c budget k line held refused ends = absurd ends
-  consultation_refused status.ReadFault before now file bytes c budget k line held refused ends = tt
-  consultation_refused status.WriteFault before now file bytes c budget k line held refused ends = tt
-  consultation_refused status.Memory before now file bytes c budget k line held refused ends = tt
-  consultation_refused status.ScriptTooLong before now file bytes c budget k line held refused ends =
+  consultation_refused status.Usage before now file bytes c budget logs k line held refused ends = absurd ends
+  consultation_refused status.ReadFault before now file bytes c budget logs k line held refused ends = tt
+  consultation_refused status.WriteFault before now file bytes c budget logs k line held refused ends = tt
+  consultation_refused status.Memory before now file bytes c budget logs k line held refused ends = tt
+  consultation_refused status.ScriptTooLong before now file bytes c budget logs k line held refused ends =
       let taken = told (before.files file) bytes _ held ends.answers in
       absurd (refused_or_taken c k line bytes taken.0 refused taken.1)
+  consultation_refused (status.LogRefused n) before now file bytes c budget logs k line held refused ends = absurd ends
 
   check_refused : (s : Status) (before now : Outside) (file bytes : List ℕ) (c : Choice) (k : K) (line : ℕ)
       → before.files file ≡ Some bytes → IsRefusedAt c k line bytes → CheckEnds s file c before now
@@ -122,14 +128,35 @@ module _ (one : HasOneRefusal) (never : MeansOrIsRefused) where
   check_refused status.WriteFault before now file bytes c k line held refused ends = tt
   check_refused status.Memory before now file bytes c k line held refused ends = tt
   check_refused status.ScriptTooLong before now file bytes c k line held refused ends = absurd ends
+  check_refused (status.LogRefused n) before now file bytes c k line held refused ends = absurd ends
+
+  verification_refused : (s : Status) (before now : Outside) (file bytes : List ℕ) (c : Choice) (log : List ℕ) (k : K)
+      (line : ℕ) → before.files file ≡ Some bytes → IsRefusedAt c k line bytes
+      → VerificationEnds s file c log before now → IsUnlessFailed (status.KbRefused k line) s
+  verification_refused status.Done before now file bytes c log k line held refused ends =
+      absurd (refused_or_taken c k line bytes ends.1.meaning refused
+      (told (before.files file) bytes _ held ends.1.means))
+  verification_refused (status.KbRefused k' line') before now file bytes c log k line held refused ends =
+      one_refusal c k k' line line' bytes refused (told (before.files file) bytes _ held ends.0)
+  verification_refused status.Usage before now file bytes c log k line held refused ends = absurd ends
+  verification_refused status.ReadFault before now file bytes c log k line held refused ends = tt
+  verification_refused status.WriteFault before now file bytes c log k line held refused ends = tt
+  verification_refused status.Memory before now file bytes c log k line held refused ends = tt
+  verification_refused status.ScriptTooLong before now file bytes c log k line held refused ends =
+      absurd (refused_or_taken c k line bytes ends.0.0.0 refused (told (before.files file) bytes _ held ends.0.0.1))
+  verification_refused (status.LogRefused n) before now file bytes c log k line held refused ends =
+      absurd (refused_or_taken c k line bytes ends.0.meaning refused
+      (told (before.files file) bytes _ held ends.0.means))
 
   refused_by : (s : Status) (before now : Outside) (job : Job) (file bytes : List ℕ) (k : K) (line : ℕ)
       → file_of job ≡ Some file → before.files file ≡ Some bytes → IsRefusedAt (choice_of job) k line bytes
       → JobEnds s job before now → IsUnlessFailed (status.KbRefused k line) s
-  refused_by s before now (consult name c budget) file bytes k line of held refused ends =
-      consultation_refused s before now name bytes c budget k line (held_by before name file bytes of held) refused ends
+  refused_by s before now (consult name c budget logs) file bytes k line of held refused ends =
+      consultation_refused s before now name bytes c budget logs k line (held_by before name file bytes of held) refused ends
   refused_by s before now (check name c) file bytes k line of held refused ends =
       check_refused s before now name bytes c k line (held_by before name file bytes of held) refused ends
+  refused_by s before now (verify name c log) file bytes k line of held refused ends =
+      verification_refused s before now name bytes c log k line (held_by before name file bytes of held) refused ends
   refused_by s before now (make q n) file bytes k line of held refused ends = absurd (none_is file of)
   refused_by s before now (summarise q n) file bytes k line of held refused ends = absurd (none_is file of)
 
@@ -140,10 +167,13 @@ module _ (one : HasOneRefusal) (never : MeansOrIsRefused) where
   taken_by : (k : K) (line : ℕ) (before now : Outside) (job : Job) (file bytes : List ℕ) (m : Meaning)
       → file_of job ≡ Some file → before.files file ≡ Some bytes → FileMeans (choice_of job) bytes m
       → JobEnds (status.KbRefused k line) job before now → ⊥
-  taken_by k line before now (consult name c budget) file bytes m of held means ends =
+  taken_by k line before now (consult name c budget logs) file bytes m of held means ends =
       let held' = held_by before name file bytes of held in
       refused_or_taken c k line bytes m (told (before.files name) bytes _ held' ends.0) means
   taken_by k line before now (check name c) file bytes m of held means ends =
+      let held' = held_by before name file bytes of held in
+      refused_or_taken c k line bytes m (told (before.files name) bytes _ held' ends.0) means
+  taken_by k line before now (verify name c log) file bytes m of held means ends =
       let held' = held_by before name file bytes of held in
       refused_or_taken c k line bytes m (told (before.files name) bytes _ held' ends.0) means
   taken_by k line before now (make q n) file bytes m of held means ends = none_is file of
@@ -154,46 +184,49 @@ module _ (one : HasOneRefusal) (never : MeansOrIsRefused) where
       taken_by k line before now job file bytes m of held means
       (done (status.KbRefused k line) words before now job is ends)
 
-  length_ends : (s : Status) (before now : Outside) (file bytes script : List ℕ) (c : Choice) (budget : Option ℕ)
+  length_ends : (s : Status) (before now : Outside) (file bytes script : List ℕ) (c : Choice) (budget : Option ℕ) (logs : Bool)
       (m : Meaning)
       → before.files file ≡ Some bytes → FileMeans c bytes m → before.streams.script ≡ Some script
       → 67108864 < length script
-      → ConsultationEnds s file c budget before now → IsUnlessFailed status.ScriptTooLong s
-  length_ends status.Done before now file bytes script c budget m is means told' long ends =
+      → ConsultationEnds s file c budget logs before now → IsUnlessFailed status.ScriptTooLong s
+  length_ends status.Done before now file bytes script c budget logs m is means told' long ends =
       let answered = told (before.files file) bytes _ is ends.answers in
       let short = told before.streams.script script _ told' answered.2 in
       absurd (omega (arith, short.0, long))
-  length_ends (status.KbRefused k line) before now file bytes script c budget m is means told' long ends =
+  length_ends (status.KbRefused k line) before now file bytes script c budget logs m is means told' long ends =
       absurd (refused_or_taken c k line bytes m (told (before.files file) bytes _ is ends.0) means)
-  length_ends status.Usage before now file bytes script c budget m is means told' long ends = absurd ends
-  length_ends status.ReadFault before now file bytes script c budget m is means told' long ends = tt
-  length_ends status.WriteFault before now file bytes script c budget m is means told' long ends = tt
-  length_ends status.Memory before now file bytes script c budget m is means told' long ends = tt
-  length_ends status.ScriptTooLong before now file bytes script c budget m is means told' long ends = refl
+  length_ends status.Usage before now file bytes script c budget logs m is means told' long ends = absurd ends
+  length_ends status.ReadFault before now file bytes script c budget logs m is means told' long ends = tt
+  length_ends status.WriteFault before now file bytes script c budget logs m is means told' long ends = tt
+  length_ends status.Memory before now file bytes script c budget logs m is means told' long ends = tt
+  length_ends status.ScriptTooLong before now file bytes script c budget logs m is means told' long ends = refl
+  length_ends (status.LogRefused n) before now file bytes script c budget logs m is means told' long ends = absurd ends
 
   pub length_law : LengthLaw
-  length_law s words before now file bytes script c budget m is held means held' long ends =
-      length_ends s before now file bytes script c budget m held means held' long
-      (done s words before now (consult file c budget) is ends)
+  length_law s words before now file bytes script c budget logs m is held means held' long ends =
+      length_ends s before now file bytes script c budget logs m held means held' long
+      (done s words before now (consult file c budget logs) is ends)
 
   pub short_law : ShortLaw
-  short_law words before now file bytes script c budget is held held' short ends =
+  short_law words before now file bytes script c budget logs is held held' short ends =
       let taken = told (before.files file) bytes _ held
-      (done status.ScriptTooLong words before now (consult file c budget) is ends).answers in
+      (done status.ScriptTooLong words before now (consult file c budget logs) is ends).answers in
       let answered = told before.streams.script script _ held' taken.2 in
       omega (arith, answered.0, short)
 
   pub done_law : DoneLaw
-  done_law status.Done words before now file bytes script c budget m is held means held' short ends = refl
-  done_law (status.KbRefused k line) words before now file bytes script c budget m is held means held' short ends =
-      absurd (taking_law k line words before now (consult file c budget) file bytes m is refl held means ends)
-  done_law status.Usage words before now file bytes script c budget m is held means held' short ends =
-      absurd (command_law words before now (consult file c budget) is ends)
-  done_law status.ReadFault words before now file bytes script c budget m is held means held' short ends = tt
-  done_law status.WriteFault words before now file bytes script c budget m is held means held' short ends = tt
-  done_law status.Memory words before now file bytes script c budget m is held means held' short ends = tt
-  done_law status.ScriptTooLong words before now file bytes script c budget m is held means held' short ends =
-      absurd (short_law words before now file bytes script c budget is held held' short ends)
+  done_law status.Done words before now file bytes script c budget logs m is held means held' short ends = refl
+  done_law (status.KbRefused k line) words before now file bytes script c budget logs m is held means held' short ends =
+      absurd (taking_law k line words before now (consult file c budget logs) file bytes m is refl held means ends)
+  done_law status.Usage words before now file bytes script c budget logs m is held means held' short ends =
+      absurd (command_law words before now (consult file c budget logs) is ends)
+  done_law status.ReadFault words before now file bytes script c budget logs m is held means held' short ends = tt
+  done_law status.WriteFault words before now file bytes script c budget logs m is held means held' short ends = tt
+  done_law status.Memory words before now file bytes script c budget logs m is held means held' short ends = tt
+  done_law status.ScriptTooLong words before now file bytes script c budget logs m is held means held' short ends =
+      absurd (short_law words before now file bytes script c budget logs is held held' short ends)
+  done_law (status.LogRefused n) words before now file bytes script c budget logs m is held means held' short ends =
+      absurd (done (status.LogRefused n) words before now (consult file c budget logs) is ends)
 
   pub checked_law : CheckedLaw
   checked_law status.Done words before now file bytes c m is held means ends = refl
@@ -206,6 +239,8 @@ module _ (one : HasOneRefusal) (never : MeansOrIsRefused) where
   checked_law status.Memory words before now file bytes c m is held means ends = tt
   checked_law status.ScriptTooLong words before now file bytes c m is held means ends =
       absurd (done status.ScriptTooLong words before now (check file c) is ends)
+  checked_law (status.LogRefused n) words before now file bytes c m is held means ends =
+      absurd (done (status.LogRefused n) words before now (check file c) is ends)
 
   pub summarised_law : SummarisedLaw
   summarised_law status.Done words before now k n m is means ends = refl
@@ -219,3 +254,5 @@ module _ (one : HasOneRefusal) (never : MeansOrIsRefused) where
   summarised_law status.Memory words before now k n m is means ends = tt
   summarised_law status.ScriptTooLong words before now k n m is means ends =
       absurd (done status.ScriptTooLong words before now (summarise k n) is ends)
+  summarised_law (status.LogRefused entry) words before now k n m is means ends =
+      absurd (done (status.LogRefused entry) words before now (summarise k n) is ends)

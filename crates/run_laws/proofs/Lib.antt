@@ -1,4 +1,5 @@
 mod Elimination
+mod LogLaws
 mod LiteralsOver
 mod ReadableValues
 mod OneAnswer

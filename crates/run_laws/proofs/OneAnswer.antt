@@ -27,8 +27,8 @@ use Rattle.run_laws.proofs.LiteralsOver.{some_over}
 use Rattle.run_laws.proofs.ReadableValues.{readable}
 use Rattle.consultation.specs.Consultation.{reply_of}
 use Rattle.consultation.specs.declared.said.Said.{Said}
-use Rattle.consultation.specs.Consultation.{nothing, too_long, refused, replied, IsRightAnswer, state_left, said_text}
-use Rattle.consultation.specs.Consultation.{said_texts, Consultation}
+use Rattle.consultation.specs.declared.said.Said.TheVariants.{Nothing, TooLong, Refused, Replied}
+use Rattle.consultation.specs.Consultation.{IsRightAnswer, state_left, said_text, said_texts, Consultation}
 use Rattle.run_laws.specs.OneAnswer.{IsBudgetInRange, IsStateOver, OneAnswerLaw, OneConsultationLaw, StatesLaw}
 
 -- a budget in its range has 64 bits
@@ -95,7 +95,7 @@ module _ (meanings : (kb : Base) (line : List ℕ) → HasOneMeaning kb line) (t
       → IsStateOver kb s
       → RightReply kb s c r → RightReply kb s c q
       → reply_text kb.vocabulary r ++ after ≡ reply_text kb.vocabulary q ++ after'
-      → IsSame kb s (replied c r) (replied c q) after after'
+      → IsSame kb s (Replied c r) (Replied c q) after after'
   same_command kb s c r q after after' names over right right' same =
       let f = command_refusal kb s c in
       let both = texts kb names c r q after after' (reply_to f kb s c r right)
@@ -111,33 +111,33 @@ module _ (meanings : (kb : Base) (line : List ℕ) → HasOneMeaning kb line) (t
 
       go : (a b : Said) → IsRightAnswer kb s line a → IsRightAnswer kb s line b
           → said_text kb.vocabulary a ++ after ≡ said_text kb.vocabulary b ++ after' → IsSame kb s a b after after'
-      go nothing nothing right right' same = (refl, refl, same)
-      go nothing too_long right right' same = absurd (omega (arith, right.0, right'))
-      go nothing (refused f) right right' same =
+      go Nothing Nothing right right' same = (refl, refl, same)
+      go Nothing TooLong right right' same = absurd (omega (arith, right.0, right'))
+      go Nothing (Refused f) right right' same =
           absurd (let clash : ⊥ = cc (one (Ok None) (Err f) right.1 right'.1) in clash)
-      go nothing (replied c r) right right' same =
+      go Nothing (Replied c r) right right' same =
           absurd (let clash : ⊥ = cc (one (Ok None) (Ok (Some c)) right.1 right'.1) in clash)
-      go too_long nothing right right' same = absurd (omega (arith, right, right'.0))
-      go too_long too_long right right' same =
-          (refl, refl, append_cancel_left (said_text kb.vocabulary too_long) after after' same)
-      go too_long (refused f) right right' same = absurd (omega (arith, right, right'.0))
-      go too_long (replied c r) right right' same = absurd (omega (arith, right, right'.0))
-      go (refused f) nothing right right' same =
+      go TooLong Nothing right right' same = absurd (omega (arith, right, right'.0))
+      go TooLong TooLong right right' same =
+          (refl, refl, append_cancel_left (said_text kb.vocabulary TooLong) after after' same)
+      go TooLong (Refused f) right right' same = absurd (omega (arith, right, right'.0))
+      go TooLong (Replied c r) right right' same = absurd (omega (arith, right, right'.0))
+      go (Refused f) Nothing right right' same =
           absurd (let clash : ⊥ = cc (one (Err f) (Ok None) right.1 right'.1) in clash)
-      go (refused f) too_long right right' same = absurd (omega (arith, right.0, right'))
-      go (refused f) (refused g) right right' same =
+      go (Refused f) TooLong right right' same = absurd (omega (arith, right.0, right'))
+      go (Refused f) (Refused g) right right' same =
           let is : f ≡ g = cc (one (Err f) (Err g) right.1 right'.1) in
-          let tails = append_cancel_left (said_text kb.vocabulary (refused g)) after after'
-          (ap (λ (h : F). said_text kb.vocabulary (refused h) ++ after) (sym is) ∙ same) in
+          let tails = append_cancel_left (said_text kb.vocabulary (Refused g)) after after'
+          (ap (λ (h : F). said_text kb.vocabulary (Refused h) ++ after) (sym is) ∙ same) in
           (ap (λ (h : F). Some (reply.Refused h)) is, refl, tails)
-      go (refused f) (replied c r) right right' same =
+      go (Refused f) (Replied c r) right right' same =
           absurd (let clash : ⊥ = cc (one (Err f) (Ok (Some c)) right.1 right'.1) in clash)
-      go (replied c r) nothing right right' same =
+      go (Replied c r) Nothing right right' same =
           absurd (let clash : ⊥ = cc (one (Ok (Some c)) (Ok None) right.1 right'.1) in clash)
-      go (replied c r) too_long right right' same = absurd (omega (arith, right.0, right'))
-      go (replied c r) (refused f) right right' same =
+      go (Replied c r) TooLong right right' same = absurd (omega (arith, right.0, right'))
+      go (Replied c r) (Refused f) right right' same =
           absurd (let clash : ⊥ = cc (one (Ok (Some c)) (Err f) right.1 right'.1) in clash)
-      go (replied c r) (replied d q) right right' same =
+      go (Replied c r) (Replied d q) right right' same =
           let is : c ≡ d = cc (one (Ok (Some c)) (Ok (Some d)) right.1 right'.1) in
           let right_q = subst (λ (e : Command). RightReply kb s e q) (sym is) right'.2 in
           let both = same_command kb s c r q after after' names over right.2 right_q same in
@@ -193,10 +193,10 @@ unless_over kb (Some f) s t before after = before
 module _ (commands : CommandsAreOverTheBase) where
   left_over : (kb : Base) (s : State) (line : List ℕ) (said : Said) → IsStateOver kb s → IsRightAnswer kb s line said
       → IsStateOver kb (state_left kb s said)
-  left_over kb s line nothing over right = over
-  left_over kb s line too_long over right = over
-  left_over kb s line (refused f) over right = over
-  left_over kb s line (replied c r) over right =
+  left_over kb s line Nothing over right = over
+  left_over kb s line TooLong over right = over
+  left_over kb s line (Refused f) over right = over
+  left_over kb s line (Replied c r) over right =
       unless_over kb (command_refusal kb s c) s (carried_out s c) over
       (carried_over kb s c line over (commands kb line c right.1) right.1)
 

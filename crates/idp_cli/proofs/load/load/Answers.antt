@@ -2,7 +2,8 @@ use Rattle.std.proofs.Common.{ℕ, ◌+◌, Err, sym, subst}
 use Rattle.fo_syntax.specs.FileReads.{most_bytes}
 use Rattle.kb_io.specs.declared.read_write.ReadError.{ReadError}
 use Rattle.kb_text.specs.declared.fault.K.TheVariants.{TooLong}
-use Rattle.idp_cli.specs.Files.{IfObservable, IsRefusedAt}
+use Rattle.consultation.specs.Streams.{IfObservable}
+use Rattle.idp_cli.specs.Files.{IsRefusedAt}
 use Rattle.idp_cli.specs.JobViews.{choice_view}
 use Rattle.idp_cli.specs.Reading.{ReadsFile}
 use Rattle.idp_cli.proofs.LongFiles.{long_file}
