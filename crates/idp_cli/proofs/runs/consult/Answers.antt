@@ -1,10 +1,18 @@
+use Rattle.std.proofs.Common.{sym}
 use Rattle.base_reader.specs.Readings.{meaning_of}
 use Rattle.idp_cli.specs.JobViews.{choice_view}
-use Rattle.idp_cli.proofs.Consulting.{consultation_ends}
+use Rattle.idp_cli.proofs.Consulting.{consultation_ends, consultation_fails}
 use Rattle.idp_cli.proofs.runs.consult.Goals as goal
 
-pub returns-clause-ends : goal.returns-clause-ends
-returns-clause-ends g c =
+pub returns-in-Ok-clause-ends : goal.returns-in-Ok-clause-ends
+returns-in-Ok-clause-ends g c =
     let load = c.in-Ok.ensures.loaded in
-    consultation_ends c.args.name.now (choice_view c.args.options) (meaning_of c.in-Ok.kb) _ _ load.0 load.1
-    c.answer_commands.result c.args.budget c.answer_commands.ensures
+    rw (c.status_of.ensures, sym c.in-Ok.ensures.silent)
+    (consultation_ends c.args.job.file.now (choice_view c.args.job.options) (meaning_of c.in-Ok.kb) c.args.job.budget
+    c.args.job.logs _ _ load.0 load.1 c.answer_commands.result c.answer_commands.ensures.ends)
+
+pub returns-in-Err-clause-ends : goal.returns-in-Err-clause-ends
+returns-in-Err-clause-ends g c =
+    consultation_fails c.in-Err.status _ _ _ _ _ _
+    (c.in-Err.ensures.fails (g.C.Source.left c.args.commands.now) (g.C.Source.faults c.args.commands.now)
+    (g.L.Sink.holds c.args.log.now) (g.L.Sink.faults c.args.log.now))
