@@ -1,6 +1,5 @@
 -- What is printed about a file can be read.
-use Rattle.std.specs.Prelude.{ℕ, List, Option, Some}
-use Rattle.base_reader.specs.FileMeanings.{Choice, Meaning, FileMeans, base_of_meaning}
+use Rattle.base_reader.specs.FileMeanings.{FileMeans, base_of_meaning}
 use Rattle.file_laws.specs.FileLaws.{FilesHaveWordNames, StructuresAreReadBack}
 use Rattle.run_laws.specs.FileLaws.{FileRepliesLaw, CheckedIsReadBackLaw}
 use Rattle.idp_cli.specs.Jobs.{check}

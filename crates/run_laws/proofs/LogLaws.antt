@@ -1,21 +1,18 @@
 -- What is answered about a log that is verified comes exactly where it should, by elimination.
-use Rattle.std.proofs.Common.{◌≡◌, ◌≢◌, ℕ, ◌<◌, ◌≤◌, List, length, Bool, true, refl, sym, ◌∙◌, ap, subst, arith}
-use Rattle.std.proofs.Common.{Option, Some, None, is_some}
+use Rattle.std.proofs.Common.{◌≡◌, ℕ, ◌≤◌, List, length, true, false, refl, ap, subst, arith}
+use Rattle.std.proofs.Common.{Option, Some, None}
 use Rattle.kb_logic.specs.Bases.{Base}
-use Rattle.base_reader.specs.FileMeanings.{Choice, Meaning, FileMeans, base_of_meaning}
+use Rattle.base_reader.specs.FileMeanings.{Choice, Meaning, base_of_meaning}
 use Rattle.base_reader.specs.Laws.{HasOneMeaning}
 use Rattle.command_words.specs.CommandLine.{Said, said_by}
 use Rattle.command_words.specs.CommandLine as words
 use Rattle.def_ground.specs.Groundings.{theory_problem}
-use Rattle.derivation_log.specs.Checks.{IsAccepted, IsFirstBad}
 use Rattle.derivation_log.specs.Laws.{OneAnswer}
-use Rattle.derivation_log.specs.declared.claims.Claim.{Claim}
-use Rattle.consultation.specs.Streams.{IfObservable}
 use Rattle.verified_claims.specs.Verdicts.{IsVerdict, IsLogError}
 use Rattle.verified_claims.specs.declared.verdicts.LogError.TheVariants as log_error
-use Rattle.idp_cli.specs.Jobs.{Job, consult, check, verify, make, summarise, Asks, AsksBy, AskForLog, NamesLog, IsLogPath}
-use Rattle.idp_cli.specs.Runs.{Words, texts_of, Outside, RunEnds, VerificationEnds, LogIs, IfLogObservable, most_log_bytes}
-use Rattle.run_laws.specs.Laws.{IsUnlessFailed, AskToVerify, AcceptedLogLaw, VerifiedLaw, RefusedLogLaw, BadEntryLaw}
+use Rattle.idp_cli.specs.Jobs.{consult, verify, AsksBy, NamesLog}
+use Rattle.idp_cli.specs.Runs.{Words, Outside, RunEnds, VerificationEnds, LogIs, most_log_bytes}
+use Rattle.run_laws.specs.Laws.{AskToVerify, AcceptedLogLaw, VerifiedLaw, RefusedLogLaw, BadEntryLaw}
 use Rattle.run_laws.specs.Laws.{LongLogLaw, ShortLogLaw, LogPathLaw, TakingLaw, CommandLaw}
 use Rattle.run_laws.proofs.Elimination.{told, done}
 use Rattle.idp_cli.specs.declared.status.Status.{Status}
@@ -123,7 +120,7 @@ module _ (one : HasOneMeaning) where
 named : (said : Said) (file : List ℕ) (c : Choice) (budget : Option ℕ) → AsksBy said (consult file c budget true)
     → (p : List ℕ) × NamesLog said p
 named (words.consult f text None) file c budget asks = absurd (let clash : ⊥ = cc asks.3 in clash)
-named (words.consult f text (Some path)) file c budget asks = (path, refl, (budget, asks.2))
+named (words.consult f text (Some path)) file c budget asks = (path, (refl, (budget, asks.2)))
 named (words.check f) file c budget asks = absurd asks
 named (words.verify f path) file c budget asks = absurd asks
 named (words.generate kind number true) file c budget asks = absurd asks
@@ -136,10 +133,7 @@ asked (words.consult f text (Some path)) p names = (
   f.file,
   record { theory = f.theory; structure = f.structure },
   names.1.0,
-  refl,
-  refl,
-  names.1.1,
-  refl,
+  (refl, refl, names.1.1, refl),
 )
 asked (words.consult f text None) p names = absurd names
 asked (words.check f) p names = absurd names
@@ -148,6 +142,6 @@ asked (words.generate kind number text) p names = absurd names
 
 pub log_path_law : LogPathLaw
 log_path_law words = (
-  λ asks. let name = named asks.3.0 asks.0 asks.1 asks.2 asks.3.2 in (name.0, asks.3.0, asks.3.1, name.1),
+  λ asks. let name = named asks.3.0 asks.0 asks.1 asks.2 asks.3.2 in (name.0, (asks.3.0, asks.3.1, name.1)),
   λ p is. let ask = asked is.0 p is.2 in (ask.0, ask.1, ask.2, (is.0, is.1, ask.3)),
 )

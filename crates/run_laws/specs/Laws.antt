@@ -1,5 +1,5 @@
 -- Where each status comes: what the words, the file and the commands leave to it.
-use Rattle.std.specs.Prelude.{◌≡◌, ◌≢◌, ◌<◌, ◌≤◌, ℕ, List, Bool, true, Option, Some, length}
+use Rattle.std.specs.Prelude.{◌≡◌, ◌≢◌, ◌<◌, ◌≤◌, ℕ, List, Bool, Option, Some, length}
 use Rattle.kb_text.specs.declared.fault.K.{K}
 use Rattle.base_reader.specs.FileMeanings.{Choice, Meaning, FileMeans, base_of_meaning}
 use Rattle.def_ground.specs.Groundings.{theory_problem}
