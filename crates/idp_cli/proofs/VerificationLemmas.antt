@@ -1,5 +1,6 @@
 -- How the verification of a log ends, from how the log is read and what is printed of it.
 use Rattle.std.proofs.Common.{◌≡◌, ◌≢◌, ◌⊎◌, ◌≤◌, ℕ, List, length, refl, sym, subst, Option, Err, inl, inr}
+use Rattle.std.specs.Io.KnownBytes.{Appends}
 use Rattle.kb_io.specs.Outside.{Rose}
 use Rattle.kb_io.specs.ReadWrite.{AppendsPrefix}
 use Rattle.base_reader.specs.FileMeanings.{Choice, Meaning, FileMeans, base_of_meaning}
@@ -9,6 +10,7 @@ use Rattle.verified_claims.specs.Verdicts.{IsVerdict, IsLogError}
 use Rattle.verified_claims.specs.declared.verdicts.LogError.TheVariants as log_error
 use Rattle.idp_cli.specs.Files.{log_refusal_text}
 use Rattle.idp_cli.specs.Runs.{Outside, outside, LogIs, OnFiles, VerificationEnds, FileFails, most_log_bytes}
+use Rattle.idp_cli.specs.Printing.{PrintsLogRefusal}
 use Rattle.idp_cli.specs.Verifying.{PrintsAnswer, ReadsLog}
 use Rattle.idp_cli.specs.declared.status.Status.{Status}
 use Rattle.idp_cli.specs.declared.status.Status.TheVariants as status
@@ -128,3 +130,19 @@ module _ (file : List ℕ) (c : Choice) (log : List ℕ) (m : Meaning) (files fi
     answer_ends status.Usage new faults' prints = absurd prints
     answer_ends status.ScriptTooLong new faults' prints = absurd prints
     answer_ends (status.KbRefused k line) new faults' prints = absurd prints
+
+-- an entry of the log is no step, and that was printed, or could not be printed whole
+pub refusal_answers : (s : Status) (n : ℕ) (base : Base) (log : List ℕ) (old new : Option (List ℕ)) (before now : ℕ)
+    → IsLogError base log (log_error.Refused n) → PrintsLogRefusal s n old new before now
+    → PrintsAnswer s base log old new before now
+refusal_answers (status.LogRefused entry) n base log old new before now bad prints =
+    let P : ℕ → Type 0 = λ e. IsLogError base log (log_error.Refused e) × Appends old new (log_refusal_text e) in
+    let both : P entry = subst P (sym prints.1) (bad, prints.2) in
+    (prints.0, both.0, both.1)
+refusal_answers status.WriteFault n base log old new before now bad prints = (prints.0, inr (n, bad, prints.1))
+refusal_answers status.Memory n base log old new before now bad prints = prints
+refusal_answers status.Done n base log old new before now bad prints = absurd prints
+refusal_answers status.ReadFault n base log old new before now bad prints = absurd prints
+refusal_answers status.Usage n base log old new before now bad prints = absurd prints
+refusal_answers status.ScriptTooLong n base log old new before now bad prints = absurd prints
+refusal_answers (status.KbRefused k line) n base log old new before now bad prints = absurd prints
