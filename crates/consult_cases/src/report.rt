@@ -1,7 +1,8 @@
 //! What is printed of the cases.
 ghost use Rattle.std.specs.Prelude.{◌≡◌, ◌++◌, IfOk, IfSome, OnOk};
 ghost use Rattle.std.specs.String.{string_bytes};
-ghost use Rattle.consult_cases.specs.Playing.{IsPlayed, outcome_text, status_text, Adds, IsReport};
+ghost use Rattle.consult_cases.specs.Playing.{IsPlayed, log_text, outcome_text, status_text, Adds};
+ghost use Rattle.consult_cases.specs.Playing.{IsReport};
 
 use crate::cases::{case_of, cut_at, words_of};
 use crate::playing::{Outcome, play};
@@ -21,12 +22,24 @@ fn status_line(alloc: Global, status: Status) -> Result<String, AllocError>
     format!(in alloc; "status {code}\n")
 }
 
-/// Adds the replies and the status.
+/// Adds what the log held, behind a line that says so; nothing where it held nothing.
+fn add_log(lines: &mut Vec<u8>, log: &[u8]) -> Result<(), AllocError>
+    ensures { OnOk result (lines.new.items ≡ lines.old.items ++ log_text log.now) }
+{
+    if log.is_empty() {
+        return Ok(());
+    }
+    lines.extend_from_slice(b"log\n")?;
+    lines.extend_from_slice(log)
+}
+
+/// Adds the replies, the log and the status.
 fn add_outcome(alloc: Global, lines: &mut Vec<u8>, outcome: &Outcome) -> Result<(), AllocError>
-    ensures { OnOk result
-        (lines.new.items ≡ lines.old.items ++ outcome_text outcome.now.status outcome.now.text.items) }
+    ensures { OnOk result (lines.new.items ≡ lines.old.items
+        ++ outcome_text outcome.now.status outcome.now.text.items outcome.now.log.items) }
 {
     lines.extend_from_slice(&outcome.text)?;
+    add_log(lines, &outcome.log)?;
     let line = status_line(alloc, outcome.status)?;
     lines.extend_from_slice(line.as_bytes())
 }

@@ -55,6 +55,11 @@ impl<W> CountedWriter<W> {
     {
         CountedWriter { inner, faults: 0 }
     }
+
+    /// Whether a write or a flush failed.
+    pub fn has_failed(&self) -> bool {
+        self.faults > 0
+    }
 }
 
 impl<W: Write> Sink for CountedWriter<W> {

@@ -2,6 +2,7 @@
 #![tactic(auto)]
 
 mod adapters;
+mod log_file;
 mod terminal;
 #[cfg(test)]
 mod tests;
@@ -16,7 +17,9 @@ use idp_cli::laws::{
     what_is_printed_of_a_file_can_be_read,
 };
 use idp_cli::{Status, run};
-use kb_io::NullSink;
+use kb_io::Sink;
+use log_file::log_of;
+use run_notes::Lost;
 use std::alloc::AllocError;
 use std::env::{self, Env};
 use std::io::{ErrorKind, IsTerminal};
@@ -39,6 +42,30 @@ fn words_of<R: Env + AllocGlobal>(rt: &R) -> Result<Vec<String>, AllocError> {
     Ok(words)
 }
 
+/// Runs by the words, over the system's files and the standard streams.
+fn answers<L: Sink>(rt: &HostRuntime, words: &[String], log: &mut L) -> Status {
+    let typed = rt.stdin().is_terminal();
+    run(
+        rt.alloc(),
+        words,
+        &mut FileSystem::new(rt),
+        &mut CountedReader::new(Prompted::new(rt.stdin(), rt.stderr(), typed)),
+        &mut CountedWriter::new(Noted::new(rt.stdout(), rt.stderr(), typed)),
+        log,
+    )
+}
+
+/// Which device failed where writing did: the log, where it did, since nothing is written after that.
+fn lost_by<W>(log: &CountedWriter<W>) -> Lost {
+    if log.has_failed() { Lost::Log } else { Lost::Output }
+}
+
+/// Tells that memory ran out before the run began.
+fn gives_up(rt: &HostRuntime) -> ExitCode {
+    tell(rt, &[], Status::Memory, Lost::Output);
+    ExitCode::from(Status::Memory.code())
+}
+
 fn main(rt: HostRuntime) -> ExitCode {
     statuses_come_where_they_should();
     printed_bytes_determine_the_replies();
@@ -48,18 +75,13 @@ fn main(rt: HostRuntime) -> ExitCode {
     sentences_are_read_back();
     what_is_printed_of_a_file_can_be_read();
     let Ok(words) = words_of(&rt) else {
-        tell(&rt, &[], Status::Memory);
-        return ExitCode::from(Status::Memory.code());
+        return gives_up(&rt);
     };
-    let typed = rt.stdin().is_terminal();
-    let status = run(
-        rt.alloc(),
-        &words,
-        &mut FileSystem::new(&rt),
-        &mut CountedReader::new(Prompted::new(rt.stdin(), rt.stderr(), typed)),
-        &mut CountedWriter::new(Noted::new(rt.stdout(), rt.stderr(), typed)),
-        &mut NullSink,
-    );
-    tell(&rt, &words, status);
+    let Ok(log) = log_of(&rt, &words) else {
+        return gives_up(&rt);
+    };
+    let mut log = CountedWriter::new(log);
+    let status = answers(&rt, &words, &mut log);
+    tell(&rt, &words, status, lost_by(&log));
     ExitCode::from(status.code())
 }

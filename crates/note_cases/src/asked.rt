@@ -11,6 +11,10 @@ pub enum Asked<'a> {
     Run(Vec<String>, Option<&'a str>),
     /// What is told of a run that ended so.
     Note(Status),
+    /// Which file these words name for a log.
+    LogName(Vec<String>),
+    /// What is told of a run by these words whose log is lost.
+    LostLog(Vec<String>),
 }
 
 /// The end of a run that no file brings about.
@@ -35,7 +39,8 @@ fn words_of(alloc: Global, text: &str) -> Result<Vec<String>, AllocError> {
     Ok(words)
 }
 
-/// What a line asks for: `# REMARK`, `status N`, `WORDS` or `WORDS < SCRIPT`, where a full stop stands for no words.
+/// What a line asks for: `# REMARK`, `status N`, `log WORDS`, `lost WORDS`, `WORDS` or `WORDS < SCRIPT`, where a full
+/// stop stands for no words.
 pub fn asked_by(alloc: Global, line: &str) -> Result<Asked<'_>, AllocError> {
     if line.starts_with('#') {
         return Ok(Asked::Nothing);
@@ -45,6 +50,12 @@ pub fn asked_by(alloc: Global, line: &str) -> Result<Asked<'_>, AllocError> {
             Some(status) => Ok(Asked::Note(status)),
             None => Ok(Asked::Nothing),
         };
+    }
+    if let Some(words) = line.strip_prefix("log ") {
+        return Ok(Asked::LogName(words_of(alloc, words)?));
+    }
+    if let Some(words) = line.strip_prefix("lost ") {
+        return Ok(Asked::LostLog(words_of(alloc, words)?));
     }
     match line.split_once(" < ") {
         Some((words, script)) => Ok(Asked::Run(words_of(alloc, words)?, Some(script))),

@@ -7,27 +7,39 @@ mod playing;
 
 use asked::{Asked, asked_by};
 use files::bytes_of;
-use playing::{play, tell_of};
+use idp_cli::Status;
+use playing::{Files, name_log, play, tell_of};
+use run_notes::Lost;
 use std::alloc::AllocError;
 use std::io::{Read, Write};
 use std::process::ExitCode;
+
+/// The bytes of the file that a word names; none where there is no such file, or no word.
+fn bytes_at(rt: &HostRuntime, name: Option<&String>) -> Option<Vec<u8>> {
+    match name {
+        Some(name) => bytes_of(rt, name.as_str()),
+        None => None,
+    }
+}
 
 /// Adds what a line asks for.
 fn add_line(rt: &HostRuntime, lines: &mut Vec<u8>, line: &str) -> Result<(), AllocError> {
     let alloc = rt.alloc();
     match asked_by(alloc, line)? {
         Asked::Nothing => Ok(()),
-        Asked::Note(status) => tell_of(alloc, lines, status),
+        Asked::Note(status) => tell_of(alloc, lines, &[], status, Lost::Output),
+        Asked::LostLog(words) => tell_of(alloc, lines, &words, Status::WriteFault, Lost::Log),
+        Asked::LogName(words) => name_log(alloc, lines, &words),
         Asked::Run(words, script) => {
-            let file = match words.get(1) {
-                Some(name) => bytes_of(rt, name.as_str()),
-                None => None,
+            let files = Files {
+                file: bytes_at(rt, words.get(1)),
+                log: bytes_at(rt, words.get(2)),
             };
             let commands = match script {
                 Some(name) => bytes_of(rt, name),
                 None => None,
             };
-            play(alloc, lines, &words, file, commands)
+            play(alloc, lines, &words, &files, commands)
         }
     }
 }

@@ -20,9 +20,13 @@ fn around(before: &'static [u8], behind: &'static [u8]) -> Parts {
 /// What is said of a count that is above its limit.
 fn sentence_on_size(place: &Place<'_>) -> Parts {
     match place.block {
+        Block::Vocabulary if place.follows(b"type") => around(
+            b"with the type ",
+            b" there are more than 256 types, or it gets more than 65,536 elements",
+        ),
         Block::Vocabulary => around(
             b"with ",
-            b" there are more than 2,000,000 ground atoms, 1,024 symbols, 256 types, or 8 arguments",
+            b" there are more than 2,000,000 ground atoms, 1,024 symbols, or 8 arguments",
         ),
         Block::Structure => around(b"", b" gets more than 65,536 elements"),
         _ => around(b"", b" brings a count above its limit"),

@@ -31,7 +31,7 @@ const RULE: &[u8] =
     b"a rule stands in braces, as in { q <- p. }, which says all of q; 'if p then q' is written p => q";
 
 /// Signs and words of other languages that no text goes on with, in any block.
-const HABITS: [Habit; 24] = [
+const HABITS: [Habit; 25] = [
     Habit {
         sign: b"!=",
         advice: UNEQUAL,
@@ -103,6 +103,10 @@ const HABITS: [Habit; 24] = [
     Habit {
         sign: b"exists",
         advice: b"'there is' is written ?, as in ?x[T]: P(x)",
+    },
+    Habit {
+        sign: b"exactly",
+        advice: b"'exactly two' is written ?=2, as in ?=2 x: P(x); 'at most two' ?=<2, 'at least two' ?>=2",
     },
     Habit {
         sign: b"%",
@@ -314,11 +318,22 @@ fn is_in_capitals(place: &Place<'_>) -> bool {
     false
 }
 
+/// Whether the place follows a number, or an aggregate, which no arrow may.
+fn follows_number(place: &Place<'_>) -> bool {
+    let word = word_before(place.trimmed);
+    place.trimmed.ends_with(b"}") || !word.is_empty() && word.iter().all(|b| b.is_ascii_digit())
+}
+
+/// Whether <= stands at the place where an arrow cannot be meant.
+fn is_at_most(place: &Place<'_>) -> bool {
+    place.sign == b"<=".as_slice() && (follows_number(place) || !has_one(place, &ARROW_SIGNS))
+}
+
 /// The advice on a sentence of a theory that does not go on with what stands at the place.
 fn advice_on_sentence(place: &Place<'_>) -> Option<&'static [u8]> {
     let sign = place.sign;
     let is_end = sign == b"}".as_slice() || sign == b".".as_slice();
-    if place.has(b"<=") && !is_among(sign, &ARROW_SIGNS) {
+    if place.has(b"<=") && !is_among(sign, &ARROW_SIGNS) || is_at_most(place) {
         return Some(LESS);
     }
     if is_among(sign, &COMPARISONS) && has_one(place, &COMPARISONS) {

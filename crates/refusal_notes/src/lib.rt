@@ -6,6 +6,7 @@ mod advice;
 mod causes;
 mod excerpt;
 mod habits;
+mod logs;
 mod note;
 mod places;
 mod replies;
@@ -13,6 +14,7 @@ mod signs;
 mod spots;
 mod usage;
 
+pub use logs::{long_log_note, lost_log_note, refused_log_note};
 pub use note::{Memory, fault_note, file_note, long_file_note};
 pub use replies::reply_note;
 pub use spots::{column_of, line_of};

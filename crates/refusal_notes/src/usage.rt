@@ -7,18 +7,22 @@ pub const VERSION: &str = "idp 0.1\n";
 pub const USAGE: &str = "\
 idp answers questions about a knowledge base, line by line
 
-  idp consult FILE [--theory NAME] [--structure NAME] [--budget N]
-                    answers the commands on standard input by what FILE means
+  idp consult FILE [--theory NAME] [--structure NAME] [--budget N] [--log LOG]
+                    answers the commands on standard input by what FILE means; with --log it writes into LOG, step by
+                    step, how it came to say that something is impossible, follows, or is least
+  idp verify FILE LOG [--theory NAME] [--structure NAME]
+                    checks each step of such a log, and prints what it claims of FILE
   idp check FILE [--theory NAME] [--structure NAME]
                     prints the structure of FILE that is chosen
   idp generate KIND N [--text]
                     makes a large file, and prints how much follows from it and its least cost; with --text, the file
                     KIND is timetable, with N from 1 to 40, or roster, with N from 1 to 100
 
-options, before or after FILE, each at most once, as --theory NAME or --theory=NAME:
+options, before or after FILE and LOG, each at most once, as --theory NAME or --theory=NAME:
   --theory NAME     the theory that is worked on, where FILE has several
   --structure NAME  the structure that is worked on, where FILE has several
   --budget N        how many conflicts a query may meet: 1 to 1000000000000, or unlimited; 100000 without it
+  --log LOG         the file for the log, which is made anew
 
 commands of a consultation, one a line, each with a full stop at its end:
   model.            a solution: all that the data and the choices leave open, filled in
@@ -35,7 +39,7 @@ commands of a consultation, one a line, each with a full stop at its end:
   forget.           gives up what was learnt
 
 exit statuses: 0 done, 1 the file is refused, 2 no command line, 3 reading failed, 4 writing failed, 5 out of memory,
-  6 more than 67108864 bytes of commands
+  6 more than 67108864 bytes of commands or of a log, 7 the log is refused
 
 to begin with: idp consult examples/laptop.idp, and docs/TUTORIAL.md
 ";

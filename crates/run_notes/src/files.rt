@@ -10,12 +10,23 @@ use std::alloc::{AllocError, Global};
 /// A longer file is refused unread.
 const MOST_FILE_BYTES: usize = 4_194_304;
 
-/// The file that a job is about, and what is chosen in it; none where the job makes its file.
-fn parts_of<'a>(job: Job<'a>) -> Option<(&'a str, Options<'a>)> {
-    match job {
-        Job::Consult(file, options, _) | Job::Check(file, options) => Some((file, options)),
-        Job::Make(_, _) | Job::Summarise(_, _) => None,
-    }
+/// What a job reads.
+#[derive(Clone, Copy)]
+struct Inputs<'a> {
+    file: &'a str,
+    options: Options<'a>,
+    /// The log that is read beside the file; without one it is standard input.
+    log: Option<&'a str>,
+}
+
+/// What a job reads; nothing where it makes its file.
+fn inputs_of<'a>(job: Job<'a>) -> Option<Inputs<'a>> {
+    let (file, options, log) = match job {
+        Job::Consult(file, options, _, _) | Job::Check(file, options) => (file, options, None),
+        Job::Verify(file, options, log) => (file, options, Some(log)),
+        Job::Make(_, _) | Job::Summarise(_, _) => return None,
+    };
+    Some(Inputs { file, options, log })
 }
 
 /// Reads the named file to its end.
@@ -31,35 +42,34 @@ fn read_file<H: Shelf>(alloc: Global, shelf: &mut H, name: &str) -> Result<Vec<u
 /// What is told of a fault, and where it is one of size, which parts of the file make it so large.
 fn note_on_fault(
     alloc: Global,
-    name: &str,
+    inputs: &Inputs<'_>,
     bytes: &[u8],
-    options: Options<'_>,
     fault: KbFault,
 ) -> Result<Vec<u8>, AllocError> {
-    let mut note = fault_note(alloc, name, bytes, fault)?;
+    let mut note = fault_note(alloc, inputs.file, bytes, fault)?;
     if fault.cause == K::TooLarge {
+        let options = inputs.options;
         let sizes = note_on_size(alloc, bytes, options.theory, options.structure, fault.place)?;
         note.extend_from_slice(&sizes)?;
     }
     Ok(note)
 }
 
-/// What is told of the bytes of a file: why they are refused; where they are not, it was the commands that could not be
-/// read.
+/// What is told of the bytes of a file: why they are refused; where they are not, it was the other input that could not
+/// be read.
 fn note_on_bytes(
     alloc: Global,
-    name: &str,
+    inputs: &Inputs<'_>,
     bytes: &[u8],
-    options: Options<'_>,
 ) -> Result<Vec<u8>, AllocError> {
-    match read_base(alloc, bytes, options.theory, options.structure) {
-        Ok(_) => file_note(alloc, None),
-        Err(KbError::Refused(fault)) => note_on_fault(alloc, name, bytes, options, fault),
+    match read_base(alloc, bytes, inputs.options.theory, inputs.options.structure) {
+        Ok(_) => file_note(alloc, inputs.log),
+        Err(KbError::Refused(fault)) => note_on_fault(alloc, inputs, bytes, fault),
         Err(KbError::Memory) => Err(AllocError),
     }
 }
 
-/// What is told of the file of the words; nothing of one that is made, which is never refused.
+/// What is told of what the words read; nothing of a file that is made, which is never refused.
 pub fn note_on_file<H: Shelf>(
     alloc: Global,
     words: &[String],
@@ -68,13 +78,13 @@ pub fn note_on_file<H: Shelf>(
     let Some(job) = job_of(alloc, words)? else {
         return file_note(alloc, None);
     };
-    let Some((name, options)) = parts_of(job) else {
+    let Some(inputs) = inputs_of(job) else {
         return Ok(Vec::new(alloc));
     };
-    match read_file(alloc, shelf, name) {
-        Ok(bytes) => note_on_bytes(alloc, name, &bytes, options),
-        Err(ReadError::TooLong(newlines)) => long_file_note(alloc, name, newlines),
-        Err(ReadError::Fault) => file_note(alloc, Some(name)),
+    match read_file(alloc, shelf, inputs.file) {
+        Ok(bytes) => note_on_bytes(alloc, &inputs, &bytes),
+        Err(ReadError::TooLong(newlines)) => long_file_note(alloc, inputs.file, newlines),
+        Err(ReadError::Fault) => file_note(alloc, Some(inputs.file)),
         Err(ReadError::Memory) => Err(AllocError),
     }
 }

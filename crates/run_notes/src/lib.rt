@@ -2,7 +2,9 @@
 #![tactic(auto)]
 
 mod files;
+mod logs;
 mod notes;
 mod words;
 
+pub use logs::Lost;
 pub use notes::note_on;

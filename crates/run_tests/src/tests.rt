@@ -2,6 +2,7 @@
 
 mod bases;
 mod faults;
+mod logs;
 mod long_inputs;
 mod paced;
 mod refusals;

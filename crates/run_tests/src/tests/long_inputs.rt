@@ -1,7 +1,7 @@
 //! Files and scripts as long as may be, and one byte longer.
 
 use super::bases::EITHER_P_OR_Q;
-use super::runs::{CONSULT, PLAN, Plan, gives, gives_on};
+use super::runs::{CONSULT, PLAN, Plan, VERIFY, gives, gives_on};
 use kb_io::MemSource;
 use std::alloc::AllocError;
 use std::test::Fail;
@@ -53,6 +53,22 @@ fn longer_scripts_are_answered_up_to_the_limit(rt: HostRuntime) -> Result<(), Fa
     for (length, code, wanted) in &LONG_SCRIPTS {
         let commands = long_script(&rt, *length)?;
         assert!(rt; gives_on(&rt, CONSULT, &PLAN, commands, *code, wanted)?);
+    }
+    Ok(())
+}
+
+/// Logs of empty lines, which are no entries.
+const LONG_LOGS: [(usize, u8, &[u8]); 2] = [
+    (67_108_864, 7, b"error log entry 1\n"),
+    (67_108_865, 6, b""),
+];
+
+#[test]
+fn longer_logs_are_not_checked(rt: HostRuntime) -> Result<(), Fail> {
+    for (length, code, wanted) in &LONG_LOGS {
+        let log = vec![in rt.alloc(); b'\n'; *length]?;
+        let plan = Plan { log: &log, ..PLAN };
+        assert!(rt; gives(&rt, VERIFY, &plan, *code, wanted)?);
     }
     Ok(())
 }
