@@ -132,3 +132,20 @@ pub(super) const A_HEAVY_THEORY: &[u8] = b"vocabulary V { type N isa nat  P(N)  
 theory T : V { !x y: Q(x,y) => P(x) | P(y). }
 structure S : V { N = {1..1000}  Q = {1,2} }
 ";
+
+/// A shopping list: what is bought costs something, and something is bought.
+pub(super) const A_SUM: &[u8] =
+    b"vocabulary V { type Item  type Num isa nat  P(Item)  w(Item):Num }
+theory T : V { ?x: P(x). }
+structure S : V { Item = {a; b}  Num = {0..6}  w = {a->2; b->3} }
+term cost : V { sum{x : P(x) : w(x)} }
+";
+
+/// The least of nothing, and the greatest of nothing.
+pub(super) const NOTHING_TO_WEIGH: &[u8] =
+    b"vocabulary V { type Item  type Num isa nat  P(Item)  w(Item):Num }
+theory T : V { ~?x: P(x). }
+structure S : V { Item = {a; b}  Num = {0..6}  w = {a->2; b->3} }
+term least : V { min{x : P(x) : w(x)} }
+term most : V { max{x : P(x) : w(x)} }
+";

@@ -1,6 +1,11 @@
 //! What a consultation leaves in a log, whose calls fail in turn.
 
-use super::runs::{CHECK, CONSULT, LOGGED, PLAN, Plan, VERIFY, leaves};
+use super::bases::{
+    A_SUM, BOTH_GIVEN, COVER, EITHER_P_OR_Q, FIVE_PIGEONS, MAP, NOTHING_TO_WEIGH,
+};
+use super::runs::{
+    CHECK, CONSULT, LOGGED, PLAN, Plan, VERIFY, gives, leaves, outcome_on, source,
+};
 use std::test::Fail;
 
 const THREE_LINES: &[u8] = b"assert q.\nchoices.\nretract q.";
@@ -133,5 +138,91 @@ fn verdicts_that_cannot_be_written_are_write_faults(rt: HostRuntime) -> Result<(
         ..PLAN
     };
     assert!(rt; leaves(&rt, VERIFY, &plan, 4, (b"error", b""))?);
+    Ok(())
+}
+
+/// A file, commands about it, and what is said of their log.
+const VERDICTS: [(&[u8], &[u8], &[u8]); 10] = [
+    (MAP, b"", b"accepted\n"),
+    // What follows from a choice.
+    (
+        MAP,
+        b"assert color(b)=Red.\npropagate.\n",
+        b"claim 2 forced color(f) = Green from color(b) = Red\naccepted\n",
+    ),
+    // What follows from the theory alone; blank and refused lines are counted.
+    (
+        EITHER_P_OR_Q,
+        b"// p or q\n\nmodle.\npropagate.\nmodel.\n",
+        b"claim 4 forced ~p\nclaim 4 forced q\naccepted\n",
+    ),
+    // That there is no model, found by a search.
+    (
+        FIVE_PIGEONS,
+        b"budget unlimited.\nmodel.\n",
+        b"claim 2 inconsistent\naccepted\n",
+    ),
+    // Each query that finds no model says so; reasons claim nothing.
+    (
+        BOTH_GIVEN,
+        b"model.\nmodels 3.\npropagate.\nexplain Q(a).\nwhy.\n",
+        b"claim 1 inconsistent\nclaim 2 inconsistent\nclaim 3 inconsistent\nclaim 4 inconsistent\naccepted\n",
+    ),
+    // Choices at odds with each other, and with the data.
+    (
+        COVER,
+        b"assert Q(b).\nassert ~Q(b).\nmodel.\nreset.\nassert Q(a).\nmodel.\nwhy.\n",
+        b"claim 3 inconsistent from Q(b), ~Q(b)\nclaim 6 inconsistent from Q(a)\naccepted\n",
+    ),
+    // After what was learnt is given up, and after models were sought.
+    (
+        MAP,
+        b"models 5.\nassert color(b)=Red.\npropagate.\nforget.\npropagate.\nmodels 5.\n",
+        b"claim 3 forced color(f) = Green from color(b) = Red
+claim 5 forced color(f) = Green from color(b) = Red
+accepted
+",
+    ),
+    // A least value, without choices and with one.
+    (
+        A_SUM,
+        b"minimize cost.\nassert P(b).\nminimize cost.\nassert ~P(a).\nassert ~P(b).\nminimize cost.\n",
+        b"claim 1 least cost 2
+claim 3 least cost 3 from P(b)
+claim 6 inconsistent from P(b), ~P(a), ~P(b)
+accepted
+",
+    ),
+    // Infinite ones: that nothing is below -inf is no claim.
+    (
+        NOTHING_TO_WEIGH,
+        b"minimize least.\nminimize most.\n",
+        b"claim 1 least least +inf\naccepted\n",
+    ),
+    // Reasons and supports leave entries, and no claims.
+    (
+        FIVE_PIGEONS,
+        b"budget unlimited.\nexplain in(p1) = h1.\nwhy.\n",
+        b"claim 2 inconsistent\naccepted\n",
+    ),
+];
+
+#[test]
+fn logs_of_consultations_are_accepted(rt: HostRuntime) -> Result<(), Fail> {
+    for (file, script, verdict) in &VERDICTS {
+        let plan = Plan {
+            file,
+            script,
+            ..PLAN
+        };
+        let commands = source(&rt, script, &[], &[])?;
+        let consulted = outcome_on(&rt, LOGGED, &plan, commands)?;
+        assert_eq!(rt; consulted.status.code(), 0);
+        let check = Plan {
+            log: &consulted.log,
+            ..plan
+        };
+        assert!(rt; gives(&rt, VERIFY, &check, 0, verdict)?);
+    }
     Ok(())
 }
