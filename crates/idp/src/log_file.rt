@@ -63,7 +63,7 @@ pub fn log_of<R: Files + AllocGlobal>(
         return Ok(LogFile::Unasked);
     };
     match job_of(alloc, words)? {
-        Some(Job::Consult(base, _, _, _)) => Ok(make(rt, path.as_str(), base)),
+        Some(Job::Consult(job)) => Ok(make(rt, path.as_str(), job.file)),
         _ => Ok(LogFile::Unasked),
     }
 }

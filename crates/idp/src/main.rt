@@ -12,13 +12,13 @@ use adapters::{CountedReader, CountedWriter, FileSystem};
 use file_laws::{
     files_are_spoken, files_have_word_names, sentences_are_read_back, structures_are_read_back,
 };
-use idp_cli::laws::{
-    printed_bytes_determine_the_replies, statuses_come_where_they_should,
-    what_is_printed_of_a_file_can_be_read,
-};
 use idp_cli::{Status, run};
 use kb_io::Sink;
 use log_file::log_of;
+use run_laws::{
+    logs_are_verified_as_they_should_be, printed_bytes_determine_the_replies,
+    statuses_come_where_they_should, what_is_printed_of_a_file_can_be_read,
+};
 use run_notes::Lost;
 use std::alloc::AllocError;
 use std::env::{self, Env};
@@ -68,6 +68,7 @@ fn gives_up(rt: &HostRuntime) -> ExitCode {
 
 fn main(rt: HostRuntime) -> ExitCode {
     statuses_come_where_they_should();
+    logs_are_verified_as_they_should_be();
     printed_bytes_determine_the_replies();
     files_have_word_names();
     structures_are_read_back();

@@ -22,7 +22,8 @@ struct Inputs<'a> {
 /// What a job reads; nothing where it makes its file.
 fn inputs_of<'a>(job: Job<'a>) -> Option<Inputs<'a>> {
     let (file, options, log) = match job {
-        Job::Consult(file, options, _, _) | Job::Check(file, options) => (file, options, None),
+        Job::Consult(job) => (job.file, job.options, None),
+        Job::Check(file, options) => (file, options, None),
         Job::Verify(file, options, log) => (file, options, Some(log)),
         Job::Make(_, _) | Job::Summarise(_, _) => return None,
     };
