@@ -134,8 +134,7 @@ structure S : V { N = {1..1000}  Q = {1,2} }
 ";
 
 /// A shopping list: what is bought costs something, and something is bought.
-pub(super) const A_SUM: &[u8] =
-    b"vocabulary V { type Item  type Num isa nat  P(Item)  w(Item):Num }
+pub(super) const A_SUM: &[u8] = b"vocabulary V { type Item  type Num isa nat  P(Item)  w(Item):Num }
 theory T : V { ?x: P(x). }
 structure S : V { Item = {a; b}  Num = {0..6}  w = {a->2; b->3} }
 term cost : V { sum{x : P(x) : w(x)} }

@@ -1,11 +1,7 @@
 //! What a consultation leaves in a log, whose calls fail in turn.
 
-use super::bases::{
-    A_SUM, BOTH_GIVEN, COVER, EITHER_P_OR_Q, FIVE_PIGEONS, MAP, NOTHING_TO_WEIGH,
-};
-use super::runs::{
-    CHECK, CONSULT, LOGGED, PLAN, Plan, VERIFY, gives, leaves, outcome_on, source,
-};
+use super::bases::{A_SUM, BOTH_GIVEN, COVER, EITHER_P_OR_Q, FIVE_PIGEONS, MAP, NOTHING_TO_WEIGH};
+use super::runs::{CHECK, CONSULT, LOGGED, PLAN, Plan, VERIFY, gives, leaves, outcome_on, source};
 use std::test::Fail;
 
 const THREE_LINES: &[u8] = b"assert q.\nchoices.\nretract q.";

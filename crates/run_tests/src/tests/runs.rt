@@ -179,7 +179,9 @@ pub(super) fn leaves(
     let commands = source(rt, plan.script, plan.script_failing, plan.script_pieces)?;
     let outcome = outcome_on(rt, texts, plan, commands)?;
     let (text, log) = wanted;
-    Ok(outcome.status.code() == code
-        && outcome.text.as_slice() == text
-        && outcome.log.as_slice() == log)
+    Ok(
+        outcome.status.code() == code
+            && outcome.text.as_slice() == text
+            && outcome.log.as_slice() == log,
+    )
 }
