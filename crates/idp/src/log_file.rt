@@ -1,4 +1,7 @@
 //! The file that a log is written to.
+#[cfg(test)]
+mod tests;
+
 use idp_cli::{Job, job_of, log_path};
 use std::alloc::{AllocError, Global};
 use std::fs::{self, Files};

@@ -57,7 +57,11 @@ fn answers<L: Sink>(rt: &HostRuntime, words: &[String], log: &mut L) -> Status {
 
 /// Which device failed where writing did: the log, where it did, since nothing is written after that.
 fn lost_by<W>(log: &CountedWriter<W>) -> Lost {
-    if log.has_failed() { Lost::Log } else { Lost::Output }
+    if log.has_failed() {
+        Lost::Log
+    } else {
+        Lost::Output
+    }
 }
 
 /// Tells that memory ran out before the run began.
