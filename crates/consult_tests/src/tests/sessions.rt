@@ -30,29 +30,48 @@ fn accepts(alloc: Global, session: &mut Session<FirstGreatest>, line: &[u8]) -> 
     }
 }
 
+/// Whether a choice stands among the session's choices until it is taken back, and not twice.
+fn choices_stand(alloc: Global, session: &mut Session<FirstGreatest>) -> bool {
+    accepts(alloc, session, b"assert Q(b).")
+        && !accepts(alloc, session, b"assert Q(b).")
+        && session.choices().as_slice().len() == 1
+        && accepts(alloc, session, b"retract Q(b).")
+        && session.choices().is_empty()
+}
+
+/// Whether the session, which tells what it was opened on, finds its model twice.
+fn finds_its_model_again(session: &mut Session<FirstGreatest>) -> bool {
+    session.kb().theory() == 0
+        && session.kb().structure().text() == b"S".as_slice()
+        && matches!(session.step(&Command::Model), Ok(Reply::Model(_)))
+        && matches!(session.step(&Command::Model), Ok(Reply::Model(_)))
+}
+
+// A session is let go at one exit: each further one proves anew how a whole session is dropped.
+/// The first in a session over the file.
+fn choices_stand_in_a_session(alloc: Global) -> bool {
+    match session(alloc) {
+        Some(mut session) => choices_stand(alloc, &mut session),
+        None => false,
+    }
+}
+
+/// And the second.
+fn a_session_finds_again(alloc: Global) -> bool {
+    match session(alloc) {
+        Some(mut session) => finds_its_model_again(&mut session),
+        None => false,
+    }
+}
+
 #[test]
 fn choices_stand_in_the_session(rt: HostRuntime) -> Result<(), Fail> {
-    let Some(mut session) = session(rt.alloc()) else {
-        assert!(rt; false, "no session");
-        return Ok(());
-    };
-    assert!(rt; accepts(rt.alloc(), &mut session, b"assert Q(b)."));
-    assert!(rt; !accepts(rt.alloc(), &mut session, b"assert Q(b)."));
-    assert_eq!(rt; session.choices().as_slice().len(), 1);
-    assert!(rt; accepts(rt.alloc(), &mut session, b"retract Q(b)."));
-    assert!(rt; session.choices().is_empty());
+    assert!(rt; choices_stand_in_a_session(rt.alloc()));
     Ok(())
 }
 
 #[test]
 fn a_session_finds_its_model_again(rt: HostRuntime) -> Result<(), Fail> {
-    let Some(mut session) = session(rt.alloc()) else {
-        assert!(rt; false, "no session");
-        return Ok(());
-    };
-    assert_eq!(rt; session.kb().theory(), 0);
-    assert_eq!(rt; session.kb().structure().text(), b"S".as_slice());
-    assert!(rt; matches!(session.step(&Command::Model)?, Reply::Model(_)));
-    assert!(rt; matches!(session.step(&Command::Model)?, Reply::Model(_)));
+    assert!(rt; a_session_finds_again(rt.alloc()));
     Ok(())
 }
