@@ -1,11 +1,10 @@
 -- Claims that belong to replies.
 use Rattle.std.proofs.Common.{◌≡◌, ℕ, ◌+◌, ◌<◌, ◌≤◌, List, [], ◌∷◌, ◌++◌, take, get_or, refl, sym, ap, ◌∙◌, subst, inl, inr}
-use Rattle.std.proofs.Common.{length, append-nil, take_all, flat_map, ⊎_elim, All, Option, Some, None}
+use Rattle.std.proofs.Common.{length, append-nil, take_all, flat_map, ⊎_elim, Option, Some, None}
 use Rattle.std.specs.Option.{IfSome}
 use Rattle.std.specs.Prelude.{MatchOption}
 use Rattle.std.proofs.lemmas.Grind.{flat_map-append}
 use Rattle.std.proofs.lemmas.List.{take_more}
-use Rattle.std.proofs.lemmas.List.Elements.{All-nil, All-cons}
 use Rattle.kb_logic.specs.declared.structures.Literal.{Literal}
 use Rattle.kb_logic.specs.Lists.{IsSublist}
 use Rattle.kb_logic.specs.Structures.{EachWith}
@@ -17,7 +16,6 @@ use Rattle.consult_text.specs.declared.commands.Command.{Command}
 use Rattle.consult_text.specs.declared.commands.Command.TheVariants as command
 use Rattle.consult_text.specs.declared.replies.Reply.{Reply}
 use Rattle.consult_text.specs.declared.replies.Reply.TheVariants as reply
-use Rattle.search_log.specs.Entries.{AreEntries, IsNoMark}
 use Rattle.claimed_replies.specs.Claims.{SaysInconsistent, SaysForced, SaysLeast, IsOneClaim, AreForcedClaims, ClaimsOf}
 use Rattle.claimed_replies.specs.Claims.{AreClaims}
 
@@ -94,36 +92,3 @@ pub all_forced : (b : GroundBase) (lits : List Lit) (ls : List Literal) (i : ℕ
     → AreForcedTexts b lits (take i ls) bytes → AreForcedTexts b lits ls bytes
 all_forced b lits ls i bytes over so_far =
     subst (λ (some : List Literal). AreForcedTexts b lits some bytes) (take_all i ls over) so_far
-
--- none of the claims is a mark
-unmarked : (Says : Entry → Type 0) → ((e : Entry) → Says e → IsNoMark e) → (es : List Entry) → IsOneClaim Says es
-    → All IsNoMark es
-unmarked Says free es (inl none) = subst (All IsNoMark) (sym none) (All-nil IsNoMark)
-unmarked Says free es (inr one) =
-    subst (All IsNoMark) (sym one.2) (All-cons IsNoMark one.0 [] (free one.0 one.1) (All-nil IsNoMark))
-
-forced_unmarked : (b : GroundBase) (lits : List Lit) (some : List Literal) (es : List Entry)
-    → EachWith (SaysForced b lits) some es → All IsNoMark es
-forced_unmarked b lits [] [] each = All-nil IsNoMark
-forced_unmarked b lits [] (e ∷ es) each = absurd each
-forced_unmarked b lits (l ∷ some) [] each = absurd each
-forced_unmarked b lits (l ∷ some) (e ∷ es) each =
-    All-cons IsNoMark e es (subst IsNoMark (sym each.0.3) tt) (forced_unmarked b lits some es each.1)
-
-pub forced_are_entries : (b : GroundBase) (lits : List Lit) (ls : List Literal) (bytes : List ℕ)
-    → AreForcedTexts b lits ls bytes → AreEntries bytes
-forced_are_entries b lits ls bytes is = (is.0, forced_unmarked b lits is.1.0 is.0 is.1.2, is.2)
-
-claims_unmarked : (b : GroundBase) (lits : List Lit) (c : Command) (r : Reply) (es : List Entry)
-    → ClaimsOf b lits c r es → All IsNoMark es
-claims_unmarked b lits c reply.Inconsistent es is =
-    unmarked (SaysInconsistent lits) (λ e says. subst IsNoMark (sym says.1) tt) es is
-claims_unmarked b lits c (reply.Forced ls) es is = forced_unmarked b lits is.0 es is.2
-claims_unmarked b lits (command.Minimize t) (reply.Minimum v m) es is =
-    unmarked (SaysLeast lits t v) (λ e says. subst IsNoMark (sym says.1) tt) es is
-claims_unmarked b lits c r es is = subst (All IsNoMark) (sym is) (All-nil IsNoMark)
-
-pub claims_are_entries : (b : GroundBase) (choices : List Literal) (c : Command) (r : Reply) (bytes : List ℕ)
-    → AreClaims b choices c r bytes → AreEntries bytes
-claims_are_entries b choices c r bytes is =
-    (is.entries, claims_unmarked b is.lits c r is.entries is.claims, is.text)

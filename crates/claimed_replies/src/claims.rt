@@ -3,7 +3,6 @@ ghost use Rattle.std.specs.Prelude.{◌≡◌, List, flat_map, IfOk};
 ghost use Rattle.derivation_log.specs.Lines.{entry_text};
 ghost use Rattle.derivation_log.specs.declared.entries.Entry.{Entry};
 ghost use Rattle.ground_task.specs.Choices.{AreOver};
-ghost use Rattle.search_log.specs.Entries.{AreEntries};
 ghost use Rattle.claimed_replies.specs.Claims.{AreClaims, AreForcedClaims, AreForcedOver, IsOneClaim};
 ghost use Rattle.claimed_replies.specs.Claims.{SaysInconsistent, SaysLeast};
 
@@ -77,8 +76,7 @@ pub fn claims_of<C: Choose + Drop>(
 ) -> Result<Vec<u8>, Memory>
     requires choices { AreOver task.now.numbers choices.now }
     requires forced { AreForcedOver task.now.numbers reply.now }
-    ensures claims { IfOk result (λ bytes. AreClaims task.now.numbers choices.now command.now reply.now bytes.items) }
-    ensures texts { IfOk result (λ bytes. AreEntries bytes.items) }
+    ensures { IfOk result (λ bytes. AreClaims task.now.numbers choices.now command.now reply.now bytes.items) }
 {
     let mut lits = task.lits_of(alloc, choices)?;
     match reply {

@@ -14,8 +14,8 @@ use Rattle.consultation.specs.declared.said.Said.{Said}
 use Rattle.consultation.specs.declared.said.Said.TheVariants as said
 
 -- What is stated of line n, to which this is said and which leaves the state t: nothing of a blank one, and of each
--- other one its mark; of a command, behind its mark, entries that are no marks, and then the claims that belong to its
--- reply, of the choices then in force.
+-- other one its mark; of a command, behind its mark, entries of a search, and then claims that belong to its reply, of
+-- the choices then in force.
 abbrev pub IsStatement : Base → State → ℕ → Said → List ℕ → Type 0
 IsStatement kb t n said.Nothing bytes = bytes ≡ []
 IsStatement kb t n said.TooLong bytes = bytes ≡ entry_text (Mark n)

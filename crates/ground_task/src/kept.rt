@@ -53,7 +53,8 @@ impl<C: Choose + Drop> Task<Solver<C>> {
         self.solver.keep_log()
     }
 
-    /// The texts of the entries that the solver left since they were given up; none of them is a mark.
+    /// The texts of the entries that the solver left since they were given up: those of its search, no marks and no
+    /// claims.
     pub fn entries(&self) -> &[u8]
         ensures { AreEntries result.now }
     {

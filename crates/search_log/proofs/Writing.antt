@@ -7,14 +7,14 @@ use Rattle.std.proofs.lemmas.List.{append-nil, get_or_append_left, get_or_push}
 use Rattle.std.proofs.lemmas.List.Elements.{All-nil, All-cons}
 use Rattle.derivation_log.specs.declared.entries.Entry.{Entry}
 use Rattle.derivation_log.specs.Lines.{entry_text}
-use Rattle.search_log.specs.Entries.{Grows, IsNoMark, grows-same}
+use Rattle.search_log.specs.Entries.{Grows, IsOfSearch, grows-same}
 
 -- one entry more, or none
-pub written : {A E : Type 0} (r : Result A E) (old new : List ℕ) (e : Entry) → IsNoMark e
+pub written : {A E : Type 0} (r : Result A E) (old new : List ℕ) (e : Entry) → IsOfSearch e
     → OnOk r (new ≡ old ++ entry_text e) → OnErr r (new ≡ old) → Grows old new
 written (Ok x) old new e plain ok err = (
   e ∷ [],
-  All-cons IsNoMark e [] plain (All-nil IsNoMark),
+  All-cons IsOfSearch e [] plain (All-nil IsOfSearch),
   ok ∙ ap (λ (t : List ℕ). old ++ t) (sym (append-nil (entry_text e))),
 )
 written (Err x) old new e plain ok err = grows-same old new err

@@ -9,35 +9,36 @@ use Rattle.derivation_log.specs.declared.entries.Entry.TheVariants.{Mark, Learnt
 use Rattle.derivation_log.specs.declared.entries.Entry.TheVariants.{Forced, Least}
 use Rattle.derivation_log.specs.Lines.{entry_text}
 
--- the entry says nothing of a line of the commands
-abbrev pub IsNoMark : Entry → Type 0
-IsNoMark (Mark n) = ⊥
-IsNoMark (Learnt lits hints) = Unit {0}
-IsNoMark (Sum n lits) = Unit {0}
-IsNoMark (Bound s t k) = Unit {0}
-IsNoMark (Exclude s lits) = Unit {0}
-IsNoMark (Inconsistent lits c) = Unit {0}
-IsNoMark (Forced l lits c) = Unit {0}
-IsNoMark (Least t k lits c) = Unit {0}
+-- the entry is one of a search: it bears a clause or a bound, and neither marks a line of the commands nor claims
+-- anything of a reply
+abbrev pub IsOfSearch : Entry → Type 0
+IsOfSearch (Mark n) = ⊥
+IsOfSearch (Learnt lits hints) = Unit {0}
+IsOfSearch (Sum n lits) = Unit {0}
+IsOfSearch (Bound s t k) = Unit {0}
+IsOfSearch (Exclude s lits) = Unit {0}
+IsOfSearch (Inconsistent lits c) = ⊥
+IsOfSearch (Forced l lits c) = ⊥
+IsOfSearch (Least t k lits c) = ⊥
 
--- these bytes, and then the texts of some entries, none of which is a mark
+-- these bytes, and then the texts of some entries of a search
 abbrev pub Grows : List ℕ → List ℕ → Type 0
-Grows old new = (es : List Entry) × All IsNoMark es × (new ≡ old ++ flat_map entry_text es)
+Grows old new = (es : List Entry) × All IsOfSearch es × (new ≡ old ++ flat_map entry_text es)
 
--- the bytes are texts of entries, none of which is a mark
+-- the bytes are texts of entries of a search
 abbrev pub AreEntries : List ℕ → Type 0
-AreEntries bytes = (es : List Entry) × All IsNoMark es × (bytes ≡ flat_map entry_text es)
+AreEntries bytes = (es : List Entry) × All IsOfSearch es × (bytes ≡ flat_map entry_text es)
 
 pub grows-itself : (bytes : List ℕ) → Grows bytes bytes
-grows-itself bytes = ([], All-nil IsNoMark, sym (append-nil bytes))
+grows-itself bytes = ([], All-nil IsOfSearch, sym (append-nil bytes))
 
 pub grows-same : (old new : List ℕ) → new ≡ old → Grows old new
-grows-same old new e = ([], All-nil IsNoMark, e ∙ sym (append-nil old))
+grows-same old new e = ([], All-nil IsOfSearch, e ∙ sym (append-nil old))
 
 pub grows-twice : (xs ys zs : List ℕ) → Grows xs ys → Grows ys zs → Grows xs zs
 grows-twice xs ys zs a b = (
   a.0 ++ b.0,
-  All-append IsNoMark a.0 b.0 a.1 b.1,
+  All-append IsOfSearch a.0 b.0 a.1 b.1,
   b.2 ∙ (ap (λ (l : List ℕ). l ++ flat_map entry_text b.0) a.2
       ∙ (append_assoc xs (flat_map entry_text a.0) (flat_map entry_text b.0)
       ∙ ap (λ (l : List ℕ). xs ++ l) (sym (flat_map-append entry_text a.0 b.0)))),
@@ -46,6 +47,6 @@ grows-twice xs ys zs a b = (
 pub grown-entries : (xs ys : List ℕ) → AreEntries xs → Grows xs ys → AreEntries ys
 grown-entries xs ys a b = (
   a.0 ++ b.0,
-  All-append IsNoMark a.0 b.0 a.1 b.1,
+  All-append IsOfSearch a.0 b.0 a.1 b.1,
   b.2 ∙ (ap (λ (l : List ℕ). l ++ flat_map entry_text b.0) a.2 ∙ sym (flat_map-append entry_text a.0 b.0)),
 )

@@ -2,7 +2,7 @@
 ghost use Rattle.std.specs.Prelude.{◌≡◌, ◌+◌, ◌<◌, ℕ, length, take, slice_index_or, IfOk, OnOk, OnErr};
 ghost use Rattle.std.specs.Bool.{OnFalse, OnTrue};
 ghost use Rattle.derivation_log.specs.declared.entries.Entry.TheVariants as entry;
-ghost use Rattle.search_log.specs.Entries.{AreEntries, Grows, IsNoMark};
+ghost use Rattle.search_log.specs.Entries.{AreEntries, Grows, IsOfSearch};
 ghost use Rattle.search_log.specs.Logs.{Bears, Begins, Stays, cleared, forgotten, no_log, number_of, numbers_of};
 ghost use Rattle.search_log.specs.Logs.{refuted, with_entry, with_refutation};
 
@@ -107,7 +107,7 @@ impl SearchLog {
 
     /// Writes an entry that bears no clause.
     fn write(&mut self, entry: &Entry) -> Result<(), Memory>
-        requires { IsNoMark entry.now }
+        requires { IsOfSearch entry.now }
         ensures ok { OnOk result (self.new ≡ with_entry self.old entry.now) }
         ensures err { OnErr result (self.new ≡ self.old) }
         ensures grows { Grows self.old.entries self.new.entries }
@@ -117,7 +117,7 @@ impl SearchLog {
 
     /// Writes an entry, by which the clause with this place in the store gets the next number.
     fn bear(&mut self, id: u64, entry: &Entry) -> Result<(), Memory>
-        requires { IsNoMark entry.now }
+        requires { IsOfSearch entry.now }
         ensures ok { OnOk result (Bears self.old id entry.now self.new) }
         ensures err { OnErr result (Stays self.old self.new) }
         ensures grows { Grows self.old.entries self.new.entries }

@@ -2,7 +2,7 @@
 
 use base_reader::read_base;
 use chooser::FirstGreatest;
-use consult_text::{Command, Reply, commands_are_over_the_base, read_command};
+use consult_text::{Reply, commands_are_over_the_base, read_command};
 use consultant_session::Session;
 use std::alloc::Global;
 use std::test::Fail;
@@ -39,16 +39,8 @@ fn choices_stand(alloc: Global, session: &mut Session<FirstGreatest>) -> bool {
         && session.choices().is_empty()
 }
 
-/// Whether the session, which tells what it was opened on, finds its model twice.
-fn finds_its_model_again(session: &mut Session<FirstGreatest>) -> bool {
-    session.kb().theory() == 0
-        && session.kb().structure().text() == b"S".as_slice()
-        && matches!(session.step(&Command::Model), Ok(Reply::Model(_)))
-        && matches!(session.step(&Command::Model), Ok(Reply::Model(_)))
-}
-
 // A session is let go at one exit: each further one proves anew how a whole session is dropped.
-/// The first in a session over the file.
+/// The same in a session over the file.
 fn choices_stand_in_a_session(alloc: Global) -> bool {
     match session(alloc) {
         Some(mut session) => choices_stand(alloc, &mut session),
@@ -56,22 +48,8 @@ fn choices_stand_in_a_session(alloc: Global) -> bool {
     }
 }
 
-/// And the second.
-fn a_session_finds_again(alloc: Global) -> bool {
-    match session(alloc) {
-        Some(mut session) => finds_its_model_again(&mut session),
-        None => false,
-    }
-}
-
 #[test]
 fn choices_stand_in_the_session(rt: HostRuntime) -> Result<(), Fail> {
     assert!(rt; choices_stand_in_a_session(rt.alloc()));
-    Ok(())
-}
-
-#[test]
-fn a_session_finds_its_model_again(rt: HostRuntime) -> Result<(), Fail> {
-    assert!(rt; a_session_finds_again(rt.alloc()));
     Ok(())
 }

@@ -23,7 +23,8 @@ impl<C: Choose + Copy + Drop> Session<C> {
         Ok(())
     }
 
-    /// The texts of the entries that the solver left since they were given up; none of them is a mark.
+    /// The texts of the entries that the solver left since they were given up: those of its search, no marks and no
+    /// claims.
     pub fn entries(&self) -> &[u8]
         ensures { AreEntries result.now }
     {
@@ -41,9 +42,8 @@ impl<C: Choose + Copy + Drop> Session<C> {
     /// which the solver knows no clause are left out.
     pub fn claims(&self, command: &Command, reply: &Reply) -> Result<Vec<u8>, Memory>
         requires { (s : State) × RightReply (base_of self.now.kb) s command.now reply.now }
-        ensures claims { IfOk result (λ bytes. AreClaims (atom_base (base_of self.now.kb)) self.now.state.choices
+        ensures { IfOk result (λ bytes. AreClaims (atom_base (base_of self.now.kb)) self.now.state.choices
             command.now reply.now bytes.items) }
-        ensures texts { IfOk result (λ bytes. AreEntries bytes.items) }
     {
         claims_of(
             self.alloc,
