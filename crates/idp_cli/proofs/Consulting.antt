@@ -3,7 +3,7 @@ use Rattle.std.proofs.Common.{◌≡◌, ℕ, List, Bool, refl, sym, subst, Opti
 use Rattle.consult_text.specs.States.{first_state}
 use Rattle.base_reader.specs.FileMeanings.{Choice, Meaning, FileMeans, base_of_meaning}
 use Rattle.consultation.specs.Answering.{AnswersCommands, OpensAndAnswers}
-use Rattle.consultation.specs.Streams.{IfObservable, Streams, streams}
+use Rattle.consultation.specs.Streams.{IfObservable, streams}
 use Rattle.consultation.specs.declared.stop.Stop.{Stop}
 use Rattle.consultation.specs.declared.stop.Stop.TheVariants as stop
 use Rattle.idp_cli.specs.Printing.{PrintsText}

@@ -110,9 +110,23 @@ both_found kb kb0 kb1 s t u found value count least opened kept begins is_found 
 pub text_ends : (s : Status) (text : List ℕ) (old new : Option (List ℕ)) (before now : ℕ)
     → PrintsText s text old new before now → OnOutput (TextEnds s text) old new before now
 text_ends status.Done text old new before now prints = λ files shelf_faults script script_faults log log_faults.
-    record { shelf = refl; faults = record { script = refl; out = prints.0; log = refl }; script = refl; log = refl; out = prints.1 }
+    record {
+      shelf = refl;
+      faults = record { script = refl; out = prints.0; log = refl };
+      script = refl;
+      log = refl;
+      out = prints.1;
+    }
 text_ends status.WriteFault text old new before now prints = λ files shelf_faults script script_faults log log_faults.
-    record { shelf = refl; script_faults = refl; log_faults = refl; fault = prints.0; script = refl; log = refl; out = prints.1 }
+    record {
+      shelf = refl;
+      script_faults = refl;
+      log_faults = refl;
+      fault = prints.0;
+      script = refl;
+      log = refl;
+      out = prints.1;
+    }
 text_ends status.Memory text old new before now prints = λ files shelf_faults script script_faults log log_faults. (
   refl,
   λ i. streams script script_faults (prints.1 i) (prints.0 i) log log_faults,
@@ -133,14 +147,28 @@ summary_ends status.Done k n forced least old new before now answers prints =
       forced,
       least,
       answers,
-      record { shelf = refl; faults = record { script = refl; out = prints.0; log = refl }; script = refl; log = refl; out = prints.1 },
+      record {
+        shelf = refl;
+        faults = record { script = refl; out = prints.0; log = refl };
+        script = refl;
+        log = refl;
+        out = prints.1;
+      },
     )
 summary_ends status.WriteFault k n forced least old new before now answers prints =
     λ files shelf_faults script script_faults log log_faults. inr (
       forced,
       least,
       answers,
-      record { shelf = refl; script_faults = refl; log_faults = refl; fault = prints.0; script = refl; log = refl; out = prints.1 },
+      record {
+        shelf = refl;
+        script_faults = refl;
+        log_faults = refl;
+        fault = prints.0;
+        script = refl;
+        log = refl;
+        out = prints.1;
+      },
     )
 summary_ends status.Memory k n forced least old new before now answers prints =
     λ files shelf_faults script script_faults log log_faults. (
@@ -181,7 +209,13 @@ refusal_ends (status.KbRefused cause place) k n q line old new before now is pri
     let P : K → ℕ → Type 0 = λ c l. OnOutput (SummaryEnds (status.KbRefused c l) k n) old new before now in
     let said : P q line = λ files shelf_faults script script_faults log log_faults. (
       is,
-      record { shelf = refl; faults = record { script = refl; out = prints.0; log = refl }; script = refl; log = refl; out = prints.3 },
+      record {
+        shelf = refl;
+        faults = record { script = refl; out = prints.0; log = refl };
+        script = refl;
+        log = refl;
+        out = prints.3;
+      },
     ) in
     subst (λ (c : K). P c place) (sym prints.1) (subst (λ (l : ℕ). P q l) (sym prints.2) said)
 refusal_ends status.WriteFault k n q line old new before now is prints =
@@ -189,7 +223,15 @@ refusal_ends status.WriteFault k n q line old new before now is prints =
       q,
       line,
       is,
-      record { shelf = refl; script_faults = refl; log_faults = refl; fault = prints.0; script = refl; log = refl; out = prints.1 },
+      record {
+        shelf = refl;
+        script_faults = refl;
+        log_faults = refl;
+        fault = prints.0;
+        script = refl;
+        log = refl;
+        out = prints.1;
+      },
     )
 refusal_ends status.Memory k n q line old new before now is prints =
     λ files shelf_faults script script_faults log log_faults. (

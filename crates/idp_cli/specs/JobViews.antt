@@ -2,7 +2,6 @@
 use Rattle.block_choice.specs.Choices.{word_given}
 use Rattle.base_reader.specs.FileMeanings.{Choice}
 use Rattle.idp_cli.specs.Jobs as asked
-use Rattle.idp_cli.specs.declared.jobs.ConsultJob.{ConsultJob}
 use Rattle.idp_cli.specs.declared.jobs.Options.{Options}
 use Rattle.idp_cli.specs.declared.jobs.Job.{Job}
 use Rattle.idp_cli.specs.declared.jobs.Job.TheVariants as job

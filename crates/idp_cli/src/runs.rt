@@ -1,5 +1,5 @@
 //! The top call: one run over the words, a shelf, the commands, the output and a log.
-ghost use Rattle.std.specs.Prelude.{◌≡◌, ◌⊎◌, ℕ, List, Option};
+ghost use Rattle.std.specs.Prelude.{◌≡◌, ◌⊎◌};
 ghost use Rattle.std.specs.Bool.{OnFalse};
 ghost use Rattle.kb_io.specs.Outside.{GrewByName, KeptNumber};
 ghost use Rattle.consult_base.specs.Opened.{base_of};
@@ -67,7 +67,8 @@ fn consult<H: Shelf, C: Source, W: Sink, L: Sink>(
     out: &mut W,
     log: &mut L,
 ) -> Status
-    ensures ends { ConsultationEnds result job.entry.file.now (choice_view job.entry.options) job.entry.budget job.entry.logs
+    ensures ends { ConsultationEnds result job.entry.file.now (choice_view job.entry.options) job.entry.budget
+        job.entry.logs
         (outside (H.file shelf.old) (H.faults shelf.old)
         (streams (C.left commands.old) (C.faults commands.old) (W.holds out.old) (W.faults out.old) (L.holds log.old)
         (L.faults log.old)))

@@ -1,5 +1,6 @@
 -- The statuses come exactly where they should, by elimination.
-use Rattle.std.proofs.Common.{◌≡◌, ℕ, ◌<◌, List, length, Bool, refl, sym, ◌∙◌, ap, subst, arith, Option, Some, None, inl, inr}
+use Rattle.std.proofs.Common.{◌≡◌, ℕ, ◌<◌, List, length, Bool, refl, sym, ◌∙◌, ap, subst, arith, Option, Some}
+use Rattle.std.proofs.Common.{None, inl, inr}
 use Rattle.kb_text.specs.declared.fault.K.{K}
 use Rattle.kb_text.specs.declared.fault.KbFault.{KbFault}
 use Rattle.base_reader.specs.FileMeanings.{Choice, Meaning, FileMeans}
@@ -99,8 +100,8 @@ module _ (one : HasOneRefusal) (never : MeansOrIsRefused) where
       let at : line' ≡ line = h'.3 ∙ (ap (λ (q : KbFault). line_of q.place bytes) same ∙ sym h.3) in
       λ i. status.KbRefused (cause i) (at i)
 
-  consultation_refused : (s : Status) (before now : Outside) (file bytes : List ℕ) (c : Choice) (budget : Option ℕ) (logs : Bool)
-      (k : K) (line : ℕ) → before.files file ≡ Some bytes → IsRefusedAt c k line bytes
+  consultation_refused : (s : Status) (before now : Outside) (file bytes : List ℕ) (c : Choice) (budget : Option ℕ)
+      (logs : Bool) (k : K) (line : ℕ) → before.files file ≡ Some bytes → IsRefusedAt c k line bytes
       → ConsultationEnds s file c budget logs before now → IsUnlessFailed (status.KbRefused k line) s
   consultation_refused status.Done before now file bytes c budget logs k line held refused ends =
       let taken = told (before.files file) bytes _ held ends.answers in
@@ -152,7 +153,8 @@ module _ (one : HasOneRefusal) (never : MeansOrIsRefused) where
       → file_of job ≡ Some file → before.files file ≡ Some bytes → IsRefusedAt (choice_of job) k line bytes
       → JobEnds s job before now → IsUnlessFailed (status.KbRefused k line) s
   refused_by s before now (consult name c budget logs) file bytes k line of held refused ends =
-      consultation_refused s before now name bytes c budget logs k line (held_by before name file bytes of held) refused ends
+      consultation_refused s before now name bytes c budget logs k line (held_by before name file bytes of held) refused
+      ends
   refused_by s before now (check name c) file bytes k line of held refused ends =
       check_refused s before now name bytes c k line (held_by before name file bytes of held) refused ends
   refused_by s before now (verify name c log) file bytes k line of held refused ends =
@@ -184,8 +186,8 @@ module _ (one : HasOneRefusal) (never : MeansOrIsRefused) where
       taken_by k line before now job file bytes m of held means
       (done (status.KbRefused k line) words before now job is ends)
 
-  length_ends : (s : Status) (before now : Outside) (file bytes script : List ℕ) (c : Choice) (budget : Option ℕ) (logs : Bool)
-      (m : Meaning)
+  length_ends : (s : Status) (before now : Outside) (file bytes script : List ℕ) (c : Choice) (budget : Option ℕ)
+      (logs : Bool) (m : Meaning)
       → before.files file ≡ Some bytes → FileMeans c bytes m → before.streams.script ≡ Some script
       → 67108864 < length script
       → ConsultationEnds s file c budget logs before now → IsUnlessFailed status.ScriptTooLong s

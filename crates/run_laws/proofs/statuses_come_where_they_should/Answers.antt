@@ -1,5 +1,5 @@
-use Rattle.run_laws.proofs.Elimination.{usage_law, command_law, refusal_law, taking_law, length_law, short_law, done_law}
-use Rattle.run_laws.proofs.Elimination.{checked_law, made_law, summarised_law}
+use Rattle.run_laws.proofs.Elimination.{usage_law, command_law, refusal_law, taking_law, length_law, short_law}
+use Rattle.run_laws.proofs.Elimination.{done_law, checked_law, made_law, summarised_law}
 use Rattle.run_laws.proofs.statuses_come_where_they_should.Goals as goal
 
 pub returns : goal.returns
