@@ -40,14 +40,14 @@ no_second true f h = absurd (cc)
 no_second false true h = refl
 no_second false false h = absurd (cc)
 
-listed_in : (xs : List GroundAtom) (a : GroundAtom) → list_any (same_atom a) xs ≡ true → Contains xs a
+pub listed_in : (xs : List GroundAtom) (a : GroundAtom) → list_any (same_atom a) xs ≡ true → Contains xs a
 listed_in xs a h = let r = some_one (same_atom a) xs h in subst (Contains xs) (atom_is a r.0 r.2) r.1
 
-is_true : (q : KnownAtoms) (a : GroundAtom) → value_at q a ≡ Yes → Contains q.true_atoms a
+pub is_true : (q : KnownAtoms) (a : GroundAtom) → value_at q a ≡ Yes → Contains q.true_atoms a
 is_true q a h = listed_in q.true_atoms a (yes_first (list_any (same_atom a) q.true_atoms) (list_any (same_atom a)
     q.false_atoms) h)
 
-is_false : (q : KnownAtoms) (a : GroundAtom) → value_at q a ≡ No → Contains q.false_atoms a
+pub is_false : (q : KnownAtoms) (a : GroundAtom) → value_at q a ≡ No → Contains q.false_atoms a
 is_false q a h = listed_in q.false_atoms a (no_second (list_any (same_atom a) q.true_atoms) (list_any (same_atom a)
     q.false_atoms) h)
 

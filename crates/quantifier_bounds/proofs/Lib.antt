@@ -1,0 +1,15 @@
+pub mod Made
+pub mod Rows
+pub mod Lasts
+pub mod Lost
+pub mod Steps
+pub mod Naming
+pub mod Turns
+pub mod Links
+pub mod Lones
+pub mod Shapes
+pub mod Values
+pub mod Told
+pub mod Defined
+pub mod Opened
+pub mod Small

@@ -1,0 +1,8 @@
+pub mod Steps
+pub mod Places
+pub mod Fits
+pub mod Walks
+pub mod Rules
+pub mod Passes
+pub mod Open
+pub mod Laws

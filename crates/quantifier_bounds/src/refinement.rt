@@ -1,0 +1,111 @@
+//! What a theory alone fixes, by passes until nothing changes.
+//!
+//! A pass that changes nothing is the proof that what is known is closed. What would run between two passes, to follow
+//! what became known, would only have to be sound.
+ghost use Rattle.std.specs.Prelude.{◌≡◌, ◌≤◌, ◌^◌, [], true, map, length, IfOk, IsErrOf, OnOk};
+ghost use Rattle.std.specs.List.{AllByRecursion};
+ghost use Rattle.kb_logic.specs.Views.{formula_view, theory_view};
+ghost use Rattle.bound_laws.specs.Closures.{Obeys, IsNarrowed, IsContradictory};
+ghost use Rattle.quantifier_bounds.specs.Fits.{Fits, TheoryFits};
+ghost use Rattle.quantifier_bounds.specs.Passes.{ObeysRest, ObeysTheory, IsReached};
+ghost use Rattle.quantifier_bounds.specs.Steps.{Narrows, IsImpossible};
+ghost use Rattle.quantifier_bounds.specs.declared.fault.BoundFault.TheVariants.{Contradiction};
+
+use crate::definitions::definitions_must;
+use crate::fault::BoundFault;
+use crate::functions::functions_must;
+use crate::walk::{Setting, all, either};
+use kb_logic::{Formula, Theory};
+use partial_structures::Partial;
+use plain_evaluation::environments::Env;
+use std::alloc::Global;
+
+/// Each sentence must be true.
+fn sentences_must<'a>(
+    known: &mut Partial,
+    setting: Setting<'a>,
+    sentences: &'a [Formula],
+) -> Result<bool, BoundFault>
+    requires domains { setting.domains.now ≡ known.old.domains }
+    requires fits { AllByRecursion (λ f. Fits known.old.symbols known.old.domains f [])
+        (map formula_view sentences.now) }
+    ensures { Narrows known.old known.new result
+        (λ q. AllByRecursion (λ f. Obeys q true f []) (map formula_view sentences.now)) }
+{
+    all(known, setting, sentences, true, &Env::Given(&[]))
+}
+
+/// The definitions and the functions must be obeyed.
+fn rest_must<'a>(
+    known: &mut Partial,
+    setting: Setting<'a>,
+    theory: &'a Theory,
+) -> Result<bool, BoundFault>
+    requires symbols { setting.symbols.now ≡ known.old.symbols }
+    requires domains { setting.domains.now ≡ known.old.domains }
+    requires few { length known.old.symbols ≤ 2 ^ 32 }
+    requires fits { TheoryFits known.old.symbols known.old.domains (theory_view theory.now) }
+    ensures { Narrows known.old known.new result (ObeysRest (theory_view theory.now)) }
+{
+    let first = definitions_must(known, setting, theory.definitions.as_slice())?;
+    let second = functions_must(known, setting)?;
+    Ok(either(first, second))
+}
+
+/// One pass over the theory. Whether it made anything known.
+fn pass<'a>(
+    known: &mut Partial,
+    setting: Setting<'a>,
+    theory: &'a Theory,
+) -> Result<bool, BoundFault>
+    requires symbols { setting.symbols.now ≡ known.old.symbols }
+    requires domains { setting.domains.now ≡ known.old.domains }
+    requires few { length known.old.symbols ≤ 2 ^ 32 }
+    requires fits { TheoryFits known.old.symbols known.old.domains (theory_view theory.now) }
+    ensures { Narrows known.old known.new result (ObeysTheory (theory_view theory.now)) }
+{
+    let first = sentences_must(known, setting, theory.sentences.as_slice())?;
+    let second = rest_must(known, setting, theory)?;
+    Ok(either(first, second))
+}
+
+/// Passes until one changes nothing.
+fn narrow<'a>(
+    known: &mut Partial,
+    setting: Setting<'a>,
+    theory: &'a Theory,
+) -> Result<(), BoundFault>
+    requires symbols { setting.symbols.now ≡ known.old.symbols }
+    requires domains { setting.domains.now ≡ known.old.domains }
+    requires few { length known.old.symbols ≤ 2 ^ 32 }
+    requires fits { TheoryFits known.old.symbols known.old.domains (theory_view theory.now) }
+    ensures ok { OnOk result (IsReached (theory_view theory.now) known.old known.new) }
+    ensures contradiction { IsErrOf result Contradiction → IsImpossible known.old (ObeysTheory (theory_view
+        theory.now)) }
+{
+    'passes: loop {
+        let changed = pass(known, setting, theory)?;
+        if !changed {
+            return Ok(());
+        }
+    }
+}
+
+/// The narrowed structure: the least that knows what `s` does and is closed under what the theory fixes.
+/// `Contradiction` exactly where nothing is closed.
+pub fn refine(alloc: Global, t: &Theory, s: &Partial) -> Result<Partial, BoundFault>
+    requires few { length s.now.symbols ≤ 2 ^ 32 }
+    requires fits { TheoryFits s.now.symbols s.now.domains (theory_view t.now) }
+    ensures ok { IfOk result (λ k. IsNarrowed (theory_view t.now) s.now k) }
+    ensures contradiction { IsErrOf result Contradiction → IsContradictory (theory_view t.now) s.now }
+{
+    let mut known = s.copy(alloc)?;
+    let setting = Setting {
+        alloc,
+        symbols: s.symbols().as_slice(),
+        domains: s.domains().as_slice(),
+    };
+    narrow(&mut known, setting, t)?;
+    known.consistency();
+    Ok(known)
+}
