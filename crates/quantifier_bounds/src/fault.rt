@@ -3,12 +3,15 @@ ghost use Rattle.std.specs.Prelude.{◌≡◌};
 ghost use Rattle.quantifier_bounds.specs.declared.fault.BoundFault.TheVariants as fault;
 
 use kb_logic::Memory;
+use thiserror::Error;
 
 /// Why narrowing ended without a narrowed structure.
-#[derive(Clone, Copy)]
+#[derive(Clone, Copy, Debug, Error)]
 pub enum BoundFault {
     /// Nothing is closed.
+    #[error("the theory contradicts the data")]
     Contradiction,
+    #[error("out of memory")]
     Memory,
 }
 
