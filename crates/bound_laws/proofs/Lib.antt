@@ -1,6 +1,7 @@
 pub mod Rows
 pub mod Adding
 pub mod NotLost
+pub mod Lasts
 pub mod One
 pub mod Facts
 pub mod Heads

@@ -1,10 +1,12 @@
 -- What narrowing promises.
-use Rattle.std.specs.Prelude.{◌≡◌, List, [], Bool, false}
-use Rattle.std.specs.List.{AllByRecursion}
+use Rattle.std.specs.Prelude.{◌≡◌, ◌↔◌, List, [], ◌∷◌, ◌++◌, Bool, true, false, Contains}
+use Rattle.std.specs.List.{AllByRecursion, list_all}
 use Rattle.kb_logic.specs.declared.elements.Elem.{Elem}
 use Rattle.kb_logic.specs.declared.structures.Structure.{Structure}
 use Rattle.kb_logic.specs.declared.structures.Literal.{Literal}
-use Rattle.kb_logic.specs.Trees.{FormulaTree, DefinitionTree, TheoryTree}
+use Rattle.kb_logic.specs.declared.vocabularies.Bound.{Bound}
+use Rattle.kb_logic.specs.Trees.{FormulaTree, existential, DefinitionTree, TheoryTree}
+use Rattle.kb_logic.specs.Structures.{choices}
 use Rattle.kb_logic.specs.Domains.{AreDomainsOf}
 use Rattle.kb_logic.specs.Typing.{IsTypedOver}
 use Rattle.kb_logic.specs.Bases.{Base, IsModelUnder}
@@ -28,6 +30,17 @@ CertainAddsNothing =
 abbrev pub ObeysIsNotLost : Type 0
 ObeysIsNotLost = (k : KnownAtoms) (v : Bool) (f : FormulaTree) (e : List Elem) → Obeys k v f e
     → opposes v (certain_truth k f e) ≡ false
+
+-- an existential formula that must be true obeys exactly where some instance is not certainly false, and an instance
+-- obeys where all others are certainly false
+abbrev pub LastInstanceObeys : Type 0
+LastInstanceObeys =
+    (k : KnownAtoms) (bs : List Bound) (f : FormulaTree) (e : List Elem)
+    → Obeys k true (existential bs f) e ↔ (((a : List Elem) × Contains (choices k.domains bs) a
+    × (opposes true (certain_truth k f (e ++ a)) ≡ false))
+    × ((before after : List (List Elem)) (a : List Elem) → choices k.domains bs ≡ before ++ a ∷ after
+    → list_all (λ b. opposes true (certain_truth k f (e ++ b))) before ≡ true
+    → list_all (λ b. opposes true (certain_truth k f (e ++ b))) after ≡ true → Obeys k true f (e ++ a)))
 
 -- a fact that is known of q keeps within q what is known of less
 abbrev pub FactsStayWithin : Type 0

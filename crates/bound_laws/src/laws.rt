@@ -1,6 +1,6 @@
 //! Laws of what is closed. The functions are empty: their contracts are laws.
-ghost use Rattle.bound_laws.specs.Laws.{CertainAddsNothing, FactsStayWithin, ModelsAreClosed, NarrowedKeepsModels};
-ghost use Rattle.bound_laws.specs.Laws.{ObeysIsNotLost, OneNarrowed};
+ghost use Rattle.bound_laws.specs.Laws.{CertainAddsNothing, FactsStayWithin, LastInstanceObeys, ModelsAreClosed};
+ghost use Rattle.bound_laws.specs.Laws.{NarrowedKeepsModels, ObeysIsNotLost, OneNarrowed};
 
 /// What is certainly of a value adds nothing where it must be of it.
 pub fn certain_adds_nothing()
@@ -10,6 +10,12 @@ pub fn certain_adds_nothing()
 /// What must be of a value, and obeys, is not certainly of the other.
 pub fn obeys_is_not_lost()
     ensures { ObeysIsNotLost }
+{}
+
+/// An existential formula that must be true obeys exactly where some instance is not certainly false, and an instance
+/// obeys where all others are certainly false.
+pub fn last_instance_obeys()
+    ensures { LastInstanceObeys }
 {}
 
 /// A fact that is known of a structure keeps within it what is known of less.
