@@ -22,6 +22,7 @@ use Rattle.partial_structures.proofs.Sames.{row_itself, element_itself}
 use Rattle.partial_structures.proofs.Walks.{row_denotes}
 use Rattle.certain_truth.specs.Certainty.{truth_if, either_certain, any_certain, known_cons, known_value, known_values}
 use Rattle.certain_truth.specs.Certainty.{certain_truth}
+use Rattle.plain_evaluation.proofs.Folds.{fold_stays}
 use Rattle.certain_truth.proofs.Connected.{fold_either}
 use Rattle.certain_truth.proofs.Monotony.{certainty_is_monotone}
 use Rattle.bound_laws.specs.Heads.{IsHeadTerm, HasPlainHead}
@@ -180,6 +181,18 @@ either_no Unknown = refl
 module _ (k : KnownAtoms) (a : GroundAtom) where
   abbrev rule_truth : RuleTree → Truth
   rule_truth r = any_certain (λ e. instance_truth k r a e) (choices k.domains r.vars)
+
+  -- a rule for another symbol says nothing
+  pub told_other : (t : Truth) (r : RuleTree) → (r.symbol ≡ a.symbol → ⊥) → told_by k a t r ≡ t
+  told_other t r other = fold_stays (λ u e. either_certain u (instance_truth k r a e)) (choices k.domains r.vars) t
+      (λ e. ap (either_certain t) (no_ e) ∙ either_no t)
+    where
+      no_ : (e : List Elem) → instance_truth k r a e ≡ No
+      no_ e = elim (cases_Bool (r.symbol == a.symbol)) [
+        | inl h ↦ absurd (other (eqb-true r.symbol a.symbol h))
+        | inr h ↦ ap (λ b. if b && (is_row (known_values k (terms_of r.args) e) a.args && is_value
+            (option_map (λ t. known_value k t e) r.value) a.value) then certain_truth k r.body e else No) h
+      ]
 
   rules_fold : (rs : List RuleTree) (t : Truth) → fold (told_by k a) t rs ≡ either_certain t (any_certain rule_truth rs)
   rules_fold [] t = sym (either_no t)

@@ -133,6 +133,9 @@ pub(crate) fn derived(known: &Partial, rules: &[Rule], atom: &Literal) -> Truth
     let mut told = Truth::No;
     for at in 0..rules.len() {
         let rule = &rules[at];
+        if rule.symbol != atom.symbol {
+            continue;
+        }
         told = instances(
             known,
             rule.vars.as_slice(),
