@@ -1,6 +1,14 @@
 -- The atoms that the data leave unknown.
 use Rattle.std.proofs.Common.{◌≡◌, ◌∙◌, ℕ, ◌+◌, ◌≤◌, Bool, true, false, cond, List, [], ◌∷◌, length, map, refl, sym, ap}
-use Rattle.std.proofs.Common.{suc, subst, arith, filter}
+use Rattle.std.proofs.Common.{suc, subst, arith, filter, min, ◌-◌, ◌^◌}
+use Rattle.std.proofs.lemmas.List.Elements.{All-nil}
+use Rattle.kb_logic.specs.declared.elements.Elem.{Elem}
+use Rattle.kb_logic.specs.declared.vocabularies.Vocabulary.{Vocabulary}
+use Rattle.kb_logic.specs.Weights.{atom_count}
+use Rattle.reading_stages.specs.SizesStage.{capped}
+use Rattle.term_values.proofs.Places.{atoms-count}
+use Rattle.found_models.specs.Found.{FoundState}
+use Rattle.found_models.specs.Models.{atoms_of, IsFoundModel, AreFoundModels}
 use Rattle.std.proofs.lemmas.List.{length-map}
 use Rattle.kb_logic.specs.declared.vocabularies.Symbol.{Symbol}
 use Rattle.kb_logic.specs.Bases.{Base}
@@ -14,7 +22,7 @@ use Rattle.term_values.specs.GroundBases.{GroundBase}
 use Rattle.atom_numbers.specs.Numbers.{HasNumber}
 use Rattle.atom_numbers.specs.Unknown.{AreOpen, is_unknown, unknown_atoms}
 use Rattle.forced_literals.specs.OpenTasks.{IsOpenTaskOf}
-use Rattle.ground_task.specs.Tasks.{IsTaskOf}
+use Rattle.ground_task.specs.Tasks.{IsTaskOf, atom_base}
 use Rattle.ground_task.proofs.ChoiceFacts.{each-length}
 use Rattle.consultant_session.specs.Solvers.{AreUnknownOf}
 
@@ -61,3 +69,19 @@ few-unknown kb b p lits is =
       length-map (unknown_atoms kb.known) (literal_with true),
       filter_shorter (λ a. is_unknown (value_at kb.known a)) atoms,
     )
+
+-- the count of the ground atoms, as far as 64 bits go
+pub enough-kept : (kb : Base) (v : Vocabulary) (domains : List (List Elem)) (n : ℕ) → v ≡ kb.vocabulary
+    → domains ≡ kb.known.domains → n ≡ capped (atom_count v domains) → min (atoms_of kb) (2 ^ 64 - 1) ≤ n
+enough-kept kb v domains n same over is =
+    let count : atoms_of kb ≡ atom_count kb.vocabulary kb.known.domains = atoms-count (atom_base kb) in
+    let here : n ≡ capped (atom_count kb.vocabulary kb.known.domains) =
+    is ∙ ap (λ (x : Vocabulary). capped (atom_count x domains)) same
+    ∙ ap (λ (ds : List (List Elem)). capped (atom_count kb.vocabulary ds)) over in
+    omega (arith, count, here)
+
+-- where none was found, all that were are models
+pub none-found : (kb : Base) (f : FoundState) (last : ℕ) → f ≡ record { last = last; models = [] }
+    → min (atoms_of kb) (2 ^ 64 - 1) ≤ last → AreFoundModels kb f
+none-found kb f last is enough =
+    subst (AreFoundModels kb) (sym is) (record { last = enough; models = All-nil (IsFoundModel kb) })

@@ -13,7 +13,7 @@ use Rattle.term_values.specs.GroundBases.{GroundBase}
 use Rattle.ground_core.specs.declared.solving.Budget.{Budget}
 use Rattle.ground_core.specs.declared.solving.Halt.{Halt}
 use Rattle.ground_core.specs.declared.solving.Halt.TheVariants as halt
-use Rattle.ground_core.specs.Solving.{SolveState, HaltedAt, IsBudgetOf}
+use Rattle.ground_core.specs.Solving.{SolveState, HaltedAt, IsBudgetOf, IsKept}
 use Rattle.ground_core.specs.Calls.{CallEnds}
 use Rattle.ground_task.specs.Tasks.{IsTaskOf}
 use Rattle.clause_learning.specs.SolverState.{forgotten}
@@ -148,29 +148,72 @@ pub was_searched : (kb : Base) (c : Command) (budget : Option ℕ) (r : Reply) (
     → Searches kb c budget (Ok r) old new → IsSearched kb r
 was_searched kb c budget r old new is = λ k same. (new, is.solver, omega (arith, is.learns.undecided k same))
 
+-- nothing is learnt beyond what is left
+pub learns_nothing : (c : Command) (budget : Option ℕ) (result : Result Reply Memory) (old new : List (List Lit))
+    → left_by c old ≡ new → IfOk result (λ r. (k : ℕ) → r ≡ reply.Undecided k → ⊥) → Learns c budget result old new
+learns_nothing c budget result old new left decided = record {
+  front = subst (IsPrefix (left_by c old)) left (prefix-itself (left_by c old));
+  within = within budget;
+  undecided = counted result decided;
+  idle = λ other. sym left;
+}
+  where
+    within : (o : Option ℕ) → IfSome o (λ most. length new ≤ length (left_by c old) + most)
+    within None = tt
+    within (Some most) = omega (arith, ap (λ (ls : List (List Lit)). length ls) left)
+
+    counted : (result : Result Reply Memory) → IfOk result (λ r. (k : ℕ) → r ≡ reply.Undecided k → ⊥)
+        → IfOk result (λ r. (k : ℕ) → r ≡ reply.Undecided k → length new ≡ length (left_by c old) + k)
+    counted (Ok r) decided = λ k is. absurd (decided k is)
+    counted (Err e) decided = tt
+
 -- and a command that is none learns nothing
 pub idle : (kb : Base) (c : Command) (budget : Option ℕ) (result : Result Reply Memory) (old new : SolveState)
     → left_by c old.learnt ≡ new.learnt → IfOk result (λ r. (k : ℕ) → r ≡ reply.Undecided k → ⊥) → IsSolverOf kb new
     → Searches kb c budget result old new
 idle kb c budget result old new left decided is = record {
   solver = is;
-  learns = record {
-    front = subst (IsPrefix (left_by c old.learnt)) left (prefix-itself (left_by c old.learnt));
-    within = within budget;
-    undecided = counted result decided;
-    idle = λ other. sym left;
-  };
+  learns = learns_nothing c budget result old.learnt new.learnt left decided;
 }
-  where
-    within : (o : Option ℕ) → IfSome o (λ most. length new.learnt ≤ length (left_by c old.learnt) + most)
-    within None = tt
-    within (Some most) = omega (arith, ap (λ (ls : List (List Lit)). length ls) left)
 
-    counted : (result : Result Reply Memory) → IfOk result (λ r. (k : ℕ) → r ≡ reply.Undecided k → ⊥)
-        → IfOk result (λ r. (k : ℕ) → r ≡ reply.Undecided k
-        → length new.learnt ≡ length (left_by c old.learnt) + k)
-    counted (Ok r) decided = λ k is. absurd (decided k is)
-    counted (Err e) decided = tt
+-- a query that ends without a search: what was learnt is given up, and nothing else happens
+pub unsearched : (Of : Base → Type 0) (choices : List Literal) {c : Command} {budget : Option ℕ}
+    {numbers numbers' : GroundBase} {old new : SolveState} → left_by c old.learnt ≡ [] → new ≡ forgotten old
+    → ((kb : Base) → IsTaskOf kb numbers old.problem → IsTaskOf kb numbers' new.problem) → IsKept new
+    → (result : Result Reply Memory) → IfOk result (λ r. (k : ℕ) → r ≡ reply.Undecided k → ⊥)
+    → ((kb : Base) → Of kb → IfOk result (RightAnswer kb (record { choices = choices; budget = budget }) c))
+    → QueryEnds Of c choices budget numbers numbers' old new result
+unsearched Of choices {c} {budget} {numbers} {numbers'} {old} {new} empty forgot task kept result decided right =
+    record {
+      right = λ kb is few. right kb is;
+      task = task;
+      learns = learns_nothing c budget result old.learnt new.learnt
+          (empty ∙ sym (ap (λ (s : SolveState). s.learnt) forgot)) decided;
+      kept = kept;
+      free = ap (λ (s : SolveState). s.free) forgot;
+    }
+
+-- how `model` ends where it goes on after what was learnt was given up
+pub after_forgetting : (Of Of' : Base → Type 0) (choices : List Literal) {budget : Option ℕ}
+    {numbers numbers' numbers'' : GroundBase} {old mid new : SolveState} {result : Result Reply Memory}
+    → mid ≡ forgotten old → ((kb : Base) → Of kb → Of' kb)
+    → ((kb : Base) → IsTaskOf kb numbers old.problem → IsTaskOf kb numbers' mid.problem)
+    → QueryEnds Of' command.Model choices budget numbers' numbers'' mid new result
+    → QueryEnds Of command.Model choices budget numbers numbers'' old new result
+after_forgetting Of Of' choices {old = old} {mid = mid} forgot of task ends =
+    let free : mid.free ≡ old.free = ap (λ (s : SolveState). s.free) forgot in
+    record {
+      right = λ kb is few. ends.right kb (of kb is) (subst (λ (n : ℕ). n ≤ weight kb) (sym free) few);
+      task = λ kb is. ends.task kb (task kb is);
+      learns = record {
+        front = ends.learns.front;
+        within = ends.learns.within;
+        undecided = ends.learns.undecided;
+        idle = ends.learns.idle;
+      };
+      kept = ends.kept;
+      free = ends.free ∙ free;
+    }
 
 -- a right reply to a command that is no query leaves nothing undecided
 pub decides : (f : Option F) (kb : Base) (s : State) (c : Command) (r : Reply) → (IsQuery c → ⊥)

@@ -10,6 +10,8 @@ use Rattle.consult_text.specs.States.{State, first_state}
 use Rattle.lit_core.specs.declared.literals.Lit.{Lit}
 use Rattle.term_values.specs.GroundBases.{GroundBase}
 use Rattle.ground_core.specs.Solving.{SolveState}
+use Rattle.found_models.specs.Found.{FoundState}
+use Rattle.found_models.specs.Models.{AreFoundModels}
 use Rattle.consultant_session.specs.Solvers.{AreUnknownOf, IsTaskOver}
 
 -- what a session holds: the knowledge base that it was opened on, the state that its commands left, and the solver that
@@ -29,12 +31,14 @@ pub record IsJustOpened (k : Opened) (budget : Option ℕ) (s : SessionState) : 
 abbrev pub AreChoicesOver : Opened → List Literal → Type 0
 AreChoicesOver kb choices = AllByRecursion (IsLiteralOver (base_of kb)) choices
 
--- the choices are over the knowledge base, the task is one of it, and these atoms' variables are unknown in its data
-pub record IsSession (kb : Opened) (ls : List Literal) (lits : List Lit) (numbers : GroundBase)
+-- the choices are over the knowledge base, the task is one of it, these atoms' variables are unknown in its data, and
+-- the found models are models of it
+pub record IsSession (kb : Opened) (ls : List Literal) (lits : List Lit) (found : FoundState) (numbers : GroundBase)
     (solver : SolveState) : Type 0 where
   pub choices : AreChoicesOver kb ls
   pub unknown : AreUnknownOf (base_of kb) lits
   pub over : IsTaskOver (base_of kb) numbers solver
+  pub found : AreFoundModels (base_of kb) found
 
 -- the command may stay without a reply because memory ran out
 abbrev pub TakesMemory : Command → Type 0

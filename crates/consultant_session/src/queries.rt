@@ -3,23 +3,46 @@ ghost use Rattle.std.specs.Prelude.{◌≡◌, ◌≤◌, ◌<◌, length};
 ghost use Rattle.kb_logic.specs.Bases.{Base};
 ghost use Rattle.kb_logic.specs.Models.{IsAtomOver, atom_of};
 ghost use Rattle.consult_text.specs.declared.commands.Command.TheVariants as command;
+ghost use Rattle.ground_core.specs.Solving.{IsKept};
 ghost use Rattle.clause_learning.specs.SolverState.{forgotten};
 ghost use Rattle.forced_literals.specs.OpenTasks.{IsOpenTask, IsOpenTaskOf};
 ghost use Rattle.ground_task.specs.Choices.{AreOver};
 ghost use Rattle.ground_task.specs.Tasks.{IsTask, IsTaskOf};
+ghost use Rattle.found_models.specs.Models.{AreFoundModels, IsTaskWith};
 ghost use Rattle.consultant_session.specs.Queries.{QueryEnds, IsHalted};
 
 use chooser::Choose;
 use clause_learning::Solver;
 use consult_text::Reply;
 use forced_literals::forced;
-use ground_core::{Budget, Halt};
+use found_models::{FoundModels, known_model, models_under, new_model};
+use ground_core::{Budget, Halt, Solve};
 use ground_task::Task;
-use ground_task::answers::Answer;
 use kb_logic::{Literal, Memory};
 use lit_core::Lit;
 use std::alloc::Global;
 use task_queries::{Reason, conflict, least, support};
+
+/// Gives up what was learnt before.
+fn give_up<C: Choose + Drop>(task: &mut Task<Solver<C>>)
+    ensures kept { task.new.solver.kept ≡ forgotten task.old.solver.kept }
+    ensures numbers { task.new.numbers ≡ task.old.numbers }
+    ensures task { (kb : Base) → IsTaskOf kb task.old.numbers task.old.solver.kept.problem
+        → IsTaskOf kb task.new.numbers task.new.solver.kept.problem }
+    ensures sound { IsKept task.new.solver.kept }
+{
+    task.forget();
+    task.known();
+}
+
+/// Makes ready for a search, of whose budget nothing is spent.
+fn ready<C: Choose + Drop>(task: &mut Task<Solver<C>>, limit: Option<u64>) -> Budget
+    ensures task { task.new ≡ task.old }
+    ensures budget { result ≡ record { limit = limit; spent = 0 } }
+{
+    task.make_ready();
+    Budget { limit, spent: 0 }
+}
 
 /// Begins a query: what was learnt before is given up, and nothing of its budget is spent.
 fn begin<C: Choose + Drop>(task: &mut Task<Solver<C>>, limit: Option<u64>) -> Budget
@@ -27,11 +50,11 @@ fn begin<C: Choose + Drop>(task: &mut Task<Solver<C>>, limit: Option<u64>) -> Bu
     ensures numbers { task.new.numbers ≡ task.old.numbers }
     ensures task { (kb : Base) → IsTaskOf kb task.old.numbers task.old.solver.kept.problem
         → IsTaskOf kb task.new.numbers task.new.solver.kept.problem }
+    ensures sound { IsKept task.new.solver.kept }
     ensures budget { result ≡ record { limit = limit; spent = 0 } }
 {
-    task.forget();
-    task.make_ready();
-    Budget { limit, spent: 0 }
+    give_up(task);
+    ready(task, limit)
 }
 
 /// The reply where a search halted: it stays undecided where the budget was spent.
@@ -44,23 +67,51 @@ fn halted(halt: Halt, budget: &Budget) -> Result<Reply, Memory>
     }
 }
 
-/// The reply to `model`: a model that makes every choice true, by one search.
-pub fn model<C: Choose + Drop>(
+/// The reply to `model`, where no model that was found makes every choice true: one search for a model, which is kept.
+fn seek_model<C: Choose + Drop>(
     alloc: Global,
     task: &mut Task<Solver<C>>,
+    found: &mut FoundModels,
     choices: &[Literal],
     limit: Option<u64>,
 ) -> Result<Reply, Memory>
-    requires task { IsTask task.old.numbers task.old.solver.kept.problem }
+    requires task { IsTaskWith task.old.numbers task.old.solver.kept.problem found.old }
     requires choices { AreOver task.old.numbers choices.now }
-    ensures { QueryEnds (λ kb. IsTaskOf kb task.old.numbers task.old.solver.kept.problem) command.Model
+    requires nothing { task.old.solver.kept ≡ forgotten task.old.solver.kept }
+    ensures ends { QueryEnds (λ kb. IsTaskOf kb task.old.numbers task.old.solver.kept.problem) command.Model
         choices.now limit task.old.numbers task.new.numbers task.old.solver.kept task.new.solver.kept result }
+    ensures found { (kb : Base) → IsTaskOf kb task.old.numbers task.old.solver.kept.problem
+        → AreFoundModels kb found.old → AreFoundModels kb found.new }
 {
-    let mut budget = begin(task, limit);
-    match task.ask(alloc, choices, &mut budget) {
-        Ok(Answer::Model(m)) => Ok(Reply::Model(m)),
-        Ok(Answer::NoModel(_)) => Ok(Reply::Inconsistent),
+    let mut budget = ready(task, limit);
+    match new_model(alloc, task, found, choices, &mut budget) {
+        Ok(Some(model)) => Ok(Reply::Model(model)),
+        Ok(None) => Ok(Reply::Inconsistent),
         Err(halt) => halted(halt, &budget),
+    }
+}
+
+/// The reply to `model`: the newest model found that makes every choice true, and else one by a search.
+pub fn model<C: Choose + Drop>(
+    alloc: Global,
+    task: &mut Task<Solver<C>>,
+    found: &mut FoundModels,
+    choices: &[Literal],
+    limit: Option<u64>,
+) -> Result<Reply, Memory>
+    requires task { IsTaskWith task.old.numbers task.old.solver.kept.problem found.old }
+    requires choices { AreOver task.old.numbers choices.now }
+    ensures ends { QueryEnds (λ kb. IsTaskOf kb task.old.numbers task.old.solver.kept.problem × AreFoundModels kb
+        found.old) command.Model choices.now limit task.old.numbers task.new.numbers task.old.solver.kept
+        task.new.solver.kept result }
+    ensures found { (kb : Base) → IsTaskOf kb task.old.numbers task.old.solver.kept.problem
+        → AreFoundModels kb found.old → AreFoundModels kb found.new }
+{
+    give_up(task);
+    match known_model(alloc, task, found, choices) {
+        Ok(Some(model)) => Ok(Reply::Model(model)),
+        Ok(None) => seek_model(alloc, task, found, choices, limit),
+        Err(_) => Err(Memory),
     }
 }
 
@@ -87,22 +138,27 @@ pub fn models<C: Choose + Drop>(
 }
 
 /// The reply to `propagate`: what all models that make every choice true have in common, of the atoms that the data
-/// leave unknown. These are the literals of their variables.
+/// leave unknown. These are the literals of their variables. What is false in a model that was found is not searched for.
 pub fn propagate<C: Choose + Drop>(
     alloc: Global,
     task: &mut Task<Solver<C>>,
+    found: &FoundModels,
     choices: &[Literal],
     limit: Option<u64>,
     unknown: &[Lit],
 ) -> Result<Reply, Memory>
     requires task { IsOpenTask task.old.numbers task.old.solver.kept.problem unknown.now }
+    requires found { IsTaskWith task.old.numbers task.old.solver.kept.problem found.now }
     requires choices { AreOver task.old.numbers choices.now }
     ensures { QueryEnds (λ kb. IsOpenTaskOf kb task.old.numbers task.old.solver.kept.problem unknown.now)
         command.Propagate choices.now limit task.old.numbers task.new.numbers task.old.solver.kept task.new.solver.kept
         result }
 {
     let mut budget = begin(task, limit);
-    match forced(alloc, task, choices, unknown, &mut budget) {
+    let Ok(seen) = models_under(alloc, task, found, choices) else {
+        return Err(Memory);
+    };
+    match forced(alloc, task, choices, unknown, seen.as_slice(), &mut budget) {
         Ok(Some(literals)) => Ok(Reply::Forced(literals)),
         Ok(None) => Ok(Reply::Inconsistent),
         Err(halt) => halted(halt, &budget),

@@ -18,8 +18,10 @@ use chooser::Choose;
 use clause_learning::Solver;
 use consult_base::KnowledgeBase;
 use consult_text::{Command, F, Reply};
+use found_models::FoundModels;
 use ground_task::Task;
 use kb_logic::{Literal, LiteralList, Memory};
+use kb_sizes::atoms;
 use lit_core::Lit;
 use std::alloc::Global;
 use std::marker::Model;
@@ -36,6 +38,8 @@ pub struct Session<C: Choose + Copy + Drop> {
     added: u64,
     /// The literals of the variables of the atoms that the data leave unknown.
     unknown: Vec<Lit>,
+    /// Models that queries found, for later ones.
+    found: FoundModels,
     choices: LiteralList,
     budget: Option<u64>,
     /// Whether the solver keeps a log: its numbers then go on from one query to the next.
@@ -57,7 +61,7 @@ impl<C: Choose + Copy + Drop> Model for Session<C> {
       solver = s.task.solver.kept;
     } };
 
-    ghost invariant = { λ s. IsSession s.kb s.choices s.unknown.items s.task.numbers s.task.solver.kept };
+    ghost invariant = { λ s. IsSession s.kb s.choices s.unknown.items s.found s.task.numbers s.task.solver.kept };
 }
 
 impl<C: Choose + Copy + Drop> Session<C> {
@@ -72,6 +76,7 @@ impl<C: Choose + Copy + Drop> Session<C> {
         ensures { IfOk result (IsJustOpened kb budget) }
     {
         let (task, unknown) = opened(alloc, &kb, rule)?;
+        let found = FoundModels::new(alloc, atoms(kb.vocabulary(), kb.data().domains()));
         Ok(Session {
             alloc,
             kb,
@@ -79,6 +84,7 @@ impl<C: Choose + Copy + Drop> Session<C> {
             task,
             added: 0,
             unknown,
+            found,
             choices: LiteralList::new(alloc),
             budget,
             logs: false,
@@ -139,6 +145,7 @@ impl<C: Choose + Copy + Drop> Session<C> {
             }
             Command::Forget => {
                 self.task.forget();
+                self.found.clear();
                 Ok(Reply::Fine)
             }
         }

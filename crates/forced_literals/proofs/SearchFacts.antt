@@ -1,6 +1,8 @@
 -- What is asked of the searches, and what they find.
 use Rattle.std.proofs.Common.{◌≡◌, ℕ, ◌+◌, ◌<◌, ◌≤◌, List, [], ◌∷◌, ◌++◌, map, length, take, get_or, All, Contains}
 use Rattle.std.proofs.Common.{refl, sym, ap, ◌∙◌, subst, arith, inl, inr, ◌⊎◌, ⊎_elim}
+use Rattle.std.proofs.Common.{slice_get, Some}
+use Rattle.std.proofs.lemmas.Option.{slice_get_within, get_or_from_slice_get}
 use Rattle.std.proofs.lemmas.List.{take_more, append_assoc, length-map}
 use Rattle.std.proofs.lemmas.List.Concat.{flat_map-append}
 use Rattle.std.proofs.lemmas.List.Elements.{All-nil, All-cons, All-head, All-tail, All-contains}
@@ -36,6 +38,13 @@ signed-are n (l ∷ lits) h =
 
 pub more-lits : (n m : ℕ) (lits : List Lit) → n ≤ m → AreLitsOf n lits → AreLitsOf m lits
 more-lits n m lits le h = λ k d lt. ((h k d lt).0, let x = (h k d lt).1 in omega (arith, x, le))
+
+-- a literal that stands among them
+pub var-below : (n : ℕ) (lits : List Lit) (k : ℕ) (l : Lit) → slice_get lits k ≡ Some l → AreLitsOf n lits
+    → l.var.0 ≤ n
+var-below n lits k l at h =
+    subst (λ (x : Lit). x.var.0 ≤ n) (get_or_from_slice_get lits k l l at)
+    (h k l (slice_get_within lits k l at)).1
 
 module _ (p : ProblemState) (beyond : All (λ (l : Lit). length p.atoms < l.var.0) p.retired) (lits : List Lit)
     (of-atoms : AreLitsOf (length p.atoms) lits) where
@@ -78,14 +87,14 @@ pub searched : (ls : List Lit) (atoms : ℕ) (seen : List (List Bool))
 searched ls atoms seen = searched-in ls ls (λ l m. m) atoms seen
 
 -- how the call ends
-pub call-ends : (s t : SolveState) (b c : Budget) (atoms ask : List Lit) (seen : List (List Bool))
+pub call-ends : (s t : SolveState) (b c : Budget) (atoms ask : List Lit) (last : ℕ) (seen : List (List Bool))
     → ask ≡ both_signs atoms → Keeps s t b c
-    → ((vs : List ℕ) → Searches vs 0 seen ask → Costs (length vs + 1) s t b c) → IsKept t → Stays s t
+    → ((vs : List ℕ) → Searches vs last seen ask → Costs (length vs + 1) s t b c) → IsKept t → Stays s t
     → CallEnds (length atoms + 1) s t b c
-call-ends s t b c atoms ask seen is keeps costs kept stays = record {
+call-ends s t b c atoms ask last seen is keeps costs kept stays = record {
   keeps = keeps;
   costs = subst (λ n. Costs (n + 1) s t b c) (vars-count atoms)
-      (costs (vars-of atoms) (subst (Searches (vars-of atoms) 0 seen) (sym is) (searched atoms 0 seen)));
+      (costs (vars-of atoms) (subst (Searches (vars-of atoms) last seen) (sym is) (searched atoms last seen)));
   kept = kept;
   free = stays.free;
 }

@@ -1,5 +1,6 @@
 //! The searches for literals that are true in all valuations left.
-ghost use Rattle.std.specs.Prelude.{◌≡◌, ◌<◌, ◌+◌, All, map, length, IfOk, IfErr};
+ghost use Rattle.std.specs.Prelude.{◌≡◌, ◌≤◌, ◌<◌, ◌+◌, ℕ, All, map, length, IfOk, IfErr};
+ghost use Rattle.consequences.specs.Forced.{IsSeen};
 ghost use Rattle.ground_core.specs.Problems.{AreLitsOf};
 ghost use Rattle.ground_core.specs.Solving.{IsBudgetOf, HaltedAt};
 ghost use Rattle.ground_core.specs.Calls.{CallEnds, Stays};
@@ -33,17 +34,29 @@ fn lits_in(alloc: Global, kept: &[Kept]) -> Result<LitList, Memory>
     Ok(lits)
 }
 
+/// The variable of the last literal. Where they are in the order of their variables, none has a greater one.
+fn last_var(lits: &[Lit]) -> u64
+    ensures { (n : ℕ) → AreLitsOf n lits.now → result ≤ n }
+{
+    match lits.last() {
+        Some(lit) => lit.var.0,
+        None => 0,
+    }
+}
+
 /// Those of the literals of ground atoms and of their negations that are true wherever the problem and what is
-/// assumed hold, in their order; None where they nowhere hold.
+/// assumed hold, in their order; None where they nowhere hold. What was seen there spares searches.
 pub(crate) fn forced_lits<S: Solve>(
     alloc: Global,
     s: &mut S,
     assume: &[Lit],
     atoms: &[Lit],
+    seen: &[Values],
     budget: &mut Budget,
 ) -> Result<Option<LitList>, Halt>
     requires literals { AreLitsOf (length (S.state s.old).problem.atoms) assume.now }
     requires atoms { AreLitsOf (length (S.state s.old).problem.atoms) atoms.now }
+    requires seen { All (IsSeen (S.state s.old).problem assume.now) seen.now }
     requires retired { All (λ l. length (S.state s.old).problem.atoms < l.var.0) (S.state s.old).problem.retired }
     requires budget { IsBudgetOf (S.state s.old).learnt budget.old }
     ensures finds { IfOk result (Finds (S.state s.old).problem assume.now (both_signs atoms.now)) }
@@ -56,12 +69,11 @@ pub(crate) fn forced_lits<S: Solve>(
     let Ok(both) = signed(alloc, atoms) else {
         return Err(Halt::Memory);
     };
-    let seen: [Values; 0] = [];
     let question = Question {
         assume,
         ask: both.as_slice(),
-        seen: &seen,
-        atoms: 0,
+        seen,
+        atoms: last_var(atoms),
     };
     match consequences::forced(alloc, s, &question, budget) {
         Ok(Some(kept)) => match lits_in(alloc, kept.as_slice()) {

@@ -37,6 +37,7 @@ impl<C: Choose + Copy + Drop> Session<C> {
         model(
             self.alloc,
             &mut self.task,
+            &mut self.found,
             self.choices.as_slice(),
             self.budget,
         )
@@ -92,6 +93,7 @@ impl<C: Choose + Copy + Drop> Session<C> {
         propagate(
             self.alloc,
             &mut self.task,
+            &self.found,
             self.choices.as_slice(),
             self.budget,
             self.unknown.as_slice(),

@@ -1,76 +1,62 @@
-use Rattle.std.proofs.Common.{refl, sym, subst, arith}
+use Rattle.std.proofs.Common.{◌∙◌, Ok, Err, Option, Some, refl, sym, ap, subst, IfSome}
+use Rattle.std.specs.declared.alloc.AllocError.{AllocError as Memory}
+use Rattle.kb_logic.specs.declared.structures.Structure.{Structure}
 use Rattle.kb_logic.specs.Bases.{IsModelUnder}
-use Rattle.ground_task.specs.Choices.{AreOver}
-use Rattle.ground_task.specs.Tasks.{IsTaskOf, IsAnswer}
 use Rattle.term_values.specs.GroundBases.{GroundBase}
+use Rattle.clause_learning.specs.SolverState.{forgotten}
+use Rattle.ground_task.specs.Choices.{AreOver}
+use Rattle.ground_task.specs.Tasks.{IsTaskOf}
+use Rattle.found_models.specs.Models.{AreFoundModels}
 use Rattle.consult_text.specs.declared.replies.Reply.TheVariants as reply
-use Rattle.consultant_session.proofs.FoundLemmas.{under_some}
-use Rattle.consultant_session.proofs.QueryLemmas.{unspent_budget, IsCalled, found, halts}
+use Rattle.consultant_session.proofs.QueryLemmas.{unsearched, after_forgetting}
 use Rattle.consultant_session.proofs.queries.model.Goals as goal
 
-pub ask-requires-clause-task : goal.ask-requires-clause-task
-ask-requires-clause-task g c = (c.requires.task.0, c.begin-budget.ensures.task c.requires.task.0 c.requires.task.1)
+pub known_model-requires-clause-task : goal.known_model-requires-clause-task
+known_model-requires-clause-task g c =
+    (c.requires.task.0, c.give_up.ensures.task c.requires.task.0 c.requires.task.1, c.requires.task.2)
 
-pub ask-requires-clause-choices : goal.ask-requires-clause-choices
-ask-requires-clause-choices g c =
-    subst (λ (b : GroundBase). AreOver b c.args.choices.now) (sym c.begin-budget.ensures.numbers) c.requires.choices
+pub known_model-requires-clause-choices : goal.known_model-requires-clause-choices
+known_model-requires-clause-choices g c =
+    subst (λ (b : GroundBase). AreOver b c.args.choices.now) (sym c.give_up.ensures.numbers) c.requires.choices
 
-pub ask-requires-clause-budget : goal.ask-requires-clause-budget
-ask-requires-clause-budget g c =
-    unspent_budget c.args.limit c.begin-budget.new.task.solver.kept.learnt c.begin-budget.result
-    c.begin-budget.ensures.budget
-
-pub returns-in-Ok-Model : goal.returns-in-Ok-Model
-returns-in-Ok-Model g c =
+pub returns-in-Ok-Some-clause-ends : goal.returns-in-Ok-Some-clause-ends
+returns-in-Ok-Some-clause-ends g c =
     let choices = c.args.choices.now in
-    let ask = c.ask.ensures in
-    found (λ kb. IsTaskOf kb c.args.task.now.numbers c.args.task.now.solver.kept.problem) choices
-    (record {
-      query = tt;
-      empty = refl;
-      forgot = c.begin-budget.ensures.kept;
-      begun = c.begin-budget.ensures.budget;
-      ends = ask.ends;
-      task = λ kb is. ask.task kb (c.begin-budget.ensures.task kb is);
-    }) (reply.Model _) (λ k is. cc)
+    unsearched (λ kb. IsTaskOf kb c.args.task.now.numbers c.args.task.now.solver.kept.problem
+    × AreFoundModels kb c.args.found.now) choices refl c.give_up.ensures.kept c.give_up.ensures.task
+    c.give_up.ensures.sound (Ok (reply.Model _)) (λ k is. cc)
     (λ kb is. (
       tt,
-      subst (IsModelUnder kb choices) (sym c.in-Ok-Model.m-is)
-          (subst (IsAnswer kb choices) c.in-Ok-Model.field-0-is
-          (c.in-Ok-Model.ensures.answer kb (c.begin-budget.ensures.task kb is))),
+      subst (IsModelUnder kb choices) (sym c.in-Ok-Some.model-is)
+          (subst (λ (o : Option Structure). IfSome o (IsModelUnder kb choices)) c.in-Ok-Some.field-0-is
+          (c.in-Ok-Some.ensures.model kb (c.give_up.ensures.task kb is.0) is.1)),
     ))
 
-pub returns-in-Ok-NoModel : goal.returns-in-Ok-NoModel
-returns-in-Ok-NoModel g c =
-    let choices = c.args.choices.now in
-    let ask = c.ask.ensures in
-    found (λ kb. IsTaskOf kb c.args.task.now.numbers c.args.task.now.solver.kept.problem) choices
-    (record {
-      query = tt;
-      empty = refl;
-      forgot = c.begin-budget.ensures.kept;
-      begun = c.begin-budget.ensures.budget;
-      ends = ask.ends;
-      task = λ kb is. ask.task kb (c.begin-budget.ensures.task kb is);
-    }) reply.Inconsistent (λ k is. cc)
-    (λ kb is. (
-      tt,
-      λ m under.
-          let answer = subst (IsAnswer kb choices) c.in-Ok-NoModel.field-0-is
-          (c.in-Ok-NoModel.ensures.answer kb (c.begin-budget.ensures.task kb is)) in
-          answer.1 m (under_some kb c.in-Ok-NoModel.field-0-0 choices m answer.0 under),
-    ))
+pub seek_model-requires-clause-task : goal.seek_model-requires-clause-task
+seek_model-requires-clause-task g c =
+    (c.requires.task.0, c.give_up.ensures.task c.requires.task.0 c.requires.task.1, c.requires.task.2)
 
-pub returns : goal.returns
-returns g c =
-    let ask = c.ask.ensures in
-    halts (λ kb. IsTaskOf kb c.args.task.now.numbers c.args.task.now.solver.kept.problem) c.args.choices.now
-    (record {
-      query = tt;
-      empty = refl;
-      forgot = c.begin-budget.ensures.kept;
-      begun = c.begin-budget.ensures.budget;
-      ends = ask.ends;
-      task = λ kb is. ask.task kb (c.begin-budget.ensures.task kb is);
-    }) c.in-Err.halt c.halted.result c.in-Err.ensures.halt
-    c.halted.ensures (λ kb is. omega arith)
+pub seek_model-requires-clause-choices : goal.seek_model-requires-clause-choices
+seek_model-requires-clause-choices g c =
+    subst (λ (b : GroundBase). AreOver b c.args.choices.now) (sym c.give_up.ensures.numbers) c.requires.choices
+
+pub seek_model-requires-clause-nothing : goal.seek_model-requires-clause-nothing
+seek_model-requires-clause-nothing g c =
+    c.give_up.ensures.kept ∙ sym (ap forgotten c.give_up.ensures.kept)
+
+pub returns-in-Ok-None-clause-ends : goal.returns-in-Ok-None-clause-ends
+returns-in-Ok-None-clause-ends g c =
+    after_forgetting (λ kb. IsTaskOf kb c.args.task.now.numbers c.args.task.now.solver.kept.problem
+    × AreFoundModels kb c.args.found.now)
+    (λ kb. IsTaskOf kb c.give_up.new.task.numbers c.give_up.new.task.solver.kept.problem) c.args.choices.now
+    c.give_up.ensures.kept (λ kb is. c.give_up.ensures.task kb is.0) c.give_up.ensures.task
+    c.seek_model.ensures.ends
+
+pub returns-in-Ok-None-clause-found : goal.returns-in-Ok-None-clause-found
+returns-in-Ok-None-clause-found g c = λ kb is are. c.seek_model.ensures.found kb (c.give_up.ensures.task kb is) are
+
+pub returns-in-Err-clause-ends : goal.returns-in-Err-clause-ends
+returns-in-Err-clause-ends g c =
+    unsearched (λ kb. IsTaskOf kb c.args.task.now.numbers c.args.task.now.solver.kept.problem
+    × AreFoundModels kb c.args.found.now) c.args.choices.now refl c.give_up.ensures.kept c.give_up.ensures.task
+    c.give_up.ensures.sound (Err _) tt (λ kb is. tt)

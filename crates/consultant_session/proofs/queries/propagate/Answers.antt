@@ -1,4 +1,5 @@
-use Rattle.std.proofs.Common.{List, Some, refl, sym, subst, arith}
+use Rattle.std.proofs.Common.{Bool, List, All, Some, Err, refl, sym, subst, arith}
+use Rattle.consequences.specs.Forced.{IsSeen}
 use Rattle.ground_task.specs.Choices.{AreOver}
 use Rattle.ground_task.specs.Tasks.{IsTaskOf}
 use Rattle.term_values.specs.GroundBases.{GroundBase}
@@ -6,7 +7,7 @@ use Rattle.kb_logic.specs.declared.structures.Literal.{Literal}
 use Rattle.consult_text.specs.declared.replies.Reply.TheVariants as reply
 use Rattle.kb_logic.specs.InForce.{InForce}
 use Rattle.forced_literals.specs.OpenTasks.{IsOpenTaskOf, IsAnswer}
-use Rattle.consultant_session.proofs.QueryLemmas.{unspent_budget, IsCalled, found, halts}
+use Rattle.consultant_session.proofs.QueryLemmas.{unspent_budget, IsCalled, found, halts, unsearched}
 use Rattle.consultant_session.proofs.OpenLemmas.{still-open, few-unknown}
 use Rattle.consultant_session.proofs.queries.propagate.Goals as goal
 
@@ -22,10 +23,29 @@ pub forced-requires-clause-choices : goal.forced-requires-clause-choices
 forced-requires-clause-choices g c =
     subst (λ (b : GroundBase). AreOver b c.args.choices.now) (sym c.begin-budget.ensures.numbers) c.requires.choices
 
+pub models_under-requires-clause-task : goal.models_under-requires-clause-task
+models_under-requires-clause-task g c =
+    (c.requires.found.0, c.begin-budget.ensures.task c.requires.found.0 c.requires.found.1, c.requires.found.2)
+
+pub models_under-requires-clause-choices : goal.models_under-requires-clause-choices
+models_under-requires-clause-choices g c =
+    subst (λ (b : GroundBase). AreOver b c.args.choices.now) (sym c.begin-budget.ensures.numbers) c.requires.choices
+
+pub forced-requires-clause-seen : goal.forced-requires-clause-seen
+forced-requires-clause-seen g c = λ lits each.
+    subst (λ (models : List (List Bool)). All (IsSeen c.begin-budget.new.task.solver.kept.problem lits) models)
+    (sym c.as_slice.ensures.value) (c.in-Ok.ensures.seen lits each)
+
 pub forced-requires-clause-budget : goal.forced-requires-clause-budget
 forced-requires-clause-budget g c =
     unspent_budget c.args.limit c.begin-budget.new.task.solver.kept.learnt c.begin-budget.result
     c.begin-budget.ensures.budget
+
+pub returns-in-Err : goal.returns-in-Err
+returns-in-Err g c =
+    unsearched (λ kb. IsOpenTaskOf kb c.args.task.now.numbers c.args.task.now.solver.kept.problem c.args.unknown.now)
+    c.args.choices.now refl c.begin-budget.ensures.kept c.begin-budget.ensures.task c.begin-budget.ensures.sound
+    (Err _) tt (λ kb is. tt)
 
 pub returns-in-Ok-Some : goal.returns-in-Ok-Some
 returns-in-Ok-Some g c =
@@ -69,8 +89,8 @@ returns-in-Ok-None g c =
           c.begin-budget.ensures.numbers (c.begin-budget.ensures.task kb) is)),
     ))
 
-pub returns-in-Err : goal.returns-in-Err
-returns-in-Err g c =
+pub returns-in-Err-2 : goal.returns-in-Err-2
+returns-in-Err-2 g c =
     let end = c.forced.ensures in
     halts (λ kb. IsOpenTaskOf kb c.args.task.now.numbers c.args.task.now.solver.kept.problem c.args.unknown.now)
     c.args.choices.now (record {

@@ -1,7 +1,8 @@
-use Rattle.std.proofs.Common.{List, length, sym, ◌∙◌, subst}
+use Rattle.std.proofs.Common.{List, All, length, sym, ◌∙◌, subst}
 use Rattle.lit_core.specs.declared.literals.Lit.{Lit}
 use Rattle.ground_core.specs.Meaning.{RefutesAll}
 use Rattle.ground_core.specs.Problems.{ProblemState, AreLitsOf}
+use Rattle.consequences.specs.Forced.{IsSeen}
 use Rattle.forced_literals.specs.Searches.{AreForcedOf, Finds, both_signs}
 use Rattle.forced_literals.proofs.AnswerFacts.{no-model, shown}
 use Rattle.forced_literals.proofs.AskFacts.{choice-lits, unknown-lits, found-slice, picked-slices}
@@ -18,6 +19,12 @@ pub forced_lits-requires-clause-atoms : goal.forced_lits-requires-clause-atoms
 forced_lits-requires-clause-atoms g c =
     let p : ProblemState = (g.S.Solve.state c.args.task.now.solver).problem in
     unknown-lits c.requires.task.0 c.args.task.now.numbers p c.args.unknown.now c.requires.task.1
+
+pub forced_lits-requires-clause-seen : goal.forced_lits-requires-clause-seen
+forced_lits-requires-clause-seen g c =
+    let p : ProblemState = (g.S.Solve.state c.args.task.now.solver).problem in
+    subst (λ (ls : List Lit). All (IsSeen p ls) c.args.seen.now) (sym c.as_slice.ensures.value)
+    (c.requires.seen c.in-Ok.lits.items c.in-Ok.ensures)
 
 pub shown-requires : goal.shown-requires
 shown-requires g c =

@@ -1,4 +1,4 @@
-use Rattle.std.proofs.Common.{List, [], length, map, sym, ap, ◌∙◌, subst}
+use Rattle.std.proofs.Common.{List, length, map, sym, ap, ◌∙◌, subst}
 use Rattle.lit_core.specs.declared.literals.Lit.{Lit}
 use Rattle.ground_core.specs.Problems.{ProblemState, AreLitsOf}
 use Rattle.ground_core.specs.Solving.{SolveState, IsLive}
@@ -38,22 +38,22 @@ returns-in-Ok-lits_in-clause-finds g c =
 pub returns-in-Ok-lits_in-clause-ends : goal.returns-in-Ok-lits_in-clause-ends
 returns-in-Ok-lits_in-clause-ends g c =
     call-ends (g.S.Solve.state c.args.s.now) (g.S.Solve.state c.forced.new.s) c.args.budget.now
-    c.forced.new.budget c.args.atoms.now c.as_slice.result.now [] (c.as_slice.ensures.value ∙ c.in-Ok.ensures)
+    c.forced.new.budget c.args.atoms.now c.as_slice.result.now c.last_var.result c.args.seen.now (c.as_slice.ensures.value ∙ c.in-Ok.ensures)
     c.forced.ensures.keeps c.forced.ensures.costs c.forced.ensures.kept c.forced.ensures.stays
 
 pub returns-in-Ok-Some-clause-ends : goal.returns-in-Ok-Some-clause-ends
 returns-in-Ok-Some-clause-ends g c =
     call-ends (g.S.Solve.state c.args.s.now) (g.S.Solve.state c.forced.new.s) c.args.budget.now
-    c.forced.new.budget c.args.atoms.now c.as_slice.result.now [] (c.as_slice.ensures.value ∙ c.in-Ok.ensures)
+    c.forced.new.budget c.args.atoms.now c.as_slice.result.now c.last_var.result c.args.seen.now (c.as_slice.ensures.value ∙ c.in-Ok.ensures)
     c.forced.ensures.keeps c.forced.ensures.costs c.forced.ensures.kept c.forced.ensures.stays
 
 pub returns-in-Ok-None-clause-ends : goal.returns-in-Ok-None-clause-ends
 returns-in-Ok-None-clause-ends g c =
     call-ends (g.S.Solve.state c.args.s.now) (g.S.Solve.state c.forced.new.s) c.args.budget.now
-    c.forced.new.budget c.args.atoms.now c.as_slice.result.now [] (c.as_slice.ensures.value ∙ c.in-Ok.ensures)
+    c.forced.new.budget c.args.atoms.now c.as_slice.result.now c.last_var.result c.args.seen.now (c.as_slice.ensures.value ∙ c.in-Ok.ensures)
     c.forced.ensures.keeps c.forced.ensures.costs c.forced.ensures.kept c.forced.ensures.stays
 
 pub returns-clause-ends : goal.returns-clause-ends
 returns-clause-ends g c = call-ends (g.S.Solve.state c.args.s.now) (g.S.Solve.state c.forced.new.s) c.args.budget.now
-    c.forced.new.budget c.args.atoms.now c.as_slice.result.now [] (c.as_slice.ensures.value ∙ c.in-Ok.ensures)
+    c.forced.new.budget c.args.atoms.now c.as_slice.result.now c.last_var.result c.args.seen.now (c.as_slice.ensures.value ∙ c.in-Ok.ensures)
     c.forced.ensures.keeps c.forced.ensures.costs c.forced.ensures.kept c.forced.ensures.stays

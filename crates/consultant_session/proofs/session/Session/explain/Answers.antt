@@ -45,6 +45,7 @@ pub invariant_of-self : goal.invariant_of-self
 invariant_of-self g c = record {
   choices = c.self.invariant.choices;
   unknown = c.self.invariant.unknown;
+  found = c.self.invariant.found;
   over = still_over _ (base_of c.self.inside.kb) (command.Explain c.args.literal.now) _ _ _ _ _ _ _ c.explain.ensures
       c.self.invariant.over;
 }

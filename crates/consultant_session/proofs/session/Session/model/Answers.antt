@@ -9,7 +9,8 @@ use Rattle.consultant_session.proofs.QueryLemmas.{still_over, query_searches}
 use Rattle.consultant_session.proofs.session.Session.model.Goals as goal
 
 pub model-requires-clause-task : goal.model-requires-clause-task
-model-requires-clause-task g c = (base_of c.self.inside.kb, c.self.invariant.over.task)
+model-requires-clause-task g c =
+    (base_of c.self.inside.kb, c.self.invariant.over.task, c.self.invariant.found)
 
 pub model-requires-clause-choices : goal.model-requires-clause-choices
 model-requires-clause-choices g c =
@@ -22,16 +23,19 @@ returns-clause-right g c =
     rw (← c.self.view_is) (subst (λ (ls : List Literal). IfOk c.model.result
     (RightAnswer (base_of c.self.inside.kb) (record { choices = ls; budget = c.self.inside.budget }) command.Model))
     c.as_slice.ensures
-    (c.model.ensures.right (base_of c.self.inside.kb) c.self.invariant.over.task c.self.invariant.over.free))
+    (c.model.ensures.ends.right (base_of c.self.inside.kb) (c.self.invariant.over.task, c.self.invariant.found)
+    c.self.invariant.over.free))
 
 pub returns-clause-searches : goal.returns-clause-searches
 returns-clause-searches g c =
-    rw (← c.self.view_is) (query_searches _ (base_of c.self.inside.kb) command.Model _ _ _ _ _ _ _ c.model.ensures
+    rw (← c.self.view_is) (query_searches _ (base_of c.self.inside.kb) command.Model _ _ _ _ _ _ _ c.model.ensures.ends
     c.self.invariant.over)
 
 pub invariant_of-self : goal.invariant_of-self
 invariant_of-self g c = record {
   choices = c.self.invariant.choices;
   unknown = c.self.invariant.unknown;
-  over = still_over _ (base_of c.self.inside.kb) command.Model _ _ _ _ _ _ _ c.model.ensures c.self.invariant.over;
+  over = still_over _ (base_of c.self.inside.kb) command.Model _ _ _ _ _ _ _ c.model.ensures.ends
+      c.self.invariant.over;
+  found = c.model.ensures.found (base_of c.self.inside.kb) c.self.invariant.over.task c.self.invariant.found;
 }

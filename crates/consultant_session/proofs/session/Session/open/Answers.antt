@@ -1,7 +1,10 @@
-use Rattle.std.proofs.Common.{◌≡◌, subst, sym, List, []}
+use Rattle.std.proofs.Common.{◌≡◌, ◌∙◌, subst, sym, ap, List, []}
+use Rattle.kb_logic.specs.KnownAtoms.{KnownAtoms}
+use Rattle.consult_base.specs.Opened.{base_of}
 use Rattle.std.specs.List.{AllByRecursion}
 use Rattle.kb_logic.specs.declared.structures.Literal.{Literal}
 use Rattle.consultant_session.specs.Sessions.{AreChoicesOver}
+use Rattle.consultant_session.proofs.OpenLemmas.{none-found, enough-kept}
 use Rattle.consultant_session.proofs.session.Session.open.Goals as goal
 
 pub invariant_of-result : goal.invariant_of-result
@@ -9,4 +12,8 @@ invariant_of-result g c = record {
   choices = subst (λ (ls : List Literal). AreChoicesOver c.args.kb ls) (sym c.new.ensures) tt;
   unknown = c.in_ok-task.ensures.unknown;
   over = c.in_ok-task.ensures.over;
+  found = none-found (base_of c.args.kb) c.new-found.result c.atoms.result c.new-found.ensures
+      (enough-kept (base_of c.args.kb) c.vocabulary.result.now c.domains.result.now c.atoms.result
+      c.vocabulary.ensures.vocabulary (c.domains.ensures.domains ∙ ap (λ (k : KnownAtoms). k.domains)
+      c.«data».ensures.known) c.atoms.ensures);
 }

@@ -19,6 +19,10 @@ propagate-requires-clause-task g c = (
       c.self.inside.unknown.items c.self.invariant.over.task c.self.invariant.unknown)),
 )
 
+pub propagate-requires-clause-found : goal.propagate-requires-clause-found
+propagate-requires-clause-found g c =
+    (base_of c.self.inside.kb, c.self.invariant.over.task, c.self.invariant.found)
+
 pub propagate-requires-clause-choices : goal.propagate-requires-clause-choices
 propagate-requires-clause-choices g c =
     subst (AreOver c.self.inside.task.numbers) (sym c.as_slice.ensures)
@@ -44,6 +48,7 @@ pub invariant_of-self : goal.invariant_of-self
 invariant_of-self g c = record {
   choices = c.self.invariant.choices;
   unknown = c.self.invariant.unknown;
+  found = c.self.invariant.found;
   over = still_over _ (base_of c.self.inside.kb) command.Propagate _ _ _ _ _ _ _ c.propagate.ensures
       c.self.invariant.over;
 }

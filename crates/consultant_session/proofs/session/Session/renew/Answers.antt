@@ -9,6 +9,7 @@ pub invariant_of-self : goal.invariant_of-self
 invariant_of-self g c = record {
   choices = c.self.invariant.choices;
   unknown = c.self.invariant.unknown;
+  found = c.self.invariant.found;
   over = forgotten-over (base_of c.self.inside.kb) c.self.inside.task.numbers c.forget.new.self.numbers
       c.self.inside.task.solver.kept c.forget.new.self.solver.kept c.forget.ensures.forgotten.kept
       (c.forget.ensures.task (base_of c.self.inside.kb)) c.self.invariant.over;
@@ -35,6 +36,7 @@ pub invariant_of-self-in_err-open_anew : goal.invariant_of-self-in_err-open_anew
 invariant_of-self-in_err-open_anew g c = record {
   choices = c.self.invariant.choices;
   unknown = c.self.invariant.unknown;
+  found = c.self.invariant.found;
   over = c.in_err-open_anew.ensures.over (forgotten-over (base_of c.self.inside.kb) c.self.inside.task.numbers
       c.forget.new.self.numbers
       c.self.inside.task.solver.kept c.forget.new.self.solver.kept c.forget.ensures.forgotten.kept
@@ -64,6 +66,7 @@ pub invariant_of-self-2 : goal.invariant_of-self-2
 invariant_of-self-2 g c = record {
   choices = c.self.invariant.choices;
   unknown = c.self.invariant.unknown;
+  found = c.self.invariant.found;
   over = c.in_ok-open_anew.ensures.over (forgotten-over (base_of c.self.inside.kb) c.self.inside.task.numbers
       c.forget.new.self.numbers
       c.self.inside.task.solver.kept c.forget.new.self.solver.kept c.forget.ensures.forgotten.kept

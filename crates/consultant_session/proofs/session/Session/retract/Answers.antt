@@ -16,5 +16,6 @@ invariant_of-self g c = record {
       (all_filter (IsLiteralOver (base_of c.self.inside.kb)) (λ d. not (same_literal c.args.literal.now d))
       c.self.inside.choices c.self.invariant.choices);
   unknown = c.self.invariant.unknown;
+  found = c.self.invariant.found;
   over = c.self.invariant.over;
 }

@@ -1,0 +1,2 @@
+pub mod LastFacts
+pub mod FoundFacts
