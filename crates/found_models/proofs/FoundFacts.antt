@@ -1,11 +1,12 @@
 -- What found models are good for.
 use Rattle.std.proofs.Common.{◌≡◌, ◌∙◌, ℕ, zero, suc, ◌+◌, ◌-◌, ◌^◌, ◌<◌, ◌≤◌, min, Bool, true, false, ◌&&◌, List, []}
 use Rattle.std.proofs.Common.{◌∷◌, ◌++◌, cond, length, take, get_or, All, refl, sym, ap, subst, arith, inl, inr, ◌⊎◌}
-use Rattle.std.proofs.Common.{slice_get, Some, None}
+use Rattle.std.proofs.Common.{slice_get, Some, None, Result, Ok, Err, OnOk, OnErr}
 use Rattle.std.specs.List.{filter}
 use Rattle.std.proofs.lemmas.Bool.{false≢true}
 use Rattle.std.proofs.lemmas.List.{length-take, get_or-take}
 use Rattle.std.proofs.lemmas.List.Elements.{All-nil, All-cons, All-head, All-tail, All-append, All-drop, All-filter}
+use Rattle.std.proofs.lemmas.List.Elements.{filter_passes}
 use Rattle.std.proofs.lemmas.Option.{slice_get_cases}
 use Rattle.kb_logic.specs.declared.structures.Literal.{Literal}
 use Rattle.kb_logic.specs.declared.structures.Structure.{Structure}
@@ -26,8 +27,8 @@ use Rattle.term_values.proofs.StructureLaws.{only-atoms-matter}
 use Rattle.atom_numbers.specs.Numbers.{HasNumber}
 use Rattle.consequences.specs.Forced.{IsSeen}
 use Rattle.ground_task.specs.Tasks.{IsTaskOf, atom_base}
-use Rattle.ground_task.proofs.TaskFacts.{fine, valued, all-chosen}
-use Rattle.found_models.specs.Found.{FoundState, makes_all, those_under, last_of, with_newest}
+use Rattle.ground_task.proofs.TaskFacts.{fine, valued, all-chosen, of-atoms, atoms-number}
+use Rattle.found_models.specs.Found.{FoundState, makes_all, those_under, last_of, with_newest, IsLastOf}
 use Rattle.found_models.specs.Models.{atoms_of, IsFoundModel, AreFoundModels}
 
 both-true : (x y : Bool) → (x && y) ≡ true → (x ≡ true) × (y ≡ true)
@@ -40,6 +41,10 @@ makes-true [] values e = All-nil (λ k. literal_value (valuation values) k ≡ t
 makes-true (l ∷ lits) values e =
     let both = both-true (literal_value (valuation values) l) (makes_all lits values) e in
     All-cons (λ k. literal_value (valuation values) k ≡ true) l lits both.0 (makes-true lits values both.1)
+
+last-has : {A : Type 0} (P : A → Type 0) (front : List A) (x : A) → All P (front ++ x ∷ []) → P x
+last-has P [] x all = All-head P x [] all
+last-has P (y ∷ front) x all = last-has P front x (All-tail P y (front ++ x ∷ []) all)
 
 -- a truth value is the other where each is true if the other is
 same-truth : (a b : Bool) → (a ≡ true → b ≡ true) → (b ≡ true → a ≡ true) → a ≡ b
@@ -100,6 +105,28 @@ module _ (base : Base) (b : GroundBase) (p : ProblemState) (h : IsTaskOf base b 
           );
         }
 
+  -- the literals' variables have values
+  pub lits-within : (f : FoundState) → AreFoundModels base f → (choices : List Literal) (lits : List Lit)
+      → EachWith (HasNumber b) choices lits
+      → All (λ values. All (λ (l : Lit). l.var.0 < length values) lits) f.models
+  lits-within f are choices lits each = λ k d low j e under.
+      let few = h.represents.atoms in
+      let long = (are.models k d low).long in
+      let one = (of-atoms b (length p.atoms) (atoms-number base b p h) choices lits each j e under).1 in
+      omega (arith, few, long, one)
+
+  -- the last of those that make the literals true
+  pub last-under : (f : FoundState) → AreFoundModels base f → (choices : List Literal) (lits : List Lit)
+      → EachWith (HasNumber b) choices lits → (values : List Bool) → IsLastOf values (those_under lits f.models)
+      → IsModelUnder base choices (structure_of b (valuation values))
+  last-under f are choices lits each values last =
+      let found : All (IsFoundModel base) (last.0 ++ values ∷ []) =
+      subst (All (IsFoundModel base)) last.1 (All-filter (makes_all lits) (IsFoundModel base) f.models are.models) in
+      let true-all : All (λ v. makes_all lits v ≡ true) (last.0 ++ values ∷ []) =
+      subst (All (λ v. makes_all lits v ≡ true)) last.1 (filter_passes (makes_all lits) f.models) in
+      model-under choices lits values each (last-has (IsFoundModel base) last.0 values found)
+      (last-has (λ v. makes_all lits v ≡ true) last.0 values true-all)
+
   -- those that make the literals true
   pub all-seen : (choices : List Literal) (lits : List Lit) → EachWith (HasNumber b) choices lits
       → (models : List (List Bool)) → All (IsFoundModel base) models → All (IsSeen p lits) (those_under lits models)
@@ -146,3 +173,16 @@ one-more base f values are is =
           (All-append (IsFoundModel base) f.models (take (f.last + 1) values ∷ []) are.models
           (All-cons (IsFoundModel base) (take (f.last + 1) values) [] is (All-nil (IsFoundModel base))));
     }
+
+-- or it is not, and those of before are kept
+pub kept-or-not : (base : Base) (f f' : FoundState) (values : List Bool) {T E : Type 0} (r : Result T E)
+    → OnOk r (f' ≡ with_newest f values) → OnErr r (f' ≡ f)
+    → OnOk r (IsFoundModel base (take (f.last + 1) values)) → AreFoundModels base f → AreFoundModels base f'
+kept-or-not base f f' values (Ok x) kept same is are =
+    subst (AreFoundModels base) (sym kept) (one-more base f values are is)
+kept-or-not base f f' values (Err e) kept same is are = subst (AreFoundModels base) (sym same) are
+
+-- what is kept is found
+pub where-kept : {T E : Type 0} (r : Result T E) {A B : Type 0} → (A → B) → OnOk r A → OnOk r B
+where-kept (Ok x) f a = f a
+where-kept (Err e) f a = tt

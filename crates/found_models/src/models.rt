@@ -1,5 +1,5 @@
 //! The last found models, as values of variables.
-ghost use Rattle.std.specs.Prelude.{◌≡◌, ◌≤◌, ◌<◌, ◌+◌, ◌++◌, ◌∷◌, [], All, length, take, vec_capacity};
+ghost use Rattle.std.specs.Prelude.{◌≡◌, ◌≤◌, ◌<◌, ◌+◌, ◌++◌, ◌∷◌, ◌^◌, [], All, length, take, vec_capacity};
 ghost use Rattle.std.specs.Prelude.{IfOk, OnOk, OnErr, MatchOption};
 ghost use Rattle.found_models.specs.Found.{makes_all, those_under, last_of, with_newest, IsLastOf};
 
@@ -44,7 +44,8 @@ fn make_all(values: &Values, lits: &[Lit]) -> bool
 
 /// The values of the variables up to this one.
 fn values_up_to(alloc: Global, values: &Values, last: u64) -> Result<Values, Memory>
-    ensures { IfOk result (λ some. some ≡ take (last + 1) values.now) }
+    ensures values { IfOk result (λ some. some ≡ take (last + 1) values.now) }
+    ensures short { IfOk result (λ some. length values.now < 2 ^ 64) }
 {
     let all = values.len() as u64;
     let count = if last < all { last + 1 } else { all };
@@ -90,8 +91,9 @@ impl FoundModels {
         let mut left = self.models.len();
         while left > 0 {
             left -= 1;
-            if make_all(&self.models[left], lits) {
-                return Some(&self.models[left]);
+            let values = &self.models[left];
+            if make_all(values, lits) {
+                return Some(values);
             }
         }
         None
@@ -116,6 +118,7 @@ impl FoundModels {
     pub fn keep(&mut self, alloc: Global, values: &Values) -> Result<(), Memory>
         ensures kept { OnOk result (self.new ≡ with_newest self.old values.now) }
         ensures same { OnErr result (self.new ≡ self.old) }
+        ensures short { OnOk result (length values.now < 2 ^ 64) }
     {
         self.models.reserve(1)?;
         let newest = values_up_to(alloc, values, self.last)?;
