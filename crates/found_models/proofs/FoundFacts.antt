@@ -2,7 +2,6 @@
 use Rattle.std.proofs.Common.{◌≡◌, ◌∙◌, ℕ, zero, suc, ◌+◌, ◌-◌, ◌^◌, ◌<◌, ◌≤◌, min, Bool, true, false, ◌&&◌, List, []}
 use Rattle.std.proofs.Common.{◌∷◌, ◌++◌, cond, length, take, get_or, All, refl, sym, ap, subst, arith, inl, inr, ◌⊎◌}
 use Rattle.std.proofs.Common.{slice_get, Some, None, Result, Ok, Err, OnOk, OnErr}
-use Rattle.std.specs.List.{filter}
 use Rattle.std.proofs.lemmas.Bool.{false≢true}
 use Rattle.std.proofs.lemmas.List.{length-take, get_or-take}
 use Rattle.std.proofs.lemmas.List.Elements.{All-nil, All-cons, All-head, All-tail, All-append, All-drop, All-filter}
@@ -18,7 +17,7 @@ use Rattle.lit_core.specs.declared.literals.Lit.{Lit}
 use Rattle.lit_core.specs.Literals.{literal_value, valuation}
 use Rattle.ground_core.specs.declared.solving.Verdict.TheVariants.{Sat}
 use Rattle.ground_core.specs.Problems.{ProblemState, IsProblem}
-use Rattle.ground_core.specs.Meaning.{Satisfies, MakesTrue}
+use Rattle.ground_core.specs.Meaning.{MakesTrue}
 use Rattle.ground_core.specs.More.{Agree}
 use Rattle.ground_core.specs.Solving.{Answers}
 use Rattle.term_values.specs.GroundBases.{GroundBase, structure_of}
@@ -28,7 +27,7 @@ use Rattle.atom_numbers.specs.Numbers.{HasNumber}
 use Rattle.consequences.specs.Forced.{IsSeen}
 use Rattle.ground_task.specs.Tasks.{IsTaskOf, atom_base}
 use Rattle.ground_task.proofs.TaskFacts.{fine, valued, all-chosen, of-atoms, atoms-number}
-use Rattle.found_models.specs.Found.{FoundState, makes_all, those_under, last_of, with_newest, IsLastOf}
+use Rattle.found_models.specs.Found.{FoundState, makes_all, those_under, with_newest, IsLastOf}
 use Rattle.found_models.specs.Models.{atoms_of, IsFoundModel, AreFoundModels}
 
 both-true : (x y : Bool) → (x && y) ≡ true → (x ≡ true) × (y ≡ true)

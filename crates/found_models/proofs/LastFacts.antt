@@ -1,6 +1,6 @@
 -- The last of those items of a list that pass a test.
 use Rattle.std.proofs.Common.{◌≡◌, ◌∙◌, ℕ, ◌+◌, ◌<◌, Bool, true, cond, List, [], ◌∷◌, ◌++◌, length, take, drop, filter}
-use Rattle.std.proofs.Common.{get_or, refl, sym, ap, subst}
+use Rattle.std.proofs.Common.{get_or, sym, ap}
 use Rattle.std.proofs.lemmas.List.{take-append-drop, take_more, append-nil}
 use Rattle.std.proofs.lemmas.List.Elements.{filter-append}
 

@@ -1,4 +1,4 @@
-use Rattle.std.proofs.Common.{◌≡◌, ◌∙◌, List, All, Bool, [], length, sym, ap, subst, ◌<◌}
+use Rattle.std.proofs.Common.{◌≡◌, ◌∙◌, List, All, [], length, sym, subst, ◌<◌}
 use Rattle.kb_logic.specs.Bases.{IsModelUnder}
 use Rattle.lit_core.specs.declared.literals.Lit.{Lit}
 use Rattle.ground_core.specs.Problems.{ProblemState}

@@ -1,8 +1,6 @@
-use Rattle.std.proofs.Common.{◌≡◌, ◌∙◌, List, All, Bool, length, sym, ap, subst, ◌<◌}
+use Rattle.std.proofs.Common.{◌≡◌, ◌∙◌, List, All, length, sym, ap, subst, ◌<◌}
 use Rattle.std.proofs.lemmas.Result.{IfOk-weaker}
-use Rattle.kb_logic.specs.Structures.{EachWith}
 use Rattle.lit_core.specs.declared.literals.Lit.{Lit}
-use Rattle.atom_numbers.specs.Numbers.{HasNumber}
 use Rattle.consequences.specs.Forced.{IsSeen}
 use Rattle.ground_core.specs.Problems.{ProblemState}
 use Rattle.ground_task.proofs.TaskFacts.{fine, one-list}

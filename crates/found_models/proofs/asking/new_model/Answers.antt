@@ -2,7 +2,6 @@ use Rattle.std.proofs.Common.{List, sym, subst}
 use Rattle.kb_logic.specs.Bases.{IsModelUnder}
 use Rattle.lit_core.specs.declared.literals.Lit.{Lit}
 use Rattle.lit_core.specs.Literals.{valuation}
-use Rattle.ground_core.specs.declared.solving.Verdict.{Verdict}
 use Rattle.ground_core.specs.Problems.{ProblemState, AreLitsOf}
 use Rattle.ground_core.specs.Solving.{SolveState, AreUnretired}
 use Rattle.term_values.specs.GroundBases.{GroundBase, structure_of}

@@ -11,8 +11,7 @@ returns-then-make_all c =
     let are : c.self.inside.models.items ≡ models = ap (λ (f : FoundState). f.models) c.self.view_is in
     let behind : here + 1 ≡ c.loop-left.left = omega (arith, c.loop-left-test.true) in
     let none : those_under c.args.lits.now (drop (here + 1) models) ≡ [] =
-    ap (λ (n : ℕ). those_under c.args.lits.now (drop n models)) behind ∙ c.loop-left.invariant.none in
-    (
+    ap (λ (n : ℕ). those_under c.args.lits.now (drop n models)) behind ∙ c.loop-left.invariant.none in (
       those_under c.args.lits.now (take here models),
       last-passes (makes_all c.args.lits.now) models here values (omega (arith, behind, c.loop-left.invariant.within))
           (c.index-values.ensures ∙ ap (λ (ms : List (List Bool)). get_or ms here values) are)
