@@ -33,12 +33,12 @@ AreChoicesOver kb choices = AllByRecursion (IsLiteralOver (base_of kb)) choices
 
 -- the choices are over the knowledge base, the task is one of it, these atoms' variables are unknown in its data, and
 -- the found models are models of it
-pub record IsSession (kb : Opened) (ls : List Literal) (lits : List Lit) (found : FoundState) (numbers : GroundBase)
+pub record IsSession (kb : Opened) (ls : List Literal) (lits : List Lit) (models : FoundState) (numbers : GroundBase)
     (solver : SolveState) : Type 0 where
   pub choices : AreChoicesOver kb ls
   pub unknown : AreUnknownOf (base_of kb) lits
   pub over : IsTaskOver (base_of kb) numbers solver
-  pub found : AreFoundModels (base_of kb) found
+  pub found : AreFoundModels (base_of kb) models
 
 -- the command may stay without a reply because memory ran out
 abbrev pub TakesMemory : Command → Type 0
