@@ -41,8 +41,8 @@ forced-requires-clause-budget g c =
     unspent_budget c.args.limit c.begin-budget.new.task.solver.kept.learnt c.begin-budget.result
     c.begin-budget.ensures.budget
 
-pub returns-in-Err : goal.returns-in-Err
-returns-in-Err g c =
+pub returns-in_default : goal.returns-in_default
+returns-in_default g c =
     unsearched (λ kb. IsOpenTaskOf kb c.args.task.now.numbers c.args.task.now.solver.kept.problem c.args.unknown.now)
     c.args.choices.now refl c.begin-budget.ensures.kept c.begin-budget.ensures.task c.begin-budget.ensures.sound
     (Err _) tt (λ kb is. tt)
@@ -89,8 +89,8 @@ returns-in-Ok-None g c =
           c.begin-budget.ensures.numbers (c.begin-budget.ensures.task kb) is)),
     ))
 
-pub returns-in-Err-2 : goal.returns-in-Err-2
-returns-in-Err-2 g c =
+pub returns : goal.returns
+returns g c =
     let end = c.forced.ensures in
     halts (λ kb. IsOpenTaskOf kb c.args.task.now.numbers c.args.task.now.solver.kept.problem c.args.unknown.now)
     c.args.choices.now (record {
