@@ -1,6 +1,7 @@
 -- What is left of a list of formulas, of instances, and of the parts of an implication or an equivalence.
 use Rattle.std.proofs.Common.{◌≡◌, ℕ, List, [], ◌∷◌, ◌++◌, ◌+◌, ◌<◌, map, drop, length, slice_index_or}
 use Rattle.std.proofs.Common.{Bool, true, false, ◌&&◌, ◌||◌, Result, Err, refl, sym, ap, ◌∙◌, subst, append_assoc}
+use Rattle.std.specs.Bool.{beq}
 use Rattle.std.specs.List.{AllByRecursion}
 use Rattle.std.proofs.lemmas.List.{at_drop_more}
 use Rattle.std.proofs.lemmas.Bool.{true≢false}
@@ -13,9 +14,9 @@ use Rattle.kb_logic.proofs.Pairs.{pairs}
 use Rattle.kb_logic.proofs.Assignments.{joined}
 use Rattle.partial_structures.specs.Consistency.{IsConsistent, KnowsMore}
 use Rattle.certain_truth.specs.Certainty.{certain_truth}
-use Rattle.bound_laws.specs.Closures.{opposes, Obeys, AllObey}
+use Rattle.bound_laws.specs.Closures.{opposes, Obeys, AllObey, LastObeys}
 use Rattle.quantifier_bounds.specs.Steps.{IsStep, Narrows}
-use Rattle.quantifier_bounds.specs.Walks.{Demands}
+use Rattle.quantifier_bounds.specs.Walks.{Demands, PartsObey}
 use Rattle.quantifier_bounds.specs.declared.fault.BoundFault.{BoundFault}
 use Rattle.quantifier_bounds.proofs.Made.{nothing}
 use Rattle.quantifier_bounds.proofs.Lasts.{still_lost, all_also}
@@ -44,6 +45,20 @@ module _ (first now : KnownAtoms) (changed v : Bool) (whole rest next : FormulaT
   parts_fault then' other b h = turn_fault first now changed (λ q. AllObey q v whole e) (λ q. AllObey q v rest e) s
       then'
       other b (λ q. Obeys q v f e) (λ q c l m i. (subst (λ g. AllObey q v g e) is i).0) h
+
+pub parts_all : (k new : KnownAtoms) (r : Result Bool BoundFault) (fs : FormulaTrees) (e : List Elem) (c v : Bool)
+    → beq c v ≡ true → Narrows k new r (λ q. AllObey q v fs e) → Narrows k new r (λ q. PartsObey q c v fs e)
+parts_all k new r fs e true true is h = h
+parts_all k new r fs e true false is h = absurd (true≢false (sym is))
+parts_all k new r fs e false true is h = absurd (true≢false (sym is))
+parts_all k new r fs e false false is h = h
+
+pub parts_last : (k new : KnownAtoms) (r : Result Bool BoundFault) (fs : FormulaTrees) (e : List Elem) (c v : Bool)
+    → beq c v ≡ false → Narrows k new r (λ q. LastObeys q v fs e false) → Narrows k new r (λ q. PartsObey q c v fs e)
+parts_last k new r fs e true true other h = absurd (true≢false other)
+parts_last k new r fs e true false other h = h
+parts_last k new r fs e false true other h = h
+parts_last k new r fs e false false other h = absurd (true≢false other)
 
 -- ---- instances
 

@@ -4,7 +4,7 @@ use Rattle.kb_logic.specs.declared.vocabularies.Symbol.{Symbol}
 use Rattle.kb_logic.specs.Structures.{domain_at, tuples_of}
 use Rattle.bound_laws.specs.Lone.{LoneOf}
 use Rattle.kb_logic.specs.declared.elements.Elem.{Elem}
-use Rattle.kb_logic.specs.Trees.{FormulaTree}
+use Rattle.kb_logic.specs.Trees.{FormulaTree, conjunction, disjunction, FormulaTrees}
 use Rattle.kb_logic.specs.Models.{GroundAtom}
 use Rattle.partial_structures.specs.KnownAtoms.{KnownAtoms, value_at}
 use Rattle.partial_structures.specs.declared.truths.Truth.{Truth}
@@ -17,6 +17,11 @@ use Rattle.quantifier_bounds.specs.declared.left.Left.TheVariants as left
 -- the atom, where there is one, has the truth value
 abbrev pub Gives : Option GroundAtom → Bool → KnownAtoms → Type 0
 Gives o v q = IfSome o (λ a. value_at q a ≡ truth_if v)
+
+-- the conjunction of the formulas, or their disjunction, must have the value
+abbrev pub PartsObey : KnownAtoms → Bool → Bool → FormulaTrees → List Elem → Type 0
+PartsObey q true v fs e = Obeys q v (conjunction fs) e
+PartsObey q false v fs e = Obeys q v (disjunction fs) e
 
 -- the formula must have the value that the other side of an equivalence gives it
 abbrev pub Follows : KnownAtoms → Truth → Bool → Bool → FormulaTree → List Elem → Type 0

@@ -10,7 +10,7 @@ ghost use Rattle.bound_laws.specs.Lone.{LoneOf};
 ghost use Rattle.bound_laws.specs.Closures.{opposes, Obeys, AllObey, LastObeys};
 ghost use Rattle.quantifier_bounds.specs.Fits.{Fits, AllFit};
 ghost use Rattle.quantifier_bounds.specs.Steps.{Narrows};
-ghost use Rattle.quantifier_bounds.specs.Walks.{Demands, Follows};
+ghost use Rattle.quantifier_bounds.specs.Walks.{Demands, Follows, PartsObey};
 
 use crate::fault::BoundFault;
 use crate::leaves::{atom_must, equation};
@@ -83,20 +83,8 @@ pub(crate) fn must<'a>(
         Formula::True => not_lost(&*known, &*formula, v, &*env),
         Formula::False => not_lost(&*known, &*formula, v, &*env),
         Formula::Not(inner) => must(known, setting, inner, !v, env),
-        Formula::And(formulas) => {
-            if v {
-                all(known, setting, formulas, true, env)
-            } else {
-                last(known, setting, formulas, false, env)
-            }
-        }
-        Formula::Or(formulas) => {
-            if v {
-                last(known, setting, formulas, true, env)
-            } else {
-                all(known, setting, formulas, false, env)
-            }
-        }
+        Formula::And(formulas) => parts(known, setting, true, formulas, v, env),
+        Formula::Or(formulas) => parts(known, setting, false, formulas, v, env),
         Formula::Implies(left, right) => implied(known, setting, left, right, v, env),
         Formula::Iff(left, right) => alike(known, setting, left, right, v, env),
         Formula::All(bounds, inner) => {
@@ -125,6 +113,29 @@ pub(crate) fn must<'a>(
                 Cmp::Ne | Cmp::Lt | Cmp::Gt | Cmp::Le | Cmp::Ge => Ok(false),
             }
         }
+    }
+}
+
+/// The conjunction of the formulas, or their disjunction, must have this value.
+#[cycle(must)]
+fn parts<'a>(
+    known: &mut Partial,
+    setting: Setting<'a>,
+    conjunction: bool,
+    formulas: &'a [Formula],
+    v: bool,
+    env: &'a Env<'a>,
+) -> Result<bool, BoundFault>
+    requires domains { setting.domains.now ≡ known.old.domains }
+    requires fits { AllFit known.old.symbols known.old.domains (formulas_of (map formula_view formulas.now))
+        (env_view env.now) }
+    ensures { Narrows known.old known.new result
+        (λ q. PartsObey q conjunction v (formulas_of (map formula_view formulas.now)) (env_view env.now)) }
+{
+    if conjunction == v {
+        all(known, setting, formulas, v, env)
+    } else {
+        last(known, setting, formulas, v, env)
     }
 }
 

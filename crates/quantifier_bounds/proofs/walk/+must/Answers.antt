@@ -23,7 +23,8 @@ use Rattle.plain_evaluation.specs.Environments.{env_view}
 use Rattle.quantifier_bounds.specs.Fits.{Fits, AllFit}
 use Rattle.std.specs.Option.{option_map}
 use Rattle.kb_logic.specs.declared.syntax.Formula.TheVariants.{True}
-use Rattle.quantifier_bounds.proofs.Turns.{split, Instances, Blocks, block_start, block_turn, block_fault}
+use Rattle.quantifier_bounds.proofs.Turns.{parts_all, parts_last, split, Instances, Blocks, block_start, block_turn}
+use Rattle.quantifier_bounds.proofs.Turns.{block_fault}
 use Rattle.quantifier_bounds.proofs.Lasts.{lost_turn, first_turn, none_of, same_default, OneLeft}
 use Rattle.quantifier_bounds.proofs.walk.+must.Goals as goal
 
@@ -332,64 +333,74 @@ must-returns-in-Iff t c =
     ∙ ap (λ g. equivalence (formula_view c.deref-in-Iff.result.now) (formula_view g)) (sym c.deref-in-Iff-2.ensures) in
     subst (λ f. Narrows k c.alike.new.known c.alike.result (λ q. Obeys q c.args.v f e)) (sym is) c.alike.ensures
 
-pub must-returns-then-v-3 : goal.must-returns-then-v-3
-must-returns-then-v-3 t c =
+pub must-returns-then-v : goal.must-returns-then-v
+must-returns-then-v t c =
     let k = c.args.known.now in
     let e = env_view c.args.env.now in
-    let these = c.deref-then-v-3.result.now in
-    let inner = c.deref-then-v-3-2.result.now in
+    let these = c.deref-then-v.result.now in
+    let inner = c.deref-then-v-2.result.now in
     let is : formula_view c.args.formula.now ≡ universal these (formula_view inner) =
     ap formula_view c.in-All.is ∙ formula_view-All c.in-All.bounds c.in-All.inner
-    ∙ ap (λ b. universal b (formula_view c.in-All.inner.value)) (sym c.deref-then-v-3.ensures.value)
-    ∙ ap (λ g. universal these (formula_view g)) (sym c.deref-then-v-3-2.ensures) in
+    ∙ ap (λ b. universal b (formula_view c.in-All.inner.value)) (sym c.deref-then-v.ensures.value)
+    ∙ ap (λ g. universal these (formula_view g)) (sym c.deref-then-v-2.ensures) in
     subst (λ w. Narrows k c.all_instances.new.known c.all_instances.result
     (λ q. Obeys q w (formula_view c.args.formula.now) e))
-    (sym c.if-v-3.true) (subst (λ f. Narrows k c.all_instances.new.known c.all_instances.result (λ q. Obeys q true f
+    (sym c.if-v.true) (subst (λ f. Narrows k c.all_instances.new.known c.all_instances.result (λ q. Obeys q true f
     e)) (sym is)
     c.all_instances.ensures)
 
-pub must-returns-else-v-3 : goal.must-returns-else-v-3
-must-returns-else-v-3 t c =
+pub must-returns-else-v : goal.must-returns-else-v
+must-returns-else-v t c =
     let k = c.args.known.now in
     let e = env_view c.args.env.now in
-    let these = c.deref-else-v-3.result.now in
-    let inner = c.deref-else-v-3-2.result.now in
+    let these = c.deref-else-v.result.now in
+    let inner = c.deref-else-v-2.result.now in
     let is : formula_view c.args.formula.now ≡ universal these (formula_view inner) =
     ap formula_view c.in-All.is ∙ formula_view-All c.in-All.bounds c.in-All.inner
-    ∙ ap (λ b. universal b (formula_view c.in-All.inner.value)) (sym c.deref-else-v-3.ensures.value)
-    ∙ ap (λ g. universal these (formula_view g)) (sym c.deref-else-v-3-2.ensures) in
+    ∙ ap (λ b. universal b (formula_view c.in-All.inner.value)) (sym c.deref-else-v.ensures.value)
+    ∙ ap (λ g. universal these (formula_view g)) (sym c.deref-else-v-2.ensures) in
     subst (λ w. Narrows k c.lone.new.known c.lone.result (λ q. Obeys q w (formula_view c.args.formula.now) e))
-    (sym c.if-v-3.false) (subst (λ f. Narrows k c.lone.new.known c.lone.result (λ q. Obeys q false f e)) (sym is)
+    (sym c.if-v.false) (subst (λ f. Narrows k c.lone.new.known c.lone.result (λ q. Obeys q false f e)) (sym is)
     c.lone.ensures)
 
-pub must-returns-then-v-4 : goal.must-returns-then-v-4
-must-returns-then-v-4 t c =
+pub must-returns-then-v-2 : goal.must-returns-then-v-2
+must-returns-then-v-2 t c =
     let k = c.args.known.now in
     let e = env_view c.args.env.now in
-    let these = c.deref-then-v-4.result.now in
-    let inner = c.deref-then-v-4-2.result.now in
+    let these = c.deref-then-v-2-2.result.now in
+    let inner = c.deref-then-v-2-3.result.now in
     let is : formula_view c.args.formula.now ≡ existential these (formula_view inner) =
     ap formula_view c.in-Any.is ∙ formula_view-Any c.in-Any.bounds c.in-Any.inner
-    ∙ ap (λ b. existential b (formula_view c.in-Any.inner.value)) (sym c.deref-then-v-4.ensures.value)
-    ∙ ap (λ g. existential these (formula_view g)) (sym c.deref-then-v-4-2.ensures) in
-    subst (λ w. Narrows k c.lone-then-v-4.new.known c.lone-then-v-4.result
+    ∙ ap (λ b. existential b (formula_view c.in-Any.inner.value)) (sym c.deref-then-v-2-2.ensures.value)
+    ∙ ap (λ g. existential these (formula_view g)) (sym c.deref-then-v-2-3.ensures) in
+    subst (λ w. Narrows k c.lone-then-v-2.new.known c.lone-then-v-2.result
     (λ q. Obeys q w (formula_view c.args.formula.now) e))
-    (sym c.if-v-4.true) (subst (λ f. Narrows k c.lone-then-v-4.new.known c.lone-then-v-4.result (λ q. Obeys q true f
+    (sym c.if-v-2.true) (subst (λ f. Narrows k c.lone-then-v-2.new.known c.lone-then-v-2.result (λ q. Obeys q true f
     e)) (sym is)
-    c.lone-then-v-4.ensures)
+    c.lone-then-v-2.ensures)
 
-pub must-returns-else-v-4 : goal.must-returns-else-v-4
-must-returns-else-v-4 t c =
+pub must-returns-else-v-2 : goal.must-returns-else-v-2
+must-returns-else-v-2 t c =
     let k = c.args.known.now in
     let e = env_view c.args.env.now in
-    let these = c.deref-else-v-4.result.now in
-    let inner = c.deref-else-v-4-2.result.now in
+    let these = c.deref-else-v-2-2.result.now in
+    let inner = c.deref-else-v-2-3.result.now in
     let is : formula_view c.args.formula.now ≡ existential these (formula_view inner) =
     ap formula_view c.in-Any.is ∙ formula_view-Any c.in-Any.bounds c.in-Any.inner
-    ∙ ap (λ b. existential b (formula_view c.in-Any.inner.value)) (sym c.deref-else-v-4.ensures.value)
-    ∙ ap (λ g. existential these (formula_view g)) (sym c.deref-else-v-4-2.ensures) in
-    subst (λ w. Narrows k c.all_instances-else-v-4.new.known c.all_instances-else-v-4.result
+    ∙ ap (λ b. existential b (formula_view c.in-Any.inner.value)) (sym c.deref-else-v-2-2.ensures.value)
+    ∙ ap (λ g. existential these (formula_view g)) (sym c.deref-else-v-2-3.ensures) in
+    subst (λ w. Narrows k c.all_instances-else-v-2.new.known c.all_instances-else-v-2.result
     (λ q. Obeys q w (formula_view c.args.formula.now) e))
-    (sym c.if-v-4.false) (subst (λ f. Narrows k c.all_instances-else-v-4.new.known c.all_instances-else-v-4.result
+    (sym c.if-v-2.false) (subst (λ f. Narrows k c.all_instances-else-v-2.new.known c.all_instances-else-v-2.result
     (λ q. Obeys q false f e)) (sym is)
-    c.all_instances-else-v-4.ensures)
+    c.all_instances-else-v-2.ensures)
+
+pub parts-returns-then-conjunction-v : goal.parts-returns-then-conjunction-v
+parts-returns-then-conjunction-v t c =
+    parts_all c.args.known.now c.all.new.known c.all.result (formulas_of (map formula_view c.args.formulas.now))
+    (env_view c.args.env.now) c.args.conjunction c.args.v c.if-conjunction-v.true c.all.ensures
+
+pub parts-returns-else-conjunction-v : goal.parts-returns-else-conjunction-v
+parts-returns-else-conjunction-v t c =
+    parts_last c.args.known.now c.last.new.known c.last.result (formulas_of (map formula_view c.args.formulas.now))
+    (env_view c.args.env.now) c.args.conjunction c.args.v c.if-conjunction-v.false c.last.ensures

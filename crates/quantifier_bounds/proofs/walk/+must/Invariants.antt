@@ -58,6 +58,9 @@ invariant-each-loop-number l =
 abbrev pub decreases-must : goal.decreases-must
 decreases-must l = 2 ^ 65 * goal.size-must l
 
+abbrev pub decreases-parts : goal.decreases-parts
+decreases-parts l = 2 ^ 65 * goal.size-parts l + 2
+
 abbrev pub decreases-all : goal.decreases-all
 decreases-all l = 2 ^ 65 * goal.size-all l + 1
 
