@@ -1,5 +1,5 @@
 -- The literals of a right reply to `propagate` are over the knowledge base.
-use Rattle.std.proofs.Common.{◌≡◌, sym, subst, Option, Some, None}
+use Rattle.std.proofs.Common.{sym, subst, Option, Some, None}
 use Rattle.kb_logic.specs.Bases.{Base}
 use Rattle.ground_core.specs.Problems.{ProblemState}
 use Rattle.ground_task.specs.Tasks.{IsTaskOf}

@@ -4,7 +4,6 @@ use Rattle.std.specs.List.{AllByRecursion}
 use Rattle.std.proofs.lemmas.List.Elements.{All-from_recursion}
 use Rattle.kb_logic.specs.declared.structures.Literal.{Literal}
 use Rattle.kb_logic.specs.declared.structures.Structure.{Structure}
-use Rattle.kb_logic.specs.declared.vocabularies.Symbol.{Symbol}
 use Rattle.kb_logic.specs.Bases.{Base, IsModelUnder}
 use Rattle.kb_logic.specs.Models.{HoldsIn, IsAtomOver, atom_of}
 use Rattle.kb_logic.proofs.Atoms.{elements_tuple}

@@ -1,15 +1,14 @@
 -- How far apart the values of a term block can be, and so how many searches its least value takes.
-use Rattle.std.proofs.Common.{◌≡◌, ◌∙◌, ℕ, ◌+◌, ◌<◌, ◌≤◌, ℤ, pos, negsuc, ◌+ℤ◌, ◌-ℤ◌, ◌≤ℤ◌, nat_abs, Bool, List, []}
+use Rattle.std.proofs.Common.{◌≡◌, ◌∙◌, ℕ, ◌<◌, ◌≤◌, ℤ, pos, negsuc, ◌+ℤ◌, ◌-ℤ◌, ◌≤ℤ◌, nat_abs, Bool, List, []}
 use Rattle.std.proofs.Common.{length}
-use Rattle.std.proofs.Common.{zero, suc, ◌∷◌, Option, Some, None, Result, refl, sym, ap, subst, arith, slice_get}
+use Rattle.std.proofs.Common.{zero, suc, ◌∷◌, Option, Some, None, Result, refl, sym, subst, arith, slice_get}
 use Rattle.std.proofs.lemmas.Int.{ints}
 use Rattle.std.specs.declared.alloc.AllocError.{AllocError as Memory}
 use Rattle.kb_logic.specs.declared.elements.Elem.{Elem}
 use Rattle.kb_logic.specs.declared.structures.Literal.{Literal}
-use Rattle.kb_logic.specs.declared.structures.Structure.{Structure}
 use Rattle.kb_logic.specs.Bases.{Base, NamedTerm, IsModelUnder}
 use Rattle.kb_logic.specs.Bounds.{Interval, bounds_of, width_of, IsWithin, ValueIsWithin}
-use Rattle.kb_logic.specs.Denotations.{Denotation, number, undefined}
+use Rattle.kb_logic.specs.Denotations.{number}
 use Rattle.kb_logic.specs.Meaning.{value_of}
 use Rattle.kb_logic.proofs.WithinBounds.{values_lie_within_bounds}
 use Rattle.ground_core.specs.declared.solving.Budget.{Budget}

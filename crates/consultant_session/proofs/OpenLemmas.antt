@@ -1,5 +1,5 @@
 -- The atoms that the data leave unknown.
-use Rattle.std.proofs.Common.{◌≡◌, ◌∙◌, ℕ, ◌+◌, ◌≤◌, Bool, true, false, cond, List, [], ◌∷◌, length, map, refl, sym, ap}
+use Rattle.std.proofs.Common.{◌≡◌, ◌∙◌, ℕ, ◌+◌, ◌≤◌, Bool, true, false, cond, List, [], ◌∷◌, length, map, sym, ap}
 use Rattle.std.proofs.Common.{suc, subst, arith, filter, min, ◌-◌, ◌^◌}
 use Rattle.std.proofs.lemmas.List.Elements.{All-nil}
 use Rattle.kb_logic.specs.declared.elements.Elem.{Elem}

@@ -1,4 +1,4 @@
-use Rattle.std.proofs.Common.{List, Some, refl, sym, subst, arith}
+use Rattle.std.proofs.Common.{List, refl, sym, subst, arith}
 use Rattle.kb_logic.specs.Models.{IsAtomOver, atom_of}
 use Rattle.ground_task.specs.Choices.{AreOver}
 use Rattle.ground_task.specs.Tasks.{IsTaskOf}
@@ -7,7 +7,7 @@ use Rattle.kb_logic.specs.declared.structures.Literal.{Literal}
 use Rattle.task_queries.specs.declared.found.Reason.TheVariants.{By}
 use Rattle.consult_text.specs.declared.replies.Reply.TheVariants as reply
 use Rattle.task_queries.specs.Queries.{AnswersSupport}
-use Rattle.consultant_session.proofs.QueryLemmas.{unspent_budget, IsCalled, found, halts}
+use Rattle.consultant_session.proofs.QueryLemmas.{unspent_budget, found, halts}
 use Rattle.consultant_session.proofs.queries.explain.Goals as goal
 
 pub support-requires-clause-task : goal.support-requires-clause-task

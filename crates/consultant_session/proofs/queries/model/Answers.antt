@@ -1,5 +1,4 @@
-use Rattle.std.proofs.Common.{◌∙◌, Ok, Err, Option, Some, refl, sym, ap, subst, IfSome}
-use Rattle.std.specs.declared.alloc.AllocError.{AllocError as Memory}
+use Rattle.std.proofs.Common.{◌∙◌, Ok, Err, Option, refl, sym, ap, subst, IfSome}
 use Rattle.kb_logic.specs.declared.structures.Structure.{Structure}
 use Rattle.kb_logic.specs.Bases.{IsModelUnder}
 use Rattle.term_values.specs.GroundBases.{GroundBase}

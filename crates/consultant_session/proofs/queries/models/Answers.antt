@@ -1,11 +1,11 @@
-use Rattle.std.proofs.Common.{List, Some, refl, sym, subst, arith}
+use Rattle.std.proofs.Common.{Some, refl, sym, subst, arith}
 use Rattle.ground_task.specs.Choices.{AreOver}
 use Rattle.ground_task.specs.Tasks.{IsTaskOf}
 use Rattle.term_values.specs.GroundBases.{GroundBase}
 use Rattle.task_queries.specs.declared.found.Models.{Models}
 use Rattle.consult_text.specs.declared.replies.Reply.TheVariants as reply
 use Rattle.task_queries.specs.Queries.{AnswersModels}
-use Rattle.consultant_session.proofs.QueryLemmas.{unspent_budget, IsCalled, found, halts}
+use Rattle.consultant_session.proofs.QueryLemmas.{unspent_budget, found, halts}
 use Rattle.consultant_session.proofs.queries.models.Goals as goal
 
 pub models-requires-clause-task : goal.models-requires-clause-task

@@ -1,13 +1,11 @@
-use Rattle.std.proofs.Common.{Bool, List, All, Some, Err, refl, sym, subst, arith}
+use Rattle.std.proofs.Common.{Bool, List, All, Some, Err, refl, sym, subst}
 use Rattle.consequences.specs.Forced.{IsSeen}
 use Rattle.ground_task.specs.Choices.{AreOver}
-use Rattle.ground_task.specs.Tasks.{IsTaskOf}
 use Rattle.term_values.specs.GroundBases.{GroundBase}
 use Rattle.kb_logic.specs.declared.structures.Literal.{Literal}
 use Rattle.consult_text.specs.declared.replies.Reply.TheVariants as reply
-use Rattle.kb_logic.specs.InForce.{InForce}
 use Rattle.forced_literals.specs.OpenTasks.{IsOpenTaskOf, IsAnswer}
-use Rattle.consultant_session.proofs.QueryLemmas.{unspent_budget, IsCalled, found, halts, unsearched}
+use Rattle.consultant_session.proofs.QueryLemmas.{unspent_budget, found, halts, unsearched}
 use Rattle.consultant_session.proofs.OpenLemmas.{still-open, few-unknown}
 use Rattle.consultant_session.proofs.queries.propagate.Goals as goal
 

@@ -1,9 +1,9 @@
-use Rattle.std.proofs.Common.{Some, None, refl, sym, subst, arith}
+use Rattle.std.proofs.Common.{Some, refl, sym, subst, arith}
 use Rattle.kb_logic.specs.declared.structures.Structure.{Structure}
 use Rattle.ground_task.specs.Tasks.{IsTaskOf}
 use Rattle.found_models.specs.Models.{IsAnswer}
 use Rattle.consult_text.specs.declared.replies.Reply.TheVariants as reply
-use Rattle.consultant_session.proofs.QueryLemmas.{unspent_budget, IsCalled, found, halts}
+use Rattle.consultant_session.proofs.QueryLemmas.{unspent_budget, found, halts}
 use Rattle.consultant_session.proofs.queries.seek_model.Goals as goal
 
 pub new_model-requires-clause-task : goal.new_model-requires-clause-task

@@ -5,7 +5,7 @@ use Rattle.term_values.specs.GroundBases.{GroundBase}
 use Rattle.kb_logic.specs.declared.structures.Literal.{Literal}
 use Rattle.consult_text.specs.declared.replies.Reply.TheVariants as reply
 use Rattle.task_queries.specs.Queries.{AnswersConflict}
-use Rattle.consultant_session.proofs.QueryLemmas.{unspent_budget, IsCalled, found, halts}
+use Rattle.consultant_session.proofs.QueryLemmas.{unspent_budget, found, halts}
 use Rattle.consultant_session.proofs.queries.why.Goals as goal
 
 pub conflict-requires-clause-task : goal.conflict-requires-clause-task

@@ -1,4 +1,4 @@
-use Rattle.std.proofs.Common.{◌≡◌, ◌≤◌, sym, ap, ◌∙◌, subst}
+use Rattle.std.proofs.Common.{◌≤◌, sym, ap, ◌∙◌, subst}
 use Rattle.ground_core.specs.Solving.{IsKept}
 use Rattle.clause_learning.specs.SolverState.{SolverState}
 use Rattle.consult_base.specs.Opened.{base_of}

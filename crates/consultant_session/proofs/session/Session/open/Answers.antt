@@ -1,7 +1,6 @@
-use Rattle.std.proofs.Common.{◌≡◌, ◌∙◌, subst, sym, ap, List, []}
+use Rattle.std.proofs.Common.{◌∙◌, subst, sym, ap, List}
 use Rattle.kb_logic.specs.KnownAtoms.{KnownAtoms}
 use Rattle.consult_base.specs.Opened.{base_of}
-use Rattle.std.specs.List.{AllByRecursion}
 use Rattle.kb_logic.specs.declared.structures.Literal.{Literal}
 use Rattle.consultant_session.specs.Sessions.{AreChoicesOver}
 use Rattle.consultant_session.proofs.OpenLemmas.{none-found, enough-kept}

@@ -1,4 +1,4 @@
-use Rattle.std.proofs.Common.{◌≡◌, List, IfOk, sym, subst}
+use Rattle.std.proofs.Common.{List, IfOk, sym, subst}
 use Rattle.kb_logic.specs.declared.structures.Literal.{Literal}
 use Rattle.ground_task.specs.Choices.{AreOver}
 use Rattle.consult_base.specs.Opened.{base_of}

@@ -1,4 +1,4 @@
-use Rattle.std.proofs.Common.{◌≡◌, [], sym, ap}
+use Rattle.std.proofs.Common.{ap}
 use Rattle.ground_core.specs.Solving.{SolveState}
 use Rattle.consult_base.specs.Opened.{base_of}
 use Rattle.consultant_session.specs.Sessions.{SessionState}

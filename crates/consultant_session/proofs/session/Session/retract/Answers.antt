@@ -1,6 +1,4 @@
-use Rattle.std.proofs.Common.{◌≡◌, ◌∙◌, List, ap, sym, subst, not}
-use Rattle.std.specs.List.{AllByRecursion}
-use Rattle.kb_logic.specs.declared.structures.Literal.{Literal}
+use Rattle.std.proofs.Common.{◌∙◌, ap, sym, subst, not}
 use Rattle.consult_base.specs.Opened.{base_of}
 use Rattle.consult_text.specs.Literals.{IsLiteralOver}
 use Rattle.consult_text.specs.States.{same_literal, without}
