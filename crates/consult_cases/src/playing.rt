@@ -67,14 +67,7 @@ pub fn play(
     let mut commands = source_of(alloc, case.script, pieces)?;
     let mut out = sink_of(alloc, pieces)?;
     let mut log = sink_of(alloc, pieces)?;
-    let status = run(
-        alloc,
-        words,
-        &mut shelf,
-        &mut commands,
-        &mut out,
-        &mut log,
-    );
+    let status = run(alloc, words, &mut shelf, &mut commands, &mut out, &mut log);
     Ok(Outcome {
         status,
         text: out.held().to_vec(alloc)?,

@@ -58,12 +58,13 @@ fn note_on_fault(
 
 /// What is told of the bytes of a file: why they are refused; where they are not, it was the other input that could not
 /// be read.
-fn note_on_bytes(
-    alloc: Global,
-    inputs: &Inputs<'_>,
-    bytes: &[u8],
-) -> Result<Vec<u8>, AllocError> {
-    match read_base(alloc, bytes, inputs.options.theory, inputs.options.structure) {
+fn note_on_bytes(alloc: Global, inputs: &Inputs<'_>, bytes: &[u8]) -> Result<Vec<u8>, AllocError> {
+    match read_base(
+        alloc,
+        bytes,
+        inputs.options.theory,
+        inputs.options.structure,
+    ) {
         Ok(_) => file_note(alloc, inputs.log),
         Err(KbError::Refused(fault)) => note_on_fault(alloc, inputs, bytes, fault),
         Err(KbError::Memory) => Err(AllocError),

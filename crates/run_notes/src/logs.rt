@@ -1,9 +1,7 @@
 //! What is told of a log.
 use crate::words::bytes_of;
 use idp_cli::{Job, job_of, log_path};
-use refusal_notes::{
-    OUTPUT_LOST, SCRIPT_TOO_LONG, long_log_note, lost_log_note, refused_log_note,
-};
+use refusal_notes::{OUTPUT_LOST, SCRIPT_TOO_LONG, long_log_note, lost_log_note, refused_log_note};
 use std::alloc::{AllocError, Global};
 
 /// The device that failed where writing did.
@@ -25,11 +23,7 @@ fn checked_by<'a>(
 }
 
 /// What is told of a log whose entry of this number is the first that is no step.
-pub fn note_on_entry(
-    alloc: Global,
-    words: &[String],
-    entry: u64,
-) -> Result<Vec<u8>, AllocError> {
+pub fn note_on_entry(alloc: Global, words: &[String], entry: u64) -> Result<Vec<u8>, AllocError> {
     match checked_by(alloc, words)? {
         Some((file, log)) => refused_log_note(alloc, log, file, entry),
         None => Ok(Vec::new(alloc)),
@@ -45,11 +39,7 @@ pub fn note_on_length(alloc: Global, words: &[String]) -> Result<Vec<u8>, AllocE
 }
 
 /// What is told of a device that could not be written.
-pub fn note_on_loss(
-    alloc: Global,
-    words: &[String],
-    lost: Lost,
-) -> Result<Vec<u8>, AllocError> {
+pub fn note_on_loss(alloc: Global, words: &[String], lost: Lost) -> Result<Vec<u8>, AllocError> {
     let Lost::Log = lost else {
         return bytes_of(alloc, OUTPUT_LOST);
     };
