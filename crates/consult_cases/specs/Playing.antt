@@ -1,5 +1,5 @@
 -- What is printed of the cases.
-use Rattle.std.specs.Prelude.{◌≡◌, ◌++◌, ℕ, List, [], ◌∷◌, codes, Option, Some, None}
+use Rattle.std.specs.Prelude.{◌≡◌, ◌++◌, ℕ, List, [], ◌∷◌, codes, Some, None}
 use Rattle.std.specs.Fmt.{decimal}
 use Rattle.memchr.specs.Find.{FindsNeedle}
 use Rattle.idp_cli.specs.Codes.{code_of}
