@@ -8,6 +8,7 @@ use Rattle.kb_logic.specs.Denotations.{compared}
 use Rattle.lit_core.specs.declared.literals.Lit.{Lit}
 use Rattle.lit_core.specs.Literals.{literal_value, negated, by_sign, valuation}
 use Rattle.ground_core.specs.declared.parts.Part.{Part}
+use Rattle.ground_core.specs.declared.parts.AggCon.{AggCon}
 use Rattle.ground_core.specs.declared.parts.GroundTerm.{GroundTerm}
 use Rattle.ground_core.specs.Problems.{ProblemState}
 use Rattle.ground_core.specs.Meaning.{joined, parts_value, denotation_of_bound}
@@ -79,6 +80,19 @@ with_sum p kind parts least = record {
   gates = p.gates;
   clauses = p.clauses;
   sums = p.sums ++ record { out = next_lit p; kind = kind; parts = parts; least = least } ∷ [];
+  terms = p.terms;
+  bounds = p.bounds;
+  retired = p.retired;
+}
+
+-- the problem with one more constraint, of variables that it has
+abbrev pub with_constraint : ProblemState → AggCon → ProblemState
+with_constraint p s = record {
+  atoms = p.atoms;
+  vars = p.vars;
+  gates = p.gates;
+  clauses = p.clauses;
+  sums = p.sums ++ s ∷ [];
   terms = p.terms;
   bounds = p.bounds;
   retired = p.retired;

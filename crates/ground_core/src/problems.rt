@@ -1,8 +1,8 @@
 //! Ground problems, and how they grow.
 ghost use Rattle.std.specs.Prelude.{◌≡◌, ◌≤◌, ◌<◌, ◌^◌, [], ◌∷◌, ◌++◌, length, take, IfOk, OnErr, OnOk};
-ghost use Rattle.ground_core.specs.Problems.{IsProblem, IsLitOf, AreLitsOf, ArePartsOf, IsTermOf};
+ghost use Rattle.ground_core.specs.Problems.{IsProblem, IsLitOf, AreLitsOf, ArePartsOf, IsSumOf, IsTermOf};
 ghost use Rattle.ground_core.specs.Growth.{empty_problem, next_lit, with_var, with_clause, with_gate, with_sum};
-ghost use Rattle.ground_core.specs.Growth.{with_term, with_same, with_exclusion, clauses_of_same};
+ghost use Rattle.ground_core.specs.Growth.{with_constraint, with_term, with_same, with_exclusion, clauses_of_same};
 ghost use Rattle.ground_core.specs.Growth.{AddsGate, AddsSum, AddsSame};
 
 use crate::atom_tables::AtomTable;
@@ -185,6 +185,16 @@ impl Problem {
         })?;
         self.vars = out.var.0;
         Ok(out)
+    }
+
+    /// Says one more constraint, of variables that are there.
+    pub fn add_constraint(&mut self, constraint: AggCon) -> Result<(), Memory>
+        requires { IsSumOf self.old.vars constraint }
+        ensures ok { OnOk result (self.new ≡ with_constraint self.old constraint) }
+        ensures err { OnErr result (self.new ≡ self.old) }
+    {
+        self.sums.push(constraint)?;
+        Ok(())
     }
 
     /// Names one more term.
