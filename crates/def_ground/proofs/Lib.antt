@@ -26,6 +26,7 @@ pub mod ReadyCases
 pub mod AlikeLaws
 pub mod DisjunctLaws
 pub mod AssertLaws
+mod ExactlyOne
 pub mod SentenceLaws
 pub mod TypedForms
 pub mod StartLaws

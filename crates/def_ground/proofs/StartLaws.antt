@@ -1,5 +1,6 @@
 -- The problem before any sentence: its valuations are those of the structures that extend the data.
-use Rattle.std.proofs.Common.{◌≡◌, ℕ, zero, suc, ◌+◌, ◌*◌, ◌<◌, ◌≤◌, Bool, true, false, ◌||◌, List, [], ◌∷◌, map}
+use Rattle.std.proofs.Common.{◌≡◌, ℕ, zero, suc, ◌+◌, ◌*◌, ◌<◌, ◌≤◌, pos, neg_ℤ, Bool, true, false, ◌||◌, List, [], ◌∷◌}
+use Rattle.std.proofs.Common.{map, if◌then◌else◌}
 use Rattle.std.proofs.Common.{length, All, IsSome, IsNone}
 use Rattle.std.proofs.Common.{Option, Some, None, unwrap_or, slice_get, get_or, refl, sym, ap, subst, ◌∙◌, arith, inl}
 use Rattle.std.proofs.Common.{inr}
@@ -19,6 +20,7 @@ use Rattle.kb_logic.proofs.Tables.{function_has}
 use Rattle.lit_core.specs.declared.literals.Lit.{Lit}
 use Rattle.lit_core.specs.Literals.{negated, by_sign, literal_value}
 use Rattle.lit_core.specs.Truth.{IsSatisfied}
+use Rattle.ground_core.specs.declared.parts.Part.{Part}
 use Rattle.ground_core.specs.Atoms.{atom_of, atoms_at, atoms_of_symbol, ground_atoms}
 use Rattle.ground_core.specs.Problems.{IsProblem, IsLitOf, AreLitsOf, IsGateOf, IsSumOf, IsTermOf, IsBoundOf}
 use Rattle.ground_core.specs.Meaning.{Satisfies, GateHolds, SumHolds, BoundHolds}
@@ -30,10 +32,11 @@ use Rattle.term_values.specs.Rows.{positive_lit}
 use Rattle.term_values.proofs.Places.{plain-atom, valued-atom, predicate-variable, function-variable}
 use Rattle.term_values.proofs.StructureAtoms.{tuples-are, values-are}
 use Rattle.term_values.proofs.StructureLaws.{declared-function, function-of, is-function, only-atoms-matter}
-use Rattle.def_ground.specs.Problems.{fact_of, pair_clauses, one_of_clauses, with_open, open_variables, tuple_clauses}
-use Rattle.def_ground.specs.Problems.{said_tuples}
-use Rattle.def_ground.specs.Problems.{function_clauses}
-use Rattle.def_ground.specs.Problems.{all_function_clauses, fact_clauses, start_problem}
+use Rattle.def_ground.specs.Problems.{fact_of, pairs_with, pair_clauses, first_pairs, are_many, counting}
+use Rattle.def_ground.specs.Problems.{at_most_one_beside, first_sum, one_of_clauses, one_of_sums, with_open}
+use Rattle.def_ground.specs.Problems.{open_variables, said_tuples, tuple_says, function_says, functions_say}
+use Rattle.def_ground.specs.Problems.{fact_clauses, start_problem}
+use Rattle.def_ground.specs.Laws.{OneOfHolds}
 use Rattle.def_ground.specs.Meanings.{HasAtoms, HasRoom}
 use Rattle.def_ground.proofs.SentenceLaws.{one-each}
 
@@ -81,16 +84,49 @@ part-all P f (y ∷ xs) x h (inl e) = subst (λ z. All P (f z)) e (All-front P (
 part-all P f (y ∷ xs) x h (inr m) = part-all P f xs x (All-back P (f y) (flat_map f xs) h) m
 
 -- the clauses are over the atoms' variables
+with-first-in : (n : ℕ) (l : Lit) (ls : List Lit) → IsLitOf n l → AreLitsOf n ls
+    → All (AreLitsOf n) (pairs_with l ls)
+with-first-in n l ls here rest =
+    All-map (AreLitsOf n) (λ m. negated l ∷ negated m ∷ []) ls
+    (λ k d lt. All-cons (IsLitOf n) (negated l) (negated (get_or ls k d) ∷ []) here
+    (All-cons (IsLitOf n) (negated (get_or ls k d)) [] (rest k d lt) (All-nil (IsLitOf n))))
+
 pairs-in : (n : ℕ) (ls : List Lit) → AreLitsOf n ls → All (AreLitsOf n) (pair_clauses ls)
 pairs-in n [] h = All-nil (AreLitsOf n)
 pairs-in n (l ∷ ls) h =
-    let here = h 0 l (omega arith) in
     let rest : AreLitsOf n ls = λ k d lt. h (suc k) d (omega (arith, lt)) in
-    All-append (AreLitsOf n) (map (λ m. negated l ∷ negated m ∷ []) ls) (pair_clauses ls)
-    (All-map (AreLitsOf n) (λ m. negated l ∷ negated m ∷ []) ls
-    (λ k d lt. All-cons (IsLitOf n) (negated l) (negated (get_or ls k d) ∷ []) here
-    (All-cons (IsLitOf n) (negated (get_or ls k d)) [] (rest k d lt) (All-nil (IsLitOf n)))))
-    (pairs-in n ls rest)
+    All-append (AreLitsOf n) (pairs_with l ls) (pair_clauses ls)
+    (with-first-in n l ls (h 0 l (omega arith)) rest) (pairs-in n ls rest)
+
+-- so are those with the first one, and the sum
+firsts-in : (n : ℕ) (ls : List Lit) → AreLitsOf n ls → All (AreLitsOf n) (first_pairs ls)
+firsts-in n [] h = All-nil (AreLitsOf n)
+firsts-in n (l ∷ ls) h = with-first-in n l ls (h 0 l (omega arith)) (λ k d lt. h (suc k) d (omega (arith, lt)))
+
+one-of-in : (n : ℕ) (ls : List Lit) → AreLitsOf n ls → All (AreLitsOf n) (one_of_clauses ls)
+one-of-in n ls h = by (are_many ls)
+  where
+    by : (t : Bool) → All (AreLitsOf n) (ls ∷ (if t then first_pairs ls else pair_clauses ls))
+    by true = All-cons (AreLitsOf n) ls (first_pairs ls) h (firsts-in n ls h)
+    by false = All-cons (AreLitsOf n) ls (pair_clauses ls) h (pairs-in n ls h)
+
+sum-in : (n : ℕ) (ls : List Lit) → AreLitsOf n ls → All (IsSumOf n) (first_sum ls)
+sum-in n [] h = All-nil (IsSumOf n)
+sum-in n (l ∷ ls) h =
+    let first = h 0 l (omega arith) in
+    All-cons (IsSumOf n) (at_most_one_beside l ls) [] (
+      first,
+      All-cons (λ (p : Part). IsLitOf n p.lit) (counting (neg_ℤ (pos 2)) l) (map (counting (neg_ℤ (pos 1))) ls)
+          first (All-map (λ (p : Part). IsLitOf n p.lit) (counting (neg_ℤ (pos 1))) ls
+          (λ k d lt. h (suc k) d (omega (arith, lt)))),
+    ) (All-nil (IsSumOf n))
+
+sums-in : (n : ℕ) (ls : List Lit) → AreLitsOf n ls → All (IsSumOf n) (one_of_sums ls)
+sums-in n ls h = by (are_many ls)
+  where
+    by : (t : Bool) → All (IsSumOf n) (if t then first_sum ls else [])
+    by true = sum-in n ls h
+    by false = All-nil (IsSumOf n)
 
 open-in : (n k : ℕ) (o : Option Bool) (ls : List Lit) → 1 ≤ k → k ≤ n → AreLitsOf n ls → AreLitsOf n (with_open o k ls)
 open-in n k None ls low high h = All-cons (IsLitOf n) (positive_lit k) ls (low, high) h
@@ -120,18 +156,18 @@ said-fewer [] [] = omega arith
 said-fewer [] (t ∷ ts) = omega arith
 said-fewer (x ∷ xs) ts = omega arith
 
-said-all : (b : GroundBase) (P : List Lit → Type 0) (n : ℕ) (xs : List Elem) (ts : List (List Elem)) (i : ℕ)
-    → i < length ts
-    → All P (flat_map (λ (q : ℕ × List Elem). one_of_clauses (open_variables b (n + q.0 * length xs) xs))
+said-all : {Y : Type 0} (say : List Lit → List Y) (b : GroundBase) (P : Y → Type 0) (n : ℕ) (xs : List Elem)
+    (ts : List (List Elem)) (i : ℕ) → i < length ts
+    → All P (flat_map (λ (q : ℕ × List Elem). say (open_variables b (n + q.0 * length xs) xs))
     (enumerate_from 0 (said_tuples xs ts)))
-    → All P (one_of_clauses (open_variables b (n + i * length xs) xs))
-said-all b P n [] [] i h all = absurd (omega (arith, h))
-said-all b P n [] (t ∷ ts) i h all = All-front P ([] ∷ []) [] all
-said-all b P n (x ∷ xs) ts i h all =
+    → All P (say (open_variables b (n + i * length xs) xs))
+said-all say b P n [] [] i h all = absurd (omega (arith, h))
+said-all say b P n [] (t ∷ ts) i h all = All-front P (say []) [] all
+said-all say b P n (x ∷ xs) ts i h all =
     let r = get_or ts i [] in
     let numbered = has_enumerated 0 i ts r (slice_get-get_or ts i [] h) in
     let index : 0 + i ≡ i = omega arith in
-    part-all P (λ (q : ℕ × List Elem). one_of_clauses (open_variables b (n + q.0 * length (x ∷ xs)) (x ∷ xs)))
+    part-all P (λ (q : ℕ × List Elem). say (open_variables b (n + q.0 * length (x ∷ xs)) (x ∷ xs)))
     (enumerate_from 0 ts) (i, r) all (subst (λ m. Has (enumerate_from 0 ts) (m, r)) index numbered)
 
 -- facts
@@ -228,32 +264,34 @@ module _ (b : GroundBase) (is : IsGroundBase b) where
       some-elem [] j h = absurd (omega (arith, h))
       some-elem (x ∷ xs) j h = x
 
-  tuple-in : (s i : ℕ) (d : Symbol) (ty : ℕ) → slice_get b.vocabulary.symbols s ≡ Some d → d.value ≡ Some ty
-      → i < length (tuples_at b s) → All (AreLitsOf (length (ground_atoms b.vocabulary.symbols b.domains)))
-      (tuple_clauses b s i)
-  tuple-in s i d ty at value below =
+  tuple-in : {Y : Type 0} (say : List Lit → List Y) (P : Y → Type 0)
+      → ((ls : List Lit) → AreLitsOf (length (ground_atoms b.vocabulary.symbols b.domains)) ls → All P (say ls))
+      → (s i : ℕ) (d : Symbol) (ty : ℕ) → slice_get b.vocabulary.symbols s ≡ Some d → d.value ≡ Some ty
+      → i < length (tuples_at b s) → All P (tuple_says say b s i)
+  tuple-in say P within s i d ty at value below =
       let m = length (ground_atoms b.vocabulary.symbols b.domains) in
       let n = first_var b s + i * length (values_at b s) in
-      let ls = open_variables b n (values_at b s) in
-      let within : AreLitsOf m ls = variables-in b m n (values_at b s) (omega arith)
-      (λ j under. function-in s i j d ty at value below under) in
-      All-cons (AreLitsOf m) ls (pair_clauses ls) within (pairs-in m ls within)
+      within (open_variables b n (values_at b s)) (variables-in b m n (values_at b s) (omega arith)
+      (λ j under. function-in s i j d ty at value below under))
 
-  functions-in : All (AreLitsOf (length (ground_atoms b.vocabulary.symbols b.domains))) (all_function_clauses b)
-  functions-in =
-      let m = length (ground_atoms b.vocabulary.symbols b.domains) in
-      all-parts (AreLitsOf m) (λ (s : ℕ × Symbol). function_clauses b s.0) (functions_of b.vocabulary)
+  -- what is said of each list of open variables
+  each-said : {Y : Type 0} (say : List Lit → List Y) (P : Y → Type 0)
+      → ((s i : ℕ) (d : Symbol) (ty : ℕ) → slice_get b.vocabulary.symbols s ≡ Some d → d.value ≡ Some ty
+      → i < length (tuples_at b s) → All P (tuple_says say b s i))
+      → All P (functions_say say b)
+  each-said say P each =
+      all-parts P (λ (s : ℕ × Symbol). function_says say b s.0) (functions_of b.vocabulary)
       (λ s in-s.
       let p = function-of b s in-s in
       let said = said_tuples (values_at b s.0) (tuples_at b s.0) in
-      all-parts (AreLitsOf m) (λ (r : ℕ × List Elem). tuple_clauses b s.0 r.0) (enumerate_from 0 said)
+      all-parts P (λ (r : ℕ × List Elem). tuple_says say b s.0 r.0) (enumerate_from 0 said)
       (λ r in-r.
       let q = enumerated_has 0 said r.0 r.1 in-r in
       let index = q.1 in
       let within = slice_get_within said q.0 r.1 q.2 in
       let fewer = said-fewer (values_at b s.0) (tuples_at b s.0) in
       let below : q.0 < length (tuples_at b s.0) = omega (arith, within, fewer) in
-      tuple-in s.0 r.0 s.1 p.1.0 p.0 p.1.1 (omega (arith, index, below))))
+      each s.0 r.0 s.1 p.1.0 p.0 p.1.1 (omega (arith, index, below))))
 
   pub start-fine : length b.known ≤ length (ground_atoms b.vocabulary.symbols b.domains) → IsProblem (start_problem b)
   start-fine known =
@@ -262,9 +300,10 @@ module _ (b : GroundBase) (is : IsGroundBase b) where
         atoms = omega arith;
         gates = All-nil (IsGateOf m);
         clauses =
-            All-append (AreLitsOf m) (all_function_clauses b) (fact_clauses 1 b.known) functions-in
+            All-append (AreLitsOf m) (functions_say one_of_clauses b) (fact_clauses 1 b.known)
+            (each-said one_of_clauses (AreLitsOf m) (tuple-in one_of_clauses (AreLitsOf m) (one-of-in m)))
             (facts-in m 1 b.known (omega arith) (omega (arith, known)));
-        sums = All-nil (IsSumOf m);
+        sums = each-said one_of_sums (IsSumOf m) (tuple-in one_of_sums (IsSumOf m) (sums-in m));
         terms = All-nil (IsTermOf m);
         bounds = All-nil (IsBoundOf m []);
         retired = All-nil (IsLitOf m);
@@ -322,12 +361,12 @@ module _ (b : GroundBase) (is : IsGroundBase b) where
   }
 
   -- what the clauses say
-  tuple-true : (v : ℕ → Bool) (s i : ℕ) → All (IsSatisfied v) (all_function_clauses b) → i < length (tuples_at b s)
-      → IsSome (value_type_of b.vocabulary s) → All (IsSatisfied v) (tuple_clauses b s i)
-  tuple-true v s i h below some =
+  tuple-true : {Y : Type 0} (say : List Lit → List Y) (P : Y → Type 0) (s i : ℕ) → All P (functions_say say b)
+      → i < length (tuples_at b s) → IsSome (value_type_of b.vocabulary s) → All P (tuple_says say b s i)
+  tuple-true say P s i h below some =
       let p = declared-function (slice_get b.vocabulary.symbols s) some in
-      said-all b (IsSatisfied v) (first_var b s) (values_at b s) (tuples_at b s) i below
-      (part-all (IsSatisfied v) (λ (q : ℕ × Symbol). function_clauses b q.0) (functions_of b.vocabulary) (s, p.0) h
+      said-all say b P (first_var b s) (values_at b s) (tuples_at b s) i below
+      (part-all P (λ (q : ℕ × Symbol). function_says say b q.0) (functions_of b.vocabulary) (s, p.0) h
       (function_has b.vocabulary s p.0 p.1 p.2 p.3))
 
   known-at : (v : ℕ → Bool) → All (IsSatisfied v) (fact_clauses 1 b.known) → HasKnown b v
@@ -338,36 +377,37 @@ module _ (b : GroundBase) (is : IsGroundBase b) where
 
   pub start-atoms : HasAtoms b (start_problem b)
   start-atoms v s =
-      let functions = All-front (IsSatisfied v) (all_function_clauses b) (fact_clauses 1 b.known) s.clauses in
-      let facts = All-back (IsSatisfied v) (all_function_clauses b) (fact_clauses 1 b.known) s.clauses in
+      let functions = All-front (IsSatisfied v) (functions_say one_of_clauses b) (fact_clauses 1 b.known) s.clauses in
+      let facts = All-back (IsSatisfied v) (functions_say one_of_clauses b) (fact_clauses 1 b.known) s.clauses in
       let known : HasKnown b v = known-at v facts in
       record {
         one =
             λ f i below some. (one-each b v (first_var b f + i * length (values_at b f)) (values_at b f) known).0
-            (tuple-true v f i functions below some);
+            (record {
+              clauses = tuple-true one_of_clauses (IsSatisfied v) f i functions below some;
+              sums = tuple-true one_of_sums (SumHolds v) f i s.sums below some;
+            });
         known = known;
       }
+
+  -- each function has one value at each tuple
+  tuple-holds : (v : ℕ → Bool) → IsOver b v → (s i : ℕ) (d : Symbol) (ty : ℕ)
+      → slice_get b.vocabulary.symbols s ≡ Some d → d.value ≡ Some ty → i < length (tuples_at b s)
+      → OneOfHolds v (open_variables b (first_var b s + i * length (values_at b s)) (values_at b s))
+  tuple-holds v over s i d ty at value below =
+      let x = over.one s i below (is-function b s d ty at value) in
+      (one-each b v (first_var b s + i * length (values_at b s)) (values_at b s) over.known).1 x.0 x.1
 
   pub start-satisfied : (v : ℕ → Bool) → IsOver b v → Satisfies (start_problem b) v
   start-satisfied v over = record {
     gates = All-nil (GateHolds v);
-    clauses = All-append (IsSatisfied v) (all_function_clauses b) (fact_clauses 1 b.known)
-        (all-parts (IsSatisfied v) (λ (s : ℕ × Symbol). function_clauses b s.0) (functions_of b.vocabulary)
-        (λ s in-s.
-        let p = function-of b s in-s in
-        let said = said_tuples (values_at b s.0) (tuples_at b s.0) in
-        all-parts (IsSatisfied v) (λ (r : ℕ × List Elem). tuple_clauses b s.0 r.0) (enumerate_from 0 said)
-        (λ r in-r.
-        let q = enumerated_has 0 said r.0 r.1 in-r in
-        let index = q.1 in
-        let within = slice_get_within said q.0 r.1 q.2 in
-        let fewer = said-fewer (values_at b s.0) (tuples_at b s.0) in
-        let below : q.0 < length (tuples_at b s.0) = omega (arith, within, fewer) in
-        let x = over.one s.0 r.0 (omega (arith, index, below)) (is-function b s.0 s.1 p.1.0 p.0 p.1.1) in
-        (one-each b v (first_var b s.0 + r.0 * length (values_at b s.0)) (values_at b s.0) over.known).1 x.0 x.1)))
+    clauses = All-append (IsSatisfied v) (functions_say one_of_clauses b) (fact_clauses 1 b.known)
+        (each-said one_of_clauses (IsSatisfied v)
+        (λ s i d ty at value below. (tuple-holds v over s i d ty at value below).clauses))
         (known-facts v 1 b.known (λ j x at. let number : 1 + j ≡ suc j = omega arith in ap v number
         ∙ over.known (suc j) x (ap (λ o. unwrap_or o None) at)));
-    sums = All-nil (SumHolds v);
+    sums = each-said one_of_sums (SumHolds v)
+        (λ s i d ty at value below. (tuple-holds v over s i d ty at value below).sums);
     bounds = All-nil (BoundHolds v []);
     retired = All-nil (λ l. literal_value v l ≡ false);
   }
@@ -377,6 +417,6 @@ module _ (b : GroundBase) (is : IsGroundBase b) where
   fact-in-start zero x h = cc
   fact-in-start (suc n) x h =
       let number : 1 + n ≡ suc n = omega arith in
-      has_right (all_function_clauses b) (fact_clauses 1 b.known) (fact_of (suc n) x ∷ [])
+      has_right (functions_say one_of_clauses b) (fact_clauses 1 b.known) (fact_of (suc n) x ∷ [])
       (subst (λ k. Has (fact_clauses 1 b.known) (fact_of k x ∷ [])) number
       (fact-there 1 b.known n x (unwrapped (slice_get b.known n) x h)))

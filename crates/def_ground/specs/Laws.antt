@@ -12,13 +12,13 @@ use Rattle.lit_core.specs.declared.literals.Lit.{Lit}
 use Rattle.lit_core.specs.Literals.{literal_value}
 use Rattle.lit_core.specs.Truth.{IsSatisfied}
 use Rattle.ground_core.specs.Problems.{ProblemState, IsProblem, AreLitsOf}
-use Rattle.ground_core.specs.Meaning.{Satisfies}
+use Rattle.ground_core.specs.Meaning.{Satisfies, SumHolds}
 use Rattle.ground_core.specs.More.{Agree}
 use Rattle.term_values.specs.GroundBases.{GroundBase, structure_of, true_values, HasKnown}
 use Rattle.def_ground.specs.Cases.{Case, cases_of}
 use Rattle.def_ground.specs.Forms.{form_of}
 use Rattle.def_ground.specs.Sentences.{assert_of, assert_sentences}
-use Rattle.def_ground.specs.Problems.{one_of_clauses, open_variables}
+use Rattle.def_ground.specs.Problems.{one_of_clauses, one_of_sums, open_variables}
 use Rattle.def_ground.specs.GroundForms.{IsGroundForm}
 use Rattle.def_ground.specs.Meanings.{Means, AssertsMore, HasAtoms, HasRoom, IsCaseOf, CasesSay}
 
@@ -53,13 +53,18 @@ SentencesAreAsserted =
     → IsProblem p → HasAtoms b p → HasRoom b p → AllByRecursion (λ f. IsGroundForm b f []) fs
     → AssertsMore p (assert_sentences b fs p) (λ v. list_all (λ f. truth_of (structure_of b v) f []) fs)
 
--- in a valuation with what is known, the clauses of exactly one of the open variables say that exactly one of the
--- values is chosen
+-- the clauses and the sum of exactly one of these hold
+pub record OneOfHolds (v : ℕ → Bool) (ls : List Lit) : Type 0 where
+  pub clauses : All (IsSatisfied v) (one_of_clauses ls)
+  pub sums : All (SumHolds v) (one_of_sums ls)
+
+-- in a valuation with what is known, the clauses and the sum of exactly one of the open variables say that exactly one
+-- of the values is chosen
 abbrev pub OneEachByClauses : Type 0
 OneEachByClauses =
     (b : GroundBase) (v : ℕ → Bool) (n : ℕ) (xs : List Elem) → HasKnown b v
-    → (All (IsSatisfied v) (one_of_clauses (open_variables b n xs)) → (x : Elem) × (true_values v n xs ≡ x ∷ []))
-    × ((x : Elem) → true_values v n xs ≡ x ∷ [] → All (IsSatisfied v) (one_of_clauses (open_variables b n xs)))
+    → (OneOfHolds v (open_variables b n xs) → (x : Elem) × (true_values v n xs ≡ x ∷ []))
+    × ((x : Elem) → true_values v n xs ≡ x ∷ [] → OneOfHolds v (open_variables b n xs))
 
 -- a well typed formula adds no more than four variables for each of its occurrences
 abbrev pub FewVariables : Type 0

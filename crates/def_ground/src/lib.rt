@@ -7,7 +7,6 @@ mod asserted_cases;
 mod case_answers;
 mod cases;
 mod checked;
-mod exactly_one;
 mod gates;
 mod laws;
 mod linear;
@@ -20,7 +19,6 @@ pub use answers::Answer;
 pub use asserted_cases::{push_alike, push_answer, push_cases};
 pub use case_answers::answer_of_cases;
 pub use cases::{Case, case_of};
-pub use exactly_one::push_one_of;
 pub use gates::{add_part, close, gate, same};
 pub use laws::{
     assertion_is_right, cases_are_right, few_variables, form_is_right, one_each_by_clauses,

@@ -9,54 +9,71 @@ use Rattle.std.proofs.lemmas.List.Sums.{sum_by-take-drop}
 use Rattle.kb_logic.specs.declared.elements.Elem.{Elem}
 use Rattle.kb_logic.specs.declared.vocabularies.Symbol.{Symbol}
 use Rattle.lit_core.specs.declared.literals.Lit.{Lit}
+use Rattle.ground_core.specs.declared.parts.AggCon.{AggCon}
 use Rattle.ground_core.specs.Atoms.{ground_atoms}
 use Rattle.ground_core.specs.Problems.{ProblemState, AreLitsOf}
 use Rattle.term_values.specs.GroundBases.{GroundBase, atoms_in, first_var, tuples_at, values_at}
 use Rattle.term_values.specs.KnownBases.{IsGroundBase}
-use Rattle.def_ground.specs.Problems.{fact_clause, fact_clauses, function_clauses, said_tuples}
-use Rattle.def_ground.specs.Problems.{tuple_clauses, open_variables}
+use Rattle.def_ground.specs.Cases.{with_clauses}
+use Rattle.def_ground.specs.Problems.{fact_clause, fact_clauses, open_variables, said_tuples, saying}
+use Rattle.def_ground.specs.Problems.{tuple_says, function_says}
 use Rattle.term_values.proofs.Places.{atoms-count}
+use Rattle.def_ground.proofs.WithClauses.{with_none}
 use Rattle.def_ground.proofs.StartLaws.{atoms-length, said-fewer, start-room, variables-in}
 use Rattle.ground_walk.specs.Groundable.{HasVars}
 use Rattle.ground_walk.proofs.LeafSteps.{room-of}
 
-next-numbered : {X : Type 0} (F : ℕ → List (List Lit)) (n k : ℕ) (xs : List X) → k < length xs
+-- clauses and constraints that are said one after the other
+pub saying-no-sums : (p : ProblemState) (cs : List (List Lit)) → with_clauses p cs ≡ saying p cs []
+saying-no-sums p cs = ap (λ ss. record p { clauses = p.clauses ++ cs; sums = ss }) (sym (append-nil p.sums))
+
+pub saying-none : (p : ProblemState) → p ≡ saying p [] []
+saying-none p = sym (with_none p) ∙ saying-no-sums p []
+
+pub saying-more : (p : ProblemState) (cs ds : List (List Lit)) (ss ts : List AggCon)
+    → saying (saying p cs ss) ds ts ≡ saying p (cs ++ ds) (ss ++ ts)
+saying-more p cs ds ss ts =
+    ap (λ xs. record p { clauses = xs; sums = (p.sums ++ ss) ++ ts }) (append_assoc p.clauses cs ds)
+    ∙ ap (λ ys. record p { clauses = p.clauses ++ (cs ++ ds); sums = ys }) (append_assoc p.sums ss ts)
+
+next-numbered : {X Y : Type 0} (F : ℕ → List Y) (n k : ℕ) (xs : List X) → k < length xs
     → flat_map (λ (r : ℕ × X). F r.0) (take (k + 1) (enumerate_from n xs))
     ≡ flat_map (λ (r : ℕ × X). F r.0) (take k (enumerate_from n xs)) ++ F (n + k)
 next-numbered F n k [] h = absurd (omega (arith, h))
 next-numbered F n zero (x ∷ xs) h = let number : n ≡ n + 0 = omega arith in append-nil (F n) ∙ ap F number
-next-numbered {X} F n (suc k) (x ∷ xs) h =
+next-numbered {X} {Y} F n (suc k) (x ∷ xs) h =
     let next : suc k + 1 ≡ suc (k + 1) = omega arith in
     let number : (n + 1) + k ≡ n + suc k = omega arith in
-    let T : ℕ × X → List (List Lit) = λ r. F r.0 in
+    let T : ℕ × X → List Y = λ r. F r.0 in
     ap (λ m. flat_map T (take m ((n, x) ∷ enumerate_from (n + 1) xs))) next
     ∙ ap (λ cs. F n ++ cs) (next-numbered F (n + 1) k xs (omega (arith, h)))
     ∙ sym (append_assoc (F n) (flat_map T (take k (enumerate_from (n + 1) xs))) (F ((n + 1) + k)))
     ∙ ap (λ m. (F n ++ flat_map T (take k (enumerate_from (n + 1) xs))) ++ F m) number
 
--- the clauses of the first tuples of a function
-abbrev pub said-so-far : GroundBase → ℕ → ℕ → List (List Lit)
-said-so-far b s k =
-    flat_map (λ (r : ℕ × List Elem). tuple_clauses b s r.0)
+-- what is said at the first tuples of a function
+abbrev pub said-so-far : {Y : Type 0} → (List Lit → List Y) → GroundBase → ℕ → ℕ → List Y
+said-so-far say b s k =
+    flat_map (λ (r : ℕ × List Elem). tuple_says say b s r.0)
     (take k (enumerate_from 0 (said_tuples (values_at b s) (tuples_at b s))))
 
-pub next-said : (b : GroundBase) (s k : ℕ) → k < length (said_tuples (values_at b s) (tuples_at b s))
-    → said-so-far b s (k + 1) ≡ said-so-far b s k ++ tuple_clauses b s k
-next-said b s k h =
+pub next-said : {Y : Type 0} (say : List Lit → List Y) (b : GroundBase) (s k : ℕ)
+    → k < length (said_tuples (values_at b s) (tuples_at b s))
+    → said-so-far say b s (k + 1) ≡ said-so-far say b s k ++ tuple_says say b s k
+next-said say b s k h =
     let number : 0 + k ≡ k = omega arith in
-    next-numbered (tuple_clauses b s) 0 k (said_tuples (values_at b s) (tuples_at b s)) h
-    ∙ ap (λ n. said-so-far b s k ++ tuple_clauses b s n) number
+    next-numbered (tuple_says say b s) 0 k (said_tuples (values_at b s) (tuples_at b s)) h
+    ∙ ap (λ n. said-so-far say b s k ++ tuple_says say b s n) number
 
 length-numbered : {X : Type 0} (n : ℕ) (xs : List X) → length (enumerate_from n xs) ≡ length xs
 length-numbered n [] = refl
 length-numbered n (x ∷ xs) = ap suc (length-numbered (n + 1) xs)
 
-pub all-said : (b : GroundBase) (s k : ℕ) → length (said_tuples (values_at b s) (tuples_at b s)) ≤ k
-    → said-so-far b s k ≡ function_clauses b s
-all-said b s k h =
+pub all-said : {Y : Type 0} (say : List Lit → List Y) (b : GroundBase) (s k : ℕ)
+    → length (said_tuples (values_at b s) (tuples_at b s)) ≤ k → said-so-far say b s k ≡ function_says say b s
+all-said say b s k h =
     let ts = said_tuples (values_at b s) (tuples_at b s) in
     let e = length-numbered 0 ts in
-    ap (flat_map (λ (r : ℕ × List Elem). tuple_clauses b s r.0))
+    ap (flat_map (λ (r : ℕ × List Elem). tuple_says say b s r.0))
     (take_all k (enumerate_from 0 ts) (omega (arith, h, e)))
 
 -- the variables of a tuple are those of atoms
@@ -96,53 +113,56 @@ tuple-below b is s i said = by (values_at b s) refl
         ≤ length (ground_atoms b.vocabulary.symbols b.domains)) e top in
         omega (arith, top')
 
--- the clauses of the functions among symbols with these numbers
-abbrev pub of-functions : GroundBase → ℕ → List Symbol → List (List Lit)
-of-functions b n xs =
-    flat_map (λ (s : ℕ × Symbol). function_clauses b s.0)
+-- what is said of the functions among symbols with these numbers
+abbrev pub of-functions : {Y : Type 0} → (List Lit → List Y) → GroundBase → ℕ → List Symbol → List Y
+of-functions say b n xs =
+    flat_map (λ (s : ℕ × Symbol). function_says say b s.0)
     (filter (λ (s : ℕ × Symbol). is_some s.1.value) (enumerate_from n xs))
 
-abbrev pub if-function : GroundBase → Bool → ℕ → List (List Lit)
-if-function b t s = if t then function_clauses b s else []
+abbrev pub if-function : {Y : Type 0} → (List Lit → List Y) → GroundBase → Bool → ℕ → List Y
+if-function say b t s = if t then function_says say b s else []
 
-one-more : (b : GroundBase) (t : Bool) (n : ℕ) (x : Symbol) (rest : List (ℕ × Symbol)) (cs ds : List (List Lit))
-    → flat_map (λ (s : ℕ × Symbol). function_clauses b s.0) rest ≡ cs ++ ds
-    → flat_map (λ (s : ℕ × Symbol). function_clauses b s.0) (cond t ((n, x) ∷ rest) rest)
-    ≡ (if-function b t n ++ cs) ++ ds
-one-more b true n x rest cs ds h =
-    ap (λ es. function_clauses b n ++ es) h ∙ sym (append_assoc (function_clauses b n) cs ds)
-one-more b false n x rest cs ds h = h
+one-more : {Y : Type 0} (say : List Lit → List Y) (b : GroundBase) (t : Bool) (n : ℕ) (x : Symbol)
+    (rest : List (ℕ × Symbol)) (cs ds : List Y)
+    → flat_map (λ (s : ℕ × Symbol). function_says say b s.0) rest ≡ cs ++ ds
+    → flat_map (λ (s : ℕ × Symbol). function_says say b s.0) (cond t ((n, x) ∷ rest) rest)
+    ≡ (if-function say b t n ++ cs) ++ ds
+one-more say b true n x rest cs ds h =
+    ap (λ es. function_says say b n ++ es) h ∙ sym (append_assoc (function_says say b n) cs ds)
+one-more say b false n x rest cs ds h = h
 
-one-first : (b : GroundBase) (t : Bool) (n : ℕ) (x : Symbol) (rest : List (ℕ × Symbol))
-    → if-function b t n ++ flat_map (λ (s : ℕ × Symbol). function_clauses b s.0) rest
-    ≡ flat_map (λ (s : ℕ × Symbol). function_clauses b s.0) (cond t ((n, x) ∷ rest) rest)
-one-first b true n x rest = refl
-one-first b false n x rest = refl
+one-first : {Y : Type 0} (say : List Lit → List Y) (b : GroundBase) (t : Bool) (n : ℕ) (x : Symbol)
+    (rest : List (ℕ × Symbol))
+    → if-function say b t n ++ flat_map (λ (s : ℕ × Symbol). function_says say b s.0) rest
+    ≡ flat_map (λ (s : ℕ × Symbol). function_says say b s.0) (cond t ((n, x) ∷ rest) rest)
+one-first say b true n x rest = refl
+one-first say b false n x rest = refl
 
-alone : (b : GroundBase) (t : Bool) (n : ℕ) (x : Symbol)
-    → flat_map (λ (s : ℕ × Symbol). function_clauses b s.0) (cond t ((n, x) ∷ []) []) ≡ if-function b t n
-alone b true n x = append-nil (function_clauses b n)
-alone b false n x = refl
+alone : {Y : Type 0} (say : List Lit → List Y) (b : GroundBase) (t : Bool) (n : ℕ) (x : Symbol)
+    → flat_map (λ (s : ℕ × Symbol). function_says say b s.0) (cond t ((n, x) ∷ []) []) ≡ if-function say b t n
+alone say b true n x = append-nil (function_says say b n)
+alone say b false n x = refl
 
-pub next-function : (b : GroundBase) (n k : ℕ) (xs : List Symbol) (x : Symbol) → k < length xs → x ≡ get_or xs k x
-    → of-functions b n (take (k + 1) xs)
-    ≡ of-functions b n (take k xs) ++ if-function b (is_some x.value) (n + k)
-next-function b n k [] x h is = absurd (omega (arith, h))
-next-function b n zero (y ∷ ys) x h is =
+pub next-function : {Y : Type 0} (say : List Lit → List Y) (b : GroundBase) (n k : ℕ) (xs : List Symbol) (x : Symbol)
+    → k < length xs → x ≡ get_or xs k x
+    → of-functions say b n (take (k + 1) xs)
+    ≡ of-functions say b n (take k xs) ++ if-function say b (is_some x.value) (n + k)
+next-function say b n k [] x h is = absurd (omega (arith, h))
+next-function say b n zero (y ∷ ys) x h is =
     let number : n ≡ n + 0 = omega arith in
-    alone b (is_some y.value) n y ∙ ap (λ (z : Symbol). if-function b (is_some z.value) n) (sym is)
-    ∙ ap (if-function b (is_some x.value)) number
-next-function b n (suc k) (y ∷ ys) x h is =
+    alone say b (is_some y.value) n y ∙ ap (λ (z : Symbol). if-function say b (is_some z.value) n) (sym is)
+    ∙ ap (if-function say b (is_some x.value)) number
+next-function say b n (suc k) (y ∷ ys) x h is =
     let next : suc k + 1 ≡ suc (k + 1) = omega arith in
     let number : (n + 1) + k ≡ n + suc k = omega arith in
     let T : ℕ × Symbol → Bool = λ s. is_some s.1.value in
     let before = filter T (enumerate_from (n + 1) (take k ys)) in
     let more = filter T (enumerate_from (n + 1) (take (k + 1) ys)) in
-    ap (λ m. of-functions b n (take m (y ∷ ys))) next
-    ∙ one-more b (is_some y.value) n y more (of-functions b (n + 1) (take k ys))
-    (if-function b (is_some x.value) ((n + 1) + k)) (next-function b (n + 1) k ys x (omega (arith, h)) is)
-    ∙ ap (λ cs. cs ++ if-function b (is_some x.value) ((n + 1) + k)) (one-first b (is_some y.value) n y before)
-    ∙ ap (λ m. of-functions b n (y ∷ take k ys) ++ if-function b (is_some x.value) m) number
+    ap (λ m. of-functions say b n (take m (y ∷ ys))) next
+    ∙ one-more say b (is_some y.value) n y more (of-functions say b (n + 1) (take k ys))
+    (if-function say b (is_some x.value) ((n + 1) + k)) (next-function say b (n + 1) k ys x (omega (arith, h)) is)
+    ∙ ap (λ cs. cs ++ if-function say b (is_some x.value) ((n + 1) + k)) (one-first say b (is_some y.value) n y before)
+    ∙ ap (λ m. of-functions say b n (y ∷ take k ys) ++ if-function say b (is_some x.value) m) number
 
 -- facts
 pub next-fact : (n k : ℕ) (os : List (Option Bool)) → k < length os

@@ -4,6 +4,7 @@
 
 mod counting;
 mod disjuncts;
+mod exactly_one;
 mod forms;
 mod laws;
 mod leaves;

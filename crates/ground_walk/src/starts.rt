@@ -4,12 +4,11 @@ ghost use Rattle.std.specs.Prelude.{◌≡◌, ◌<◌, ◌≤◌, ◌^◌, [], 
 ghost use Rattle.term_values.specs.GroundBases.{tuples_at, values_at};
 ghost use Rattle.term_values.specs.KnownBases.{IsGroundBase};
 ghost use Rattle.def_ground.specs.Cases.{with_clauses};
-ghost use Rattle.def_ground.specs.Problems.{said_tuples, function_clauses, all_function_clauses, fact_clause};
-ghost use Rattle.def_ground.specs.Problems.{fact_clauses};
-ghost use Rattle.def_ground.specs.Problems.{start_problem};
+ghost use Rattle.def_ground.specs.Problems.{one_of_clauses, one_of_sums, said_tuples, function_says, functions_say};
+ghost use Rattle.def_ground.specs.Problems.{fact_clause, fact_clauses, saying, start_problem};
 ghost use Rattle.ground_walk.specs.Groundable.{HasVars, KnowsAtoms};
 
-use def_ground::push_one_of;
+use crate::exactly_one::push_one_of;
 use ground_core::{AtomTable, Memory, Problem};
 use lit_core::{Clause, Lit, Var};
 use std::alloc::Global;
@@ -42,7 +41,8 @@ fn push_function(
     requires known { KnowsAtoms base.now }
     requires declared { symbol < length base.now.vocabulary.symbols }
     requires room { HasVars base.now problem.old }
-    ensures { OnOk result (problem.new ≡ with_clauses problem.old (function_clauses base.now symbol)) }
+    ensures { OnOk result (problem.new ≡ saying problem.old
+        (function_says one_of_clauses base.now symbol) (function_says one_of_sums base.now symbol)) }
 {
     let values = base.values(symbol);
     let count = said_count(base, symbol)?;
@@ -68,8 +68,9 @@ fn push_symbol(
     requires known { KnowsAtoms base.now }
     requires declared { symbol < length base.now.vocabulary.symbols }
     requires room { HasVars base.now problem.old }
-    ensures { OnOk result (problem.new ≡ with_clauses problem.old
-        (if is_function then function_clauses base.now symbol else [])) }
+    ensures { OnOk result (problem.new ≡ saying problem.old
+        (if is_function then function_says one_of_clauses base.now symbol else [])
+        (if is_function then function_says one_of_sums base.now symbol else [])) }
 {
     if is_function {
         push_function(alloc, base, symbol, problem)
@@ -84,7 +85,8 @@ fn push_functions(alloc: Global, base: &GroundData<'_>, problem: &mut Problem) -
     requires known { KnowsAtoms base.now }
     requires few { length base.now.vocabulary.symbols ≤ 2 ^ 32 }
     requires room { HasVars base.now problem.old }
-    ensures { OnOk result (problem.new ≡ with_clauses problem.old (all_function_clauses base.now)) }
+    ensures { OnOk result (problem.new ≡ saying problem.old
+        (functions_say one_of_clauses base.now) (functions_say one_of_sums base.now)) }
 {
     let symbols = base.vocabulary().symbols.as_slice();
     for symbol in 0..symbols.len() {

@@ -3,11 +3,11 @@ use Rattle.kb_logic.specs.declared.elements.Elem.{Elem}
 use Rattle.lit_core.specs.declared.literals.Lit.{Lit}
 use Rattle.ground_core.specs.Problems.{ProblemState}
 use Rattle.term_values.specs.GroundBases.{first_var, tuples_at, values_at}
-use Rattle.def_ground.specs.Cases.{with_clauses}
-use Rattle.def_ground.specs.Problems.{one_of_clauses, said_tuples, tuple_clauses, open_variables}
-use Rattle.def_ground.proofs.WithClauses.{with_more}
+use Rattle.def_ground.specs.Problems.{one_of_clauses, one_of_sums, said_tuples, saying, tuple_says, function_says}
+use Rattle.def_ground.specs.Problems.{open_variables}
 use Rattle.ground_walk.specs.Groundable.{HasVars}
-use Rattle.ground_walk.proofs.StartSteps.{all-said, more-times, next-said, said-so-far, tuple-below, tuple-lits}
+use Rattle.ground_walk.proofs.StartSteps.{all-said, more-times, next-said, said-so-far, saying-more}
+use Rattle.ground_walk.proofs.StartSteps.{tuple-below, tuple-lits}
 use Rattle.ground_walk.proofs.starts.push_function.Goals as goal
 
 pub push_one_of-requires-clause-few : goal.push_one_of-requires-clause-few
@@ -50,22 +50,25 @@ loop-tuple-preserved c =
     let s = c.args.symbol in
     let i = c.loop-tuple._tuple in
     let p = c.args.problem.now in
-    let next = c.loop-tuple.next in
-    let xs = c.values-values.result.now in
     let said : i < length (said_tuples (values_at b s) (tuples_at b s)) =
     omega (arith, c.loop-tuple-test.true, c.in_ok-count.ensures) in
-    let cs = one_of_clauses (open_variables b next xs) in
-    let is : cs ≡ tuple_clauses b s i =
-    ap (λ (n : ℕ). one_of_clauses (open_variables b n xs)) c.loop-tuple.invariant.next
-    ∙ ap (λ (ys : List Elem). one_of_clauses (open_variables b (first_var b s + i * length (values_at b s)) ys))
+    let here = open_variables b c.loop-tuple.next c.values-values.result.now in
+    let is : here ≡ open_variables b (first_var b s + i * length (values_at b s)) (values_at b s) =
+    ap (λ (n : ℕ). open_variables b n c.values-values.result.now) c.loop-tuple.invariant.next
+    ∙ ap (λ (ys : List Elem). open_variables b (first_var b s + i * length (values_at b s)) ys)
     c.values-values.ensures in
+    let cs = said-so-far one_of_clauses b s i in
+    let ss = said-so-far one_of_sums b s i in
     let size = ap (λ (ys : List Elem). length ys) c.values-values.ensures in
     let times = more-times i (length (values_at b s)) in
     record {
-      said = c.in_ok-push_one_of.ensures ∙ ap (λ (q : ProblemState). with_clauses q cs) c.loop-tuple.invariant.said
-          ∙ with_more p (said-so-far b s i) cs
-          ∙ ap (λ (ds : List (List Lit)). with_clauses p (said-so-far b s i ++ ds)) is
-          ∙ ap (with_clauses p) (sym (next-said b s i said));
+      said = c.in_ok-push_one_of.ensures
+          ∙ ap (λ (q : ProblemState). saying q (one_of_clauses here) (one_of_sums here)) c.loop-tuple.invariant.said
+          ∙ saying-more p cs (one_of_clauses here) ss (one_of_sums here)
+          ∙ ap (λ (ls : List Lit). saying p (cs ++ one_of_clauses ls) (ss ++ one_of_sums ls)) is
+          ∙ ap (λ (ds : List (List Lit)). saying p ds (ss ++ tuple_says one_of_sums b s i))
+          (sym (next-said one_of_clauses b s i said))
+          ∙ ap (saying p (said-so-far one_of_clauses b s (i + 1))) (sym (next-said one_of_sums b s i said));
       next = omega (arith, size, times, c.loop-tuple.invariant.next);
     }
 
@@ -73,6 +76,10 @@ pub returns : goal.returns
 returns c =
     let b = c.args.base.now in
     let s = c.args.symbol in
+    let p = c.args.problem.now in
+    let k = c.loop-tuple._tuple in
+    let end : length (said_tuples (values_at b s) (tuples_at b s)) ≤ k =
+    omega (arith, c.loop-tuple-test.false, c.in_ok-count.ensures) in
     c.loop-tuple.invariant.said
-    ∙ ap (with_clauses c.args.problem.now)
-    (all-said b s c.loop-tuple._tuple (omega (arith, c.loop-tuple-test.false, c.in_ok-count.ensures)))
+    ∙ ap (λ (ds : List (List Lit)). saying p ds (said-so-far one_of_sums b s k)) (all-said one_of_clauses b s k end)
+    ∙ ap (saying p (function_says one_of_clauses b s)) (all-said one_of_sums b s k end)

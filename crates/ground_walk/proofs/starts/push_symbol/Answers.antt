@@ -1,13 +1,14 @@
 use Rattle.std.proofs.Common.{Bool, [], if◌then◌else◌, sym, ap, ◌∙◌}
-use Rattle.def_ground.specs.Cases.{with_clauses}
-use Rattle.def_ground.specs.Problems.{function_clauses}
-use Rattle.def_ground.proofs.WithClauses.{with_none}
+use Rattle.def_ground.specs.Problems.{function_says, one_of_clauses, one_of_sums, saying}
+use Rattle.ground_walk.proofs.StartSteps.{saying-none}
 use Rattle.ground_walk.proofs.starts.push_symbol.Goals as goal
 
 pub returns-else-is_function : goal.returns-else-is_function
 returns-else-is_function c =
     let p = c.args.problem.now in
-    sym
-    (ap (λ (t : Bool). with_clauses p (if t then function_clauses c.args.base.now c.args.symbol else []))
-    c.if-is_function.false
-    ∙ with_none p)
+    let b = c.args.base.now in
+    let s = c.args.symbol in
+    saying-none p
+    ∙ sym
+    (ap (λ (t : Bool). saying p (if t then function_says one_of_clauses b s else [])
+    (if t then function_says one_of_sums b s else [])) c.if-is_function.false)

@@ -1,7 +1,7 @@
 use Rattle.std.proofs.Common.{◌+◌, [], ◌++◌, take, sym, ap, ◌∙◌}
 use Rattle.def_ground.specs.Problems.{with_open, open_variables}
 use Rattle.def_ground.proofs.WithClauses.{next_variable}
-use Rattle.def_ground.proofs.exactly_one.variables.Goals as goal
+use Rattle.ground_walk.proofs.exactly_one.variables.Goals as goal
 
 pub loop-place-preserved : goal.loop-place-preserved
 loop-place-preserved c =

@@ -5,7 +5,7 @@ use Rattle.ground_core.specs.Problems.{ProblemState, AreLitsOf}
 use Rattle.def_ground.specs.Problems.{pair_clauses}
 use Rattle.def_ground.specs.Cases.{with_clauses}
 use Rattle.def_ground.proofs.WithClauses.{with_more}
-use Rattle.def_ground.proofs.exactly_one.push_pairs.Goals as goal
+use Rattle.ground_walk.proofs.exactly_one.push_pairs.Goals as goal
 
 pub loop-first-preserved : goal.loop-first-preserved
 loop-first-preserved c =

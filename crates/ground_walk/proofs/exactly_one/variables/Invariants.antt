@@ -1,6 +1,6 @@
 use Rattle.std.proofs.Common.{◌≡◌, take}
 use Rattle.def_ground.specs.Problems.{open_variables}
-use Rattle.def_ground.proofs.exactly_one.variables.Given as goal
+use Rattle.ground_walk.proofs.exactly_one.variables.Given as goal
 
 -- the variables so far
 abbrev pub invariant-loop-place : goal.invariant-loop-place

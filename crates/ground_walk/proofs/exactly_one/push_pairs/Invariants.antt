@@ -2,7 +2,7 @@ use Rattle.std.proofs.Common.{◌≡◌, length}
 use Rattle.ground_core.specs.Problems.{AreLitsOf}
 use Rattle.def_ground.specs.Problems.{pair_clauses}
 use Rattle.def_ground.specs.Cases.{with_clauses}
-use Rattle.def_ground.proofs.exactly_one.push_pairs.Given as goal
+use Rattle.ground_walk.proofs.exactly_one.push_pairs.Given as goal
 
 -- with the pairs of the rest come all
 abbrev pub invariant-loop-first : goal.invariant-loop-first
