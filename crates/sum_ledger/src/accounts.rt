@@ -1,5 +1,5 @@
 //! What is counted of one constraint.
-use aggregate_propagators::{Amount, gain_of, goal, threshold_of};
+use aggregate_propagators::{Amount, Threshold, gain_of, goal, threshold_of};
 use ground_core::{AggCon, Part};
 use kb_logic::AggKind;
 use lit_core::{Assignment, Lit};
@@ -20,13 +20,20 @@ pub struct Account {
     pub low: i128,
     /// The greatest.
     pub high: i128,
-    /// The most by which the value of one part moves an end.
+    /// The most by which the value of one part moves an end while the result has a value.
     pub most: i128,
-    /// Whether each variable stands in the constraint once.
+    /// Whether each variable stands in the constraint once, but for a part that is for the result.
     pub is_plain: bool,
+    /// Whether the result's variable stands in a part.
+    pub is_shared: bool,
     /// Whether the constraint changed since it was asked.
     pub is_waiting: bool,
 }
+
+/// A constraint whose result stands in one of its parts, and that has more parts than this, is asked only once it is
+/// contradicted. It says that a function has one value: each value that it excludes costs a look at all of its parts,
+/// where a search that decides the value costs next to nothing.
+const MOST_LOOKED_AHEAD: usize = 1024;
 
 /// By how much the least end and the greatest end rise where a part that gains so much gets the value.
 pub fn moves(gain: i64, value: bool) -> (i128, i128) {
@@ -58,12 +65,20 @@ fn value_of(values: &Assignment, lit: Lit) -> Option<bool> {
     }
 }
 
-/// Whether the parts' variables rise, and none is the result's.
-fn are_apart(out: Lit, parts: &[Part]) -> bool {
+/// Whether the part's variable is the result's, and the part is for the result: the value that makes the result true
+/// gives the greatest gain.
+fn is_for(threshold: Threshold, part: &Part) -> bool {
+    let gain = gain_of(threshold.kind, threshold.least, part.weight);
+    let out = out_of(threshold);
+    part.lit.var.0 == out.var.0 && (gain >= 0) == (part.lit.positive == out.positive)
+}
+
+/// Whether the parts' variables rise, and the result's is at most in one that is for it.
+fn are_apart(threshold: Threshold, parts: &[Part]) -> bool {
     let mut last = 0;
     for part in parts {
         let var = part.lit.var.0;
-        if var <= last || var == out.var.0 {
+        if var <= last || (var == threshold.out.var.0 && !is_for(threshold, part)) {
             return false;
         }
         last = var;
@@ -71,26 +86,36 @@ fn are_apart(out: Lit, parts: &[Part]) -> bool {
     true
 }
 
+/// The literal that is true exactly where the gains reach the goal.
+fn out_of(threshold: Threshold) -> Lit {
+    match threshold.kind {
+        AggKind::Min => threshold.out.negated(),
+        AggKind::Count | AggKind::Sum | AggKind::Max => threshold.out,
+    }
+}
+
 impl Account {
     /// The account of a constraint of whose variables none has a value.
     pub fn of(sum: &AggCon) -> Account {
         let threshold = threshold_of(sum);
         let mut account = Account {
-            out: match threshold.kind {
-                AggKind::Min => threshold.out.negated(),
-                AggKind::Count | AggKind::Sum | AggKind::Max => threshold.out,
-            },
+            out: out_of(threshold),
             goal: goal(threshold.kind, threshold.least),
             first_low: 0,
             first_high: 0,
             low: 0,
             high: 0,
             most: 0,
-            is_plain: are_apart(threshold.out, sum.parts.as_slice()),
+            is_plain: are_apart(threshold, sum.parts.as_slice()),
+            is_shared: false,
             is_waiting: true,
         };
         for part in sum.parts.as_slice() {
-            account.add_part(gain_of(threshold.kind, threshold.least, part.weight));
+            let gain = gain_of(threshold.kind, threshold.least, part.weight);
+            account.add_part(gain, part.lit.var != threshold.out.var);
+        }
+        if account.is_shared && sum.parts.len() > MOST_LOOKED_AHEAD {
+            account.most = 0;
         }
         account.begin();
         account
@@ -102,12 +127,17 @@ impl Account {
         self.high = self.first_high;
     }
 
-    /// Counts one more part, which has no value.
-    fn add_part(&mut self, gain: i64) {
+    /// Counts one more part, which has no value. Where its variable is the result's, the part has one whenever the
+    /// result does, and moves no end then.
+    fn add_part(&mut self, gain: i64, is_other: bool) {
         let gain = i128::from(gain);
         self.first_low = self.first_low.wrapping_add(gain.min(0));
         self.first_high = self.first_high.wrapping_add(gain.max(0));
-        self.most = self.most.max(gain.max(0i128.wrapping_sub(gain)));
+        if is_other {
+            self.most = self.most.max(gain.max(0i128.wrapping_sub(gain)));
+        } else {
+            self.is_shared = true;
+        }
     }
 
     /// Notes that a part that gains so much got the value.
