@@ -2,21 +2,24 @@
 use Rattle.std.proofs.Common.{◌≡◌, ℕ, zero, suc, ◌+◌, ◌*◌, ◌<◌, ◌≤◌, Bool, true, false, cond, if◌then◌else◌, List, []}
 use Rattle.std.proofs.Common.{◌∷◌, ◌++◌}
 use Rattle.std.proofs.Common.{filter, length, take, get_or, Option, None, is_some, slice_get, unwrap_or, refl, sym, ap}
-use Rattle.std.proofs.Common.{subst, ◌∙◌, arith, append_assoc}
+use Rattle.std.proofs.Common.{subst, ◌∙◌, arith, append_assoc, map, pos, neg_ℤ}
 use Rattle.std.specs.List.{flat_map, enumerate_from}
 use Rattle.std.proofs.lemmas.List.{append-nil, take_all}
+use Rattle.std.proofs.lemmas.List.Elements.{All-cons, All-map}
 use Rattle.std.proofs.lemmas.List.Sums.{sum_by-take-drop}
 use Rattle.kb_logic.specs.declared.elements.Elem.{Elem}
 use Rattle.kb_logic.specs.declared.vocabularies.Symbol.{Symbol}
 use Rattle.lit_core.specs.declared.literals.Lit.{Lit}
+use Rattle.ground_core.specs.declared.parts.Part.{Part}
 use Rattle.ground_core.specs.declared.parts.AggCon.{AggCon}
 use Rattle.ground_core.specs.Atoms.{ground_atoms}
-use Rattle.ground_core.specs.Problems.{ProblemState, AreLitsOf}
+use Rattle.ground_core.specs.Problems.{ProblemState, AreLitsOf, IsLitOf, IsSumOf}
 use Rattle.term_values.specs.GroundBases.{GroundBase, atoms_in, first_var, tuples_at, values_at}
 use Rattle.term_values.specs.KnownBases.{IsGroundBase}
 use Rattle.def_ground.specs.Cases.{with_clauses}
 use Rattle.def_ground.specs.Problems.{fact_clause, fact_clauses, open_variables, said_tuples, saying}
 use Rattle.def_ground.specs.Problems.{tuple_says, function_says}
+use Rattle.def_ground.specs.Problems.{counting, at_most_one_beside}
 use Rattle.term_values.proofs.Places.{atoms-count}
 use Rattle.def_ground.proofs.WithClauses.{with_none}
 use Rattle.def_ground.proofs.StartLaws.{atoms-length, said-fewer, start-room, variables-in}
@@ -35,6 +38,15 @@ pub saying-more : (p : ProblemState) (cs ds : List (List Lit)) (ss ts : List Agg
 saying-more p cs ds ss ts =
     ap (λ xs. record p { clauses = xs; sums = (p.sums ++ ss) ++ ts }) (append_assoc p.clauses cs ds)
     ∙ ap (λ ys. record p { clauses = p.clauses ++ (cs ++ ds); sums = ys }) (append_assoc p.sums ss ts)
+
+-- the variables of the constraint are those of the literals
+pub beside-within : (n : ℕ) (l : Lit) (ls : List Lit) → IsLitOf n l → AreLitsOf n ls
+    → IsSumOf n (at_most_one_beside l ls)
+beside-within n l ls here rest = (
+  here,
+  All-cons (λ (p : Part). IsLitOf n p.lit) (counting (neg_ℤ (pos 2)) l) (map (counting (neg_ℤ (pos 1))) ls) here
+      (All-map (λ (p : Part). IsLitOf n p.lit) (counting (neg_ℤ (pos 1))) ls rest),
+)
 
 next-numbered : {X Y : Type 0} (F : ℕ → List Y) (n k : ℕ) (xs : List X) → k < length xs
     → flat_map (λ (r : ℕ × X). F r.0) (take (k + 1) (enumerate_from n xs))
