@@ -1,0 +1,4 @@
+pub mod OpenWeights
+pub mod Fits
+pub mod Laws
+pub mod Examples
