@@ -1,8 +1,8 @@
-mod Capping
+pub mod Capping
 mod Fair
 mod Steps
 mod Widening
-mod Walks
+pub mod Walks
 mod Noting
 mod Reaching
 mod Counting

@@ -2,10 +2,10 @@
 //! may become.
 #![tactic(auto)]
 
-mod applications;
+pub mod applications;
 mod bounds;
-mod capped;
-mod counts;
+pub mod capped;
+pub mod counts;
 mod domain_integers;
 pub mod domains;
 mod intervals;
