@@ -1,4 +1,5 @@
 pub mod OpenWeights
+pub mod Atoms
 pub mod Fits
 pub mod Laws
 pub mod Examples

@@ -1,0 +1,3 @@
+mod Sums
+mod Less
+mod Small
