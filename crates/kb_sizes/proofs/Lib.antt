@@ -1,8 +1,8 @@
 pub mod Capping
 mod Fair
-mod Steps
+pub mod Steps
 mod Widening
-pub mod Walks
+mod Walks
 mod Noting
 mod Reaching
 mod Counting
