@@ -237,10 +237,10 @@ module _ (v : Vocabulary) (k : KnownAtoms) where
 
 -- ---- atoms
 
-plain_atom : ℕ → List Elem → GroundAtom
+abbrev plain_atom : ℕ → List Elem → GroundAtom
 plain_atom i t = record { symbol = i; args = t; value = None }
 
-valued_atom : ℕ → List Elem → Elem → GroundAtom
+abbrev valued_atom : ℕ → List Elem → Elem → GroundAtom
 valued_atom i t x = record { symbol = i; args = t; value = Some x }
 
 atoms_there : (domains : List (List Elem)) (i : ℕ) (ts : List (List Elem)) (o : Option ℕ)
@@ -253,13 +253,13 @@ atoms_there domains i (t ∷ ts) (Some ty) =
     let d = domain_at domains ty in
     let rest = atoms_there domains i ts (Some ty) in
     let first : length (atoms_with domains i (t ∷ ts) (Some ty)) ≡ length (map (valued_atom i t) d)
-        + length (atoms_with domains i ts (Some ty)) =
+    + length (atoms_with domains i ts (Some ty)) =
     length-append (map (valued_atom i t) d) (atoms_with domains i ts (Some ty)) in
     let here : length (map (valued_atom i t) d) ≡ length d = length-map d (valued_atom i t) in
     let more : (length ts + 1) * length d ≡ length ts * length d + length d = omega arith in
     omega (arith, rest, first, here, more)
 
-atoms_of : List (List Elem) → Symbol → ℕ
+abbrev atoms_of : List (List Elem) → Symbol → ℕ
 atoms_of domains d = length (tuples_of domains d.args) * value_count domains d.value
 
 all_atoms : (symbols : List Symbol) (domains : List (List Elem)) → length (atoms_over symbols domains)

@@ -1,3 +1,5 @@
 mod Sums
 mod Less
 mod Small
+mod Walks
+mod Unknown

@@ -74,15 +74,22 @@ fn in_symbol<'a>(s: Known<'a>, symbol: u32, declared: &'a Symbol) -> u64
     )
 }
 
-/// How many atoms are unknown.
-pub(crate) fn unknown(known: &Partial) -> u64
-    requires { length known.now.symbols ≤ 2 ^ 32 }
-    ensures { result ≡ capped (unknown_atoms known.now) }
+/// As `unknown`.
+fn unknown_in(s: Known<'_>) -> u64
+    requires { length s.symbols.now ≤ 2 ^ 32 }
+    ensures { result ≡ capped (unknown_atoms (known_in s.entry)) }
 {
-    let s = known.lent();
     let mut count = 0u64;
     for at in 0..s.symbols.len() {
         count = plus(count, in_symbol(s, at as u32, &s.symbols[at]));
     }
     count
+}
+
+/// How many atoms are unknown.
+pub(crate) fn unknown(known: &Partial) -> u64
+    requires { length known.now.symbols ≤ 2 ^ 32 }
+    ensures { result ≡ capped (unknown_atoms known.now) }
+{
+    unknown_in(known.lent())
 }

@@ -84,10 +84,7 @@ fn gathered<'a>(
         (choices setting.entry.known.now.domains bounds.now) }
 {
     if bounds.is_empty() {
-        let more = plus(
-            formula(setting, condition, env),
-            term(setting, weight, env),
-        );
+        let more = plus(formula(setting, condition, env), term(setting, weight, env));
         return plus(before, more);
     }
     let (block, others) = split_in(setting.known.domains().as_slice(), bounds);
@@ -115,7 +112,10 @@ fn formula<'a>(setting: Setting<'a>, of: &'a Formula, env: &'a Env<'a>) -> u64
         Formula::Atom(_, args) => plus(all_applications(setting, args), terms(setting, args, env)),
         Formula::Compare(_, left, right) => {
             let own = times(applications(setting, left), applications(setting, right));
-            plus(plus(own, term(setting, left, env)), term(setting, right, env))
+            plus(
+                plus(own, term(setting, left, env)),
+                term(setting, right, env),
+            )
         }
         Formula::Not(inner) => plus(1, formula(setting, inner, env)),
         Formula::And(parts) => plus(1, formulas(setting, parts, env)),

@@ -1,0 +1,126 @@
+-- The unknown atoms are those of each symbol, which are those of each tuple.
+use Rattle.std.proofs.Common.{◌≡◌, ◌<◌, ◌≤◌, ℕ, ◌+◌, Bool, true, if◌then◌else◌, List, [], ◌∷◌, ◌++◌, map, length, drop}
+use Rattle.std.proofs.Common.{get_or, fold, slice_get, Option, None, Some, refl, sym, ap, ◌∙◌, append_assoc, arith}
+use Rattle.std.specs.List.{sum_by, enumerate_from}
+use Rattle.std.proofs.lemmas.List.FromFn.{length-enumerate_from, get_or-enumerate_from}
+use Rattle.std.proofs.lemmas.List.Sums.{length-filter, sum_by-drop_more, fold-append}
+use Rattle.kb_logic.specs.declared.elements.Elem.{Elem}
+use Rattle.kb_logic.specs.declared.vocabularies.Symbol.{Symbol}
+use Rattle.kb_logic.specs.Denotations.{Denotation, denotation_of}
+use Rattle.kb_logic.specs.KnownAtoms.{KnownAtoms, atoms_with, atoms_over}
+use Rattle.kb_logic.specs.Models.{GroundAtom}
+use Rattle.kb_logic.specs.Structures.{domain_at, tuples_of}
+use Rattle.kb_logic.proofs.Assignments.{before}
+use Rattle.kb_logic.proofs.Atoms.{tuple_elements}
+use Rattle.kb_logic.proofs.Has.{Has, contains_from, enumerated_has}
+use Rattle.kb_logic.proofs.Pairs.{sum_by-pairs}
+use Rattle.reading_stages.specs.SizesStage.{capped}
+use Rattle.partial_structures.specs.Applications.{arguments_typed, value_typed, result_typed, outside_value}
+use Rattle.partial_structures.specs.Applications.{atom_certain, value_certain}
+use Rattle.partial_structures.specs.Known.{start_of, stepped, spot_of}
+use Rattle.partial_structures.specs.KnownAtoms.{value_at, value_of_row}
+use Rattle.partial_structures.specs.declared.known.Known.{Known}
+use Rattle.partial_structures.specs.declared.truths.Truth.{Truth}
+use Rattle.partial_structures.specs.declared.truths.Truth.TheVariants as truth
+use Rattle.partial_structures.proofs.Walks.{stands_is, typed_tuple}
+use Rattle.quantifier_bounds.specs.Steps.{is_unknown, unknown_atoms}
+use Rattle.kb_sizes.proofs.Capping.{Same, part_next}
+use Rattle.open_sizes.specs.Atoms.{open_in_symbol, open_in_tuples, open_in_values}
+use Rattle.open_sizes.specs.OpenWeights.{where_open}
+use Rattle.open_sizes.proofs.Sums.{sum-map, sum-flat, sum-same}
+
+-- one item more of a sum that stops at the greatest number
+pub sum_next : {X : Type 0} (h : X → ℕ) (xs : List X) (i : ℕ) (x : X) (count new y all : ℕ) → i < length xs
+    → x ≡ get_or xs i x → new ≡ capped (count + y) → y ≡ capped (h x) → Same (count + sum_by h (drop i xs)) all
+    → Same (new + sum_by h (drop (i + 1) xs)) all
+sum_next h xs i x count new y all lt at is part so_far =
+    let rest = sum_by h (drop (i + 1) xs) in
+    let next : sum_by h (drop i xs) ≡ h x + rest =
+    sum_by-drop_more h xs i x lt ∙ ap (λ z. h z + rest) (sym at) in
+    part_next count new y (h x) rest all is part (ap (λ n. capped (count + n)) (sym next) ∙ so_far)
+
+pub one_small : (t : Truth) → where_open t 1 ≡ capped (where_open t 1)
+one_small truth.Yes = refl
+one_small truth.No = refl
+one_small truth.Unknown = refl
+
+-- one argument further
+pub spot_next : (s : Known) (symbol : ℕ) (vs : List Denotation) (d : Denotation)
+    → stepped s (spot_of s symbol vs) d ≡ spot_of s symbol (vs ++ d ∷ [])
+spot_next s symbol vs d = sym (fold-append (stepped s) (start_of s symbol) vs (d ∷ []))
+
+-- the tuples after one more argument
+pub tuples_next : (k : KnownAtoms) (s : ℕ) (value : Option ℕ) (ty : ℕ) (types : List ℕ) (vs : List Denotation)
+    → open_in_tuples k s value (ty ∷ types) vs
+    ≡ sum_by (λ x. open_in_tuples k s value types (vs ++ denotation_of x ∷ [])) (domain_at k.domains ty)
+tuples_next k s value ty types vs =
+    let ts = tuples_of k.domains types in
+    sum_by-pairs (λ (t : List Elem). open_in_values k s value (vs ++ map denotation_of t)) before ts
+    (domain_at k.domains ty)
+    ∙ sum-same _ _ (domain_at k.domains ty) (λ x at. sum-same _ _ ts (λ t there.
+    ap (open_in_values k s value) (sym (append_assoc vs (denotation_of x ∷ []) (map denotation_of t)))))
+
+module _ (k : KnownAtoms) (i : ℕ) (d : Symbol) (there : slice_get k.symbols i ≡ Some d) where
+  typed : (t : List Elem) → Has (tuples_of k.domains d.args) t
+      → arguments_typed k (slice_get k.symbols i) (map denotation_of t) ≡ true
+  typed t at = ap (λ o. arguments_typed k o (map denotation_of t)) there
+      ∙ typed_tuple k.domains d.args t (tuple_elements k.domains d.args t
+      (contains_from (tuples_of k.domains d.args) t at))
+
+  predicate : (t : List Elem) → Has (tuples_of k.domains d.args) t
+      → atom_certain k i (Some (map denotation_of t)) ≡ value_of_row k i (map denotation_of t) None
+  predicate t at = ap (λ b. if b then value_of_row k i (map denotation_of t) None else truth.No) (typed t at)
+
+  value : (ty : ℕ) → d.value ≡ Some ty → (t : List Elem) → Has (tuples_of k.domains d.args) t → (x : Elem)
+      → Has (domain_at k.domains ty) x
+      → value_certain k i (Some (map denotation_of t)) (Some (denotation_of x))
+      ≡ value_of_row k i (map denotation_of t) (Some (denotation_of x))
+  value ty declared t at x in' =
+      let vs = map denotation_of t in
+      let v = denotation_of x in
+      let within : result_typed k (slice_get k.symbols i) v ≡ true =
+      ap (λ o. result_typed k o v) there ∙ ap (λ o. value_typed k o v) declared
+      ∙ stands_is (domain_at k.domains ty) x in' in
+      ap (λ b. if b then (if result_typed k (slice_get k.symbols i) v then value_of_row k i vs (Some v) else
+      outside_value (slice_get k.symbols i)) else truth.Unknown) (typed t at)
+      ∙ ap (λ b. if b then value_of_row k i vs (Some v) else outside_value (slice_get k.symbols i)) within
+
+  with_value : (o : Option ℕ) → d.value ≡ o
+      → sum_by (λ a. where_open (value_at k a) 1) (atoms_with k.domains i (tuples_of k.domains d.args) o)
+      ≡ open_in_tuples k i o d.args []
+  with_value None declared =
+      let ts = tuples_of k.domains d.args in
+      sum-map (λ (a : GroundAtom). where_open (value_at k a) 1) (λ t. record { symbol = i; args = t; value = None }) ts
+      ∙ sum-same _ _ ts (λ t at. ap (λ u. where_open u 1) (sym (predicate t at)))
+  with_value (Some ty) declared =
+      let ts = tuples_of k.domains d.args in
+      let xs = domain_at k.domains ty in
+      sum-flat (λ (a : GroundAtom). where_open (value_at k a) 1)
+      (λ t. map (λ x. record { symbol = i; args = t; value = Some x }) xs) ts
+      ∙ sum-same _ _ ts (λ t at.
+      sum-map (λ (a : GroundAtom). where_open (value_at k a) 1)
+      (λ x. record { symbol = i; args = t; value = Some x }) xs
+      ∙ sum-same _ _ xs (λ x in'. ap (λ u. where_open u 1) (sym (value ty declared t at x in'))))
+
+  of_symbol : sum_by (λ a. where_open (value_at k a) 1)
+      (atoms_with k.domains i (tuples_of k.domains d.args) d.value) ≡ open_in_symbol k i d
+  of_symbol = with_value d.value refl
+
+-- ... and so all unknown atoms are those of the symbols
+pub by_symbols : (k : KnownAtoms) → unknown_atoms k
+    ≡ sum_by (λ (s : ℕ × Symbol). open_in_symbol k s.0 s.1) (enumerate_from 0 k.symbols)
+by_symbols k =
+    length-filter (λ (a : GroundAtom). is_unknown (value_at k a)) (atoms_over k.symbols k.domains)
+    ∙ sum-flat (λ (a : GroundAtom). where_open (value_at k a) 1)
+    (λ (s : ℕ × Symbol). atoms_with k.domains s.0 (tuples_of k.domains s.1.args) s.1.value)
+    (enumerate_from 0 k.symbols)
+    ∙ sum-same _ _ (enumerate_from 0 k.symbols) (λ s at.
+    let found = enumerated_has 0 k.symbols s.0 s.1 at in
+    let number : s.0 ≡ found.0 = let is = found.1 in omega (arith, is) in
+    of_symbol k s.0 s.1 (ap (slice_get k.symbols) number ∙ found.2))
+
+-- the symbols that are left, and the next one
+pub symbol_at : (k : KnownAtoms) (i : ℕ) (d : Symbol) → i < length k.symbols → d ≡ get_or k.symbols i d
+    → (i, d) ≡ get_or (enumerate_from 0 k.symbols) i (i, d)
+symbol_at k i d lt at =
+    sym (get_or-enumerate_from 0 k.symbols i (i, d) lt ∙ ap {B = ℕ × Symbol} (λ x. (i, x)) (sym at))
