@@ -1,7 +1,8 @@
 -- The unknown atoms are those of each symbol, which are those of each tuple.
-use Rattle.std.proofs.Common.{◌≡◌, ◌<◌, ◌≤◌, ℕ, ◌+◌, Bool, true, if◌then◌else◌, List, [], ◌∷◌, ◌++◌, map, length, drop}
+use Rattle.std.proofs.Common.{◌≡◌, ◌<◌, ◌≤◌, ℕ, zero, suc, ◌+◌, Bool, true, if◌then◌else◌, List, [], ◌∷◌, ◌++◌, map, length, drop}
 use Rattle.std.proofs.Common.{get_or, fold, slice_get, Option, None, Some, refl, sym, ap, ◌∙◌, append_assoc, arith}
 use Rattle.std.specs.List.{sum_by, enumerate_from}
+use Rattle.std.proofs.lemmas.List.{at_drop_all}
 use Rattle.std.proofs.lemmas.List.FromFn.{length-enumerate_from, get_or-enumerate_from}
 use Rattle.std.proofs.lemmas.List.Sums.{length-filter, sum_by-drop_more, fold-append}
 use Rattle.kb_logic.specs.declared.elements.Elem.{Elem}
@@ -24,20 +25,30 @@ use Rattle.partial_structures.specs.declared.truths.Truth.{Truth}
 use Rattle.partial_structures.specs.declared.truths.Truth.TheVariants as truth
 use Rattle.partial_structures.proofs.Walks.{stands_is, typed_tuple}
 use Rattle.quantifier_bounds.specs.Steps.{is_unknown, unknown_atoms}
-use Rattle.kb_sizes.proofs.Capping.{Same, part_next}
+use Rattle.kb_sizes.proofs.Capping.{Same, part_next, last_part}
 use Rattle.open_sizes.specs.Atoms.{open_in_symbol, open_in_tuples, open_in_values}
 use Rattle.open_sizes.specs.OpenWeights.{where_open}
 use Rattle.open_sizes.proofs.Sums.{sum-map, sum-flat, sum-same}
 
 -- one item more of a sum that stops at the greatest number
-pub sum_next : {X : Type 0} (h : X → ℕ) (xs : List X) (i : ℕ) (x : X) (count new y all : ℕ) → i < length xs
-    → x ≡ get_or xs i x → new ≡ capped (count + y) → y ≡ capped (h x) → Same (count + sum_by h (drop i xs)) all
+pub sum_next : {X : Type 0} (h : X → ℕ) (xs : List X) (i : ℕ) (x z : X) (count new y all : ℕ) → i < length xs
+    → x ≡ get_or xs i z → new ≡ capped (count + y) → y ≡ capped (h x) → Same (count + sum_by h (drop i xs)) all
     → Same (new + sum_by h (drop (i + 1) xs)) all
-sum_next h xs i x count new y all lt at is part so_far =
+sum_next h xs i x z count new y all lt at is part so_far =
     let rest = sum_by h (drop (i + 1) xs) in
     let next : sum_by h (drop i xs) ≡ h x + rest =
-    sum_by-drop_more h xs i x lt ∙ ap (λ z. h z + rest) (sym at) in
+    sum_by-drop_more h xs i z lt ∙ ap (λ w. h w + rest) (sym at) in
     part_next count new y (h x) rest all is part (ap (λ n. capped (count + n)) (sym next) ∙ so_far)
+
+-- ... and its end
+pub sum_done : {X : Type 0} (h : X → ℕ) (xs : List X) (i count all : ℕ) → length xs ≤ i → count ≡ capped count
+    → Same (count + sum_by h (drop i xs)) all → count ≡ capped all
+sum_done h xs i count all past is so_far = last_part count all is
+    (sym (at_drop_all (λ ys. capped (count + sum_by h ys)) xs i past) ∙ so_far)
+
+-- a sum to begin with
+pub sum_first : (a b : ℕ) → a ≡ b → Same (0 + a) b
+sum_first a b e = ap capped (omega (arith, e))
 
 pub one_small : (t : Truth) → where_open t 1 ≡ capped (where_open t 1)
 one_small truth.Yes = refl
@@ -119,8 +130,17 @@ by_symbols k =
     let number : s.0 ≡ found.0 = let is = found.1 in omega (arith, is) in
     of_symbol k s.0 s.1 (ap (slice_get k.symbols) number ∙ found.2))
 
--- the symbols that are left, and the next one
-pub symbol_at : (k : KnownAtoms) (i : ℕ) (d : Symbol) → i < length k.symbols → d ≡ get_or k.symbols i d
-    → (i, d) ≡ get_or (enumerate_from 0 k.symbols) i (i, d)
-symbol_at k i d lt at =
-    sym (get_or-enumerate_from 0 k.symbols i (i, d) lt ∙ ap {B = ℕ × Symbol} (λ x. (i, x)) (sym at))
+-- the symbol with a number, and that there are as many numbers
+pub symbol_at : (ss : List Symbol) (i : ℕ) (d : Symbol) → i < length ss
+    → (i, get_or ss i d) ≡ get_or (enumerate_from 0 ss) i (i, d)
+symbol_at ss i d lt =
+    let zero : i ≡ 0 + i = omega arith in
+    ap {B = ℕ × Symbol} (λ n. (n, get_or ss i d)) zero ∙ sym (get_or-enumerate_from 0 ss i (i, d) lt)
+
+pub as_many : (ss : List Symbol) → length ss ≡ length (enumerate_from 0 ss)
+as_many ss = sym (length-enumerate_from 0 ss)
+
+pub get_here : {X : Type 0} (xs : List X) (n : ℕ) (x : X) → n < length xs → slice_get xs n ≡ Some (get_or xs n x)
+get_here [] n x lt = absurd (omega (arith, lt))
+get_here (y ∷ xs) zero x lt = refl
+get_here (y ∷ xs) (suc n) x lt = get_here xs n x (omega (arith, lt))

@@ -1,19 +1,20 @@
 -- Counts that stop at the greatest number, made part by part.
-use Rattle.std.proofs.Common.{◌≡◌, ℕ, ◌+◌, ◌*◌, true, if◌then◌else◌, List, [], ◌∷◌, ◌++◌, fold}
-use Rattle.std.proofs.Common.{ℤ, ap, ◌∙◌, subst, arith}
+use Rattle.std.proofs.Common.{◌≡◌, ℕ, ◌+◌, ◌*◌, true, false, if◌then◌else◌, List, [], ◌∷◌, ◌++◌, fold}
+use Rattle.std.proofs.Common.{length, is_some, ℤ, ap, ◌∙◌, subst, arith}
 use Rattle.std.specs.List.{sum_by}
 use Rattle.std.proofs.lemmas.List.Sums.{sum_by-cons}
 use Rattle.kb_logic.specs.declared.elements.Elem.{Elem}
 use Rattle.kb_logic.specs.declared.vocabularies.Bound.{Bound}
 use Rattle.kb_logic.specs.declared.vocabularies.Vocabulary.{Vocabulary}
+use Rattle.kb_logic.specs.declared.syntax.AggKind.{AggKind}
 use Rattle.kb_logic.specs.declared.syntax.Cmp.{Cmp}
 use Rattle.kb_logic.specs.KnownAtoms.{KnownAtoms}
 use Rattle.kb_logic.specs.Structures.{choices}
-use Rattle.kb_logic.specs.Trees.{TermTree, FormulaTree, comparison, universal, existential, numbered}
+use Rattle.kb_logic.specs.Trees.{TermTree, aggregate, FormulaTree, comparison, universal, existential, numbered}
 use Rattle.kb_logic.specs.Weights.{application_count}
 use Rattle.reading_stages.specs.SizesStage.{capped}
 use Rattle.partial_structures.specs.declared.truths.Truth.{Truth}
-use Rattle.certain_truth.specs.Certainty.{certain_truth}
+use Rattle.certain_truth.specs.Certainty.{certain_truth, known_value}
 use Rattle.quantifier_bounds.specs.Steps.{is_unknown}
 use Rattle.kb_sizes.proofs.Capping.{again, times_same}
 use Rattle.open_sizes.specs.OpenWeights.{where_open, open_occurrences, open_in_term}
@@ -62,3 +63,17 @@ module _ (v : Vocabulary) (k : KnownAtoms) (g : FormulaTree) (e : List Elem)
         ≡ 1 + sum_by (λ a. open_occurrences v k f (e ++ a)) (choices k.domains bs)
     open_numbered c n same = ap (λ x. open_occurrences v k x e) same
         ∙ counts (certain_truth k (numbered c n bs f) e) _ (is_open (numbered c n bs f) same)
+
+-- ---- what an aggregate counts whose value is not known
+
+pub open_aggregate : (v : Vocabulary) (k : KnownAtoms) (g : TermTree) (e : List Elem)
+    → is_some (known_value k g e) ≡ false → (c : AggKind) (bs : List Bound) (f : FormulaTree) (t : TermTree)
+    → g ≡ aggregate c bs f t → open_in_term v k g e
+    ≡ length (choices k.domains bs) * application_count v k.domains t
+    + sum_by (λ a. open_occurrences v k f (e ++ a) + open_in_term v k t (e ++ a)) (choices k.domains bs)
+open_aggregate v k g e hidden c bs f t same =
+    let unknown : is_some (known_value k (aggregate c bs f t) e) ≡ false =
+    subst (λ x. is_some (known_value k x e) ≡ false) same hidden in
+    ap (λ x. open_in_term v k x e) same
+    ∙ ap (λ b. if b then 0 else length (choices k.domains bs) * application_count v k.domains t
+    + sum_by (λ a. open_occurrences v k f (e ++ a) + open_in_term v k t (e ++ a)) (choices k.domains bs)) unknown

@@ -1,23 +1,25 @@
-use Rattle.std.proofs.Common.{◌≡◌, ◌<◌, ◌≤◌, ◌+◌, ◌*◌, ℕ, true, not, List, [], ◌++◌, length, get_or, refl, sym, ap, ◌∙◌}
-use Rattle.std.proofs.Common.{arith, subst}
+use Rattle.std.proofs.Common.{◌≡◌, ◌<◌, ◌≤◌, ◌+◌, ◌*◌, ℕ, true, false, not, List, [], ◌++◌, length, get_or, refl, sym, ap, ◌∙◌}
+use Rattle.std.proofs.Common.{arith, subst, is_some}
+use Rattle.kb_logic.specs.declared.vocabularies.Bound.{Bound}
+use Rattle.kb_logic.specs.declared.syntax.Term.{Term}
 use Rattle.kb_logic.specs.declared.elements.Elem.{Elem}
 use Rattle.kb_logic.specs.Structures.{choices}
-use Rattle.kb_logic.specs.Trees.{comparison, universal, existential, numbered}
+use Rattle.kb_logic.specs.Trees.{aggregate, comparison, universal, existential, numbered}
 use Rattle.kb_logic.specs.Views.{formula_view, term_view}
 use Rattle.kb_logic.specs.Weights.{application_count}
 use Rattle.kb_logic.proofs.Shapes.{formula_view-All, formula_view-Any}
-use Rattle.kb_logic.proofs.ViewsOf.{formula_view-Number}
+use Rattle.kb_logic.proofs.ViewsOf.{formula_view-Number, term_view-Agg}
 use Rattle.plain_evaluation.specs.Environments.{env_view}
 use Rattle.plain_evaluation.proofs.Folds.{after_front, fold_by_front, each_after, inner_fold, fold_next, fold_done}
 use Rattle.reading_stages.specs.SizesStage.{capped}
-use Rattle.certain_truth.specs.Certainty.{certain_truth}
+use Rattle.certain_truth.specs.Certainty.{certain_truth, known_value}
 use Rattle.certain_truth.specs.KnownArithmetic.{CertaintyFits, ValueFits}
 use Rattle.quantifier_bounds.specs.Steps.{is_unknown}
 use Rattle.kb_sizes.proofs.Capping.{three_parts}
 use Rattle.kb_sizes.proofs.Steps.{formula_view-Compare}
 use Rattle.open_sizes.specs.OpenWeights.{open_occurrences, open_in_term}
 use Rattle.open_sizes.proofs.Walks.{stopped_sum, product, open_comparison, open_universal, open_existential}
-use Rattle.open_sizes.proofs.Walks.{open_numbered}
+use Rattle.open_sizes.proofs.Walks.{open_numbered, open_aggregate}
 use Rattle.open_sizes.proofs.occurrences.+occurrences.Goals as goal
 
 pub formula-returns-in-Compare : goal.formula-returns-in-Compare
@@ -207,3 +209,34 @@ gathered-returns t c =
     let F = λ (n : ℕ) (a : List Elem). G n (e ++ a) in
     sym (fold_by_front k.domains c.args.bounds.now these others c.split_in.ensures.parts F c.args.before
     ∙ sym c.loop-number.invariant ∙ fold_done (after_front F rest) all i c.loop-number.count past)
+
+pub term-returns-else-is_known : goal.term-returns-else-is_known
+term-returns-else-is_known t c =
+    let v = c.args.setting.vocabulary.now in
+    let k = c.args.setting.known.now in
+    let e = env_view c.args.env.now in
+    let g = term_view c.args.of.now in
+    let bs = c.deref-in-Agg-3.result.now in
+    let f = formula_view c.deref-in-Agg-4.result.now in
+    let w = term_view c.deref-in-Agg-5.result.now in
+    let hidden : is_some (known_value k g e) ≡ false = sym c.is_known.ensures ∙ c.if-is_known.false in
+    let same : g ≡ aggregate c.in-Agg.field-0 bs f w =
+    rw (
+      c.in-Agg.is,
+      term_view-Agg,
+      c.deref-in-Agg-3.ensures.value,
+      c.deref-in-Agg-4.ensures,
+      c.deref-in-Agg-5.ensures,
+    ) refl in
+    let there : c.choices_of.result ≡ capped (length (choices k.domains bs)) =
+    c.choices_of.ensures ∙ ap (λ (xs : List Bound). capped (length (choices k.domains xs)))
+    (c.deref-in-Agg.ensures.value ∙ sym c.deref-in-Agg-3.ensures.value) in
+    let applied : c.applications.result ≡ capped (application_count v k.domains w) =
+    c.applications.ensures ∙ ap (λ (x : Term). capped (application_count v k.domains (term_view x)))
+    (c.deref-in-Agg-2.ensures ∙ sym c.deref-in-Agg-5.ensures) in
+    let own = product (length (choices k.domains bs)) (application_count v k.domains w) c.choices_of.result
+    c.applications.result c.times-own.result there applied c.times-own.ensures in
+    c.gathered.ensures
+    ∙ stopped_sum (λ a. open_occurrences v k f (e ++ a) + open_in_term v k w (e ++ a)) (choices k.domains bs)
+    c.times-own.result (length (choices k.domains bs) * application_count v k.domains w) own
+    ∙ sym (ap capped (open_aggregate v k g e hidden c.in-Agg.field-0 bs f w same))
