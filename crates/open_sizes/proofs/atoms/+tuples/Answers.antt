@@ -19,7 +19,7 @@ loop-elem-init t c =
       λ vs at.
           let h = λ (x : Elem). open_in_tuples k c.args.symbol c.args.value others (vs ++ denotation_of x ∷ []) in
           let whole : sum_by h c.domain_in-elem-items.result.now
-              ≡ open_in_tuples k c.args.symbol c.args.value c.args.types.now vs =
+          ≡ open_in_tuples k c.args.symbol c.args.value c.args.types.now vs =
           ap (sum_by h) c.domain_in-elem-items.ensures
           ∙ sym (tuples_next k c.args.symbol c.args.value ty others vs)
           ∙ ap (λ (types : List ℕ). open_in_tuples k c.args.symbol c.args.value types vs)
