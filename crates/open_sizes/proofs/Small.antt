@@ -1,5 +1,5 @@
 -- A theory and terms that have small static bounds can be weighed.
-use Rattle.std.proofs.Common.{List, [], sym}
+use Rattle.std.proofs.Common.{[], sym}
 use Rattle.kb_logic.specs.Bounds.{types_of}
 use Rattle.kb_logic.specs.Structures.{choices}
 use Rattle.kb_logic.proofs.Atoms.{tuple_elements}

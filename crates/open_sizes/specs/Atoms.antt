@@ -1,5 +1,5 @@
 -- The unknown atoms symbol by symbol, and argument by argument.
-use Rattle.std.specs.Prelude.{ℕ, List, [], ◌∷◌, ◌++◌, map, sum_by, Option, None, Some}
+use Rattle.std.specs.Prelude.{ℕ, List, [], ◌++◌, map, sum_by, Option, None, Some}
 use Rattle.kb_logic.specs.declared.elements.Elem.{Elem}
 use Rattle.kb_logic.specs.declared.vocabularies.Symbol.{Symbol}
 use Rattle.kb_logic.specs.Denotations.{Denotation, denotation_of}

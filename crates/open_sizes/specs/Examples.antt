@@ -10,7 +10,7 @@ use Rattle.kb_logic.specs.declared.vocabularies.Symbol.{Symbol}
 use Rattle.kb_logic.specs.declared.vocabularies.Vocabulary.{Vocabulary}
 use Rattle.kb_logic.specs.Models.{GroundAtom}
 use Rattle.kb_logic.specs.KnownAtoms.{KnownAtoms}
-use Rattle.kb_logic.specs.Trees.{TermTree, variable, integer, application, aggregate, terms_of, FormulaTree, verum, atom}
+use Rattle.kb_logic.specs.Trees.{TermTree, variable, integer, application, aggregate, terms_of, FormulaTree, atom}
 use Rattle.kb_logic.specs.Trees.{comparison, negation, conjunction, disjunction, implication, equivalence, universal}
 use Rattle.kb_logic.specs.Trees.{existential, numbered, formulas_of, RuleTree, TheoryTree}
 use Rattle.kb_logic.specs.Weights.{weight_of}

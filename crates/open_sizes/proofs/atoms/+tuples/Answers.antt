@@ -1,8 +1,7 @@
 use Rattle.std.proofs.Common.{◌≡◌, ◌+◌, ℕ, List, [], ◌∷◌, ◌++◌, refl, sym, ap, ◌∙◌}
 use Rattle.std.specs.List.{sum_by}
 use Rattle.kb_logic.specs.declared.elements.Elem.{Elem}
-use Rattle.kb_logic.specs.Denotations.{Denotation, denotation_of}
-use Rattle.kb_logic.specs.Structures.{domain_at}
+use Rattle.kb_logic.specs.Denotations.{denotation_of}
 use Rattle.kb_logic.specs.Values.{value_view}
 use Rattle.partial_structures.specs.Known.{known_in, place_view, spot_of, stepped}
 use Rattle.kb_sizes.proofs.Capping.{stays}
