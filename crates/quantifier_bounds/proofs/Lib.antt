@@ -10,6 +10,7 @@ pub mod Lones
 pub mod Shapes
 pub mod Values
 pub mod Told
+pub mod Fixed
 pub mod Defined
 pub mod Opened
 pub mod Small

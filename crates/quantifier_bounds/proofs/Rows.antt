@@ -43,7 +43,7 @@ module _ (k : KnownAtoms) (e : List Elem) where
       ap (λ o. known_cons o (known_values k (terms_of ts) e)) h.0.1
       ∙ ap (known_cons (Some (denotation_of x))) (row_known types ts xs h.1)
 
-  cons_parts : (o : Option Denotation) (p : Option (List Denotation)) (d : Denotation) (ds : List Denotation)
+  pub cons_parts : (o : Option Denotation) (p : Option (List Denotation)) (d : Denotation) (ds : List Denotation)
       → known_cons o p ≡ Some (d ∷ ds) → (o ≡ Some d) × (p ≡ Some ds)
   cons_parts None p d ds h = absurd (cc)
   cons_parts (Some a) None d ds h = absurd (cc)

@@ -173,7 +173,7 @@ either_twice Unknown Unknown Yes = refl
 either_twice Unknown Unknown No = refl
 either_twice Unknown Unknown Unknown = refl
 
-either_no : (t : Truth) → either_certain t No ≡ t
+pub either_no : (t : Truth) → either_certain t No ≡ t
 either_no Yes = refl
 either_no No = refl
 either_no Unknown = refl

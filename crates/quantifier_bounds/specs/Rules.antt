@@ -1,7 +1,8 @@
 -- What a definition says of an atom.
-use Rattle.std.specs.Prelude.{◌≡◌, ℕ, List, map, Bool, true, false, ◌&&◌, ◌==◌, if◌then◌else◌, fold, Option, Some, None}
-use Rattle.std.specs.Prelude.{option_map}
+use Rattle.std.specs.Prelude.{◌≡◌, ℕ, suc, ◌+◌, List, [], ◌∷◌, ◌++◌, map, length, slice_get, Contains, Bool, true}
+use Rattle.std.specs.Prelude.{false, ◌&&◌, ◌==◌, if◌then◌else◌, fold, Option, Some, None, option_map, ⊤}
 use Rattle.std.specs.List.{AllByRecursion}
+use Rattle.kb_logic.specs.declared.vocabularies.Bound.{Bound}
 use Rattle.kb_logic.specs.declared.elements.Elem.{Elem}
 use Rattle.kb_logic.specs.declared.vocabularies.Symbol.{Symbol}
 use Rattle.kb_logic.specs.declared.syntax.Rule.{Rule}
@@ -16,6 +17,8 @@ use Rattle.partial_structures.specs.declared.truths.Truth.{Truth}
 use Rattle.partial_structures.specs.declared.truths.Truth.TheVariants as truth
 use Rattle.certain_truth.specs.Certainty.{either_certain, known_value, known_values, certain_truth}
 use Rattle.bound_laws.specs.Closures.{IsInstance, value_atom}
+use Rattle.quantifier_bounds.specs.declared.derivation.Start.{Start}
+use Rattle.quantifier_bounds.specs.declared.derivation.Start.TheVariants as start
 
 -- the definition of these rules
 abbrev pub definition_of : List Rule → DefinitionTree
@@ -50,6 +53,24 @@ instance_truth k r a e = if is_head k r e a then certain_truth k r.body e else t
 -- with the instances of a rule more
 abbrev pub told_by : KnownAtoms → GroundAtom → Truth → RuleTree → Truth
 told_by k a t r = fold (λ u e. either_certain u (instance_truth k r a e)) t (choices k.domains r.vars)
+
+-- where the head of the rule is the atom, the variable of this number has the element
+abbrev pub FixesVariable : RuleTree → GroundAtom → ℕ → Elem → Type 0
+FixesVariable r a n x = (k : KnownAtoms) (e : List Elem) → is_head k r e a ≡ true → slice_get e n ≡ Some x
+
+-- only where the variable after those of e is x can the head of the rule be the atom; so many variables are left then
+abbrev pub FixesNext : RuleTree → GroundAtom → ℕ → (Elem → Type 0) → Type 0
+FixesNext r a left P =
+    (k : KnownAtoms) (e c : List Elem) (x : Elem) → length e + suc left ≡ length r.vars
+    → is_head k r (e ++ x ∷ c) a ≡ true → P x
+
+-- the elements of the first of the last variables of the rule with which the head can be the atom
+abbrev pub IsStart : List (List Elem) → RuleTree → GroundAtom → List Bound → Start → Type 0
+IsStart d r a [] s = ⊤
+IsStart d r a (b ∷ bs) start.Free = ⊤
+IsStart d r a (b ∷ bs) (start.At p) =
+    (x : Elem) × (slice_get (domain_at d b.ty) p ≡ Some x) × FixesNext r a (length bs) (λ y. y ≡ x)
+IsStart d r a (b ∷ bs) start.Nowhere = FixesNext r a (length bs) (λ y. Contains (domain_at d b.ty) y → ⊥)
 
 -- what follows for the atom where the definition must be obeyed
 abbrev pub Derives : KnownAtoms → DefinitionTree → GroundAtom → Type 0

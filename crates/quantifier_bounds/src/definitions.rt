@@ -11,9 +11,9 @@ ghost use Rattle.quantifier_bounds.specs.Rules.{definition_of, Derives, TupleDer
 ghost use Rattle.quantifier_bounds.specs.Steps.{Narrows};
 
 use crate::atoms::settle;
+use crate::derivation::{Spot, derived};
 use crate::fault::BoundFault;
 use crate::functions::value_literal;
-use crate::heads::derived;
 use crate::places::atom;
 use crate::walk::{Setting, either};
 use kb_logic::tuples::all_tuples;
@@ -22,13 +22,21 @@ use kb_logic::{Definition, Elem, ElemList, Literal, Rule, Symbol};
 use partial_structures::{Partial, Truth};
 use std::alloc::Global;
 
+/// The rules of a definition, which are asked of an atom that mostly stands at the spot.
+#[derive(Clone, Copy)]
+struct Defining<'a> {
+    rules: &'a [Rule],
+    spot: Spot<'a>,
+}
+
 /// The atom must be what the rules say of it.
-fn define(known: &mut Partial, rules: &[Rule], atom: &Literal) -> Result<bool, BoundFault>
+fn define(known: &mut Partial, defining: Defining<'_>, atom: &Literal) -> Result<bool, BoundFault>
     requires over { IsAtomOver known.old.symbols known.old.domains (atom_of atom.now) }
-    requires fits { AllByRecursion (RuleFits known.old.symbols known.old.domains) (map rule_view rules.now) }
-    ensures { Narrows known.old known.new result (λ q. Derives q (definition_of rules.now) (atom_of atom.now)) }
+    requires fits { AllByRecursion (RuleFits known.old.symbols known.old.domains) (map rule_view defining.rules.now) }
+    ensures { Narrows known.old known.new result
+        (λ q. Derives q (definition_of defining.entry.rules.now) (atom_of atom.now)) }
 {
-    match derived(&*known, rules, atom) {
+    match derived(&*known, defining.rules, atom, defining.spot) {
         Truth::Yes => settle(known, atom, true),
         Truth::No => settle(known, atom, false),
         Truth::Unknown => Ok(false),
@@ -39,21 +47,26 @@ fn define(known: &mut Partial, rules: &[Rule], atom: &Literal) -> Result<bool, B
 fn define_values(
     alloc: Global,
     known: &mut Partial,
-    rules: &[Rule],
+    defining: Defining<'_>,
     symbol: u32,
     args: &ElemList,
     values: &[Elem],
 ) -> Result<bool, BoundFault>
     requires over { AllByRecursion (λ x. IsAtomOver known.old.symbols known.old.domains
         (value_atom symbol args.now x)) values.now }
-    requires fits { AllByRecursion (RuleFits known.old.symbols known.old.domains) (map rule_view rules.now) }
+    requires fits { AllByRecursion (RuleFits known.old.symbols known.old.domains) (map rule_view defining.rules.now) }
     ensures { Narrows known.old known.new result
-        (λ q. AllByRecursion (λ x. Derives q (definition_of rules.now) (value_atom symbol args.now x)) values.now) }
+        (λ q. AllByRecursion (λ x. Derives q (definition_of defining.entry.rules.now) (value_atom symbol args.now x))
+        values.now) }
 {
     let mut changed = false;
     for at in 0..values.len() {
         let atom = value_literal(alloc, symbol, args, &values[at])?;
-        let more = define(known, rules, &atom)?;
+        let spot = Spot {
+            value: at,
+            ..defining.spot
+        };
+        let more = define(known, Defining { spot, ..defining }, &atom)?;
         changed = either(changed, more);
     }
     Ok(changed)
@@ -63,7 +76,7 @@ fn define_values(
 fn define_tuple<'a>(
     known: &mut Partial,
     setting: Setting<'a>,
-    rules: &'a [Rule],
+    defining: Defining<'a>,
     symbol: u32,
     declared: &'a Symbol,
     args: &ElemList,
@@ -71,19 +84,19 @@ fn define_tuple<'a>(
     requires domains { setting.domains.now ≡ known.old.domains }
     requires there { slice_get known.old.symbols symbol ≡ Some declared.now }
     requires tuple { Contains (tuples_of known.old.domains declared.now.args) args.now }
-    requires fits { AllByRecursion (RuleFits known.old.symbols known.old.domains) (map rule_view rules.now) }
+    requires fits { AllByRecursion (RuleFits known.old.symbols known.old.domains) (map rule_view defining.rules.now) }
     ensures { Narrows known.old known.new result
-        (λ q. TupleDerives q (definition_of rules.now) symbol declared.now.value args.now) }
+        (λ q. TupleDerives q (definition_of defining.entry.rules.now) symbol declared.now.value args.now) }
 {
     match declared.value {
         None => {
             let args = args.copy(setting.alloc)?;
             let atom = atom(symbol, args, None);
-            define(known, rules, &atom)
+            define(known, defining, &atom)
         }
         Some(ty) => {
             let values = domain_in(setting.domains, ty);
-            define_values(setting.alloc, known, rules, symbol, args, values)
+            define_values(setting.alloc, known, defining, symbol, args, values)
         }
     }
 }
@@ -106,7 +119,13 @@ fn define_tuples<'a>(
 {
     let mut changed = false;
     for at in 0..tuples.len() {
-        let more = define_tuple(known, setting, rules, symbol, declared, &tuples[at])?;
+        let spot = Spot {
+            types: declared.args.as_slice(),
+            tuple: at,
+            value: 0,
+        };
+        let defining = Defining { rules, spot };
+        let more = define_tuple(known, setting, defining, symbol, declared, &tuples[at])?;
         changed = either(changed, more);
     }
     Ok(changed)

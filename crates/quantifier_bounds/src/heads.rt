@@ -1,24 +1,20 @@
-//! What the rules of a definition say of an atom.
-ghost use Rattle.std.specs.Prelude.{◌≡◌, ◌++◌, map, option_map, fold, IfSome};
-ghost use Rattle.std.specs.List.{AllByRecursion};
-ghost use Rattle.kb_logic.specs.Structures.{choices};
+//! What an instance of a rule says of an atom.
+ghost use Rattle.std.specs.Prelude.{◌≡◌, map, option_map, IfSome};
 ghost use Rattle.kb_logic.specs.Trees.{terms_of};
 ghost use Rattle.kb_logic.specs.Views.{rule_view, term_view};
 ghost use Rattle.plain_evaluation.specs.Environments.{env_view};
 ghost use Rattle.partial_structures.specs.KnownAtoms.{atom_of};
-ghost use Rattle.partial_structures.specs.declared.truths.Truth.TheVariants.{No};
 ghost use Rattle.certain_truth.specs.Certainty.{either_certain, known_value, known_values};
 ghost use Rattle.certain_truth.specs.KnownArithmetic.{ValueFits, ValuesFit};
-ghost use Rattle.quantifier_bounds.specs.Fits.{InstanceFits, RuleFits};
+ghost use Rattle.quantifier_bounds.specs.Fits.{InstanceFits};
 ghost use Rattle.quantifier_bounds.specs.Rules.{is_known, is_row, is_value, is_head as head_is, instance_truth};
-ghost use Rattle.quantifier_bounds.specs.Rules.{told_by};
 
 use crate::left::certainty;
 use certain_truth::known_term;
 use kb_logic::values::{elem_value, same};
-use kb_logic::{Bound, Elem, Literal, Rule, Term};
+use kb_logic::{Elem, Literal, Rule, Term};
 use partial_structures::{Partial, Truth};
-use plain_evaluation::environments::{Env, extend, split_in};
+use plain_evaluation::environments::Env;
 
 /// Whether the term is known to be the element.
 fn is_element(known: &Partial, term: &Term, elem: &Elem, env: &Env<'_>) -> bool
@@ -78,7 +74,7 @@ fn is_head(known: &Partial, rule: &Rule, atom: &Literal, env: &Env<'_>) -> bool
 }
 
 /// What is certain of the instance's body, where its head is the atom.
-fn instance(known: &Partial, rule: &Rule, atom: &Literal, env: &Env<'_>) -> Truth
+pub(crate) fn instance(known: &Partial, rule: &Rule, atom: &Literal, env: &Env<'_>) -> Truth
     requires { InstanceFits known.now.symbols known.now.domains (rule_view rule.now) (env_view env.now) }
     ensures { result ≡ instance_truth known.now (rule_view rule.now) (atom_of atom.now) (env_view env.now) }
 {
@@ -89,7 +85,7 @@ fn instance(known: &Partial, rule: &Rule, atom: &Literal, env: &Env<'_>) -> Trut
     }
 }
 
-fn either_of(a: Truth, b: Truth) -> Truth
+pub(crate) fn either_of(a: Truth, b: Truth) -> Truth
     ensures { result ≡ either_certain a b }
 {
     match (a, b) {
@@ -98,52 +94,4 @@ fn either_of(a: Truth, b: Truth) -> Truth
         (Truth::Unknown, Truth::Yes) => Truth::Yes,
         (Truth::Unknown, _) => Truth::Unknown,
     }
-}
-
-/// What the instances of the rule say of the atom, after what was said before.
-fn instances<'a>(
-    known: &'a Partial,
-    bounds: &'a [Bound],
-    rule: &'a Rule,
-    atom: &'a Literal,
-    env: &'a Env<'a>,
-    before: Truth,
-) -> Truth
-    requires { AllByRecursion (λ a. InstanceFits known.now.symbols known.now.domains (rule_view rule.now)
-        (env_view env.now ++ a)) (choices known.now.domains bounds.now) }
-    ensures { result ≡ fold (λ t a. either_certain t (instance_truth known.now (rule_view rule.now) (atom_of atom.now)
-        (env_view env.now ++ a))) before (choices known.now.domains bounds.now) }
-{
-    if bounds.is_empty() {
-        return either_of(before, instance(known, rule, atom, env));
-    }
-    let (block, others) = split_in(known.domains().as_slice(), bounds);
-    let mut told = before;
-    for number in 0..block.count {
-        told = instances(known, others, rule, atom, &extend(env, block, number), told);
-    }
-    told
-}
-
-/// What the rules say of the atom: whether some instance's body is certainly true, or all are certainly false.
-pub(crate) fn derived(known: &Partial, rules: &[Rule], atom: &Literal) -> Truth
-    requires { AllByRecursion (RuleFits known.now.symbols known.now.domains) (map rule_view rules.now) }
-    ensures { result ≡ fold (told_by known.now (atom_of atom.now)) No (map rule_view rules.now) }
-{
-    let mut told = Truth::No;
-    for at in 0..rules.len() {
-        let rule = &rules[at];
-        if rule.symbol != atom.symbol {
-            continue;
-        }
-        told = instances(
-            known,
-            rule.vars.as_slice(),
-            rule,
-            atom,
-            &Env::Given(&[]),
-            told,
-        );
-    }
-    told
 }

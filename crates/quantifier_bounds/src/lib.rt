@@ -3,6 +3,7 @@
 
 mod atoms;
 mod definitions;
+mod derivation;
 mod fault;
 mod functions;
 mod heads;

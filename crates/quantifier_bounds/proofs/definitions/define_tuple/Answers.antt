@@ -23,7 +23,7 @@ pub returns-in_ok-args-in-None : goal.returns-in_ok-args-in-None
 returns-in_ok-args-in-None c =
     let k = c.args.known.now in
     let s = c.args.symbol in
-    let d = definition_of c.args.rules.now in
+    let d = definition_of c.args.defining.rules.now in
     let mk : List Elem → GroundAtom = λ us. record { symbol = s; args = us; value = None } in
     let is : atom_of c.atom-atom.result ≡ mk c.args.args.now =
     ap atom_of c.atom-atom.ensures ∙ ap mk c.in_ok-args-in-None.ensures in
@@ -32,7 +32,7 @@ returns-in_ok-args-in-None c =
 
 pub returns-in-Some : goal.returns-in-Some
 returns-in-Some c =
-    tuple_some c.args.known.now (definition_of c.args.rules.now) c.args.symbol c.args.args.now
+    tuple_some c.args.known.now (definition_of c.args.defining.rules.now) c.args.symbol c.args.args.now
     c.args.declared.now.value c.in-Some.ty c.args.setting.domains.now c.domain_in-values.result.now
     c.define_values.new.known c.define_values.result c.in-Some.is c.requires.domains c.domain_in-values.ensures
     c.define_values.ensures

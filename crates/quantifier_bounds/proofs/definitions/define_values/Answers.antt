@@ -22,7 +22,7 @@ returns-in_err-more c =
     let xs = c.args.values.now in
     let at = c.loop-at.at in
     let x = c.index-values-at.result in
-    let d = definition_of c.args.rules.now in
+    let d = definition_of c.args.defining.rules.now in
     let split : drop at xs ≡ x ∷ drop (at + 1) xs =
     at_drop_more (λ us. us) xs at x c.loop-at-test.true ∙ ap (λ y. y ∷ drop (at + 1) xs) (sym c.index-values-at.is) in
     let D = λ (y : Elem) (q : KnownAtoms). Derives q d (value_atom c.args.symbol c.args.args.now y) in
@@ -43,8 +43,8 @@ loop-at-preserved c =
     let x = c.index-values-at.result in
     let s = c.args.symbol in
     let r = c.args.args.now in
-    let rs = map rule_view c.args.rules.now in
-    let d = definition_of c.args.rules.now in
+    let rs = map rule_view c.args.defining.rules.now in
+    let d = definition_of c.args.defining.rules.now in
     let split : drop at xs ≡ x ∷ drop (at + 1) xs =
     at_drop_more (λ us. us) xs at x c.loop-at-test.true ∙ ap (λ y. y ∷ drop (at + 1) xs) (sym c.index-values-at.is) in
     let D = λ (y : Elem) (q : KnownAtoms). Derives q d (value_atom s r y) in

@@ -14,8 +14,9 @@ abbrev pub invariant-loop-at : goal.invariant-loop-at
 invariant-loop-at l = record {
   over : AllByRecursion (λ x. IsAtomOver l.known.symbols l.known.domains (value_atom l.symbol l.args x))
       (drop l.at l.values);
-  fits : AllByRecursion (RuleFits l.known.symbols l.known.domains) (map rule_view l.rules);
+  fits : AllByRecursion (RuleFits l.known.symbols l.known.domains) (map rule_view l.defining.rules.now);
   so_far : SoFar l.fn.known l.known l.changed
-      (Every (λ x q. Derives q (definition_of l.rules) (value_atom l.symbol l.args x)) l.values)
-      (Every (λ x q. Derives q (definition_of l.rules) (value_atom l.symbol l.args x)) (drop l.at l.values));
+      (Every (λ x q. Derives q (definition_of l.defining.rules.now) (value_atom l.symbol l.args x)) l.values)
+      (Every (λ x q. Derives q (definition_of l.defining.rules.now) (value_atom l.symbol l.args x))
+      (drop l.at l.values));
 }

@@ -5,7 +5,7 @@ use Rattle.partial_structures.specs.KnownAtoms.{atom_of}
 use Rattle.partial_structures.specs.declared.truths.Truth.TheVariants.{No}
 use Rattle.quantifier_bounds.specs.Fits.{RuleFits}
 use Rattle.quantifier_bounds.specs.Rules.{told_by}
-use Rattle.quantifier_bounds.proofs.heads.derived.Given as goal
+use Rattle.quantifier_bounds.proofs.derivation.derived.Given as goal
 
 -- the rules that are left to ask
 abbrev pub invariant-loop-at : goal.invariant-loop-at
