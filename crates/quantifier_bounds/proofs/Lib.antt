@@ -3,6 +3,7 @@ pub mod Rows
 pub mod Lasts
 pub mod Lost
 pub mod Steps
+pub mod Orders
 pub mod Naming
 pub mod Turns
 pub mod Links

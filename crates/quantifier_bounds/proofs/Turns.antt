@@ -19,6 +19,7 @@ use Rattle.quantifier_bounds.specs.Steps.{IsStep, Narrows}
 use Rattle.quantifier_bounds.specs.Walks.{Demands, PartsObey}
 use Rattle.quantifier_bounds.specs.declared.fault.BoundFault.{BoundFault}
 use Rattle.quantifier_bounds.proofs.Made.{nothing}
+use Rattle.quantifier_bounds.proofs.Orders.{ordered, ordered_all, all_ordered}
 use Rattle.quantifier_bounds.proofs.Lasts.{still_lost, all_also}
 use Rattle.quantifier_bounds.proofs.Steps.{SoFar, turn, turn_fault, narrows_by}
 
@@ -115,21 +116,24 @@ module _ (left v : Bool) (f : FormulaTree) (e : List Elem) where
   abbrev pub Instances : KnownAtoms → List (List Elem) → KnownAtoms → Type 0
   Instances first xs q = AllByRecursion (λ a. Demands first left v f (e ++ a) q) xs
 
+  -- those that begin with this
+  abbrev pub Block : KnownAtoms → List (List Elem) → KnownAtoms → List Elem → Type 0
+  Block first others q a = AllByRecursion (λ b. Demands first left v f (e ++ (a ++ b)) q) others
+
   -- those that begin with each of these
   abbrev pub Blocks : KnownAtoms → List (List Elem) → List (List Elem) → KnownAtoms → Type 0
-  Blocks first others xs q = AllByRecursion (λ a. AllByRecursion (λ b. Demands first left v f (e ++ (a ++ b)) q)
-      others) xs
+  Blocks first others xs q = AllByRecursion (Block first others q) xs
 
-  pub block_start : (k : KnownAtoms) (all others these : List (List Elem)) → all ≡ pairs joined others these
-      → SoFar k k false (Instances k all) (Blocks k others these)
-  block_start k all others these is = record {
+  pub block_start : (falling : Bool) (k : KnownAtoms) (all others these : List (List Elem))
+      → all ≡ pairs joined others these → SoFar k k false (Instances k all) (Blocks k others (ordered falling these))
+  block_start falling k all others these is = record {
     more = record { symbols = refl; domains = refl; true_atoms = λ a at. at; false_atoms = λ a at. at };
     sound = λ q c l m h. m;
-    left = λ q c l m h. by_front (λ a. Demands k left v f (e ++ a) q) others these
-        (subst (λ xs. Instances k xs q) is h);
+    left = λ q c l m h. ordered_all (Block k others q) falling these
+        (by_front (λ a. Demands k left v f (e ++ a) q) others these (subst (λ xs. Instances k xs q) is h));
     same = λ n. refl;
     holds = λ n h. subst (λ xs. Instances k xs k) (sym is) (to_front (λ a. Demands k left v f (e ++ a) k) others these
-        h);
+        (all_ordered (Block k others k) falling these h));
     fewer = λ n. absurd (true≢false (sym n));
   }
 

@@ -22,6 +22,7 @@ use Rattle.quantifier_bounds.specs.declared.fault.BoundFault.{BoundFault}
 use Rattle.quantifier_bounds.specs.declared.left.Left.TheVariants.{None, One, Many}
 use Rattle.quantifier_bounds.proofs.Made.{itself, no_stays, nothing}
 use Rattle.quantifier_bounds.proofs.Lones.{counts, one_all, each_lost, one_forced, none_left, one_left, many_left}
+use Rattle.quantifier_bounds.proofs.Orders.{ordered, ordered_all, all_ordered}
 use Rattle.quantifier_bounds.proofs.Steps.{narrows_by, SoFar, turn, turn_fault}
 
 lost_no : (t : Truth) → opposes true t ≡ true → t ≡ No
@@ -104,6 +105,17 @@ module _ (k : KnownAtoms) (s : ℕ) (r : List Elem) where
 module _ {X : Type 0} (D : X → KnownAtoms → Type 0) where
   abbrev pub Every : List X → KnownAtoms → Type 0
   Every xs q = AllByRecursion (λ x. D x q) xs
+
+  pub every_start : (falling : Bool) (k : KnownAtoms) (xs : List X)
+      → SoFar k k false (Every xs) (Every (ordered falling xs))
+  every_start falling k xs = record {
+    more = itself k;
+    sound = λ q c l m h. m;
+    left = λ q c l m h. ordered_all (λ x. D x q) falling xs h;
+    same = λ n. refl;
+    holds = λ n h. all_ordered (λ x. D x k) falling xs h;
+    fewer = λ n. absurd (true≢false (sym n));
+  }
 
   module _ (first now : KnownAtoms) (changed : Bool) (all left next : List X) (x : X) (is : left ≡ x ∷ next)
       (s : SoFar first now changed (Every all) (Every left)) where

@@ -1,5 +1,6 @@
 -- Parts of the walk through a formula that must have a value.
-use Rattle.std.specs.Prelude.{◌≡◌, ℕ, List, Bool, true, false, ◌&&◌, IfSome, Option, Some, Contains}
+use Rattle.std.specs.Prelude.{◌≡◌, ℕ, suc, ◌+◌, List, Bool, true, false, ◌&&◌, IfSome, Option, Some}
+use Rattle.std.specs.Prelude.{Contains}
 use Rattle.kb_logic.specs.declared.vocabularies.Symbol.{Symbol}
 use Rattle.kb_logic.specs.Structures.{domain_at, tuples_of}
 use Rattle.bound_laws.specs.Lone.{LoneOf}
@@ -54,3 +55,8 @@ SymbolHas q s d = (ty : ℕ) (r : List Elem) → d.value ≡ Some ty → Contain
 abbrev pub ValueDemand : KnownAtoms → ℕ → List Elem → KnownAtoms → Elem → Type 0
 ValueDemand old s r q x = opposes true (value_at old (value_atom s r x)) ≡ false
     → value_at q (value_atom s r x) ≡ truth.Yes
+
+-- the item that comes after so many others, from the first to the last, or from the last to the first
+abbrev pub IsNth : Bool → ℕ → ℕ → ℕ → Type 0
+IsNth true turn count n = n + suc turn ≡ count
+IsNth false turn count n = n ≡ turn

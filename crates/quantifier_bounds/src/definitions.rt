@@ -14,6 +14,7 @@ use crate::atoms::settle;
 use crate::derivation::{Spot, derived};
 use crate::fault::BoundFault;
 use crate::functions::value_literal;
+use crate::order::nth;
 use crate::places::atom;
 use crate::walk::{Setting, either};
 use kb_logic::tuples::all_tuples;
@@ -118,7 +119,8 @@ fn define_tuples<'a>(
         (λ q. AllByRecursion (TupleDerives q (definition_of rules.now) symbol declared.now.value) tuples.now) }
 {
     let mut changed = false;
-    for at in 0..tuples.len() {
+    for turn in 0..tuples.len() {
+        let at = nth(setting.falling, turn as u64, tuples.len() as u64) as usize;
         let spot = Spot {
             types: declared.args.as_slice(),
             tuple: at,

@@ -11,6 +11,7 @@ mod instances;
 pub mod laws;
 mod leaves;
 mod left;
+mod order;
 mod places;
 mod refinement;
 mod walk;

@@ -69,7 +69,18 @@ fn pass<'a>(
     Ok(either(first, second))
 }
 
-/// Passes until one changes nothing.
+/// The other way round.
+fn turned<'a>(setting: Setting<'a>) -> Setting<'a>
+    ensures symbols { result.symbols.now ≡ setting.entry.symbols.now }
+    ensures domains { result.domains.now ≡ setting.entry.domains.now }
+{
+    Setting {
+        falling: !setting.falling,
+        ..setting
+    }
+}
+
+/// Passes until one changes nothing, up and down in turn.
 fn narrow<'a>(
     known: &mut Partial,
     setting: Setting<'a>,
@@ -83,11 +94,13 @@ fn narrow<'a>(
     ensures contradiction { IsErrOf result Contradiction → IsImpossible known.old (ObeysTheory (theory_view
         theory.now)) }
 {
+    let mut setting = setting;
     'passes: loop {
         let changed = pass(known, setting, theory)?;
         if !changed {
             return Ok(());
         }
+        setting = turned(setting);
     }
 }
 
@@ -104,6 +117,7 @@ pub fn refine(alloc: Global, t: &Theory, s: &Partial) -> Result<Partial, BoundFa
         alloc,
         symbols: s.symbols().as_slice(),
         domains: s.domains().as_slice(),
+        falling: false,
     };
     narrow(&mut known, setting, t)?;
     known.consistency();

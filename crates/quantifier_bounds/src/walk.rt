@@ -15,17 +15,20 @@ ghost use Rattle.quantifier_bounds.specs.Walks.{Demands, Follows, PartsObey};
 use crate::fault::BoundFault;
 use crate::leaves::{atom_must, equation};
 use crate::left::{Left, certainty, is_lost, left_in, not_lost};
+use crate::order::nth;
 use kb_logic::{Bound, Cmp, ElemList, Formula, Symbol};
 use partial_structures::{Partial, Truth};
 use plain_evaluation::environments::{Env, extend, split_in};
 use std::alloc::Global;
 
-/// What no step changes.
+/// What no step of a pass changes. A pass goes through instances and tuples from the first to the last, or where it is
+/// `falling` from the last to the first.
 #[derive(Clone, Copy)]
 pub(crate) struct Setting<'a> {
     pub alloc: Global,
     pub symbols: &'a [Symbol],
     pub domains: &'a [ElemList],
+    pub falling: bool,
 }
 
 /// What instances must be: of the value, where `left_only` only those that are not certainly of the other one.
@@ -328,9 +331,9 @@ fn each<'a>(
     }
     let (block, others) = split_in(setting.domains, bounds);
     let mut changed = false;
-    for number in 0..block.count {
+    for turn in 0..block.count {
         known.consistency();
-        let inner = extend(env, block, number);
+        let inner = extend(env, block, nth(setting.falling, turn, block.count));
         let more = each(known, setting, others, formula, want, &inner)?;
         changed = either(changed, more);
     }

@@ -1,5 +1,5 @@
 use Rattle.std.proofs.Common.{◌∙◌, subst, sym, ap, refl, drop, ◌≡◌, ◌<◌, map, not, true, false, ◌+◌, ◌++◌, []}
-use Rattle.std.proofs.Common.{slice_index_or, get_or, length, arith, Err}
+use Rattle.std.proofs.Common.{slice_index_or, get_or, length, arith, Err, ◌≤◌}
 use Rattle.std.specs.List.{AllByRecursion}
 use Rattle.std.proofs.lemmas.List.{at_drop_more}
 use Rattle.std.proofs.lemmas.Result.{err_from_is_err_and}
@@ -9,9 +9,10 @@ use Rattle.kb_logic.proofs.Shapes.{formula_view-All, formula_view-Any}
 use Rattle.plain_evaluation.proofs.Folds.{by_front, each_after}
 use Rattle.bound_laws.specs.Closures.{Obeys, IsNotLost, AtomHas}
 use Rattle.quantifier_bounds.specs.Steps.{IsStep, Narrows}
-use Rattle.quantifier_bounds.specs.Walks.{Follows}
-use Rattle.quantifier_bounds.proofs.Steps.{two_steps, two_fault, fault_by, after_test, SoFar}
-use Rattle.quantifier_bounds.proofs.Links.{left_asked, right_asked, implied_joins, right_follows, left_follows}
+use Rattle.quantifier_bounds.specs.Walks.{Follows, IsNth}
+use Rattle.quantifier_bounds.proofs.Steps.{two_steps, two_fault, fault_by, after_test, done, SoFar}
+use Rattle.quantifier_bounds.proofs.Links.{left_asked, right_asked, implied_joins}
+use Rattle.quantifier_bounds.proofs.Links.{right_follows, left_follows}
 use Rattle.quantifier_bounds.proofs.Links.{alike_joins}
 use Rattle.quantifier_bounds.proofs.Lones.{lone_none, lone_one, lone_many, all_wanted}
 use Rattle.quantifier_bounds.proofs.Shapes.{formula_view-Atom, formula_view-Iff}
@@ -23,7 +24,8 @@ use Rattle.plain_evaluation.specs.Environments.{env_view}
 use Rattle.quantifier_bounds.specs.Fits.{Fits, AllFit}
 use Rattle.std.specs.Option.{option_map}
 use Rattle.kb_logic.specs.declared.syntax.Formula.TheVariants.{True}
-use Rattle.quantifier_bounds.proofs.Turns.{parts_all, parts_last, split, Instances, Blocks, block_start, block_turn}
+use Rattle.quantifier_bounds.proofs.Turns.{parts_all, parts_last, split, Instances, Block, Blocks, block_start, block_turn}
+use Rattle.quantifier_bounds.proofs.Orders.{ordered, ordered_length, nth_is, all_taken}
 use Rattle.quantifier_bounds.proofs.Turns.{block_fault}
 use Rattle.quantifier_bounds.proofs.Lasts.{lost_turn, first_turn, none_of, same_default, OneLeft}
 use Rattle.quantifier_bounds.proofs.walk.+must.Goals as goal
@@ -200,14 +202,14 @@ lone-returns-in-Many t c =
     lone_many c.args.known.now c.args.v (formula_view c.args.formula.now) (env_view c.args.env.now)
     (λ d. choices d c.args.bounds.now) (sym c.left_in.ensures ∙ c.in-Many.is)
 
-pub each-loop-number-init : goal.each-loop-number-init
-each-loop-number-init t c =
+pub each-loop-turn-init : goal.each-loop-turn-init
+each-loop-turn-init t c =
     let d = c.args.setting.domains.now in
     record {
       domains = c.requires.domains;
       fits = c.requires.fits;
       so_far = block_start c.args.want.left_only c.args.want.value (formula_view c.args.formula.now)
-          (env_view c.args.env.now)
+          (env_view c.args.env.now) c.args.setting.falling
           c.args.known.now (choices d c.args.bounds.now) (choices d c.split_in.result.1.now)
           (choices d c.split_in.result.0.bounds.now)
           (by_front d c.args.bounds.now c.split_in.result.0.bounds.now c.split_in.result.1.now
@@ -217,22 +219,22 @@ each-loop-number-init t c =
 pub each-each-requires : goal.each-each-requires
 each-each-requires t c =
     let d = c.args.setting.domains.now in
-    let k = c.loop-number.known in
+    let k = c.loop-turn.known in
     let e = env_view c.args.env.now in
     let these = c.split_in.result.0.bounds.now in
     let others = c.split_in.result.1.now in
     let all = choices d these in
-    let i = c.loop-number.number in
+    let n = c.nth.result in
     let inner = env_view c.extend-inner.result in
-    let within : i < length all = subst (λ n. i < n) c.split_in.ensures.count c.loop-number-test.true in
-    let is : inner ≡ e ++ get_or all i [] =
-    c.extend-inner.ensures ∙ ap (λ x. e ++ get_or (choices x these) i []) c.split_in.ensures.domains in (
+    let within : n < length all = subst (λ m. n < m) c.split_in.ensures.count c.nth.ensures.within in
+    let is : inner ≡ e ++ get_or all n [] =
+    c.extend-inner.ensures ∙ ap (λ x. e ++ get_or (choices x these) n []) c.split_in.ensures.domains in (
       omega (arith, c.split_in.ensures.fewer),
       (
-        c.loop-number.invariant.domains,
+        c.loop-turn.invariant.domains,
         each_after d c.args.bounds.now these others c.split_in.ensures.parts
-            (Fits k.symbols k.domains (formula_view c.args.formula.now)) e inner i within is
-            c.loop-number.invariant.fits,
+            (Fits k.symbols k.domains (formula_view c.args.formula.now)) e inner n within is
+            c.loop-turn.invariant.fits,
       ),
     )
 
@@ -240,58 +242,88 @@ pub each-returns-in_err-more : goal.each-returns-in_err-more
 each-returns-in_err-more t c =
     let d = c.args.setting.domains.now in
     let first = c.args.known.now in
-    let now = c.loop-number.known in
+    let now = c.loop-turn.known in
     let e = env_view c.args.env.now in
     let f = formula_view c.args.formula.now in
     let these = c.split_in.result.0.bounds.now in
     let others = choices d c.split_in.result.1.now in
     let all = choices d these in
-    let i = c.loop-number.number in
+    let falling = c.args.setting.falling in
+    let list = ordered falling all in
+    let i = c.loop-turn.turn in
+    let n = c.nth.result in
     let inner = env_view c.extend-inner.result in
-    let within : i < length all = subst (λ n. i < n) c.split_in.ensures.count c.loop-number-test.true in
-    let is : inner ≡ e ++ get_or all i [] =
-    c.extend-inner.ensures ∙ ap (λ x. e ++ get_or (choices x these) i []) c.split_in.ensures.domains in
+    let within : i < length all = subst (λ m. i < m) c.split_in.ensures.count c.loop-turn-test.true in
+    let long : i < length list = subst (λ m. i < m) (sym (ordered_length falling all)) within in
+    let is : inner ≡ e ++ get_or list i [] =
+    c.extend-inner.ensures ∙ ap (λ x. e ++ get_or (choices x these) n []) c.split_in.ensures.domains
+    ∙ ap (λ a. e ++ a) (sym (nth_is falling all i n [] within
+    (subst (λ m. IsNth falling i m n) c.split_in.ensures.count c.nth.ensures.nth))) in
     let left = c.args.want.left_only in
     let v = c.args.want.value in
     let p = err_from_is_err_and c.from_residual.result c.from_residual.ensures.1 in
     subst (λ r. Narrows first c.each.new.known r (Instances left v f e first (choices d c.args.bounds.now)))
     (sym (p.1 ∙ ap Err p.2))
-    (block_fault left v f e first now c.loop-number.changed (choices d c.args.bounds.now) others (drop i all)
-    (drop (i + 1) all) (get_or all i []) inner (at_drop_more (λ us. us) all i [] within) is
-    c.consistency.ensures.consistent c.loop-number.invariant.so_far c.each.new.known c.each.new.known
+    (block_fault left v f e first now c.loop-turn.changed (choices d c.args.bounds.now) others (drop i list)
+    (drop (i + 1) list) (get_or list i []) inner (at_drop_more (λ us. us) list i [] long) is
+    c.consistency.ensures.consistent c.loop-turn.invariant.so_far c.each.new.known c.each.new.known
     c.in_err-more.field-0.0 c.in_err-more.ensures)
 
-pub each-loop-number-preserved : goal.each-loop-number-preserved
-each-loop-number-preserved t c =
+pub each-loop-turn-preserved : goal.each-loop-turn-preserved
+each-loop-turn-preserved t c =
     let d = c.args.setting.domains.now in
     let first = c.args.known.now in
-    let now = c.loop-number.known in
+    let now = c.loop-turn.known in
     let then' = c.each.new.known in
     let e = env_view c.args.env.now in
     let f = formula_view c.args.formula.now in
     let these = c.split_in.result.0.bounds.now in
     let others = choices d c.split_in.result.1.now in
     let all = choices d these in
-    let i = c.loop-number.number in
+    let falling = c.args.setting.falling in
+    let list = ordered falling all in
+    let i = c.loop-turn.turn in
+    let n = c.nth.result in
     let inner = env_view c.extend-inner.result in
-    let within : i < length all = subst (λ n. i < n) c.split_in.ensures.count c.loop-number-test.true in
-    let is : inner ≡ e ++ get_or all i [] =
-    c.extend-inner.ensures ∙ ap (λ x. e ++ get_or (choices x these) i []) c.split_in.ensures.domains in
+    let within : i < length all = subst (λ m. i < m) c.split_in.ensures.count c.loop-turn-test.true in
+    let long : i < length list = subst (λ m. i < m) (sym (ordered_length falling all)) within in
+    let is : inner ≡ e ++ get_or list i [] =
+    c.extend-inner.ensures ∙ ap (λ x. e ++ get_or (choices x these) n []) c.split_in.ensures.domains
+    ∙ ap (λ a. e ++ a) (sym (nth_is falling all i n [] within
+    (subst (λ m. IsNth falling i m n) c.split_in.ensures.count c.nth.ensures.nth))) in
     let left = c.args.want.left_only in
     let v = c.args.want.value in
     let bounds = choices d c.args.bounds.now in
     let step = c.in_ok-more.ensures in
     record {
-      domains = c.loop-number.invariant.domains ∙ sym step.more.domains;
+      domains = c.loop-turn.invariant.domains ∙ sym step.more.domains;
       fits = subst (λ x. AllByRecursion (λ a. Fits then'.symbols x f (e ++ a)) bounds) (sym step.more.domains)
           (subst (λ s. AllByRecursion (λ a. Fits s now.domains f (e ++ a)) bounds) (sym step.more.symbols)
-          c.loop-number.invariant.fits);
+          c.loop-turn.invariant.fits);
       so_far = subst (λ b. SoFar first then' b (Instances left v f e first bounds)
-          (Blocks left v f e first others (drop (i + 1) all))) (sym c.either-changed.ensures)
-          (block_turn left v f e first now c.loop-number.changed bounds others (drop i all)
-          (drop (i + 1) all) (get_or all i []) inner (at_drop_more (λ us. us) all i [] within) is
-          c.consistency.ensures.consistent c.loop-number.invariant.so_far then' c.in_ok-more.more step);
+          (Blocks left v f e first others (drop (i + 1) list))) (sym c.either-changed.ensures)
+          (block_turn left v f e first now c.loop-turn.changed bounds others (drop i list)
+          (drop (i + 1) list) (get_or list i []) inner (at_drop_more (λ us. us) list i [] long) is
+          c.consistency.ensures.consistent c.loop-turn.invariant.so_far then' c.in_ok-more.more step);
     }
+
+pub each-returns : goal.each-returns
+each-returns t c =
+    let d = c.args.setting.domains.now in
+    let first = c.args.known.now in
+    let now = c.loop-turn.known in
+    let e = env_view c.args.env.now in
+    let f = formula_view c.args.formula.now in
+    let others = choices d c.split_in.result.1.now in
+    let all = choices d c.split_in.result.0.bounds.now in
+    let falling = c.args.setting.falling in
+    let i = c.loop-turn.turn in
+    let left = c.args.want.left_only in
+    let v = c.args.want.value in
+    let past : length all ≤ i = subst (λ m. m ≤ i) c.split_in.ensures.count c.loop-turn-test.false in
+    done first now c.loop-turn.changed (Instances left v f e first (choices d c.args.bounds.now))
+    (Blocks left v f e first others (drop i (ordered falling all))) c.loop-turn.invariant.so_far
+    (all_taken (Block left v f e first others now) falling all i past)
 
 pub must-atom_must-requires : goal.must-atom_must-requires
 must-atom_must-requires t c =

@@ -10,6 +10,7 @@ use Rattle.kb_logic.specs.Views.{formula_view}
 use Rattle.bound_laws.specs.Closures.{AllObey}
 use Rattle.quantifier_bounds.specs.Fits.{AllFit, Fits}
 use Rattle.quantifier_bounds.proofs.Steps.{SoFar}
+use Rattle.quantifier_bounds.proofs.Orders.{ordered}
 use Rattle.quantifier_bounds.proofs.Turns.{Instances, Blocks}
 use Rattle.quantifier_bounds.proofs.Lasts.{Left}
 use Rattle.quantifier_bounds.proofs.walk.+must.Given as goal
@@ -41,8 +42,8 @@ invariant-last-loop-at l =
     }
 
 -- the instances that are left stand for all
-abbrev pub invariant-each-loop-number : goal.invariant-each-loop-number
-invariant-each-loop-number l =
+abbrev pub invariant-each-loop-turn : goal.invariant-each-loop-turn
+invariant-each-loop-turn l =
     let d = l.setting.domains.now in
     let f = formula_view l.formula in
     let e = env_view l.env in
@@ -52,7 +53,7 @@ invariant-each-loop-number l =
       so_far : SoFar l.fn.known l.known l.changed
           (Instances l.want.left_only l.want.value f e l.fn.known (choices d l.bounds))
           (Blocks l.want.left_only l.want.value f e l.fn.known (choices d l.others)
-          (drop l.number (choices d l.block.bounds.now)));
+          (drop l.turn (ordered l.setting.falling (choices d l.block.bounds.now))));
     }
 
 abbrev pub decreases-must : goal.decreases-must
