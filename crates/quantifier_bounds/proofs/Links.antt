@@ -4,13 +4,14 @@ use Rattle.std.proofs.lemmas.Bool.{true≢false}
 use Rattle.kb_logic.specs.declared.elements.Elem.{Elem}
 use Rattle.kb_logic.specs.Trees.{FormulaTree, implication, equivalence}
 use Rattle.kb_logic.specs.KnownAtoms.{KnownAtoms}
-use Rattle.partial_structures.specs.Consistency.{IsConsistent, KnowsMore}
+use Rattle.partial_structures.specs.Consistency.{IsConsistent, IsListed, KnowsMore}
 use Rattle.partial_structures.specs.declared.truths.Truth.{Truth}
 use Rattle.partial_structures.specs.declared.truths.Truth.TheVariants.{Yes, No, Unknown}
 use Rattle.certain_truth.specs.Certainty.{certain_truth}
 use Rattle.certain_truth.proofs.Monotony.{certainty_is_monotone}
 use Rattle.bound_laws.specs.Closures.{opposes, Obeys}
-use Rattle.quantifier_bounds.specs.Walks.{Follows}
+use Rattle.bound_laws.proofs.Adding.{certain_adds_nothing}
+use Rattle.quantifier_bounds.specs.Walks.{Follows, told_truth}
 use Rattle.quantifier_bounds.proofs.Lasts.{still_lost}
 use Rattle.quantifier_bounds.proofs.Steps.{Follow}
 
@@ -43,11 +44,34 @@ module _ (f g : FormulaTree) (e : List Elem) where
   both_asked k true a b is js h i = (λ no_. h (is ∙ ap (opposes true) no_), λ yes_. i (js ∙ ap (opposes false) yes_))
   both_asked k false a b is js h i = (h is, i js)
 
-  pub implied_joins : (first now : KnownAtoms) (v a b : Bool) → a ≡ (not v || opposes true (certain_truth first g e))
-      → b ≡ (not v || opposes false (certain_truth now f e)) → now ≡ first → (a ≡ true → Obeys now (not v) f e)
-      → (b ≡ true → Obeys now v g e) → Obeys now v (implication f g) e
-  implied_joins first now v a b is js same h i =
-      both_asked now v a b (is ∙ ap (λ k. not v || opposes true (certain_truth k g e)) (sym same)) js h i
+  pub implied_joins : (first now : KnownAtoms) (v a b : Bool) → a ≡ (not v || opposes true (certain_truth now g e))
+      → b ≡ (not v || opposes false (certain_truth first f e)) → now ≡ first → (b ≡ true → Obeys now v g e)
+      → (a ≡ true → Obeys now (not v) f e) → Obeys now v (implication f g) e
+  implied_joins first now v a b is js same i h =
+      both_asked now v a b is (js ∙ ap (λ k. not v || opposes false (certain_truth k f e)) (sym same)) h i
+
+  told_left : (v : Bool) (t : Truth) → opposes false (told_truth v t) ≡ (not v || opposes false t)
+  told_left true t = refl
+  told_left false t = refl
+
+  -- whether the right side is asked for
+  pub right_is_asked : (k : KnownAtoms) (v asked : Bool) (t : Truth) → t ≡ told_truth v (certain_truth k f e)
+      → asked ≡ opposes false t → asked ≡ (not v || opposes false (certain_truth k f e))
+  right_is_asked k v asked t is so = so ∙ ap (opposes false) is ∙ told_left v (certain_truth k f e)
+
+  both : (u : Truth) → u ≡ Yes → u ≡ No → ⊥
+  both u a b = cc
+
+  -- where the left side is certainly false, the implication adds nothing
+  pub left_is_no : (k : KnownAtoms) → IsConsistent k → IsListed k → (v lost : Bool) (t : Truth)
+      → t ≡ told_truth v (certain_truth k f e) → lost ≡ opposes true t → lost ≡ true → Obeys k v (implication f g) e
+  left_is_no k c l true lost t is so holds =
+      let none : certain_truth k f e ≡ No = sym is ∙ lost_no t (sym so ∙ holds) in (
+        λ y. certain_adds_nothing k c l f e false none,
+        λ y. absurd (both (certain_truth k f e) y none),
+      )
+  left_is_no k c l false lost t is so holds =
+      absurd (true≢false (sym (sym so ∙ holds) ∙ ap (opposes true) is))
 
   -- ---- equivalences
 

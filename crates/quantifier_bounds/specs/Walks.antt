@@ -1,5 +1,5 @@
 -- Parts of the walk through a formula that must have a value.
-use Rattle.std.specs.Prelude.{◌≡◌, ℕ, suc, ◌+◌, List, Bool, true, false, ◌&&◌, IfSome, Option, Some}
+use Rattle.std.specs.Prelude.{◌≡◌, ℕ, suc, ◌+◌, List, Bool, true, false, ◌&&◌, if◌then◌else◌, IfSome, Option, Some}
 use Rattle.std.specs.Prelude.{Contains}
 use Rattle.kb_logic.specs.declared.vocabularies.Symbol.{Symbol}
 use Rattle.kb_logic.specs.Structures.{domain_at, tuples_of}
@@ -23,6 +23,10 @@ Gives o v q = IfSome o (λ a. value_at q a ≡ truth_if v)
 abbrev pub PartsObey : KnownAtoms → Bool → Bool → FormulaTrees → List Elem → Type 0
 PartsObey q true v fs e = Obeys q v (conjunction fs) e
 PartsObey q false v fs e = Obeys q v (disjunction fs) e
+
+-- what is certain of the left side of an implication, so far as it says whether its right side must have the value v
+abbrev pub told_truth : Bool → Truth → Truth
+told_truth v t = if v then t else truth.Yes
 
 -- the formula must have the value that the other side of an equivalence gives it
 abbrev pub Follows : KnownAtoms → Truth → Bool → Bool → FormulaTree → List Elem → Type 0

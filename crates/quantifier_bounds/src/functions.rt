@@ -18,7 +18,7 @@ use kb_logic::{Elem, ElemList, Literal, Memory, Symbol};
 use partial_structures::{Partial, Truth};
 use std::alloc::Global;
 
-fn is_no(truth: Truth) -> bool
+pub(crate) fn is_no(truth: Truth) -> bool
     ensures { result ≡ opposes true truth }
 {
     match truth {

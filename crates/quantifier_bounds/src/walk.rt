@@ -10,9 +10,10 @@ ghost use Rattle.bound_laws.specs.Lone.{LoneOf};
 ghost use Rattle.bound_laws.specs.Closures.{opposes, Obeys, AllObey, LastObeys};
 ghost use Rattle.quantifier_bounds.specs.Fits.{Fits, AllFit};
 ghost use Rattle.quantifier_bounds.specs.Steps.{Narrows};
-ghost use Rattle.quantifier_bounds.specs.Walks.{Demands, Follows, PartsObey};
+ghost use Rattle.quantifier_bounds.specs.Walks.{Demands, Follows, PartsObey, told_truth};
 
 use crate::fault::BoundFault;
+use crate::functions::is_no;
 use crate::leaves::{atom_must, equation};
 use crate::left::{Left, certainty, is_lost, left_in, not_lost};
 use crate::order::nth;
@@ -54,6 +55,27 @@ fn is_asked<'a>(known: &'a Partial, v: bool, other: &'a Formula, w: bool, env: &
         return is_lost(known, other, w, env);
     }
     true
+}
+
+/// What is certain of the left side of an implication that must be true; one that must be false asks for its right side
+/// in any case.
+fn left_truth<'a>(known: &'a Partial, v: bool, left: &'a Formula, env: &'a Env<'a>) -> Truth
+    requires { Fits known.now.symbols known.now.domains (formula_view left.now) (env_view env.now) }
+    ensures { result ≡ told_truth v (certain_truth known.now (formula_view left.now) (env_view env.now)) }
+{
+    if v {
+        return certainty(known, left, env);
+    }
+    Truth::Yes
+}
+
+fn is_yes(truth: Truth) -> bool
+    ensures { result ≡ opposes false truth }
+{
+    match truth {
+        Truth::Yes => true,
+        _ => false,
+    }
 }
 
 /// Whether the instance is passed over: it is certainly of the other value, and only those that are left are wanted.
@@ -218,6 +240,8 @@ fn when<'a>(
     }
 }
 
+// Mostly the left side says of which instances something is said at all, and is certainly false of the others: those
+// are done with after this one question.
 /// The implication must have this value.
 #[cycle(must)]
 fn implied<'a>(
@@ -234,11 +258,15 @@ fn implied<'a>(
     ensures { Narrows known.old known.new result
         (λ q. Obeys q v (implication (formula_view left.now) (formula_view right.now)) (env_view env.now)) }
 {
-    let asked = is_asked(&*known, v, &*right, true, &*env);
-    let first = when(known, setting, asked, left, !v, env)?;
-    let asked = is_asked(&*known, v, &*left, false, &*env);
     known.consistency();
-    let second = when(known, setting, asked, right, v, env)?;
+    let told = left_truth(&*known, v, &*left, &*env);
+    if is_no(told) {
+        return Ok(false);
+    }
+    let first = when(known, setting, is_yes(told), right, v, env)?;
+    let asked = is_asked(&*known, v, &*right, true, &*env);
+    known.consistency();
+    let second = when(known, setting, asked, left, !v, env)?;
     Ok(either(first, second))
 }
 

@@ -11,8 +11,9 @@ use Rattle.bound_laws.specs.Closures.{Obeys, IsNotLost, AtomHas}
 use Rattle.quantifier_bounds.specs.Steps.{IsStep, Narrows}
 use Rattle.quantifier_bounds.specs.Walks.{Follows, IsNth}
 use Rattle.quantifier_bounds.proofs.Steps.{two_steps, two_fault, fault_by, after_test, done, SoFar}
-use Rattle.quantifier_bounds.proofs.Links.{left_asked, right_asked, implied_joins}
+use Rattle.quantifier_bounds.proofs.Links.{left_asked, right_asked, right_is_asked, left_is_no, implied_joins}
 use Rattle.quantifier_bounds.proofs.Links.{right_follows, left_follows}
+use Rattle.quantifier_bounds.proofs.Made.{nothing}
 use Rattle.quantifier_bounds.proofs.Links.{alike_joins}
 use Rattle.quantifier_bounds.proofs.Lones.{lone_none, lone_one, lone_many, all_wanted}
 use Rattle.quantifier_bounds.proofs.Shapes.{formula_view-Atom, formula_view-Iff}
@@ -74,19 +75,31 @@ last-loop-at-preserved t c =
           (sym c.is_lost.ensures ∙ c.if-is_lost.false) c.loop-at.invariant.left);
     }
 
+pub implied-returns-then-is_no : goal.implied-returns-then-is_no
+implied-returns-then-is_no t c =
+    let f = formula_view c.args.left.now in
+    let g = formula_view c.args.right.now in
+    let e = env_view c.args.env.now in
+    let k = c.args.known.now in
+    nothing k (λ q. Obeys q c.args.v (implication f g) e)
+    (left_is_no f g e k c.consistency.ensures.consistent c.consistency.ensures.listed c.args.v c.is_no.result
+    c.left_truth-told.result c.left_truth-told.ensures c.is_no.ensures c.if-is_no.true)
+
 pub implied-returns-in_err-first : goal.implied-returns-in_err-first
 implied-returns-in_err-first t c =
     let f = formula_view c.args.left.now in
     let g = formula_view c.args.right.now in
     let e = env_view c.args.env.now in
     let k = c.args.known.now in
-    let asked = c.is_asked-asked.result in
-    let W = λ (q : KnownAtoms). Obeys q c.args.v (implication f g) e in
-    let A = λ (q : KnownAtoms). asked ≡ true → Obeys q (not c.args.v) f e in
+    let v = c.args.v in
+    let asked = c.is_yes.result in
+    let W = λ (q : KnownAtoms). Obeys q v (implication f g) e in
+    let B = λ (q : KnownAtoms). asked ≡ true → Obeys q v g e in
+    let so = right_is_asked f g e k v asked c.left_truth-told.result c.left_truth-told.ensures c.is_yes.ensures in
     let p = err_from_is_err_and c.from_residual.result c.from_residual.ensures.1 in
     subst (λ r. Narrows k c.when.new.known r W) (sym (p.1 ∙ ap Err p.2))
-    (fault_by k c.when.new.known c.when.new.known c.in_err-first.field-0.0 A W
-    (left_asked f g e k c.args.v asked c.is_asked-asked.ensures) c.in_err-first.ensures)
+    (fault_by k c.when.new.known c.when.new.known c.in_err-first.field-0.0 B W
+    (right_asked f g e k v asked so) c.in_err-first.ensures)
 
 pub implied-returns-in_err-second : goal.implied-returns-in_err-second
 implied-returns-in_err-second t c =
@@ -94,16 +107,18 @@ implied-returns-in_err-second t c =
     let g = formula_view c.args.right.now in
     let e = env_view c.args.env.now in
     let k = c.args.known.now in
+    let v = c.args.v in
     let now = c.when.new.known in
-    let asked = c.is_asked-asked.result in
-    let again = c.is_asked-asked-2.result in
-    let W = λ (q : KnownAtoms). Obeys q c.args.v (implication f g) e in
-    let A = λ (q : KnownAtoms). asked ≡ true → Obeys q (not c.args.v) f e in
-    let B = λ (q : KnownAtoms). again ≡ true → Obeys q c.args.v g e in
+    let asked = c.is_yes.result in
+    let again = c.is_asked-asked.result in
+    let W = λ (q : KnownAtoms). Obeys q v (implication f g) e in
+    let B = λ (q : KnownAtoms). asked ≡ true → Obeys q v g e in
+    let A = λ (q : KnownAtoms). again ≡ true → Obeys q (not v) f e in
+    let so = right_is_asked f g e k v asked c.left_truth-told.result c.left_truth-told.ensures c.is_yes.ensures in
     let p = err_from_is_err_and c.from_residual-in_err-second.result c.from_residual-in_err-second.ensures.1 in
     subst (λ r. Narrows k c.when-2.new.known r W) (sym (p.1 ∙ ap Err p.2))
-    (two_fault k now c.in_ok-first.first W A B (left_asked f g e k c.args.v asked c.is_asked-asked.ensures)
-    (right_asked f g e now c.args.v again c.is_asked-asked-2.ensures) c.in_ok-first.ensures
+    (two_fault k now c.in_ok-first.first W B A (right_asked f g e k v asked so)
+    (left_asked f g e now v again c.is_asked-asked.ensures) c.in_ok-first.ensures
     c.when-2.new.known c.when-2.new.known c.in_err-second.field-0.0 c.in_err-second.ensures)
 
 pub implied-returns : goal.implied-returns
@@ -114,16 +129,17 @@ implied-returns t c =
     let k = c.args.known.now in
     let now = c.when.new.known in
     let v = c.args.v in
-    let asked = c.is_asked-asked.result in
-    let again = c.is_asked-asked-2.result in
+    let asked = c.is_yes.result in
+    let again = c.is_asked-asked.result in
     let W = λ (q : KnownAtoms). Obeys q v (implication f g) e in
-    let A = λ (q : KnownAtoms). asked ≡ true → Obeys q (not v) f e in
-    let B = λ (q : KnownAtoms). again ≡ true → Obeys q v g e in
+    let B = λ (q : KnownAtoms). asked ≡ true → Obeys q v g e in
+    let A = λ (q : KnownAtoms). again ≡ true → Obeys q (not v) f e in
+    let so = right_is_asked f g e k v asked c.left_truth-told.result c.left_truth-told.ensures c.is_yes.ensures in
     subst (λ b. IsStep k c.when-2.new.known b W) (sym c.either.ensures)
-    (two_steps k now c.in_ok-first.first W A B (left_asked f g e k v asked c.is_asked-asked.ensures)
-    (right_asked f g e now v again c.is_asked-asked-2.ensures) c.in_ok-first.ensures c.when-2.new.known
+    (two_steps k now c.in_ok-first.first W B A (right_asked f g e k v asked so)
+    (left_asked f g e now v again c.is_asked-asked.ensures) c.in_ok-first.ensures c.when-2.new.known
     c.in_ok-second.second
-    (implied_joins f g e k now v asked again c.is_asked-asked.ensures c.is_asked-asked-2.ensures)
+    (implied_joins f g e k now v again asked c.is_asked-asked.ensures so)
     c.in_ok-second.ensures)
 
 pub alike-returns-in_err-first : goal.alike-returns-in_err-first
