@@ -41,7 +41,7 @@ module _ {X : Type 0} (lost : X → Bool) where
   abbrev pub counts : Left → List X → Left
   counts l xs = fold (λ u x. left_with u (lost x)) l xs
 
-  many_stays : (xs : List X) → counts Many xs ≡ Many
+  pub many_stays : (xs : List X) → counts Many xs ≡ Many
   many_stays [] = refl
   many_stays (x ∷ xs) = by (many_stays xs) (lost x)
     where

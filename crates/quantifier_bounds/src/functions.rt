@@ -9,7 +9,7 @@ ghost use Rattle.quantifier_bounds.specs.declared.left.Left.TheVariants.{None as
 
 use crate::atoms::settle;
 use crate::fault::BoundFault;
-use crate::left::{Left, one_more};
+use crate::left::{Left, are_many, one_more};
 use crate::places::atom;
 use crate::walk::{Setting, either};
 use kb_logic::tuples::all_tuples;
@@ -56,6 +56,9 @@ fn values_left(
 {
     let mut left = Left::None;
     for at in 0..values.len() {
+        if are_many(left) {
+            return Ok(left);
+        }
         let atom = value_literal(alloc, symbol, args, &values[at])?;
         left = one_more(left, is_no(known.value(&atom)));
     }
