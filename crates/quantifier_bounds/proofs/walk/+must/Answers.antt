@@ -25,9 +25,9 @@ use Rattle.plain_evaluation.specs.Environments.{env_view}
 use Rattle.quantifier_bounds.specs.Fits.{Fits, AllFit}
 use Rattle.std.specs.Option.{option_map}
 use Rattle.kb_logic.specs.declared.syntax.Formula.TheVariants.{True}
-use Rattle.quantifier_bounds.proofs.Turns.{parts_all, parts_last, split, Instances, Block, Blocks, block_start, block_turn}
+use Rattle.quantifier_bounds.proofs.Turns.{parts_all, parts_last, split, Instances, Block, Blocks, block_start}
 use Rattle.quantifier_bounds.proofs.Orders.{ordered, ordered_length, nth_is, all_taken}
-use Rattle.quantifier_bounds.proofs.Turns.{block_fault}
+use Rattle.quantifier_bounds.proofs.Turns.{block_turn, block_fault}
 use Rattle.quantifier_bounds.proofs.Lasts.{lost_turn, first_turn, none_of, same_default, OneLeft}
 use Rattle.quantifier_bounds.proofs.walk.+must.Goals as goal
 
