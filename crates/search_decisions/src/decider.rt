@@ -9,6 +9,7 @@ use crate::costs::Costs;
 use crate::order::Order;
 use crate::phases::Phases;
 use crate::scores::Scores;
+use crate::settled::Settled;
 use chooser::Choose;
 use clause_store::Store;
 use ground_core::Memory;
@@ -21,6 +22,8 @@ use std::alloc::Global;
 pub struct Decider {
     /// What decides the sign.
     pub phases: Phases,
+    /// What decides it where a function has another value.
+    pub settled: Settled,
     /// What decides it where a term is to be small.
     pub costs: Costs,
     /// What the rule chooses from.
@@ -36,6 +39,7 @@ impl Decider {
     pub fn new(alloc: Global) -> Decider {
         Decider {
             phases: Phases::new(alloc),
+            settled: Settled::new(),
             costs: Costs::new(alloc),
             scores: Scores::new(alloc),
             atoms: Order::new(alloc),
@@ -165,7 +169,8 @@ impl Decider {
         Ok(Some(Lit { var, positive }))
     }
 
-    /// The sign of a decision: the cheaper value, or else the one that was seen least.
+    /// The sign of a decision: the cheaper value, or else false where a function has another value, or else the value
+    /// that was seen least.
     fn sign(
         &mut self,
         problem: &KeptProblem,
@@ -180,8 +185,23 @@ impl Decider {
         };
         match self.costs.sign(assignment, choice, var) {
             Some(positive) => positive,
-            None => self.phases.sign(problem, assignment, var, salt),
+            None => {
+                !self.is_settled(problem, assignment, var)
+                    && self.phases.sign(problem, assignment, var, salt)
+            }
         }
+    }
+
+    /// Whether the variable is of a function with many values that is found to have one.
+    fn is_settled(&mut self, problem: &KeptProblem, assignment: &Assignment, var: Var) -> bool {
+        let Some(place) = self.phases.choice_of(var) else {
+            return false;
+        };
+        let first = match self.phases.first {
+            Some(first) if first.clause == place => Some(first.var),
+            _ => None,
+        };
+        self.settled.has_value(problem, assignment, place, first)
     }
 
     /// Begins a search, in which nothing is decided.

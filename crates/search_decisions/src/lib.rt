@@ -6,9 +6,11 @@ mod decider;
 mod order;
 mod phases;
 mod scores;
+mod settled;
 
 pub use costs::Costs;
 pub use decider::Decider;
 pub use order::Order;
 pub use phases::{First, Phases};
 pub use scores::Scores;
+pub use settled::Settled;
