@@ -33,7 +33,7 @@ pub struct Account {
 /// A constraint whose result stands in one of its parts, and that has more parts than this, is asked only once it is
 /// contradicted. It says that a function has one value: each value that it excludes costs a look at all of its parts,
 /// where a search that decides the value costs next to nothing.
-const MOST_LOOKED_AHEAD: usize = 1024;
+const MOST_LOOKED_AHEAD: usize = 256;
 
 /// By how much the least end and the greatest end rise where a part that gains so much gets the value.
 pub fn moves(gain: i64, value: bool) -> (i128, i128) {
