@@ -1,0 +1,5 @@
+pub mod Passing
+pub mod Keying
+pub mod Leading
+pub mod Walking
+pub mod Searching
