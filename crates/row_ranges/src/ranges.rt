@@ -35,8 +35,9 @@ fn needed(steps: &[u64]) -> usize {
 }
 
 impl Ranges {
-    /// The rows of a table over so many tuples of these types, each by its index among them, as the arguments of an atom
-    /// lead to them. There are none where their keys do not fit 64 bits, or where a variable is an argument of another type.
+    /// The rows of a table over so many tuples of these types, each by its index among them, as the arguments of an
+    /// atom lead to them. There are none where their keys do not fit 64 bits, or where a variable is an argument of
+    /// another type.
     pub fn new(
         alloc: Global,
         domains: &[ElemList],

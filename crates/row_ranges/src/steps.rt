@@ -112,8 +112,8 @@ pub(crate) fn variable_steps(
     Ok(Some(steps))
 }
 
-/// How far the variables together may move a key, and 1. There is none where it leaves 64 bits, or where a variable's step
-/// is below what those after it move the key.
+/// How far the variables together may move a key, and 1. There is none where it leaves 64 bits, or where a variable's
+/// step is below what those after it move the key.
 pub(crate) fn reach(domains: &[ElemList], steps: &[u64], bounds: &[Bound]) -> Option<u64>
     ensures reach { IfSome result (λ r. r ≡ reach domains.now steps.now bounds.now) }
     ensures wide { IfSome result (λ r. AreWide domains.now steps.now bounds.now) }
