@@ -1,0 +1,2 @@
+pub mod Narrowings
+pub mod Laws
