@@ -104,6 +104,14 @@ impl<C: Choose + Drop> Solver<C> {
         self.keeper.engine.searches
     }
 
+    /// How many bounds and exclusions were added.
+    pub fn addition_count(&self) -> usize
+        ensures value { result ≡ length self.now.kept.additions }
+        ensures laws { IsSolver self.now }
+    {
+        self.keeper.additions.len()
+    }
+
     /// How many conflicts the last search met above level 0.
     pub fn conflicts(&self) -> u64
         ensures value { result ≡ self.now.conflicts }

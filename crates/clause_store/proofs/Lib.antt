@@ -7,6 +7,7 @@ pub mod MeetFacts
 pub mod MoveFacts
 pub mod NodeFacts
 pub mod QuietFacts
+pub mod ReleaseFacts
 pub mod ShortWalk
 pub mod WalkFacts
 pub mod WatchFacts

@@ -1,4 +1,5 @@
 pub mod StoreFields
+pub mod Releasing
 pub mod Visits
 pub mod Watching
 pub use Rattle.clause_base.specs.StoreState

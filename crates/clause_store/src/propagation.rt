@@ -1,9 +1,9 @@
 //! Unit propagation: what a visit of a clause leaves, and the walk over the clauses that watch a literal.
 ghost use Rattle.std.specs.Prelude.{◌≡◌, ℕ, ◌+◌, ◌*◌, ◌^◌, ◌<◌, ◌≤◌, length, Option, Some, None, All, Contains, IfNone};
-ghost use Rattle.std.specs.Prelude.{IfSome};
+ghost use Rattle.std.specs.Prelude.{IfSome, List};
 ghost use Rattle.lit_core.specs.declared.literals.Lit.{Lit};
 ghost use Rattle.clause_base.specs.ListsState.{nodes_of};
-ghost use Rattle.clause_base.specs.StoreState.{IsQuiet, IsConflict, Propagates};
+ghost use Rattle.clause_base.specs.StoreState.{IsHeld, IsQuiet, IsConflict, Propagates};
 ghost use Rattle.clause_store.specs.Visits.{CanMove, CanImply, ReplacementGives, IsAt, IsNext, Keeps, LookGives};
 ghost use Rattle.clause_store.specs.Visits.{OneGives, ReplacesAt, VisitGives};
 ghost use Rattle.clause_store.specs.Watching.{code_of, store_of, IsWatcher, IsNodeOf};
@@ -181,6 +181,20 @@ impl Watcher {
         self.held.set_place(node, place);
     }
 
+    /// Takes the node of a clause that was removed out of its list.
+    fn unlist(&mut self, node: usize, before: Option<usize>, falsified: Lit)
+        requires watcher { IsWatcher self.old }
+        requires falsified { IsNext self.old falsified }
+        requires at { IsAt self.old.lists (code_of falsified) before node }
+        requires removed { (id : ℕ) (c : List Lit) → IsNodeOf node id → IsHeld (store_of self.old) id c → ⊥ }
+        ensures watcher { IsWatcher self.new }
+        ensures same { Propagates (store_of self.old) (store_of self.new) }
+        ensures keeps { Keeps self.old self.new node }
+        ensures done { VisitGives self.old self.new node falsified before (Visit.Done before) }
+    {
+        self.lists.unlink(list_of(falsified), before, node);
+    }
+
     /// Makes the last literal of a clause true.
     fn imply(&mut self, node: usize, before: Option<usize>, other: Lit, falsified: Lit)
         requires watcher { IsWatcher self.old }
@@ -211,7 +225,10 @@ impl Watcher {
                 self.held.place(node),
                 other,
             ) {
-                Replacement::Deleted => Visit::Done(Some(node)),
+                Replacement::Deleted => {
+                    self.unlist(node, before, falsified);
+                    Visit::Done(before)
+                }
                 Replacement::Literal(lit, place) => {
                     self.move_watch(node, before, falsified, lit, place);
                     Visit::Done(before)

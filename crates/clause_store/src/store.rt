@@ -10,6 +10,7 @@ ghost use Rattle.clause_base.specs.StoreState.{StoreState, IsStore, IsHeld, IsQu
 ghost use Rattle.clause_base.specs.StoreState.{Propagates, empty_store, with_trail, with_variables, with_spare};
 ghost use Rattle.clause_base.specs.StoreState.{with_clause, without_clause};
 ghost use Rattle.clause_base.specs.TrailLaws.{IsFixed, IsStepOf, CutsAt, cleared, level_after, lits_of, with_step};
+ghost use Rattle.clause_store.specs.Releasing.{Releases};
 
 use crate::watched::Watcher;
 use clause_base::Step;
@@ -253,6 +254,18 @@ impl Store {
         ensures laws { IsStore self.new }
     {
         self.watcher.pack()
+    }
+
+    /// Removes a clause of which no literal is true, and answers whether it is gone: else it may be the reason for one.
+    ///
+    /// The trail may be any, and the other numbers stay. It is for clauses that serve once: what is made true by one is
+    /// taken back before it is removed.
+    pub fn release(&mut self, id: u64) -> bool
+        requires id { id < length self.old.clauses }
+        ensures released { Releases self.old id self.new result }
+        ensures laws { IsStore self.new }
+    {
+        self.watcher.release(id)
     }
 
     /// Removes a clause where nothing is assigned. The other numbers stay.

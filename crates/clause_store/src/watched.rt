@@ -17,12 +17,17 @@
 //! with the others beside its number (short_visits.rt). A walk reads such a list in order, where a visit of a watch
 //! costs a cache miss or two, and moves nothing. Later clauses are watched, so that a push takes no memory for lists.
 //!
+//! A clause of which no literal is true is the reason for nothing, so it may be removed under any trail (`release`):
+//! that is for clauses that served once, and of which more come than a search could watch. Its nodes stay in their
+//! lists until a walk meets them there, and are then taken out, so that each costs one visit more at most.
+//!
 //! Where a decision was made before all was propagated, or a pushed clause has no such literal, a literal may become
 //! true at a higher level than the one at which its clause forced it, and what holds of the levels is lost. `stale`
 //! says so: levels are compared no more, and the next backtrack empties the lists, after which each clause is
 //! watched anew. A search that propagates before each decision never pays for that.
 ghost use Rattle.std.specs.Prelude.{◌≡◌, ◌≢◌, ℕ, ◌+◌, ◌*◌, ◌^◌, ◌<◌, ◌≤◌, [], length, max, List, Option, Some, None};
-ghost use Rattle.std.specs.Prelude.{true, All, Contains, IsOk, IfOk, OnOk, OnErr, ◌⊎◌, slice_get, slice_index_or};
+ghost use Rattle.std.specs.Prelude.{true, false, All, Contains, IsOk, IsTrue, IfOk, OnOk, OnErr, ◌⊎◌, slice_get};
+ghost use Rattle.std.specs.Prelude.{slice_index_or};
 ghost use Rattle.std.specs.Option.{ForSome};
 ghost use Rattle.lit_core.specs.declared.literals.Lit.{Lit};
 ghost use Rattle.lit_core.specs.Literals.{value_in, negated};
@@ -30,11 +35,12 @@ ghost use Rattle.clause_base.specs.declared.trail.Step.{Step};
 ghost use Rattle.clause_base.specs.StoreState.{IsEachOnceOf, IsHeld, Implies, empty_store, with_clause, with_spare};
 ghost use Rattle.clause_base.specs.StoreState.{with_trail, with_variables, without_clause};
 ghost use Rattle.clause_base.specs.TrailLaws.{CutsAt, IsFixed, IsStepOf, cleared, level_after, with_step};
+ghost use Rattle.clause_store.specs.Releasing.{HasTrue, Releases};
 ghost use Rattle.clause_store.specs.Visits.{MayAssign};
 ghost use Rattle.clause_store.specs.Watching.{code_of, store_of, IsWatcher};
 
 use clause_base::{ClauseDb, LinkedLists, ShortClauses, Trail};
-use lit_core::{Lit, Memory, Var};
+use lit_core::{Assignment, Lit, Memory, PackedLit, Var};
 use std::alloc::Global;
 
 /// Which two literals of a clause are watched.
@@ -88,6 +94,21 @@ pub fn literal_of(label: u32) -> Lit
         var: Var(label as u64 / 2),
         positive: label % 2 == 1,
     }
+}
+
+/// Whether one of the literals is true.
+fn is_any_true(assignment: &Assignment, lits: &[PackedLit]) -> bool
+    requires { All (λ l. l.var.0 < length assignment.now) lits.now }
+    ensures yes { IsTrue result → (l : Lit) × Contains lits.now l × (value_in assignment.now l ≡ Some true) }
+    ensures no { result ≡ false → All (λ l. value_in assignment.now l ≢ Some true) lits.now }
+{
+    for lit in lits {
+        match assignment.value(lit.lit()) {
+            Some(true) => return true,
+            _ => {}
+        }
+    }
+    false
 }
 
 impl Watcher {
@@ -168,6 +189,33 @@ impl Watcher {
         ensures removed { store_of self.new ≡ without_clause (store_of self.old) id }
     {
         self.held.remove(id);
+    }
+
+    /// Whether a literal of the clause is true. One that was removed has none.
+    fn has_true(&self, id: u64) -> bool
+        requires watcher { IsWatcher self.now }
+        requires id { id < length self.now.held.clauses }
+        ensures yes { IsTrue result → HasTrue (store_of self.now) id }
+        ensures no { result ≡ false → HasTrue (store_of self.now) id → ⊥ }
+    {
+        match self.held.get(id as usize) {
+            None => false,
+            Some(lits) => is_any_true(self.trail.assignment(), lits),
+        }
+    }
+
+    /// Removes a clause of which no literal is true, under any trail, and answers whether it is gone.
+    pub fn release(&mut self, id: u64) -> bool
+        requires watcher { IsWatcher self.old }
+        requires id { id < length self.old.held.clauses }
+        ensures watcher { IsWatcher self.new }
+        ensures released { Releases (store_of self.old) id (store_of self.new) result }
+    {
+        if self.has_true(id) {
+            return false;
+        }
+        self.held.remove(id);
+        true
     }
 
     /// Lists the short clauses that are held, where nothing is assigned. The others are watched anew later.

@@ -2,6 +2,7 @@
 use Rattle.std.proofs.Common.{◌≡◌, ℕ, zero, suc, ◌+◌, ◌-◌, ◌*◌, ◌^◌, ◌<◌, ◌≤◌, Bool, true, Some, None, Option, is_some}
 use Rattle.std.proofs.Common.{List, [], ◌∷◌, length, take, replicate, slice_get, get_or, refl, sym, ap, ◌∙◌, subst, inl}
 use Rattle.std.proofs.Common.{⊎_elim, arith}
+use Rattle.std.specs.Global.{Vec}
 use Rattle.std.proofs.Math.Nat.{pow-suc}
 use Rattle.std.proofs.lemmas.Bool.{cases_lt}
 use Rattle.std.proofs.lemmas.List.{length-replicate, take_all}
@@ -26,7 +27,8 @@ use Rattle.search_engine.proofs.TrailChange.{extends-from, extends-propagates, s
 use Rattle.search_engine.proofs.TurnFacts.{reason-within}
 use Rattle.search_engine.proofs.Roots.{root-refuted}
 use Rattle.search_engine.proofs.SearchFacts.{satisfies-held}
-use Rattle.search_engine.proofs.DecideFacts.{bits-length, with_store}
+use Rattle.search_engine.proofs.DecideFacts.{bits-length, with_passing, with_store}
+use Rattle.search_engine.proofs.GivenBack.{passing-begun}
 use Rattle.search_engine.proofs.LearnFacts.{closed-true}
 use Rattle.search_engine.proofs.SelectorSteps.{few-made}
 use Rattle.search_engine.proofs.GrowFacts.{orderly-none, pow-le, resting-moves, same-itself}
@@ -177,14 +179,24 @@ module _ (e : Engine) (h : IsResting e) (base : e.base ≡ length e.store.trail.
   ahead-begun = rw (conflicts, base) (begin-ahead e.problem.vars e.store.trail h.engine.store.trail h.level h.orderly
       h.engine.sized)
 
-  pub search-begun : e.closed ≡ length e.problem.retired → length e.learnt ≤ e.known → IsSearch e
-  search-begun closed known = record {
-    engine = h.engine;
+  pub search-begun : (p : Vec ℕ) → p.items ≡ [] → e.closed ≡ length e.problem.retired → length e.learnt ≤ e.known
+      → IsSearch (with_passing e p)
+  search-begun p none closed known = record {
+    engine = record {
+      problem = h.engine.problem;
+      within = h.engine.within;
+      closed = h.engine.closed;
+      learnt = h.engine.learnt;
+      knows = h.engine.knows;
+      store = h.engine.store;
+      sized = h.engine.sized;
+    };
     orderly = h.orderly;
     counted = omega (arith, known);
     fewer = stands-fewer e.problem.vars (implied_of e.store.trail.steps) (paid_of e) 0 (inl ahead-begun);
     once = h.once;
     closed = closed;
+    passing = passing-begun e p h.engine none;
   }
 
 -- fewer conflicts were met than there are free variables for

@@ -114,6 +114,7 @@ with_problem e q = record {
   store = e.store;
   learnt = e.learnt;
   ids = e.ids;
+  passing = e.passing;
   moments = e.moments;
   decider = e.decider;
   ledger = e.ledger;

@@ -2,6 +2,7 @@
 use Rattle.std.proofs.Common.{◌≡◌, ℕ, suc, ◌+◌, ◌-◌, ◌^◌, ◌<◌, ◌≤◌, Bool, true, false, Option, Some, None, List, []}
 use Rattle.std.proofs.Common.{◌∷◌, ◌++◌, length, take, slice_get, refl, sym, ap, ◌∙◌, subst, ◌⊎◌, inl, inr, ⊎_elim}
 use Rattle.std.proofs.Common.{arith, All, Contains}
+use Rattle.std.specs.Global.{Vec}
 use Rattle.std.proofs.lemmas.List.{length-set}
 use Rattle.std.proofs.lemmas.List.Elements.{All-weaker}
 use Rattle.std.proofs.lemmas.Option.{slice_get_within}
@@ -61,6 +62,7 @@ pub record SameBut (e f : Engine) : Type 0 where
   pub problem : f.problem ≡ e.problem
   pub learnt : f.learnt ≡ e.learnt
   pub ids : f.ids ≡ e.ids
+  pub passing : f.passing ≡ e.passing
   pub moments : f.moments ≡ e.moments
   pub known : f.known ≡ e.known
   pub searches : f.searches ≡ e.searches
@@ -78,6 +80,29 @@ with_store e s = record {
   store = s;
   learnt = e.learnt;
   ids = e.ids;
+  passing = e.passing;
+  moments = e.moments;
+  decider = e.decider;
+  ledger = e.ledger;
+  log = e.log;
+  searches = e.searches;
+  known = e.known;
+  conflicts = e.conflicts;
+  root_conflicts = e.root_conflicts;
+  assumed = e.assumed;
+  closed = e.closed;
+  base = e.base;
+}
+
+-- the search with other clauses that are held as long as a literal is true by them
+abbrev pub with_passing : Engine → Vec ℕ → Engine
+with_passing e p = record {
+  alloc = e.alloc;
+  problem = e.problem;
+  store = e.store;
+  learnt = e.learnt;
+  ids = e.ids;
+  passing = p;
   moments = e.moments;
   decider = e.decider;
   ledger = e.ledger;
@@ -99,6 +124,7 @@ with_ledger e l = record {
   store = e.store;
   learnt = e.learnt;
   ids = e.ids;
+  passing = e.passing;
   moments = e.moments;
   decider = e.decider;
   ledger = l;
@@ -117,6 +143,7 @@ same-but e s = record {
   problem = refl;
   learnt = refl;
   ids = refl;
+  passing = refl;
   moments = refl;
   known = refl;
   searches = refl;
@@ -138,6 +165,7 @@ module _ (e f : Engine) (same : SameBut e f) (h : IsSearch e) (t : Step)
     problem = same.problem;
     learnt = same.learnt;
     ids = same.ids;
+    passing = same.passing;
     moments = same.moments;
     known = same.known;
     searches = same.searches;

@@ -2,6 +2,7 @@
 use Rattle.std.proofs.Common.{◌≡◌, ℕ, ◌+◌, ◌<◌, ◌≤◌, Bool, true, false, Option, Some, None, List, [], ◌∷◌, ◌++◌}
 use Rattle.std.proofs.Common.{length, take, slice_get, get_or, refl, sym, ap, ◌∙◌, subst, ◌⊎◌, inl, inr, ⊎_elim, arith}
 use Rattle.std.proofs.Common.{All, Any, Contains}
+use Rattle.std.specs.Global.{Vec}
 use Rattle.std.specs.Prelude.{IsSome}
 use Rattle.std.proofs.lemmas.List.{append-nil, length-set}
 use Rattle.std.proofs.lemmas.List.Elements.{All-weaker}
@@ -24,8 +25,9 @@ use Rattle.search_engine.specs.Potential.{implied_of, Ahead}
 use Rattle.search_engine.specs.Searching.{AreAssumed, AreClosed, AheadAt, Continues, IsExplained, IsOrderly, IsSearch}
 use Rattle.search_engine.specs.Searching.{IsTurn, StandsAt, paid_of}
 use Rattle.search_engine.proofs.Closing.{closed-later}
-use Rattle.search_engine.proofs.DecideFacts.{room-for, same-but, with_store}
+use Rattle.search_engine.proofs.DecideFacts.{room-for, same-but, with_passing, with_store}
 use Rattle.search_engine.proofs.Known.{once-all, once-satisfied, zip-later}
+use Rattle.search_engine.proofs.PassingFacts.{passing-pushed}
 use Rattle.search_engine.proofs.Pushed.{front-push, front-refl, held-later}
 use Rattle.search_engine.proofs.Standing.{step-ahead}
 use Rattle.search_engine.proofs.TrailChange.{bits-append}
@@ -105,9 +107,10 @@ module _ (e : Engine) (h : IsSearch e) (c : List Lit) (why : IsExplained e.probl
 
 -- after it is pushed
 module _ (e : Engine) (h : IsSearch e) (c k : List Lit) (s : StoreState) (why : IsExplained e.problem c)
-    (once : IsEachOnceOf c k) (is : s ≡ with_clause e.store k) (laws : IsStore s) where
+    (once : IsEachOnceOf c k) (is : s ≡ with_clause e.store k) (laws : IsStore s) (p : Vec ℕ)
+    (noted : p.items ≡ e.passing.items ++ length e.store.clauses ∷ []) where
   abbrev explained : Engine
-  explained = with_store e s
+  explained = with_passing (with_store e s) p
 
   same-trail : s.trail ≡ e.store.trail
   same-trail = ap (λ (x : StoreState). x.trail) is
@@ -134,6 +137,7 @@ module _ (e : Engine) (h : IsSearch e) (c k : List Lit) (s : StoreState) (why : 
     fewer = h.fewer;
     once = h.once;
     closed = h.closed;
+    passing = passing-pushed e explained k h.passing h.engine.knows.learnt_held refl refl refl noted more-clauses;
   }
 
   held-there : slice_get s.clauses (length e.store.clauses) ≡ Some (Some k)

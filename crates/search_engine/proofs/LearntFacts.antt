@@ -16,6 +16,7 @@ use Rattle.search_engine.specs.Searching.{IsLesson, IsSearch, SameCounts}
 use Rattle.search_engine.proofs.Closing.{closed-learnt}
 use Rattle.search_engine.proofs.SearchFacts.{paid-same}
 use Rattle.search_engine.proofs.Known.{known-learnt}
+use Rattle.search_engine.proofs.PassingFacts.{passing-learnt}
 use Rattle.search_engine.proofs.Pushed.{front-push}
 use Rattle.search_engine.specs.Resting.{held_of}
 use Rattle.search_engine.proofs.LearnFacts.{closed-true, lesson-implies, lesson-fresh, lesson-live, lesson-learnt}
@@ -57,7 +58,8 @@ module _ (e f : Engine) (h : IsSearch e) (quiet : IsQuiet e.store) (lits held : 
     (problem : f.problem ≡ e.problem) (known : f.known ≡ e.known) (closed : f.closed ≡ e.closed)
     (base : f.base ≡ e.base) (searches : f.searches ≡ e.searches) (counts : SameCounts e f)
     (learnt : f.learnt ≡ e.learnt ++ lits ∷ []) (moments : f.moments.items ≡ e.moments.items ++ moment_of e.problem ∷
-    []) (ids : f.ids.items ≡ e.ids.items ++ length e.store.clauses ∷ []) (fits : length f.learnt < 2 ^ 64) where
+    []) (ids : f.ids.items ≡ e.ids.items ++ length e.store.clauses ∷ []) (passing : f.passing ≡ e.passing)
+    (fits : length f.learnt < 2 ^ 64) where
   none-no : (o : Option ℕ) → IsSome o → o ≡ None → 0 < t.level
   none-no None s n = cc
   none-no (Some i) s n = cc
@@ -112,6 +114,7 @@ module _ (e f : Engine) (h : IsSearch e) (quiet : IsQuiet e.store) (lits held : 
             (subst (λ n. n < 2 ^ e.problem.vars) (sym (paid-same e f problem base c)) h.fewer);
         once = omega (arith, r, o);
         closed = rw (problem, closed) h.closed;
+        passing = passing-learnt e f held h.passing problem closed (ap (λ v. v.items) passing) ids clauses;
       }
 
   pub learnt-continues : Continues e f

@@ -2,6 +2,7 @@ pub mod Potential
 pub mod Standing
 pub mod Joined
 pub mod Pushed
+pub mod PassingFacts
 pub mod Closing
 pub mod SelectorSteps
 pub mod Beginning
@@ -18,6 +19,7 @@ pub mod DecideFacts
 pub mod LearntFacts
 pub mod AnswerFacts
 pub mod TurnFacts
+pub mod GivenBack
 pub mod GrowFacts
 pub mod Removed
 pub mod BoundFacts

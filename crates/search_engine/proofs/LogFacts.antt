@@ -13,6 +13,7 @@ use Rattle.search_engine.specs.declared.engine.Engine.{Engine}
 use Rattle.search_engine.specs.Resting.{Bounds, Excludes, IsResting, SameSearches, Stays}
 use Rattle.search_engine.specs.Searching.{Continues, IsEngine, IsSearch, IsTurn, KeepsAssumed}
 use Rattle.search_engine.proofs.DecideFacts.{with_store}
+use Rattle.search_engine.proofs.PassingFacts.{passing-moves}
 use Rattle.search_engine.proofs.Pushed.{front-refl}
 use Rattle.search_engine.proofs.SearchFacts.{Moves, moves-continues, search-moves}
 use Rattle.search_engine.proofs.TrailChange.{cut-assumed, cut-orderly}
@@ -25,6 +26,7 @@ with_log e l = record {
   store = e.store;
   learnt = e.learnt;
   ids = e.ids;
+  passing = e.passing;
   moments = e.moments;
   decider = e.decider;
   ledger = e.ledger;
@@ -57,6 +59,7 @@ search-logged e l h = record {
   fewer = h.fewer;
   once = h.once;
   closed = h.closed;
+  passing = passing-moves e (with_log e l) h.passing refl refl refl refl refl;
 }
 
 pub turn-logged : (e : Engine) (l : LogState) (assume : List Lit) → IsTurn assume e → IsTurn assume (with_log e l)
@@ -148,6 +151,7 @@ module _ (e : Engine) (s : StoreState) (l : LogState) (cut : CutsAt 0 e.store.tr
     problem = refl;
     learnt = refl;
     ids = refl;
+    passing = refl;
     moments = refl;
     known = refl;
     searches = refl;

@@ -28,6 +28,7 @@ use Rattle.search_engine.specs.Knowledge.{Occurs}
 use Rattle.search_engine.specs.Potential.{potential, implied_of, Behind, Stands}
 use Rattle.search_engine.specs.Searching.{IsOrderly, IsEngine, IsSearch, paid_of, Continues, KeepsAssumed, IsLevelOf}
 use Rattle.search_engine.specs.Searching.{IsLesson, IsFirstOpen, LessonGives, StandsAt, BehindAt}
+use Rattle.search_engine.proofs.PassingFacts.{passing-moves}
 use Rattle.search_engine.proofs.Pushed.{front-refl, front-trans}
 use Rattle.search_engine.proofs.LearntLists.{replicate-append}
 use Rattle.search_engine.proofs.Standing.{cut-pays, fewer-behind, stands-fewer}
@@ -39,6 +40,7 @@ pub record Moves (e f : Engine) : Type 0 where
   pub problem : f.problem ≡ e.problem
   pub learnt : f.learnt ≡ e.learnt
   pub ids : f.ids ≡ e.ids
+  pub passing : f.passing ≡ e.passing
   pub moments : f.moments ≡ e.moments
   pub known : f.known ≡ e.known
   pub searches : f.searches ≡ e.searches
@@ -119,14 +121,17 @@ search-moves e f m laws orderly more fewer once h = record {
   fewer = subst (λ (q : ProblemState). paid_of f < 2 ^ q.vars) (sym m.problem) fewer;
   once = once;
   closed = rw (m.problem, m.closed) h.closed;
+  passing = passing-moves e f h.passing m.problem m.closed (ap (λ v. v.items) m.passing) (ap (λ v. v.items) m.ids)
+      m.clauses;
 }
 
 -- only what there is room for differs
 pub search-spare : (e f : Engine) → f.problem ≡ e.problem → f.learnt ≡ e.learnt → f.ids.items ≡ e.ids.items
-    → f.moments.items ≡ e.moments.items → f.known ≡ e.known → f.closed ≡ e.closed → f.base ≡ e.base
+    → f.moments.items ≡ e.moments.items → f.passing.items ≡ e.passing.items → f.known ≡ e.known
+    → f.closed ≡ e.closed → f.base ≡ e.base
     → f.conflicts ≡ e.conflicts → f.root_conflicts ≡ e.root_conflicts → f.store.clauses ≡ e.store.clauses
     → f.store.trail ≡ e.store.trail → IsStore f.store → IsSearch e → IsSearch f
-search-spare e f problem learnt ids moments known closed base conflicts root clauses trail laws h = record {
+search-spare e f problem learnt ids moments passing known closed base conflicts root clauses trail laws h = record {
   engine = record {
     problem = rw problem h.engine.problem;
     within = rw (problem, closed) h.engine.within;
@@ -141,6 +146,7 @@ search-spare e f problem learnt ids moments known closed base conflicts root cla
   fewer = rw (problem, conflicts, base) h.fewer;
   once = rw root h.once;
   closed = rw (problem, closed) h.closed;
+  passing = passing-moves e f h.passing problem closed passing ids clauses;
 }
 
 -- the held clauses are satisfied where the problem is

@@ -1,6 +1,8 @@
 -- What constraints on sums imply, in a search.
-use Rattle.std.proofs.Common.{◌≡◌, ℕ, ◌+◌, ◌<◌, ◌≤◌, Bool, false, Option, Some, None, List, length, slice_index_or}
-use Rattle.std.proofs.Common.{sym, ap, subst, ◌⊎◌, inl, inr, ⊎_elim, arith, All, Any, Contains}
+use Rattle.std.proofs.Common.{◌≡◌, ℕ, ◌+◌, ◌<◌, ◌≤◌, Bool, false, Option, Some, None, List, [], ◌∷◌, ◌++◌, length}
+use Rattle.std.proofs.Common.{slice_index_or}
+use Rattle.std.proofs.Common.{refl, sym, ap, subst, ◌⊎◌, inl, inr, ⊎_elim, arith, All, Any, Contains}
+use Rattle.std.specs.Global.{Vec}
 use Rattle.std.specs.Prelude.{IfSome, IsSome}
 use Rattle.std.proofs.lemmas.List.Elements.{All-weaker, All-contains}
 use Rattle.std.proofs.lemmas.Option.{get_or_from_slice_get, slice_get_within}
@@ -19,7 +21,8 @@ use Rattle.sum_ledger.specs.declared.ledger.Ledger.{Ledger}
 use Rattle.search_engine.specs.declared.engine.Engine.{Engine}
 use Rattle.search_engine.specs.Knowledge.{Occurs}
 use Rattle.search_engine.specs.Searching.{AheadAt, IsExplained, IsSearch, IsTurn, StandsAt}
-use Rattle.search_engine.proofs.DecideFacts.{with_ledger, with_store}
+use Rattle.search_engine.proofs.DecideFacts.{with_ledger, with_passing, with_store}
+use Rattle.search_engine.proofs.PassingFacts.{passing-moves}
 use Rattle.search_engine.proofs.Explained.{ahead-explained, conflict-explained, explained-range, search-explained}
 use Rattle.search_engine.proofs.Explained.{stands-explained, turn-explained, unit-explained}
 
@@ -105,6 +108,7 @@ search-noted e l h = record {
   fewer = h.fewer;
   once = h.once;
   closed = h.closed;
+  passing = passing-moves e (with_ledger e l) h.passing refl refl refl refl refl;
 }
 
 pub turn-noted : (e : Engine) (l : Ledger) (assume : List Lit) → IsTurn assume e → IsTurn assume (with_ledger e l)
@@ -113,7 +117,8 @@ turn-noted e l assume t = record { decisions = t.decisions; trues = t.trues }
 -- a clause that a constraint implies was pushed
 module _ (e : Engine) (h : IsSearch e) (lits k : List Lit) (s : StoreState)
     (implied : IsImplied e.problem.sums e.store.trail.values lits) (once : IsEachOnceOf lits k)
-    (is : s ≡ with_clause e.store k) (laws : IsStore s) where
+    (is : s ≡ with_clause e.store k) (laws : IsStore s) (p : Vec ℕ)
+    (noted : p.items ≡ e.passing.items ++ length e.store.clauses ∷ []) where
   why : IsExplained e.problem lits
   why = implied-explained e.problem e.store.trail.values lits h.engine.problem implied
 
@@ -124,25 +129,25 @@ module _ (e : Engine) (h : IsSearch e) (lits k : List Lit) (s : StoreState)
   followed-range = subst (λ (xs : List (Option Bool)). All (λ (l : Lit). l.var.0 < length xs) lits) (sym same-values)
       (explained-range e h lits why)
 
-  pub followed-search : IsSearch (with_store e s)
-  followed-search = search-explained e h lits k s why once is laws
+  pub followed-search : IsSearch (with_passing (with_store e s) p)
+  followed-search = search-explained e h lits k s why once is laws p noted
 
-  pub followed-turn : (assume : List Lit) → IsTurn assume e → IsTurn assume (with_store e s)
-  followed-turn = turn-explained e h lits k s why once is laws
+  pub followed-turn : (assume : List Lit) → IsTurn assume e → IsTurn assume (with_passing (with_store e s) p)
+  followed-turn = turn-explained e h lits k s why once is laws p noted
 
-  pub followed-ahead : (goal : ℕ) → AheadAt e goal → AheadAt (with_store e s) goal
-  followed-ahead = ahead-explained e h lits k s why once is laws
+  pub followed-ahead : (goal : ℕ) → AheadAt e goal → AheadAt (with_passing (with_store e s) p) goal
+  followed-ahead = ahead-explained e h lits k s why once is laws p noted
 
-  pub followed-stands : (goal : ℕ) → AheadAt e goal → StandsAt (with_store e s) goal
-  followed-stands = stands-explained e h lits k s why once is laws
+  pub followed-stands : (goal : ℕ) → AheadAt e goal → StandsAt (with_passing (with_store e s) p) goal
+  followed-stands = stands-explained e h lits k s why once is laws p noted
 
   pub followed-conflict : All (λ l. value_in s.trail.values l ≡ None → ⊥) lits → IsConflict s (length e.store.clauses)
-  followed-conflict none = conflict-explained e h lits k s why once is laws (acts-false e.store.trail.values lits
+  followed-conflict none = conflict-explained e h lits k s why once is laws p noted (acts-false e.store.trail.values lits
       implied.acts (subst (λ (xs : List (Option Bool)). All (λ l. value_in xs l ≡ None → ⊥) lits) same-values none))
 
   pub followed-implies : (l : Lit) → Contains lits l → value_in s.trail.values l ≡ None
       → Implies s (length e.store.clauses) l
-  followed-implies l has none = unit-explained e h lits k s why once is laws l (acts-unit e.store.trail.values lits
+  followed-implies l has none = unit-explained e h lits k s why once is laws p noted l (acts-unit e.store.trail.values lits
       implied.acts l has (subst (λ (xs : List (Option Bool)). value_in xs l ≡ None) same-values none))
 
 -- the constraint at a place is one of them

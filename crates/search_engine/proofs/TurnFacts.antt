@@ -77,6 +77,7 @@ module _ (e f : Engine) (same : SameBut e f) (h : IsSearch e) (p : Propagates e.
     problem = same.problem;
     learnt = same.learnt;
     ids = same.ids;
+    passing = same.passing;
     moments = same.moments;
     known = same.known;
     searches = same.searches;

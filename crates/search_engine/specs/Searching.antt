@@ -9,6 +9,7 @@ use Rattle.clause_store.specs.StoreState.{StoreState, IsStore, IsHeld, IsMadeBef
 use Rattle.conflict_analysis.specs.Analyses.{IsFalseSince, IsFalseUpTo}
 use Rattle.ground_core.specs.Problems.{ProblemState, IsProblem, IsLitOf, AreLitsOf}
 use Rattle.ground_core.specs.Meaning.{BoundHolds, RefutesAll}
+use Rattle.ground_core.specs.GateClauses.{clauses_of}
 use Rattle.ground_core.specs.declared.solving.Verdict.{Verdict}
 use Rattle.ground_core.specs.declared.solving.Halt.{Halt}
 use Rattle.ground_core.specs.declared.solving.Halt.TheVariants as halt
@@ -68,6 +69,15 @@ pub record IsEngine (e : Engine) : Type 0 where
 abbrev pub paid_of : Engine → ℕ
 paid_of e = e.conflicts + potential e.problem.vars (replicate e.base true)
 
+-- the clauses that are held as long as a literal is true by them: they are none of the learnt ones, and others hold what
+-- the problem and its retired selectors say
+pub record ArePassing (e : Engine) : Type 0 where
+  pub within : All (λ id. id < length e.store.clauses) e.passing.items
+  pub unlearnt : All (λ id. Contains e.ids.items id → ⊥) e.passing.items
+  pub problem : All (λ c. (id : ℕ) × IsHeldAs e.store.clauses id c × (Contains (e.ids.items ++ e.passing.items) id → ⊥))
+      (clauses_of e.problem)
+  pub closed : AreClosed e.store.clauses (e.ids.items ++ e.passing.items) (take e.closed e.problem.retired)
+
 -- what holds during a search
 pub record IsSearch (e : Engine) : Type 0 where
   pub engine : IsEngine e
@@ -77,6 +87,7 @@ pub record IsSearch (e : Engine) : Type 0 where
   pub once : e.root_conflicts ≤ 1
   -- every retired selector is false by a clause
   pub closed : e.closed ≡ length e.problem.retired
+  pub passing : ArePassing e
 
 -- so many clauses were learnt, of the problem as it is
 abbrev pub LearnsNow : Engine → Engine → Type 0

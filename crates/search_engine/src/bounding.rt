@@ -10,6 +10,7 @@ ghost use Rattle.search_engine.specs.Searching.{AheadAt, AreExplained, Continues
 ghost use Rattle.search_engine.specs.Searching.{IsTurn, TurnEnds};
 
 use crate::engine::Engine;
+use crate::passing::hold_passing;
 use crate::searching::Outcome;
 use ground_core::Memory;
 use lit_core::{Assignment, Lit};
@@ -60,7 +61,7 @@ impl Engine {
         ensures refuted { self.new.root_conflicts ≡ self.old.root_conflicts }
         ensures ahead { OnOk result ((goal : ℕ) → AheadAt self.old goal → AheadAt self.new (goal + 1)) }
     {
-        let id = self.store.push_clause(clause)?;
+        let id = hold_passing(&mut self.store, &mut self.passing, clause)?;
         self.store.assign(lit, Some(id));
         Ok(())
     }

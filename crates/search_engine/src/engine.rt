@@ -8,6 +8,7 @@ ghost use Rattle.search_engine.specs.Searching.{TurnGives};
 
 use crate::levels::conflict_level;
 use crate::noting::note_refuted;
+use crate::passing::give_back;
 use clause_store::Store;
 use conflict_analysis::{Analysis, analyse};
 use ground_core::{Memory, Moment};
@@ -40,6 +41,8 @@ pub struct Engine {
     pub moments: Vec<Moment>,
     /// The numbers of the learnt clauses in the store.
     pub ids: Vec<u64>,
+    /// The numbers of the clauses of constraints that this search holds, each as long as a literal is true by it.
+    pub passing: Vec<u64>,
     pub decider: Decider,
     /// Which constraints on sums are asked.
     pub ledger: Ledger,
@@ -108,6 +111,7 @@ impl Engine {
         self.decider.takes_back(&self.store, analysis.level);
         self.ledger.take_back(&self.store, analysis.level);
         self.store.back_to(analysis.level);
+        give_back(&mut self.store, &mut self.passing);
         Ok(Some(analysis))
     }
 

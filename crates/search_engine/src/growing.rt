@@ -38,6 +38,7 @@ impl Engine {
             learnt: ClauseList::new(alloc),
             moments: Vec::new(alloc),
             ids: Vec::new(alloc),
+            passing: Vec::new(alloc),
             decider: Decider::new(alloc),
             ledger: Ledger::new(alloc),
             log: SearchLog::new(alloc),

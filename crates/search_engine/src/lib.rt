@@ -9,6 +9,7 @@ mod growing;
 mod levels;
 mod lit_sets;
 mod noting;
+mod passing;
 mod pushing;
 mod searching;
 mod summing;

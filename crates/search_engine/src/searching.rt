@@ -17,6 +17,7 @@ ghost use Rattle.search_decisions.specs.Scores.{HaveValues};
 use crate::cores::core_of;
 use crate::engine::Engine;
 use crate::noting::note_refuted;
+use crate::passing::{give_back, hold_passing};
 use chooser::Choose;
 use clause_store::Store;
 use conflict_analysis::final_core;
@@ -219,7 +220,7 @@ impl Engine {
         if is_full(self.learnt.len(), most) {
             return Err(Halt::Spent);
         }
-        let Ok(id) = self.store.push_clause(clause) else {
+        let Ok(id) = hold_passing(&mut self.store, &mut self.passing, clause) else {
             return Err(Halt::Memory);
         };
         match self.settle(id) {
@@ -447,8 +448,10 @@ impl Engine {
         self.decider.begin();
         match self.begin() {
             Ok(true) => {
+                self.passing.clear();
                 let verdict = self.search(rule, assume, most);
                 self.store.back_to(0);
+                give_back(&mut self.store, &mut self.passing);
                 verdict
             }
             Ok(false) => {

@@ -11,6 +11,7 @@ ghost use Rattle.search_engine.specs.Searching.{AdvanceGives, AheadAt, AreQuietS
 ghost use Rattle.search_engine.specs.Searching.{HasRoom, HoldsWhereDecided, IsSearch, IsTurn, TurnEnds};
 
 use crate::engine::Engine;
+use crate::passing::hold_passing;
 use crate::searching::{Outcome, values_of};
 use ground_core::{Halt, Memory, Verdict};
 use lit_core::{Assignment, Lit};
@@ -47,7 +48,7 @@ impl Engine {
         ensures room { HasRoom most self.new }
         ensures answer { IfOk result (λ outcome. (assume : List Lit) → TurnEnds assume most self.old self.new outcome) }
     {
-        let id = self.store.push_clause(clause)?;
+        let id = hold_passing(&mut self.store, &mut self.passing, clause)?;
         match first_open(self.store.assignment(), clause) {
             None => self.settle_within(id, most),
             Some(lit) => {

@@ -68,15 +68,9 @@ returns-in-Satisfied-clause-visit c = (
   c.in-Satisfied.ensures,
 )
 
-pub returns-in-Deleted-clause-same : goal.returns-in-Deleted-clause-same
-returns-in-Deleted-clause-same c = propagates-refl (store_of c.args.self.now)
-
-pub returns-in-Deleted-clause-visit : goal.returns-in-Deleted-clause-visit
-returns-in-Deleted-clause-visit c = (
-  passes-node c.args.self.now c.args.self.now c.args.node c.args.falsified c.args.before refl,
-  λ id d of held. absurd (c.in-Deleted.ensures d (subst (λ (n : ℕ). IsHeld (store_of c.args.self.now) n d)
-      (same-node c.args.node id c.clause_of.result of c.clause_of.ensures) held)),
-)
+pub unlist-requires-clause-removed : goal.unlist-requires-clause-removed
+unlist-requires-clause-removed c id d of held = c.in-Deleted.ensures d (subst (λ (n : ℕ).
+    IsHeld (store_of c.args.self.now) n d) (same-node c.args.node id c.clause_of.result of c.clause_of.ensures) held)
 
 pub returns-in-Conflict-clause-same : goal.returns-in-Conflict-clause-same
 returns-in-Conflict-clause-same c = propagates-refl (store_of c.args.self.now)

@@ -31,6 +31,7 @@ returns-clause-resting c =
       store = c.remove_all.new.store;
       learnt = c.truncate.new.self;
       ids = c.clear-2.new.self;
+      passing = e.passing;
       moments = c.clear-3.new.self;
       decider = e.decider;
       ledger = e.ledger;

@@ -14,6 +14,7 @@ returns-clause-resting c =
       store = c.push_problem.new.store;
       learnt = e.learnt;
       ids = e.ids;
+      passing = e.passing;
       moments = e.moments;
       decider = e.decider;
       ledger = e.ledger;

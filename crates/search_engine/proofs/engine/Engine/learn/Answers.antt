@@ -43,6 +43,7 @@ module _ (c : goal.After-assign) where
     store = c.assign.new.self;
     learnt = c.push.new.self;
     ids = c.push_reserved.new.self;
+    passing = c.args.self.now.passing;
     moments = c.push_reserved-2.new.self;
     decider = c.args.self.now.decider;
     ledger = c.args.self.now.ledger;
@@ -105,7 +106,7 @@ returns-clause-search c = learnt-search c.args.self.now (done c) c.requires.sear
       conflicts = refl;
       root_conflicts = refl;
       assumed = refl;
-    }) (learnt c) (moments c) (ids c) (fits c)
+    }) (learnt c) (moments c) (ids c) refl (fits c)
 
 pub returns-clause-steps : goal.returns-clause-steps
 returns-clause-steps c = learnt-extends c.args.self.now (done c) c.requires.search c.requires.quiet c.args.clause.now
@@ -114,11 +115,12 @@ returns-clause-steps c = learnt-extends c.args.self.now (done c) c.requires.sear
       conflicts = refl;
       root_conflicts = refl;
       assumed = refl;
-    }) (learnt c) (moments c) (ids c) (fits c)
+    }) (learnt c) (moments c) (ids c) refl (fits c)
 
 pub returns-in_err-reserve-clause-search : goal.returns-in_err-reserve-clause-search
 returns-in_err-reserve-clause-search c = search-spare c.args.self.now _ refl refl c.in_err-reserve.ensures.items refl
-    refl refl refl refl refl (ap (λ (s : StoreState). s.clauses) c.in_ok-reserve_clause.ensures.ok)
+    refl refl refl refl refl refl
+    (ap (λ (s : StoreState). s.clauses) c.in_ok-reserve_clause.ensures.ok)
     (ap (λ (s : StoreState). s.trail) c.in_ok-reserve_clause.ensures.ok) c.reserve_clause.ensures.laws c.requires.search
 
 pub returns-in_err-reserve-clause-steps : goal.returns-in_err-reserve-clause-steps
@@ -128,7 +130,8 @@ returns-in_err-reserve-clause-steps c = subst (λ (t : TrailState). Extends c.ar
 
 pub returns-in_err-reserve-2-clause-search : goal.returns-in_err-reserve-2-clause-search
 returns-in_err-reserve-2-clause-search c = search-spare c.args.self.now _ refl refl c.in_ok-reserve.ensures.items
-    c.in_err-reserve-2.ensures.items refl refl refl refl refl (ap (λ (s : StoreState). s.clauses)
+    c.in_err-reserve-2.ensures.items refl refl refl refl refl refl
+    (ap (λ (s : StoreState). s.clauses)
     c.in_ok-reserve_clause.ensures.ok) (ap (λ (s : StoreState). s.trail) c.in_ok-reserve_clause.ensures.ok)
     c.reserve_clause.ensures.laws c.requires.search
 
@@ -139,7 +142,7 @@ returns-in_err-reserve-2-clause-steps c = subst (λ (t : TrailState). Extends c.
 
 pub returns-in_err-push-clause-search : goal.returns-in_err-push-clause-search
 returns-in_err-push-clause-search c = search-spare c.args.self.now _ refl c.in_err-push.ensures.err
-    c.in_ok-reserve.ensures.items c.in_ok-reserve-2.ensures.items refl refl refl refl refl
+    c.in_ok-reserve.ensures.items c.in_ok-reserve-2.ensures.items refl refl refl refl refl refl
     (ap (λ (s : StoreState). s.clauses) c.in_ok-reserve_clause.ensures.ok)
     (ap (λ (s : StoreState). s.trail) c.in_ok-reserve_clause.ensures.ok) c.reserve_clause.ensures.laws c.requires.search
 
@@ -150,7 +153,8 @@ returns-in_err-push-clause-steps c = subst (λ (t : TrailState). Extends c.args.
 
 pub returns-in_err-learnt-clause-search : goal.returns-in_err-learnt-clause-search
 returns-in_err-learnt-clause-search c = search-spare c.args.self.now _ refl refl c.in_ok-reserve.ensures.items
-    c.in_ok-reserve-2.ensures.items refl refl refl refl refl (ap (λ (s : StoreState). s.clauses)
+    c.in_ok-reserve-2.ensures.items refl refl refl refl refl refl
+    (ap (λ (s : StoreState). s.clauses)
     c.in_ok-reserve_clause.ensures.ok) (ap (λ (s : StoreState). s.trail) c.in_ok-reserve_clause.ensures.ok)
     c.reserve_clause.ensures.laws c.requires.search
 

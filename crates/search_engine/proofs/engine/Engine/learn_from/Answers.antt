@@ -1,6 +1,9 @@
-use Rattle.std.proofs.Common.{◌≡◌, ℕ, ◌+◌, ◌-◌, ◌^◌, min, length, subst, refl, ◌∙◌, arith}
-use Rattle.search_engine.specs.Searching.{IsLevelOf}
+use Rattle.std.proofs.Common.{◌≡◌, ℕ, ◌+◌, ◌-◌, ◌^◌, ◌<◌, min, length, Option, List, subst, refl, sym, ◌∙◌, arith, All}
+use Rattle.lit_core.specs.declared.literals.Lit.{Lit}
+use Rattle.clause_store.specs.TrailState.{TrailState}
+use Rattle.search_engine.specs.Searching.{IsLevelOf, KeepsAssumed}
 use Rattle.search_engine.specs.declared.engine.Engine.{Engine}
+use Rattle.search_engine.proofs.GivenBack.{lesson-given, search-given}
 use Rattle.search_engine.proofs.TrailChange.{cut-assumed, cut-orderly}
 use Rattle.search_engine.proofs.SearchFacts.{Moves, search-moves, root-gives, conflict-still, current-still}
 use Rattle.search_engine.proofs.SearchFacts.{lesson-search, lesson-assumed, lesson-gives, level-within}
@@ -43,6 +46,7 @@ returns-in_err-analysis-clause-search c =
       store = c.back_to.new.self;
       learnt = e.learnt;
       ids = e.ids;
+      passing = e.passing;
       moments = e.moments;
       decider = c.takes_back.new.self;
       ledger = c.take_back.new.self;
@@ -59,6 +63,7 @@ returns-in_err-analysis-clause-search c =
       problem = refl;
       learnt = refl;
       ids = refl;
+      passing = refl;
       moments = refl;
       known = refl;
       searches =
@@ -76,7 +81,7 @@ pub returns-in_err-analysis-clause-decisions : goal.returns-in_err-analysis-clau
 returns-in_err-analysis-clause-decisions c = cut-assumed c.conflict_level-level.result c.args.self.now.store.trail
     c.back_to.new.self.trail c.back_to.ensures.trail
 
-module _ (c : goal.After-back_to-2) where
+module _ (c : goal.After-give_back) where
   abbrev done : Engine
   done = record {
     alloc = c.args.self.now.alloc;
@@ -84,6 +89,7 @@ module _ (c : goal.After-back_to-2) where
     store = c.back_to-2.new.self;
     learnt = c.args.self.now.learnt;
     ids = c.args.self.now.ids;
+    passing = c.args.self.now.passing;
     moments = c.args.self.now.moments;
     decider = c.takes_back-2.new.self;
     ledger = c.take_back-2.new.self;
@@ -105,6 +111,7 @@ module _ (c : goal.After-back_to-2) where
     problem = refl;
     learnt = refl;
     ids = refl;
+    passing = refl;
     moments = refl;
     known = refl;
     searches = refl;
@@ -118,21 +125,34 @@ module _ (c : goal.After-back_to-2) where
   counts : c.saturating_add-self.result ≡ min (c.args.self.now.conflicts + 1) (2 ^ 64 - 1)
   counts = c.saturating_add-self.ensures
 
+pub give_back-requires-clause-within : goal.give_back-requires-clause-within
+give_back-requires-clause-within c =
+    let same : c.back_to-2.new.self.clauses ≡ c.args.self.now.store.clauses = c.back_to-2.ensures.clauses
+    ∙ c.back_to.ensures.clauses in
+    subst (λ (cl : List (Option (List Lit))). All (λ id. id < length cl) c.args.self.now.passing.items) (sym same)
+    c.requires.search.passing.within
+
 pub returns-clause-search : goal.returns-clause-search
-returns-clause-search c = lesson-search c.args.self.now (done c) (moves c) c.requires.search c.back_to.new.self
+returns-clause-search c = search-given (done c) c.give_back.new.store c.give_back.new.passing
+    (lesson-search c.args.self.now (done c) (moves c) c.requires.search c.back_to.new.self
     c.conflict_level-level.result c.args.conflict c.conflict_level-level.ensures c.if-level-eq0.false
     c.back_to.ensures.trail c.back_to.ensures.clauses c.back_to.ensures.laws c.in_ok-analysis.analysis
     c.in_ok-analysis.ensures c.back_to-2.ensures.trail c.back_to-2.ensures.laws (counts c) c.requires.unrefuted
-    c.requires.stands (let f = c.fits-self in omega arith)
+    c.requires.stands (let f = c.fits-self in omega arith))
+    c.give_back.ensures.given c.give_back.ensures.trail c.give_back.ensures.laws
 
 pub returns-clause-decisions : goal.returns-clause-decisions
-returns-clause-decisions c = lesson-assumed c.args.self.now (done c) (moves c) c.requires.search c.back_to.new.self
-    c.conflict_level-level.result c.args.conflict c.conflict_level-level.ensures c.if-level-eq0.false
-    c.back_to.ensures.trail c.back_to.ensures.clauses c.back_to.ensures.laws c.in_ok-analysis.analysis
-    c.in_ok-analysis.ensures c.back_to-2.ensures.trail c.back_to-2.ensures.laws (counts c) c.requires.unrefuted
+returns-clause-decisions c = subst (λ (t : TrailState). KeepsAssumed c.args.self.now.store.trail.steps t.steps)
+    (sym c.give_back.ensures.trail) (lesson-assumed c.args.self.now (done c) (moves c) c.requires.search
+    c.back_to.new.self c.conflict_level-level.result c.args.conflict c.conflict_level-level.ensures
+    c.if-level-eq0.false c.back_to.ensures.trail c.back_to.ensures.clauses c.back_to.ensures.laws
+    c.in_ok-analysis.analysis c.in_ok-analysis.ensures c.back_to-2.ensures.trail c.back_to-2.ensures.laws (counts c)
+    c.requires.unrefuted)
 
 pub returns-clause-lesson : goal.returns-clause-lesson
-returns-clause-lesson c = lesson-gives c.args.self.now (done c) (moves c) c.requires.search c.back_to.new.self
+returns-clause-lesson c = lesson-given c.args.self.now (done c) c.give_back.new.store c.give_back.new.passing
+    c.in_ok-analysis.analysis.clause.items c.give_back.ensures.trail
+    (lesson-gives c.args.self.now (done c) (moves c) c.requires.search c.back_to.new.self
     c.conflict_level-level.result c.args.conflict c.conflict_level-level.ensures c.if-level-eq0.false
     c.back_to.ensures.trail c.back_to.ensures.clauses c.back_to.ensures.laws c.in_ok-analysis.analysis
-    c.in_ok-analysis.ensures c.back_to-2.ensures.trail c.back_to-2.ensures.laws (counts c) c.requires.unrefuted
+    c.in_ok-analysis.ensures c.back_to-2.ensures.trail c.back_to-2.ensures.laws (counts c) c.requires.unrefuted)
