@@ -46,7 +46,13 @@ fn print_problem(rt: &HostRuntime, problem: &Problem) -> bool {
 
 /// Grounds the knowledge base, and prints what came of it.
 fn print_ground(rt: &HostRuntime, base: &KnowledgeBase) -> bool {
-    match ground(rt.alloc(), base.typed(), base.theory(), base.data()) {
+    match ground(
+        rt.alloc(),
+        base.typed(),
+        base.theory(),
+        base.data(),
+        base.narrowing(),
+    ) {
         Ok(problem) => print_problem(rt, &problem),
         Err(error) => println!(rt; "{error}").is_ok(),
     }

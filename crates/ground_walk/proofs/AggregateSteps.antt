@@ -1,13 +1,12 @@
 -- Steps over aggregates and their instances.
-use Rattle.std.proofs.Common.{◌≡◌, ℕ, ℤ, pos, neg_ℤ, List, [], ◌∷◌, ◌++◌, length, Bool, true, false, ◌||◌, ◌==◌, Option}
-use Rattle.std.proofs.Common.{Some, None, if◌then◌else◌, Vec, append-nil, refl, sym, ap, subst, ◌∙◌, arith, rules}
+use Rattle.std.proofs.Common.{◌≡◌, ℤ, pos, neg_ℤ, List, [], ◌∷◌, ◌++◌, length, Bool, true, false, ◌||◌, ◌==◌, Option}
+use Rattle.std.proofs.Common.{Some, None, if◌then◌else◌, Vec, append-nil, ap, subst, arith, rules}
 use Rattle.std.specs.List.{AllByRecursion}
 use Rattle.std.proofs.lemmas.Bool.{eqb-true}
 use Rattle.std.specs.declared.alloc.Global.{Global}
 use Rattle.std.specs.declared.boxed.Box.{Box}
 use Rattle.kb_logic.specs.declared.elements.Elem.{Elem}
 use Rattle.kb_logic.specs.declared.syntax.AggKind.{AggKind}
-use Rattle.kb_logic.specs.declared.syntax.AggKind.TheVariants as kind
 use Rattle.kb_logic.specs.declared.syntax.Cmp.{Cmp}
 use Rattle.kb_logic.specs.declared.syntax.Formula.{Formula, Compare, Number, the_lemmas}
 use Rattle.kb_logic.specs.declared.syntax.Term.{Term, Agg}
@@ -27,8 +26,7 @@ use Rattle.def_ground.specs.Forms.{form_of, sums_of, no_parts_yet, compared_side
 use Rattle.def_ground.specs.Linear.{Linear}
 use Rattle.def_ground.specs.LinearViews.{linear_view}
 use Rattle.def_ground.specs.Thresholds.{compared_with_rows, flipped}
-use Rattle.ground_walk.specs.declared.counting.Sides.{Sides}
-use Rattle.ground_walk.specs.declared.counting.Sides.TheVariants.{Plain, LeftExtreme, RightExtreme, Sums}
+use Rattle.ground_walk.specs.declared.counting.Sides.TheVariants.{LeftExtreme, RightExtreme}
 use Rattle.ground_walk.specs.Groundable.{IsGroundable}
 use Rattle.ground_walk.specs.Sides.{sides_by, sides_between}
 use Rattle.ground_walk.specs.Weighing.{InstanceFits}

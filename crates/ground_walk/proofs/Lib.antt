@@ -6,3 +6,4 @@ pub mod StartSteps
 pub mod BoundedRows
 pub mod GroundableLaws
 pub mod AggregateSteps
+mod LedSteps

@@ -11,6 +11,8 @@ ghost use Rattle.term_values.specs.KnownBases.{IsGroundBase};
 ghost use Rattle.def_ground.specs.CaseSentences.{or_clause};
 ghost use Rattle.def_ground.specs.Sentences.{are_few, assert_of, assert_all, assert_any, parts_clause};
 ghost use Rattle.def_ground.specs.Forms.{form_of, signed_result};
+ghost use Rattle.row_ranges.specs.Leads.{IsInOrder, Leads};
+ghost use Rattle.sentence_guards.specs.Guards.{AddsNothing};
 ghost use Rattle.ground_walk.specs.Groundable.{HasVars, IsGroundable, AreGroundable};
 ghost use Rattle.ground_walk.specs.Steps.{open_parts, part_step, assert_last, assert_under, assert_step, assert_joined};
 ghost use Rattle.ground_walk.specs.Steps.{assert_quantified};
@@ -24,6 +26,8 @@ use ground_core::{Memory, Problem};
 use kb_logic::{Bound, Formula};
 use lit_core::{Clause, Lit};
 use plain_evaluation::environments::{Env, extend, split_in};
+use row_ranges::{RowPlace, first_variable};
+use sentence_guards::ranges_for;
 use std::alloc::Global;
 use term_values::GroundData;
 
@@ -414,10 +418,86 @@ fn push_quantified<'a>(
     ensures lits { OnOk result (lits.new.items ≡ lits.old.items) }
 {
     if sign == all {
-        push_each(alloc, base, sign, bounds, formula, env, lits, problem)
+        push_instances(alloc, base, sign, bounds, formula, env, lits, problem)
     } else {
         push_some(alloc, base, sign, bounds, formula, env, lits, problem)
     }
+}
+
+// Those that a known table rules out add nothing. So where its rows are few they alone are walked.
+/// Says it of all instances of the formula.
+#[cycle(sentence)]
+fn push_instances<'a>(
+    alloc: Global,
+    base: &'a GroundData<'a>,
+    sign: bool,
+    bounds: &'a [Bound],
+    formula: &'a Formula,
+    env: &'a Env<'a>,
+    lits: &mut Vec<Lit>,
+    problem: &mut Problem,
+) -> Result<(), Memory>
+    requires given { IsGroundBase base.now }
+    requires room { HasVars base.now problem.old }
+    requires fits { AllByRecursion (λ a. IsGroundable base.now (formula_view formula.now) (env_view env.now ++ a))
+        (choices base.now.domains bounds.now) }
+    requires lits { AreLitsOf problem.old.vars lits.old.items }
+    ensures made { OnOk result
+        (problem.new ≡ fold (λ q x. assert_step base.now sign (formula_view formula.now) lits.old.items q
+        (env_view env.now ++ x)) problem.old (choices base.now.domains bounds.now)) }
+    ensures grows { OnOk result (problem.old.vars ≤ problem.new.vars) }
+    ensures lits { OnOk result (lits.new.items ≡ lits.old.items) }
+{
+    let Some(ranges) = ranges_for(alloc, base, sign, bounds, formula, env)? else {
+        return push_each(alloc, base, sign, bounds, formula, env, lits, problem);
+    };
+    let place = ranges.place();
+    push_led(
+        alloc, base, sign, bounds, formula, env, place, lits, problem,
+    )
+}
+
+/// Says it of each instance that the rows of a table lead to.
+#[cycle(sentence)]
+fn push_led<'a>(
+    alloc: Global,
+    base: &'a GroundData<'a>,
+    sign: bool,
+    bounds: &'a [Bound],
+    formula: &'a Formula,
+    env: &'a Env<'a>,
+    place: RowPlace<'_>,
+    lits: &mut Vec<Lit>,
+    problem: &mut Problem,
+) -> Result<(), Memory>
+    requires given { IsGroundBase base.now }
+    requires room { HasVars base.now problem.old }
+    requires fits { AllByRecursion (λ a. IsGroundable base.now (formula_view formula.now) (env_view env.now ++ a))
+        (choices base.now.domains bounds.now) }
+    requires lits { AreLitsOf problem.old.vars lits.old.items }
+    requires led { Leads (AddsNothing base.now sign (formula_view formula.now)) base.now.domains place.keys.now
+        place.key place.steps.now bounds.now (env_view env.now) }
+    requires order { IsInOrder base.now.domains place.keys.now place.key place.steps.now bounds.now }
+    ensures made { OnOk result
+        (problem.new ≡ fold (λ q x. assert_step base.now sign (formula_view formula.now) lits.old.items q
+        (env_view env.now ++ x)) problem.old (choices base.now.domains bounds.now)) }
+    ensures grows { OnOk result (problem.old.vars ≤ problem.new.vars) }
+    ensures lits { OnOk result (lits.new.items ≡ lits.old.items) }
+{
+    if bounds.is_empty() || place.is_free() {
+        return push_each(alloc, base, sign, bounds, formula, env, lits, problem);
+    }
+    let (block, others) = first_variable(base.domains(), bounds);
+    let mut index = place.next(0, block.count);
+    while index < block.count {
+        let inner = extend(env, block, index);
+        let below = place.below(index);
+        push_led(
+            alloc, &*base, sign, others, formula, &inner, below, lits, problem,
+        )?;
+        index = place.next(index + 1, block.count);
+    }
+    Ok(())
 }
 
 /// Says it of each instance of the formula.

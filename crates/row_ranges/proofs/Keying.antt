@@ -1,14 +1,13 @@
 -- The key of a row is that of the places of its elements.
-use Rattle.std.proofs.Common.{◌≡◌, ℕ, zero, suc, ◌+◌, ◌*◌, ◌/◌, ◌%◌, ◌<◌, ◌≤◌, List, [], ◌∷◌, map, length, get_or, Bool}
+use Rattle.std.proofs.Common.{◌≡◌, ℕ, zero, suc, ◌+◌, ◌*◌, ◌/◌, ◌%◌, ◌<◌, List, [], ◌∷◌, length, get_or, Bool}
 use Rattle.std.proofs.Common.{true, false, cond, Option, Some, None, refl, sym, ap, ◌∙◌, arith}
 use Rattle.std.specs.Option.{option_map, unwrap_or}
-use Rattle.std.specs.List.{Contains}
 use Rattle.std.proofs.lemmas.Nat.{div-mul-add, mod-mul-add}
 use Rattle.kb_logic.specs.declared.elements.Elem.{Elem}
 use Rattle.kb_logic.specs.declared.elements.Elem.TheVariants.{Named, Num}
 use Rattle.kb_logic.specs.Trees.{TermTrees, no_terms, more_terms}
 use Rattle.kb_logic.specs.Structures.{IsDistinct, domain_at, tuples_of}
-use Rattle.kb_logic.specs.Denotations.{Denotation, denotation_of, same_value, undefined}
+use Rattle.kb_logic.specs.Denotations.{denotation_of, same_value, undefined}
 use Rattle.kb_logic.proofs.Atoms.{same_is, is_same}
 use Rattle.kb_logic.proofs.Pairs.{length-pairs}
 use Rattle.term_values.specs.GroundBases.{row_index}
@@ -17,7 +16,7 @@ use Rattle.term_values.proofs.IndexLemmas.{elem_named, elem_number}
 use Rattle.term_values.proofs.RadixLemmas.{index_split, other_length, with_digit}
 use Rattle.term_values.proofs.RowFacts.{place-below}
 use Rattle.row_ranges.specs.Arguments.{argument_value, argument_values}
-use Rattle.row_ranges.specs.Keys.{key_of, key_under, argument_place}
+use Rattle.row_ranges.specs.Keys.{key_of, key_under}
 
 same-element : (x y : Elem) → denotation_of x ≡ denotation_of y → x ≡ y
 same-element (Named q) y h = sym (elem_named y q (sym h))

@@ -1,26 +1,24 @@
 -- What a variable's element adds to the key, and where the variables lead from the start.
 use Rattle.std.proofs.Common.{◌≡◌, ℕ, zero, suc, ◌+◌, ◌*◌, ◌<◌, ◌≤◌}
-use Rattle.std.proofs.Common.{List, [], ◌∷◌, ◌++◌, map, length, get_or, Bool, true}
-use Rattle.std.proofs.Common.{false, cond, Option, Some, None, refl, sym, ap}
+use Rattle.std.proofs.Common.{List, [], ◌∷◌, ◌++◌, length, get_or}
+use Rattle.std.proofs.Common.{Some, None, refl, sym, ap}
 use Rattle.std.proofs.Common.{subst, ◌∙◌, arith, slice_get, ◌==◌, inl, inr, ◌⊎◌, pos}
 use Rattle.std.proofs.Common.{length-append, if◌then◌else◌}
-use Rattle.std.specs.Option.{option_map, unwrap_or}
+use Rattle.std.specs.Option.{unwrap_or}
 use Rattle.std.specs.List.{AllByRecursion, Contains}
 use Rattle.std.proofs.lemmas.Bool.{cases_lt, eq-eqb, ne_eqb}
-use Rattle.std.proofs.lemmas.List.{get_or-map}
 use Rattle.kb_logic.specs.declared.elements.Elem.{Elem}
 use Rattle.kb_logic.specs.declared.elements.Elem.TheVariants.{Num}
 use Rattle.kb_logic.specs.declared.vocabularies.Bound.{Bound}
 use Rattle.kb_logic.specs.Trees.{TermTree, variable, integer, constructed, application, summation, product, aggregate}
 use Rattle.kb_logic.specs.Trees.{TermTrees, no_terms, more_terms}
-use Rattle.kb_logic.specs.Structures.{IsDistinct, choices, domain_at, tuples_of}
-use Rattle.kb_logic.specs.Denotations.{Denotation, denotation_of, undefined}
+use Rattle.kb_logic.specs.Structures.{IsDistinct, choices, domain_at}
+use Rattle.kb_logic.specs.Denotations.{denotation_of}
 use Rattle.kb_logic.specs.Meaning.{element_value}
 use Rattle.kb_logic.proofs.Assignments.{before}
-use Rattle.kb_logic.proofs.Pairs.{pairs, get_or-pairs}
-use Rattle.term_values.specs.GroundBases.{row_index}
+use Rattle.kb_logic.proofs.Pairs.{pairs}
 use Rattle.term_values.specs.DomainIndexes.{elem_index}
-use Rattle.row_ranges.specs.Arguments.{argument_value, argument_values, IsNoRow}
+use Rattle.row_ranges.specs.Arguments.{argument_value, IsNoRow}
 use Rattle.row_ranges.specs.Keys.{key_of, key_under, argument_place, own_step, step_of, HasType, HaveType, HaveSteps}
 use Rattle.row_ranges.specs.Leads.{Leads}
 use Rattle.row_ranges.proofs.Keying.{place-is, no-place, key-is}

@@ -1,7 +1,7 @@
 -- What a binary search among rising keys finds.
 use Rattle.std.proofs.Common.{◌≡◌, ℕ, zero, suc, ◌+◌, ◌*◌, ◌/◌, ◌-◌, ◌<◌}
 use Rattle.std.proofs.Common.{◌≤◌, List, [], ◌∷◌, length, get_or, true, false, map}
-use Rattle.std.proofs.Common.{Option, Some, None, slice_get, refl, sym, ap, ◌∙◌, arith, ltb, inl, inr}
+use Rattle.std.proofs.Common.{Option, Some, None, slice_get, sym, ap, ◌∙◌, arith, ltb, inl, inr}
 use Rattle.std.specs.List.{Contains}
 use Rattle.std.specs.Option.{MatchOption}
 use Rattle.std.specs.List.Sorted.{IsNonDecreasing, IsPartitionPoint}

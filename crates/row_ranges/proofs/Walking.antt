@@ -1,13 +1,13 @@
 -- A walk over the elements of one variable after another, from a place among the keys.
-use Rattle.std.proofs.Common.{◌≡◌, ℕ, zero, suc, ◌+◌, ◌*◌, ◌-◌, ◌<◌}
+use Rattle.std.proofs.Common.{◌≡◌, ℕ, ◌+◌, ◌*◌, ◌-◌, ◌<◌}
 use Rattle.std.proofs.Common.{◌≤◌, ◌^◌, List, [], ◌∷◌, ◌++◌, length, get_or, drop}
-use Rattle.std.proofs.Common.{refl, sym, ap, subst, ◌∙◌, arith}
+use Rattle.std.proofs.Common.{refl, sym, ap, subst, arith}
 use Rattle.std.specs.List.{AllByRecursion}
 use Rattle.std.proofs.lemmas.Nat.{mul-le}
 use Rattle.kb_logic.specs.declared.elements.Elem.{Elem}
 use Rattle.kb_logic.specs.declared.vocabularies.Bound.{Bound}
 use Rattle.kb_logic.specs.Structures.{domain_at, choices}
-use Rattle.row_ranges.specs.Leads.{Leads, AreWide, HasNoKey, IsInOrder, first_step, reach}
+use Rattle.row_ranges.specs.Leads.{Leads, HasNoKey, IsInOrder, first_step, reach}
 use Rattle.row_ranges.proofs.Passing.{one-count, passed-out, within-reach}
 
 reach-some : (domains : List (List Elem)) (steps : List ℕ) (bs : List Bound) → 1 ≤ reach domains steps bs

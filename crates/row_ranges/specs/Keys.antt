@@ -1,6 +1,6 @@
 -- The key of a row: the places of its elements, each times a step that its argument has.
-use Rattle.std.specs.Prelude.{◌≡◌, ℕ, zero, suc, ◌+◌, ◌*◌, ◌/◌, ◌%◌}
-use Rattle.std.specs.Prelude.{List, [], ◌∷◌, length, Option, Some, None, unwrap_or}
+use Rattle.std.specs.Prelude.{◌≡◌, ℕ, suc, ◌+◌, ◌*◌, ◌/◌, ◌%◌}
+use Rattle.std.specs.Prelude.{List, [], ◌∷◌, length, unwrap_or}
 use Rattle.std.specs.Prelude.{if◌then◌else◌, ◌==◌, ⊤}
 use Rattle.kb_logic.specs.declared.elements.Elem.{Elem}
 use Rattle.kb_logic.specs.declared.vocabularies.Bound.{Bound}

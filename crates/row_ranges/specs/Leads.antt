@@ -39,6 +39,10 @@ abbrev pub first_step : List ℕ → ℕ
 first_step [] = 0
 first_step (s ∷ steps) = s
 
+-- the variables after so many have no step, so that their elements move no key
+abbrev pub HaveNoSteps : List ℕ → ℕ → Type 0
+HaveNoSteps steps needed = (i : ℕ) → needed ≤ i → i < length steps → slice_index_or steps i 0 ≡ 0
+
 -- none of the keys lies in a range
 abbrev pub HasNoKey : List ℕ → ℕ → ℕ → Type 0
 HasNoKey keys from width = (j : ℕ) → Contains keys j → from ≤ j → j < from + width → ⊥

@@ -12,4 +12,4 @@ mod steps;
 
 pub use kb_logic::Memory;
 pub use places::{RowPlace, first_variable};
-pub use ranges::Ranges;
+pub use ranges::{BoundAtom, Ranges};

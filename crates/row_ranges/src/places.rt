@@ -1,5 +1,5 @@
 //! Places among the keys of a table's rows.
-ghost use Rattle.std.specs.Prelude.{ℕ, ◌≡◌, ◌+◌, ◌*◌, ◌-◌, ◌^◌, ◌<◌, ◌≤◌, ◌++◌, drop, length};
+ghost use Rattle.std.specs.Prelude.{ℕ, ◌≡◌, ◌==◌, ◌+◌, ◌*◌, ◌-◌, ◌^◌, ◌<◌, ◌≤◌, ◌++◌, drop, length};
 ghost use Rattle.std.specs.List.Sorted.{IsNonDecreasing};
 ghost use Rattle.kb_logic.specs.Structures.{choices};
 ghost use Rattle.row_ranges.specs.Leads.{first_step, HasNoKey};
@@ -22,7 +22,9 @@ pub struct RowPlace<'a> {
 
 impl<'a> RowPlace<'a> {
     /// Whether the rows say nothing of the variables that are left.
-    pub fn is_free(self) -> bool {
+    pub fn is_free(self) -> bool
+        ensures { result ≡ (self.entry.needed == 0) }
+    {
         self.needed == 0
     }
 
@@ -65,6 +67,7 @@ impl<'a> RowPlace<'a> {
         ensures keys { result.keys.now ≡ self.entry.keys.now }
         ensures key { result.key ≡ self.entry.key + at * first_step self.entry.steps.now }
         ensures steps { result.steps.now ≡ drop 1 self.entry.steps.now }
+        ensures needed { result.needed ≡ self.entry.needed - 1 }
     {
         RowPlace {
             keys: self.keys,

@@ -1,4 +1,4 @@
-use Rattle.std.proofs.Common.{◌≡◌, List, ap, ◌∙◌, length, arith}
+use Rattle.std.proofs.Common.{ap, length, arith}
 use Rattle.ground_walk.proofs.CountingSteps.{no-integer}
 use Rattle.ground_walk.proofs.counting.+signed_integer.Goals as goal
 

@@ -1,4 +1,4 @@
-use Rattle.std.proofs.Common.{◌≡◌, ◌<◌, ap, ◌∙◌, length, w64, to_z, of_z, arith, rules}
+use Rattle.std.proofs.Common.{◌≡◌, ◌<◌, ◌∙◌, length, w64, to_z, of_z, arith, rules}
 use Rattle.ground_walk.proofs.CountingSteps.{next-product}
 use Rattle.ground_walk.proofs.counting.times_integers.Goals as goal
 

@@ -1,4 +1,4 @@
-use Rattle.std.proofs.Common.{◌≡◌, ◌+◌, ◌*◌, ◌^◌, ◌≤◌, ◌++◌, ◌∷◌, [], map, drop, take, fold, length}
+use Rattle.std.proofs.Common.{◌≡◌, ◌+◌, ◌-◌, ◌*◌, ◌^◌, ◌≤◌, ◌++◌, ◌∷◌, [], map, drop, take, fold, length}
 use Rattle.plain_evaluation.specs.Environments.{env_view}
 use Rattle.kb_logic.specs.Structures.{choices}
 use Rattle.kb_logic.specs.Trees.{formulas_of}
@@ -52,6 +52,21 @@ invariant-push_each-loop-number l =
       within : AreLitsOf l.problem.vars l.lits.items;
     }
 
+-- with the assignments that are left come all
+abbrev pub invariant-push_led-loop-index : goal.invariant-push_led-loop-index
+invariant-push_led-loop-index l =
+    let F = after_front (λ q x. assert_step l.base l.sign (formula_view l.formula) l.fn.lits.items q
+    (env_view l.env ++ x))
+    (choices l.base.domains l.others) in
+    let cs = choices l.base.domains l.block.bounds.now in
+    record {
+      same : fold F l.problem (drop l.index cs) ≡ fold F l.fn.problem cs;
+      within_all : l.index ≤ l.block.count;
+      vars : l.fn.problem.vars ≤ l.problem.vars;
+      lits : l.lits.items ≡ l.fn.lits.items;
+      within : AreLitsOf l.problem.vars l.lits.items;
+    }
+
 abbrev pub decreases-push : goal.decreases-push
 decreases-push l = 2 ^ 65 * goal.size-push l
 
@@ -71,7 +86,16 @@ abbrev pub decreases-push_any : goal.decreases-push_any
 decreases-push_any l = 2 ^ 65 * goal.size-push_any l + 2
 
 abbrev pub decreases-push_quantified : goal.decreases-push_quantified
-decreases-push_quantified l = 2 ^ 65 * goal.size-push_quantified l + length l.bounds.now + 3
+decreases-push_quantified l = 2 ^ 65 * goal.size-push_quantified l + length l.bounds.now + 5
+
+abbrev pub decreases-push_instances : goal.decreases-push_instances
+decreases-push_instances l = 2 ^ 65 * goal.size-push_instances l + length l.bounds.now + 4
+
+abbrev pub decreases-push_led : goal.decreases-push_led
+decreases-push_led l = 2 ^ 65 * goal.size-push_led l + length l.bounds.now + 3
 
 abbrev pub decreases-push_each : goal.decreases-push_each
 decreases-push_each l = 2 ^ 65 * goal.size-push_each l + length l.bounds.now + 2
+
+abbrev pub decreases-push_led-loop-index : goal.decreases-push_led-loop-index
+decreases-push_led-loop-index l = l.block.count - l.index

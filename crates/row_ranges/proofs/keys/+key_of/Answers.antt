@@ -1,4 +1,4 @@
-use Rattle.std.proofs.Common.{◌≡◌, ◌+◌, ◌*◌, ◌/◌, ◌%◌, length, sym, ap, ◌∙◌, rules, arith}
+use Rattle.std.proofs.Common.{◌≡◌, ◌+◌, ◌*◌, ◌/◌, length, ap, rules, arith}
 use Rattle.kb_logic.specs.Structures.{tuples_of}
 use Rattle.row_ranges.specs.Keys.{key_of}
 use Rattle.row_ranges.proofs.Keying.{below-is, key-step}

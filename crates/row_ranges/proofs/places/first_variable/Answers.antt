@@ -1,5 +1,5 @@
-use Rattle.std.proofs.Common.{◌≡◌, length, sym, ap, ◌∙◌}
-use Rattle.kb_logic.specs.Structures.{choices, domain_at}
+use Rattle.std.proofs.Common.{length, sym, ap, ◌∙◌}
+use Rattle.kb_logic.specs.Structures.{domain_at}
 use Rattle.kb_logic.specs.declared.vocabularies.Bound.{Bound}
 use Rattle.row_ranges.proofs.Passing.{one-bound}
 use Rattle.row_ranges.proofs.places.first_variable.Goals as goal

@@ -1,4 +1,4 @@
-use Rattle.std.proofs.Common.{◌≡◌, ◌++◌, List, ℕ, map, drop}
+use Rattle.std.proofs.Common.{◌++◌, List, ℕ, map, drop}
 use Rattle.kb_logic.specs.Trees.{terms_of}
 use Rattle.kb_logic.specs.Views.{term_view}
 use Rattle.row_ranges.specs.Keys.{HaveSteps}
