@@ -1,13 +1,12 @@
 -- What each stage returns, put together.
-use Rattle.std.proofs.Common.{◌≡◌, ℕ, ◌<◌, List, [], ◌∷◌, length, map, arith, refl, sym, ap, ◌∙◌, subst, Option, Some}
-use Rattle.std.proofs.Common.{None, Ok, Err, Result, inl, inr}
+use Rattle.std.proofs.Common.{◌≡◌, ℕ, ◌<◌, ◌≤◌, List, length, map, arith, sym, ap, subst, Some}
+use Rattle.std.proofs.Common.{Ok, Err, inl, inr}
 use Rattle.std.specs.List.{filter_map, slice_get}
-use Rattle.kb_text.specs.declared.fault.KbFault.{KbFault}
 use Rattle.kb_logic.specs.KnownAtoms.{KnownAtoms}
 use Rattle.fo_syntax.specs.BlockTrees as raw
 use Rattle.fo_syntax.specs.BlockTrees.{Block}
 use Rattle.fo_syntax.specs.BlockView.{IsKb, as_structure, structure_view}
-use Rattle.fo_syntax.specs.FileReads.{KbRead, KbReads}
+use Rattle.fo_syntax.specs.FileReads.{KbRead}
 use Rattle.fo_syntax.specs.declared.raw_blocks.RawKb.{RawKb}
 use Rattle.fo_syntax.specs.declared.error.KbError.{KbError}
 use Rattle.fo_syntax.specs.declared.error.KbError.TheVariants.{Refused, Memory}
@@ -32,12 +31,16 @@ use Rattle.reading_stages.specs.FileTrees.{structure_of}
 use Rattle.base_reader.specs.FileMeanings.{Choice, Picked, Meaning, HasBlocks, HasNames, HasTypes, FileMeans, IsRefused}
 use Rattle.type_derivation.specs.TypedViews.{typed_view, named_theory_view}
 use Rattle.type_derivation.specs.declared.typed.TypedKb.{TypedKb}
-use Rattle.typing_laws.specs.Vocabularies.{DerivedIsWellFormed}
 use Rattle.file_bases.specs.FileLaws.{AcceptedCanBeGrounded, AcceptedIsBounded}
-use Rattle.consult_base.specs.Opened.{opened, IsKnowledgeBase}
+use Rattle.file_bases.specs.FileLaws.{IsBoundedBase}
+use Rattle.reading_stages.specs.FileBases.{base_of_file}
+use Rattle.def_ground.specs.Groundings.{IsGroundTheory}
+use Rattle.narrowed_bases.specs.declared.narrowings.Narrowing.{Narrowing}
+use Rattle.consult_base.specs.Opened.{Opened, opened, IsKnowledgeBase}
 use Rattle.base_reader.proofs.Facts.{chosen_within, theories_many, read_map}
 use Rattle.base_reader.specs.FileMeanings as refused
-use Rattle.base_reader.specs.Readings.{AreBlocksOf, FailsWith, HasTypedFile, NamesOrTypes}
+use Rattle.base_reader.specs.Readings.{AreBlocksOf, AreNarrowedData, DataFail, FailsWith, HasTypedFile, IsOpenedOn}
+use Rattle.base_reader.specs.Readings.{meaning_of, NamesOrTypes, OpenFails}
 
 -- a law on raw files: what the stages see in one is what they see in its blocks
 abbrev pub FilesAreTheirBlocks : Type 0
@@ -115,31 +118,52 @@ module _ (same : FilesAreTheirBlocks) (c : Choice) (bytes : List ℕ) (kb : RawK
     structure = structure_there x at;
   }
 
-  -- the stage of data or that of sizes refuses the structure
+  -- the stage of data or that of sizes refuses the structure, or what it leaves open is refused
   pub data_refused : (typed : TypedFile) (x : RawStructure) → HasTypedFile (file_in kb) typed
       → slice_get kb.structures s ≡ Some x
-      → (e : KbError) → DataOrSizesFail typed t (structure_view x) e → FailsWith c bytes e
+      → (e : KbError) → DataFail typed t (structure_view x) e → FailsWith c bytes e
   data_refused typed x is at Memory h = tt
-  data_refused typed x is at (Refused q) (inl entries) =
+  data_refused typed x is at (Refused q) (inl (inl entries)) =
       refused.entries (record { file = typed; theory = t; structure = structure_view x }) q
       (has_types typed x is at) entries
-  data_refused typed x is at (Refused q) (inr sizes) =
+  data_refused typed x is at (Refused q) (inl (inr sizes)) =
       refused.sizes (record { file = typed; theory = t; structure = structure_view x }) sizes.0 q
       (has_types typed x is at) sizes.1 sizes.2
+  data_refused typed x is at (Refused q) (inr h) =
+      refused.left_open (record { file = typed; theory = t; structure = structure_view x }) h.0 q
+      (has_types typed x is at) h.1 h.2 h.3
 
-  -- the file means this
-  pub means : (typed : TypedFile) (x : RawStructure) (known : KnownAtoms) (sizes : Sizes) (title : Text)
-      → HasTypedFile (file_in kb) typed
-      → slice_get kb.structures s ≡ Some x → IsMeasuredData typed t (structure_view x) known sizes
-      → title ≡ x.header.name.text
-      → FileMeans c bytes (record { file = typed; theory = t; structure = title; known = known })
-  means typed x known sizes title is at measured named = record {
-    structure = structure_view x;
-    typed = has_types typed x is at;
-    name = named;
-    given = measured.given;
-    sized = measured.sized.accepted;
-  }
+  -- the file means what is opened
+  pub means : (typed : TypedKb) (x : RawStructure) → HasTypedFile (file_in kb) (typed_view typed)
+      → slice_get kb.structures s ≡ Some x → (k : Opened) → IsOpenedOn typed t x k → FileMeans c bytes (meaning_of k)
+  means typed x is at k on =
+      let same : k.typed ≡ typed = on.typed in
+      of (k.typed) k.theory (sym same) (sym on.theory_is)
+    where
+      of : (u : TypedKb) (n : ℕ) → typed ≡ u → t ≡ n → FileMeans c bytes (record {
+        file = typed_view u;
+        theory = n;
+        structure = k.structure;
+        known = k.known;
+      })
+      of u n e f = subst (λ (m : ℕ). FileMeans c bytes (record {
+        file = typed_view u;
+        theory = m;
+        structure = k.structure;
+        known = k.known;
+      })) f (subst (λ (v : TypedKb). FileMeans c bytes (record {
+        file = typed_view v;
+        theory = t;
+        structure = k.structure;
+        known = k.known;
+      })) e (record {
+        structure = structure_view x;
+        typed = has_types (typed_view typed) x is at;
+        name = on.named;
+        given = on.known.given;
+        sized = on.known.sized;
+        light = on.known.light;
+      }))
 
   -- the number of the chosen structure is that of one
   pub structure_within : s < length kb.structures
@@ -167,17 +191,40 @@ module _ (same : FilesAreTheirBlocks) (c : Choice) (bytes : List ℕ) (kb : RawK
         length-map (file_of blocks.blocks (length bytes)).theories (λ (b : TheoryBlock). b.header.name),
       )
 
-  -- what is opened is a knowledge base
-  pub is_opened : AcceptedCanBeGrounded → AcceptedIsBounded → DerivedIsWellFormed → (typed : TypedKb) (x : RawStructure)
-      (known : KnownAtoms) (sizes : Sizes) (title : Text)
-      → HasTypedFile (file_in kb) (typed_view typed)
-      → IsMeasuredData (typed_view typed) t (structure_view x) known sizes
-      → IsKnowledgeBase (opened typed t title known)
-  is_opened grounded bounded formed typed x known sizes title is measured = record {
-    theory = omega (arith, theory_within (typed_view typed) is, length-map typed.theories named_theory_view);
-    ground = grounded (file_in kb) is.0 (typed_view typed) is.1 is.2 t (structure_view x) known measured.given;
-    bounded = (bounded is.0 (typed_view typed) is.2 t known sizes measured.sized).theory;
-    asked = (bounded is.0 (typed_view typed) is.2 t known sizes measured.sized).terms;
-    sized = measured.sized.accepted;
-    numbered = (formed (file_in kb) is.0 (typed_view typed) is.1 is.2).few_symbols;
-  }
+  pub theory_there : (typed : TypedKb) → HasTypedFile (file_in kb) (typed_view typed) → t < length typed.theories
+  theory_there typed is =
+      omega (arith, theory_within (typed_view typed) is, length-map typed.theories named_theory_view)
+
+-- what is opened is a knowledge base
+pub is_opened : (typed : TypedKb) (theory : ℕ) (s : raw.Structure) (known : KnownAtoms) (n : Narrowing) (title : Text)
+    → theory < length typed.theories → length typed.vocab.symbols ≤ 1024
+    → AreNarrowedData (typed_view typed) theory s known n → IsKnowledgeBase (opened typed theory title known n)
+is_opened typed theory s known n title within few are = record {
+  theory = within;
+  ground = are.ground;
+  bounded = are.bounded.theory;
+  asked = are.bounded.terms;
+  sized = are.sized;
+  narrowing = are.narrowing;
+  numbered = few;
+}
+
+module _ (f : File) (typed : TypedFile) (is : HasTypedFile f typed) (theory : ℕ) (s : raw.Structure)
+    (known : KnownAtoms) (sizes : Sizes) (measured : IsMeasuredData typed theory s known sizes) where
+  -- what is measured can be grounded, and is bounded
+  pub data_ground : AcceptedCanBeGrounded → IsGroundTheory (base_of_file typed theory known)
+  data_ground grounded = grounded f is.0 typed is.1 is.2 theory s known measured.given
+
+  pub data_bounded : AcceptedIsBounded → IsBoundedBase (base_of_file typed theory known)
+  data_bounded bounded = bounded is.0 typed is.2 theory known sizes measured.sized
+
+  -- what it leaves open is refused
+  pub open_fails : (e : KbError) → OpenFails typed theory known e → DataFail typed theory s e
+  open_fails Memory h = tt
+  open_fails (Refused q) h = inr (known, measured.given, measured.sized.accepted, h)
+
+-- or an earlier stage refuses
+pub stage_fails : (f : TypedFile) (theory : ℕ) (s : raw.Structure) (e : KbError) → DataOrSizesFail f theory s e
+    → DataFail f theory s e
+stage_fails f theory s Memory h = tt
+stage_fails f theory s (Refused q) h = inl h

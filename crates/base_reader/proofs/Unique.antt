@@ -1,34 +1,35 @@
 -- A file means one knowledge base, or is refused in one way, and never both.
-use Rattle.std.proofs.Common.{◌≡◌, ℕ, zero, suc, ◌<◌, ◌==◌, ◌||◌, ◌&&◌, nat_lt, List, [], ◌∷◌, length, map, refl, sym}
-use Rattle.std.proofs.Common.{ap, ◌∙◌, subst, arith, Bool, true, false, IsTrue, Option, Some, None, Ok, Err, Result}
+use Rattle.std.proofs.Common.{◌≡◌, ℕ, zero, suc, ◌==◌, ◌||◌, ◌&&◌, nat_lt, List, length, map, refl, sym}
+use Rattle.std.proofs.Common.{ap, ◌∙◌, subst, arith, IsTrue, Some, Ok, Err, Result}
 use Rattle.std.specs.List.{filter_map, slice_get}
 use Rattle.std.proofs.lemmas.Bool.Decides.{nat_tests}
 use Rattle.kb_text.specs.Refusals.{number_of}
 use Rattle.kb_text.specs.declared.fault.K.{K}
 use Rattle.kb_text.specs.declared.fault.K.TheVariants as k
 use Rattle.kb_text.specs.declared.fault.KbFault.{KbFault}
+use Rattle.kb_logic.specs.Bases.{Base}
 use Rattle.kb_logic.specs.KnownAtoms.{KnownAtoms}
-use Rattle.fo_syntax.specs.BlockTrees as raw
 use Rattle.fo_syntax.specs.BlockTrees.{Block}
 use Rattle.fo_syntax.specs.BlockView.{as_structure}
 use Rattle.fo_syntax.specs.FileReads.{KbReads}
-use Rattle.reading_stages.specs.Scopes.{Text}
-use Rattle.reading_stages.specs.Earliest.{comes_before, IsEarliest}
+use Rattle.reading_stages.specs.Earliest.{refusal, IsEarliest}
+use Rattle.reading_stages.specs.FileBases.{base_of_file}
 use Rattle.reading_stages.specs.Files.{File}
 use Rattle.reading_stages.specs.FileTrees.{file_of}
 use Rattle.reading_stages.specs.BlocksStage.{block_uses, chosen, header_names, BlocksRefuse}
 use Rattle.reading_stages.specs.NamesStage.{NamesRefuse, declarations_of}
 use Rattle.reading_stages.specs.Numbering.{NamedFile, named_file, vocabulary_name}
 use Rattle.reading_stages.specs.TypesStage.{TypesRefuse}
-use Rattle.reading_stages.specs.TypedFiles.{TypedFile, typed_file}
+use Rattle.reading_stages.specs.TypedFiles.{typed_file}
 use Rattle.reading_stages.specs.DataStage.{StructureRefuses}
 use Rattle.reading_stages.specs.DataEntries.{said_in}
 use Rattle.reading_stages.specs.DataAnswer.{IsDataOf, given_by}
 use Rattle.reading_stages.specs.SizesStage.{SizesRefuse, size_uses}
 use Rattle.base_reader.specs.FileMeanings.{Choice, Picked, Meaning, HasBlocks, HasNames, HasTypes, FileMeans, IsRefused}
-use Rattle.base_reader.specs.FileMeanings.{structure_name}
+use Rattle.narrowed_bases.specs.Narrowings.{IsHeavy}
+use Rattle.narrowed_bases.proofs.One.{light_or_heavy}
+use Rattle.base_reader.specs.FileMeanings.{first_word, structure_name, HasSizes}
 use Rattle.base_reader.specs.FileMeanings as refused
-use Rattle.base_reader.specs.Laws.{HasOneMeaning, HasOneRefusal, MeansOrIsRefused}
 
 -- ---- a stage has one earliest refusal
 
@@ -200,6 +201,19 @@ module _ (one : (src : List ℕ) (r s : Result (List Block) KbFault) → KbReads
   sizes_same p p' m m' q same known h =
       subst (λ (x : KnownAtoms). SizesFail p' x q) known (subst (λ (x : Picked). SizesFail x m q) same h)
 
+  sizes_clash : {A : Type 0} (p p' : Picked) (m m' : KnownAtoms) (q : KbFault) → HasTypes c bytes p
+      → HasTypes c bytes p' → IsDataOf p.file p.theory p.structure m → IsDataOf p'.file p'.theory p'.structure m'
+      → IsEarliest (SizesFail p m) q → HasSizes p'.file p'.theory m' → A
+  sizes_clash p p' m m' q h h' is is' fails sized =
+      let same = picked_one p p' h h' in
+      absurd (sized q (sizes_same p p' m m' q same (known_one p p' m m' same is is') fails.refused))
+
+  base_same : (p p' : Picked) (m m' : KnownAtoms) → p ≡ p' → m ≡ m'
+      → base_of_file p.file p.theory m ≡ base_of_file p'.file p'.theory m'
+  base_same p p' m m' same known =
+      ap (λ (x : Picked). base_of_file x.file x.theory m) same
+      ∙ ap (λ (x : KnownAtoms). base_of_file p'.file p'.theory x) known
+
   -- ---- a refused file means nothing
 
   pub never_both : (m : Meaning) (q : KbFault) → FileMeans c bytes m → IsRefused c bytes q → ⊥
@@ -214,6 +228,11 @@ module _ (one : (src : List ℕ) (r s : Result (List Block) KbFault) → KbReads
       let same = picked_one p (picked_in m h) has h.typed in
       h.sized r (sizes_same p (picked_in m h) known m.known r same
       (known_one p (picked_in m h) known m.known same is h.given) fails.refused)
+  never_both m q h (refused.left_open p known r has is sized heavy) =
+      let same = picked_one p (picked_in m h) has h.typed in
+      light_or_heavy (base_of_file m.file m.theory m.known) h.light
+      (subst (λ (b : Base). IsHeavy b) (base_same p (picked_in m h) known m.known same
+      (known_one p (picked_in m h) known m.known same is h.given)) heavy.0)
 
   -- ---- and has one refusal
 
@@ -229,6 +248,8 @@ module _ (one : (src : List ℕ) (r s : Result (List Block) KbFault) → KbReads
   refusal_one q r (refused.text q' a) (refused.types bs t s n r' b fails) = text_clash q bs a b.has.read
   refusal_one q r (refused.text q' a) (refused.entries p r' b fails) = text_clash q b.blocks a b.names.has.read
   refusal_one q r (refused.text q' a) (refused.sizes p m r' b is fails) = text_clash q b.blocks a b.names.has.read
+  refusal_one q r (refused.text q' a) (refused.left_open p m r' b is sized heavy) =
+      text_clash q b.blocks a b.names.has.read
   refusal_one q r (refused.blocks bs q' a fails) (refused.text r' b) = text_clash r bs b a
   refusal_one q r (refused.blocks bs q' a fails) (refused.blocks bs' r' b fails') =
       one_earliest _ q r (subst (λ (x : List Block). BlocksFail x q) (blocks_one bs bs' a b) fails) fails'
@@ -239,6 +260,8 @@ module _ (one : (src : List ℕ) (r s : Result (List Block) KbFault) → KbReads
   refusal_one q r (refused.blocks bs q' a fails) (refused.entries p r' b fails') =
       blocks_clash bs b.blocks p.theory b.number q a fails b.names.has
   refusal_one q r (refused.blocks bs q' a fails) (refused.sizes p m r' b is fails') =
+      blocks_clash bs b.blocks p.theory b.number q a fails b.names.has
+  refusal_one q r (refused.blocks bs q' a fails) (refused.left_open p m r' b is sized heavy) =
       blocks_clash bs b.blocks p.theory b.number q a fails b.names.has
   refusal_one q r (refused.names bs t s q' a fails) (refused.text r' b) = text_clash r bs b a.read
   refusal_one q r (refused.names bs t s q' a fails) (refused.blocks bs' r' b fails') =
@@ -252,6 +275,8 @@ module _ (one : (src : List ℕ) (r s : Result (List Block) KbFault) → KbReads
       names_clash bs b.blocks t s p.theory b.number b.named q a fails b.names
   refusal_one q r (refused.names bs t s q' a fails) (refused.sizes p m r' b is fails') =
       names_clash bs b.blocks t s p.theory b.number b.named q a fails b.names
+  refusal_one q r (refused.names bs t s q' a fails) (refused.left_open p m r' b is sized heavy) =
+      names_clash bs b.blocks t s p.theory b.number b.named q a fails b.names
   refusal_one q r (refused.types bs t s n q' a fails) (refused.text r' b) = text_clash r bs b a.has.read
   refusal_one q r (refused.types bs t s n q' a fails) (refused.blocks bs' r' b fails') =
       blocks_clash bs' bs t s r b fails' a.has
@@ -264,6 +289,8 @@ module _ (one : (src : List ℕ) (r s : Result (List Block) KbFault) → KbReads
       types_clash bs t s n p q a fails b
   refusal_one q r (refused.types bs t s n q' a fails) (refused.sizes p m r' b is fails') =
       types_clash bs t s n p q a fails b
+  refusal_one q r (refused.types bs t s n q' a fails) (refused.left_open p m r' b is sized heavy) =
+      types_clash bs t s n p q a fails b
   refusal_one q r (refused.entries p q' a fails) (refused.text r' b) = text_clash r a.blocks b a.names.has.read
   refusal_one q r (refused.entries p q' a fails) (refused.blocks bs r' b fails') =
       blocks_clash bs a.blocks p.theory a.number r b fails' a.names.has
@@ -275,6 +302,8 @@ module _ (one : (src : List ℕ) (r s : Result (List Block) KbFault) → KbReads
       one_earliest _ q r (subst (λ (x : Picked). IsEarliest (StructureRefuses x.file x.theory x.structure) q)
       (picked_one p p' a b) fails) fails'
   refusal_one q r (refused.entries p q' a fails) (refused.sizes p' m r' b is fails') =
+      entries_clash p p' m q a fails b is
+  refusal_one q r (refused.entries p q' a fails) (refused.left_open p' m r' b is sized heavy) =
       entries_clash p p' m q a fails b is
   refusal_one q r (refused.sizes p m q' a is fails) (refused.text r' b) = text_clash r a.blocks b a.names.has.read
   refusal_one q r (refused.sizes p m q' a is fails) (refused.blocks bs r' b fails') =
@@ -290,3 +319,20 @@ module _ (one : (src : List ℕ) (r s : Result (List Block) KbFault) → KbReads
       let known = known_one p p' m m' same is is' in
       under (SizesFail p m) (SizesFail p' m') (λ x. sizes_same p p' m m' x same known)
       (λ x. sizes_same p' p m' m x (sym same) (sym known)) q r fails fails'
+  refusal_one q r (refused.sizes p m q' a is fails) (refused.left_open p' m' r' b is' sized heavy) =
+      sizes_clash p p' m m' q a b is is' fails sized
+  refusal_one q r (refused.left_open p m q' a is sized heavy) (refused.text r' b) =
+      text_clash r a.blocks b a.names.has.read
+  refusal_one q r (refused.left_open p m q' a is sized heavy) (refused.blocks bs r' b fails') =
+      blocks_clash bs a.blocks p.theory a.number r b fails' a.names.has
+  refusal_one q r (refused.left_open p m q' a is sized heavy) (refused.names bs t s r' b fails') =
+      names_clash bs a.blocks t s p.theory a.number a.named r b fails' a.names
+  refusal_one q r (refused.left_open p m q' a is sized heavy) (refused.types bs t s n r' b fails') =
+      types_clash bs t s n p r b fails' a
+  refusal_one q r (refused.left_open p m q' a is sized heavy) (refused.entries p' r' b fails') =
+      entries_clash p' p m r b fails' a is
+  refusal_one q r (refused.left_open p m q' a is sized heavy) (refused.sizes p' m' r' b is' fails') =
+      sizes_clash p' p m' m r b a is' is fails' sized
+  refusal_one q r (refused.left_open p m q' a is sized heavy) (refused.left_open p' m' r' b is' sized' heavy') =
+      heavy.1 ∙ ap (λ (x : Picked). refusal k.TooLarge (first_word x.file x.theory)) (picked_one p p' a b)
+      ∙ sym heavy'.1

@@ -1,6 +1,8 @@
--- What the bytes of a file mean, and why they are refused: by the first stage that refuses something.
-use Rattle.std.specs.Prelude.{◌≡◌, ℕ, List, length, Option, Some, Ok, Err, slice_get}
+-- What the bytes of a file mean, and why they are refused: by the first stage that refuses something, and at last by
+-- what the narrowed data leave open.
+use Rattle.std.specs.Prelude.{◌≡◌, ℕ, List, length, Option, Some, Ok, Err, slice_get, unwrap_or}
 use Rattle.std.specs.List.{filter_map}
+use Rattle.kb_text.specs.declared.fault.K.TheVariants as k
 use Rattle.kb_text.specs.declared.fault.KbFault.{KbFault}
 use Rattle.kb_logic.specs.Bases.{Base}
 use Rattle.kb_logic.specs.KnownAtoms.{KnownAtoms}
@@ -10,8 +12,7 @@ use Rattle.fo_syntax.specs.BlockView.{as_structure}
 use Rattle.fo_syntax.specs.FileReads.{KbReads}
 use Rattle.reading_stages.specs.FileBases.{base_of_file}
 use Rattle.reading_stages.specs.Scopes.{Text}
-use Rattle.reading_stages.specs.Earliest.{IsEarliest}
-use Rattle.reading_stages.specs.Files.{File}
+use Rattle.reading_stages.specs.Earliest.{IsEarliest, refusal}
 use Rattle.reading_stages.specs.FileTrees.{file_of, structure_of}
 use Rattle.reading_stages.specs.Names.{text_of}
 use Rattle.reading_stages.specs.BlocksStage.{block_uses, BlocksRefuse, IsPicked}
@@ -22,6 +23,7 @@ use Rattle.reading_stages.specs.TypedFiles.{TypedFile}
 use Rattle.reading_stages.specs.DataStage.{StructureRefuses}
 use Rattle.reading_stages.specs.DataAnswer.{IsDataOf}
 use Rattle.reading_stages.specs.SizesStage.{SizesRefuse, size_uses}
+use Rattle.narrowed_bases.specs.Narrowings.{IsHeavy, IsLight}
 
 -- the names of the theory and of the structure that are chosen, where they are named
 pub record Choice : Type 0 where
@@ -67,15 +69,29 @@ pub record HasTypes (c : Choice) (bytes : List ℕ) (p : Picked) : Type 0 where
 abbrev pub structure_name : raw.Structure → Text
 structure_name s = text_of (structure_of s).name
 
--- the bytes mean this: no stage refuses anything
+-- no size is refused over these domains
+abbrev pub HasSizes : TypedFile → ℕ → KnownAtoms → Type 0
+HasSizes f theory known = (q : KbFault) → SizesRefuse (size_uses f theory known.domains) q → ⊥
+
+-- where the first word of the theory with this number stands
+abbrev pub first_word : TypedFile → ℕ → ℕ
+first_word f theory = unwrap_or (slice_get f.places.theories theory) 0
+
+-- what the narrowed data leave open weighs too much: that is said of the theory's first word
+abbrev pub OpenRefuses : TypedFile → ℕ → KnownAtoms → KbFault → Type 0
+OpenRefuses f theory known q = IsHeavy (base_of_file f theory known) × (q ≡ refusal k.TooLarge (first_word f theory))
+
+-- the bytes mean this: no stage refuses anything, nor does what is left open
 pub record FileMeans (c : Choice) (bytes : List ℕ) (m : Meaning) : Type 0 where
   pub structure : raw.Structure
   pub typed : HasTypes c bytes (record { file = m.file; theory = m.theory; structure = structure })
   pub name : m.structure ≡ structure_name structure
   pub given : IsDataOf m.file m.theory structure m.known
-  pub sized : (q : KbFault) → SizesRefuse (size_uses m.file m.theory m.known.domains) q → ⊥
+  pub sized : HasSizes m.file m.theory m.known
+  pub light : IsLight (base_of_file m.file m.theory m.known)
 
--- the first stage that refuses something has this refusal, and none before it
+-- the first stage that refuses something has this refusal, and none before it; or none does, and it is that of what is
+-- left open
 pub data IsRefused (c : Choice) (bytes : List ℕ) : KbFault → Type 0 where
   -- the length, the tokens or the grammar
   text : (q : KbFault) → KbReads bytes (Err q) → IsRefused c bytes q
@@ -95,6 +111,12 @@ pub data IsRefused (c : Choice) (bytes : List ℕ) : KbFault → Type 0 where
   sizes : (p : Picked) → (known : KnownAtoms) → (q : KbFault) → HasTypes c bytes p
       → IsDataOf p.file p.theory p.structure known
       → IsEarliest (SizesRefuse (size_uses p.file p.theory known.domains)) q
+      → IsRefused c bytes q
+  -- what is left open is looked at where no stage refuses anything
+  left_open : (p : Picked) → (known : KnownAtoms) → (q : KbFault) → HasTypes c bytes p
+      → IsDataOf p.file p.theory p.structure known
+      → HasSizes p.file p.theory known
+      → OpenRefuses p.file p.theory known q
       → IsRefused c bytes q
 
 -- the knowledge base that a file means

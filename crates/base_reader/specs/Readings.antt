@@ -1,22 +1,33 @@
 -- What reading a knowledge base returns, and what its steps do.
-use Rattle.std.specs.Prelude.{◌≡◌, ◌⊎◌, ◌<◌, List, ℕ, length, Option, ⊤}
+use Rattle.std.specs.Prelude.{◌≡◌, ◌⊎◌, List, ℕ, length, Option, ⊤}
 use Rattle.std.specs.Borrow.{Bor}
-use Rattle.kb_text.specs.declared.fault.KbFault.{KbFault}
+use Rattle.kb_logic.specs.KnownAtoms.{KnownAtoms}
+use Rattle.fo_syntax.specs.BlockTrees as raw
 use Rattle.fo_syntax.specs.BlockTrees.{Block}
 use Rattle.fo_syntax.specs.BlockView.{IsKb}
+use Rattle.fo_syntax.specs.BlockView.{structure_view}
 use Rattle.fo_syntax.specs.declared.raw_blocks.RawKb.{RawKb}
+use Rattle.fo_syntax.specs.declared.raw_blocks.RawStructure.{RawStructure}
 use Rattle.fo_syntax.specs.declared.error.KbError.{KbError}
 use Rattle.fo_syntax.specs.declared.error.KbError.TheVariants.{Refused, Memory}
 use Rattle.block_choice.specs.Choices.{word_given}
+use Rattle.reading_stages.specs.DataAnswer.{IsDataOf}
 use Rattle.reading_stages.specs.Earliest.{IsEarliest}
+use Rattle.reading_stages.specs.FileBases.{base_of_file}
 use Rattle.reading_stages.specs.Files.{File}
 use Rattle.reading_stages.specs.NamesStage.{NamesRefuse}
 use Rattle.reading_stages.specs.Numbering.{IsNamed, NamedFile}
 use Rattle.reading_stages.specs.TypesStage.{TypesRefuse, IsTyped}
 use Rattle.reading_stages.specs.TypedFiles.{TypedFile}
 use Rattle.type_derivation.specs.TypedViews.{typed_view}
+use Rattle.type_derivation.specs.declared.typed.TypedKb.{TypedKb}
+use Rattle.structure_reader.specs.DataReads.{DataOrSizesFail}
+use Rattle.def_ground.specs.Groundings.{IsGroundTheory}
+use Rattle.file_bases.specs.FileLaws.{IsBoundedBase}
+use Rattle.narrowed_bases.specs.Narrowings.{IsNarrowing, IsLight}
+use Rattle.narrowed_bases.specs.declared.narrowings.Narrowing.{Narrowing}
 use Rattle.consult_base.specs.Opened.{Opened}
-use Rattle.base_reader.specs.FileMeanings.{Choice, Meaning, HasBlocks, IsRefused}
+use Rattle.base_reader.specs.FileMeanings.{Choice, Meaning, HasBlocks, HasSizes, IsRefused, OpenRefuses}
 
 -- the names that are given
 abbrev pub choice : Option (Bor (List ℕ)) → Option (Bor (List ℕ)) → Choice
@@ -46,3 +57,33 @@ abbrev pub NamesOrTypes : File → KbError → Type 0
 NamesOrTypes f Memory = ⊤
 NamesOrTypes f (Refused q) =
     IsEarliest (NamesRefuse f) q ⊎ ((named : NamedFile) × IsNamed f named × IsEarliest (TypesRefuse named) q)
+
+-- these are the data of the structure, of which nothing is refused and all terms are bounded, and this is what they are
+-- narrowed to, which is light
+pub record AreNarrowedData (f : TypedFile) (theory : ℕ) (s : raw.Structure) (known : KnownAtoms) (n : Narrowing)
+    : Type 0 where
+  pub given : IsDataOf f theory s known
+  pub sized : HasSizes f theory known
+  pub ground : IsGroundTheory (base_of_file f theory known)
+  pub bounded : IsBoundedBase (base_of_file f theory known)
+  pub narrowing : IsNarrowing (base_of_file f theory known) n
+  pub light : IsLight (base_of_file f theory known)
+
+-- what these data leave open is refused, or there was no memory
+abbrev pub OpenFails : TypedFile → ℕ → KnownAtoms → KbError → Type 0
+OpenFails f theory known Memory = ⊤
+OpenFails f theory known (Refused q) = OpenRefuses f theory known q
+
+-- the stage of data or that of sizes refuses the structure, or where they do not, what it leaves open is refused
+abbrev pub DataFail : TypedFile → ℕ → raw.Structure → KbError → Type 0
+DataFail f theory s Memory = ⊤
+DataFail f theory s (Refused q) =
+    DataOrSizesFail f theory s (Refused q)
+    ⊎ ((known : KnownAtoms) × IsDataOf f theory s known × HasSizes f theory known × OpenRefuses f theory known q)
+
+-- what is opened is the file with the theory of this number, and the data of the structure under its name
+pub record IsOpenedOn (kb : TypedKb) (theory : ℕ) (s : RawStructure) (opened : Opened) : Type 0 where
+  pub typed : opened.typed ≡ kb
+  pub theory_is : opened.theory ≡ theory
+  pub named : opened.structure ≡ s.header.name.text
+  pub known : AreNarrowedData (typed_view kb) theory (structure_view s) opened.known opened.narrowing

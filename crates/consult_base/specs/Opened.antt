@@ -10,27 +10,38 @@ use Rattle.reading_stages.specs.SizesStage.{SizesRefuse, size_uses}
 use Rattle.type_derivation.specs.TypedViews.{typed_view}
 use Rattle.type_derivation.specs.declared.typed.TypedKb.{TypedKb}
 use Rattle.def_ground.specs.Groundings.{IsGroundTheory, TermsAreBounded}
+use Rattle.narrowed_bases.specs.Narrowings.{IsNarrowing}
+use Rattle.narrowed_bases.specs.declared.narrowings.Narrowing.{Narrowing}
 
--- a file, the number of the chosen theory, the name of the chosen structure, and what that structure makes known
+-- a file, the number of the chosen theory, the name of the chosen structure, what that structure makes known, and what
+-- this is narrowed to
 pub record Opened : Type 0 where
   pub typed : TypedKb
   pub theory : ℕ
   pub structure : Text
   pub known : KnownAtoms
+  pub narrowing : Narrowing
 
-abbrev pub opened : TypedKb → ℕ → Text → KnownAtoms → Opened
-opened typed theory structure known = record { typed = typed; theory = theory; structure = structure; known = known }
+abbrev pub opened : TypedKb → ℕ → Text → KnownAtoms → Narrowing → Opened
+opened typed theory structure known narrowing = record {
+  typed = typed;
+  theory = theory;
+  structure = structure;
+  known = known;
+  narrowing = narrowing;
+}
 
 -- the knowledge base that it is
 abbrev pub base_of : Opened → Base
 base_of k = base_of_file (typed_view k.typed) k.theory k.known
 
 -- the theory is one of the file's; theory, terms and data are well typed; all terms are bounded, and no size is refused;
--- and there are few symbols
+-- what the data are narrowed to is found; and there are few symbols
 pub record IsKnowledgeBase (k : Opened) : Type 0 where
   pub theory : k.theory < length k.typed.theories
   pub ground : IsGroundTheory (base_of k)
   pub bounded : TheoryIsBounded k.typed.vocab k.known.domains (theory_at (typed_view k.typed) k.theory)
   pub asked : TermsAreBounded (base_of k)
   pub sized : (q : KbFault) → SizesRefuse (size_uses (typed_view k.typed) k.theory k.known.domains) q → ⊥
+  pub narrowing : IsNarrowing (base_of k) k.narrowing
   pub numbered : length k.typed.vocab.symbols ≤ 1024

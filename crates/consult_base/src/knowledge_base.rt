@@ -3,46 +3,55 @@ ghost use Rattle.std.specs.Prelude.{◌≡◌};
 ghost use Rattle.consult_base.specs.Opened.{opened, IsKnowledgeBase};
 
 use kb_logic::{Name, Vocabulary};
+use narrowed_bases::Narrowing;
 use partial_structures::Partial;
 use std::marker::Model;
 use type_derivation::TypedKb;
 
-/// A file's vocabulary and terms, the theory that is chosen among its theories, and what the chosen structure makes
-/// known.
+/// A file's vocabulary and terms, the theory that is chosen among its theories, what the chosen structure makes known,
+/// and what this is narrowed to before anything is grounded.
 #[derive(Drop)]
 pub struct KnowledgeBase {
     typed: TypedKb,
     theory: usize,
     structure: Name,
     known: Partial,
+    narrowing: Narrowing,
 }
 
 impl Model for KnowledgeBase {
     ghost use Rattle.std.specs.Coded.{codes};
     ghost use Rattle.type_derivation.specs.contracts.typed.TypedKb as typed_kb;
-    ghost use Rattle.consult_base.specs.Opened.{Opened, IsKnowledgeBase};
+    ghost use Rattle.narrowed_bases.specs.contracts.narrowings.Narrowing as narrowings;
+    ghost use Rattle.consult_base.specs.Opened.{opened, Opened, IsKnowledgeBase};
 
     ghost Value = { Opened };
 
-    ghost coded = { Prim.hlevel (codes, typed_kb.the_row.coded) };
+    ghost coded = { Prim.hlevel (codes, typed_kb.the_row.coded, narrowings.the_row.coded) };
 
-    ghost view = { λ k. record { typed = k.typed; theory = k.theory; structure = k.structure; known = k.known } };
+    ghost view = { λ k. opened k.typed k.theory k.structure k.known k.narrowing };
 
-    ghost invariant = { λ k. IsKnowledgeBase
-        (record { typed = k.typed; theory = k.theory; structure = k.structure; known = k.known }) };
+    ghost invariant = { λ k. IsKnowledgeBase (opened k.typed k.theory k.structure k.known k.narrowing) };
 }
 
 impl KnowledgeBase {
-    /// The theory of this number, and the data of the structure of this name.
-    pub fn new(typed: TypedKb, theory: usize, structure: Name, known: Partial) -> KnowledgeBase
-        requires { IsKnowledgeBase (opened typed theory structure known) }
-        ensures { result ≡ opened typed theory structure known }
+    /// The theory of this number, and the data of the structure of this name, with what they are narrowed to.
+    pub fn new(
+        typed: TypedKb,
+        theory: usize,
+        structure: Name,
+        known: Partial,
+        narrowing: Narrowing,
+    ) -> KnowledgeBase
+        requires { IsKnowledgeBase (opened typed theory structure known narrowing) }
+        ensures { result ≡ opened typed theory structure known narrowing }
     {
         KnowledgeBase {
             typed,
             theory,
             structure,
             known,
+            narrowing,
         }
     }
 
@@ -81,5 +90,13 @@ impl KnowledgeBase {
         ensures is { IsKnowledgeBase self.now }
     {
         &self.known
+    }
+
+    /// What the data are narrowed to before they are grounded.
+    pub fn narrowing(&self) -> &Narrowing
+        ensures narrowing { result.now ≡ self.now.narrowing }
+        ensures is { IsKnowledgeBase self.now }
+    {
+        &self.narrowing
     }
 }

@@ -1,27 +1,23 @@
 -- A theory's sentences, and its problem.
-use Rattle.std.proofs.Common.{◌≡◌, ◌≤◌, List, [], ◌∷◌, sym, ap, subst, ◌∙◌}
+use Rattle.std.proofs.Common.{◌≡◌, List, [], ◌∷◌, ap, ◌∙◌}
 use Rattle.std.specs.List.{AllByRecursion}
 use Rattle.kb_logic.specs.Bounds.{TheoryIsBounded, TermIsBounded, RuleIsBounded}
 use Rattle.kb_logic.specs.Bases.{Base, NamedTerm}
-use Rattle.kb_logic.specs.Trees.{FormulaTree, RuleTree, DefinitionTree, TheoryTree}
+use Rattle.kb_logic.specs.Trees.{RuleTree, DefinitionTree, TheoryTree}
 use Rattle.ground_core.specs.Problems.{ProblemState}
-use Rattle.ground_core.specs.Meaning.{HasTermsInRange}
 use Rattle.def_ground.specs.AskedTerms.{with_all_asked}
 use Rattle.def_ground.specs.Definitions.{define_all}
-use Rattle.def_ground.specs.Groundings.{ground_base, IsGroundNumber, IsGroundTheory, IsGroundingOf, HasNoBounds}
+use Rattle.def_ground.specs.Groundings.{ground_base, IsGroundNumber, IsGroundTheory}
 use Rattle.def_ground.specs.Groundings.{theory_problem, TermsAreBounded}
 use Rattle.def_ground.specs.Problems.{problem_of}
 use Rattle.def_ground.specs.Rules.{IsTypedRule, IsTypedDefinition}
-use Rattle.theory_laws.proofs.FewTheories.{problem-is-small}
-use Rattle.theory_laws.proofs.ProblemLaws.{all-ground, problem-is-right, problem-has-no-bounds}
-use Rattle.theory_laws.proofs.TheoryRanges.{terms-in-range}
+use Rattle.theory_laws.proofs.ProblemLaws.{all-ground}
 use Rattle.term_walk.specs.Askable.{IsAskable}
 use Rattle.ground_walk.specs.Groundable.{IsGroundable}
 use Rattle.term_walk.proofs.AskableLaws.{bounded-askable}
 use Rattle.ground_walk.proofs.GroundableLaws.{sentences-groundable}
 use Rattle.definition_walk.specs.Steps.{CanBeGround}
 use Rattle.definition_walk.proofs.Typed.{typed-can-be-ground}
-use Rattle.grounder.specs.Weighing.{base_weight}
 
 -- the sentences of a theory that meets the conditions can be grounded
 pub theory-groundable : (base : Base) → IsGroundTheory base
@@ -66,27 +62,13 @@ terms-askable base typed bounded = each base.terms typed.terms bounded
     )
 
 -- what is made of its sentences, definitions and terms is its problem
-module _ (base : Base) (typed : IsGroundTheory base) (t : TheoryTree) (ts : List NamedTerm) (same : t ≡ base.theory)
-    (alike : ts ≡ base.terms) (p : ProblemState)
-    (made : p ≡ with_all_asked (ground_base base) ts
-    (define_all (ground_base base) t.definitions (problem_of (ground_base base) t.sentences))) where
-  pub problem-value : p ≡ theory_problem base
-  problem-value =
-      made
-      ∙ ap (λ us. with_all_asked (ground_base base) us
-      (define_all (ground_base base) t.definitions (problem_of (ground_base base) t.sentences))) alike
-      ∙ ap (λ (u : TheoryTree). with_all_asked (ground_base base) base.terms
-      (define_all (ground_base base) u.definitions (problem_of (ground_base base) u.sentences))) same
-
-  pub problem-right : IsGroundingOf base p
-  problem-right = subst (IsGroundingOf base) (sym problem-value) (problem-is-right base typed)
-
-  pub problem-small : p.vars ≤ base_weight base
-  problem-small =
-      subst (λ (q : ProblemState). q.vars ≤ base_weight base) (sym problem-value) (problem-is-small base typed)
-
-  pub problem-says-no-bounds : HasNoBounds p
-  problem-says-no-bounds = subst HasNoBounds (sym problem-value) (problem-has-no-bounds base)
-
-  pub problem-in-range : TermsAreBounded base → HasTermsInRange p
-  problem-in-range bounded = subst HasTermsInRange (sym problem-value) (terms-in-range base typed bounded)
+pub problem-value : (base : Base) (t : TheoryTree) (ts : List NamedTerm) → t ≡ base.theory → ts ≡ base.terms
+    → (p : ProblemState)
+    → p ≡ with_all_asked (ground_base base) ts
+    (define_all (ground_base base) t.definitions (problem_of (ground_base base) t.sentences)) → p ≡ theory_problem base
+problem-value base t ts same alike p made =
+    made
+    ∙ ap (λ us. with_all_asked (ground_base base) us
+    (define_all (ground_base base) t.definitions (problem_of (ground_base base) t.sentences))) alike
+    ∙ ap (λ (u : TheoryTree). with_all_asked (ground_base base) base.terms
+    (define_all (ground_base base) u.definitions (problem_of (ground_base base) u.sentences))) same

@@ -144,7 +144,7 @@ symbol_counted domains s = ap (λ (n : ℕ). n * value_count domains s.value) (c
 pub below_limit : (n : ℕ) → nat_lt 2000000 (capped n) ≡ nat_lt 2000000 n
 below_limit n = grind (arith, nat_tests)
 
-pub below_weight : (n : ℕ) → nat_lt 4000000 (capped n) ≡ nat_lt 4000000 n
+pub below_weight : (n : ℕ) → nat_lt 64000000 (capped n) ≡ nat_lt 64000000 n
 below_weight n = grind (arith, nat_tests)
 
 -- one more symbol

@@ -32,7 +32,7 @@ use type_derivation::{Named, TypedKb};
 const ATOM_LIMIT: u64 = 2_000_000;
 
 /// The greatest weight.
-const WEIGHT_LIMIT: u64 = 4_000_000;
+const WEIGHT_LIMIT: u64 = 64_000_000;
 
 fn passes_limit(before: u64, after: u64) -> bool
     ensures { result ≡ (not (nat_lt atom_limit before) && nat_lt atom_limit after) }

@@ -3,6 +3,7 @@ use Rattle.std.specs.Prelude.{◌≡◌, ℕ, ◌≤◌, ◌<◌, [], ◌∷◌,
 use Rattle.kb_logic.specs.Bases.{Base, NamedTerm}
 use Rattle.kb_logic.specs.KnownAtoms.{KnownAtoms}
 use Rattle.kb_logic.specs.Trees.{integer, falsum}
+use Rattle.reading_stages.specs.SizesStage.{open_limit}
 use Rattle.bound_laws.specs.Closures.{IsNarrowed, IsContradictory}
 use Rattle.open_sizes.specs.OpenWeights.{base_weight, open_weight}
 use Rattle.ground_core.specs.Problems.{ProblemState}
@@ -11,10 +12,6 @@ use Rattle.narrowed_bases.specs.declared.errors.NarrowError.{NarrowError}
 use Rattle.narrowed_bases.specs.declared.errors.NarrowError.TheVariants.{TooLarge, Memory}
 use Rattle.narrowed_bases.specs.declared.narrowings.Narrowing.{Narrowing}
 use Rattle.narrowed_bases.specs.declared.narrowings.Narrowing.TheVariants.{Plain, Narrowed, Contradiction}
-
--- the greatest weight of what narrowed data leave open, and of a knowledge base whose data are not narrowed
-abbrev pub open_limit : ℕ
-open_limit = 4000000
 
 -- what the data are narrowed to: nothing is done where the whole weight is within the limit of what may be open
 abbrev pub IsNarrowing : Base → Narrowing → Type 0

@@ -6,7 +6,8 @@ ghost use Rattle.type_derivation.specs.TypedViews.{typed_view};
 ghost use Rattle.def_ground.specs.Groundings.{IsGroundTheory, TermsAreBounded};
 ghost use Rattle.open_sizes.specs.Fits.{WeighingFits};
 ghost use Rattle.open_sizes.specs.OpenWeights.{open_weight, terms_in};
-ghost use Rattle.narrowed_bases.specs.Narrowings.{IsNarrowing, IsLight, IsTooOpen, open_limit};
+ghost use Rattle.reading_stages.specs.SizesStage.{open_limit};
+ghost use Rattle.narrowed_bases.specs.Narrowings.{IsNarrowing, IsLight, IsTooOpen};
 ghost use Rattle.narrowed_bases.specs.declared.errors.NarrowError.TheVariants.{TooLarge};
 ghost use Rattle.narrowed_bases.specs.declared.narrowings.Narrowing.TheVariants.{Narrowed};
 

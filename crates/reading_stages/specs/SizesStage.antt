@@ -83,7 +83,11 @@ atom_limit = 2000000
 
 -- the greatest weight
 abbrev pub weight_limit : ℕ
-weight_limit = 4000000
+weight_limit = 64000000
+
+-- the greatest weight of what narrowed data leave open, and of a knowledge base whose data are not narrowed
+abbrev pub open_limit : ℕ
+open_limit = 4000000
 
 -- a term's bounds are too wide
 abbrev pub is_unbounded : SizeUse → Bool

@@ -186,11 +186,11 @@ pub record SizesAreWorkedOut : Type 0 where
   -- limit is refused
   pub few_atoms : refused_by_atoms two_areas ≡ None
   pub too_many_atoms : refused_by_atoms many_areas ≡ Some (refusal k.TooLarge 72)
-  -- 4 * (1 + 100 + 10,000 + 1,000,000) and the atoms are above 4,000,000, with 99 elements they are below
-  pub too_heavy : refused_sentence three_deep [] (up_to 100) ≡ Some (refusal k.TooLarge 50)
-  pub light_enough : refused_sentence three_deep [] (up_to 99) ≡ None
+  -- 4 * (1 + 252 + 63,504 + 16,003,008) and the atoms are above 64,000,000, with 251 elements they are below
+  pub too_heavy : refused_sentence three_deep [] (up_to 252) ≡ Some (refusal k.TooLarge 50)
+  pub light_enough : refused_sentence three_deep [] (up_to 251) ≡ None
   -- the theory that is not chosen is not looked at
-  pub not_chosen : refused_second three_deep [] (up_to 100) ≡ None
+  pub not_chosen : refused_second three_deep [] (up_to 252) ≡ None
   -- c * c is at most 10 ^ 12, c * c * c is 10 ^ 18
   pub small_product : refused (times (c ∷ c ∷ [])) (70 ∷ 70 ∷ 74 ∷ []) million ≡ None
   pub large_product : refused (times (c ∷ c ∷ c ∷ [])) (70 ∷ 70 ∷ 74 ∷ 78 ∷ []) million ≡ Some (refusal k.OutOfRange 70)

@@ -28,8 +28,9 @@ use Rattle.derivation_log.specs.Steps.{CheckState, LogStep, Accepts, AreAtoms, I
 use Rattle.term_values.specs.GroundBases.{structure_of}
 use Rattle.term_values.specs.KnownBases.{IsGroundBase}
 use Rattle.term_values.proofs.TypedLaws.{domains-ground}
-use Rattle.def_ground.specs.Groundings.{IsGroundTheory, IsGroundingOf, theory_problem}
+use Rattle.def_ground.specs.Groundings.{IsGroundTheory, IsGroundingOf}
 use Rattle.def_ground.proofs.StartLaws.{atoms-length}
+use Rattle.narrowed_bases.specs.Narrowings.{IsProblemOf}
 use Rattle.atom_numbers.specs.Numbers.{HasNumber}
 use Rattle.atom_numbers.proofs.LiteralFacts.{all-true, true-holds}
 use Rattle.verified_claims.specs.declared.said.SaidClaim.TheVariants.{Inconsistent, Forced, Least}
@@ -135,11 +136,11 @@ module _ (base : Base) (p : ProblemState) (g : IsGroundingOf base p) (fine : IsG
       (slice_get_cases base.terms term).1)
 
 -- the accepted claims of a log over a grounding
-pub are-claims : (base : Base) (p : ProblemState) (log : List ℕ) (claims : List Claim) → p ≡ theory_problem base
+pub are-claims : (base : Base) (p : ProblemState) (log : List ℕ) (claims : List Claim) → IsProblemOf base p
     → IsGroundTheory base → IsGroundingOf base p → IsAccepted p log claims → All (ClaimHolds p) claims
     → AreClaimsOf base log claims
 are-claims base p log claims is theory g accepted holds = record {
-  accepted = subst (λ (q : ProblemState). IsAccepted q log claims) is accepted;
+  accepted = (p, is, accepted);
   over = λ k d lt. of-over p (atom_count base) size _ (of k d lt);
   right = λ k d lt. is-right base p g fine _ (of k d lt) (holds k d lt);
 }

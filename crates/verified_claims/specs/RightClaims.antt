@@ -6,11 +6,10 @@ use Rattle.kb_logic.specs.Structures.{EachWith}
 use Rattle.ground_core.specs.Problems.{IsLitOf, AreLitsOf}
 use Rattle.derivation_log.specs.declared.claims.Claim.{Claim}
 use Rattle.derivation_log.specs.declared.claims.Claim.TheVariants as claim
-use Rattle.derivation_log.specs.Checks.{IsAccepted}
-use Rattle.def_ground.specs.Groundings.{theory_problem}
 use Rattle.verified_claims.specs.declared.said.SaidClaim.{SaidClaim}
 use Rattle.verified_claims.specs.SaidClaims.{Says, IsTrueOf}
 use Rattle.verified_claims.specs.ClaimLines.{claim_line, verdict_text}
+use Rattle.verified_claims.specs.Verdicts.{IsAcceptedOver}
 
 -- the claim speaks of the first n variables, and of a term, counted from 1
 abbrev pub IsOver : ℕ → Claim → Type 0
@@ -27,7 +26,7 @@ IsRight base c = (s : SaidClaim) → Says base c s → IsTrueOf base s
 
 -- the claims of the log, all of ground atoms, and true
 pub record AreClaimsOf (base : Base) (log : List ℕ) (claims : List Claim) : Type 0 where
-  pub accepted : IsAccepted (theory_problem base) log claims
+  pub accepted : IsAcceptedOver base log claims
   pub over : All (IsOver (atom_count base)) claims
   pub right : All (IsRight base) claims
 

@@ -2,7 +2,8 @@
 ghost use Rattle.std.specs.Prelude.{◌≡◌, IfOk, IfErr};
 ghost use Rattle.consult_base.specs.Opened.{base_of};
 ghost use Rattle.kb_logic.specs.Bases.{Base};
-ghost use Rattle.def_ground.specs.Groundings.{IsGroundTheory, IsGroundingOf, theory_problem};
+ghost use Rattle.def_ground.specs.Groundings.{IsGroundTheory, IsGroundingOf};
+ghost use Rattle.narrowed_bases.specs.Narrowings.{IsProblemOf};
 ghost use Rattle.verified_claims.specs.Verdicts.{IsLogError};
 ghost use Rattle.verified_claims.specs.RightClaims.{AreClaimsOf};
 
@@ -15,10 +16,10 @@ use std::alloc::Global;
 
 /// The claims of a log over the ground problem of a knowledge base.
 fn claims_over(alloc: Global, problem: &Problem, log: &[u8]) -> Result<Claims, LogError>
-    ensures claims { IfOk result (λ claims. (base : Base) → problem.now ≡ theory_problem base
-        → IsGroundTheory base → IsGroundingOf base problem.now → AreClaimsOf base log.now claims.list) }
-    ensures error { IfErr result (λ error. (base : Base) → problem.now ≡ theory_problem base
-        → IsLogError base log.now error) }
+    ensures claims { IfOk result (λ claims. (base : Base) → IsProblemOf base problem.now → IsGroundTheory base
+        → IsGroundingOf base problem.now → AreClaimsOf base log.now claims.list) }
+    ensures error { IfErr result (λ error. (base : Base) → IsProblemOf base problem.now → IsLogError base log.now
+        error) }
 {
     match verify(alloc, problem, log) {
         Ok(claims) => Ok(claims),
@@ -34,7 +35,7 @@ pub(crate) fn claims_of(alloc: Global, kb: &KnowledgeBase, log: &[u8]) -> Result
     ensures claims { IfOk result (λ claims. AreClaimsOf (base_of kb.now) log.now claims.list) }
     ensures error { IfErr result (IsLogError (base_of kb.now) log.now) }
 {
-    let Ok(problem) = ground(alloc, kb.typed(), kb.theory(), kb.data()) else {
+    let Ok(problem) = ground(alloc, kb.typed(), kb.theory(), kb.data(), kb.narrowing()) else {
         return Err(LogError::Memory);
     };
     claims_over(alloc, &problem, log)

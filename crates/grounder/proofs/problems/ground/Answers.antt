@@ -1,72 +1,37 @@
-use Rattle.std.proofs.Common.{◌≡◌, [], map, ap, sym, subst}
-use Rattle.std.specs.List.{AllByRecursion}
+use Rattle.std.proofs.Common.{◌≤◌, sym, subst}
 use Rattle.kb_logic.specs.Bases.{Base}
-use Rattle.kb_logic.specs.Trees.{TheoryTree}
-use Rattle.kb_logic.specs.Views.{theory_view}
-use Rattle.reading_stages.specs.FileBases.{base_of_file, named_term}
-use Rattle.type_derivation.specs.TypedViews.{named_term_view, typed_view}
-use Rattle.def_ground.specs.Groundings.{ground_base}
-use Rattle.ground_walk.specs.Groundable.{IsGroundable}
-use Rattle.definition_walk.specs.Steps.{CanBeGround}
-use Rattle.grounder.proofs.Theories.{problem-says-no-bounds, problem-right, problem-small, problem-in-range}
-use Rattle.grounder.proofs.Theories.{problem-value, theory-groundable, rules-groundable, terms-askable}
+use Rattle.reading_stages.specs.FileBases.{base_of_file}
+use Rattle.type_derivation.specs.TypedViews.{typed_view}
+use Rattle.open_sizes.specs.OpenWeights.{base_weight}
+use Rattle.ground_core.specs.Meaning.{HasTermsInRange}
+use Rattle.ground_core.specs.Problems.{ProblemState}
+use Rattle.def_ground.specs.Groundings.{IsGroundingOf, HasNoBounds}
+use Rattle.theory_laws.proofs.ProblemLaws.{problem-has-no-bounds}
+use Rattle.narrowed_bases.specs.Narrowings.{grounded_base}
+use Rattle.narrowed_bases.proofs.Right.{narrowed_is_right}
+use Rattle.narrowed_bases.proofs.Small.{narrowed_is_in_range, narrowed_is_small}
 use Rattle.grounder.proofs.problems.ground.Goals as goal
-
-pub problem-requires-clause-fits : goal.problem-requires-clause-fits
-problem-requires-clause-fits c =
-    let base : Base = base_of_file (typed_view c.args.kb.now) c.args.theory c.args.known.now in
-    subst (λ (t : TheoryTree). AllByRecursion (λ f. IsGroundable (ground_base base) f []) t.sentences)
-    (sym c.theory_of.ensures) (theory-groundable base c.requires.typed c.requires.bounded)
-
-pub problem-requires-clause-rules : goal.problem-requires-clause-rules
-problem-requires-clause-rules c =
-    let base : Base = base_of_file (typed_view c.args.kb.now) c.args.theory c.args.known.now in
-    subst (λ (t : TheoryTree). AllByRecursion (λ d. AllByRecursion (CanBeGround (ground_base base)) d.rules)
-    t.definitions) (sym c.theory_of.ensures) (rules-groundable base c.requires.typed c.requires.bounded)
-
-pub problem-requires-clause-asked : goal.problem-requires-clause-asked
-problem-requires-clause-asked c =
-    let base : Base = base_of_file (typed_view c.args.kb.now) c.args.theory c.args.known.now in
-    rw c.as_slice-terms.ensures (terms-askable base c.requires.typed c.requires.asked)
-
-pub returns-in-Ok-clause-value : goal.returns-in-Ok-clause-value
-returns-in-Ok-clause-value c =
-    let base : Base = base_of_file (typed_view c.args.kb.now) c.args.theory c.args.known.now in
-    let ts = map named_term (map named_term_view c.as_slice-terms.result.now) in
-    let alike : ts ≡ base.terms = ap (λ us. map named_term (map named_term_view us)) c.as_slice-terms.ensures in
-    problem-value base c.requires.typed (theory_view c.theory_of.result.now) ts c.theory_of.ensures alike c.in-Ok.made
-    c.in-Ok.ensures
 
 pub returns-in-Ok-clause-right : goal.returns-in-Ok-clause-right
 returns-in-Ok-clause-right c =
     let base : Base = base_of_file (typed_view c.args.kb.now) c.args.theory c.args.known.now in
-    let ts = map named_term (map named_term_view c.as_slice-terms.result.now) in
-    let alike : ts ≡ base.terms = ap (λ us. map named_term (map named_term_view us)) c.as_slice-terms.ensures in
-    problem-right base c.requires.typed (theory_view c.theory_of.result.now) ts c.theory_of.ensures alike c.in-Ok.made
-    c.in-Ok.ensures
-
-pub returns-in-Ok-clause-small : goal.returns-in-Ok-clause-small
-returns-in-Ok-clause-small c =
-    let base : Base = base_of_file (typed_view c.args.kb.now) c.args.theory c.args.known.now in
-    let ts = map named_term (map named_term_view c.as_slice-terms.result.now) in
-    let alike : ts ≡ base.terms = ap (λ us. map named_term (map named_term_view us)) c.as_slice-terms.ensures in
-    problem-small base c.requires.typed (theory_view c.theory_of.result.now) ts c.theory_of.ensures alike c.in-Ok.made
-    c.in-Ok.ensures
+    subst (λ (p : ProblemState). IsGroundingOf base p) (sym c.in-Ok.ensures)
+    (narrowed_is_right base c.args.narrowing.now c.requires.typed c.requires.narrowing)
 
 pub returns-in-Ok-clause-bounds : goal.returns-in-Ok-clause-bounds
 returns-in-Ok-clause-bounds c =
     let base : Base = base_of_file (typed_view c.args.kb.now) c.args.theory c.args.known.now in
-    let ts = map named_term (map named_term_view c.as_slice-terms.result.now) in
-    let alike : ts ≡ base.terms = ap (λ us. map named_term (map named_term_view us)) c.as_slice-terms.ensures in
-    problem-says-no-bounds base c.requires.typed
-    (theory_view c.theory_of.result.now) ts c.theory_of.ensures alike c.in-Ok.made
-    c.in-Ok.ensures
+    subst (λ (p : ProblemState). HasNoBounds p) (sym c.in-Ok.ensures)
+    (problem-has-no-bounds (grounded_base base c.args.narrowing.now))
 
 pub returns-in-Ok-clause-range : goal.returns-in-Ok-clause-range
 returns-in-Ok-clause-range c =
     let base : Base = base_of_file (typed_view c.args.kb.now) c.args.theory c.args.known.now in
-    let ts = map named_term (map named_term_view c.as_slice-terms.result.now) in
-    let alike : ts ≡ base.terms = ap (λ us. map named_term (map named_term_view us)) c.as_slice-terms.ensures in
-    problem-in-range base c.requires.typed
-    (theory_view c.theory_of.result.now) ts c.theory_of.ensures alike c.in-Ok.made
-    c.in-Ok.ensures c.requires.asked
+    subst (λ (p : ProblemState). HasTermsInRange p) (sym c.in-Ok.ensures)
+    (narrowed_is_in_range base c.args.narrowing.now c.requires.typed c.requires.narrowing c.requires.asked)
+
+pub returns-in-Ok-clause-small : goal.returns-in-Ok-clause-small
+returns-in-Ok-clause-small c =
+    let base : Base = base_of_file (typed_view c.args.kb.now) c.args.theory c.args.known.now in
+    subst (λ (p : ProblemState). p.vars ≤ base_weight base) (sym c.in-Ok.ensures)
+    (narrowed_is_small base c.args.narrowing.now c.requires.typed c.requires.narrowing)

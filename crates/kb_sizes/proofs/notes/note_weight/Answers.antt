@@ -31,7 +31,7 @@ returns c =
     let weight : c.weight-weight.result ≡ capped w = c.weight-weight.ensures
     ∙ ap (λ ts. capped (weight_of kb.vocab d (theory_view named.value)
     (map (λ t. t.term) (map named_term_view ts)))) c.as_slice.ensures in
-    let heavy : nat_lt 4000000 c.weight-weight.result ≡ nat_lt 4000000 w = ap (nat_lt 4000000) weight
+    let heavy : nat_lt 64000000 c.weight-weight.result ≡ nat_lt 64000000 w = ap (nat_lt 64000000) weight
     ∙ below_weight w in
     let chosen = one_chosen named_theory_view (weight_uses (typed_view kb) d) kb.theories kb.places.theories
     c.args.theory o named place (sym c.in-Some.ensures.value) (sym c.in-Some-get.ensures.value) in
