@@ -19,7 +19,7 @@ use Rattle.consultant_session.specs.Laws.{SameLiteralIsEquality, ChosenIsMembers
 use Rattle.consultant_session.specs.Laws.{ChoicesStayDistinct, BudgetStays, OppositeChoicesHaveNoModel, opposite}
 use Rattle.kb_logic.specs.Models.{HoldsIn}
 use Rattle.consultant_session.proofs.MemberLemmas.{all_at, contains_filter, filter_contains}
-use Rattle.consultant_session.proofs.LiteralLemmas.{same_literal_decides, opposites_clash}
+use Rattle.kept_answers.proofs.LiteralLemmas.{same_literal_decides, opposites_clash}
 
 pub same_literal_is_equality : SameLiteralIsEquality
 same_literal_is_equality a b = same_literal_decides a b

@@ -1,6 +1,4 @@
 pub mod MemberLemmas
-pub mod ElementLemmas
-pub mod LiteralLemmas
 pub mod ChoiceLemmas
 pub mod KnownLemmas
 pub mod SolverLemmas
@@ -8,5 +6,8 @@ pub mod QueryLemmas
 pub mod MinimumLemmas
 pub mod OpenLemmas
 pub mod FoundLemmas
+pub mod StepLemmas
+pub mod KeptAnswers
+pub mod ReplyLemmas
 pub mod LiteralsOver
 pub mod ForcedReplies

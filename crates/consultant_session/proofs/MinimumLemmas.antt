@@ -73,9 +73,9 @@ spans kb numbers p n is few = spans_at kb p n is.represents few (slice_get kb.te
 -- a query whose searches are counted by each knowledge base of which it is a task halts, undecided at less than what is
 -- enough for it
 pub halts_by : (Of : Base → Type 0) (choices : List Literal) {c : Command} {budget : Option ℕ}
-    {numbers numbers' : GroundBase} {old mid new : SolveState} {b spent : Budget}
+    {numbers numbers' : GroundBase} {old new : SolveState} {b spent : Budget}
     → ((kb : Base) → Of kb
-    → IsCalled (searches kb (record { choices = choices; budget = budget }) c) c budget numbers numbers' old mid new b
+    → IsCalled (searches kb (record { choices = choices; budget = budget }) c) c budget numbers numbers' old new b
     spent)
     → (kb : Base) → Of kb → (h : Halt) (result : Result Reply Memory) → HaltedAt spent h → IsHalted h spent result
     → QueryEnds Of c choices budget numbers numbers' old new result
@@ -88,6 +88,7 @@ halts_by Of choices {c} {budget} called kb of h result at is =
     record {
       right = λ k of_k small. (each k of_k).right k refl small;
       task = one.task;
+      refuted = one.refuted;
       learns = one.learns;
       kept = one.kept;
       free = one.free;

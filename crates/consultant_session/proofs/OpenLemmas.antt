@@ -1,6 +1,6 @@
 -- The atoms that the data leave unknown.
 use Rattle.std.proofs.Common.{◌≡◌, ◌∙◌, ℕ, ◌+◌, ◌≤◌, Bool, true, false, cond, List, [], ◌∷◌, length, map, sym, ap}
-use Rattle.std.proofs.Common.{suc, subst, arith, filter, min, ◌-◌, ◌^◌}
+use Rattle.std.proofs.Common.{suc, subst, arith, filter, min, ◌-◌, ◌^◌, not}
 use Rattle.std.proofs.lemmas.List.Elements.{All-nil}
 use Rattle.kb_logic.specs.declared.elements.Elem.{Elem}
 use Rattle.kb_logic.specs.declared.vocabularies.Vocabulary.{Vocabulary}
@@ -17,6 +17,8 @@ use Rattle.kb_logic.specs.KnownAtoms.{atoms_over}
 use Rattle.kb_logic.specs.Models.{GroundAtom}
 use Rattle.lit_core.specs.declared.literals.Lit.{Lit}
 use Rattle.ground_core.specs.Problems.{ProblemState}
+use Rattle.consequences.specs.declared.kept.Kept.{Kept}
+use Rattle.kept_supports.specs.Supports.{is_decided, undecided}
 use Rattle.partial_structures.specs.KnownAtoms.{value_at}
 use Rattle.term_values.specs.GroundBases.{GroundBase}
 use Rattle.atom_numbers.specs.Numbers.{HasNumber}
@@ -34,16 +36,6 @@ open-task kb b p lits task is = record {
   data_of = is.data_of;
   listed = is.listed;
   unknown = subst (λ (x : GroundBase). AreOpen x kb.known lits) (sym task.numbers) is.unknown;
-}
-
--- what stays a task, stays one of the same unknown atoms
-pub still-open : (kb : Base) (b b' : GroundBase) (p p' : ProblemState) (lits : List Lit) → b' ≡ b
-    → (IsTaskOf kb b p → IsTaskOf kb b' p') → IsOpenTaskOf kb b p lits → IsOpenTaskOf kb b' p' lits
-still-open kb b b' p p' lits same task is = record {
-  task = task is.task;
-  data_of = is.data_of;
-  listed = is.listed;
-  unknown = subst (λ (x : GroundBase). AreOpen x kb.known lits) (sym same) is.unknown;
 }
 
 filter_shorter : {A : Type 0} (test : A → Bool) (xs : List A) → length (filter test xs) ≤ length xs
@@ -69,6 +61,13 @@ few-unknown kb b p lits is =
       length-map (unknown_atoms kb.known) (literal_with true),
       filter_shorter (λ a. is_unknown (value_at kb.known a)) atoms,
     )
+
+-- nor are those of which nothing is kept
+pub few-undecided : (kb : Base) (b : GroundBase) (p : ProblemState) (lits : List Lit) (ks : List Kept)
+    → IsOpenTaskOf kb b p lits
+    → length (undecided ks lits) + 1 ≤ length (atoms_over kb.vocabulary.symbols kb.known.domains) + 1
+few-undecided kb b p lits ks is =
+    omega (arith, filter_shorter (λ l. not (is_decided ks l)) lits, few-unknown kb b p lits is)
 
 -- the count of the ground atoms, as far as 64 bits go
 pub enough-kept : (kb : Base) (v : Vocabulary) (domains : List (List Elem)) (n : ℕ) → v ≡ kb.vocabulary

@@ -1,6 +1,6 @@
 -- How queries of a task end, and what commands learn.
 use Rattle.std.proofs.Common.{◌≡◌, ◌∙◌, ℕ, ◌+◌, ◌-◌, ◌*◌, ◌^◌, ◌<◌, ◌≤◌, List, [], length, refl, sym, ap, subst}
-use Rattle.std.proofs.Common.{arith}
+use Rattle.std.proofs.Common.{arith, inl, inr}
 use Rattle.std.proofs.Common.{Option, Some, None, Result, Ok, Err, IfOk, IfSome}
 use Rattle.std.specs.declared.alloc.AllocError.{AllocError as Memory}
 use Rattle.std.proofs.lemmas.Nat.{mul-le, pow_pos}
@@ -15,9 +15,8 @@ use Rattle.ground_core.specs.declared.solving.Halt.{Halt}
 use Rattle.ground_core.specs.declared.solving.Halt.TheVariants as halt
 use Rattle.ground_core.specs.Solving.{SolveState, HaltedAt, IsBudgetOf, IsKept}
 use Rattle.ground_core.specs.Calls.{CallEnds}
-use Rattle.ground_task.specs.Tasks.{IsTaskOf}
-use Rattle.clause_learning.specs.SolverState.{forgotten}
-use Rattle.clause_learning.specs.GoingOn.{prefix-itself}
+use Rattle.ground_task.specs.Tasks.{IsTaskOf, atom_base}
+use Rattle.clause_learning.specs.GoingOn.{prefix-same}
 use Rattle.consult_text.specs.declared.commands.Command.{Command}
 use Rattle.consult_text.specs.declared.commands.Command.TheVariants as command
 use Rattle.consult_text.specs.declared.refusals.F.{F}
@@ -28,7 +27,9 @@ use Rattle.consult_text.specs.Replies.{IsQuery, IsAnswerTo}
 use Rattle.consult_text.specs.RightReplies.{RightAnswer, RightUnless}
 use Rattle.consult_text.specs.Searches.{weight, searches}
 use Rattle.consultant_session.specs.Solvers.{IsSolverOf, IsTaskOver}
-use Rattle.consultant_session.specs.Queries.{left_by, Learns, Searches, IsSearched, IsHalted, QueryEnds}
+use Rattle.consultant_session.specs.Queries.{left_by, most_additions, MayOpenAnew, IsLeft, IsKeptOrNew, Learns}
+use Rattle.consultant_session.specs.Queries.{Searches}
+use Rattle.consultant_session.specs.Queries.{IsSearched, IsHalted, QueryEnds, Refutes}
 use Rattle.consultant_session.proofs.SolverLemmas.{solver-of}
 
 -- at most m searches with at most so many free variables are no more than these
@@ -54,51 +55,44 @@ unspent_budget budget learnt b begun = subst (IsBudgetOf learnt) (sym begun) (re
     within None = tt
     within (Some n) = omega arith
 
--- a query is begun, and asks its task once: for at most n searches
+-- a query asks its task once: for at most n searches
 pub record IsCalled (n : ℕ) (c : Command) (budget : Option ℕ) (numbers numbers' : GroundBase)
-    (old mid new : SolveState) (b spent : Budget) : Type 0 where
+    (old new : SolveState) (b spent : Budget) : Type 0 where
   pub query : IsQuery c
-  pub empty : left_by c old.learnt ≡ []
-  pub forgot : mid ≡ forgotten old
   pub begun : b ≡ record { limit = budget; spent = 0 }
-  pub ends : CallEnds n mid new b spent
+  pub ends : CallEnds n old new b spent
   pub task : (kb : Base) → IsTaskOf kb numbers old.problem → IsTaskOf kb numbers' new.problem
 
 module _ (Of : Base → Type 0) (choices : List Literal) {n : ℕ} {c : Command} {budget : Option ℕ}
-    {numbers numbers' : GroundBase} {old mid new : SolveState} {b spent : Budget}
-    (called : IsCalled n c budget numbers numbers' old mid new b spent) where
+    {numbers numbers' : GroundBase} {old new : SolveState} {b spent : Budget}
+    (called : IsCalled n c budget numbers numbers' old new b spent) where
   unspent : b.spent ≡ 0
   unspent = ap (λ (x : Budget). x.spent) called.begun
 
   limited : spent.limit ≡ budget
   limited = called.ends.keeps.limit ∙ ap (λ (x : Budget). x.limit) called.begun
 
-  learnt_is : length new.learnt ≡ spent.spent
-  learnt_is =
-      omega (arith, called.ends.keeps.growth, unspent, ap (λ (s : SolveState). length s.learnt) called.forgot)
+  learnt_is : length new.learnt ≡ length old.learnt + spent.spent
+  learnt_is = omega (arith, called.ends.keeps.growth, unspent)
 
   few : spent.spent < n * 2 ^ (old.free + n)
-  few =
-      let free : mid.free ≡ old.free = ap (λ (s : SolveState). s.free) called.forgot in
-      let less : spent.spent - b.spent < n * 2 ^ (old.free + n) =
-      subst (λ (k : ℕ). spent.spent - b.spent < n * 2 ^ (k + n)) free called.ends.costs.spent in
-      omega (arith, less, unspent)
+  few = omega (arith, called.ends.costs.spent, unspent)
 
   within : (o : Option ℕ) → IfSome o (λ most. spent.spent ≤ most)
-      → IfSome o (λ most. length new.learnt ≤ length (left_by c old.learnt) + most)
+      → IfSome o (λ most. length new.learnt ≤ length old.learnt + most)
   within None is = tt
   within (Some most) is = omega (arith, is, learnt_is)
 
   counted : (result : Result Reply Memory) → IfOk result (λ r. (k : ℕ) → r ≡ reply.Undecided k → k ≡ spent.spent)
-      → IfOk result (λ r. (k : ℕ) → r ≡ reply.Undecided k → length new.learnt ≡ length (left_by c old.learnt) + k)
-  counted (Ok r) is = λ k same.
-      omega (arith, learnt_is, is k same, ap (λ (ls : List (List Lit)). length ls) called.empty)
+      → IfOk result (λ r. (k : ℕ) → r ≡ reply.Undecided k → length new.learnt ≡ length old.learnt + k)
+  counted (Ok r) is = λ k same. omega (arith, learnt_is, is k same)
   counted (Err e) is = tt
 
   learns : (result : Result Reply Memory) → IfOk result (λ r. (k : ℕ) → r ≡ reply.Undecided k → k ≡ spent.spent)
-      → Learns c budget result old.learnt new.learnt
+      → Learns c budget result old new
   learns result undecided = record {
-    front = subst (λ (ls : List (List Lit)). IsPrefix ls new.learnt) (sym called.empty) (new.learnt, refl);
+    front = called.ends.keeps.learnt;
+    cores = called.ends.keeps.cores;
     within = within budget
         (subst (λ (o : Option ℕ). IfSome o (λ most. spent.spent ≤ most)) limited called.ends.keeps.within);
     undecided = counted result undecided;
@@ -106,23 +100,26 @@ module _ (Of : Base → Type 0) (choices : List Literal) {n : ℕ} {c : Command}
   }
 
   ended : (result : Result Reply Memory) → IfOk result (λ r. (k : ℕ) → r ≡ reply.Undecided k → k ≡ spent.spent)
+      → IfOk result (Refutes numbers choices new.cores)
       → ((kb : Base) → Of kb → old.free ≤ weight kb
       → IfOk result (RightAnswer kb (record { choices = choices; budget = budget }) c))
       → QueryEnds Of c choices budget numbers numbers' old new result
-  ended result undecided right = record {
+  ended result undecided refuted right = record {
     right = right;
     task = called.task;
+    refuted = refuted;
     learns = learns result undecided;
     kept = called.ends.kept;
-    free = called.ends.free ∙ ap (λ (s : SolveState). s.free) called.forgot;
+    free = called.ends.free;
   }
 
   -- it ends with a reply that decides it
-  pub found : (r : Reply) → ((k : ℕ) → r ≡ reply.Undecided k → ⊥)
+  pub found : (r : Reply) → ((k : ℕ) → r ≡ reply.Undecided k → ⊥) → Refutes numbers choices new.cores r
       → ((kb : Base) → Of kb
       → RightAnswer kb (record { choices = choices; budget = budget }) c r)
       → QueryEnds Of c choices budget numbers numbers' old new (Ok r)
-  found r decided right = ended (Ok r) (λ k is. absurd (decided k is)) (λ kb is few. right kb is)
+  found r decided refuted right =
+      ended (Ok r) (λ k is. absurd (decided k is)) refuted (λ kb is few. right kb is)
 
   -- or it halts, and is undecided at less than what is enough
   pub halts : (h : Halt) (result : Result Reply Memory) → HaltedAt spent h → IsHalted h spent result
@@ -131,6 +128,7 @@ module _ (Of : Base → Type 0) (choices : List Literal) {n : ℕ} {c : Command}
       → QueryEnds Of c choices budget numbers numbers' old new result
   halts halt.Spent (Ok r) at is fewer = ended (Ok r)
       (λ k same. let both : reply.Undecided k ≡ reply.Undecided spent.spent = sym same ∙ is in cc)
+      (subst (Refutes numbers choices new.cores) (sym is) tt)
       (λ kb task small. subst (RightAnswer kb (record { choices = choices; budget = budget }) c) (sym is) (
         called.query,
         (
@@ -141,7 +139,7 @@ module _ (Of : Base → Type 0) (choices : List Literal) {n : ℕ} {c : Command}
       ))
   halts halt.Spent (Err e) at is fewer = absurd is
   halts halt.Memory (Ok r) at is fewer = absurd is
-  halts halt.Memory (Err e) at is fewer = ended (Err e) tt (λ kb task small. tt)
+  halts halt.Memory (Err e) at is fewer = ended (Err e) tt tt (λ kb task small. tt)
 
 -- a query that stays undecided was searched for
 pub was_searched : (kb : Base) (c : Command) (budget : Option ℕ) (r : Reply) (old new : SolveState)
@@ -149,71 +147,68 @@ pub was_searched : (kb : Base) (c : Command) (budget : Option ℕ) (r : Reply) (
 was_searched kb c budget r old new is = λ k same. (new, is.solver, omega (arith, is.learns.undecided k same))
 
 -- nothing is learnt beyond what is left
-pub learns_nothing : (c : Command) (budget : Option ℕ) (result : Result Reply Memory) (old new : List (List Lit))
-    → left_by c old ≡ new → IfOk result (λ r. (k : ℕ) → r ≡ reply.Undecided k → ⊥) → Learns c budget result old new
-learns_nothing c budget result old new left decided = record {
-  front = subst (IsPrefix (left_by c old)) left (prefix-itself (left_by c old));
+pub learns_nothing : (c : Command) (budget : Option ℕ) (result : Result Reply Memory) (left new : SolveState)
+    → new.learnt ≡ left.learnt → new.cores ≡ left.cores → IfOk result (λ r. (k : ℕ) → r ≡ reply.Undecided k → ⊥)
+    → Learns c budget result left new
+learns_nothing c budget result left new learnt cores decided = record {
+  front = prefix-same left.learnt new.learnt learnt;
+  cores = prefix-same left.cores new.cores cores;
   within = within budget;
   undecided = counted result decided;
-  idle = λ other. sym left;
+  idle = λ other. (learnt, cores);
 }
   where
-    within : (o : Option ℕ) → IfSome o (λ most. length new ≤ length (left_by c old) + most)
+    within : (o : Option ℕ) → IfSome o (λ most. length new.learnt ≤ length left.learnt + most)
     within None = tt
-    within (Some most) = omega (arith, ap (λ (ls : List (List Lit)). length ls) left)
+    within (Some most) = omega (arith, ap (λ (ls : List (List Lit)). length ls) learnt)
 
     counted : (result : Result Reply Memory) → IfOk result (λ r. (k : ℕ) → r ≡ reply.Undecided k → ⊥)
-        → IfOk result (λ r. (k : ℕ) → r ≡ reply.Undecided k → length new ≡ length (left_by c old) + k)
+        → IfOk result (λ r. (k : ℕ) → r ≡ reply.Undecided k → length new.learnt ≡ length left.learnt + k)
     counted (Ok r) decided = λ k is. absurd (decided k is)
     counted (Err e) decided = tt
 
 -- and a command that is none learns nothing
 pub idle : (kb : Base) (c : Command) (budget : Option ℕ) (result : Result Reply Memory) (old new : SolveState)
-    → left_by c old.learnt ≡ new.learnt → IfOk result (λ r. (k : ℕ) → r ≡ reply.Undecided k → ⊥) → IsSolverOf kb new
+    → new.learnt ≡ left_by c old.learnt → new.cores ≡ left_by c old.cores
+    → IfOk result (λ r. (k : ℕ) → r ≡ reply.Undecided k → ⊥) → IsSolverOf kb new
     → Searches kb c budget result old new
-idle kb c budget result old new left decided is = record {
+idle kb c budget result old new learnt cores decided is = record {
   solver = is;
-  learns = learns_nothing c budget result old.learnt new.learnt left decided;
+  left = new;
+  from = inl (learnt, cores);
+  learns = learns_nothing c budget result new new refl refl decided;
 }
 
--- a query that ends without a search: what was learnt is given up, and nothing else happens
+-- a query that ends without a search: nothing happens
 pub unsearched : (Of : Base → Type 0) (choices : List Literal) {c : Command} {budget : Option ℕ}
-    {numbers numbers' : GroundBase} {old new : SolveState} → left_by c old.learnt ≡ [] → new ≡ forgotten old
-    → ((kb : Base) → IsTaskOf kb numbers old.problem → IsTaskOf kb numbers' new.problem) → IsKept new
+    {numbers : GroundBase} {old : SolveState} → IsKept old
     → (result : Result Reply Memory) → IfOk result (λ r. (k : ℕ) → r ≡ reply.Undecided k → ⊥)
+    → IfOk result (Refutes numbers choices old.cores)
     → ((kb : Base) → Of kb → IfOk result (RightAnswer kb (record { choices = choices; budget = budget }) c))
-    → QueryEnds Of c choices budget numbers numbers' old new result
-unsearched Of choices {c} {budget} {numbers} {numbers'} {old} {new} empty forgot task kept result decided right =
+    → QueryEnds Of c choices budget numbers numbers old old result
+unsearched Of choices {c} {budget} {numbers} {old} kept result decided refuted right =
     record {
       right = λ kb is few. right kb is;
-      task = task;
-      learns = learns_nothing c budget result old.learnt new.learnt
-          (empty ∙ sym (ap (λ (s : SolveState). s.learnt) forgot)) decided;
+      task = λ kb is. is;
+      refuted = refuted;
+      learns = learns_nothing c budget result old old refl refl decided;
       kept = kept;
-      free = ap (λ (s : SolveState). s.free) forgot;
+      free = refl;
     }
 
--- how `model` ends where it goes on after what was learnt was given up
-pub after_forgetting : (Of Of' : Base → Type 0) (choices : List Literal) {budget : Option ℕ}
-    {numbers numbers' numbers'' : GroundBase} {old mid new : SolveState} {result : Result Reply Memory}
-    → mid ≡ forgotten old → ((kb : Base) → Of kb → Of' kb)
-    → ((kb : Base) → IsTaskOf kb numbers old.problem → IsTaskOf kb numbers' mid.problem)
-    → QueryEnds Of' command.Model choices budget numbers' numbers'' mid new result
-    → QueryEnds Of command.Model choices budget numbers numbers'' old new result
-after_forgetting Of Of' choices {old = old} {mid = mid} forgot of task ends =
-    let free : mid.free ≡ old.free = ap (λ (s : SolveState). s.free) forgot in
-    record {
-      right = λ kb is few. ends.right kb (of kb is) (subst (λ (n : ℕ). n ≤ weight kb) (sym free) few);
-      task = λ kb is. ends.task kb (task kb is);
-      learns = record {
-        front = ends.learns.front;
-        within = ends.learns.within;
-        undecided = ends.learns.undecided;
-        idle = ends.learns.idle;
-      };
-      kept = ends.kept;
-      free = ends.free ∙ free;
-    }
+-- what ends so for each knowledge base of one kind, does for those of a narrower kind
+pub narrower : (Of Of' : Base → Type 0) (choices : List Literal) {c : Command} {budget : Option ℕ}
+    {numbers numbers' : GroundBase} {old new : SolveState} {result : Result Reply Memory}
+    → ((kb : Base) → Of kb → Of' kb) → QueryEnds Of' c choices budget numbers numbers' old new result
+    → QueryEnds Of c choices budget numbers numbers' old new result
+narrower Of Of' choices of ends = record {
+  right = λ kb is few. ends.right kb (of kb is) few;
+  task = ends.task;
+  refuted = ends.refuted;
+  learns = ends.learns;
+  kept = ends.kept;
+  free = ends.free;
+}
 
 -- a right reply to a command that is no query leaves nothing undecided
 pub decides : (f : Option F) (kb : Base) (s : State) (c : Command) (r : Reply) → (IsQuery c → ⊥)
@@ -232,28 +227,30 @@ still_over Of kb c choices budget numbers numbers' old new result ends is = reco
   free = subst (λ (n : ℕ). n ≤ weight kb) (sym ends.free) is.free;
 }
 
+-- what stays of what a command finds, where the task is as it was, or opened anew
+pub left_of : (c : Command) (old mid : SolveState) → (left_by c old.learnt ≡ old.learnt)
+    → (left_by c old.cores ≡ old.cores) → (most_additions < length old.additions → MayOpenAnew c old)
+    → IsKeptOrNew old mid → IsLeft c old mid
+left_of c old mid learnt cores may (inl same) =
+    inl (ap (λ (s : SolveState). s.learnt) same ∙ sym learnt, ap (λ (s : SolveState). s.cores) same ∙ sym cores)
+left_of c old mid learnt cores may (inr new) = inr (may new.0, new.1, new.2)
+
 -- and what the query did to its solver
 pub query_searches : (Of : Base → Type 0) (kb : Base) (c : Command) (choices : List Literal) (budget : Option ℕ)
-    (numbers numbers' : GroundBase) (old new : SolveState) (result : Result Reply Memory)
-    → QueryEnds Of c choices budget numbers numbers' old new result → IsTaskOver kb numbers old
+    (numbers numbers' : GroundBase) (old mid new : SolveState) (result : Result Reply Memory) → IsLeft c old mid
+    → QueryEnds Of c choices budget numbers numbers' mid new result → IsTaskOver kb numbers mid
     → Searches kb c budget result old new
-query_searches Of kb c choices budget numbers numbers' old new result ends is = record {
-  solver = solver-of kb numbers' new (still_over Of kb c choices budget numbers numbers' old new result ends is);
+query_searches Of kb c choices budget numbers numbers' old mid new result left ends is = record {
+  solver = solver-of kb numbers' new (still_over Of kb c choices budget numbers numbers' mid new result ends is);
+  left = mid;
+  from = left;
   learns = ends.learns;
 }
 
--- what a query did from a solver that was made ready for it
-pub renewed_searches : (kb : Base) (c : Command) (budget : Option ℕ) (result : Result Reply Memory)
-    (old mid new : SolveState) → left_by c mid.learnt ≡ left_by c old.learnt → Searches kb c budget result mid new
-    → Searches kb c budget result old new
-renewed_searches kb c budget result old mid new same is = record {
-  solver = is.solver;
-  learns = record {
-    front = subst (λ (ls : List (List Lit)). IsPrefix ls new.learnt) same is.learns.front;
-    within = subst (λ (ls : List (List Lit)). IfSome budget (λ most. length new.learnt ≤ length ls + most)) same
-        is.learns.within;
-    undecided = subst (λ (ls : List (List Lit)). IfOk result (λ r. (k : ℕ) → r ≡ reply.Undecided k
-        → length new.learnt ≡ length ls + k)) same is.learns.undecided;
-    idle = λ other. is.learns.idle other ∙ same;
-  };
-}
+-- that there is no model is shown in the knowledge base's own numbers
+pub refuted_by : (kb : Base) (numbers : GroundBase) (choices choices' : List Literal) (cores : List (List Lit))
+    (result : Result Reply Memory) → numbers ≡ atom_base kb → choices ≡ choices'
+    → IfOk result (Refutes numbers choices cores) → IfOk result (Refutes (atom_base kb) choices' cores)
+refuted_by kb numbers choices choices' cores result same is refuted =
+    subst (λ (ls : List Literal). IfOk result (Refutes (atom_base kb) ls cores)) is
+    (subst (λ (b : GroundBase). IfOk result (Refutes b choices cores)) same refuted)

@@ -47,3 +47,7 @@ solver-of kb numbers s is = record {
   task = subst (λ (b : GroundBase). IsTaskOf kb b s.problem) is.task.numbers is.task;
   kept = is.kept;
 }
+
+-- and a solver of the knowledge base stays one where it forgets
+pub forgotten-solver : (kb : Base) (s : SolveState) → IsSolverOf kb s → IsSolverOf kb (forgotten s)
+forgotten-solver kb s is = record { task = is.task; kept = forgotten-kept s is.kept }

@@ -22,6 +22,7 @@ pub record IsNewSolverOf (kb : Base) (s : SolveState) : Type 0 where
   pub grounding : IsGroundingOf kb s.problem
   pub unretired : s.problem.retired ≡ []
   pub learnt : s.learnt ≡ []
+  pub cores : s.cores ≡ []
   pub free : s.free ≤ weight kb
   pub kept : IsKept s
 

@@ -1,7 +1,7 @@
 //! The consultant's session: commands and their right replies.
 #![tactic(auto)]
 
-mod elements;
+mod commands;
 pub mod laws;
 mod literals;
 mod queries;

@@ -1,61 +1,31 @@
 //! The queries of a session: each asks a task, and answers by a reply.
-ghost use Rattle.std.specs.Prelude.{◌≡◌, ◌≤◌, ◌<◌, length};
+ghost use Rattle.std.specs.Prelude.{◌≡◌, ◌≤◌, ◌<◌, ◌+◌, All, IfOk, List, length};
 ghost use Rattle.kb_logic.specs.Bases.{Base};
+ghost use Rattle.kb_logic.specs.Structures.{EachWith};
 ghost use Rattle.kb_logic.specs.Models.{IsAtomOver, atom_of};
 ghost use Rattle.consult_text.specs.declared.commands.Command.TheVariants as command;
-ghost use Rattle.ground_core.specs.Solving.{IsKept};
-ghost use Rattle.clause_learning.specs.SolverState.{forgotten};
-ghost use Rattle.forced_literals.specs.OpenTasks.{IsOpenTask, IsOpenTaskOf};
+ghost use Rattle.ground_core.specs.Solving.{IsPrefix};
+ghost use Rattle.lit_core.specs.declared.literals.Lit.{Lit as ALit};
+ghost use Rattle.atom_numbers.specs.Numbers.{HasNumber};
+ghost use Rattle.consequences.specs.Forced.{IsSeen};
+ghost use Rattle.kept_supports.specs.Supports.{IsSupported, undecided};
+ghost use Rattle.forced_literals.specs.OpenTasks.{IsOpenTask, IsOpenTaskWith};
 ghost use Rattle.ground_task.specs.Choices.{AreOver};
 ghost use Rattle.ground_task.specs.Tasks.{IsTask, IsTaskOf};
 ghost use Rattle.found_models.specs.Models.{AreFoundModels, IsTaskWith};
-ghost use Rattle.consultant_session.specs.Queries.{QueryEnds, IsHalted};
+ghost use Rattle.consultant_session.specs.Queries.{CoversReply, IsHalted, QueryEnds, SearchesUpTo};
 
 use chooser::Choose;
 use clause_learning::Solver;
 use consult_text::Reply;
-use forced_literals::forced;
-use found_models::{FoundModels, known_model, models_under, new_model};
+use forced_literals::{Unknown, forced};
+use found_models::{FoundModels, known_model, new_model};
 use ground_core::{Budget, Halt, Solve};
 use ground_task::Task;
 use kb_logic::{Literal, Memory};
-use lit_core::Lit;
+use kept_supports::KeptSupports;
 use std::alloc::Global;
 use task_queries::{Reason, conflict, least, support};
-
-/// Gives up what was learnt before.
-fn give_up<C: Choose + Drop>(task: &mut Task<Solver<C>>)
-    ensures kept { task.new.solver.kept ≡ forgotten task.old.solver.kept }
-    ensures numbers { task.new.numbers ≡ task.old.numbers }
-    ensures task { (kb : Base) → IsTaskOf kb task.old.numbers task.old.solver.kept.problem
-        → IsTaskOf kb task.new.numbers task.new.solver.kept.problem }
-    ensures sound { IsKept task.new.solver.kept }
-{
-    task.forget();
-    task.known();
-}
-
-/// Makes ready for a search, of whose budget nothing is spent.
-fn ready<C: Choose + Drop>(task: &mut Task<Solver<C>>, limit: Option<u64>) -> Budget
-    ensures task { task.new ≡ task.old }
-    ensures budget { result ≡ record { limit = limit; spent = 0 } }
-{
-    task.make_ready();
-    Budget { limit, spent: 0 }
-}
-
-/// Begins a query: what was learnt before is given up, and nothing of its budget is spent.
-fn begin<C: Choose + Drop>(task: &mut Task<Solver<C>>, limit: Option<u64>) -> Budget
-    ensures kept { task.new.solver.kept ≡ forgotten task.old.solver.kept }
-    ensures numbers { task.new.numbers ≡ task.old.numbers }
-    ensures task { (kb : Base) → IsTaskOf kb task.old.numbers task.old.solver.kept.problem
-        → IsTaskOf kb task.new.numbers task.new.solver.kept.problem }
-    ensures sound { IsKept task.new.solver.kept }
-    ensures budget { result ≡ record { limit = limit; spent = 0 } }
-{
-    give_up(task);
-    ready(task, limit)
-}
 
 /// The reply where a search halted: it stays undecided where the budget was spent.
 fn halted(halt: Halt, budget: &Budget) -> Result<Reply, Memory>
@@ -77,13 +47,12 @@ fn seek_model<C: Choose + Drop>(
 ) -> Result<Reply, Memory>
     requires task { IsTaskWith task.old.numbers task.old.solver.kept.problem found.old }
     requires choices { AreOver task.old.numbers choices.now }
-    requires nothing { task.old.solver.kept ≡ forgotten task.old.solver.kept }
     ensures ends { QueryEnds (λ kb. IsTaskOf kb task.old.numbers task.old.solver.kept.problem) command.Model
         choices.now limit task.old.numbers task.new.numbers task.old.solver.kept task.new.solver.kept result }
     ensures found { (kb : Base) → IsTaskOf kb task.old.numbers task.old.solver.kept.problem
         → AreFoundModels kb found.old → AreFoundModels kb found.new }
 {
-    let mut budget = ready(task, limit);
+    let mut budget = Budget { limit, spent: 0 };
     match new_model(alloc, task, found, choices, &mut budget) {
         Ok(Some(model)) => Ok(Reply::Model(model)),
         Ok(None) => Ok(Reply::Inconsistent),
@@ -107,7 +76,7 @@ pub fn model<C: Choose + Drop>(
     ensures found { (kb : Base) → IsTaskOf kb task.old.numbers task.old.solver.kept.problem
         → AreFoundModels kb found.old → AreFoundModels kb found.new }
 {
-    give_up(task);
+    task.known();
     match known_model(alloc, task, found, choices) {
         Ok(Some(model)) => Ok(Reply::Model(model)),
         Ok(None) => seek_model(alloc, task, found, choices, limit),
@@ -129,7 +98,7 @@ pub fn models<C: Choose + Drop>(
     ensures { QueryEnds (λ kb. IsTaskOf kb task.old.numbers task.old.solver.kept.problem) (command.Models most)
         choices.now limit task.old.numbers task.new.numbers task.old.solver.kept task.new.solver.kept result }
 {
-    let mut budget = begin(task, limit);
+    let mut budget = Budget { limit, spent: 0 };
     match task_queries::models(alloc, task, choices, most, &mut budget) {
         Ok(Some(models)) => Ok(Reply::Models(models.list, models.all)),
         Ok(None) => Ok(Reply::Inconsistent),
@@ -138,27 +107,34 @@ pub fn models<C: Choose + Drop>(
 }
 
 /// The reply to `propagate`: what all models that make every choice true have in common, of the atoms that the data
-/// leave unknown. These are the literals of their variables. What is false in a model that was found is not searched for.
+/// leave unknown. What is kept with choices that are in force is not searched for, nor what is false in a model that
+/// was found; what is found is kept.
 pub fn propagate<C: Choose + Drop>(
     alloc: Global,
     task: &mut Task<Solver<C>>,
-    found: &FoundModels,
     choices: &[Literal],
     limit: Option<u64>,
-    unknown: &[Lit],
+    unknown: &Unknown<'_>,
+    supports: &mut KeptSupports,
 ) -> Result<Reply, Memory>
-    requires task { IsOpenTask task.old.numbers task.old.solver.kept.problem unknown.now }
-    requires found { IsTaskWith task.old.numbers task.old.solver.kept.problem found.now }
+    requires task { IsOpenTask task.old.numbers task.old.solver.kept.problem unknown.now.lits.now choices.now
+        supports.old }
+    requires seen { (lits : List ALit) → EachWith (HasNumber task.old.numbers) choices.now lits
+        → All (IsSeen task.old.solver.kept.problem lits) unknown.now.seen.now }
     requires choices { AreOver task.old.numbers choices.now }
-    ensures { QueryEnds (λ kb. IsOpenTaskOf kb task.old.numbers task.old.solver.kept.problem unknown.now)
-        command.Propagate choices.now limit task.old.numbers task.new.numbers task.old.solver.kept task.new.solver.kept
-        result }
+    ensures ends { QueryEnds (λ kb. IsOpenTaskWith kb task.old.numbers task.old.solver.kept.problem unknown.now.lits.now
+        choices.now supports.old) command.Propagate choices.now limit task.old.numbers task.new.numbers
+        task.old.solver.kept task.new.solver.kept result }
+    ensures kept { IsPrefix supports.old supports.new }
+    ensures supported { (kb : Base) → IsOpenTaskWith kb task.old.numbers task.old.solver.kept.problem
+        unknown.now.lits.now choices.now supports.old → All (IsSupported kb choices.now) supports.new }
+    ensures covers { IfOk result (λ r. (kb : Base) → IsOpenTaskWith kb task.old.numbers task.old.solver.kept.problem
+        unknown.now.lits.now choices.now supports.old → CoversReply kb choices.now supports.new r) }
+    ensures searches { SearchesUpTo (length (undecided supports.old unknown.now.lits.now) + 1) task.old.solver.kept
+        task.new.solver.kept }
 {
-    let mut budget = begin(task, limit);
-    let Ok(seen) = models_under(alloc, task, found, choices) else {
-        return Err(Memory);
-    };
-    match forced(alloc, task, choices, unknown, seen.as_slice(), &mut budget) {
+    let mut budget = Budget { limit, spent: 0 };
+    match forced(alloc, task, choices, unknown, supports, &mut budget) {
         Ok(Some(literals)) => Ok(Reply::Forced(literals)),
         Ok(None) => Ok(Reply::Inconsistent),
         Err(halt) => halted(halt, &budget),
@@ -180,7 +156,7 @@ pub fn minimize<C: Choose + Drop>(
     ensures { QueryEnds (λ kb. IsTaskOf kb task.old.numbers task.old.solver.kept.problem) (command.Minimize term)
         choices.now limit task.old.numbers task.new.numbers task.old.solver.kept task.new.solver.kept result }
 {
-    let mut budget = begin(task, limit);
+    let mut budget = Budget { limit, spent: 0 };
     match least(alloc, task, choices, term, &mut budget) {
         Ok(Some(least)) => Ok(Reply::Minimum(least.value, least.model)),
         Ok(None) => Ok(Reply::Inconsistent),
@@ -202,7 +178,7 @@ pub fn explain<C: Choose + Drop>(
     ensures { QueryEnds (λ kb. IsTaskOf kb task.old.numbers task.old.solver.kept.problem) (command.Explain literal.now)
         choices.now limit task.old.numbers task.new.numbers task.old.solver.kept task.new.solver.kept result }
 {
-    let mut budget = begin(task, limit);
+    let mut budget = Budget { limit, spent: 0 };
     match support(alloc, task, choices, literal, &mut budget) {
         Ok(Reason::By(some)) => Ok(Reply::Supported(some)),
         Ok(Reason::Free) => Ok(Reply::Free),
@@ -223,7 +199,7 @@ pub fn why<C: Choose + Drop>(
     ensures { QueryEnds (λ kb. IsTaskOf kb task.old.numbers task.old.solver.kept.problem) command.Why
         choices.now limit task.old.numbers task.new.numbers task.old.solver.kept task.new.solver.kept result }
 {
-    let mut budget = begin(task, limit);
+    let mut budget = Budget { limit, spent: 0 };
     match conflict(alloc, task, choices, &mut budget) {
         Ok(Some(some)) => Ok(Reply::Conflict(some)),
         Ok(None) => Ok(Reply::Consistent),

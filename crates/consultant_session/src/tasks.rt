@@ -1,5 +1,5 @@
 //! The task of a session.
-ghost use Rattle.std.specs.Prelude.{◌≡◌, [], IfOk};
+ghost use Rattle.std.specs.Prelude.{◌≡◌, [], IfOk, OnErr, OnOk};
 ghost use Rattle.consult_base.specs.Opened.{base_of};
 ghost use Rattle.consultant_session.specs.Solvers.{AreUnknownOf, IsNewSolverOf, IsTaskOver};
 
@@ -22,7 +22,7 @@ fn solver_of<C: Choose + Drop>(
 ) -> Result<Solver<C>, Memory>
     ensures { IfOk result (λ solver. IsNewSolverOf (base_of kb.now) solver.kept) }
 {
-    let Ok(problem) = ground(alloc, kb.typed(), kb.theory(), kb.data()) else {
+    let Ok(problem) = ground(alloc, kb.typed(), kb.theory(), kb.data(), kb.narrowing()) else {
         return Err(Memory);
     };
     let Ok(mut solver) = Solver::new(alloc, rule) else {
@@ -42,6 +42,7 @@ fn task_of<C: Choose + Drop>(
 ) -> Result<Task<Solver<C>>, Memory>
     ensures over { IfOk result (λ task. IsTaskOver (base_of kb.now) task.numbers task.solver.kept) }
     ensures learnt { IfOk result (λ task. task.solver.kept.learnt ≡ []) }
+    ensures cores { IfOk result (λ task. task.solver.kept.cores ≡ []) }
 {
     let solver = solver_of(alloc, kb, rule)?;
     Task::open(alloc, kb.vocabulary(), kb.data(), solver)
@@ -54,9 +55,10 @@ pub fn open_anew<C: Choose + Drop>(
     rule: C,
     task: &mut Task<Solver<C>>,
 ) -> Result<(), Memory>
-    ensures over { IsTaskOver (base_of kb.now) task.old.numbers task.old.solver.kept
-        → IsTaskOver (base_of kb.now) task.new.numbers task.new.solver.kept }
-    ensures learnt { task.old.solver.kept.learnt ≡ [] → task.new.solver.kept.learnt ≡ [] }
+    ensures over { OnOk result (IsTaskOver (base_of kb.now) task.new.numbers task.new.solver.kept) }
+    ensures learnt { OnOk result (task.new.solver.kept.learnt ≡ []) }
+    ensures cores { OnOk result (task.new.solver.kept.cores ≡ []) }
+    ensures same { OnErr result (task.new ≡ task.old) }
 {
     *task = task_of(alloc, kb, rule)?;
     Ok(())

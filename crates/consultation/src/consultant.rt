@@ -37,11 +37,12 @@ pub struct Consultant {
 impl Model for Consultant {
     ghost use Rattle.std.specs.Coded.{codes};
     ghost use Rattle.type_derivation.specs.contracts.typed.TypedKb as typed_kb;
+    ghost use Rattle.narrowed_bases.specs.contracts.narrowings.Narrowing as narrowings;
     ghost use Rattle.consultation.specs.Turns.{ConsultantState};
 
     ghost Value = { ConsultantState };
 
-    ghost coded = { Prim.hlevel (codes, typed_kb.the_row.coded) };
+    ghost coded = { Prim.hlevel (codes, typed_kb.the_row.coded, narrowings.the_row.coded) };
 
     ghost view = { λ c. record {
       kb = c.session.kb;

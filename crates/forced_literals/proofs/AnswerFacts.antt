@@ -108,15 +108,16 @@ module _ (base : Base) (b : GroundBase) (p : ProblemState) (unknown : List Lit) 
   pub no-model : RefutesAll p lits → HasNoModel base held
   no-model refuted m under = let v = valuation-of m under in refuted v.0 v.1 v.2
 
-  model-of : (v : ℕ → Bool) → Satisfies p v → MakesTrue v lits → IsModelOf base held (structure_of b v)
+  pub model-of : (v : ℕ → Bool) → Satisfies p v → MakesTrue v lits → IsModelOf base held (structure_of b v)
   model-of v s t = is-model base b p h.task choices lits each v s t
 
-  forces-of : (l : Literal) (k : Lit) → HasNumber b l k → ForcesLit p lits k → Forces base held l
+  pub forces-of : (l : Literal) (k : Lit) → HasNumber b l k → ForcesLit p lits k → Forces base held l
   forces-of l k n forced m under =
       let v = valuation-of m under in
       subst (λ (x : Structure). HoldsIn x l) v.3 (true-holds b fine v.0 l k n (forced v.0 v.1 v.2))
 
-  free-false : (l : Literal) (k : Lit) → HasNumber b l k → (free : IsFree p lits k) → HoldsIn (structure_of b free.0) l
+  pub free-false : (l : Literal) (k : Lit) → HasNumber b l k → (free : IsFree p lits k) → HoldsIn (structure_of b
+      free.0) l
       → ⊥
   free-false l k n free holds = true≢false (sym (holds-true b fine free.0 l k n holds) ∙ free.3)
 
@@ -149,7 +150,7 @@ module _ (base : Base) (b : GroundBase) (p : ProblemState) (unknown : List Lit) 
       (subst (λ (ds : List (List Elem)). IsAtomOver b.vocabulary.symbols ds a) domains-are over))
 
   -- the literals of unknown atoms are asked, and no others
-  asked : (l : Literal) → Has (atoms_over known.symbols known.domains) (atom_of l)
+  pub asked : (l : Literal) → Has (atoms_over known.symbols known.domains) (atom_of l)
       → is_unknown (value_at known (atom_of l)) ≡ true → (k : Lit) × Has (both_signs unknown) k × HasNumber b l k
   asked l there u =
       let in-list : Has (unknown_atoms known) (atom_of l) =

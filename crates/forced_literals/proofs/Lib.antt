@@ -5,3 +5,5 @@ pub mod NumberFacts
 pub mod PickingFacts
 pub mod SearchFacts
 pub mod ValueFacts
+pub mod KeptLemmas
+pub mod SupportLemmas

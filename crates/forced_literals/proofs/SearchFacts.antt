@@ -1,11 +1,11 @@
 -- What is asked of the searches, and what they find.
 use Rattle.std.proofs.Common.{◌≡◌, ℕ, ◌+◌, ◌<◌, ◌≤◌, List, [], ◌∷◌, ◌++◌, map, length, take, get_or, All, Contains}
-use Rattle.std.proofs.Common.{refl, sym, ap, ◌∙◌, subst, arith, inl, inr, ◌⊎◌, ⊎_elim}
+use Rattle.std.proofs.Common.{sym, ap, ◌∙◌, subst, arith, inl, inr, ◌⊎◌, ⊎_elim, not, refl}
 use Rattle.std.proofs.Common.{slice_get, Some}
 use Rattle.std.proofs.lemmas.Option.{slice_get_within, get_or_from_slice_get}
-use Rattle.std.proofs.lemmas.List.{take_more, append_assoc, length-map}
+use Rattle.std.proofs.lemmas.List.{take_more, append_assoc, append-nil, length-map}
 use Rattle.std.proofs.lemmas.List.Concat.{flat_map-append}
-use Rattle.std.proofs.lemmas.List.Elements.{All-nil, All-cons, All-head, All-tail, All-contains}
+use Rattle.std.proofs.lemmas.List.Elements.{All-nil, All-cons, All-head, All-tail, All-contains, All-filter}
 use Rattle.kb_logic.proofs.Has.{Has, contains_from, has_map}
 use Rattle.lit_core.specs.declared.literals.Lit.{Lit}
 use Rattle.lit_core.specs.Literals.{negated}
@@ -13,13 +13,11 @@ use Rattle.ground_core.specs.Problems.{ProblemState, IsLitOf, AreLitsOf}
 use Rattle.ground_core.specs.declared.solving.Budget.{Budget}
 use Rattle.ground_core.specs.Calls.{CallEnds, Costs, Keeps, Stays}
 use Rattle.ground_core.specs.Solving.{AreUnretired, IsKept, IsLive, SolveState}
-use Rattle.ground_core.proofs.Sublists.{sublist-all}
 use Rattle.consequences.specs.declared.kept.Kept.{Kept}
-use Rattle.consequences.specs.Forced.{AreForced, Forces, IsForced, IsFalseInSeen, Searches}
-use Rattle.lit_core.specs.Literals.{literal_value}
-use Rattle.std.proofs.Common.{Bool, true}
-use Rattle.forced_literals.specs.Searches.{AreForcedOf, both_signs}
-use Rattle.forced_literals.proofs.ListFacts.{any-has}
+use Rattle.consequences.specs.Forced.{AreForced, IsForced, IsFalseInSeen, Searches}
+use Rattle.kept_supports.specs.Supports.{is_decided, undecided}
+use Rattle.std.proofs.Common.{Bool}
+use Rattle.forced_literals.specs.Searches.{AddsForced, both_signs}
 
 -- both signs of one literal more
 pub signed-more : (lits : List Lit) (i : ℕ) (l : Lit) → i < length lits → l ≡ get_or lits i l
@@ -99,29 +97,32 @@ call-ends s t b c atoms ask last seen is keeps costs kept stays = record {
   free = stays.free;
 }
 
--- what is kept is what is forced
-module _ (p : ProblemState) (assumed ask : List Lit) (cores : List (List Lit)) (kept : List Kept)
-    (h : AreForced p assumed ask cores kept) where
-  abbrev lits : List Lit
-  lits = map (λ k. k.lit) kept
+-- those of the literals of which nothing is kept are literals of the same variables
+pub undecided-are : (n : ℕ) (ks : List Kept) (lits : List Lit) → AreLitsOf n lits → AreLitsOf n (undecided ks lits)
+undecided-are n ks lits h = All-filter (λ (l : Lit). not (is_decided ks l)) (IsLitOf n) lits h
 
-  forced-lits : (ks : List Kept) → All (IsForced p assumed cores) ks
-      → All (Forces p assumed) (map (λ (k : Kept). k.lit) ks)
-  forced-lits [] f = All-nil (Forces p assumed)
-  forced-lits (k ∷ ks) f =
-      let one = All-head (IsForced p assumed cores) k ks f in
-      All-cons (Forces p assumed) k.lit (map (λ (j : Kept). j.lit) ks)
-      (λ v s t. one.forces v s (sublist-all (λ l. literal_value v l ≡ true) k.support assumed one.among t))
-      (forced-lits ks (All-tail (IsForced p assumed cores) k ks f))
+-- nothing was added to what is kept, or what was found
+pub adds-nothing : (p : ProblemState) (assumed ask : List Lit) (cores : List (List Lit)) (old new : List Kept)
+    → new ≡ old → AddsForced p assumed ask cores old new
+adds-nothing p assumed ask cores old new is = record {
+  more = [];
+  kept = is ∙ sym (append-nil old);
+  asked = tt;
+  forced = All-nil (IsForced p assumed cores);
+}
 
-  pub forced-are : AreForcedOf p assumed ask lits
-  forced-are = record {
-    some = h.some;
-    order = h.order;
-    forced = forced-lits kept h.forced;
-    others = λ i d lt. ⊎_elim
-        (λ any. let r = any-has (λ (k : Kept). k.lit ≡ get_or ask i d) kept any in
-        inl (subst (Contains lits) r.2 (contains_from lits r.0.lit (has_map (λ (k : Kept). k.lit) kept r.0 r.1))))
-        (λ free. inr free)
-        (h.others i d lt);
-  }
+pub adds-found : (p : ProblemState) (assumed ask : List Lit) (cores : List (List Lit)) (found old new : List Kept)
+    → AreForced p assumed ask cores found → new ≡ old ++ found → AddsForced p assumed ask cores old new
+adds-found p assumed ask cores found old new h is = record {
+  more = found;
+  kept = is;
+  asked = h.order;
+  forced = h.forced;
+}
+
+pub adds-either : (p : ProblemState) (assumed ask : List Lit) (cores : List (List Lit)) (found old new : List Kept)
+    → AreForced p assumed ask cores found → (new ≡ old) ⊎ (new ≡ old ++ found)
+    → AddsForced p assumed ask cores old new
+adds-either p assumed ask cores found old new h way =
+    ⊎_elim (λ same. adds-nothing p assumed ask cores old new same)
+    (λ is. adds-found p assumed ask cores found old new h is) way

@@ -4,5 +4,7 @@
 mod forcing;
 mod picking;
 mod searching;
+mod unknown;
 
 pub use forcing::forced;
+pub use unknown::Unknown;

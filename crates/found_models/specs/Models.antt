@@ -9,7 +9,7 @@ use Rattle.lit_core.specs.Literals.{valuation}
 use Rattle.ground_core.specs.Problems.{ProblemState}
 use Rattle.term_values.specs.GroundBases.{GroundBase, structure_of}
 use Rattle.ground_task.specs.Tasks.{IsTaskOf, atom_base}
-use Rattle.found_models.specs.Found.{FoundState, those_under, IsLastOf}
+use Rattle.found_models.specs.Found.{FoundState, those_under, with_newest, IsLastOf}
 
 -- how many ground atoms there are
 abbrev pub atoms_of : Base → ℕ
@@ -35,6 +35,13 @@ abbrev pub IsNewest : GroundBase → List Lit → List (List Bool) → Option St
 IsNewest b lits models None = those_under lits models ≡ []
 IsNewest b lits models (Some m) =
     (values : List Bool) × IsLastOf values (those_under lits models) × (m ≡ structure_of b (valuation values))
+
+-- the structure that was found is that of the newest of the models that are kept now; where none was found, they are as
+-- before
+abbrev pub IsKept : GroundBase → FoundState → FoundState → Option Structure → Type 0
+IsKept b before now None = now ≡ before
+IsKept b before now (Some m) =
+    (values : List Bool) × (now ≡ with_newest before values) × (m ≡ structure_of b (valuation values))
 
 -- a model under the choices, or none where there is none
 abbrev pub IsAnswer : Base → List Literal → Option Structure → Type 0

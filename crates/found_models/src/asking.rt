@@ -7,10 +7,10 @@ ghost use Rattle.ground_core.specs.Solving.{IsBudgetOf, HaltedAt};
 ghost use Rattle.ground_core.specs.Calls.{CallEnds, Stays};
 ghost use Rattle.atom_numbers.specs.Numbers.{HasNumber};
 ghost use Rattle.consequences.specs.Forced.{IsSeen};
-ghost use Rattle.ground_task.specs.Tasks.{IsTaskOf};
+ghost use Rattle.ground_task.specs.Tasks.{IsTaskOf, ShowsNone};
 ghost use Rattle.ground_task.specs.Choices.{AreOver};
 ghost use Rattle.found_models.specs.Found.{those_under};
-ghost use Rattle.found_models.specs.Models.{AreFoundModels, IsTaskWith, IsNewest, IsAnswer};
+ghost use Rattle.found_models.specs.Models.{AreFoundModels, IsTaskWith, IsKept, IsNewest, IsAnswer};
 
 use crate::models::FoundModels;
 use ground_core::{Budget, Halt, Solve, Verdict};
@@ -60,8 +60,8 @@ pub fn models_under<S: Solve>(
     found.all_under(alloc, lits.as_slice())
 }
 
-/// A model that makes the choices true, by one search, and None where there is none. It is kept, unless memory is
-/// wanting.
+/// A model that makes the choices true, by one search, and None where there is none. What is answered was kept: where
+/// there is no memory for that, there is no answer.
 pub fn new_model<S: Solve>(
     alloc: Global,
     task: &mut Task<S>,
@@ -74,6 +74,7 @@ pub fn new_model<S: Solve>(
     requires budget { IsBudgetOf (S.state task.old.solver).learnt budget.old }
     ensures answer { IfOk result (λ it. (base : Base)
         → IsTaskOf base task.old.numbers (S.state task.old.solver).problem → IsAnswer base choices.now it) }
+    ensures refuted { IfOk result (ShowsNone task.old.numbers choices.now (S.state task.new.solver).cores) }
     ensures found { (base : Base) → IsTaskOf base task.old.numbers (S.state task.old.solver).problem
         → AreFoundModels base found.old → AreFoundModels base found.new }
     ensures task { (base : Base) → IsTaskOf base task.old.numbers (S.state task.old.solver).problem
@@ -82,19 +83,20 @@ pub fn new_model<S: Solve>(
     ensures stays { Stays (S.state task.old.solver) (S.state task.new.solver) }
     ensures ends { CallEnds 1 (S.state task.old.solver) (S.state task.new.solver) budget.old budget.new }
     ensures later { S.goes_on task.old.solver task.new.solver }
+    ensures kept { IfOk result (IsKept task.old.numbers found.old found.new) }
 {
     task.known();
     let Ok(lits) = task.lits_of(alloc, choices) else {
         return Err(Halt::Memory);
     };
     match expand(task, lits.as_slice(), budget) {
-        Ok(Verdict::Sat(values)) => {
-            let _ = found.keep(alloc, &values);
-            match task.structure_of(alloc, &values) {
+        Ok(Verdict::Sat(values)) => match found.keep(alloc, &values) {
+            Ok(()) => match task.structure_of(alloc, &values) {
                 Ok(model) => Ok(Some(model)),
                 Err(_) => Err(Halt::Memory),
-            }
-        }
+            },
+            Err(_) => Err(Halt::Memory),
+        },
         Ok(Verdict::Unsat(_)) => Ok(None),
         Err(halt) => Err(halt),
     }

@@ -1,5 +1,5 @@
 -- A solver whose problem stands for the models of a knowledge base.
-use Rattle.std.specs.Prelude.{◌≡◌, ℕ, ◌<◌, Bool, Some, Result, Ok, Err, List, [], length, slice_get, All}
+use Rattle.std.specs.Prelude.{◌≡◌, ℕ, ◌<◌, Bool, Option, Some, None, Result, Ok, Err, List, [], length, slice_get, All}
 use Rattle.kb_logic.specs.declared.structures.Literal.{Literal}
 use Rattle.kb_logic.specs.declared.structures.Structure.{Structure}
 use Rattle.kb_logic.specs.Structures.{EachWith}
@@ -50,11 +50,19 @@ abbrev pub IsAnswer : Base → List Literal → Answer → Type 0
 IsAnswer base choices (Model m) = IsModelUnder base choices m
 IsAnswer base choices (NoModel some) = IsSublist some choices × ((m : Structure) → IsModelUnder base some m → ⊥)
 
+-- a kept core lies within the literals of the choices
+abbrev pub AreRefuted : GroundBase → List Literal → List (List Lit) → Type 0
+AreRefuted b choices cores = (lits : List Lit) → EachWith (HasNumber b) choices lits → HasCoreWithin cores lits
+
 -- that there is no model under the choices is shown by a kept core among their literals
 abbrev pub IsShown : GroundBase → List Literal → List (List Lit) → Answer → Type 0
 IsShown b choices cores (Model m) = Unit {0}
-IsShown b choices cores (NoModel some) =
-    (lits : List Lit) → EachWith (HasNumber b) choices lits → HasCoreWithin cores lits
+IsShown b choices cores (NoModel some) = AreRefuted b choices cores
+
+-- so is that nothing is answered
+abbrev pub ShowsNone : {T : Type 0} → GroundBase → List Literal → List (List Lit) → Option T → Type 0
+ShowsNone b choices cores None = AreRefuted b choices cores
+ShowsNone b choices cores (Some x) = Unit {0}
 
 -- there is no model, or there was no memory
 abbrev pub IsRefusal : Result Answer Halt → Type 0

@@ -1,7 +1,8 @@
 //! What the solver of a task keeps from one search to the next.
-ghost use Rattle.std.specs.Prelude.{◌≡◌};
+ghost use Rattle.std.specs.Prelude.{◌≡◌, length, IfOk, MatchOption};
 ghost use Rattle.kb_logic.specs.Bases.{Base};
 ghost use Rattle.clause_learning.specs.SolverState.{Forgets};
+ghost use Rattle.ground_core.specs.Solving.{HasCoreWithin};
 ghost use Rattle.search_log.specs.Entries.{AreEntries};
 ghost use Rattle.ground_task.specs.Tasks.{IsTaskOf};
 
@@ -24,6 +25,13 @@ impl<C: Choose + Drop> Task<Solver<C>> {
         ensures { result ≡ self.now.solver.kept.searches }
     {
         self.solver.searches()
+    }
+
+    /// How many bounds and exclusions were added.
+    pub fn addition_count(&self) -> usize
+        ensures { result ≡ length self.now.solver.kept.additions }
+    {
+        self.solver.addition_count()
     }
 
     /// Has the solver make ready for many searches, unless it made none yet: this takes as long as some eight of them
@@ -70,7 +78,10 @@ impl<C: Choose + Drop> Task<Solver<C>> {
     }
 
     /// The number that the log has for a clause by which the literals are not all true, where a core is among them.
-    pub fn clause_of(&self, lits: &[Lit]) -> Result<Option<u64>, Memory> {
+    pub fn clause_of(&self, lits: &[Lit]) -> Result<Option<u64>, Memory>
+        ensures { IfOk result (λ found. MatchOption found (HasCoreWithin self.now.solver.kept.cores lits.now → ⊥)
+            (λ number. HasCoreWithin self.now.solver.kept.cores lits.now)) }
+    {
         self.solver.clause_of(lits)
     }
 

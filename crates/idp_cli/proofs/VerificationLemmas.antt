@@ -1,7 +1,7 @@
 -- How the verification of a log ends, from how the log is read and what is printed of it.
-use Rattle.std.proofs.Common.{◌≡◌, ◌≢◌, ◌⊎◌, ◌≤◌, ℕ, List, length, refl, sym, subst, Option, Err, inl, inr}
+use Rattle.std.proofs.Common.{◌≡◌, ◌≢◌, ◌⊎◌, ◌≤◌, ℕ, List, length, refl, sym, subst, Option, Some, None, Err, inl, inr, ◌∙◌}
 use Rattle.std.specs.Io.KnownBytes.{Appends}
-use Rattle.kb_io.specs.Outside.{Rose}
+use Rattle.kb_io.specs.Outside.{KeptNumber, Rose}
 use Rattle.kb_io.specs.ReadWrite.{AppendsPrefix}
 use Rattle.base_reader.specs.FileMeanings.{Choice, Meaning, FileMeans, base_of_meaning}
 use Rattle.consultation.specs.Streams.{IfObservable, Streams, streams}
@@ -10,7 +10,7 @@ use Rattle.verified_claims.specs.Verdicts.{IsVerdict, IsLogError}
 use Rattle.verified_claims.specs.declared.verdicts.LogError.TheVariants as log_error
 use Rattle.idp_cli.specs.Files.{log_refusal_text}
 use Rattle.idp_cli.specs.Runs.{Outside, outside, LogIs, OnFiles, VerificationEnds, FileFails, most_log_bytes}
-use Rattle.idp_cli.specs.Printing.{PrintsLogRefusal}
+use Rattle.idp_cli.specs.Printing.{PrintsLogRefusal, PrintsText}
 use Rattle.idp_cli.specs.Verifying.{PrintsAnswer, ReadsLog}
 use Rattle.idp_cli.specs.declared.status.Status.{Status}
 use Rattle.idp_cli.specs.declared.status.Status.TheVariants as status
@@ -146,3 +146,23 @@ refusal_answers status.ReadFault n base log old new before now bad prints = absu
 refusal_answers status.Usage n base log old new before now bad prints = absurd prints
 refusal_answers status.ScriptTooLong n base log old new before now bad prints = absurd prints
 refusal_answers (status.KbRefused k line) n base log old new before now bad prints = absurd prints
+
+-- the verdict is printed, or could not be printed whole
+pub verdict_answers : (s : Status) (base : Base) (log text : List ℕ) (old new : Option (List ℕ)) (before now : ℕ)
+    → IsVerdict base log text → PrintsText s text old new before now → PrintsAnswer s base log old new before now
+verdict_answers status.Done base log text old new before now is prints = (prints.0, (text, is, prints.1))
+verdict_answers status.WriteFault base log text old new before now is prints = (prints.0, inl (text, is, prints.1))
+verdict_answers status.Memory base log text old new before now is prints = prints
+verdict_answers status.ReadFault base log text old new before now is prints = absurd prints
+verdict_answers status.Usage base log text old new before now is prints = absurd prints
+verdict_answers status.ScriptTooLong base log text old new before now is prints = absurd prints
+verdict_answers (status.KbRefused k line) base log text old new before now is prints = absurd prints
+verdict_answers (status.LogRefused n) base log text old new before now is prints = absurd prints
+
+-- what two calls keep, both keep
+pub kept_by_both : (first second third : Option ℕ) → KeptNumber first second → KeptNumber second third
+    → KeptNumber first third
+kept_by_both first second None h i = tt
+kept_by_both first None (Some n) h i = absurd i
+kept_by_both None (Some m) (Some n) h i = absurd h
+kept_by_both (Some k) (Some m) (Some n) h i = i ∙ h

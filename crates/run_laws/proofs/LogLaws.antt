@@ -6,9 +6,12 @@ use Rattle.base_reader.specs.FileMeanings.{Choice, Meaning, base_of_meaning}
 use Rattle.base_reader.specs.Laws.{HasOneMeaning}
 use Rattle.command_words.specs.CommandLine.{Said, said_by}
 use Rattle.command_words.specs.CommandLine as words
-use Rattle.def_ground.specs.Groundings.{theory_problem}
+use Rattle.derivation_log.specs.Checks.{IsFirstBad}
 use Rattle.derivation_log.specs.Laws.{OneAnswer}
-use Rattle.verified_claims.specs.Verdicts.{IsVerdict, IsLogError}
+use Rattle.derivation_log.specs.declared.claims.Claim.{Claim}
+use Rattle.ground_core.specs.Problems.{ProblemState}
+use Rattle.narrowed_bases.specs.Laws.{OneProblem}
+use Rattle.verified_claims.specs.Verdicts.{IsAcceptedOver, IsFirstBadOver, IsVerdict, IsLogError}
 use Rattle.verified_claims.specs.declared.verdicts.LogError.TheVariants as log_error
 use Rattle.idp_cli.specs.Jobs.{consult, verify, AsksBy, NamesLog}
 use Rattle.idp_cli.specs.Runs.{Words, Outside, RunEnds, VerificationEnds, LogIs, most_log_bytes}
@@ -23,6 +26,18 @@ ends_of : (s : Status) (words : Words) (before now : Outside) (log : List ℕ) (
     (a : AskToVerify words before log m) → RunEnds s words before now
     → VerificationEnds s a.file a.choice a.path before now
 ends_of s words before now log m a ends = done s words before now (verify a.file a.choice a.path) a.asks ends
+
+-- over its one ground problem a log is accepted, or has one first bad entry
+module _ (answers : OneAnswer) (problems : OneProblem) (base : Base) (log : List ℕ) where
+  both_answers : (claims : List Claim) (n : ℕ) → IsAcceptedOver base log claims → IsFirstBadOver base log n → ⊥
+  both_answers claims n a b =
+      (answers a.0 log).2 claims n a.2
+      (subst (λ (p : ProblemState). IsFirstBad p log n) (problems base b.0 a.0 b.1 a.1) b.2)
+
+  one_bad : (k n : ℕ) → IsFirstBadOver base log k → IsFirstBadOver base log n → k ≡ n
+  one_bad k n a b =
+      (answers b.0 log).1 k n
+      (subst (λ (p : ProblemState). IsFirstBad p log k) (problems base a.0 b.0 a.1 b.1) a.2) b.2
 
 module _ (one : HasOneMeaning) where
   -- what was found of the log's bytes over what the file means is so of them over what it means
@@ -80,7 +95,7 @@ module _ (one : HasOneMeaning) where
         let short = within_of (λ base bytes. IsLogError base bytes (log_error.Refused n)) words before log m a end.0 in
         absurd (omega (arith, long, short))
 
-    module _ (answers : OneAnswer) where
+    module _ (answers : OneAnswer) (problems : OneProblem) where
       pub accepted_log_law : AcceptedLogLaw
       accepted_log_law status.Done words before now log m claims a short accepted ends = refl
       accepted_log_law (status.KbRefused k line) words before now log m claims a short accepted ends =
@@ -94,13 +109,13 @@ module _ (one : HasOneMeaning) where
       accepted_log_law status.ScriptTooLong words before now log m claims a short accepted ends =
           absurd (short_log_law words before now log m a short ends)
       accepted_log_law (status.LogRefused n) words before now log m claims a short accepted ends =
-          absurd ((answers (theory_problem (base_of_meaning m)) log).2 claims n accepted
+          absurd (both_answers answers problems (base_of_meaning m) log claims n accepted
           (bad_entry_law words before now log m n a ends))
 
       pub refused_log_law : RefusedLogLaw
       refused_log_law status.Done words before now log m n a short bad ends =
           let verified = verified_law words before now log m a ends in
-          absurd ((answers (theory_problem (base_of_meaning m)) log).2 verified.0 n verified.1 bad)
+          absurd (both_answers answers problems (base_of_meaning m) log verified.0 n verified.1 bad)
       refused_log_law (status.KbRefused k line) words before now log m n a short bad ends =
           absurd (taking k line words before now (verify a.file a.choice a.path) a.file a.bytes m a.asks refl a.held
           a.means ends)
@@ -112,7 +127,7 @@ module _ (one : HasOneMeaning) where
       refused_log_law status.ScriptTooLong words before now log m n a short bad ends =
           absurd (short_log_law words before now log m a short ends)
       refused_log_law (status.LogRefused k) words before now log m n a short bad ends =
-          let same : k ≡ n = (answers (theory_problem (base_of_meaning m)) log).1 k n
+          let same : k ≡ n = one_bad answers problems (base_of_meaning m) log k n
           (bad_entry_law words before now log m k a ends) bad in
           ap (λ (x : ℕ). status.LogRefused x) same
 

@@ -2,8 +2,7 @@
 use Rattle.std.specs.Prelude.{◌≡◌, ◌≢◌, ◌<◌, ◌≤◌, ℕ, List, Bool, Option, Some, length}
 use Rattle.kb_text.specs.declared.fault.K.{K}
 use Rattle.base_reader.specs.FileMeanings.{Choice, Meaning, FileMeans, base_of_meaning}
-use Rattle.def_ground.specs.Groundings.{theory_problem}
-use Rattle.derivation_log.specs.Checks.{IsAccepted, IsFirstBad}
+use Rattle.verified_claims.specs.Verdicts.{IsAcceptedOver, IsFirstBadOver}
 use Rattle.derivation_log.specs.declared.claims.Claim.{Claim}
 use Rattle.generated_files.specs.Texts.{file_text}
 use Rattle.generated_files.specs.declared.kinds.Kind.{Kind}
@@ -101,27 +100,27 @@ pub record AskToVerify (words : Words) (before : Outside) (log : List ℕ) (m : 
 abbrev pub AcceptedLogLaw : Type 0
 AcceptedLogLaw = (s : Status) (words : Words) (before now : Outside) (log : List ℕ) (m : Meaning)
     (claims : List Claim) → AskToVerify words before log m → length log ≤ most_log_bytes
-    → IsAccepted (theory_problem (base_of_meaning m)) log claims → RunEnds s words before now
+    → IsAcceptedOver (base_of_meaning m) log claims → RunEnds s words before now
     → IsUnlessFailed status.Done s
 
 -- and no other does
 abbrev pub VerifiedLaw : Type 0
 VerifiedLaw = (words : Words) (before now : Outside) (log : List ℕ) (m : Meaning)
     → AskToVerify words before log m → RunEnds status.Done words before now
-    → (claims : List Claim) × IsAccepted (theory_problem (base_of_meaning m)) log claims
+    → (claims : List Claim) × IsAcceptedOver (base_of_meaning m) log claims
 
 -- one whose entry n is the first that is no step gives LogRefused with n
 abbrev pub RefusedLogLaw : Type 0
 RefusedLogLaw = (s : Status) (words : Words) (before now : Outside) (log : List ℕ) (m : Meaning) (n : ℕ)
     → AskToVerify words before log m → length log ≤ most_log_bytes
-    → IsFirstBad (theory_problem (base_of_meaning m)) log n → RunEnds s words before now
+    → IsFirstBadOver (base_of_meaning m) log n → RunEnds s words before now
     → IsUnlessFailed (status.LogRefused n) s
 
 -- and no other does
 abbrev pub BadEntryLaw : Type 0
 BadEntryLaw = (words : Words) (before now : Outside) (log : List ℕ) (m : Meaning) (n : ℕ)
     → AskToVerify words before log m → RunEnds (status.LogRefused n) words before now
-    → IsFirstBad (theory_problem (base_of_meaning m)) log n
+    → IsFirstBadOver (base_of_meaning m) log n
 
 -- one that has more bytes than are read gives ScriptTooLong
 abbrev pub LongLogLaw : Type 0

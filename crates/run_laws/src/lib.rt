@@ -12,6 +12,7 @@ use base_reader::{accepted_or_refused, one_file_meaning, one_file_refusal};
 use consult_text::{commands_are_over_the_base, no_two_replies_have_one_text, one_meaning};
 use derivation_log::one_answer;
 use file_laws::{files_have_word_names, structures_are_read_back};
+use narrowed_bases::laws::one_problem;
 
 /// Usage, a refusal, ScriptTooLong and Done come exactly where they should, unless a device failed or memory ran out.
 pub fn statuses_come_where_they_should()
@@ -44,6 +45,7 @@ pub fn logs_are_verified_as_they_should_be()
     statuses_come_where_they_should();
     one_file_meaning();
     one_answer();
+    one_problem();
 }
 
 /// The printed bytes determine what was answered: over a knowledge base whose names are words, two right

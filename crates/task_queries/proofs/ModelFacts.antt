@@ -29,8 +29,8 @@ use Rattle.atom_numbers.specs.Numbers.{HasNumber}
 use Rattle.model_search.specs.Models.{IsLeft}
 use Rattle.model_expansion.specs.Exclusions.{AreApart}
 use Rattle.model_expansion.specs.Enumerations as enumerations
-use Rattle.ground_task.specs.Tasks.{IsTaskOf}
-use Rattle.ground_task.proofs.TaskFacts.{fine, atoms-number, is-model, valued}
+use Rattle.ground_task.specs.Tasks.{IsTaskOf, AreRefuted}
+use Rattle.ground_task.proofs.TaskFacts.{fine, atoms-number, is-model, valued, shown-of}
 use Rattle.task_laws.proofs.Outlasting.{outlasts}
 use Rattle.task_queries.specs.Queries.{under}
 
@@ -150,4 +150,16 @@ module _ (base : Base) (b : GroundBase) (p : ProblemState) (h : IsTaskOf base b 
             let any = ends e.0 e.1 e.2 in
             let number : length vs ≡ 0 = ap length none in absurd (omega (arith, any.2, number))
         at false ends = λ m model.
+            let number : length vs ≡ 0 = ap length none in absurd (omega (arith, ends.0, number, some))
+
+    -- and a kept core shows that
+    pub none-shown : (n : ℕ) (cores : List (List Lit)) (vs : List (List Bool)) (all : Bool) → 1 ≤ n → vs ≡ []
+        → enumerations.FindsSeveral p lits n cores (record { found = vs; complete = all })
+        → AreRefuted b choices cores
+    none-shown n cores vs all some none found = λ others each-other.
+        shown-of base b p h choices lits others each each-other cores (found.shown none (complete all found.ends))
+      where
+        complete : (all : Bool) → enumerations.EndsAt p lits n vs all → all ≡ true
+        complete true ends = refl
+        complete false ends =
             let number : length vs ≡ 0 = ap length none in absurd (omega (arith, ends.0, number, some))

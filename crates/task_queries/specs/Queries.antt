@@ -4,6 +4,9 @@ use Rattle.kb_logic.specs.declared.structures.Literal.{Literal}
 use Rattle.kb_logic.specs.Bases.{Base}
 use Rattle.kb_logic.specs.InForce.{InForce, HasModel, HasNoModel, LeavesFalse}
 use Rattle.kb_logic.specs.Answers.{AreModels, IsConflict, IsLeast, IsSupport}
+use Rattle.lit_core.specs.declared.literals.Lit.{Lit}
+use Rattle.term_values.specs.GroundBases.{GroundBase}
+use Rattle.ground_task.specs.Tasks.{AreRefuted}
 use Rattle.task_queries.specs.declared.found.Least.{Least}
 use Rattle.task_queries.specs.declared.found.Models.{Models}
 use Rattle.task_queries.specs.declared.found.Reason.{Reason}
@@ -33,3 +36,9 @@ AnswersModels base choices most (Some ms) = AreModels base (under choices) most 
 abbrev pub AnswersLeast : Base → List Literal → ℕ → Option Least → Type 0
 AnswersLeast base choices term None = HasNoModel base (under choices)
 AnswersLeast base choices term (Some l) = IsLeast base (under choices) term l.value l.model
+
+-- that there is no model is shown by a kept core among the choices' literals
+abbrev pub ShowsInconsistent : GroundBase → List Literal → List (List Lit) → Reason → Type 0
+ShowsInconsistent b choices cores Free = Unit {0}
+ShowsInconsistent b choices cores Inconsistent = AreRefuted b choices cores
+ShowsInconsistent b choices cores (By ls) = Unit {0}

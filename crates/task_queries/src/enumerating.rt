@@ -5,7 +5,7 @@ ghost use Rattle.lit_core.specs.Literals.{valuation};
 ghost use Rattle.ground_core.specs.Solving.{IsBudgetOf, HaltedAt};
 ghost use Rattle.ground_core.specs.Calls.{CallEnds};
 ghost use Rattle.term_values.specs.GroundBases.{structure_of};
-ghost use Rattle.ground_task.specs.Tasks.{IsTaskOf, IsTask};
+ghost use Rattle.ground_task.specs.Tasks.{IsTaskOf, IsTask, ShowsNone};
 ghost use Rattle.ground_task.specs.Choices.{AreOver};
 ghost use Rattle.task_queries.specs.Queries.{AnswersModels};
 
@@ -47,6 +47,7 @@ pub fn models<S: Grow>(
     requires budget { IsBudgetOf (S.state task.old.solver).learnt budget.old }
     ensures answer { IfOk result (λ a. (base : Base)
         → IsTaskOf base task.old.numbers (S.state task.old.solver).problem → AnswersModels base choices.now most a) }
+    ensures refuted { IfOk result (ShowsNone task.old.numbers choices.now (S.state task.new.solver).cores) }
     ensures task { (base : Base) → IsTaskOf base task.old.numbers (S.state task.old.solver).problem
         → IsTaskOf base task.new.numbers (S.state task.new.solver).problem }
     ensures halt { IfErr result (HaltedAt budget.new) }

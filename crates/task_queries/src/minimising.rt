@@ -4,7 +4,7 @@ ghost use Rattle.kb_logic.specs.Bases.{Base};
 ghost use Rattle.ground_core.specs.Solving.{IsBudgetOf, HaltedAt};
 ghost use Rattle.ground_core.specs.Calls.{CallEnds};
 ghost use Rattle.model_minimiser.specs.Minima.{Spans};
-ghost use Rattle.ground_task.specs.Tasks.{IsTaskOf, IsTask};
+ghost use Rattle.ground_task.specs.Tasks.{IsTaskOf, IsTask, ShowsNone};
 ghost use Rattle.ground_task.specs.Choices.{AreOver};
 ghost use Rattle.task_queries.specs.Queries.{AnswersLeast};
 
@@ -30,6 +30,7 @@ pub fn least<S: Grow>(
     requires budget { IsBudgetOf (S.state task.old.solver).learnt budget.old }
     ensures answer { IfOk result (λ a. (base : Base)
         → IsTaskOf base task.old.numbers (S.state task.old.solver).problem → AnswersLeast base choices.now term a) }
+    ensures refuted { IfOk result (ShowsNone task.old.numbers choices.now (S.state task.new.solver).cores) }
     ensures task { (base : Base) → IsTaskOf base task.old.numbers (S.state task.old.solver).problem
         → IsTaskOf base task.new.numbers (S.state task.new.solver).problem }
     ensures halt { IfErr result (HaltedAt budget.new) }

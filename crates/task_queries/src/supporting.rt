@@ -6,7 +6,7 @@ ghost use Rattle.ground_core.specs.Solving.{IsBudgetOf, HaltedAt};
 ghost use Rattle.ground_core.specs.Calls.{CallEnds};
 ghost use Rattle.ground_task.specs.Tasks.{IsTaskOf, IsTask};
 ghost use Rattle.ground_task.specs.Choices.{AreOver};
-ghost use Rattle.task_queries.specs.Queries.{AnswersSupport};
+ghost use Rattle.task_queries.specs.Queries.{AnswersSupport, ShowsInconsistent};
 
 use crate::found::Reason;
 use ground_core::{Budget, Halt, Solve};
@@ -31,6 +31,7 @@ pub fn support<S: Solve>(
     ensures answer { IfOk result (λ a. (base : Base)
         → IsTaskOf base task.old.numbers (S.state task.old.solver).problem
         → AnswersSupport base choices.now literal.now a) }
+    ensures refuted { IfOk result (ShowsInconsistent task.old.numbers choices.now (S.state task.new.solver).cores) }
     ensures task { (base : Base) → IsTaskOf base task.old.numbers (S.state task.old.solver).problem
         → IsTaskOf base task.new.numbers (S.state task.new.solver).problem }
     ensures halt { IfErr result (HaltedAt budget.new) }

@@ -1,10 +1,14 @@
 //! What a session answers to queries.
-ghost use Rattle.std.specs.Prelude.{◌≡◌, ◌≤◌, ◌<◌, [], length, IfOk};
+ghost use Rattle.std.specs.Prelude.{◌≡◌, ◌≤◌, ◌<◌, false, length, IfOk, OnErr};
 ghost use Rattle.consult_base.specs.Opened.{base_of};
 ghost use Rattle.consult_text.specs.declared.commands.Command.TheVariants as command;
 ghost use Rattle.consult_text.specs.Literals.{IsLiteralOver};
 ghost use Rattle.consult_text.specs.RightReplies.{RightReply};
-ghost use Rattle.consultant_session.specs.Queries.{Searches};
+ghost use Rattle.ground_core.specs.Solving.{IsPrefix};
+ghost use Rattle.ground_task.specs.Tasks.{AreRefuted, atom_base};
+ghost use Rattle.consultant_session.specs.Queries.{CoversReply, IsKeptOrNew, Refutes, Searches};
+ghost use Rattle.consultant_session.specs.Queries.{most_additions};
+ghost use Rattle.consultant_session.specs.Sessions.{PropagatesUpTo};
 ghost use Rattle.consultant_session.specs.Solvers.{IsSolverOf};
 
 use super::Session;
@@ -12,16 +16,18 @@ use crate::queries::{explain, minimize, model, models, propagate, why};
 use crate::tasks::open_anew;
 use chooser::Choose;
 use consult_text::Reply;
+use forced_literals::Unknown;
+use found_models::models_under;
 use kb_logic::{Literal, Memory};
 
-/// What queries add to the solver's problem stays in it: after so many additions the task is opened anew.
-const MOST_ADDITIONS: u64 = 1_000;
-/// As many additions as one `minimize` is taken to make: a bound for each value that is found.
-const BOUNDS: u32 = 64;
+/// So many bounds and exclusions stay in the solver's problem.
+const MOST_ADDITIONS: usize = 1_000;
 
 /// Whether the task stays though so much was added to its problem: always where a log is kept, since the log's numbers
 /// are those of the task's clauses and variables.
-fn keeps_task(logs: bool, added: u64) -> bool {
+fn keeps_task(logs: bool, added: usize) -> bool
+    ensures { result ≡ false → most_additions < added }
+{
     logs || added <= MOST_ADDITIONS
 }
 
@@ -33,6 +39,9 @@ impl<C: Choose + Copy + Drop> Session<C> {
         ensures kb { self.new.kb ≡ self.old.kb }
         ensures searches { Searches (base_of self.old.kb) command.Model self.old.state.budget result self.old.solver
             self.new.solver }
+        ensures refuted { IfOk result (Refutes (atom_base (base_of self.old.kb)) self.old.state.choices
+            self.new.solver.cores) }
+        ensures supports { self.new.supports ≡ self.old.supports }
     {
         model(
             self.alloc,
@@ -45,15 +54,19 @@ impl<C: Choose + Copy + Drop> Session<C> {
 
     /// At most so many models.
     pub(super) fn models(&mut self, most: u32) -> Result<Reply, Memory>
-        requires { 1 ≤ most }
+        requires most { 1 ≤ most }
+        requires open { AreRefuted (atom_base (base_of self.old.kb)) self.old.state.choices self.old.solver.cores → ⊥ }
         ensures right { IfOk result (λ reply. RightReply (base_of self.old.kb) self.old.state (command.Models most)
             reply) }
         ensures state { self.new.state ≡ self.old.state }
         ensures kb { self.new.kb ≡ self.old.kb }
         ensures searches { Searches (base_of self.old.kb) (command.Models most) self.old.state.budget result
             self.old.solver self.new.solver }
+        ensures refuted { IfOk result (Refutes (atom_base (base_of self.old.kb)) self.old.state.choices
+            self.new.solver.cores) }
+        ensures supports { self.new.supports ≡ self.old.supports }
     {
-        self.renew(most)?;
+        self.renew()?;
         models(
             self.alloc,
             &mut self.task,
@@ -63,21 +76,21 @@ impl<C: Choose + Copy + Drop> Session<C> {
         )
     }
 
-    /// Gives up what was learnt, and opens the task anew where much was added to its problem; so many more exclusions
-    /// will be.
-    fn renew(&mut self, more: u32) -> Result<(), Memory>
+    /// Opens the task anew where much was added to its problem, before more is.
+    fn renew(&mut self) -> Result<(), Memory>
+        requires { AreRefuted (atom_base (base_of self.old.kb)) self.old.state.choices self.old.solver.cores → ⊥ }
         ensures state { self.new.state ≡ self.old.state }
         ensures kb { self.new.kb ≡ self.old.kb }
-        ensures learnt { self.new.solver.learnt ≡ [] }
+        ensures supports { self.new.supports ≡ self.old.supports }
+        ensures left { IsKeptOrNew self.old.solver self.new.solver }
+        ensures same { OnErr result (self.new.solver ≡ self.old.solver) }
         ensures solver { IsSolverOf (base_of self.old.kb) self.new.solver }
     {
-        self.task.forget();
-        if keeps_task(self.logs, self.added) {
-            self.added = self.added.saturating_add(more as u64);
+        if keeps_task(self.logs, self.task.addition_count()) {
             return Ok(());
         }
         open_anew(self.alloc, &self.kb, self.rule, &mut self.task)?;
-        self.added = more as u64;
+        self.is_ready = false;
         Ok(())
     }
 
@@ -89,28 +102,44 @@ impl<C: Choose + Copy + Drop> Session<C> {
         ensures kb { self.new.kb ≡ self.old.kb }
         ensures searches { Searches (base_of self.old.kb) command.Propagate self.old.state.budget result self.old.solver
             self.new.solver }
+        ensures refuted { IfOk result (Refutes (atom_base (base_of self.old.kb)) self.old.state.choices
+            self.new.solver.cores) }
+        ensures supports { IsPrefix self.old.supports self.new.supports }
+        ensures covers { IfOk result (CoversReply (base_of self.old.kb) self.old.state.choices self.new.supports) }
+        ensures propagates { PropagatesUpTo (base_of self.old.kb) command.Propagate self.old.supports self.old.solver
+            self.new.solver }
     {
+        let choices = self.choices.as_slice();
+        let seen = models_under(self.alloc, &self.task, &self.found, choices)?;
+        let unknown = Unknown {
+            lits: self.unknown.as_slice(),
+            seen: seen.as_slice(),
+        };
         propagate(
             self.alloc,
             &mut self.task,
-            &self.found,
-            self.choices.as_slice(),
+            choices,
             self.budget,
-            self.unknown.as_slice(),
+            &unknown,
+            &mut self.supports,
         )
     }
 
     /// The least value of the term block with this number.
     pub(super) fn minimize(&mut self, term: u32) -> Result<Reply, Memory>
-        requires { term < length (base_of self.old.kb).terms }
+        requires term { term < length (base_of self.old.kb).terms }
+        requires open { AreRefuted (atom_base (base_of self.old.kb)) self.old.state.choices self.old.solver.cores → ⊥ }
         ensures right { IfOk result
             (λ reply. RightReply (base_of self.old.kb) self.old.state (command.Minimize term) reply) }
         ensures state { self.new.state ≡ self.old.state }
         ensures kb { self.new.kb ≡ self.old.kb }
         ensures searches { Searches (base_of self.old.kb) (command.Minimize term) self.old.state.budget result
             self.old.solver self.new.solver }
+        ensures refuted { IfOk result (Refutes (atom_base (base_of self.old.kb)) self.old.state.choices
+            self.new.solver.cores) }
+        ensures supports { self.new.supports ≡ self.old.supports }
     {
-        self.renew(BOUNDS)?;
+        self.renew()?;
         minimize(
             self.alloc,
             &mut self.task,
@@ -129,6 +158,9 @@ impl<C: Choose + Copy + Drop> Session<C> {
         ensures kb { self.new.kb ≡ self.old.kb }
         ensures searches { Searches (base_of self.old.kb) (command.Explain literal.now) self.old.state.budget result
             self.old.solver self.new.solver }
+        ensures refuted { IfOk result (Refutes (atom_base (base_of self.old.kb)) self.old.state.choices
+            self.new.solver.cores) }
+        ensures supports { self.new.supports ≡ self.old.supports }
     {
         explain(
             self.alloc,
@@ -146,6 +178,9 @@ impl<C: Choose + Copy + Drop> Session<C> {
         ensures kb { self.new.kb ≡ self.old.kb }
         ensures searches { Searches (base_of self.old.kb) command.Why self.old.state.budget result self.old.solver
             self.new.solver }
+        ensures refuted { IfOk result (Refutes (atom_base (base_of self.old.kb)) self.old.state.choices
+            self.new.solver.cores) }
+        ensures supports { self.new.supports ≡ self.old.supports }
     {
         why(
             self.alloc,

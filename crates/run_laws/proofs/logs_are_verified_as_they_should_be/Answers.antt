@@ -7,9 +7,11 @@ returns c =
     let one = c.one_file_meaning.ensures in
     let laws = c.statuses_come_where_they_should.ensures in
     record {
-      accepted = accepted_log_law one laws.taking laws.command c.one_answer.ensures;
+      accepted = accepted_log_law one laws.taking laws.command c.one_answer.ensures
+          c.one_problem.ensures;
       verified = verified_law one;
-      refused = refused_log_law one laws.taking laws.command c.one_answer.ensures;
+      refused = refused_log_law one laws.taking laws.command c.one_answer.ensures
+          c.one_problem.ensures;
       bad_entry = bad_entry_law one;
       long = long_log_law one laws.taking laws.command;
       short = short_log_law one;

@@ -129,7 +129,7 @@ pub(super) const A_DEFINITION: &[u8] =
 
 /// Its theory weighs more than is allowed.
 pub(super) const A_HEAVY_THEORY: &[u8] = b"vocabulary V { type N isa nat  P(N)  Q(N,N) }
-theory T : V { !x y: Q(x,y) => P(x) | P(y). }
+theory T : V { !x y z: Q(x,y) => P(x) | P(z). }
 structure S : V { N = {1..1000}  Q = {1,2} }
 ";
 

@@ -10,6 +10,11 @@ const DEEP: &[u8] =
     b"((((((((((((((((((((((((((((((((((((((((((((((((((((((((((((((((((((((((((((((((((((((((((((((((((((\
 ((((((((((((((((((((((((((((((((((((((((((((((((((((((((((((((((((((((((((((((((((((((((((((((((((((true";
 
+/// A sentence that stands under more than 16,000,000 assignments.
+const WIDE: &[u8] =
+    b"  !a[Area] b[Area] c[Area] d[Area] e[Area] f[Area] g[Area] h[Area] i[Area] j[Area] \
+k[Area] l[Area] m[Area] n[Area] o[Area] p[Area] q[Area] r[Area] s[Area] t[Area] u[Area] v[Area] w[Area] x[Area]: true.";
+
 /// The number of the changed line, from 0, the text in its place, and the refusal.
 const CHANGES: [(usize, &[u8], &[u8]); 19] = [
     (12, b"", b"error K1 Syntax line 14\n"),
@@ -66,11 +71,7 @@ const CHANGES: [(usize, &[u8], &[u8]); 19] = [
         b"  Area = {b; f; 1..2000}",
         b"error K14 TooLarge line 4\n",
     ),
-    (
-        10,
-        b"  Area = {b; f; 1..498}",
-        b"error K14 TooLarge line 7\n",
-    ),
+    (7, WIDE, b"error K14 TooLarge line 7\n"),
     (7, DEEP, b"error K16 TooDeep line 8\n"),
     (
         12,

@@ -6,7 +6,7 @@ use Rattle.ground_core.specs.Problems.{ProblemState, AreLitsOf}
 use Rattle.ground_core.specs.Solving.{SolveState, AreUnretired}
 use Rattle.term_values.specs.GroundBases.{GroundBase, structure_of}
 use Rattle.model_expansion.specs.Expansions.{Expands}
-use Rattle.ground_task.proofs.TaskFacts.{problem-lits, not-retired, is-model, valued}
+use Rattle.ground_task.proofs.TaskFacts.{problem-lits, not-retired, is-model, valued, shown-of}
 use Rattle.ground_core.proofs.Sublists.{sublist-all}
 use Rattle.lit_core.specs.Literals.{literal_value}
 use Rattle.std.proofs.Common.{◌≡◌, true}
@@ -52,8 +52,8 @@ returns-in-Ok-structure_of-clause-found g c = λ base h are.
     (where-kept c.keep.result (λ short. cut-found base c.args.task.now.numbers p h c.known.ensures.kept.problem
     c.in-Ok.lits.items c.in-Ok-Sat.values c.args.found.now.last sat short are.last) c.keep.ensures.short) are
 
-pub returns-in-Ok-Sat-clause-found : goal.returns-in-Ok-Sat-clause-found
-returns-in-Ok-Sat-clause-found g c = λ base h are.
+pub returns-in-Ok-keep-clause-found : goal.returns-in-Ok-keep-clause-found
+returns-in-Ok-keep-clause-found g c = λ base h are.
     let p : ProblemState = (g.S.Solve.state c.args.task.now.solver).problem in
     let t : SolveState = g.S.Solve.state c.expand.new.s.solver in
     let found = subst (λ (ls : List Lit). Expands p ls t.cores (c.in-Ok-Sat.field-0)) c.as_slice.ensures.value
@@ -74,3 +74,13 @@ returns-in-Ok-Unsat-clause-answer g c = λ base h m under.
     let e = valued base c.args.task.now.numbers p h c.args.choices.now c.in-Ok.lits.items c.in-Ok.ensures m under in
     unsat.0.1 e.0 e.1 (sublist-all (λ l. literal_value e.0 l ≡ true) c.in-Ok-Unsat.field-0-0 c.in-Ok.lits.items
     unsat.0.0 e.2)
+
+pub returns-in-Ok-Unsat-clause-refuted : goal.returns-in-Ok-Unsat-clause-refuted
+returns-in-Ok-Unsat-clause-refuted g c = λ lits each.
+    let p : ProblemState = (g.S.Solve.state c.args.task.now.solver).problem in
+    let t : SolveState = g.S.Solve.state c.expand.new.s.solver in
+    let found = subst (λ (ls : List Lit). Expands p ls t.cores (c.in-Ok-Unsat.field-0)) c.as_slice.ensures.value
+    c.in-Ok-Unsat.ensures.expands in
+    let unsat = subst (Expands p c.in-Ok.lits.items t.cores) c.in-Ok-Unsat.field-0-is found in
+    shown-of c.requires.task.0 c.args.task.now.numbers p c.requires.task.1 c.args.choices.now c.in-Ok.lits.items lits
+    c.in-Ok.ensures each t.cores unsat.1

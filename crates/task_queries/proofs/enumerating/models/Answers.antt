@@ -9,7 +9,7 @@ use Rattle.term_values.specs.GroundBases.{GroundBase, structure_of}
 use Rattle.model_expansion.specs.Enumerations.{FindsSeveral}
 use Rattle.ground_task.proofs.TaskFacts.{problem-lits, not-retired}
 use Rattle.task_queries.specs.Queries.{under}
-use Rattle.task_queries.proofs.ModelFacts.{task-grows, are-several, none-several, is-empty, not-empty}
+use Rattle.task_queries.proofs.ModelFacts.{task-grows, are-several, none-several, none-shown, is-empty, not-empty}
 use Rattle.task_queries.proofs.enumerating.models.Goals as goal
 
 pub several-requires-clause-literals : goal.several-requires-clause-literals
@@ -77,3 +77,13 @@ returns-clause-task g c = λ base h.
     task-grows base c.args.task.now.numbers c.several.new.s.numbers (g.S.Solve.state c.args.task.now.solver).problem
     (g.S.Solve.state c.several.new.s.solver).problem (sym c.several.ensures.later.1) c.known.ensures.kept.problem
     c.several.ensures.grows h
+
+pub returns-then-is_empty-clause-refuted : goal.returns-then-is_empty-clause-refuted
+returns-then-is_empty-clause-refuted g c =
+    let p : ProblemState = (g.S.Solve.state c.args.task.now.solver).problem in
+    let t : SolveState = g.S.Solve.state c.several.new.s.solver in
+    let found = subst (λ (ls : List Lit). FindsSeveral p ls c.args.most t.cores c.in-Ok-several.found)
+    c.as_slice.ensures.value c.in-Ok-several.ensures.finds in
+    none-shown c.requires.task.0 c.args.task.now.numbers p c.requires.task.1 c.args.choices.now c.in-Ok.lits.items
+    c.in-Ok.ensures c.args.most t.cores c.in-Ok-several.found.found c.in-Ok-several.found.complete c.requires.most
+    (is-empty c.in-Ok-several.found.found c.if-is_empty.ensures) found

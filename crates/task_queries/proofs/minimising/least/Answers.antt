@@ -6,7 +6,7 @@ use Rattle.lit_core.specs.Literals.{valuation}
 use Rattle.kb_logic.specs.Answers.{IsLeast}
 use Rattle.term_values.specs.GroundBases.{GroundBase, structure_of}
 use Rattle.model_minimiser.specs.Minima.{FindsLeast}
-use Rattle.ground_task.proofs.TaskFacts.{problem-lits, not-retired}
+use Rattle.ground_task.proofs.TaskFacts.{problem-lits, not-retired, shown-of}
 use Rattle.task_queries.specs.Queries.{under}
 use Rattle.task_queries.proofs.ReasonFacts.{no-model}
 use Rattle.task_queries.proofs.ModelFacts.{task-grows}
@@ -106,3 +106,14 @@ returns-clause-ends g c = λ n spans. record {
   kept = c.least.ensures.kept;
   free = c.least.ensures.adds.grows.free;
 }
+
+pub returns-in-Ok-None-clause-refuted : goal.returns-in-Ok-None-clause-refuted
+returns-in-Ok-None-clause-refuted g c = λ lits each.
+    let p : ProblemState = (g.S.Solve.state c.args.task.now.solver).problem in
+    let t : SolveState = g.S.Solve.state c.least.new.s.solver in
+    let found = subst (λ (ls : List Lit). FindsLeast p ls c.args.term t.cores t.problem.bounds c.in-Ok-None.field-0)
+    c.as_slice.ensures.value c.in-Ok-None.ensures.least in
+    let told = subst (FindsLeast p c.in-Ok.lits.items c.args.term t.cores t.problem.bounds)
+    c.in-Ok-None.field-0-is found in
+    shown-of c.requires.task.0 c.args.task.now.numbers p c.requires.task.1 c.args.choices.now c.in-Ok.lits.items lits
+    c.in-Ok.ensures each t.cores told.1

@@ -6,7 +6,7 @@ use Rattle.lit_core.specs.Literals.{negated}
 use Rattle.term_values.specs.GroundBases.{GroundBase}
 use Rattle.support_explainer.specs.Reasons.{FindsSupport}
 use Rattle.ground_task.specs.Choices.{AreChosen}
-use Rattle.ground_task.proofs.TaskFacts.{problem-lits, not-retired}
+use Rattle.ground_task.proofs.TaskFacts.{problem-lits, not-retired, shown-of}
 use Rattle.task_queries.proofs.ReasonFacts.{reason-ends, no-model, is-false, supports, opposite, opposed}
 use Rattle.task_queries.proofs.supporting.support.Goals as goal
 
@@ -114,3 +114,14 @@ returns-clause-ends g c =
     c.as_slice.ensures.value (g.S.Solve.state c.args.task.now.solver) (g.S.Solve.state c.support.new.s.solver)
     c.args.budget.now c.support.new.budget c.support.ensures.stays c.support.ensures.keeps c.support.ensures.costs
     c.support.ensures.kept
+
+pub returns-in-Ok-Inconsistent-clause-refuted : goal.returns-in-Ok-Inconsistent-clause-refuted
+returns-in-Ok-Inconsistent-clause-refuted g c = λ lits each.
+    let p : ProblemState = (g.S.Solve.state c.args.task.now.solver).problem in
+    let t : SolveState = g.S.Solve.state c.support.new.s.solver in
+    let target : Lit = c.lit_of-target.result in
+    let found = subst (λ (ls : List Lit). FindsSupport p ls target t.cores c.in-Ok-Inconsistent.field-0)
+    c.as_slice.ensures.value c.in-Ok-Inconsistent.ensures.finds in
+    let told = subst (FindsSupport p c.in-Ok.lits.items target t.cores) c.in-Ok-Inconsistent.field-0-is found in
+    shown-of c.requires.task.0 c.args.task.now.numbers p c.requires.task.1 c.args.choices.now c.in-Ok.lits.items lits
+    c.in-Ok.ensures each t.cores told.1

@@ -1,4 +1,4 @@
-use Rattle.std.proofs.Common.{List, IfOk, sym, ap, subst}
+use Rattle.std.proofs.Common.{List, IfOk, sym, ap, subst, inl, refl}
 use Rattle.kb_logic.specs.declared.structures.Literal.{Literal}
 use Rattle.ground_task.specs.Choices.{AreOver}
 use Rattle.consult_base.specs.Opened.{Opened, base_of}
@@ -6,8 +6,10 @@ use Rattle.consult_text.specs.Literals.{IsLiteralOver}
 use Rattle.consultant_session.specs.Sessions.{SessionState}
 use Rattle.consult_text.specs.declared.commands.Command.TheVariants as command
 use Rattle.consult_text.specs.RightReplies.{RightAnswer}
+use Rattle.clause_learning.specs.GoingOn.{prefix-itself}
 use Rattle.consultant_session.proofs.FoundLemmas.{choices_over}
-use Rattle.consultant_session.proofs.QueryLemmas.{still_over, query_searches}
+use Rattle.consultant_session.proofs.KeptAnswers.{answers-stay}
+use Rattle.consultant_session.proofs.QueryLemmas.{still_over, query_searches, refuted_by}
 use Rattle.kb_logic.specs.Models.{IsAtomOver, atom_of}
 use Rattle.term_values.specs.GroundBases.{GroundBase}
 use Rattle.consultant_session.proofs.FoundLemmas.{atom_over}
@@ -38,8 +40,15 @@ returns-clause-right g c =
 
 pub returns-clause-searches : goal.returns-clause-searches
 returns-clause-searches g c =
-    rw (← c.self.view_is) (query_searches _ (base_of c.self.inside.kb) (command.Explain c.args.literal.now) _ _ _ _ _ _
-    _ c.explain.ensures c.self.invariant.over)
+    rw (← c.self.view_is) (query_searches _ (base_of c.self.inside.kb) (command.Explain c.args.literal.now) _ _ _ _ _
+    _ _ _ (inl (refl, refl))
+    c.explain.ensures c.self.invariant.over)
+
+pub returns-clause-refuted : goal.returns-clause-refuted
+returns-clause-refuted g c =
+    rw (← c.self.view_is) (refuted_by (base_of c.self.inside.kb) c.self.inside.task.numbers c.as_slice.result.now
+    c.self.inside.choices c.explain.new.task.solver.kept.cores c.explain.result c.self.invariant.over.task.numbers
+    c.as_slice.ensures c.explain.ensures.refuted)
 
 pub invariant_of-self : goal.invariant_of-self
 invariant_of-self g c = record {
@@ -48,4 +57,11 @@ invariant_of-self g c = record {
   found = c.self.invariant.found;
   over = still_over _ (base_of c.self.inside.kb) (command.Explain c.args.literal.now) _ _ _ _ _ _ _ c.explain.ensures
       c.self.invariant.over;
+  supports = c.self.invariant.supports;
+  answered = answers-stay (base_of c.self.inside.kb) (record {
+    choices = c.self.inside.choices;
+    budget = c.self.inside.budget;
+  }) c.self.inside.supports c.self.inside.supports c.self.inside.task.solver.kept c.explain.new.task.solver.kept
+      c.self.inside.answered (prefix-itself c.self.inside.supports) c.explain.ensures.learns.cores
+      c.self.invariant.answered;
 }

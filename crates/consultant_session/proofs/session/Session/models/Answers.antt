@@ -6,17 +6,23 @@ use Rattle.consult_base.specs.Opened.{Opened, base_of}
 use Rattle.consult_text.specs.declared.commands.Command.TheVariants as command
 use Rattle.consult_text.specs.RightReplies.{RightAnswer}
 use Rattle.consult_text.specs.States.{State}
-use Rattle.consultant_session.specs.Queries.{Searches}
+use Rattle.ground_core.specs.Solving.{SolveState}
+use Rattle.ground_task.specs.Tasks.{atom_base}
+use Rattle.consultant_session.specs.Queries.{IsKeptOrNew, Refutes, Searches}
 use Rattle.consultant_session.specs.Sessions.{SessionState}
+use Rattle.clause_learning.specs.GoingOn.{prefix-itself}
 use Rattle.consultant_session.proofs.FoundLemmas.{choices_over}
-use Rattle.consultant_session.proofs.QueryLemmas.{idle, still_over, query_searches, renewed_searches}
+use Rattle.consultant_session.proofs.KeptAnswers.{answers-stay}
+use Rattle.consultant_session.proofs.QueryLemmas.{idle, left_of, still_over, query_searches, refuted_by}
 use Rattle.consultant_session.proofs.session.Session.models.Goals as goal
 
 pub returns-in_err-renew-clause-searches : goal.returns-in_err-renew-clause-searches
 returns-in_err-renew-clause-searches g c =
     let p = err_from_is_err_and c.from_residual.result c.from_residual.ensures.1 in
+    let same = c.in_err-renew.ensures.same in
     rw p.1 (idle (base_of c.args.self.now.kb) (command.Models c.args.most) c.args.self.now.state.budget _
-    c.args.self.now.solver c.renew.new.self.solver (sym c.in_err-renew.ensures.learnt) tt c.in_err-renew.ensures.solver)
+    c.args.self.now.solver c.renew.new.self.solver (ap (λ (s : SolveState). s.learnt) same)
+    (ap (λ (s : SolveState). s.cores) same) tt c.in_err-renew.ensures.solver)
 
 pub models-requires-clause-task : goal.models-requires-clause-task
 models-requires-clause-task g c = (base_of c.self.inside.kb, c.self.invariant.over.task)
@@ -34,6 +40,13 @@ invariant_of-self g c = record {
   found = c.self.invariant.found;
   over = still_over _ (base_of c.self.inside.kb) (command.Models c.args.most) _ _ _ _ _ _ _ c.models.ensures
       c.self.invariant.over;
+  supports = c.self.invariant.supports;
+  answered = answers-stay (base_of c.self.inside.kb) (record {
+    choices = c.self.inside.choices;
+    budget = c.self.inside.budget;
+  }) c.self.inside.supports c.self.inside.supports c.self.inside.task.solver.kept c.models.new.task.solver.kept
+      c.self.inside.answered (prefix-itself c.self.inside.supports) c.models.ensures.learns.cores
+      c.self.invariant.answered;
 }
 
 pub returns-clause-state : goal.returns-clause-state
@@ -60,11 +73,26 @@ returns-clause-searches g c =
     let budget = ap (λ (s : SessionState). s.state.budget) c.self.view_is
     ∙ ap (λ (s : State). s.budget) c.in_ok-renew.ensures.state in
     let kb = ap (λ (s : SessionState). s.kb) c.self.view_is ∙ c.in_ok-renew.ensures.kb in
-    let searched = renewed_searches (base_of c.self.inside.kb) (command.Models c.args.most) c.self.inside.budget
-    c.models.result c.args.self.now.solver c.self.inside.task.solver.kept c.models.new.task.solver.kept refl
-    (query_searches _ (base_of c.self.inside.kb) (command.Models c.args.most) _ _ _ _ _ _ _ c.models.ensures
-    c.self.invariant.over) in
+    let left = subst (λ (s : SessionState). IsKeptOrNew c.args.self.now.solver s.solver) (sym c.self.view_is)
+    c.in_ok-renew.ensures.left in
+    let searched = query_searches _ (base_of c.self.inside.kb) (command.Models c.args.most) _ c.self.inside.budget _ _
+    c.args.self.now.solver _ _ _ (left_of (command.Models c.args.most) c.args.self.now.solver
+    c.self.inside.task.solver.kept refl refl
+    (λ more. more) left) c.models.ensures c.self.invariant.over in
     subst (λ (b : Option ℕ). Searches (base_of c.args.self.now.kb) (command.Models c.args.most) b c.models.result
     c.args.self.now.solver c.models.new.task.solver.kept) budget
     (subst (λ (k : Opened). Searches (base_of k) (command.Models c.args.most) c.self.inside.budget c.models.result
     c.args.self.now.solver c.models.new.task.solver.kept) kb searched)
+
+pub returns-clause-refuted : goal.returns-clause-refuted
+returns-clause-refuted g c =
+    let kb = ap (λ (s : SessionState). s.kb) c.self.view_is ∙ c.in_ok-renew.ensures.kb in
+    let choices = ap (λ (s : SessionState). s.state.choices) c.self.view_is
+    ∙ ap (λ (s : State). s.choices) c.in_ok-renew.ensures.state in
+    subst (λ (k : Opened). IfOk c.models.result (Refutes (atom_base (base_of k)) c.args.self.now.state.choices
+    c.models.new.task.solver.kept.cores)) kb
+    (refuted_by (base_of c.self.inside.kb) c.self.inside.task.numbers c.as_slice.result.now
+    c.args.self.now.state.choices
+    c.models.new.task.solver.kept.cores c.models.result c.self.invariant.over.task.numbers (c.as_slice.ensures ∙
+    choices)
+    c.models.ensures.refuted)

@@ -8,7 +8,7 @@ use Rattle.kb_logic.specs.declared.structures.Structure.{Structure}
 use Rattle.kb_logic.specs.declared.structures.Literal.{Literal}
 use Rattle.kb_logic.specs.Models.{AtomHolds, atom_of, HoldsWithSign, HoldsIn}
 use Rattle.consult_text.specs.States.{same_row, same_sign, same_given_value, same_literal}
-use Rattle.consultant_session.proofs.ElementLemmas.{same_elem_decides, same_row_decides}
+use Rattle.kept_answers.proofs.ElementLemmas.{same_elem_decides, same_row_decides}
 
 same_sign_decides : (a b : Bool) → Decides (same_sign a b) (a ≡ b)
 same_sign_decides true b = ((λ is. sym is), (λ is. sym is))

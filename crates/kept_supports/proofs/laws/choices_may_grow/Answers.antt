@@ -1,0 +1,5 @@
+use Rattle.kept_supports.proofs.SupportFacts.{choices_may_grow}
+use Rattle.kept_supports.proofs.laws.choices_may_grow.Goals as goal
+
+pub returns : goal.returns
+returns c = choices_may_grow
