@@ -3,7 +3,13 @@
 #![tactic(auto)]
 
 mod choice;
+mod counting;
+mod explaining;
 mod lines;
+mod numbers;
+mod open;
 mod parts;
+mod pieces;
+mod reading;
 
-pub use lines::note_on_size;
+pub use explaining::{Refusal, explained};

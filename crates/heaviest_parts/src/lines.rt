@@ -1,28 +1,39 @@
 //! What is told of the heaviest parts.
 use crate::choice::heaviest;
-use crate::parts::{Counted, Part, parts_of};
-use fo_syntax::KbError;
+use crate::numbers::grouped;
+use crate::parts::Part;
 use refusal_notes::line_of;
 use std::alloc::{AllocError as Memory, Global};
 
 /// How many parts are told.
 const TOLD: usize = 3;
 
-/// What stands before the parts.
-fn heading(of: Counted) -> &'static str {
-    match of {
-        Counted::Atoms => "  the declarations with the most ground atoms:\n",
-        Counted::Weights => "  what weighs most of it, by the line where it ends:\n",
-    }
+/// What is above its limit.
+#[derive(Clone, Copy)]
+pub enum Excess {
+    /// The number of ground atoms.
+    Atoms,
+    /// The weight of the theory with all terms.
+    Weight,
+    /// What the data leave open of that weight.
+    Open,
 }
 
-/// What is counted where a size is refused at this place: weights at a theory's word, ground atoms at a declaration.
-fn counted_at(bytes: &[u8], place: usize) -> Counted {
-    let (_, behind) = bytes.split_at(place.min(bytes.len()));
-    if behind.starts_with(b"theory") {
-        Counted::Weights
-    } else {
-        Counted::Atoms
+/// What stands before the parts of a file that weighs so much.
+fn heading(alloc: Global, weight: u64, excess: Excess) -> Result<String, Memory> {
+    let weight = grouped(alloc, weight)?;
+    match excess {
+        Excess::Atoms => {
+            String::from_str(alloc, "  the declarations with the most ground atoms:\n")
+        }
+        Excess::Weight => format!(in alloc;
+            "  it weighs {weight} of at most 64,000,000; what weighs most of it, by the line where it ends:\n"
+        ),
+        Excess::Open => format!(in alloc;
+            "  it weighs {weight} of at most 64,000,000, but what the data leave open of it more than 4,000,000: give \
+more\n  data, as all rows of a predicate or all values of a function, or fewer elements\n  what the data leave open of \
+its heaviest parts, by the line where they end:\n"
+        ),
     }
 }
 
@@ -30,7 +41,7 @@ fn counted_at(bytes: &[u8], place: usize) -> Counted {
 fn push_part(alloc: Global, bytes: &[u8], part: Part, out: &mut Vec<u8>) -> Result<(), Memory> {
     let (front, _) = bytes.split_at(part.place.min(bytes.len()));
     let line = line_of(front);
-    let count = part.count;
+    let count = grouped(alloc, part.count)?;
     let text = format!(in alloc; "    line {line}: {count}\n")?;
     out.extend_from_slice(text.as_bytes())
 }
@@ -53,24 +64,16 @@ fn push_heaviest(
     Ok(())
 }
 
-/// What is told of a size that is refused at a place of a file: which parts count most, a line each; nothing where the
-/// file is refused before its parts can be counted.
-pub fn note_on_size(
+/// What is told of what is above its limit in a file that weighs so much: which of these parts count most, a line each.
+pub fn lines_on(
     alloc: Global,
     bytes: &[u8],
-    theory: Option<&str>,
-    structure: Option<&str>,
-    place: usize,
+    weight: u64,
+    excess: Excess,
+    parts: &[Part],
 ) -> Result<Vec<u8>, Memory> {
     let mut out = Vec::new(alloc);
-    let of = counted_at(bytes, place);
-    match parts_of(alloc, bytes, theory, structure, of) {
-        Ok(parts) if !parts.is_empty() => {
-            out.extend_from_slice(heading(of).as_bytes())?;
-            push_heaviest(alloc, bytes, &parts, &mut out)?;
-            Ok(out)
-        }
-        Err(KbError::Memory) => Err(Memory),
-        _ => Ok(out),
-    }
+    out.extend_from_slice(heading(alloc, weight, excess)?.as_bytes())?;
+    push_heaviest(alloc, bytes, parts, &mut out)?;
+    Ok(out)
 }

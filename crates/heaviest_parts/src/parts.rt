@@ -1,54 +1,86 @@
 //! The parts of a file, each with its place and what it counts.
-use block_choice::pick;
-use fo_reader::read_kb;
-use fo_syntax::{KbError, RawKb, RawTheory, RawTheoryItem};
+use crate::reading::TypedFile;
+use fo_syntax::{RawTheory, RawTheoryItem};
 use kb_logic::Theory;
-use kb_names::resolve;
 use kb_sizes::domains::Domains;
 use kb_sizes::occurrences::{asked, formula_occurrences};
-use kb_sizes::weights::{atoms_of, rules};
+use kb_sizes::weights::{atoms_of, rules, weight};
 use std::alloc::{AllocError as Memory, Global};
-use structure_reader::read_structure;
-use type_derivation::{TypedKb, derive};
+use type_derivation::TypedKb;
 
-/// A declaration, a sentence, a definition or a term: where it stands, and its ground atoms or its weight.
+/// What a part of a file is, with its number among its kind.
 #[derive(Clone, Copy)]
-pub struct Part {
-    pub place: usize,
-    pub count: u64,
+pub enum Piece {
+    Declaration,
+    Sentence(usize),
+    Definition(usize),
+    Term(usize),
 }
 
-/// What is counted of a file.
+/// A part of a file: where it stands, and its ground atoms or its weight.
 #[derive(Clone, Copy)]
-pub enum Counted {
-    Atoms,
-    Weights,
+pub struct Part {
+    pub piece: Piece,
+    pub place: usize,
+    pub count: u64,
 }
 
 /// How often an occurrence weighs more than a ground atom.
 const WEIGHT_OF_OCCURRENCE: u64 = 4;
 
-fn weighed(place: usize, occurrences: u64) -> Part {
+fn weighed(piece: Piece, place: usize, occurrences: u64) -> Part {
     Part {
+        piece,
         place,
         count: occurrences.saturating_mul(WEIGHT_OF_OCCURRENCE),
     }
 }
 
 /// The declared symbols with their ground atoms.
-fn atoms_in(alloc: Global, kb: &TypedKb, domains: &Domains<'_, '_>) -> Result<Vec<Part>, Memory> {
+pub fn atoms_in(
+    alloc: Global,
+    file: &TypedFile,
+    domains: &Domains<'_, '_>,
+) -> Result<Vec<Part>, Memory> {
     let mut parts = Vec::new(alloc);
-    let places = kb.places.symbols.as_slice();
-    let symbols = kb.vocab.symbols.as_slice();
+    let places = file.kb.places.symbols.as_slice();
+    let symbols = file.kb.vocab.symbols.as_slice();
     for number in 0..symbols.len() {
         if let Some(place) = places.get(number) {
             parts.push(Part {
+                piece: Piece::Declaration,
                 place: *place,
                 count: atoms_of(domains, &symbols[number]),
             })?;
         }
     }
     Ok(parts)
+}
+
+/// The sentence of this number, which ends at this place.
+fn sentence_at(
+    kb: &TypedKb,
+    theory: &Theory,
+    domains: &Domains<'_, '_>,
+    number: usize,
+    place: usize,
+) -> Option<Part> {
+    let sentence = theory.sentences.get(number)?;
+    let occurrences = formula_occurrences(&kb.vocab, domains, sentence);
+    Some(weighed(Piece::Sentence(number), place, occurrences))
+}
+
+/// The definition of this number, which ends at this place.
+fn definition_at(
+    kb: &TypedKb,
+    theory: &Theory,
+    domains: &Domains<'_, '_>,
+    number: usize,
+    place: usize,
+) -> Option<Part> {
+    let definition = theory.definitions.get(number)?;
+    let occurrences = rules(&kb.vocab, domains, definition.rules.as_slice());
+    Some(weighed(Piece::Definition(number), place, occurrences))
 }
 
 /// Adds the sentences and the definitions of a theory, each where its end stands, with their weights.
@@ -59,89 +91,70 @@ fn add_theory(
     domains: &Domains<'_, '_>,
     parts: &mut Vec<Part>,
 ) -> Result<(), Memory> {
-    let mut sentences = theory.sentences.as_slice();
-    let mut definitions = theory.definitions.as_slice();
+    let mut sentences = 0usize;
+    let mut definitions = 0usize;
     for item in raw.items.as_slice() {
-        match item {
+        let part = match item {
             RawTheoryItem::Sentence(sentence) => {
-                if let Some((first, rest)) = sentences.split_first() {
-                    let occurrences = formula_occurrences(&kb.vocab, domains, first);
-                    parts.push(weighed(sentence.dot, occurrences))?;
-                    sentences = rest;
-                }
+                sentences = sentences.saturating_add(1);
+                sentence_at(kb, theory, domains, sentences - 1, sentence.dot)
             }
             RawTheoryItem::Definition(definition) => {
-                if let Some((first, rest)) = definitions.split_first() {
-                    let occurrences = rules(&kb.vocab, domains, first.rules.as_slice());
-                    parts.push(weighed(definition.close, occurrences))?;
-                    definitions = rest;
-                }
+                definitions = definitions.saturating_add(1);
+                definition_at(kb, theory, domains, definitions - 1, definition.close)
             }
+        };
+        if let Some(part) = part {
+            parts.push(part)?;
         }
     }
     Ok(())
 }
 
-/// The sentences and definitions of the theory with this number and the terms, with their weights.
-fn weights_in(
+/// Adds the terms that may be asked for, with their weights.
+fn add_terms(
+    file: &TypedFile,
+    domains: &Domains<'_, '_>,
+    parts: &mut Vec<Part>,
+) -> Result<(), Memory> {
+    let raws = file.raw.terms.as_slice();
+    let terms = file.kb.terms.as_slice();
+    for number in 0..terms.len() {
+        if let Some(raw) = raws.get(number) {
+            let occurrences = asked(&file.kb.vocab, domains, &terms[number].value);
+            parts.push(weighed(Piece::Term(number), raw.close, occurrences))?;
+        }
+    }
+    Ok(())
+}
+
+/// The sentences and definitions of the chosen theory and the terms, with their weights.
+pub fn weights_in(
     alloc: Global,
-    raw: &RawKb,
-    kb: &TypedKb,
-    theory: usize,
+    file: &TypedFile,
     domains: &Domains<'_, '_>,
 ) -> Result<Vec<Part>, Memory> {
     let mut parts = Vec::new(alloc);
+    let theory = file.picked.theory;
     if let (Some(raw), Some(named)) = (
-        raw.theories.as_slice().get(theory),
-        kb.theories.get(theory),
+        file.raw.theories.as_slice().get(theory),
+        file.kb.theories.get(theory),
     ) {
-        add_theory(kb, raw, &named.value, domains, &mut parts)?;
+        add_theory(&file.kb, raw, &named.value, domains, &mut parts)?;
     }
-    let raws = raw.terms.as_slice();
-    let terms = kb.terms.as_slice();
-    for number in 0..terms.len() {
-        if let Some(raw) = raws.get(number) {
-            let occurrences = asked(&kb.vocab, domains, &terms[number].value);
-            parts.push(weighed(raw.close, occurrences))?;
-        }
-    }
+    add_terms(file, domains, &mut parts)?;
     Ok(parts)
 }
 
-/// The parts of a typed file over the structure with this number.
-fn parts_over(
-    alloc: Global,
-    raw: &RawKb,
-    kb: &TypedKb,
-    theory: usize,
-    structure: usize,
-    of: Counted,
-) -> Result<Vec<Part>, KbError> {
-    let Some(data) = raw.structures.as_slice().get(structure) else {
-        return Ok(Vec::new(alloc));
-    };
-    let known = read_structure(alloc, kb, theory, data)?;
-    let domains = Domains::listed(known.domains());
-    let parts = match of {
-        Counted::Atoms => atoms_in(alloc, kb, &domains),
-        Counted::Weights => weights_in(alloc, raw, kb, theory, &domains),
-    };
-    match parts {
-        Ok(parts) => Ok(parts),
-        Err(_) => Err(KbError::Memory),
+/// What the chosen theory weighs with all terms.
+pub fn whole_weight(file: &TypedFile, domains: &Domains<'_, '_>) -> u64 {
+    match file.kb.theories.get(file.picked.theory) {
+        Some(named) => weight(
+            &file.kb.vocab,
+            domains,
+            &named.value,
+            file.kb.terms.as_slice(),
+        ),
+        None => 0,
     }
-}
-
-/// What is counted in the bytes of a file, with the theory and the structure of these names, or with the only ones.
-pub fn parts_of(
-    alloc: Global,
-    bytes: &[u8],
-    theory: Option<&str>,
-    structure: Option<&str>,
-    of: Counted,
-) -> Result<Vec<Part>, KbError> {
-    let raw = read_kb(alloc, bytes)?;
-    let picked = pick(alloc, &raw, theory, structure)?;
-    let kb = derive(alloc, resolve(alloc, &raw)?)?;
-    parts_over(alloc, &raw, &kb, picked.theory, picked.structure, of)
 }

@@ -81,7 +81,7 @@ fn whole_sentence(cause: K, place: &Place<'_>) -> Option<&'static [u8]> {
     let sign = place.sign;
     match cause {
         K::TooLarge if sign == b"theory".as_slice() => Some(
-            b"the theory weighs more than 4,000,000: its sentences have too many instances",
+            b"the theory weighs too much: its sentences have too many instances",
         ),
         K::TooLong => Some(b"the file has more than 4,194,304 bytes"),
         K::BlockChoice if sign == b"vocabulary".as_slice() => {

@@ -15,7 +15,7 @@ mod spots;
 mod usage;
 
 pub use logs::{long_log_note, lost_log_note, refused_log_note};
-pub use note::{Memory, fault_note, file_note, long_file_note};
+pub use note::{Memory, fault_note, file_note, gone_file_note, long_file_note};
 pub use replies::reply_note;
 pub use spots::{column_of, line_of};
 pub use usage::{

@@ -126,3 +126,11 @@ pub fn file_note(alloc: Global, name: Option<&str>) -> Result<Vec<u8>, Memory> {
     let text = format!(in alloc; "idp: {name}: there is no such file, or it cannot be read\n")?;
     Ok(text.into_bytes())
 }
+
+/// What is told of a file that was refused, and cannot be read again, or is no longer refused.
+pub fn gone_file_note(alloc: Global, name: &str) -> Result<Vec<u8>, Memory> {
+    let text = format!(in alloc;
+        "idp: {name}: the file can no longer be read as it was refused\n"
+    )?;
+    Ok(text.into_bytes())
+}
