@@ -1,15 +1,40 @@
-//! The adapters over files and standard streams. They count errors and tell no bytes.
-ghost use Rattle.std.specs.Prelude.{None, ◌≡◌};
+//! The adapters over readers and writers. They count errors and tell no bytes.
+ghost use Rattle.std.specs.Prelude.{None, ◌≡◌, nat_lt};
+ghost use Rattle.std.specs.Io.{ReadsAtMost, WritesAtMost};
 
 #[cfg(test)]
 mod tests;
 
-use kb_io::{Failed, Shelf, Sink, Source};
-use std::fs;
-use std::io::{Read, Write};
-use std::rt::Files;
+use kb_io::{Failed, Sink, Source};
+use std::io::{self, ErrorKind, Read, Write};
 
-/// A reader, with a count of its errors.
+/// One read, made again where a signal interrupts it.
+pub fn read_again<R: Read>(inner: &mut R, buf: &mut [u8]) -> io::Result<usize>
+    ensures { ReadsAtMost result buf.new }
+{
+    for _ in 0..u64::MAX {
+        match inner.read(buf) {
+            Err(e) if e.kind() == ErrorKind::Interrupted => {}
+            result => return result,
+        }
+    }
+    Err(io::Error::from(ErrorKind::Interrupted))
+}
+
+/// One write, made again where a signal interrupts it.
+fn write_again<W: Write>(inner: &mut W, piece: &[u8]) -> io::Result<usize>
+    ensures { WritesAtMost result piece.now }
+{
+    for _ in 0..u64::MAX {
+        match inner.write(piece) {
+            Err(e) if e.kind() == ErrorKind::Interrupted => {}
+            result => return result,
+        }
+    }
+    Err(io::Error::from(ErrorKind::Interrupted))
+}
+
+/// A reader, with a count of its errors. A read that a signal interrupts is no error: it is made again.
 #[derive(Drop)]
 pub struct CountedReader<R> {
     inner: R,
@@ -23,6 +48,18 @@ impl<R> CountedReader<R> {
     {
         CountedReader { inner, faults: 0 }
     }
+
+    /// Whether a read failed.
+    pub fn has_failed(&self) -> bool
+        ensures { result ≡ nat_lt 0 self.now.faults }
+    {
+        self.faults > 0
+    }
+
+    /// The reader.
+    pub fn into_inner(self) -> R {
+        self.inner
+    }
 }
 
 impl<R: Read> Source for CountedReader<R> {
@@ -31,7 +68,7 @@ impl<R: Read> Source for CountedReader<R> {
     ghost faults = { λ s. s.faults };
 
     fn read(&mut self, buf: &mut [u8]) -> Result<usize, Failed> {
-        match self.inner.read(buf) {
+        match read_again(&mut self.inner, buf) {
             Ok(count) => Ok(count),
             Err(_) => {
                 self.faults = self.faults.saturating_add(1);
@@ -41,7 +78,7 @@ impl<R: Read> Source for CountedReader<R> {
     }
 }
 
-/// A writer, with a count of its errors.
+/// A writer, with a count of its errors. A write that a signal interrupts is no error: it is made again.
 #[derive(Drop)]
 pub struct CountedWriter<W> {
     inner: W,
@@ -68,7 +105,7 @@ impl<W: Write> Sink for CountedWriter<W> {
     ghost faults = { λ s. s.faults };
 
     fn write(&mut self, piece: &[u8]) -> Result<usize, Failed> {
-        match self.inner.write(piece) {
+        match write_again(&mut self.inner, piece) {
             Ok(count) if count > 0 || piece.is_empty() => Ok(count),
             _ => {
                 self.faults = self.faults.saturating_add(1);
@@ -84,50 +121,6 @@ impl<W: Write> Sink for CountedWriter<W> {
                 self.faults = self.faults.saturating_add(1);
                 Err(Failed)
             }
-        }
-    }
-}
-
-/// The files of the system.
-#[derive(Drop)]
-pub struct FileSystem<'a, R> {
-    rt: &'a R,
-    faults: u64,
-}
-
-impl<'a, R> FileSystem<'a, R> {
-    /// No file has failed.
-    pub fn new(rt: &'a R) -> FileSystem<'a, R>
-        ensures { result.faults ≡ 0 }
-    {
-        FileSystem { rt, faults: 0 }
-    }
-}
-
-impl<R: Files> Shelf for FileSystem<'_, R> {
-    type Src = CountedReader<R::File>;
-
-    ghost file = { λ _ _. None };
-
-    ghost asked = { λ _. None };
-
-    ghost open_sources = { λ _. None };
-
-    ghost faults = { λ s. s.faults };
-
-    fn open(&mut self, name: &str) -> Result<CountedReader<R::File>, Failed> {
-        match fs::open(self.rt, name) {
-            Ok(file) => Ok(CountedReader::new(file)),
-            Err(_) => {
-                self.faults = self.faults.saturating_add(1);
-                Err(Failed)
-            }
-        }
-    }
-
-    fn close(&mut self, src: CountedReader<R::File>) {
-        if src.faults > 0 {
-            self.faults = self.faults.saturating_add(1);
         }
     }
 }

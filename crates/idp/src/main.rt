@@ -2,16 +2,20 @@
 #![tactic(auto)]
 
 mod adapters;
+mod closed_streams;
+mod files;
 mod log_file;
 mod terminal;
 #[cfg(test)]
 mod tests;
 mod voice;
 
-use adapters::{CountedReader, CountedWriter, FileSystem};
+use adapters::{CountedReader, CountedWriter};
+use closed_streams::StandIns;
 use file_laws::{
     files_are_spoken, files_have_word_names, sentences_are_read_back, structures_are_read_back,
 };
+use files::FileSystem;
 use idp_cli::{Status, run};
 use kb_io::Sink;
 use log_file::log_of;
@@ -42,13 +46,18 @@ fn words_of<R: Env + AllocGlobal>(rt: &R) -> Result<Vec<String>, AllocError> {
     Ok(words)
 }
 
-/// Runs by the words, over the system's files and the standard streams.
-fn answers<L: Sink>(rt: &HostRuntime, words: &[String], log: &mut L) -> Status {
+/// Runs by the words, over these files and the standard streams.
+fn answers<L: Sink>(
+    rt: &HostRuntime,
+    words: &[String],
+    files: &mut FileSystem<'_, HostRuntime>,
+    log: &mut L,
+) -> Status {
     let typed = rt.stdin().is_terminal();
     run(
         rt.alloc(),
         words,
-        &mut FileSystem::new(rt),
+        files,
         &mut CountedReader::new(Prompted::new(rt.stdin(), rt.stderr(), typed)),
         &mut CountedWriter::new(Noted::new(rt.stdout(), rt.stderr(), typed)),
         log,
@@ -66,7 +75,13 @@ fn lost_by<W>(log: &CountedWriter<W>) -> Lost {
 
 /// Tells that memory ran out before the run began.
 fn gives_up(rt: &HostRuntime) -> ExitCode {
-    tell(rt, &[], Status::Memory, Lost::Output);
+    tell(
+        rt,
+        &[],
+        &mut FileSystem::new(rt),
+        Status::Memory,
+        Lost::Output,
+    );
     ExitCode::from(Status::Memory.code())
 }
 
@@ -79,6 +94,7 @@ fn main(rt: HostRuntime) -> ExitCode {
     files_are_spoken();
     sentences_are_read_back();
     what_is_printed_of_a_file_can_be_read();
+    let _stand_ins = StandIns::new(&rt);
     let Ok(words) = words_of(&rt) else {
         return gives_up(&rt);
     };
@@ -86,7 +102,8 @@ fn main(rt: HostRuntime) -> ExitCode {
         return gives_up(&rt);
     };
     let mut log = CountedWriter::new(log);
-    let status = answers(&rt, &words, &mut log);
-    tell(&rt, &words, status, lost_by(&log));
+    let mut files = FileSystem::new(&rt);
+    let status = answers(&rt, &words, &mut files, &mut log);
+    tell(&rt, &words, &mut files, status, lost_by(&log));
     ExitCode::from(status.code())
 }

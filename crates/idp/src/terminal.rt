@@ -1,11 +1,12 @@
 //! What is told on standard error beside a consultation whose commands are typed at a terminal: a prompt, and why a
 //! command is refused. That it cannot be told changes neither what is read nor what is written.
+use crate::adapters::read_again;
 use refusal_notes::reply_note;
 use std::io::{Read, Result, Write};
 
 const PROMPT: &[u8] = b"idp> ";
 
-/// A reader, before each read of which a prompt is told.
+/// A reader, before each read of which a prompt is told, once also where a signal interrupts it.
 #[derive(Drop)]
 pub struct Prompted<R, T> {
     inner: R,
@@ -29,7 +30,7 @@ impl<R: Read, T: Write> Read for Prompted<R, T> {
         if self.is_typed {
             let _told = self.told.write_all(PROMPT);
         }
-        self.inner.read(buf)
+        read_again(&mut self.inner, buf)
     }
 }
 

@@ -1,7 +1,7 @@
 //! What the adapters hand on, and that each error is counted.
 
-use super::{CountedReader, CountedWriter, FileSystem};
-use kb_io::{Shelf, Sink, Source};
+use super::{CountedReader, CountedWriter};
+use kb_io::{Sink, Source};
 use std::io::{self, ErrorKind, Read, Write};
 use std::test::Fail;
 
@@ -39,6 +39,54 @@ impl Write for Full {
     }
 }
 
+/// A stream whose first calls are interrupted by signals.
+#[derive(Drop)]
+struct Interrupted {
+    times: u8,
+}
+
+impl Interrupted {
+    /// Whether this call is interrupted.
+    fn interrupts(&mut self) -> bool {
+        let interrupts = self.times > 0;
+        self.times = self.times.saturating_sub(1);
+        interrupts
+    }
+}
+
+impl Read for Interrupted {
+    fn read(&mut self, _buf: &mut [u8]) -> io::Result<usize> {
+        if self.interrupts() {
+            return Err(io::Error::from(ErrorKind::Interrupted));
+        }
+        Ok(0)
+    }
+}
+
+impl Write for Interrupted {
+    fn write(&mut self, buf: &[u8]) -> io::Result<usize> {
+        if self.interrupts() {
+            return Err(io::Error::from(ErrorKind::Interrupted));
+        }
+        Ok(buf.len())
+    }
+
+    fn flush(&mut self) -> io::Result<()> {
+        Ok(())
+    }
+}
+
+#[test]
+fn interrupted_calls_are_made_again(rt: HostRuntime) -> Result<(), Fail> {
+    let mut source = CountedReader::new(Interrupted { times: 3 });
+    assert_eq!(rt; source.read(&mut [0u8; 4])?, 0);
+    assert_eq!(rt; source.faults, 0);
+    let mut sink = CountedWriter::new(Interrupted { times: 3 });
+    assert_eq!(rt; sink.write(b"text")?, 4);
+    assert_eq!(rt; sink.faults, 0);
+    Ok(())
+}
+
 #[test]
 fn failing_reads_are_counted(rt: HostRuntime) -> Result<(), Fail> {
     let mut broken = CountedReader::new(Broken);
@@ -74,25 +122,5 @@ fn taking_nothing_is_a_fault(rt: HostRuntime) -> Result<(), Fail> {
     assert_eq!(rt; full.write(b"")?, 0);
     full.flush()?;
     assert_eq!(rt; full.faults, 1);
-    Ok(())
-}
-
-#[test]
-fn a_file_that_is_not_there_is_a_fault(rt: HostRuntime) -> Result<(), Fail> {
-    let mut files = FileSystem::new(&rt);
-    assert!(rt; files.open("no such file").is_err());
-    assert_eq!(rt; files.faults, 1);
-    Ok(())
-}
-
-#[test]
-fn faults_of_a_file_reach_the_files_when_it_is_closed(rt: HostRuntime) -> Result<(), Fail> {
-    let mut files = FileSystem::new(&rt);
-    // A folder is opened, and cannot be read.
-    let mut folder = files.open("/")?;
-    assert!(rt; folder.read(&mut [0u8; 4]).is_err());
-    assert_eq!(rt; files.faults, 0);
-    files.close(folder);
-    assert_eq!(rt; files.faults, 1);
     Ok(())
 }
