@@ -1,5 +1,5 @@
 -- Exactly one of some literals: by clauses on pairs, and by one sum.
-use Rattle.std.proofs.Common.{◌≡◌, ℕ, zero, suc, ◌+◌, ℤ, pos, neg_ℤ, ◌+ℤ◌, Bool, true, false, not, ◌&&◌, ◌||◌, List, []}
+use Rattle.std.proofs.Common.{◌≡◌, ℕ, zero, suc, ℤ, pos, neg_ℤ, ◌+ℤ◌, Bool, true, false, not, ◌&&◌, ◌||◌, List, []}
 use Rattle.std.proofs.Common.{◌∷◌, map, filter, fold, cond, if◌then◌else◌, All, refl, sym, ap, ◌∙◌, arith}
 use Rattle.std.specs.List.{list_all, list_any}
 use Rattle.std.proofs.lemmas.List.Elements.{All-nil, All-cons}
@@ -15,7 +15,6 @@ use Rattle.lit_core.specs.Literals.{literal_value, negated}
 use Rattle.lit_core.specs.Truth.{IsSatisfied}
 use Rattle.lit_core.proofs.Soundness.{value-negated}
 use Rattle.ground_core.specs.declared.parts.Part.{Part}
-use Rattle.ground_core.specs.declared.parts.AggCon.{AggCon}
 use Rattle.ground_core.specs.Meaning.{SumHolds, parts_value, weights_of}
 use Rattle.ground_core.proofs.Clauses.{clause_value, clauses-true, clauses-hold}
 use Rattle.def_ground.specs.Problems.{pairs_with, pair_clauses, first_pairs, counting, at_most_one_beside, first_sum}

@@ -89,12 +89,12 @@ is-one (x ∷ []) h = (x, refl)
 is-one (x ∷ y ∷ ys) h = cc
 
 pub one-each : OneEachByClauses
-one-each b v n xs known = (
+one-each b v m n xs known = (
   λ h. is-one (true_values v n xs)
-      (sym (one-chosen b v n xs known) ∙ says-one v (are_many (open_variables b n xs)) (open_variables b n xs)
+      (sym (one-chosen b v n xs known) ∙ says-one v (are_many m (open_variables b n xs)) (open_variables b n xs)
       h.clauses h.sums),
   λ x e.
-      let said = one-says v (are_many (open_variables b n xs)) (open_variables b n xs)
+      let said = one-says v (are_many m (open_variables b n xs)) (open_variables b n xs)
       (one-chosen b v n xs known ∙ ap one-value e) in
       record { clauses = said.0; sums = said.1 },
 )

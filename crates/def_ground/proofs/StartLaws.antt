@@ -103,8 +103,8 @@ firsts-in : (n : ℕ) (ls : List Lit) → AreLitsOf n ls → All (AreLitsOf n) (
 firsts-in n [] h = All-nil (AreLitsOf n)
 firsts-in n (l ∷ ls) h = with-first-in n l ls (h 0 l (omega arith)) (λ k d lt. h (suc k) d (omega (arith, lt)))
 
-one-of-in : (n : ℕ) (ls : List Lit) → AreLitsOf n ls → All (AreLitsOf n) (one_of_clauses ls)
-one-of-in n ls h = by (are_many ls)
+one-of-in : (k n : ℕ) (ls : List Lit) → AreLitsOf n ls → All (AreLitsOf n) (one_of_clauses k ls)
+one-of-in k n ls h = by (are_many k ls)
   where
     by : (t : Bool) → All (AreLitsOf n) (ls ∷ (if t then first_pairs ls else pair_clauses ls))
     by true = All-cons (AreLitsOf n) ls (first_pairs ls) h (firsts-in n ls h)
@@ -121,8 +121,8 @@ sum-in n (l ∷ ls) h =
           (λ k d lt. h (suc k) d (omega (arith, lt)))),
     ) (All-nil (IsSumOf n))
 
-sums-in : (n : ℕ) (ls : List Lit) → AreLitsOf n ls → All (IsSumOf n) (one_of_sums ls)
-sums-in n ls h = by (are_many ls)
+sums-in : (k n : ℕ) (ls : List Lit) → AreLitsOf n ls → All (IsSumOf n) (one_of_sums k ls)
+sums-in k n ls h = by (are_many k ls)
   where
     by : (t : Bool) → All (IsSumOf n) (if t then first_sum ls else [])
     by true = sum-in n ls h
@@ -300,10 +300,10 @@ module _ (b : GroundBase) (is : IsGroundBase b) where
         atoms = omega arith;
         gates = All-nil (IsGateOf m);
         clauses =
-            All-append (AreLitsOf m) (functions_say one_of_clauses b) (fact_clauses 1 b.known)
-            (each-said one_of_clauses (AreLitsOf m) (tuple-in one_of_clauses (AreLitsOf m) (one-of-in m)))
+            All-append (AreLitsOf m) (functions_say (one_of_clauses (length b.known)) b) (fact_clauses 1 b.known)
+            (each-said (one_of_clauses (length b.known)) (AreLitsOf m) (tuple-in (one_of_clauses (length b.known)) (AreLitsOf m) (one-of-in (length b.known) m)))
             (facts-in m 1 b.known (omega arith) (omega (arith, known)));
-        sums = each-said one_of_sums (IsSumOf m) (tuple-in one_of_sums (IsSumOf m) (sums-in m));
+        sums = each-said (one_of_sums (length b.known)) (IsSumOf m) (tuple-in (one_of_sums (length b.known)) (IsSumOf m) (sums-in (length b.known) m));
         terms = All-nil (IsTermOf m);
         bounds = All-nil (IsBoundOf m []);
         retired = All-nil (IsLitOf m);
@@ -377,15 +377,15 @@ module _ (b : GroundBase) (is : IsGroundBase b) where
 
   pub start-atoms : HasAtoms b (start_problem b)
   start-atoms v s =
-      let functions = All-front (IsSatisfied v) (functions_say one_of_clauses b) (fact_clauses 1 b.known) s.clauses in
-      let facts = All-back (IsSatisfied v) (functions_say one_of_clauses b) (fact_clauses 1 b.known) s.clauses in
+      let functions = All-front (IsSatisfied v) (functions_say (one_of_clauses (length b.known)) b) (fact_clauses 1 b.known) s.clauses in
+      let facts = All-back (IsSatisfied v) (functions_say (one_of_clauses (length b.known)) b) (fact_clauses 1 b.known) s.clauses in
       let known : HasKnown b v = known-at v facts in
       record {
         one =
-            λ f i below some. (one-each b v (first_var b f + i * length (values_at b f)) (values_at b f) known).0
+            λ f i below some. (one-each b v (length b.known) (first_var b f + i * length (values_at b f)) (values_at b f) known).0
             (record {
-              clauses = tuple-true one_of_clauses (IsSatisfied v) f i functions below some;
-              sums = tuple-true one_of_sums (SumHolds v) f i s.sums below some;
+              clauses = tuple-true (one_of_clauses (length b.known)) (IsSatisfied v) f i functions below some;
+              sums = tuple-true (one_of_sums (length b.known)) (SumHolds v) f i s.sums below some;
             });
         known = known;
       }
@@ -393,20 +393,20 @@ module _ (b : GroundBase) (is : IsGroundBase b) where
   -- each function has one value at each tuple
   tuple-holds : (v : ℕ → Bool) → IsOver b v → (s i : ℕ) (d : Symbol) (ty : ℕ)
       → slice_get b.vocabulary.symbols s ≡ Some d → d.value ≡ Some ty → i < length (tuples_at b s)
-      → OneOfHolds v (open_variables b (first_var b s + i * length (values_at b s)) (values_at b s))
+      → OneOfHolds (length b.known) v (open_variables b (first_var b s + i * length (values_at b s)) (values_at b s))
   tuple-holds v over s i d ty at value below =
       let x = over.one s i below (is-function b s d ty at value) in
-      (one-each b v (first_var b s + i * length (values_at b s)) (values_at b s) over.known).1 x.0 x.1
+      (one-each b v (length b.known) (first_var b s + i * length (values_at b s)) (values_at b s) over.known).1 x.0 x.1
 
   pub start-satisfied : (v : ℕ → Bool) → IsOver b v → Satisfies (start_problem b) v
   start-satisfied v over = record {
     gates = All-nil (GateHolds v);
-    clauses = All-append (IsSatisfied v) (functions_say one_of_clauses b) (fact_clauses 1 b.known)
-        (each-said one_of_clauses (IsSatisfied v)
+    clauses = All-append (IsSatisfied v) (functions_say (one_of_clauses (length b.known)) b) (fact_clauses 1 b.known)
+        (each-said (one_of_clauses (length b.known)) (IsSatisfied v)
         (λ s i d ty at value below. (tuple-holds v over s i d ty at value below).clauses))
         (known-facts v 1 b.known (λ j x at. let number : 1 + j ≡ suc j = omega arith in ap v number
         ∙ over.known (suc j) x (ap (λ o. unwrap_or o None) at)));
-    sums = each-said one_of_sums (SumHolds v)
+    sums = each-said (one_of_sums (length b.known)) (SumHolds v)
         (λ s i d ty at value below. (tuple-holds v over s i d ty at value below).sums);
     bounds = All-nil (BoundHolds v []);
     retired = All-nil (λ l. literal_value v l ≡ false);
@@ -417,6 +417,6 @@ module _ (b : GroundBase) (is : IsGroundBase b) where
   fact-in-start zero x h = cc
   fact-in-start (suc n) x h =
       let number : 1 + n ≡ suc n = omega arith in
-      has_right (functions_say one_of_clauses b) (fact_clauses 1 b.known) (fact_of (suc n) x ∷ [])
+      has_right (functions_say (one_of_clauses (length b.known)) b) (fact_clauses 1 b.known) (fact_of (suc n) x ∷ [])
       (subst (λ k. Has (fact_clauses 1 b.known) (fact_of k x ∷ [])) number
       (fact-there 1 b.known n x (unwrapped (slice_get b.known n) x h)))

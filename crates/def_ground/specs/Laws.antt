@@ -53,18 +53,18 @@ SentencesAreAsserted =
     → IsProblem p → HasAtoms b p → HasRoom b p → AllByRecursion (λ f. IsGroundForm b f []) fs
     → AssertsMore p (assert_sentences b fs p) (λ v. list_all (λ f. truth_of (structure_of b v) f []) fs)
 
--- the clauses and the sum of exactly one of these hold
-pub record OneOfHolds (v : ℕ → Bool) (ls : List Lit) : Type 0 where
-  pub clauses : All (IsSatisfied v) (one_of_clauses ls)
-  pub sums : All (SumHolds v) (one_of_sums ls)
+-- the clauses and the sum of exactly one of these, of n ground atoms, hold
+pub record OneOfHolds (n : ℕ) (v : ℕ → Bool) (ls : List Lit) : Type 0 where
+  pub clauses : All (IsSatisfied v) (one_of_clauses n ls)
+  pub sums : All (SumHolds v) (one_of_sums n ls)
 
 -- in a valuation with what is known, the clauses and the sum of exactly one of the open variables say that exactly one
 -- of the values is chosen
 abbrev pub OneEachByClauses : Type 0
 OneEachByClauses =
-    (b : GroundBase) (v : ℕ → Bool) (n : ℕ) (xs : List Elem) → HasKnown b v
-    → (OneOfHolds v (open_variables b n xs) → (x : Elem) × (true_values v n xs ≡ x ∷ []))
-    × ((x : Elem) → true_values v n xs ≡ x ∷ [] → OneOfHolds v (open_variables b n xs))
+    (b : GroundBase) (v : ℕ → Bool) (m n : ℕ) (xs : List Elem) → HasKnown b v
+    → (OneOfHolds m v (open_variables b n xs) → (x : Elem) × (true_values v n xs ≡ x ∷ []))
+    × ((x : Elem) → true_values v n xs ≡ x ∷ [] → OneOfHolds m v (open_variables b n xs))
 
 -- a well typed formula adds no more than four variables for each of its occurrences
 abbrev pub FewVariables : Type 0

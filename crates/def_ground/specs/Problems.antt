@@ -1,7 +1,7 @@
 -- The ground problem of a list of sentences: a function has one value at each tuple, known atoms are facts, and each
 -- sentence is asserted.
 use Rattle.std.specs.Prelude.{ℕ, ◌+◌, ◌*◌, ℤ, pos, neg_ℤ, nat_lt, List, [], ◌∷◌, ◌++◌, map, flat_map, length, take}
-use Rattle.std.specs.Prelude.{Bool, true, false, if◌then◌else◌, Option, Some, None}
+use Rattle.std.specs.Prelude.{Bool, true, false, ◌||◌, if◌then◌else◌, Option, Some, None}
 use Rattle.std.specs.List.{enumerate_from}
 use Rattle.kb_logic.specs.declared.elements.Elem.{Elem}
 use Rattle.kb_logic.specs.declared.elements.ExtInt.TheVariants.{Num}
@@ -32,8 +32,14 @@ pair_clauses (l ∷ ls) = pairs_with l ls ++ pair_clauses ls
 abbrev pub most_in_pairs : ℕ
 most_in_pairs = 256
 
-abbrev pub are_many : List Lit → Bool
-are_many ls = nat_lt most_in_pairs (length ls)
+-- nor do any, if they times the number of all ground atoms are more than this: so all such clauses together are at most
+-- half as many
+abbrev pub most_by_atoms : ℕ
+most_by_atoms = 33554432
+
+-- whether these, of a function's atoms among n of all, are too many for a clause for each two of them
+abbrev pub are_many : ℕ → List Lit → Bool
+are_many n ls = nat_lt most_in_pairs (length ls) || nat_lt most_by_atoms (length ls * n)
 
 -- not the first of these together with another
 abbrev pub first_pairs : List Lit → List (List Lit)
@@ -59,11 +65,11 @@ first_sum [] = []
 first_sum (l ∷ ls) = at_most_one_beside l ls ∷ []
 
 -- exactly one of these is true: some of them, and no two, which takes a sum beside the clauses where they are many
-abbrev pub one_of_clauses : List Lit → List (List Lit)
-one_of_clauses ls = ls ∷ (if are_many ls then first_pairs ls else pair_clauses ls)
+abbrev pub one_of_clauses : ℕ → List Lit → List (List Lit)
+one_of_clauses n ls = ls ∷ (if are_many n ls then first_pairs ls else pair_clauses ls)
 
-abbrev pub one_of_sums : List Lit → List AggCon
-one_of_sums ls = if are_many ls then first_sum ls else []
+abbrev pub one_of_sums : ℕ → List Lit → List AggCon
+one_of_sums n ls = if are_many n ls then first_sum ls else []
 
 -- a variable more, unless its atom is known to be false
 abbrev pub with_open : Option Bool → ℕ → List Lit → List Lit
@@ -119,8 +125,8 @@ start_problem b = record {
   atoms = ground_atoms b.vocabulary.symbols b.domains;
   vars = length (ground_atoms b.vocabulary.symbols b.domains);
   gates = [];
-  clauses = functions_say one_of_clauses b ++ fact_clauses 1 b.known;
-  sums = functions_say one_of_sums b;
+  clauses = functions_say (one_of_clauses (length b.known)) b ++ fact_clauses 1 b.known;
+  sums = functions_say (one_of_sums (length b.known)) b;
   terms = [];
   bounds = [];
   retired = [];

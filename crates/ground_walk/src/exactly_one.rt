@@ -14,7 +14,22 @@ use std::alloc::Global;
 use term_values::GroundData;
 
 /// So many literals, at most, take a clause for each two of them.
-const MOST_IN_PAIRS: usize = 256;
+const MOST_IN_PAIRS: u64 = 256;
+
+/// And none do if they times the number of all ground atoms are more than this, so that a base of many functions has
+/// memory for all such clauses.
+const MOST_BY_ATOMS: u64 = 33_554_432;
+
+/// Whether the literals, of a function's atoms among all those, are too many for a clause for each two of them.
+fn are_many(atoms: u64, lits: &[Lit]) -> bool
+    ensures { result ≡ are_many atoms lits.now }
+{
+    let len = lits.len() as u64;
+    match len.checked_mul(atoms) {
+        Some(product) => len > MOST_IN_PAIRS || product > MOST_BY_ATOMS,
+        None => true,
+    }
+}
 
 /// Pushes the variable, unless its atom is known to be false.
 fn push_open(known: Option<bool>, var: u64, lits: &mut LitList) -> Result<(), Memory>
@@ -133,12 +148,13 @@ fn push_many(alloc: Global, lits: &[Lit], problem: &mut Problem) -> Result<(), M
 }
 
 /// Adds that no two of the literals are true.
-fn push_no_two(alloc: Global, lits: &[Lit], problem: &mut Problem) -> Result<(), Memory>
+fn push_no_two(alloc: Global, atoms: u64, lits: &[Lit], problem: &mut Problem) -> Result<(), Memory>
     requires { AreLitsOf problem.old.vars lits.now }
     ensures { OnOk result (problem.new ≡ saying problem.old
-        (if are_many lits.now then first_pairs lits.now else pair_clauses lits.now) (one_of_sums lits.now)) }
+        (if are_many atoms lits.now then first_pairs lits.now else pair_clauses lits.now)
+        (one_of_sums atoms lits.now)) }
 {
-    if lits.len() > MOST_IN_PAIRS {
+    if are_many(atoms, lits) {
         push_many(alloc, lits, problem)
     } else {
         push_pairs(alloc, lits, problem)
@@ -157,10 +173,10 @@ pub fn push_one_of(
     requires few { first + length values.now ≤ 2 ^ 63 }
     requires within { AreLitsOf problem.old.vars (open_variables base.now first values.now) }
     ensures { OnOk result (problem.new ≡ saying problem.old
-        (one_of_clauses (open_variables base.now first values.now))
-        (one_of_sums (open_variables base.now first values.now))) }
+        (one_of_clauses (length base.now.known) (open_variables base.now first values.now))
+        (one_of_sums (length base.now.known) (open_variables base.now first values.now))) }
 {
     let lits = variables(alloc, base, first, values)?;
     problem.add_clause_of(lits.as_slice())?;
-    push_no_two(alloc, lits.as_slice(), problem)
+    push_no_two(alloc, base.atoms(), lits.as_slice(), problem)
 }

@@ -42,7 +42,8 @@ fn push_function(
     requires declared { symbol < length base.now.vocabulary.symbols }
     requires room { HasVars base.now problem.old }
     ensures { OnOk result (problem.new ≡ saying problem.old
-        (function_says one_of_clauses base.now symbol) (function_says one_of_sums base.now symbol)) }
+        (function_says (one_of_clauses (length base.now.known)) base.now symbol)
+        (function_says (one_of_sums (length base.now.known)) base.now symbol)) }
 {
     let values = base.values(symbol);
     let count = said_count(base, symbol)?;
@@ -69,8 +70,8 @@ fn push_symbol(
     requires declared { symbol < length base.now.vocabulary.symbols }
     requires room { HasVars base.now problem.old }
     ensures { OnOk result (problem.new ≡ saying problem.old
-        (if is_function then function_says one_of_clauses base.now symbol else [])
-        (if is_function then function_says one_of_sums base.now symbol else [])) }
+        (if is_function then function_says (one_of_clauses (length base.now.known)) base.now symbol else [])
+        (if is_function then function_says (one_of_sums (length base.now.known)) base.now symbol else [])) }
 {
     if is_function {
         push_function(alloc, base, symbol, problem)
@@ -86,7 +87,8 @@ fn push_functions(alloc: Global, base: &GroundData<'_>, problem: &mut Problem) -
     requires few { length base.now.vocabulary.symbols ≤ 2 ^ 32 }
     requires room { HasVars base.now problem.old }
     ensures { OnOk result (problem.new ≡ saying problem.old
-        (functions_say one_of_clauses base.now) (functions_say one_of_sums base.now)) }
+        (functions_say (one_of_clauses (length base.now.known)) base.now)
+        (functions_say (one_of_sums (length base.now.known)) base.now)) }
 {
     let symbols = base.vocabulary().symbols.as_slice();
     for symbol in 0..symbols.len() {

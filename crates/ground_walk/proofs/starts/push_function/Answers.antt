@@ -57,18 +57,18 @@ loop-tuple-preserved c =
     ap (λ (n : ℕ). open_variables b n c.values-values.result.now) c.loop-tuple.invariant.next
     ∙ ap (λ (ys : List Elem). open_variables b (first_var b s + i * length (values_at b s)) ys)
     c.values-values.ensures in
-    let cs = said-so-far one_of_clauses b s i in
-    let ss = said-so-far one_of_sums b s i in
+    let cs = said-so-far (one_of_clauses (length b.known)) b s i in
+    let ss = said-so-far (one_of_sums (length b.known)) b s i in
     let size = ap (λ (ys : List Elem). length ys) c.values-values.ensures in
     let times = more-times i (length (values_at b s)) in
     record {
       said = c.in_ok-push_one_of.ensures
-          ∙ ap (λ (q : ProblemState). saying q (one_of_clauses here) (one_of_sums here)) c.loop-tuple.invariant.said
-          ∙ saying-more p cs (one_of_clauses here) ss (one_of_sums here)
-          ∙ ap (λ (ls : List Lit). saying p (cs ++ one_of_clauses ls) (ss ++ one_of_sums ls)) is
-          ∙ ap (λ (ds : List (List Lit)). saying p ds (ss ++ tuple_says one_of_sums b s i))
-          (sym (next-said one_of_clauses b s i said))
-          ∙ ap (saying p (said-so-far one_of_clauses b s (i + 1))) (sym (next-said one_of_sums b s i said));
+          ∙ ap (λ (q : ProblemState). saying q ((one_of_clauses (length b.known)) here) ((one_of_sums (length b.known)) here)) c.loop-tuple.invariant.said
+          ∙ saying-more p cs ((one_of_clauses (length b.known)) here) ss ((one_of_sums (length b.known)) here)
+          ∙ ap (λ (ls : List Lit). saying p (cs ++ (one_of_clauses (length b.known)) ls) (ss ++ (one_of_sums (length b.known)) ls)) is
+          ∙ ap (λ (ds : List (List Lit)). saying p ds (ss ++ tuple_says (one_of_sums (length b.known)) b s i))
+          (sym (next-said (one_of_clauses (length b.known)) b s i said))
+          ∙ ap (saying p (said-so-far (one_of_clauses (length b.known)) b s (i + 1))) (sym (next-said (one_of_sums (length b.known)) b s i said));
       next = omega (arith, size, times, c.loop-tuple.invariant.next);
     }
 
@@ -81,5 +81,5 @@ returns c =
     let end : length (said_tuples (values_at b s) (tuples_at b s)) ≤ k =
     omega (arith, c.loop-tuple-test.false, c.in_ok-count.ensures) in
     c.loop-tuple.invariant.said
-    ∙ ap (λ (ds : List (List Lit)). saying p ds (said-so-far one_of_sums b s k)) (all-said one_of_clauses b s k end)
-    ∙ ap (saying p (function_says one_of_clauses b s)) (all-said one_of_sums b s k end)
+    ∙ ap (λ (ds : List (List Lit)). saying p ds (said-so-far (one_of_sums (length b.known)) b s k)) (all-said (one_of_clauses (length b.known)) b s k end)
+    ∙ ap (saying p (function_says (one_of_clauses (length b.known)) b s)) (all-said (one_of_sums (length b.known)) b s k end)
