@@ -12,7 +12,7 @@ ghost use Rattle.definition_walk.specs.Steps.{Stands, BodiesGrow, HasLists, IsPl
 use crate::bodies::{Bodies, add_body};
 use crate::heads::head_var;
 use ground_core::{Memory, Problem};
-use ground_walk::form;
+use ground_walk::{Scope, form};
 use kb_logic::{Bound, Rule};
 use plain_evaluation::environments::{Env, extend, split_in};
 use std::alloc::Global;
@@ -48,7 +48,8 @@ fn push_instance<'a>(
     match head_var(alloc, walk.base, walk.rule, env)? {
         None => Ok(()),
         Some(var) => {
-            let body = form(alloc, walk.base, &walk.rule.body, env, problem)?;
+            let base = walk.base;
+            let body = form(Scope { alloc, base, env }, &walk.rule.body, problem)?;
             add_body(&mut bodies.lists, (var - bodies.first) as usize, body)
         }
     }

@@ -10,35 +10,31 @@ ghost use Rattle.ground_walk.specs.Groundable.{HasVars, IsGroundable, AreGrounda
 ghost use Rattle.ground_walk.specs.Steps.{PartsGrow, MakesParts};
 
 use crate::forms::signed_form;
+use crate::scopes::Scope;
 use def_ground::add_part;
 use ground_core::{Memory, Problem};
 use kb_logic::Formula;
 use lit_core::Lit;
-use plain_evaluation::environments::Env;
-use std::alloc::Global;
-use term_values::GroundData;
 
 /// Pushes the literal of what the formula comes to, or of its opposite where the sign is false. Whether it settles the
 /// whole.
 fn own<'a>(
-    alloc: Global,
-    base: &'a GroundData<'a>,
+    scope: Scope<'a>,
     sign: bool,
     formula: &'a Formula,
-    env: &'a Env<'a>,
     lits: &mut Vec<Lit>,
     problem: &mut Problem,
 ) -> Result<bool, Memory>
-    requires given { IsGroundBase base.now }
-    requires room { HasVars base.now problem.old }
-    requires fits { IsGroundable base.now (formula_view formula.now) (env_view env.now) }
+    requires given { IsGroundBase scope.base.now }
+    requires room { HasVars scope.base.now problem.old }
+    requires fits { IsGroundable scope.base.now (formula_view formula.now) (env_view scope.env.now) }
     requires lits { AreLitsOf problem.old.vars lits.old.items }
     ensures made { IfOk result
-        (λ s. MakesParts (own_part base.now sign (formula_view formula.now)
-        (env_view env.now) lits.old.items problem.old) s lits.new.items problem.new) }
+        (λ s. MakesParts (own_part scope.entry.base.now sign (formula_view formula.now)
+        (env_view scope.entry.env.now) lits.old.items problem.old) s lits.new.items problem.new) }
     ensures grows { IfOk result (λ s. PartsGrow problem.old problem.new lits.new.items) }
 {
-    let answer = signed_form(alloc, base, sign, formula, env, problem)?;
+    let answer = signed_form(scope, sign, formula, problem)?;
     add_part(false, answer, lits)
 }
 
@@ -46,55 +42,53 @@ fn own<'a>(
 /// else its own one. Whether a part settles the whole.
 #[cycle(disjuncts)]
 pub(crate) fn disjuncts<'a>(
-    alloc: Global,
-    base: &'a GroundData<'a>,
+    scope: Scope<'a>,
     sign: bool,
     formula: &'a Formula,
-    env: &'a Env<'a>,
     lits: &mut Vec<Lit>,
     problem: &mut Problem,
 ) -> Result<bool, Memory>
-    requires given { IsGroundBase base.now }
-    requires room { HasVars base.now problem.old }
-    requires fits { IsGroundable base.now (formula_view formula.now) (env_view env.now) }
+    requires given { IsGroundBase scope.base.now }
+    requires room { HasVars scope.base.now problem.old }
+    requires fits { IsGroundable scope.base.now (formula_view formula.now) (env_view scope.env.now) }
     requires lits { AreLitsOf problem.old.vars lits.old.items }
     ensures made { IfOk result
-        (λ s. MakesParts (disjuncts_of base.now sign (formula_view formula.now)
-        (env_view env.now) lits.old.items problem.old) s lits.new.items problem.new) }
+        (λ s. MakesParts (disjuncts_of scope.entry.base.now sign (formula_view formula.now)
+        (env_view scope.entry.env.now) lits.old.items problem.old) s lits.new.items problem.new) }
     ensures grows { IfOk result (λ s. PartsGrow problem.old problem.new lits.new.items) }
 {
     match formula {
-        Formula::True => own(alloc, base, sign, formula, env, lits, problem),
-        Formula::False => own(alloc, base, sign, formula, env, lits, problem),
-        Formula::Atom(..) => own(alloc, base, sign, formula, env, lits, problem),
-        Formula::Compare(..) => own(alloc, base, sign, formula, env, lits, problem),
-        Formula::Iff(..) => own(alloc, base, sign, formula, env, lits, problem),
-        Formula::All(..) => own(alloc, base, sign, formula, env, lits, problem),
-        Formula::Any(..) => own(alloc, base, sign, formula, env, lits, problem),
-        Formula::Number(..) => own(alloc, base, sign, formula, env, lits, problem),
-        Formula::Not(inner) => disjuncts(alloc, base, !sign, inner, env, lits, problem),
+        Formula::True => own(scope, sign, formula, lits, problem),
+        Formula::False => own(scope, sign, formula, lits, problem),
+        Formula::Atom(..) => own(scope, sign, formula, lits, problem),
+        Formula::Compare(..) => own(scope, sign, formula, lits, problem),
+        Formula::Iff(..) => own(scope, sign, formula, lits, problem),
+        Formula::All(..) => own(scope, sign, formula, lits, problem),
+        Formula::Any(..) => own(scope, sign, formula, lits, problem),
+        Formula::Number(..) => own(scope, sign, formula, lits, problem),
+        Formula::Not(inner) => disjuncts(scope, !sign, inner, lits, problem),
         Formula::And(formulas) => {
             if sign {
-                own(alloc, base, true, formula, env, lits, problem)
+                own(scope, true, formula, lits, problem)
             } else {
-                each_disjuncts(alloc, base, false, formulas, env, lits, problem)
+                each_disjuncts(scope, false, formulas, lits, problem)
             }
         }
         Formula::Or(formulas) => {
             if sign {
-                each_disjuncts(alloc, base, true, formulas, env, lits, problem)
+                each_disjuncts(scope, true, formulas, lits, problem)
             } else {
-                own(alloc, base, false, formula, env, lits, problem)
+                own(scope, false, formula, lits, problem)
             }
         }
         Formula::Implies(left, right) => {
             if sign {
-                if disjuncts(alloc, base, false, left, env, lits, problem)? {
+                if disjuncts(scope, false, left, lits, problem)? {
                     return Ok(true);
                 }
-                disjuncts(alloc, base, true, right, env, lits, problem)
+                disjuncts(scope, true, right, lits, problem)
             } else {
-                own(alloc, base, false, formula, env, lits, problem)
+                own(scope, false, formula, lits, problem)
             }
         }
     }
@@ -103,25 +97,24 @@ pub(crate) fn disjuncts<'a>(
 /// So for each of the formulas, up to the first with a part that settles the whole.
 #[cycle(disjuncts)]
 fn each_disjuncts<'a>(
-    alloc: Global,
-    base: &'a GroundData<'a>,
+    scope: Scope<'a>,
     sign: bool,
     formulas: &'a [Formula],
-    env: &'a Env<'a>,
     lits: &mut Vec<Lit>,
     problem: &mut Problem,
 ) -> Result<bool, Memory>
-    requires given { IsGroundBase base.now }
-    requires room { HasVars base.now problem.old }
-    requires fits { AreGroundable base.now (formulas_of (map formula_view formulas.now)) (env_view env.now) }
+    requires given { IsGroundBase scope.base.now }
+    requires room { HasVars scope.base.now problem.old }
+    requires fits { AreGroundable scope.base.now (formulas_of (map formula_view formulas.now))
+        (env_view scope.env.now) }
     requires lits { AreLitsOf problem.old.vars lits.old.items }
     ensures made { IfOk result
-        (λ s. MakesParts (all_disjuncts base.now sign (formulas_of (map formula_view formulas.now))
-        (env_view env.now) lits.old.items problem.old) s lits.new.items problem.new) }
+        (λ s. MakesParts (all_disjuncts scope.entry.base.now sign (formulas_of (map formula_view formulas.now))
+        (env_view scope.entry.env.now) lits.old.items problem.old) s lits.new.items problem.new) }
     ensures grows { IfOk result (λ s. PartsGrow problem.old problem.new lits.new.items) }
 {
     for formula in formulas {
-        if disjuncts(alloc, base, sign, formula, env, lits, problem)? {
+        if disjuncts(scope, sign, formula, lits, problem)? {
             return Ok(true);
         }
     }

@@ -24,68 +24,71 @@ ghost use Rattle.ground_walk.specs.Steps.{PartsGrow, MakesParts, open_parts, par
 ghost use Rattle.ground_walk.specs.Weighing.{weight_view, InstanceFits, weighed_step};
 
 use crate::counting::{Sides, have_aggregates, sides_of, times_integers, with_sign};
-use crate::leaves::{atom, comparison};
+use crate::leaves::{Compared, atom, comparison};
+use crate::scopes::{Binder, Scope};
 use crate::weights::{Weights, add_instance};
 use def_ground::{
     Answer, Linear, add_part, close, compared_at, compared_between, compared_with_rows, flipped,
     same,
 };
 use ground_core::{Memory, Problem};
-use kb_logic::{AggKind, Bound, Cmp, Formula, Signed, Term};
+use kb_logic::{AggKind, Cmp, Formula, Signed, Term};
 use lit_core::Lit;
-use plain_evaluation::environments::{Env, extend, split_in};
-use std::alloc::Global;
-use term_values::GroundData;
+use plain_evaluation::environments::{extend, split_in};
 
 /// What the formula comes to under the assignment.
 #[cycle(form)]
 pub fn form<'a>(
-    alloc: Global,
-    base: &'a GroundData<'a>,
+    scope: Scope<'a>,
     formula: &'a Formula,
-    env: &'a Env<'a>,
     problem: &mut Problem,
 ) -> Result<Answer, Memory>
-    requires given { IsGroundBase base.now }
-    requires room { HasVars base.now problem.old }
-    requires fits { IsGroundable base.now (formula_view formula.now) (env_view env.now) }
+    requires given { IsGroundBase scope.base.now }
+    requires room { HasVars scope.base.now problem.old }
+    requires fits { IsGroundable scope.base.now (formula_view formula.now) (env_view scope.env.now) }
     ensures made { IfOk result
-        (λ a. Makes (form_of base.now (formula_view formula.now) (env_view env.now) problem.old) a problem.new) }
+        (λ a. Makes (form_of scope.entry.base.now (formula_view formula.now) (env_view scope.entry.env.now) problem.old)
+        a problem.new) }
     ensures grows { IfOk result (λ a. Grows problem.old problem.new a) }
 {
     match formula {
         Formula::True => Ok(Answer::Constant(true)),
         Formula::False => Ok(Answer::Constant(false)),
-        Formula::Atom(symbol, args) => atom(alloc, base, *symbol, args, env, problem),
+        Formula::Atom(symbol, args) => atom(scope, *symbol, args, problem),
         Formula::Compare(cmp, left, right) => match sides_of(left, right) {
-            Sides::Plain => comparison(alloc, base, *cmp, left, right, env, problem),
-            Sides::LeftExtreme(kind) => {
-                compare_extreme(alloc, base, kind, *cmp, left, right, env, problem)
+            Sides::Plain => {
+                let cmp = *cmp;
+                comparison(scope, Compared { cmp, left, right }, problem)
             }
+            Sides::LeftExtreme(kind) => compare_extreme(scope, kind, *cmp, left, right, problem),
             Sides::RightExtreme(kind) => {
                 let cmp = flipped(*cmp);
-                compare_extreme(alloc, base, kind, cmp, right, left, env, problem)
+                compare_extreme(scope, kind, cmp, right, left, problem)
             }
             Sides::Sums => {
-                let left_linear = aggregates_of(alloc, base, left, env, problem)?;
-                compare_sums(alloc, base, *cmp, left_linear, right, left, env, problem)
+                let left_linear = aggregates_of(scope, left, problem)?;
+                compare_sums(scope, *cmp, left_linear, right, left, problem)
             }
         },
-        Formula::Not(inner) => signed_form(alloc, base, false, inner, env, problem),
-        Formula::And(formulas) => joined(alloc, base, true, formulas, env, problem),
-        Formula::Or(formulas) => joined(alloc, base, false, formulas, env, problem),
+        Formula::Not(inner) => signed_form(scope, false, inner, problem),
+        Formula::And(formulas) => joined(scope, true, formulas, problem),
+        Formula::Or(formulas) => joined(scope, false, formulas, problem),
         Formula::Implies(left, right) => {
-            let first = signed_form(alloc, base, false, left, env, problem)?;
-            implied(alloc, base, first, right, env, problem)
+            let first = signed_form(scope, false, left, problem)?;
+            implied(scope, first, right, problem)
         }
         Formula::Iff(left, right) => {
-            let first = form(alloc, base, left, env, problem)?;
-            alike(alloc, base, first, right, env, problem)
+            let first = form(scope, left, problem)?;
+            alike(scope, first, right, problem)
         }
-        Formula::All(bounds, inner) => quantified(alloc, base, true, bounds, inner, env, problem),
-        Formula::Any(bounds, inner) => quantified(alloc, base, false, bounds, inner, env, problem),
-        Formula::Number(cmp, number, bounds, inner) => {
-            compare_count(alloc, base, *cmp, *number, bounds, inner, env, problem)
+        Formula::All(bounds, formula) => {
+            quantified(scope, true, Binder { bounds, formula }, problem)
+        }
+        Formula::Any(bounds, formula) => {
+            quantified(scope, false, Binder { bounds, formula }, problem)
+        }
+        Formula::Number(cmp, number, bounds, formula) => {
+            compare_count(scope, *cmp, *number, Binder { bounds, formula }, problem)
         }
     }
 }
@@ -93,71 +96,67 @@ pub fn form<'a>(
 /// What the formula comes to, or its opposite where the sign is false.
 #[cycle(form)]
 pub(crate) fn signed_form<'a>(
-    alloc: Global,
-    base: &'a GroundData<'a>,
+    scope: Scope<'a>,
     sign: bool,
     formula: &'a Formula,
-    env: &'a Env<'a>,
     problem: &mut Problem,
 ) -> Result<Answer, Memory>
-    requires given { IsGroundBase base.now }
-    requires room { HasVars base.now problem.old }
-    requires fits { IsGroundable base.now (formula_view formula.now) (env_view env.now) }
+    requires given { IsGroundBase scope.base.now }
+    requires room { HasVars scope.base.now problem.old }
+    requires fits { IsGroundable scope.base.now (formula_view formula.now) (env_view scope.env.now) }
     ensures made { IfOk result
-        (λ a. Makes (signed_result sign (form_of base.now (formula_view formula.now) (env_view env.now) problem.old)) a
-        problem.new) }
+        (λ a. Makes (signed_result sign (form_of scope.entry.base.now (formula_view formula.now)
+        (env_view scope.entry.env.now) problem.old)) a problem.new) }
     ensures grows { IfOk result (λ a. Grows problem.old problem.new a) }
 {
-    let answer = form(alloc, base, formula, env, problem)?;
+    let answer = form(scope, formula, problem)?;
     Ok(if sign { answer } else { answer.opposite() })
 }
 
 /// The conjunction of the formulas where `all`, and else their disjunction.
 #[cycle(form)]
 fn joined<'a>(
-    alloc: Global,
-    base: &'a GroundData<'a>,
+    scope: Scope<'a>,
     all: bool,
     formulas: &'a [Formula],
-    env: &'a Env<'a>,
     problem: &mut Problem,
 ) -> Result<Answer, Memory>
-    requires given { IsGroundBase base.now }
-    requires room { HasVars base.now problem.old }
-    requires fits { AreGroundable base.now (formulas_of (map formula_view formulas.now)) (env_view env.now) }
+    requires given { IsGroundBase scope.base.now }
+    requires room { HasVars scope.base.now problem.old }
+    requires fits { AreGroundable scope.base.now (formulas_of (map formula_view formulas.now))
+        (env_view scope.env.now) }
     ensures made { IfOk result
         (λ a. Makes (close_parts all
-        (parts_of base.now all (formulas_of (map formula_view formulas.now)) (env_view env.now) [] problem.old)) a
-        problem.new) }
+        (parts_of scope.entry.base.now all (formulas_of (map formula_view formulas.now))
+        (env_view scope.entry.env.now) [] problem.old)) a problem.new) }
     ensures grows { IfOk result (λ a. Grows problem.old problem.new a) }
 {
-    let mut lits = Vec::new(alloc);
-    let settled = parts(alloc, base, all, formulas, env, &mut lits, problem)?;
+    let mut lits = Vec::new(scope.alloc);
+    let settled = parts(scope, all, formulas, &mut lits, problem)?;
     close(all, settled, lits, problem)
 }
 
 /// The literals of the formulas up to the first that settles the whole, if one does.
 #[cycle(form)]
 pub(crate) fn parts<'a>(
-    alloc: Global,
-    base: &'a GroundData<'a>,
+    scope: Scope<'a>,
     all: bool,
     formulas: &'a [Formula],
-    env: &'a Env<'a>,
     lits: &mut Vec<Lit>,
     problem: &mut Problem,
 ) -> Result<bool, Memory>
-    requires given { IsGroundBase base.now }
-    requires room { HasVars base.now problem.old }
-    requires fits { AreGroundable base.now (formulas_of (map formula_view formulas.now)) (env_view env.now) }
+    requires given { IsGroundBase scope.base.now }
+    requires room { HasVars scope.base.now problem.old }
+    requires fits { AreGroundable scope.base.now (formulas_of (map formula_view formulas.now))
+        (env_view scope.env.now) }
     requires lits { AreLitsOf problem.old.vars lits.old.items }
     ensures made { IfOk result
-        (λ s. MakesParts (parts_of base.now all (formulas_of (map formula_view formulas.now))
-        (env_view env.now) lits.old.items problem.old) s lits.new.items problem.new) }
+        (λ s. MakesParts (parts_of scope.entry.base.now all (formulas_of (map formula_view formulas.now))
+        (env_view scope.entry.env.now) lits.old.items problem.old) s lits.new.items problem.new) }
     ensures grows { IfOk result (λ s. PartsGrow problem.old problem.new lits.new.items) }
 {
     for formula in formulas {
-        let answer = form(alloc, base, formula, env, problem)?;
+        let answer = form(scope, formula, problem)?;
         if add_part(all, answer, lits)? {
             return Ok(true);
         }
@@ -168,28 +167,26 @@ pub(crate) fn parts<'a>(
 /// What an implication comes to, by the opposite of its first part and its second part.
 #[cycle(form)]
 fn implied<'a>(
-    alloc: Global,
-    base: &'a GroundData<'a>,
+    scope: Scope<'a>,
     first: Answer,
     second: &'a Formula,
-    env: &'a Env<'a>,
     problem: &mut Problem,
 ) -> Result<Answer, Memory>
-    requires given { IsGroundBase base.now }
-    requires room { HasVars base.now problem.old }
-    requires fits { IsGroundable base.now (formula_view second.now) (env_view env.now) }
+    requires given { IsGroundBase scope.base.now }
+    requires room { HasVars scope.base.now problem.old }
+    requires fits { IsGroundable scope.base.now (formula_view second.now) (env_view scope.env.now) }
     requires within { AnswerWithin problem.old.vars first }
     ensures made { IfOk result
         (λ a. Makes (close_parts false (next_parts false (record { answer = first; problem = problem.old }) []
-        (λ xs q. next_parts false (form_of base.now (formula_view second.now) (env_view env.now) q) xs no_more_parts)))
-        a problem.new) }
+        (λ xs q. next_parts false (form_of scope.entry.base.now (formula_view second.now)
+        (env_view scope.entry.env.now) q) xs no_more_parts))) a problem.new) }
     ensures grows { IfOk result (λ a. Grows problem.old problem.new a) }
 {
-    let mut lits = Vec::new(alloc);
+    let mut lits = Vec::new(scope.alloc);
     if add_part(false, first, &mut lits)? {
         return Ok(Answer::Constant(true));
     }
-    let answer = form(alloc, base, second, env, problem)?;
+    let answer = form(scope, second, problem)?;
     let settled = add_part(false, answer, &mut lits)?;
     close(false, settled, lits, problem)
 }
@@ -197,51 +194,45 @@ fn implied<'a>(
 /// What an equivalence comes to, by its first part's answer and its second part.
 #[cycle(form)]
 fn alike<'a>(
-    alloc: Global,
-    base: &'a GroundData<'a>,
+    scope: Scope<'a>,
     first: Answer,
     second: &'a Formula,
-    env: &'a Env<'a>,
     problem: &mut Problem,
 ) -> Result<Answer, Memory>
-    requires given { IsGroundBase base.now }
-    requires room { HasVars base.now problem.old }
-    requires fits { IsGroundable base.now (formula_view second.now) (env_view env.now) }
+    requires given { IsGroundBase scope.base.now }
+    requires room { HasVars scope.base.now problem.old }
+    requires fits { IsGroundable scope.base.now (formula_view second.now) (env_view scope.env.now) }
     requires within { AnswerWithin problem.old.vars first }
     ensures made { IfOk result (λ a. let y =
-        form_of base.now (formula_view second.now) (env_view env.now) problem.old in
+        form_of scope.entry.base.now (formula_view second.now) (env_view scope.entry.env.now) problem.old in
         Makes (same_of first y.answer y.problem) a problem.new) }
     ensures grows { IfOk result (λ a. Grows problem.old problem.new a) }
 {
-    let answer = form(alloc, base, second, env, problem)?;
-    same(alloc, first, answer, problem)
+    let answer = form(scope, second, problem)?;
+    same(scope.alloc, first, answer, problem)
 }
 
 /// What a quantified formula comes to: all, or any, of its instances.
 #[cycle(form)]
 fn quantified<'a>(
-    alloc: Global,
-    base: &'a GroundData<'a>,
+    scope: Scope<'a>,
     all: bool,
-    bounds: &'a [Bound],
-    formula: &'a Formula,
-    env: &'a Env<'a>,
+    binder: Binder<'a>,
     problem: &mut Problem,
 ) -> Result<Answer, Memory>
-    requires given { IsGroundBase base.now }
-    requires room { HasVars base.now problem.old }
-    requires fits { AllByRecursion (λ a. IsGroundable base.now (formula_view formula.now) (env_view env.now ++ a))
-        (choices base.now.domains bounds.now) }
+    requires given { IsGroundBase scope.base.now }
+    requires room { HasVars scope.base.now problem.old }
+    requires fits { AllByRecursion (λ a. IsGroundable scope.base.now (formula_view binder.formula.now)
+        (env_view scope.env.now ++ a)) (choices scope.base.now.domains binder.bounds.now) }
     ensures made { IfOk result
         (λ a. Makes (close_parts all
-        (fold (λ r x. part_step base.now all true (formula_view formula.now) r (env_view env.now ++ x))
-        (open_parts [] problem.old) (choices base.now.domains bounds.now))) a problem.new) }
+        (fold (λ r x. part_step scope.entry.base.now all true (formula_view binder.entry.formula.now) r
+        (env_view scope.entry.env.now ++ x))
+        (open_parts [] problem.old) (choices scope.entry.base.now.domains binder.entry.bounds.now))) a problem.new) }
     ensures grows { IfOk result (λ a. Grows problem.old problem.new a) }
 {
-    let mut lits = Vec::new(alloc);
-    let settled = instances(
-        alloc, base, all, true, bounds, formula, env, &mut lits, problem,
-    )?;
+    let mut lits = Vec::new(scope.alloc);
+    let settled = instances(scope, all, true, binder, &mut lits, problem)?;
     close(all, settled, lits, problem)
 }
 
@@ -249,36 +240,41 @@ fn quantified<'a>(
 /// settles the whole, if one does.
 #[cycle(form)]
 pub(crate) fn instances<'a>(
-    alloc: Global,
-    base: &'a GroundData<'a>,
+    scope: Scope<'a>,
     all: bool,
     sign: bool,
-    bounds: &'a [Bound],
-    formula: &'a Formula,
-    env: &'a Env<'a>,
+    binder: Binder<'a>,
     lits: &mut Vec<Lit>,
     problem: &mut Problem,
 ) -> Result<bool, Memory>
-    requires given { IsGroundBase base.now }
-    requires room { HasVars base.now problem.old }
-    requires fits { AllByRecursion (λ a. IsGroundable base.now (formula_view formula.now) (env_view env.now ++ a))
-        (choices base.now.domains bounds.now) }
+    requires given { IsGroundBase scope.base.now }
+    requires room { HasVars scope.base.now problem.old }
+    requires fits { AllByRecursion (λ a. IsGroundable scope.base.now (formula_view binder.formula.now)
+        (env_view scope.env.now ++ a)) (choices scope.base.now.domains binder.bounds.now) }
     requires lits { AreLitsOf problem.old.vars lits.old.items }
     ensures made { IfOk result
-        (λ s. MakesParts (fold (λ r x. part_step base.now all sign (formula_view formula.now) r (env_view env.now ++ x))
-        (open_parts lits.old.items problem.old) (choices base.now.domains bounds.now)) s lits.new.items problem.new) }
+        (λ s. MakesParts (fold (λ r x. part_step scope.entry.base.now all sign (formula_view binder.entry.formula.now) r
+        (env_view scope.entry.env.now ++ x))
+        (open_parts lits.old.items problem.old) (choices scope.entry.base.now.domains binder.entry.bounds.now)) s
+        lits.new.items problem.new) }
     ensures grows { IfOk result (λ s. PartsGrow problem.old problem.new lits.new.items) }
 {
-    if bounds.is_empty() {
-        let answer = signed_form(alloc, base, sign, formula, env, problem)?;
+    if binder.bounds.is_empty() {
+        let answer = signed_form(scope, sign, binder.formula, problem)?;
         return add_part(all, answer, lits);
     }
-    let (block, others) = split_in(base.domains(), bounds);
+    let (block, others) = split_in(scope.base.domains(), binder.bounds);
     for number in 0..block.count {
-        let inner = extend(env, block, number);
-        if instances(
-            alloc, &*base, all, sign, others, formula, &inner, lits, problem,
-        )? {
+        let inner = extend(scope.env, block, number);
+        let inside = Scope {
+            env: &inner,
+            ..scope
+        };
+        let rest = Binder {
+            bounds: others,
+            ..binder
+        };
+        if instances(inside, all, sign, rest, lits, problem)? {
             return Ok(true);
         }
     }
@@ -288,122 +284,106 @@ pub(crate) fn instances<'a>(
 /// How a number of assignments under which the formula is true compares with a number.
 #[cycle(form)]
 fn compare_count<'a>(
-    alloc: Global,
-    base: &'a GroundData<'a>,
+    scope: Scope<'a>,
     cmp: Cmp,
     number: i64,
-    bounds: &'a [Bound],
-    formula: &'a Formula,
-    env: &'a Env<'a>,
+    binder: Binder<'a>,
     problem: &mut Problem,
 ) -> Result<Answer, Memory>
-    requires given { IsGroundBase base.now }
-    requires room { HasVars base.now problem.old }
-    requires fits { AllByRecursion (λ a. IsGroundable base.now (formula_view formula.now) (env_view env.now ++ a))
-        (choices base.now.domains bounds.now) }
+    requires given { IsGroundBase scope.base.now }
+    requires room { HasVars scope.base.now problem.old }
+    requires fits { AllByRecursion (λ a. IsGroundable scope.base.now (formula_view binder.formula.now)
+        (env_view scope.env.now ++ a)) (choices scope.base.now.domains binder.bounds.now) }
     ensures made { IfOk result
-        (λ a. Makes (form_of base.now (numbered cmp number bounds.now (formula_view formula.now)) (env_view env.now)
-        problem.old) a problem.new) }
+        (λ a. Makes (form_of scope.entry.base.now (numbered cmp number binder.entry.bounds.now
+        (formula_view binder.entry.formula.now)) (env_view scope.entry.env.now) problem.old) a problem.new) }
     ensures grows { IfOk result (λ a. Grows problem.old problem.new a) }
 {
-    let mut counted = Linear::new(alloc);
+    let mut counted = Linear::new(scope.alloc);
     let weights = Weights {
         kind: AggKind::Count,
         factor: 1,
         term: None,
     };
-    add_instances(
-        alloc,
-        base,
-        weights,
-        bounds,
-        formula,
-        env,
-        &mut counted,
-        problem,
-    )?;
-    compared_at(alloc, AggKind::Count, cmp, &counted, number, problem)
+    add_instances(scope, weights, binder, &mut counted, problem)?;
+    compared_at(scope.alloc, AggKind::Count, cmp, &counted, number, problem)
 }
 
 /// How a side that is a minimum or a maximum compares with the rows of the other.
 #[cycle(form)]
 fn compare_extreme<'a>(
-    alloc: Global,
-    base: &'a GroundData<'a>,
+    scope: Scope<'a>,
     kind: AggKind,
     cmp: Cmp,
     side: &'a Term,
     other: &'a Term,
-    env: &'a Env<'a>,
     problem: &mut Problem,
 ) -> Result<Answer, Memory>
-    requires given { IsGroundBase base.now }
-    requires room { HasVars base.now problem.old }
-    requires fits { AreInstancesGroundable base.now (term_view side.now) (env_view env.now) }
-    requires rows { RowsFit base.now (term_view other.now) (env_view env.now) }
+    requires given { IsGroundBase scope.base.now }
+    requires room { HasVars scope.base.now problem.old }
+    requires fits { AreInstancesGroundable scope.base.now (term_view side.now) (env_view scope.env.now) }
+    requires rows { RowsFit scope.base.now (term_view other.now) (env_view scope.env.now) }
     ensures made { IfOk result
         (λ a. Makes (compared_by_rows kind cmp
-        (sums_of base.now (pos 1) (term_view side.now) (env_view env.now) (no_parts_yet problem.old))
-        (rows_of_term base.now (term_view other.now) (env_view env.now))) a problem.new) }
+        (sums_of scope.entry.base.now (pos 1) (term_view side.now) (env_view scope.entry.env.now)
+        (no_parts_yet problem.old))
+        (rows_of_term scope.entry.base.now (term_view other.now) (env_view scope.entry.env.now))) a problem.new) }
     ensures grows { IfOk result (λ a. Grows problem.old problem.new a) }
 {
-    let linear = aggregates_of(alloc, base, side, env, problem)?;
-    let rows = base.rows(alloc, other, env)?;
-    compared_with_rows(alloc, kind, cmp, &linear, &rows, problem)
+    let linear = aggregates_of(scope, side, problem)?;
+    let rows = scope.base.rows(scope.alloc, other, scope.env)?;
+    compared_with_rows(scope.alloc, kind, cmp, &linear, &rows, problem)
 }
 
 /// How the counts and sums of the left side, with those of the right side taken off, compare with what is left of the
 /// rows of both sides.
 #[cycle(form)]
 fn compare_sums<'a>(
-    alloc: Global,
-    base: &'a GroundData<'a>,
+    scope: Scope<'a>,
     cmp: Cmp,
     left_linear: Linear,
     right: &'a Term,
     left: &'a Term,
-    env: &'a Env<'a>,
     problem: &mut Problem,
 ) -> Result<Answer, Memory>
-    requires given { IsGroundBase base.now }
-    requires room { HasVars base.now problem.old }
+    requires given { IsGroundBase scope.base.now }
+    requires room { HasVars scope.base.now problem.old }
     requires parts { ArePartsOf problem.old.vars left_linear.parts }
-    requires fits { AreInstancesGroundable base.now (term_view right.now) (env_view env.now) }
-    requires left { RowsFit base.now (term_view left.now) (env_view env.now) }
-    requires right { RowsFit base.now (term_view right.now) (env_view env.now) }
+    requires fits { AreInstancesGroundable scope.base.now (term_view right.now) (env_view scope.env.now) }
+    requires left { RowsFit scope.base.now (term_view left.now) (env_view scope.env.now) }
+    requires right { RowsFit scope.base.now (term_view right.now) (env_view scope.env.now) }
     ensures made { IfOk result
         (λ a. Makes (compared_by_rows kind.Sum cmp
-        (sums_of base.now (neg_ℤ (pos 1)) (term_view right.now) (env_view env.now)
+        (sums_of scope.entry.base.now (neg_ℤ (pos 1)) (term_view right.now) (env_view scope.entry.env.now)
         (linear_view left_linear problem.old))
-        (rows_between_sides (rows_of_term base.now (term_view left.now) (env_view env.now))
-        (rows_of_term base.now (term_view right.now) (env_view env.now)))) a problem.new) }
+        (rows_between_sides (rows_of_term scope.entry.base.now (term_view left.now) (env_view scope.entry.env.now))
+        (rows_of_term scope.entry.base.now (term_view right.now) (env_view scope.entry.env.now)))) a problem.new) }
     ensures grows { IfOk result (λ a. Grows problem.old problem.new a) }
 {
     let mut linear = left_linear;
-    add_aggregates(alloc, base, -1, right, env, &mut linear, problem)?;
-    let left_rows = base.rows(alloc, left, env)?;
-    let right_rows = base.rows(alloc, right, env)?;
-    compared_between(alloc, cmp, &linear, &left_rows, &right_rows, problem)
+    add_aggregates(scope, -1, right, &mut linear, problem)?;
+    let left_rows = scope.base.rows(scope.alloc, left, scope.env)?;
+    let right_rows = scope.base.rows(scope.alloc, right, scope.env)?;
+    compared_between(scope.alloc, cmp, &linear, &left_rows, &right_rows, problem)
 }
 
 /// The parts of the aggregates in a term.
 #[cycle(form)]
 pub fn aggregates_of<'a>(
-    alloc: Global,
-    base: &'a GroundData<'a>,
+    scope: Scope<'a>,
     term: &'a Term,
-    env: &'a Env<'a>,
     problem: &mut Problem,
 ) -> Result<Linear, Memory>
-    requires given { IsGroundBase base.now }
-    requires room { HasVars base.now problem.old }
-    requires fits { AreInstancesGroundable base.now (term_view term.now) (env_view env.now) }
+    requires given { IsGroundBase scope.base.now }
+    requires room { HasVars scope.base.now problem.old }
+    requires fits { AreInstancesGroundable scope.base.now (term_view term.now) (env_view scope.env.now) }
     ensures made { IfOk result (λ s. linear_view s problem.new
-        ≡ sums_of base.now (pos 1) (term_view term.now) (env_view env.now) (no_parts_yet problem.old)) }
+        ≡ sums_of scope.entry.base.now (pos 1) (term_view term.now) (env_view scope.entry.env.now)
+        (no_parts_yet problem.old)) }
     ensures grows { IfOk result (λ s. LinearGrows problem.old problem.new s.parts) }
 {
-    let mut linear = Linear::new(alloc);
-    add_aggregates(alloc, base, 1, term, env, &mut linear, problem)?;
+    let mut linear = Linear::new(scope.alloc);
+    add_aggregates(scope, 1, term, &mut linear, problem)?;
     Ok(linear)
 }
 
@@ -412,20 +392,19 @@ pub fn aggregates_of<'a>(
 /// Adds the parts of the aggregates in a term, times a factor. A factor past 64 bits counts as out of memory.
 #[cycle(form)]
 pub fn add_aggregates<'a>(
-    alloc: Global,
-    base: &'a GroundData<'a>,
+    scope: Scope<'a>,
     factor: i64,
     term: &'a Term,
-    env: &'a Env<'a>,
     linear: &mut Linear,
     problem: &mut Problem,
 ) -> Result<(), Memory>
-    requires given { IsGroundBase base.now }
-    requires room { HasVars base.now problem.old }
-    requires fits { AreInstancesGroundable base.now (term_view term.now) (env_view env.now) }
+    requires given { IsGroundBase scope.base.now }
+    requires room { HasVars scope.base.now problem.old }
+    requires fits { AreInstancesGroundable scope.base.now (term_view term.now) (env_view scope.env.now) }
     requires parts { ArePartsOf problem.old.vars linear.old.parts }
     ensures made { OnOk result (linear_view linear.new problem.new
-        ≡ sums_of base.now factor (term_view term.now) (env_view env.now) (linear_view linear.old problem.old)) }
+        ≡ sums_of scope.entry.base.now factor (term_view term.now) (env_view scope.entry.env.now)
+        (linear_view linear.old problem.old)) }
     ensures grows { OnOk result (LinearGrows problem.old problem.new linear.new.parts) }
 {
     match term {
@@ -433,15 +412,13 @@ pub fn add_aggregates<'a>(
         Term::Int(_) => Ok(()),
         Term::Made(..) => Ok(()),
         Term::Apply(..) => Ok(()),
-        Term::Sum(parts) => add_of_operands(alloc, base, factor, parts, env, linear, problem),
+        Term::Sum(parts) => add_of_operands(scope, factor, parts, linear, problem),
         Term::Product(factors) => {
             if !have_aggregates(factors) {
                 return Ok(());
             }
             match times_integers(factor, factors) {
-                Some(product) => add_of_factors(
-                    alloc, base, product, factors, env, linear, problem,
-                ),
+                Some(product) => add_of_factors(scope, product, factors, linear, problem),
                 None => Err(Memory),
             }
         }
@@ -451,7 +428,7 @@ pub fn add_aggregates<'a>(
                 factor,
                 term: Some(weight),
             };
-            add_instances(alloc, base, weights, bounds, formula, env, linear, problem)
+            add_instances(scope, weights, Binder { bounds, formula }, linear, problem)
         }
     }
 }
@@ -459,26 +436,25 @@ pub fn add_aggregates<'a>(
 /// Adds the parts of the aggregates in the operands of a sum, times a factor.
 #[cycle(form)]
 fn add_of_operands<'a>(
-    alloc: Global,
-    base: &'a GroundData<'a>,
+    scope: Scope<'a>,
     factor: i64,
     operands: &'a [Signed],
-    env: &'a Env<'a>,
     linear: &mut Linear,
     problem: &mut Problem,
 ) -> Result<(), Memory>
-    requires given { IsGroundBase base.now }
-    requires room { HasVars base.now problem.old }
-    requires fits { AreSummandsGroundable base.now (summands_of (map signed_view operands.now)) (env_view env.now) }
+    requires given { IsGroundBase scope.base.now }
+    requires room { HasVars scope.base.now problem.old }
+    requires fits { AreSummandsGroundable scope.base.now (summands_of (map signed_view operands.now))
+        (env_view scope.env.now) }
     requires parts { ArePartsOf problem.old.vars linear.old.parts }
     ensures made { OnOk result (linear_view linear.new problem.new
-        ≡ sums_of_summands base.now factor (summands_of (map signed_view operands.now)) (env_view env.now)
-        (linear_view linear.old problem.old)) }
+        ≡ sums_of_summands scope.entry.base.now factor (summands_of (map signed_view operands.now))
+        (env_view scope.entry.env.now) (linear_view linear.old problem.old)) }
     ensures grows { OnOk result (LinearGrows problem.old problem.new linear.new.parts) }
 {
     for operand in operands {
         match with_sign(operand.minus, factor) {
-            Some(own) => add_aggregates(alloc, base, own, &operand.term, env, linear, problem)?,
+            Some(own) => add_aggregates(scope, own, &operand.term, linear, problem)?,
             None => return Err(Memory),
         }
     }
@@ -488,25 +464,23 @@ fn add_of_operands<'a>(
 /// Adds the parts of the aggregates in the factors of a product, times a factor.
 #[cycle(form)]
 fn add_of_factors<'a>(
-    alloc: Global,
-    base: &'a GroundData<'a>,
+    scope: Scope<'a>,
     factor: i64,
     terms: &'a [Term],
-    env: &'a Env<'a>,
     linear: &mut Linear,
     problem: &mut Problem,
 ) -> Result<(), Memory>
-    requires given { IsGroundBase base.now }
-    requires room { HasVars base.now problem.old }
-    requires fits { AreFactorsGroundable base.now (terms_of (map term_view terms.now)) (env_view env.now) }
+    requires given { IsGroundBase scope.base.now }
+    requires room { HasVars scope.base.now problem.old }
+    requires fits { AreFactorsGroundable scope.base.now (terms_of (map term_view terms.now)) (env_view scope.env.now) }
     requires parts { ArePartsOf problem.old.vars linear.old.parts }
     ensures made { OnOk result (linear_view linear.new problem.new
-        ≡ sums_of_factors base.now factor (terms_of (map term_view terms.now)) (env_view env.now)
-        (linear_view linear.old problem.old)) }
+        ≡ sums_of_factors scope.entry.base.now factor (terms_of (map term_view terms.now))
+        (env_view scope.entry.env.now) (linear_view linear.old problem.old)) }
     ensures grows { OnOk result (LinearGrows problem.old problem.new linear.new.parts) }
 {
     for term in terms {
-        add_aggregates(alloc, base, factor, term, env, linear, problem)?;
+        add_aggregates(scope, factor, term, linear, problem)?;
     }
     Ok(())
 }
@@ -514,37 +488,41 @@ fn add_of_factors<'a>(
 /// Adds the parts of an aggregate's instances, one for each assignment.
 #[cycle(form)]
 fn add_instances<'a>(
-    alloc: Global,
-    base: &'a GroundData<'a>,
+    scope: Scope<'a>,
     weights: Weights<'a>,
-    bounds: &'a [Bound],
-    formula: &'a Formula,
-    env: &'a Env<'a>,
+    binder: Binder<'a>,
     linear: &mut Linear,
     problem: &mut Problem,
 ) -> Result<(), Memory>
-    requires given { IsGroundBase base.now }
-    requires room { HasVars base.now problem.old }
+    requires given { IsGroundBase scope.base.now }
+    requires room { HasVars scope.base.now problem.old }
     requires fits { AllByRecursion
-        (λ a. InstanceFits base.now (formula_view formula.now) (weight_view weights) (env_view env.now ++ a))
-        (choices base.now.domains bounds.now) }
+        (λ a. InstanceFits scope.base.now (formula_view binder.formula.now) (weight_view weights)
+        (env_view scope.env.now ++ a)) (choices scope.base.now.domains binder.bounds.now) }
     requires parts { ArePartsOf problem.old.vars linear.old.parts }
     ensures made { OnOk result (linear_view linear.new problem.new
-        ≡ fold (λ st a. weighed_step base.now weights.entry.kind weights.entry.factor (formula_view formula.now)
-        (weight_view weights.entry) st (env_view env.now ++ a)) (linear_view linear.old problem.old)
-        (choices base.now.domains bounds.now)) }
+        ≡ fold (λ st a. weighed_step scope.entry.base.now weights.entry.kind weights.entry.factor
+        (formula_view binder.entry.formula.now)
+        (weight_view weights.entry) st (env_view scope.entry.env.now ++ a)) (linear_view linear.old problem.old)
+        (choices scope.entry.base.now.domains binder.entry.bounds.now)) }
     ensures grows { OnOk result (LinearGrows problem.old problem.new linear.new.parts) }
 {
-    if bounds.is_empty() {
-        let answer = form(alloc, base, formula, env, problem)?;
-        return add_instance(alloc, base, weights, answer, env, linear, problem);
+    if binder.bounds.is_empty() {
+        let answer = form(scope, binder.formula, problem)?;
+        return add_instance(scope, weights, answer, linear, problem);
     }
-    let (block, others) = split_in(base.domains(), bounds);
+    let (block, others) = split_in(scope.base.domains(), binder.bounds);
     for number in 0..block.count {
-        let inner = extend(env, block, number);
-        add_instances(
-            alloc, &*base, weights, others, formula, &inner, linear, problem,
-        )?;
+        let inner = extend(scope.env, block, number);
+        let inside = Scope {
+            env: &inner,
+            ..scope
+        };
+        let rest = Binder {
+            bounds: others,
+            ..binder
+        };
+        add_instances(inside, weights, rest, linear, problem)?;
     }
     Ok(())
 }

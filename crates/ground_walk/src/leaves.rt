@@ -21,6 +21,7 @@ ghost use Rattle.def_ground.specs.Forms.{form_of, atom_case, atom_answer as answ
 ghost use Rattle.def_ground.specs.Sentences.{assert_of};
 ghost use Rattle.ground_walk.specs.Groundable.{HasVars, IsGroundable, HaveLits};
 
+use crate::scopes::Scope;
 use def_ground::{
     Answer, Case, GuardedValue, answer_of_cases, case_of, case_of_row, gate, push_answer,
     push_cases,
@@ -29,9 +30,24 @@ use ground_core::{LitList, Memory, Problem};
 use kb_logic::values::compare;
 use kb_logic::{Cmp, Term};
 use lit_core::Lit;
-use plain_evaluation::environments::Env;
 use std::alloc::Global;
 use term_values::{GroundData, RowValue, Rows, TupleRows};
+
+/// Two terms that are compared.
+#[derive(Clone, Copy)]
+pub(crate) struct Compared<'a> {
+    pub cmp: Cmp,
+    pub left: &'a Term,
+    pub right: &'a Term,
+}
+
+/// The rows of two terms that are compared.
+#[derive(Clone, Copy)]
+struct ComparedRows<'a> {
+    cmp: Cmp,
+    left: &'a Rows<'a>,
+    right: &'a Rows<'a>,
+}
 
 /// What a predicate's atom with these arguments comes to.
 fn atom_answer(base: &GroundData<'_>, symbol: u32, values: &[RowValue<'_>]) -> Answer
@@ -79,56 +95,54 @@ fn atom_cases<'r>(
 
 /// What an atom comes to.
 pub(crate) fn atom<'a>(
-    alloc: Global,
-    base: &'a GroundData<'a>,
+    scope: Scope<'a>,
     symbol: u32,
     args: &'a [Term],
-    env: &'a Env<'a>,
     problem: &mut Problem,
 ) -> Result<Answer, Memory>
-    requires given { IsGroundBase base.now }
-    requires room { HasVars base.now problem.old }
-    requires fits { IsGroundable base.now (atom symbol (terms_of (map term_view args.now))) (env_view env.now) }
+    requires given { IsGroundBase scope.base.now }
+    requires room { HasVars scope.base.now problem.old }
+    requires fits { IsGroundable scope.base.now (atom symbol (terms_of (map term_view args.now)))
+        (env_view scope.env.now) }
     ensures made { IfOk result
-        (λ a. Makes (form_of base.now (atom symbol (terms_of (map term_view args.now))) (env_view env.now) problem.old)
-        a problem.new) }
+        (λ a. Makes (form_of scope.entry.base.now (atom symbol (terms_of (map term_view args.now)))
+        (env_view scope.entry.env.now) problem.old) a problem.new) }
     ensures grows { IfOk result (λ a. Grows problem.old problem.new a) }
 {
-    let rows = base.tuple_rows(alloc, args, env)?;
-    match single_atom(base, symbol, &rows) {
+    let rows = scope.base.tuple_rows(scope.alloc, args, scope.env)?;
+    match single_atom(scope.base, symbol, &rows) {
         Some(answer) => Ok(answer),
         None => {
-            let cases = atom_cases(alloc, base, symbol, &rows)?;
-            answer_of_cases(alloc, cases.as_slice(), problem)
+            let cases = atom_cases(scope.alloc, scope.base, symbol, &rows)?;
+            answer_of_cases(scope.alloc, cases.as_slice(), problem)
         }
     }
 }
 
 /// Says that one of the literals is true, or the atom is, or where the sign is false is not.
 pub(crate) fn push_atom<'a>(
-    alloc: Global,
-    base: &'a GroundData<'a>,
+    scope: Scope<'a>,
     sign: bool,
     symbol: u32,
     args: &'a [Term],
-    env: &'a Env<'a>,
     lits: &[Lit],
     problem: &mut Problem,
 ) -> Result<(), Memory>
-    requires given { IsGroundBase base.now }
-    requires room { HasVars base.now problem.old }
-    requires fits { IsGroundable base.now (atom symbol (terms_of (map term_view args.now))) (env_view env.now) }
+    requires given { IsGroundBase scope.base.now }
+    requires room { HasVars scope.base.now problem.old }
+    requires fits { IsGroundable scope.base.now (atom symbol (terms_of (map term_view args.now)))
+        (env_view scope.env.now) }
     requires lits { AreLitsOf problem.old.vars lits.now }
-    ensures made { OnOk result (problem.new ≡ assert_of base.now sign (atom symbol (terms_of (map term_view args.now)))
-        (env_view env.now) lits.now problem.old) }
+    ensures made { OnOk result (problem.new ≡ assert_of scope.entry.base.now sign
+        (atom symbol (terms_of (map term_view args.now))) (env_view scope.entry.env.now) lits.now problem.old) }
     ensures grows { OnOk result (problem.old.vars ≤ problem.new.vars) }
 {
-    let rows = base.tuple_rows(alloc, args, env)?;
-    match single_atom(base, symbol, &rows) {
-        Some(answer) => push_answer(alloc, answer.signed(sign), lits, problem),
+    let rows = scope.base.tuple_rows(scope.alloc, args, scope.env)?;
+    match single_atom(scope.base, symbol, &rows) {
+        Some(answer) => push_answer(scope.alloc, answer.signed(sign), lits, problem),
         None => {
-            let cases = atom_cases(alloc, base, symbol, &rows)?;
-            push_cases(alloc, sign, lits, cases.as_slice(), problem)
+            let cases = atom_cases(scope.alloc, scope.base, symbol, &rows)?;
+            push_cases(scope.alloc, sign, lits, cases.as_slice(), problem)
         }
     }
 }
@@ -188,72 +202,68 @@ fn comparison_cases<'r>(
 /// What a comparison of terms with these rows comes to.
 fn compare_rows(
     alloc: Global,
-    cmp: Cmp,
-    left: &Rows<'_>,
-    right: &Rows<'_>,
+    rows: ComparedRows<'_>,
     problem: &mut Problem,
 ) -> Result<Answer, Memory>
-    requires left { HaveLits problem.old.vars left.now }
-    requires right { HaveLits problem.old.vars right.now }
-    ensures made { IfOk result (λ a. Makes (comparison_of cmp left.now right.now problem.old) a problem.new) }
+    requires left { HaveLits problem.old.vars rows.left.now }
+    requires right { HaveLits problem.old.vars rows.right.now }
+    ensures made { IfOk result (λ a. Makes
+        (comparison_of rows.entry.cmp rows.entry.left.now rows.entry.right.now problem.old) a problem.new) }
     ensures grows { IfOk result (λ a. Grows problem.old problem.new a) }
 {
-    if left.len() == 0 {
+    if rows.left.len() == 0 {
         return Ok(Answer::Constant(true));
     }
-    let values = guard_answers(alloc, right, problem)?;
-    let cases = comparison_cases(alloc, cmp, left, values.as_slice())?;
+    let values = guard_answers(alloc, rows.right, problem)?;
+    let cases = comparison_cases(alloc, rows.cmp, rows.left, values.as_slice())?;
     answer_of_cases(alloc, cases.as_slice(), problem)
 }
 
 // Most comparisons of a rule's conditions are of variables and numbers. These make no rows, and take no memory.
 /// Whether the comparison is true of two terms that each have one row, without guards.
-fn plain_comparison<'a>(
-    base: &'a GroundData<'a>,
-    cmp: Cmp,
-    left: &'a Term,
-    right: &'a Term,
-    env: &'a Env<'a>,
-) -> Option<bool>
+fn plain_comparison<'a>(scope: Scope<'a>, sides: Compared<'a>) -> Option<bool>
     ensures { IfSome result (λ c. (p : ProblemState)
-        → comparison_of cmp (rows_of_term base.now (term_view left.now) (env_view env.now))
-        (rows_of_term base.now (term_view right.now) (env_view env.now)) p
+        → comparison_of sides.entry.cmp
+        (rows_of_term scope.entry.base.now (term_view sides.entry.left.now) (env_view scope.entry.env.now))
+        (rows_of_term scope.entry.base.now (term_view sides.entry.right.now) (env_view scope.entry.env.now)) p
         ≡ record { answer = Constant c; problem = p }) }
 {
-    let Some(x) = base.plain_value(left, env) else {
+    let Some(x) = scope.base.plain_value(sides.left, scope.env) else {
         return None;
     };
-    let Some(y) = base.plain_value(right, env) else {
+    let Some(y) = scope.base.plain_value(sides.right, scope.env) else {
         return None;
     };
-    Some(compare(cmp, x, y))
+    Some(compare(sides.cmp, x, y))
 }
 
 /// What a comparison of terms without aggregates comes to.
 pub(crate) fn comparison<'a>(
-    alloc: Global,
-    base: &'a GroundData<'a>,
-    cmp: Cmp,
-    left: &'a Term,
-    right: &'a Term,
-    env: &'a Env<'a>,
+    scope: Scope<'a>,
+    sides: Compared<'a>,
     problem: &mut Problem,
 ) -> Result<Answer, Memory>
-    requires given { IsGroundBase base.now }
-    requires room { HasVars base.now problem.old }
-    requires left { RowsFit base.now (term_view left.now) (env_view env.now) }
-    requires right { RowsFit base.now (term_view right.now) (env_view env.now) }
-    ensures made { IfOk result
-        (λ a. Makes (comparison_of cmp (rows_of_term base.now (term_view left.now) (env_view env.now))
-        (rows_of_term base.now (term_view right.now) (env_view env.now)) problem.old) a problem.new) }
+    requires given { IsGroundBase scope.base.now }
+    requires room { HasVars scope.base.now problem.old }
+    requires left { RowsFit scope.base.now (term_view sides.left.now) (env_view scope.env.now) }
+    requires right { RowsFit scope.base.now (term_view sides.right.now) (env_view scope.env.now) }
+    ensures made { IfOk result (λ a. Makes (comparison_of sides.entry.cmp
+        (rows_of_term scope.entry.base.now (term_view sides.entry.left.now) (env_view scope.entry.env.now))
+        (rows_of_term scope.entry.base.now (term_view sides.entry.right.now) (env_view scope.entry.env.now))
+        problem.old) a problem.new) }
     ensures grows { IfOk result (λ a. Grows problem.old problem.new a) }
 {
-    if let Some(value) = plain_comparison(base, cmp, left, right, env) {
+    if let Some(value) = plain_comparison(scope, sides) {
         return Ok(Answer::Constant(value));
     }
-    let left_rows = base.rows(alloc, left, env)?;
-    let right_rows = base.rows(alloc, right, env)?;
-    compare_rows(alloc, cmp, &left_rows, &right_rows, problem)
+    let left_rows = scope.base.rows(scope.alloc, sides.left, scope.env)?;
+    let right_rows = scope.base.rows(scope.alloc, sides.right, scope.env)?;
+    let rows = ComparedRows {
+        cmp: sides.cmp,
+        left: &left_rows,
+        right: &right_rows,
+    };
+    compare_rows(scope.alloc, rows, problem)
 }
 
 /// Says that one of the literals is true, or the comparison of terms with these rows is, or where the sign is false is
@@ -261,51 +271,52 @@ pub(crate) fn comparison<'a>(
 fn push_compared(
     alloc: Global,
     sign: bool,
-    cmp: Cmp,
-    left: &Rows<'_>,
-    right: &Rows<'_>,
+    rows: ComparedRows<'_>,
     lits: &[Lit],
     problem: &mut Problem,
 ) -> Result<(), Memory>
-    requires left { HaveLits problem.old.vars left.now }
-    requires right { HaveLits problem.old.vars right.now }
+    requires left { HaveLits problem.old.vars rows.left.now }
+    requires right { HaveLits problem.old.vars rows.right.now }
     requires lits { AreLitsOf problem.old.vars lits.now }
-    ensures made { OnOk result (problem.new ≡ assert_comparison sign cmp left.now right.now lits.now problem.old) }
+    ensures made { OnOk result (problem.new ≡ assert_comparison sign rows.entry.cmp rows.entry.left.now
+        rows.entry.right.now lits.now problem.old) }
     ensures grows { OnOk result (problem.old.vars ≤ problem.new.vars) }
 {
-    if left.len() == 0 {
+    if rows.left.len() == 0 {
         let always = Answer::Constant(true);
         return push_answer(alloc, always.signed(sign), lits, problem);
     }
-    let values = guard_answers(alloc, right, problem)?;
-    let cases = comparison_cases(alloc, cmp, left, values.as_slice())?;
+    let values = guard_answers(alloc, rows.right, problem)?;
+    let cases = comparison_cases(alloc, rows.cmp, rows.left, values.as_slice())?;
     push_cases(alloc, sign, lits, cases.as_slice(), problem)
 }
 
 /// Says that one of the literals is true, or the comparison of terms without aggregates is, or where the sign is false
 /// is not.
 pub(crate) fn push_comparison<'a>(
-    alloc: Global,
-    base: &'a GroundData<'a>,
+    scope: Scope<'a>,
     sign: bool,
-    cmp: Cmp,
-    left: &'a Term,
-    right: &'a Term,
-    env: &'a Env<'a>,
+    sides: Compared<'a>,
     lits: &[Lit],
     problem: &mut Problem,
 ) -> Result<(), Memory>
-    requires given { IsGroundBase base.now }
-    requires room { HasVars base.now problem.old }
-    requires left { RowsFit base.now (term_view left.now) (env_view env.now) }
-    requires right { RowsFit base.now (term_view right.now) (env_view env.now) }
+    requires given { IsGroundBase scope.base.now }
+    requires room { HasVars scope.base.now problem.old }
+    requires left { RowsFit scope.base.now (term_view sides.left.now) (env_view scope.env.now) }
+    requires right { RowsFit scope.base.now (term_view sides.right.now) (env_view scope.env.now) }
     requires lits { AreLitsOf problem.old.vars lits.now }
-    ensures made { OnOk result
-        (problem.new ≡ assert_comparison sign cmp (rows_of_term base.now (term_view left.now) (env_view env.now))
-        (rows_of_term base.now (term_view right.now) (env_view env.now)) lits.now problem.old) }
+    ensures made { OnOk result (problem.new ≡ assert_comparison sign sides.entry.cmp
+        (rows_of_term scope.entry.base.now (term_view sides.entry.left.now) (env_view scope.entry.env.now))
+        (rows_of_term scope.entry.base.now (term_view sides.entry.right.now) (env_view scope.entry.env.now))
+        lits.now problem.old) }
     ensures grows { OnOk result (problem.old.vars ≤ problem.new.vars) }
 {
-    let left_rows = base.rows(alloc, left, env)?;
-    let right_rows = base.rows(alloc, right, env)?;
-    push_compared(alloc, sign, cmp, &left_rows, &right_rows, lits, problem)
+    let left_rows = scope.base.rows(scope.alloc, sides.left, scope.env)?;
+    let right_rows = scope.base.rows(scope.alloc, sides.right, scope.env)?;
+    let rows = ComparedRows {
+        cmp: sides.cmp,
+        left: &left_rows,
+        right: &right_rows,
+    };
+    push_compared(scope.alloc, sign, rows, lits, problem)
 }

@@ -20,10 +20,11 @@ ghost use Rattle.ground_walk.specs.Steps.{assert_quantified};
 use crate::counting::are_plain;
 use crate::disjuncts::disjuncts;
 use crate::forms::{form, instances, signed_form};
-use crate::leaves::{push_atom, push_comparison};
+use crate::leaves::{Compared, push_atom, push_comparison};
+use crate::scopes::{Binder, Scope};
 use def_ground::{push_alike, push_answer};
 use ground_core::{Memory, Problem};
-use kb_logic::{Bound, Formula};
+use kb_logic::Formula;
 use lit_core::{Clause, Lit};
 use plain_evaluation::environments::{Env, extend, split_in};
 use row_ranges::{RowPlace, first_variable};
@@ -48,33 +49,29 @@ fn are_few(lits: &[Lit]) -> bool
 
 /// Says that one of the literals is true, or some instance of the formula is, or where the sign is false some is not.
 fn push_some<'a>(
-    alloc: Global,
-    base: &'a GroundData<'a>,
+    scope: Scope<'a>,
     sign: bool,
-    bounds: &'a [Bound],
-    formula: &'a Formula,
-    env: &'a Env<'a>,
+    binder: Binder<'a>,
     lits: &mut Vec<Lit>,
     problem: &mut Problem,
 ) -> Result<(), Memory>
-    requires given { IsGroundBase base.now }
-    requires room { HasVars base.now problem.old }
-    requires fits { AllByRecursion (λ a. IsGroundable base.now (formula_view formula.now) (env_view env.now ++ a))
-        (choices base.now.domains bounds.now) }
+    requires given { IsGroundBase scope.base.now }
+    requires room { HasVars scope.base.now problem.old }
+    requires fits { AllByRecursion (λ a. IsGroundable scope.base.now (formula_view binder.formula.now)
+        (env_view scope.env.now ++ a)) (choices scope.base.now.domains binder.bounds.now) }
     requires lits { AreLitsOf problem.old.vars lits.old.items }
     ensures made { OnOk result
         (problem.new ≡ parts_clause
-        (fold (λ r x. part_step base.now false sign (formula_view formula.now) r (env_view env.now ++ x))
-        (open_parts lits.old.items problem.old) (choices base.now.domains bounds.now))) }
+        (fold (λ r x. part_step scope.entry.base.now false sign (formula_view binder.entry.formula.now) r
+        (env_view scope.entry.env.now ++ x))
+        (open_parts lits.old.items problem.old) (choices scope.entry.base.now.domains binder.entry.bounds.now))) }
     ensures grows { OnOk result (problem.old.vars ≤ problem.new.vars) }
     ensures lits { OnOk result (lits.new.items ≡ lits.old.items) }
 {
     let before = lits.len();
-    let settled = instances(
-        alloc, base, false, sign, bounds, formula, env, lits, problem,
-    )?;
+    let settled = instances(scope, false, sign, binder, lits, problem)?;
     if !settled {
-        push_clause(alloc, lits.as_slice(), problem)?;
+        push_clause(scope.alloc, lits.as_slice(), problem)?;
     }
     lits.truncate(before);
     Ok(())
@@ -83,143 +80,111 @@ fn push_some<'a>(
 /// Says that one of the literals is true, or the formula is, or where the sign is false is not. The formula is asked
 /// for as one answer.
 fn push_leaf<'a>(
-    alloc: Global,
-    base: &'a GroundData<'a>,
+    scope: Scope<'a>,
     sign: bool,
     formula: &'a Formula,
-    env: &'a Env<'a>,
     lits: &mut Vec<Lit>,
     problem: &mut Problem,
 ) -> Result<(), Memory>
-    requires given { IsGroundBase base.now }
-    requires room { HasVars base.now problem.old }
-    requires fits { IsGroundable base.now (formula_view formula.now) (env_view env.now) }
+    requires given { IsGroundBase scope.base.now }
+    requires room { HasVars scope.base.now problem.old }
+    requires fits { IsGroundable scope.base.now (formula_view formula.now) (env_view scope.env.now) }
     requires lits { AreLitsOf problem.old.vars lits.old.items }
     ensures made { OnOk result
         (problem.new ≡ or_clause lits.old.items
-        (signed_result sign (form_of base.now (formula_view formula.now) (env_view env.now) problem.old))) }
+        (signed_result sign (form_of scope.entry.base.now (formula_view formula.now)
+        (env_view scope.entry.env.now) problem.old))) }
     ensures grows { OnOk result (problem.old.vars ≤ problem.new.vars) }
     ensures lits { OnOk result (lits.new.items ≡ lits.old.items) }
 {
-    let answer = signed_form(alloc, base, sign, formula, env, problem)?;
-    push_answer(alloc, answer, lits.as_slice(), problem)
+    let answer = signed_form(scope, sign, formula, problem)?;
+    push_answer(scope.alloc, answer, lits.as_slice(), problem)
 }
 
 /// Says that one of the literals is true, or that two formulas have one truth, or where the sign is false that they
 /// have not.
 fn push_iff<'a>(
-    alloc: Global,
-    base: &'a GroundData<'a>,
+    scope: Scope<'a>,
     sign: bool,
     left: &'a Formula,
     right: &'a Formula,
-    env: &'a Env<'a>,
     lits: &[Lit],
     problem: &mut Problem,
 ) -> Result<(), Memory>
-    requires given { IsGroundBase base.now }
-    requires room { HasVars base.now problem.old }
-    requires left { IsGroundable base.now (formula_view left.now) (env_view env.now) }
-    requires right { IsGroundable base.now (formula_view right.now) (env_view env.now) }
+    requires given { IsGroundBase scope.base.now }
+    requires room { HasVars scope.base.now problem.old }
+    requires left { IsGroundable scope.base.now (formula_view left.now) (env_view scope.env.now) }
+    requires right { IsGroundable scope.base.now (formula_view right.now) (env_view scope.env.now) }
     requires lits { AreLitsOf problem.old.vars lits.now }
     ensures made { OnOk result
-        (problem.new ≡ assert_of base.now sign (equivalence (formula_view left.now) (formula_view right.now))
-        (env_view env.now) lits.now problem.old) }
+        (problem.new ≡ assert_of scope.entry.base.now sign
+        (equivalence (formula_view left.now) (formula_view right.now))
+        (env_view scope.entry.env.now) lits.now problem.old) }
     ensures grows { OnOk result (problem.old.vars ≤ problem.new.vars) }
 {
-    let first = form(alloc, base, left, env, problem)?;
-    let second = form(alloc, base, right, env, problem)?;
-    push_alike(alloc, sign, first, second, lits, problem)
+    let first = form(scope, left, problem)?;
+    let second = form(scope, right, problem)?;
+    push_alike(scope.alloc, sign, first, second, lits, problem)
 }
 
 /// Says that one of the literals is true, or the formula is, or where the sign is false is not.
 #[cycle(sentence)]
 fn push<'a>(
-    alloc: Global,
-    base: &'a GroundData<'a>,
+    scope: Scope<'a>,
     sign: bool,
     formula: &'a Formula,
-    env: &'a Env<'a>,
     lits: &mut Vec<Lit>,
     problem: &mut Problem,
 ) -> Result<(), Memory>
-    requires given { IsGroundBase base.now }
-    requires room { HasVars base.now problem.old }
-    requires fits { IsGroundable base.now (formula_view formula.now) (env_view env.now) }
+    requires given { IsGroundBase scope.base.now }
+    requires room { HasVars scope.base.now problem.old }
+    requires fits { IsGroundable scope.base.now (formula_view formula.now) (env_view scope.env.now) }
     requires lits { AreLitsOf problem.old.vars lits.old.items }
     ensures made { OnOk result
-        (problem.new ≡ assert_of base.now sign (formula_view formula.now)
-        (env_view env.now) lits.old.items problem.old) }
+        (problem.new ≡ assert_of scope.entry.base.now sign (formula_view formula.now)
+        (env_view scope.entry.env.now) lits.old.items problem.old) }
     ensures grows { OnOk result (problem.old.vars ≤ problem.new.vars) }
     ensures lits { OnOk result (lits.new.items ≡ lits.old.items) }
 {
     match formula {
-        Formula::True => push_constant(alloc, sign, lits, problem),
-        Formula::False => push_constant(alloc, !sign, lits, problem),
+        Formula::True => push_constant(scope.alloc, sign, lits, problem),
+        Formula::False => push_constant(scope.alloc, !sign, lits, problem),
         Formula::Atom(symbol, args) => {
-            push_atom(
-                alloc,
-                base,
-                sign,
-                *symbol,
-                args,
-                env,
-                lits.as_slice(),
-                problem,
-            )
+            push_atom(scope, sign, *symbol, args, lits.as_slice(), problem)
         }
         Formula::Compare(cmp, left, right) => {
             if are_plain(left, right) {
-                push_comparison(
-                    alloc,
-                    base,
-                    sign,
-                    *cmp,
-                    left,
-                    right,
-                    env,
-                    lits.as_slice(),
-                    problem,
-                )
+                let cmp = *cmp;
+                let sides = Compared { cmp, left, right };
+                push_comparison(scope, sign, sides, lits.as_slice(), problem)
             } else {
-                push_leaf(alloc, base, sign, formula, env, lits, problem)
+                push_leaf(scope, sign, formula, lits, problem)
             }
         }
         Formula::Iff(left, right) => {
-            push_iff(
-                alloc,
-                base,
-                sign,
-                left,
-                right,
-                env,
-                lits.as_slice(),
-                problem,
-            )
+            push_iff(scope, sign, left, right, lits.as_slice(), problem)
         }
-        Formula::Number(..) => push_leaf(alloc, base, sign, formula, env, lits, problem),
-        Formula::Not(inner) => push(alloc, base, !sign, inner, env, lits, problem),
-        Formula::And(formulas) => push_joined(
-            alloc, base, true, sign, formulas, env, lits, problem,
-        ),
-        Formula::Or(formulas) => push_joined(
-            alloc, base, false, sign, formulas, env, lits, problem,
-        ),
+        Formula::Number(..) => push_leaf(scope, sign, formula, lits, problem),
+        Formula::Not(inner) => push(scope, !sign, inner, lits, problem),
+        Formula::And(formulas) => push_joined(scope, true, sign, formulas, lits, problem),
+        Formula::Or(formulas) => push_joined(scope, false, sign, formulas, lits, problem),
         Formula::Implies(left, right) => {
             if sign {
                 let before = lits.len();
-                let settled = disjuncts(alloc, base, false, left, env, lits, problem)?;
-                push_under(alloc, base, settled, before, right, env, lits, problem)
+                let settled = disjuncts(scope, false, left, lits, problem)?;
+                push_under(scope, settled, before, right, lits, problem)
             } else {
-                push(alloc, base, true, left, env, lits, problem)?;
-                push(alloc, base, false, right, env, lits, problem)
+                push(scope, true, left, lits, problem)?;
+                push(scope, false, right, lits, problem)
             }
         }
-        Formula::All(bounds, inner) => {
-            push_quantified(alloc, base, true, sign, bounds, inner, env, lits, problem)
+        Formula::All(bounds, formula) => {
+            let binder = Binder { bounds, formula };
+            push_quantified(scope, true, sign, binder, lits, problem)
         }
-        Formula::Any(bounds, inner) => {
-            push_quantified(alloc, base, false, sign, bounds, inner, env, lits, problem)
+        Formula::Any(bounds, formula) => {
+            let binder = Binder { bounds, formula };
+            push_quantified(scope, false, sign, binder, lits, problem)
         }
     }
 }
@@ -246,22 +211,20 @@ fn push_constant(
 /// after the first `before` are cut off.
 #[cycle(sentence)]
 fn push_under<'a>(
-    alloc: Global,
-    base: &'a GroundData<'a>,
+    scope: Scope<'a>,
     settled: bool,
     before: usize,
     right: &'a Formula,
-    env: &'a Env<'a>,
     lits: &mut Vec<Lit>,
     problem: &mut Problem,
 ) -> Result<(), Memory>
-    requires given { IsGroundBase base.now }
-    requires room { HasVars base.now problem.old }
-    requires fits { IsGroundable base.now (formula_view right.now) (env_view env.now) }
+    requires given { IsGroundBase scope.base.now }
+    requires room { HasVars scope.base.now problem.old }
+    requires fits { IsGroundable scope.base.now (formula_view right.now) (env_view scope.env.now) }
     requires lits { AreLitsOf problem.old.vars lits.old.items }
     ensures made { OnOk result
-        (problem.new ≡ assert_under base.now settled (formula_view right.now)
-        (env_view env.now) lits.old.items problem.old) }
+        (problem.new ≡ assert_under scope.entry.base.now settled (formula_view right.now)
+        (env_view scope.entry.env.now) lits.old.items problem.old) }
     ensures grows { OnOk result (problem.old.vars ≤ problem.new.vars) }
     ensures lits { OnOk result (lits.new.items ≡ take before lits.old.items) }
 {
@@ -269,7 +232,7 @@ fn push_under<'a>(
         lits.truncate(before);
         return Ok(());
     }
-    push_last(alloc, base, true, right, env, lits, problem)?;
+    push_last(scope, true, right, lits, problem)?;
     lits.truncate(before);
     Ok(())
 }
@@ -279,82 +242,78 @@ fn push_under<'a>(
 /// The last part of a disjunction, under the literals of the others.
 #[cycle(sentence)]
 fn push_last<'a>(
-    alloc: Global,
-    base: &'a GroundData<'a>,
+    scope: Scope<'a>,
     sign: bool,
     formula: &'a Formula,
-    env: &'a Env<'a>,
     lits: &mut Vec<Lit>,
     problem: &mut Problem,
 ) -> Result<(), Memory>
-    requires given { IsGroundBase base.now }
-    requires room { HasVars base.now problem.old }
-    requires fits { IsGroundable base.now (formula_view formula.now) (env_view env.now) }
+    requires given { IsGroundBase scope.base.now }
+    requires room { HasVars scope.base.now problem.old }
+    requires fits { IsGroundable scope.base.now (formula_view formula.now) (env_view scope.env.now) }
     requires lits { AreLitsOf problem.old.vars lits.old.items }
     ensures made { OnOk result
-        (problem.new ≡ assert_last base.now sign (formula_view formula.now)
-        (env_view env.now) lits.old.items problem.old) }
+        (problem.new ≡ assert_last scope.entry.base.now sign (formula_view formula.now)
+        (env_view scope.entry.env.now) lits.old.items problem.old) }
     ensures grows { OnOk result (problem.old.vars ≤ problem.new.vars) }
     ensures lits { OnOk result (lits.new.items ≡ lits.old.items) }
 {
     if are_few(lits.as_slice()) {
-        push(alloc, base, sign, formula, env, lits, problem)
+        push(scope, sign, formula, lits, problem)
     } else {
-        push_leaf(alloc, base, sign, formula, env, lits, problem)
+        push_leaf(scope, sign, formula, lits, problem)
     }
 }
 
 /// The conjunction of the formulas where `all`, and else their disjunction.
 #[cycle(sentence)]
 fn push_joined<'a>(
-    alloc: Global,
-    base: &'a GroundData<'a>,
+    scope: Scope<'a>,
     all: bool,
     sign: bool,
     formulas: &'a [Formula],
-    env: &'a Env<'a>,
     lits: &mut Vec<Lit>,
     problem: &mut Problem,
 ) -> Result<(), Memory>
-    requires given { IsGroundBase base.now }
-    requires room { HasVars base.now problem.old }
-    requires fits { AreGroundable base.now (formulas_of (map formula_view formulas.now)) (env_view env.now) }
+    requires given { IsGroundBase scope.base.now }
+    requires room { HasVars scope.base.now problem.old }
+    requires fits { AreGroundable scope.base.now (formulas_of (map formula_view formulas.now))
+        (env_view scope.env.now) }
     requires lits { AreLitsOf problem.old.vars lits.old.items }
     ensures made { OnOk result
-        (problem.new ≡ assert_joined all base.now sign (formulas_of (map formula_view formulas.now))
-        (env_view env.now) lits.old.items problem.old) }
+        (problem.new ≡ assert_joined all scope.entry.base.now sign (formulas_of (map formula_view formulas.now))
+        (env_view scope.entry.env.now) lits.old.items problem.old) }
     ensures grows { OnOk result (problem.old.vars ≤ problem.new.vars) }
     ensures lits { OnOk result (lits.new.items ≡ lits.old.items) }
 {
     if sign == all {
-        push_all(alloc, base, sign, formulas, env, lits, problem)
+        push_all(scope, sign, formulas, lits, problem)
     } else {
-        push_any(alloc, base, sign, formulas, env, lits, problem)
+        push_any(scope, sign, formulas, lits, problem)
     }
 }
 
 /// Says it of each of the formulas.
 #[cycle(sentence)]
 fn push_all<'a>(
-    alloc: Global,
-    base: &'a GroundData<'a>,
+    scope: Scope<'a>,
     sign: bool,
     formulas: &'a [Formula],
-    env: &'a Env<'a>,
     lits: &mut Vec<Lit>,
     problem: &mut Problem,
 ) -> Result<(), Memory>
-    requires given { IsGroundBase base.now }
-    requires room { HasVars base.now problem.old }
-    requires fits { AreGroundable base.now (formulas_of (map formula_view formulas.now)) (env_view env.now) }
+    requires given { IsGroundBase scope.base.now }
+    requires room { HasVars scope.base.now problem.old }
+    requires fits { AreGroundable scope.base.now (formulas_of (map formula_view formulas.now))
+        (env_view scope.env.now) }
     requires lits { AreLitsOf problem.old.vars lits.old.items }
-    ensures made { OnOk result (problem.new ≡ assert_all base.now sign (formulas_of (map formula_view formulas.now))
-        (env_view env.now) lits.old.items problem.old) }
+    ensures made { OnOk result (problem.new ≡ assert_all scope.entry.base.now sign
+        (formulas_of (map formula_view formulas.now)) (env_view scope.entry.env.now) lits.old.items problem.old) }
     ensures grows { OnOk result (problem.old.vars ≤ problem.new.vars) }
     ensures lits { OnOk result (lits.new.items ≡ lits.old.items) }
 {
     for formula in formulas {
-        push(alloc, base, sign, formula, env, lits, problem)?;
+        push(scope, sign, formula, lits, problem)?;
     }
     Ok(())
 }
@@ -362,34 +321,33 @@ fn push_all<'a>(
 /// Says it of one of the formulas: of the last under the literals of those before it.
 #[cycle(sentence)]
 fn push_any<'a>(
-    alloc: Global,
-    base: &'a GroundData<'a>,
+    scope: Scope<'a>,
     sign: bool,
     formulas: &'a [Formula],
-    env: &'a Env<'a>,
     lits: &mut Vec<Lit>,
     problem: &mut Problem,
 ) -> Result<(), Memory>
-    requires given { IsGroundBase base.now }
-    requires room { HasVars base.now problem.old }
-    requires fits { AreGroundable base.now (formulas_of (map formula_view formulas.now)) (env_view env.now) }
+    requires given { IsGroundBase scope.base.now }
+    requires room { HasVars scope.base.now problem.old }
+    requires fits { AreGroundable scope.base.now (formulas_of (map formula_view formulas.now))
+        (env_view scope.env.now) }
     requires lits { AreLitsOf problem.old.vars lits.old.items }
-    ensures made { OnOk result (problem.new ≡ assert_any base.now sign (formulas_of (map formula_view formulas.now))
-        (env_view env.now) lits.old.items problem.old) }
+    ensures made { OnOk result (problem.new ≡ assert_any scope.entry.base.now sign
+        (formulas_of (map formula_view formulas.now)) (env_view scope.entry.env.now) lits.old.items problem.old) }
     ensures grows { OnOk result (problem.old.vars ≤ problem.new.vars) }
     ensures lits { OnOk result (lits.new.items ≡ lits.old.items) }
 {
     let Some((last, others)) = formulas.split_last() else {
-        return push_clause(alloc, lits.as_slice(), problem);
+        return push_clause(scope.alloc, lits.as_slice(), problem);
     };
     let before = lits.len();
     for formula in others {
-        if disjuncts(alloc, base, sign, formula, env, lits, problem)? {
+        if disjuncts(scope, sign, formula, lits, problem)? {
             lits.truncate(before);
             return Ok(());
         }
     }
-    push_last(alloc, base, sign, last, env, lits, problem)?;
+    push_last(scope, sign, last, lits, problem)?;
     lits.truncate(before);
     Ok(())
 }
@@ -397,30 +355,27 @@ fn push_any<'a>(
 /// All instances where `all`, and else some.
 #[cycle(sentence)]
 fn push_quantified<'a>(
-    alloc: Global,
-    base: &'a GroundData<'a>,
+    scope: Scope<'a>,
     all: bool,
     sign: bool,
-    bounds: &'a [Bound],
-    formula: &'a Formula,
-    env: &'a Env<'a>,
+    binder: Binder<'a>,
     lits: &mut Vec<Lit>,
     problem: &mut Problem,
 ) -> Result<(), Memory>
-    requires given { IsGroundBase base.now }
-    requires room { HasVars base.now problem.old }
-    requires fits { AllByRecursion (λ a. IsGroundable base.now (formula_view formula.now) (env_view env.now ++ a))
-        (choices base.now.domains bounds.now) }
+    requires given { IsGroundBase scope.base.now }
+    requires room { HasVars scope.base.now problem.old }
+    requires fits { AllByRecursion (λ a. IsGroundable scope.base.now (formula_view binder.formula.now)
+        (env_view scope.env.now ++ a)) (choices scope.base.now.domains binder.bounds.now) }
     requires lits { AreLitsOf problem.old.vars lits.old.items }
-    ensures made { OnOk result (problem.new ≡ assert_quantified all base.now sign bounds.now (formula_view formula.now)
-        (env_view env.now) lits.old.items problem.old) }
+    ensures made { OnOk result (problem.new ≡ assert_quantified all scope.entry.base.now sign binder.entry.bounds.now
+        (formula_view binder.entry.formula.now) (env_view scope.entry.env.now) lits.old.items problem.old) }
     ensures grows { OnOk result (problem.old.vars ≤ problem.new.vars) }
     ensures lits { OnOk result (lits.new.items ≡ lits.old.items) }
 {
     if sign == all {
-        push_instances(alloc, base, sign, bounds, formula, env, lits, problem)
+        push_instances(scope, sign, binder, lits, problem)
     } else {
-        push_some(alloc, base, sign, bounds, formula, env, lits, problem)
+        push_some(scope, sign, binder, lits, problem)
     }
 }
 
@@ -428,73 +383,75 @@ fn push_quantified<'a>(
 /// Says it of all instances of the formula.
 #[cycle(sentence)]
 fn push_instances<'a>(
-    alloc: Global,
-    base: &'a GroundData<'a>,
+    scope: Scope<'a>,
     sign: bool,
-    bounds: &'a [Bound],
-    formula: &'a Formula,
-    env: &'a Env<'a>,
+    binder: Binder<'a>,
     lits: &mut Vec<Lit>,
     problem: &mut Problem,
 ) -> Result<(), Memory>
-    requires given { IsGroundBase base.now }
-    requires room { HasVars base.now problem.old }
-    requires fits { AllByRecursion (λ a. IsGroundable base.now (formula_view formula.now) (env_view env.now ++ a))
-        (choices base.now.domains bounds.now) }
+    requires given { IsGroundBase scope.base.now }
+    requires room { HasVars scope.base.now problem.old }
+    requires fits { AllByRecursion (λ a. IsGroundable scope.base.now (formula_view binder.formula.now)
+        (env_view scope.env.now ++ a)) (choices scope.base.now.domains binder.bounds.now) }
     requires lits { AreLitsOf problem.old.vars lits.old.items }
     ensures made { OnOk result
-        (problem.new ≡ fold (λ q x. assert_step base.now sign (formula_view formula.now) lits.old.items q
-        (env_view env.now ++ x)) problem.old (choices base.now.domains bounds.now)) }
+        (problem.new ≡ fold (λ q x. assert_step scope.entry.base.now sign
+        (formula_view binder.entry.formula.now) lits.old.items q
+        (env_view scope.entry.env.now ++ x)) problem.old (choices scope.entry.base.now.domains binder.entry.bounds.now)) }
     ensures grows { OnOk result (problem.old.vars ≤ problem.new.vars) }
     ensures lits { OnOk result (lits.new.items ≡ lits.old.items) }
 {
-    let Some(ranges) = ranges_for(alloc, base, sign, bounds, formula, env)? else {
-        return push_each(alloc, base, sign, bounds, formula, env, lits, problem);
+    let Binder { bounds, formula } = binder;
+    let ranges = ranges_for(scope.alloc, scope.base, sign, bounds, formula, scope.env)?;
+    let Some(ranges) = ranges else {
+        return push_each(scope, sign, binder, lits, problem);
     };
     let place = ranges.place();
-    push_led(
-        alloc, base, sign, bounds, formula, env, place, lits, problem,
-    )
+    push_led(scope, sign, binder, place, lits, problem)
 }
 
 /// Says it of each instance that the rows of a table lead to.
 #[cycle(sentence)]
 fn push_led<'a>(
-    alloc: Global,
-    base: &'a GroundData<'a>,
+    scope: Scope<'a>,
     sign: bool,
-    bounds: &'a [Bound],
-    formula: &'a Formula,
-    env: &'a Env<'a>,
+    binder: Binder<'a>,
     place: RowPlace<'_>,
     lits: &mut Vec<Lit>,
     problem: &mut Problem,
 ) -> Result<(), Memory>
-    requires given { IsGroundBase base.now }
-    requires room { HasVars base.now problem.old }
-    requires fits { AllByRecursion (λ a. IsGroundable base.now (formula_view formula.now) (env_view env.now ++ a))
-        (choices base.now.domains bounds.now) }
+    requires given { IsGroundBase scope.base.now }
+    requires room { HasVars scope.base.now problem.old }
+    requires fits { AllByRecursion (λ a. IsGroundable scope.base.now (formula_view binder.formula.now)
+        (env_view scope.env.now ++ a)) (choices scope.base.now.domains binder.bounds.now) }
     requires lits { AreLitsOf problem.old.vars lits.old.items }
-    requires led { Leads (AddsNothing base.now sign (formula_view formula.now)) base.now.domains place.keys.now
-        place.key place.steps.now bounds.now (env_view env.now) }
-    requires order { IsInOrder base.now.domains place.keys.now place.key place.steps.now bounds.now }
+    requires led { Leads (AddsNothing scope.base.now sign (formula_view binder.formula.now)) scope.base.now.domains
+        place.keys.now place.key place.steps.now binder.bounds.now (env_view scope.env.now) }
+    requires order { IsInOrder scope.base.now.domains place.keys.now place.key place.steps.now binder.bounds.now }
     ensures made { OnOk result
-        (problem.new ≡ fold (λ q x. assert_step base.now sign (formula_view formula.now) lits.old.items q
-        (env_view env.now ++ x)) problem.old (choices base.now.domains bounds.now)) }
+        (problem.new ≡ fold (λ q x. assert_step scope.entry.base.now sign
+        (formula_view binder.entry.formula.now) lits.old.items q
+        (env_view scope.entry.env.now ++ x)) problem.old (choices scope.entry.base.now.domains binder.entry.bounds.now)) }
     ensures grows { OnOk result (problem.old.vars ≤ problem.new.vars) }
     ensures lits { OnOk result (lits.new.items ≡ lits.old.items) }
 {
-    if bounds.is_empty() || place.is_free() {
-        return push_each(alloc, base, sign, bounds, formula, env, lits, problem);
+    if binder.bounds.is_empty() || place.is_free() {
+        return push_each(scope, sign, binder, lits, problem);
     }
-    let (block, others) = first_variable(base.domains(), bounds);
+    let (block, others) = first_variable(scope.base.domains(), binder.bounds);
     let mut index = place.next(0, block.count);
     while index < block.count {
-        let inner = extend(env, block, index);
+        let inner = extend(scope.env, block, index);
+        let inside = Scope {
+            env: &inner,
+            ..scope
+        };
+        let rest = Binder {
+            bounds: others,
+            ..binder
+        };
         let below = place.below(index);
-        push_led(
-            alloc, &*base, sign, others, formula, &inner, below, lits, problem,
-        )?;
+        push_led(inside, sign, rest, below, lits, problem)?;
         index = place.next(index + 1, block.count);
     }
     Ok(())
@@ -503,33 +460,39 @@ fn push_led<'a>(
 /// Says it of each instance of the formula.
 #[cycle(sentence)]
 fn push_each<'a>(
-    alloc: Global,
-    base: &'a GroundData<'a>,
+    scope: Scope<'a>,
     sign: bool,
-    bounds: &'a [Bound],
-    formula: &'a Formula,
-    env: &'a Env<'a>,
+    binder: Binder<'a>,
     lits: &mut Vec<Lit>,
     problem: &mut Problem,
 ) -> Result<(), Memory>
-    requires given { IsGroundBase base.now }
-    requires room { HasVars base.now problem.old }
-    requires fits { AllByRecursion (λ a. IsGroundable base.now (formula_view formula.now) (env_view env.now ++ a))
-        (choices base.now.domains bounds.now) }
+    requires given { IsGroundBase scope.base.now }
+    requires room { HasVars scope.base.now problem.old }
+    requires fits { AllByRecursion (λ a. IsGroundable scope.base.now (formula_view binder.formula.now)
+        (env_view scope.env.now ++ a)) (choices scope.base.now.domains binder.bounds.now) }
     requires lits { AreLitsOf problem.old.vars lits.old.items }
     ensures made { OnOk result
-        (problem.new ≡ fold (λ q x. assert_step base.now sign (formula_view formula.now) lits.old.items q
-        (env_view env.now ++ x)) problem.old (choices base.now.domains bounds.now)) }
+        (problem.new ≡ fold (λ q x. assert_step scope.entry.base.now sign
+        (formula_view binder.entry.formula.now) lits.old.items q
+        (env_view scope.entry.env.now ++ x)) problem.old (choices scope.entry.base.now.domains binder.entry.bounds.now)) }
     ensures grows { OnOk result (problem.old.vars ≤ problem.new.vars) }
     ensures lits { OnOk result (lits.new.items ≡ lits.old.items) }
 {
-    if bounds.is_empty() {
-        return push(alloc, base, sign, formula, env, lits, problem);
+    if binder.bounds.is_empty() {
+        return push(scope, sign, binder.formula, lits, problem);
     }
-    let (block, others) = split_in(base.domains(), bounds);
+    let (block, others) = split_in(scope.base.domains(), binder.bounds);
     for number in 0..block.count {
-        let inner = extend(env, block, number);
-        push_each(alloc, &*base, sign, others, formula, &inner, lits, problem)?;
+        let inner = extend(scope.env, block, number);
+        let inside = Scope {
+            env: &inner,
+            ..scope
+        };
+        let rest = Binder {
+            bounds: others,
+            ..binder
+        };
+        push_each(inside, sign, rest, lits, problem)?;
     }
     Ok(())
 }
@@ -547,14 +510,12 @@ pub fn push_sentence(
     ensures made { OnOk result (problem.new ≡ assert_of base.now true (formula_view sentence.now) [] [] problem.old) }
     ensures grows { OnOk result (problem.old.vars ≤ problem.new.vars) }
 {
-    let mut lits = Vec::new(alloc);
-    push(
+    let outermost = Env::Given(&[]);
+    let scope = Scope {
         alloc,
         base,
-        true,
-        sentence,
-        &Env::Given(&[]),
-        &mut lits,
-        problem,
-    )
+        env: &outermost,
+    };
+    let mut lits = Vec::new(alloc);
+    push(scope, true, sentence, &mut lits, problem)
 }

@@ -27,10 +27,10 @@ ghost use Rattle.kb_sizes.specs.Ranges.{is_wide, part_bounds, range_view, ranges
 
 use crate::counts::{assignments, value_type};
 use crate::domain_integers::{range_if, type_range};
-use crate::domains::Domains;
 use crate::ranges::Range;
 use crate::scopes::enter;
-use kb_logic::{Bound, Formula, Memory, Signed, Term, Vocabulary};
+use crate::setting::Setting;
+use kb_logic::{Bound, Formula, Memory, Signed, Term};
 
 /// The bounds of a term, and whether these or those of a prefix of it are too wide.
 #[derive(Clone, Copy)]
@@ -69,23 +69,21 @@ fn or_wide(wide: bool, range: Range) -> bool
 /// Notes a term and its parts, and returns the term's bounds.
 #[cycle(bounds)]
 pub fn term(
-    vocab: &Vocabulary,
-    domains: &Domains<'_, '_>,
-    ranges: &[Range],
+    setting: Setting<'_>,
     scope: &mut Vec<u32>,
     wide: &mut Vec<bool>,
     of: &Term,
 ) -> Result<Range, Memory>
-    requires known { map range_view ranges.now ≡ ranges_in domains.now }
-    ensures range { IfOk result (λ r. range_view r ≡ clamped_bounds vocab.now domains.now (term_view of.now)
-        scope.old.items) }
+    requires known { map range_view setting.ranges.now ≡ ranges_in setting.domains.now }
+    ensures range { IfOk result (λ r. range_view r ≡ clamped_bounds setting.entry.vocab.now setting.entry.domains.now
+        (term_view of.now) scope.old.items) }
     ensures scope { OnOk result (scope.new.items ≡ scope.old.items) }
-    ensures wide { OnOk result (wide.new.items ≡ wide.old.items ++ wide_at (term_bounds vocab.now domains.now (term_view
-        of.now) scope.old.items)) }
+    ensures wide { OnOk result (wide.new.items ≡ wide.old.items ++ wide_at
+        (term_bounds setting.entry.vocab.now setting.entry.domains.now (term_view of.now) scope.old.items)) }
 {
     let at = wide.len();
     wide.push(false)?;
-    let found = node(vocab, domains, ranges, scope, wide, of)?;
+    let found = node(setting, scope, wide, of)?;
     wide[at] = found.wide;
     Ok(found.range)
 }
@@ -93,68 +91,68 @@ pub fn term(
 /// Notes the parts of a term.
 #[cycle(bounds)]
 fn node(
-    vocab: &Vocabulary,
-    domains: &Domains<'_, '_>,
-    ranges: &[Range],
+    setting: Setting<'_>,
     scope: &mut Vec<u32>,
     wide: &mut Vec<bool>,
     of: &Term,
 ) -> Result<TermRange, Memory>
-    requires known { map range_view ranges.now ≡ ranges_in domains.now }
-    ensures range { IfOk result (λ r. range_view r.range ≡ clamped_bounds vocab.now domains.now (term_view of.now)
-        scope.old.items) }
+    requires known { map range_view setting.ranges.now ≡ ranges_in setting.domains.now }
+    ensures range { IfOk result (λ r. range_view r.range ≡ clamped_bounds setting.entry.vocab.now
+        setting.entry.domains.now (term_view of.now) scope.old.items) }
     ensures own { IfOk result (λ r. r.wide ≡ is_wide
-        (bounds_at vocab.now domains.now (term_view of.now) scope.old.items)) }
+        (bounds_at setting.entry.vocab.now setting.entry.domains.now (term_view of.now) scope.old.items)) }
     ensures scope { OnOk result (scope.new.items ≡ scope.old.items) }
-    ensures wide { OnOk result (wide.new.items ≡ wide.old.items ++ wide_at (part_bounds vocab.now domains.now (term_view
-        of.now) scope.old.items)) }
+    ensures wide { OnOk result (wide.new.items ≡ wide.old.items ++ wide_at
+        (part_bounds setting.entry.vocab.now setting.entry.domains.now (term_view of.now) scope.old.items)) }
 {
     match of {
-        Term::Var(n) => Ok(single(range_if(domains, ranges, type_in(scope, *n)))),
+        Term::Var(n) => Ok(single(range_if(setting.domains, setting.ranges, type_in(scope, *n)))),
         Term::Int(n) => Ok(single(Range::exactly(*n))),
-        Term::Made(ty, _) => Ok(single(type_range(domains, ranges, *ty))),
+        Term::Made(ty, _) => Ok(single(type_range(setting.domains, setting.ranges, *ty))),
         Term::Apply(symbol, args) => {
-            terms(vocab, domains, ranges, scope, wide, args)?;
-            Ok(single(range_if(domains, ranges, value_type(vocab, *symbol))))
+            terms(setting, scope, wide, args)?;
+            Ok(single(range_if(
+                setting.domains,
+                setting.ranges,
+                value_type(setting.vocab, *symbol),
+            )))
         }
-        Term::Sum(parts) => sum(vocab, domains, ranges, scope, wide, parts),
-        Term::Product(factors) => product(vocab, domains, ranges, scope, wide, factors),
+        Term::Sum(parts) => sum(setting, scope, wide, parts),
+        Term::Product(factors) => product(setting, scope, wide, factors),
         Term::Agg(kind, bounds, condition, weight) => {
             let outer = scope.len();
             enter(scope, bounds)?;
-            formula(vocab, domains, ranges, scope, wide, condition)?;
-            let range = term(vocab, domains, ranges, scope, wide, weight)?;
+            formula(setting, scope, wide, condition)?;
+            let range = term(setting, scope, wide, weight)?;
             scope.truncate(outer);
-            Ok(single(range.aggregated(*kind, assignments(domains, bounds))))
+            Ok(single(range.aggregated(*kind, assignments(setting.domains, bounds))))
         }
     }
 }
 
 #[cycle(bounds)]
 fn sum(
-    vocab: &Vocabulary,
-    domains: &Domains<'_, '_>,
-    ranges: &[Range],
+    setting: Setting<'_>,
     scope: &mut Vec<u32>,
     wide: &mut Vec<bool>,
     parts: &[Signed],
 ) -> Result<TermRange, Memory>
-    requires known { map range_view ranges.now ≡ ranges_in domains.now }
+    requires known { map range_view setting.ranges.now ≡ ranges_in setting.domains.now }
     ensures range { IfOk result (λ r. range_view r.range
-        ≡ fold clamping_sum (exactly (pos 0)) (clamped_summands vocab.now
-        domains.now (summands_of (map signed_view parts.now)) scope.old.items)) }
+        ≡ fold clamping_sum (exactly (pos 0)) (clamped_summands setting.entry.vocab.now
+        setting.entry.domains.now (summands_of (map signed_view parts.now)) scope.old.items)) }
     ensures own { IfOk result (λ r. r.wide ≡ is_wide
-        (front_bounds clamping_sum (exactly (pos 0)) (clamped_summands vocab.now
-        domains.now (summands_of (map signed_view parts.now)) scope.old.items))) }
+        (front_bounds clamping_sum (exactly (pos 0)) (clamped_summands setting.entry.vocab.now
+        setting.entry.domains.now (summands_of (map signed_view parts.now)) scope.old.items))) }
     ensures scope { OnOk result (scope.new.items ≡ scope.old.items) }
     ensures wide { OnOk result (wide.new.items ≡ wide.old.items ++ wide_at
-        (summands_bounds vocab.now domains.now (summands_of
+        (summands_bounds setting.entry.vocab.now setting.entry.domains.now (summands_of
         (map signed_view parts.now)) scope.old.items)) }
 {
     let mut range = Range::exactly(0);
     let mut any = false;
     for part in parts {
-        let next = term(vocab, domains, ranges, scope, wide, &part.term)?;
+        let next = term(setting, scope, wide, &part.term)?;
         range = range.plus(next.signed(part.minus));
         any = or_wide(any, range);
     }
@@ -163,28 +161,26 @@ fn sum(
 
 #[cycle(bounds)]
 fn product(
-    vocab: &Vocabulary,
-    domains: &Domains<'_, '_>,
-    ranges: &[Range],
+    setting: Setting<'_>,
     scope: &mut Vec<u32>,
     wide: &mut Vec<bool>,
     factors: &[Term],
 ) -> Result<TermRange, Memory>
-    requires known { map range_view ranges.now ≡ ranges_in domains.now }
+    requires known { map range_view setting.ranges.now ≡ ranges_in setting.domains.now }
     ensures range { IfOk result (λ r. range_view r.range
-        ≡ fold clamping_product (exactly (pos 1)) (clamped_factors vocab.now
-        domains.now (terms_of (map term_view factors.now)) scope.old.items)) }
+        ≡ fold clamping_product (exactly (pos 1)) (clamped_factors setting.entry.vocab.now
+        setting.entry.domains.now (terms_of (map term_view factors.now)) scope.old.items)) }
     ensures own { IfOk result (λ r. r.wide ≡ is_wide (front_bounds clamping_product (exactly (pos 1)) (clamped_factors
-        vocab.now domains.now (terms_of (map term_view factors.now)) scope.old.items))) }
+        setting.entry.vocab.now setting.entry.domains.now (terms_of (map term_view factors.now)) scope.old.items))) }
     ensures scope { OnOk result (scope.new.items ≡ scope.old.items) }
     ensures wide { OnOk result (wide.new.items ≡ wide.old.items ++ wide_at
-        (terms_bounds vocab.now domains.now (terms_of (map
+        (terms_bounds setting.entry.vocab.now setting.entry.domains.now (terms_of (map
         term_view factors.now)) scope.old.items)) }
 {
     let mut range = Range::exactly(1);
     let mut any = false;
     for factor in factors {
-        let next = term(vocab, domains, ranges, scope, wide, factor)?;
+        let next = term(setting, scope, wide, factor)?;
         range = range.times(next);
         any = or_wide(any, range);
     }
@@ -194,21 +190,19 @@ fn product(
 /// Notes some terms and their parts.
 #[cycle(bounds)]
 pub fn terms(
-    vocab: &Vocabulary,
-    domains: &Domains<'_, '_>,
-    ranges: &[Range],
+    setting: Setting<'_>,
     scope: &mut Vec<u32>,
     wide: &mut Vec<bool>,
     all: &[Term],
 ) -> Result<(), Memory>
-    requires known { map range_view ranges.now ≡ ranges_in domains.now }
+    requires known { map range_view setting.ranges.now ≡ ranges_in setting.domains.now }
     ensures scope { OnOk result (scope.new.items ≡ scope.old.items) }
     ensures wide { OnOk result (wide.new.items ≡ wide.old.items ++ wide_at
-        (terms_bounds vocab.now domains.now (terms_of (map
+        (terms_bounds setting.entry.vocab.now setting.entry.domains.now (terms_of (map
         term_view all.now)) scope.old.items)) }
 {
     for one in all {
-        term(vocab, domains, ranges, scope, wide, one)?;
+        term(setting, scope, wide, one)?;
     }
     Ok(())
 }
@@ -216,88 +210,80 @@ pub fn terms(
 /// Notes the terms of a formula.
 #[cycle(bounds)]
 pub fn formula(
-    vocab: &Vocabulary,
-    domains: &Domains<'_, '_>,
-    ranges: &[Range],
+    setting: Setting<'_>,
     scope: &mut Vec<u32>,
     wide: &mut Vec<bool>,
     of: &Formula,
 ) -> Result<(), Memory>
-    requires known { map range_view ranges.now ≡ ranges_in domains.now }
+    requires known { map range_view setting.ranges.now ≡ ranges_in setting.domains.now }
     ensures scope { OnOk result (scope.new.items ≡ scope.old.items) }
     ensures wide { OnOk result (wide.new.items ≡ wide.old.items ++ wide_at
-        (formula_bounds vocab.now domains.now (formula_view
+        (formula_bounds setting.entry.vocab.now setting.entry.domains.now (formula_view
         of.now) scope.old.items)) }
 {
     match of {
         Formula::True => Ok(()),
         Formula::False => Ok(()),
-        Formula::Atom(_, args) => terms(vocab, domains, ranges, scope, wide, args),
+        Formula::Atom(_, args) => terms(setting, scope, wide, args),
         Formula::Compare(_, left, right) => {
-            term(vocab, domains, ranges, scope, wide, left)?;
-            term(vocab, domains, ranges, scope, wide, right)?;
+            term(setting, scope, wide, left)?;
+            term(setting, scope, wide, right)?;
             Ok(())
         }
-        Formula::Not(inner) => formula(vocab, domains, ranges, scope, wide, inner),
-        Formula::And(parts) => formulas(vocab, domains, ranges, scope, wide, parts),
-        Formula::Or(parts) => formulas(vocab, domains, ranges, scope, wide, parts),
+        Formula::Not(inner) => formula(setting, scope, wide, inner),
+        Formula::And(parts) => formulas(setting, scope, wide, parts),
+        Formula::Or(parts) => formulas(setting, scope, wide, parts),
         Formula::Implies(left, right) => {
-            formula(vocab, domains, ranges, scope, wide, left)?;
-            formula(vocab, domains, ranges, scope, wide, right)
+            formula(setting, scope, wide, left)?;
+            formula(setting, scope, wide, right)
         }
         Formula::Iff(left, right) => {
-            formula(vocab, domains, ranges, scope, wide, left)?;
-            formula(vocab, domains, ranges, scope, wide, right)
+            formula(setting, scope, wide, left)?;
+            formula(setting, scope, wide, right)
         }
-        Formula::All(bounds, inner) => under(vocab, domains, ranges, scope, wide, bounds, inner),
-        Formula::Any(bounds, inner) => under(vocab, domains, ranges, scope, wide, bounds, inner),
-        Formula::Number(_, _, bounds, inner) => under(
-            vocab, domains, ranges, scope, wide, bounds, inner,
-        ),
+        Formula::All(bounds, inner) => under(setting, scope, wide, bounds, inner),
+        Formula::Any(bounds, inner) => under(setting, scope, wide, bounds, inner),
+        Formula::Number(_, _, bounds, inner) => under(setting, scope, wide, bounds, inner),
     }
 }
 
 /// Notes the terms of a formula that stands under a binder.
 #[cycle(bounds)]
 fn under(
-    vocab: &Vocabulary,
-    domains: &Domains<'_, '_>,
-    ranges: &[Range],
+    setting: Setting<'_>,
     scope: &mut Vec<u32>,
     wide: &mut Vec<bool>,
     bounds: &[Bound],
     of: &Formula,
 ) -> Result<(), Memory>
-    requires known { map range_view ranges.now ≡ ranges_in domains.now }
+    requires known { map range_view setting.ranges.now ≡ ranges_in setting.domains.now }
     ensures scope { OnOk result (scope.new.items ≡ scope.old.items) }
     ensures wide { OnOk result (wide.new.items ≡ wide.old.items ++ wide_at
-        (formula_bounds vocab.now domains.now (formula_view
+        (formula_bounds setting.entry.vocab.now setting.entry.domains.now (formula_view
         of.now) (scope.old.items ++ types_of bounds.now))) }
 {
     let outer = scope.len();
     enter(scope, bounds)?;
-    formula(vocab, domains, ranges, scope, wide, of)?;
+    formula(setting, scope, wide, of)?;
     scope.truncate(outer);
     Ok(())
 }
 
 #[cycle(bounds)]
 fn formulas(
-    vocab: &Vocabulary,
-    domains: &Domains<'_, '_>,
-    ranges: &[Range],
+    setting: Setting<'_>,
     scope: &mut Vec<u32>,
     wide: &mut Vec<bool>,
     all: &[Formula],
 ) -> Result<(), Memory>
-    requires known { map range_view ranges.now ≡ ranges_in domains.now }
+    requires known { map range_view setting.ranges.now ≡ ranges_in setting.domains.now }
     ensures scope { OnOk result (scope.new.items ≡ scope.old.items) }
     ensures wide { OnOk result (wide.new.items ≡ wide.old.items ++ wide_at
-        (formulas_bounds vocab.now domains.now (formulas_of
+        (formulas_bounds setting.entry.vocab.now setting.entry.domains.now (formulas_of
         (map formula_view all.now)) scope.old.items)) }
 {
     for one in all {
-        formula(vocab, domains, ranges, scope, wide, one)?;
+        formula(setting, scope, wide, one)?;
     }
     Ok(())
 }

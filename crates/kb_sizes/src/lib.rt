@@ -16,6 +16,7 @@ pub mod occurrences;
 mod over_lists;
 mod ranges;
 mod scopes;
+mod setting;
 mod sources;
 mod theory_bounds;
 mod type_sizes;

@@ -20,9 +20,10 @@ use crate::bounds::term;
 use crate::capped::plus;
 use crate::domains::Domains;
 use crate::ranges::Range;
+use crate::setting::Setting;
 use crate::theory_bounds::wide_in_theory;
 use crate::weights::{atoms_of, weight};
-use kb_logic::{Memory, Symbol, Term, Vocabulary};
+use kb_logic::{Memory, Symbol, Term};
 use kb_text::K;
 use reading_stages::Earliest;
 use std::alloc::Global;
@@ -74,19 +75,14 @@ fn note_terms(earliest: &mut Earliest, places: &[usize], wide: &[bool])
 }
 
 /// Which terms of a term have bounds that are too wide.
-fn wide_in_term(
-    alloc: Global,
-    vocab: &Vocabulary,
-    domains: &Domains<'_, '_>,
-    ranges: &[Range],
-    of: &Term,
-) -> Result<Vec<bool>, Memory>
-    requires known { map range_view ranges.now ≡ ranges_in domains.now }
-    ensures { IfOk result (λ w. w.items ≡ wide_at (term_bounds vocab.now domains.now (term_view of.now) [])) }
+fn wide_in_term(alloc: Global, setting: Setting<'_>, of: &Term) -> Result<Vec<bool>, Memory>
+    requires known { map range_view setting.ranges.now ≡ ranges_in setting.domains.now }
+    ensures { IfOk result (λ w. w.items ≡ wide_at (term_bounds setting.entry.vocab.now setting.entry.domains.now
+        (term_view of.now) [])) }
 {
     let mut scope = Vec::new(alloc);
     let mut wide = Vec::new(alloc);
-    term(vocab, domains, ranges, &mut scope, &mut wide, of)?;
+    term(setting, &mut scope, &mut wide, of)?;
     Ok(wide)
 }
 
@@ -110,7 +106,12 @@ pub fn note_theory(
     let Some(places) = kb.places.theory_terms.get(theory) else {
         return Ok(());
     };
-    let wide = wide_in_theory(alloc, &kb.vocab, domains, ranges, &named.value)?;
+    let setting = Setting {
+        vocab: &kb.vocab,
+        domains,
+        ranges,
+    };
+    let wide = wide_in_theory(alloc, setting, &named.value)?;
     note_terms(earliest, places.as_slice(), &wide);
     Ok(())
 }
@@ -118,28 +119,26 @@ pub fn note_theory(
 /// Notes each term of a term block.
 fn note_block(
     alloc: Global,
-    vocab: &Vocabulary,
-    domains: &Domains<'_, '_>,
-    ranges: &[Range],
+    setting: Setting<'_>,
     block: &Named<Term>,
     places: &[usize],
     earliest: &mut Earliest,
 ) -> Result<(), Memory>
-    requires known { map range_view ranges.now ≡ ranges_in domains.now }
-    ensures { OnOk result (earliest.new.first ≡ fold size_noted earliest.old.first (uses_of_block vocab.now domains.now
-        (named_term_view block.now, places.now))) }
+    requires known { map range_view setting.ranges.now ≡ ranges_in setting.domains.now }
+    ensures { OnOk result (earliest.new.first ≡ fold size_noted earliest.old.first
+        (uses_of_block setting.entry.vocab.now setting.entry.domains.now (named_term_view block.now, places.now))) }
 {
-    let wide = wide_in_term(alloc, vocab, domains, ranges, &block.value)?;
+    let wide = wide_in_term(alloc, setting, &block.value)?;
     note_terms(earliest, places, &wide);
     Ok(())
 }
 
 /// Notes each term of the term blocks.
-pub fn note_blocks(
+pub fn note_blocks<'a>(
     alloc: Global,
-    kb: &TypedKb,
-    domains: &Domains<'_, '_>,
-    ranges: &[Range],
+    kb: &'a TypedKb,
+    domains: &'a Domains<'a, 'a>,
+    ranges: &'a [Range],
     earliest: &mut Earliest,
 ) -> Result<(), Memory>
     requires known { map range_view ranges.now ≡ ranges_in domains.now }
@@ -152,15 +151,12 @@ pub fn note_blocks(
         if i >= places.len() {
             return Ok(());
         }
-        note_block(
-            alloc,
-            &kb.vocab,
+        let setting = Setting {
+            vocab: &kb.vocab,
             domains,
             ranges,
-            &blocks[i],
-            places[i].as_slice(),
-            earliest,
-        )?;
+        };
+        note_block(alloc, setting, &blocks[i], places[i].as_slice(), earliest)?;
     }
     Ok(())
 }

@@ -7,50 +7,47 @@ ghost use Rattle.reading_stages.specs.Sizes.{item_bounds, term_bounds};
 ghost use Rattle.reading_stages.specs.TheoryItems.{head_terms, items_of, rule};
 
 use crate::bounds::{formula, term, terms};
-use crate::domains::Domains;
-use crate::ranges::Range;
 use crate::scopes::enter;
-use kb_logic::{Definition, Formula, Memory, Rule, Theory, Vocabulary};
+use crate::setting::Setting;
+use kb_logic::{Definition, Formula, Memory, Rule, Theory};
 use std::alloc::Global;
 
 /// Notes the terms of some sentences.
 fn sentences(
     alloc: Global,
-    vocab: &Vocabulary,
-    domains: &Domains<'_, '_>,
-    ranges: &[Range],
+    setting: Setting<'_>,
     wide: &mut Vec<bool>,
     all: &[Formula],
 ) -> Result<(), Memory>
-    requires known { map range_view ranges.now ≡ ranges_in domains.now }
-    ensures { OnOk result (wide.new.items ≡ wide.old.items ++ wide_at (flat_map (item_bounds vocab.now domains.now)
+    requires known { map range_view setting.ranges.now ≡ ranges_in setting.domains.now }
+    ensures { OnOk result (wide.new.items ≡ wide.old.items ++ wide_at
+        (flat_map (item_bounds setting.entry.vocab.now setting.entry.domains.now)
         (sentences_in (map formula_view all.now)))) }
 {
     let mut scope = Vec::new(alloc);
     for one in all {
-        formula(vocab, domains, ranges, &mut scope, wide, one)?;
+        formula(setting, &mut scope, wide, one)?;
     }
     Ok(())
 }
 
 /// Notes the terms of a rule's head: its arguments, and then its value.
 fn head(
-    vocab: &Vocabulary,
-    domains: &Domains<'_, '_>,
-    ranges: &[Range],
+    setting: Setting<'_>,
     scope: &mut Vec<u32>,
     wide: &mut Vec<bool>,
     of: &Rule,
 ) -> Result<(), Memory>
-    requires known { map range_view ranges.now ≡ ranges_in domains.now }
+    requires known { map range_view setting.ranges.now ≡ ranges_in setting.domains.now }
     ensures scope { OnOk result (scope.new.items ≡ scope.old.items) }
-    ensures wide { OnOk result (wide.new.items ≡ wide.old.items ++ wide_at (flat_map
-        (λ t. term_bounds vocab.now domains.now t scope.old.items) (head_terms (rule_view of.now)))) }
+    ensures wide { OnOk result (wide.new.items ≡ wide.old.items ++ wide_at
+        (flat_map (λ t. term_bounds setting.entry.vocab.now setting.entry.domains.now t scope.old.items)
+        (head_terms (rule_view of.now)))) }
 {
-    terms(vocab, domains, ranges, scope, wide, of.args.as_slice())?;
+    terms(setting, scope, wide, of.args.as_slice())?;
     match &of.value {
         Some(value) => {
-            term(vocab, domains, ranges, scope, wide, value)?;
+            term(setting, scope, wide, value)?;
             Ok(())
         }
         None => Ok(()),
@@ -60,37 +57,33 @@ fn head(
 /// Notes the terms of a rule, in the scope of its variables.
 fn in_rule(
     alloc: Global,
-    vocab: &Vocabulary,
-    domains: &Domains<'_, '_>,
-    ranges: &[Range],
+    setting: Setting<'_>,
     wide: &mut Vec<bool>,
     of: &Rule,
 ) -> Result<(), Memory>
-    requires known { map range_view ranges.now ≡ ranges_in domains.now }
-    ensures { OnOk result (wide.new.items ≡ wide.old.items ++ wide_at (item_bounds vocab.now domains.now (rule
-        (rule_view of.now)))) }
+    requires known { map range_view setting.ranges.now ≡ ranges_in setting.domains.now }
+    ensures { OnOk result (wide.new.items ≡ wide.old.items ++ wide_at
+        (item_bounds setting.entry.vocab.now setting.entry.domains.now (rule (rule_view of.now)))) }
 {
     let mut scope = Vec::new(alloc);
     enter(&mut scope, of.vars.as_slice())?;
-    head(vocab, domains, ranges, &mut scope, wide, of)?;
-    formula(vocab, domains, ranges, &mut scope, wide, &of.body)
+    head(setting, &mut scope, wide, of)?;
+    formula(setting, &mut scope, wide, &of.body)
 }
 
 /// Notes the terms of some rules.
 fn rules(
     alloc: Global,
-    vocab: &Vocabulary,
-    domains: &Domains<'_, '_>,
-    ranges: &[Range],
+    setting: Setting<'_>,
     wide: &mut Vec<bool>,
     all: &[Rule],
 ) -> Result<(), Memory>
-    requires known { map range_view ranges.now ≡ ranges_in domains.now }
-    ensures { OnOk result (wide.new.items ≡ wide.old.items ++ wide_at (flat_map (item_bounds vocab.now domains.now)
-        (rules_in (map rule_view all.now)))) }
+    requires known { map range_view setting.ranges.now ≡ ranges_in setting.domains.now }
+    ensures { OnOk result (wide.new.items ≡ wide.old.items ++ wide_at
+        (flat_map (item_bounds setting.entry.vocab.now setting.entry.domains.now) (rules_in (map rule_view all.now)))) }
 {
     for one in all {
-        in_rule(alloc, vocab, domains, ranges, wide, one)?;
+        in_rule(alloc, setting, wide, one)?;
     }
     Ok(())
 }
@@ -98,18 +91,17 @@ fn rules(
 /// Notes the terms of some definitions.
 fn definitions(
     alloc: Global,
-    vocab: &Vocabulary,
-    domains: &Domains<'_, '_>,
-    ranges: &[Range],
+    setting: Setting<'_>,
     wide: &mut Vec<bool>,
     all: &[Definition],
 ) -> Result<(), Memory>
-    requires known { map range_view ranges.now ≡ ranges_in domains.now }
-    ensures { OnOk result (wide.new.items ≡ wide.old.items ++ wide_at (flat_map (item_bounds vocab.now domains.now)
+    requires known { map range_view setting.ranges.now ≡ ranges_in setting.domains.now }
+    ensures { OnOk result (wide.new.items ≡ wide.old.items ++ wide_at
+        (flat_map (item_bounds setting.entry.vocab.now setting.entry.domains.now)
         (flat_map rules_of (map definition_view all.now)))) }
 {
     for one in all {
-        rules(alloc, vocab, domains, ranges, wide, one.rules.as_slice())?;
+        rules(alloc, setting, wide, one.rules.as_slice())?;
     }
     Ok(())
 }
@@ -117,18 +109,17 @@ fn definitions(
 /// Which terms of a theory have bounds that are too wide: those of its sentences, and then those of its rules.
 pub fn wide_in_theory(
     alloc: Global,
-    vocab: &Vocabulary,
-    domains: &Domains<'_, '_>,
-    ranges: &[Range],
+    setting: Setting<'_>,
     theory: &Theory,
 ) -> Result<Vec<bool>, Memory>
-    requires known { map range_view ranges.now ≡ ranges_in domains.now }
-    ensures { IfOk result (λ w. w.items ≡ wide_at (theory_bounds vocab.now domains.now (theory_view theory.now))) }
+    requires known { map range_view setting.ranges.now ≡ ranges_in setting.domains.now }
+    ensures { IfOk result (λ w. w.items ≡ wide_at (theory_bounds setting.entry.vocab.now setting.entry.domains.now
+        (theory_view theory.now))) }
 {
     let mut wide = Vec::new(alloc);
     let all = theory.sentences.as_slice();
-    sentences(alloc, vocab, domains, ranges, &mut wide, all)?;
+    sentences(alloc, setting, &mut wide, all)?;
     let all = theory.definitions.as_slice();
-    definitions(alloc, vocab, domains, ranges, &mut wide, all)?;
+    definitions(alloc, setting, &mut wide, all)?;
     Ok(wide)
 }

@@ -22,7 +22,7 @@ ghost use Rattle.ground_walk.specs.Groundable.{HasVars, HaveLits, AreInstancesGr
 
 use def_ground::Linear;
 use ground_core::{GroundTerm, LitList, Memory, Part, PartList, Problem};
-use ground_walk::{add_aggregates, aggregates_of, extreme_of};
+use ground_walk::{Scope, add_aggregates, aggregates_of, extreme_of};
 use kb_logic::values::Value;
 use kb_logic::{AggKind, Name, Signed, Term};
 use lit_core::Lit;
@@ -293,7 +293,13 @@ fn asked_sum(
     let summands = summands_of(alloc, base, term)?;
     let (first, parts) = weighed(alloc, summands.as_slice(), problem)?;
     let mut linear = Linear { base: first, parts };
-    add_aggregates(alloc, base, 1, term, &Env::Given(&[]), &mut linear, problem)?;
+    let outermost = Env::Given(&[]);
+    let scope = Scope {
+        alloc,
+        base,
+        env: &outermost,
+    };
+    add_aggregates(scope, 1, term, &mut linear, problem)?;
     Ok(linear)
 }
 
@@ -335,7 +341,13 @@ pub fn push_term(
 {
     match extreme_of(term) {
         Some(kind) => {
-            let linear = aggregates_of(alloc, base, term, &Env::Given(&[]), problem)?;
+            let outermost = Env::Given(&[]);
+            let scope = Scope {
+                alloc,
+                base,
+                env: &outermost,
+            };
+            let linear = aggregates_of(scope, term, problem)?;
             push_named(alloc, name, kind, linear, problem)
         }
         None => {

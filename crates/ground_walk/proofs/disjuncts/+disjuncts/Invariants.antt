@@ -12,10 +12,10 @@ abbrev pub invariant-each_disjuncts-loop-formula : goal.invariant-each_disjuncts
 invariant-each_disjuncts-loop-formula l =
     let left = formulas_of (map formula_view (drop l.formula-index l.formulas)) in
     record {
-      same : all_disjuncts l.base l.sign left (env_view l.env) l.lits.items l.problem
-          ≡ all_disjuncts l.base l.sign (formulas_of (map formula_view l.formulas))
-          (env_view l.env) l.fn.lits.items l.fn.problem;
-      fits : AreGroundable l.base left (env_view l.env);
+      same : all_disjuncts l.scope.base.now l.sign left (env_view l.scope.env.now) l.lits.items l.problem
+          ≡ all_disjuncts l.scope.base.now l.sign (formulas_of (map formula_view l.formulas))
+          (env_view l.scope.env.now) l.fn.lits.items l.fn.problem;
+      fits : AreGroundable l.scope.base.now left (env_view l.scope.env.now);
       vars : l.fn.problem.vars ≤ l.problem.vars;
       lits : AreLitsOf l.problem.vars l.lits.items;
     }

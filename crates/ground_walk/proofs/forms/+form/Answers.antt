@@ -25,8 +25,8 @@ use Rattle.ground_walk.proofs.forms.+form.Goals as goal
 
 pub form-returns-in-All-clause-made : goal.form-returns-in-All-clause-made
 form-returns-in-All-clause-made t c =
-    let b = c.args.base.now in
-    let e = env_view c.args.env.now in
+    let b = c.args.scope.base.now in
+    let e = env_view c.args.scope.env.now in
     let f = formula_view c.deref-in-All-2.result.now in
     rw (c.in-All.is, formula_view-All, ← c.deref-in-All.ensures.value, ← c.deref-in-All-2.ensures)
     (subst (λ (g : GroundResult). IfOk c.quantified.result (λ a. Makes g a c.quantified.new.problem))
@@ -34,8 +34,8 @@ form-returns-in-All-clause-made t c =
 
 pub form-returns-in-Any-clause-made : goal.form-returns-in-Any-clause-made
 form-returns-in-Any-clause-made t c =
-    let b = c.args.base.now in
-    let e = env_view c.args.env.now in
+    let b = c.args.scope.base.now in
+    let e = env_view c.args.scope.env.now in
     let f = formula_view c.deref-in-Any-2.result.now in
     rw (c.in-Any.is, formula_view-Any, ← c.deref-in-Any.ensures.value, ← c.deref-in-Any-2.ensures)
     (subst (λ (g : GroundResult). IfOk c.quantified-in-Any.result (λ a. Makes g a c.quantified-in-Any.new.problem))
@@ -43,9 +43,9 @@ form-returns-in-Any-clause-made t c =
 
 pub instances-instances-requires : goal.instances-instances-requires
 instances-instances-requires t c =
-    let b = c.args.base.now in
-    let e = env_view c.args.env.now in
-    let f = formula_view c.args.formula.now in
+    let b = c.args.scope.base.now in
+    let e = env_view c.args.scope.env.now in
+    let f = formula_view c.args.binder.formula.now in
     let these = c.split_in.result.0.bounds.now in
     let others = c.split_in.result.1.now in
     let cs = choices b.domains these in
@@ -61,7 +61,7 @@ instances-instances-requires t c =
         (
           omega (arith, c.requires.room, c.loop-number.invariant.vars),
           (
-            each_after b.domains c.args.bounds.now these others c.split_in.ensures.parts
+            each_after b.domains c.args.binder.bounds.now these others c.split_in.ensures.parts
                 (IsGroundable b f) e inner i within is c.requires.fits,
             c.loop-number.invariant.lits,
           ),
@@ -71,11 +71,11 @@ instances-instances-requires t c =
 
 pub instances-returns-then-branch-clause-made : goal.instances-returns-then-branch-clause-made
 instances-returns-then-branch-clause-made t c =
-    let b = c.args.base.now in
+    let b = c.args.scope.base.now in
     let all = c.args.all in
     let sign = c.args.sign in
-    let e = env_view c.args.env.now in
-    let f = formula_view c.args.formula.now in
+    let e = env_view c.args.scope.env.now in
+    let f = formula_view c.args.binder.formula.now in
     let these = c.split_in.result.0.bounds.now in
     let others = c.split_in.result.1.now in
     let cs = choices b.domains these in
@@ -94,8 +94,8 @@ instances-returns-then-branch-clause-made t c =
     c.in_ok-instances.ensures.made in
     let settled : d.settled ≡ true = sym made.0 ∙ c.if-branch.true in
     let first = open_parts c.args.lits.now.items c.args.problem.now in
-    let whole : fold F first (choices b.domains c.args.bounds.now) ≡ d =
-    fold_by_front b.domains c.args.bounds.now these others c.split_in.ensures.parts F first
+    let whole : fold F first (choices b.domains c.args.binder.bounds.now) ≡ d =
+    fold_by_front b.domains c.args.binder.bounds.now these others c.split_in.ensures.parts F first
     ∙ sym c.loop-number.invariant.same
     ∙ settled-at F rest cs i s d within (inner_fold G rest e inner (get_or cs i []) s is)
     (λ x. settled-stays b all sign f d (e ++ x) settled) in (
@@ -106,11 +106,11 @@ instances-returns-then-branch-clause-made t c =
 
 pub instances-loop-number-preserved : goal.instances-loop-number-preserved
 instances-loop-number-preserved t c =
-    let b = c.args.base.now in
+    let b = c.args.scope.base.now in
     let all = c.args.all in
     let sign = c.args.sign in
-    let e = env_view c.args.env.now in
-    let f = formula_view c.args.formula.now in
+    let e = env_view c.args.scope.env.now in
+    let f = formula_view c.args.binder.formula.now in
     let these = c.split_in.result.0.bounds.now in
     let others = c.split_in.result.1.now in
     let cs = choices b.domains these in
@@ -139,9 +139,9 @@ instances-loop-number-preserved t c =
 
 pub instances-returns-clause-made : goal.instances-returns-clause-made
 instances-returns-clause-made t c =
-    let b = c.args.base.now in
-    let e = env_view c.args.env.now in
-    let f = formula_view c.args.formula.now in
+    let b = c.args.scope.base.now in
+    let e = env_view c.args.scope.env.now in
+    let f = formula_view c.args.binder.formula.now in
     let these = c.split_in.result.0.bounds.now in
     let others = c.split_in.result.1.now in
     let cs = choices b.domains these in
@@ -152,19 +152,19 @@ instances-returns-clause-made t c =
     let F = λ (r : Parts) (a : List Elem). part_step b c.args.all c.args.sign f r (e ++ a) in
     let s = open_parts c.loop-number.lits.items c.loop-number.problem in
     let first = open_parts c.args.lits.now.items c.args.problem.now in
-    made-open (fold F first (choices b.domains c.args.bounds.now)) c.loop-number.lits.items c.loop-number.problem
-    (fold_by_front b.domains c.args.bounds.now these others c.split_in.ensures.parts F first
+    made-open (fold F first (choices b.domains c.args.binder.bounds.now)) c.loop-number.lits.items c.loop-number.problem
+    (fold_by_front b.domains c.args.binder.bounds.now these others c.split_in.ensures.parts F first
     ∙ sym c.loop-number.invariant.same
     ∙ fold_done (after_front F rest) cs i s past)
 
 pub quantified-returns-clause-made : goal.quantified-returns-clause-made
 quantified-returns-clause-made t c =
-    let b = c.args.base.now in
-    let e = env_view c.args.env.now in
-    let f = formula_view c.args.formula.now in
+    let b = c.args.scope.base.now in
+    let e = env_view c.args.scope.env.now in
+    let f = formula_view c.args.binder.formula.now in
     let d = fold (λ (r : Parts) (x : List Elem). part_step b c.args.all true f r (e ++ x))
     (open_parts [] c.args.problem.now)
-    (choices b.domains c.args.bounds.now) in
+    (choices b.domains c.args.binder.bounds.now) in
     let made : MakesParts d c.in_ok-settled.settled c.instances.new.lits.items c.instances.new.problem =
     rw c.new-lits.ensures.items at c.in_ok-settled.ensures.made in
     subst (λ (r : Parts). IfOk c.close.result (λ a. Makes (close_parts c.args.all r) a c.close.new.problem))
@@ -172,8 +172,8 @@ quantified-returns-clause-made t c =
 
 pub add_aggregates-returns-in-Agg-clause-made : goal.add_aggregates-returns-in-Agg-clause-made
 add_aggregates-returns-in-Agg-clause-made t c =
-    let b = c.args.base.now in
-    let e = env_view c.args.env.now in
+    let b = c.args.scope.base.now in
+    let e = env_view c.args.scope.env.now in
     let f = formula_view c.deref-in-Agg-3.result.now in
     let w = Some (term_view c.deref-in-Agg.result.now) in
     let cs = choices b.domains c.deref-in-Agg-2.result.now in
@@ -192,16 +192,16 @@ add_aggregates-returns-in-Agg-clause-made t c =
 
 pub add_instances-form-requires : goal.add_instances-form-requires
 add_instances-form-requires t c =
-    let b = c.args.base.now in
-    let fits = at-once b.domains c.args.bounds.now
-    (InstanceFits b (formula_view c.args.formula.now) (weight_view c.args.weights)) (env_view c.args.env.now)
+    let b = c.args.scope.base.now in
+    let fits = at-once b.domains c.args.binder.bounds.now
+    (InstanceFits b (formula_view c.args.binder.formula.now) (weight_view c.args.weights)) (env_view c.args.scope.env.now)
     (sym c.is_empty.ensures ∙ c.if-is_empty.true) c.requires.fits in
     (omega arith, (c.requires.given, (c.requires.room, fits.0)))
 
 pub add_instances-add_instances-requires : goal.add_instances-add_instances-requires
 add_instances-add_instances-requires t c =
-    let b = c.args.base.now in
-    let e = env_view c.args.env.now in
+    let b = c.args.scope.base.now in
+    let e = env_view c.args.scope.env.now in
     let these = c.split_in.result.0.bounds.now in
     let others = c.split_in.result.1.now in
     let cs = choices b.domains these in
@@ -217,8 +217,8 @@ add_instances-add_instances-requires t c =
         (
           omega (arith, c.requires.room, c.loop-number.invariant.vars),
           (
-            each_after b.domains c.args.bounds.now these others c.split_in.ensures.parts
-                (InstanceFits b (formula_view c.args.formula.now) (weight_view c.args.weights)) e inner i within is
+            each_after b.domains c.args.binder.bounds.now these others c.split_in.ensures.parts
+                (InstanceFits b (formula_view c.args.binder.formula.now) (weight_view c.args.weights)) e inner i within is
                 c.requires.fits,
             c.loop-number.invariant.parts,
           ),
@@ -228,8 +228,8 @@ add_instances-add_instances-requires t c =
 
 pub add_instances-loop-number-preserved : goal.add_instances-loop-number-preserved
 add_instances-loop-number-preserved t c =
-    let b = c.args.base.now in
-    let e = env_view c.args.env.now in
+    let b = c.args.scope.base.now in
+    let e = env_view c.args.scope.env.now in
     let these = c.split_in.result.0.bounds.now in
     let others = c.split_in.result.1.now in
     let cs = choices b.domains these in
@@ -241,7 +241,7 @@ add_instances-loop-number-preserved t c =
     let is : inner ≡ e ++ get_or cs i [] = rw (c.split_in.ensures.domains, c.domains.ensures)
     at c.extend-inner.ensures in
     let G = λ (st : Linear) (a : List Elem). weighed_step b c.args.weights.kind c.args.weights.factor
-    (formula_view c.args.formula.now) (weight_view c.args.weights) st a in
+    (formula_view c.args.binder.formula.now) (weight_view c.args.weights) st a in
     let F = λ (st : Linear) (a : List Elem). G st (e ++ a) in
     let s = linear_view c.loop-number.linear c.loop-number.problem in
     let made = c.in_ok-add_instances.ensures.made in
@@ -257,8 +257,8 @@ add_instances-loop-number-preserved t c =
 
 pub add_instances-returns-clause-made : goal.add_instances-returns-clause-made
 add_instances-returns-clause-made t c =
-    let b = c.args.base.now in
-    let e = env_view c.args.env.now in
+    let b = c.args.scope.base.now in
+    let e = env_view c.args.scope.env.now in
     let these = c.split_in.result.0.bounds.now in
     let others = c.split_in.result.1.now in
     let cs = choices b.domains these in
@@ -267,24 +267,24 @@ add_instances-returns-clause-made t c =
     let count : c.split_in.result.0.count ≡ length cs = rw c.domains.ensures at c.split_in.ensures.count in
     let past : length cs ≤ i = rw (← count) c.loop-number-test.false in
     let F = λ (st : Linear) (a : List Elem). weighed_step b c.args.weights.kind c.args.weights.factor
-    (formula_view c.args.formula.now) (weight_view c.args.weights) st (e ++ a) in
+    (formula_view c.args.binder.formula.now) (weight_view c.args.weights) st (e ++ a) in
     let s = linear_view c.loop-number.linear c.loop-number.problem in
     sym
-    (fold_by_front b.domains c.args.bounds.now these others c.split_in.ensures.parts F
+    (fold_by_front b.domains c.args.binder.bounds.now these others c.split_in.ensures.parts F
     (linear_view c.args.linear.now c.args.problem.now)
     ∙ sym c.loop-number.invariant.same ∙ fold_done (after_front F rest) cs i s past)
 
 pub compare_count-add_instances-requires : goal.compare_count-add_instances-requires
 compare_count-add_instances-requires t c =
-    let b = c.args.base.now in (
+    let b = c.args.scope.base.now in (
       omega arith,
       (
         c.requires.given,
         (
           c.requires.room,
           (
-            unweighed b (formula_view c.args.formula.now) (env_view c.args.env.now)
-                (choices b.domains c.args.bounds.now) c.requires.fits,
+            unweighed b (formula_view c.args.binder.formula.now) (env_view c.args.scope.env.now)
+                (choices b.domains c.args.binder.bounds.now) c.requires.fits,
             none-within c.new-counted.result c.new-counted.ensures c.args.problem.now,
           ),
         ),
@@ -293,10 +293,10 @@ compare_count-add_instances-requires t c =
 
 pub compare_count-returns-clause-made : goal.compare_count-returns-clause-made
 compare_count-returns-clause-made t c =
-    let b = c.args.base.now in
-    let e = env_view c.args.env.now in
-    let f = formula_view c.args.formula.now in
-    let cs = choices b.domains c.args.bounds.now in
+    let b = c.args.scope.base.now in
+    let e = env_view c.args.scope.env.now in
+    let f = formula_view c.args.binder.formula.now in
+    let cs = choices b.domains c.args.binder.bounds.now in
     let F = λ (st : Linear) (a : List Elem). weighed_step b kind.Count (pos 1) f None st (e ++ a) in
     let q = c.compared_at.new.problem in
     let n = c.args.number in
@@ -310,19 +310,19 @@ pub compare_extreme-compared_with_rows-requires-clause-rows :
     goal.compare_extreme-compared_with_rows-requires-clause-rows
 compare_extreme-compared_with_rows-requires-clause-rows t c =
     rw c.in_ok-rows.ensures
-    (rows-in c.args.base.now (term_view c.args.other.now) (env_view c.args.env.now) c.aggregates_of.new.problem
+    (rows-in c.args.scope.base.now (term_view c.args.other.now) (env_view c.args.scope.env.now) c.aggregates_of.new.problem
     c.requires.given (omega (arith, c.requires.room, c.in_ok-linear.ensures.grows.vars)))
 
 pub compare_sums-compared_between-requires-clause-left : goal.compare_sums-compared_between-requires-clause-left
 compare_sums-compared_between-requires-clause-left t c =
     rw c.in_ok-left_rows.ensures
-    (rows-in c.args.base.now (term_view c.args.left.now) (env_view c.args.env.now) c.add_aggregates.new.problem
+    (rows-in c.args.scope.base.now (term_view c.args.left.now) (env_view c.args.scope.env.now) c.add_aggregates.new.problem
     c.requires.given (omega (arith, c.requires.room, c.in_ok-add_aggregates.ensures.grows.vars)))
 
 pub compare_sums-compared_between-requires-clause-right : goal.compare_sums-compared_between-requires-clause-right
 compare_sums-compared_between-requires-clause-right t c =
     rw c.in_ok-right_rows.ensures
-    (rows-in c.args.base.now (term_view c.args.right.now) (env_view c.args.env.now) c.add_aggregates.new.problem
+    (rows-in c.args.scope.base.now (term_view c.args.right.now) (env_view c.args.scope.env.now) c.add_aggregates.new.problem
     c.requires.given (omega (arith, c.requires.room, c.in_ok-add_aggregates.ensures.grows.vars)))
 
 pub aggregates_of-add_aggregates-requires : goal.aggregates_of-add_aggregates-requires
@@ -337,21 +337,21 @@ aggregates_of-add_aggregates-requires t c = (
 pub aggregates_of-returns-clause-made : goal.aggregates_of-returns-clause-made
 aggregates_of-returns-clause-made t c =
     c.in_ok-add_aggregates.ensures.made
-    ∙ ap (sums_of c.args.base.now (pos 1) (term_view c.args.term.now) (env_view c.args.env.now))
+    ∙ ap (sums_of c.args.scope.base.now (pos 1) (term_view c.args.term.now) (env_view c.args.scope.env.now))
     (c.new-linear.ensures c.args.problem.now)
 
 pub form-returns-in-LeftExtreme-clause-made : goal.form-returns-in-LeftExtreme-clause-made
 form-returns-in-LeftExtreme-clause-made t c =
     rw (c.in-Compare.is, formula_view-Compare)
     (subst (λ (g : GroundResult). IfOk c.compare_extreme.result (λ a. Makes g a c.compare_extreme.new.problem))
-    (left-extreme-is c.args.base.now c.in-Compare.cmp (term_view c.in-Compare.left) (term_view c.in-Compare.right)
-    (env_view c.args.env.now) c.args.problem.now c.in-LeftExtreme.kind (sym c.in-LeftExtreme.is ∙ c.sides_of.ensures))
+    (left-extreme-is c.args.scope.base.now c.in-Compare.cmp (term_view c.in-Compare.left) (term_view c.in-Compare.right)
+    (env_view c.args.scope.env.now) c.args.problem.now c.in-LeftExtreme.kind (sym c.in-LeftExtreme.is ∙ c.sides_of.ensures))
     c.compare_extreme.ensures.made)
 
 pub form-returns-in-RightExtreme-clause-made : goal.form-returns-in-RightExtreme-clause-made
 form-returns-in-RightExtreme-clause-made t c =
-    let b = c.args.base.now in
-    let e = env_view c.args.env.now in
+    let b = c.args.scope.base.now in
+    let e = env_view c.args.scope.env.now in
     let p = c.args.problem.now in
     let x = term_view c.in-Compare.left in
     let y = term_view c.in-Compare.right in
@@ -366,7 +366,7 @@ form-returns-in-RightExtreme-clause-made t c =
 
 pub form-returns-in-Number-clause-made : goal.form-returns-in-Number-clause-made
 form-returns-in-Number-clause-made t c =
-    let b = c.args.base.now in
+    let b = c.args.scope.base.now in
     let f = formula_view c.deref-in-Number-2.result.now in
     let bs = c.deref-in-Number.result.now in
     let kept : to_z w64 (of_z w64 c.in-Number.number) ≡ c.in-Number.number = search rules in
@@ -377,4 +377,4 @@ form-returns-in-Number-clause-made t c =
       ← c.deref-in-Number-2.ensures,
     )
     (subst (λ (z : ℤ). IfOk c.compare_count.result (λ a. Makes (form_of b (numbered c.in-Number.cmp z bs f)
-    (env_view c.args.env.now) c.args.problem.now) a c.compare_count.new.problem)) kept c.compare_count.ensures.made)
+    (env_view c.args.scope.env.now) c.args.problem.now) a c.compare_count.new.problem)) kept c.compare_count.ensures.made)

@@ -1,5 +1,6 @@
 use Rattle.std.proofs.Common.{◌≡◌, ◌+◌, ◌*◌, ◌^◌, ◌≤◌, ◌++◌, map, drop, fold, length}
 use Rattle.plain_evaluation.specs.Environments.{env_view}
+use Rattle.kb_logic.specs.declared.syntax.Formula.{size-Formula}
 use Rattle.kb_logic.specs.Structures.{choices}
 use Rattle.kb_logic.specs.Trees.{formulas_of, terms_of, summands_of}
 use Rattle.kb_logic.specs.Views.{formula_view, term_view, signed_view}
@@ -17,10 +18,10 @@ abbrev pub invariant-parts-loop-formula : goal.invariant-parts-loop-formula
 invariant-parts-loop-formula l =
     let left = formulas_of (map formula_view (drop l.formula-index l.formulas)) in
     record {
-      same : parts_of l.base l.all left (env_view l.env) l.lits.items l.problem
-          ≡ parts_of l.base l.all (formulas_of (map formula_view l.formulas))
-          (env_view l.env) l.fn.lits.items l.fn.problem;
-      fits : AreGroundable l.base left (env_view l.env);
+      same : parts_of l.scope.base.now l.all left (env_view l.scope.env.now) l.lits.items l.problem
+          ≡ parts_of l.scope.base.now l.all (formulas_of (map formula_view l.formulas))
+          (env_view l.scope.env.now) l.fn.lits.items l.fn.problem;
+      fits : AreGroundable l.scope.base.now left (env_view l.scope.env.now);
       vars : l.fn.problem.vars ≤ l.problem.vars;
       lits : AreLitsOf l.problem.vars l.lits.items;
     }
@@ -28,9 +29,9 @@ invariant-parts-loop-formula l =
 -- with the parts of the assignments that are left come all
 abbrev pub invariant-instances-loop-number : goal.invariant-instances-loop-number
 invariant-instances-loop-number l =
-    let F = after_front (λ r x. part_step l.base l.all l.sign (formula_view l.formula) r (env_view l.env ++ x))
-    (choices l.base.domains l.others) in
-    let cs = choices l.base.domains l.block.bounds.now in
+    let F = after_front (λ r x. part_step l.scope.base.now l.all l.sign (formula_view l.binder.formula.now) r (env_view l.scope.env.now ++ x))
+    (choices l.scope.base.now.domains l.others) in
+    let cs = choices l.scope.base.now.domains l.block.bounds.now in
     record {
       same : fold F (open_parts l.lits.items l.problem) (drop l.number cs)
           ≡ fold F (open_parts l.fn.lits.items l.fn.problem) cs;
@@ -57,20 +58,20 @@ abbrev pub decreases-alike : goal.decreases-alike
 decreases-alike l = 2 ^ 65 * goal.size-alike l + 1
 
 abbrev pub decreases-quantified : goal.decreases-quantified
-decreases-quantified l = 2 ^ 65 * goal.size-quantified l + length l.bounds.now + 3
+decreases-quantified l = 2 ^ 65 * size-Formula l.binder.formula.now + length l.binder.bounds.now + 3
 
 abbrev pub decreases-instances : goal.decreases-instances
-decreases-instances l = 2 ^ 65 * goal.size-instances l + length l.bounds.now + 2
+decreases-instances l = 2 ^ 65 * size-Formula l.binder.formula.now + length l.binder.bounds.now + 2
 
 -- with the operands that are left come all
 abbrev pub invariant-add_of_operands-loop-operand : goal.invariant-add_of_operands-loop-operand
 invariant-add_of_operands-loop-operand l =
     let left = summands_of (map signed_view (drop l.operand-index l.operands)) in
     record {
-      same : sums_of_summands l.base l.factor left (env_view l.env) (linear_view l.linear l.problem)
-          ≡ sums_of_summands l.base l.factor (summands_of (map signed_view l.operands)) (env_view l.env)
+      same : sums_of_summands l.scope.base.now l.factor left (env_view l.scope.env.now) (linear_view l.linear l.problem)
+          ≡ sums_of_summands l.scope.base.now l.factor (summands_of (map signed_view l.operands)) (env_view l.scope.env.now)
           (linear_view l.fn.linear l.fn.problem);
-      fits : AreSummandsGroundable l.base left (env_view l.env);
+      fits : AreSummandsGroundable l.scope.base.now left (env_view l.scope.env.now);
       vars : l.fn.problem.vars ≤ l.problem.vars;
       parts : ArePartsOf l.problem.vars l.linear.parts;
     }
@@ -80,10 +81,10 @@ abbrev pub invariant-add_of_factors-loop-term : goal.invariant-add_of_factors-lo
 invariant-add_of_factors-loop-term l =
     let left = terms_of (map term_view (drop l.term-index l.terms)) in
     record {
-      same : sums_of_factors l.base l.factor left (env_view l.env) (linear_view l.linear l.problem)
-          ≡ sums_of_factors l.base l.factor (terms_of (map term_view l.terms)) (env_view l.env)
+      same : sums_of_factors l.scope.base.now l.factor left (env_view l.scope.env.now) (linear_view l.linear l.problem)
+          ≡ sums_of_factors l.scope.base.now l.factor (terms_of (map term_view l.terms)) (env_view l.scope.env.now)
           (linear_view l.fn.linear l.fn.problem);
-      fits : AreFactorsGroundable l.base left (env_view l.env);
+      fits : AreFactorsGroundable l.scope.base.now left (env_view l.scope.env.now);
       vars : l.fn.problem.vars ≤ l.problem.vars;
       parts : ArePartsOf l.problem.vars l.linear.parts;
     }
@@ -91,10 +92,10 @@ invariant-add_of_factors-loop-term l =
 -- with the instances that are left come all
 abbrev pub invariant-add_instances-loop-number : goal.invariant-add_instances-loop-number
 invariant-add_instances-loop-number l =
-    let F = after_front (λ st x. weighed_step l.base l.weights.kind l.weights.factor (formula_view l.formula)
-    (weight_view l.weights) st (env_view l.env ++ x))
-    (choices l.base.domains l.others) in
-    let cs = choices l.base.domains l.block.bounds.now in
+    let F = after_front (λ st x. weighed_step l.scope.base.now l.weights.kind l.weights.factor (formula_view l.binder.formula.now)
+    (weight_view l.weights) st (env_view l.scope.env.now ++ x))
+    (choices l.scope.base.now.domains l.others) in
+    let cs = choices l.scope.base.now.domains l.block.bounds.now in
     record {
       same : fold F (linear_view l.linear l.problem) (drop l.number cs)
           ≡ fold F (linear_view l.fn.linear l.fn.problem) cs;
@@ -103,7 +104,7 @@ invariant-add_instances-loop-number l =
     }
 
 abbrev pub decreases-compare_count : goal.decreases-compare_count
-decreases-compare_count l = 2 ^ 65 * goal.size-compare_count l + length l.bounds.now + 3
+decreases-compare_count l = 2 ^ 65 * size-Formula l.binder.formula.now + length l.binder.bounds.now + 3
 
 abbrev pub decreases-compare_extreme : goal.decreases-compare_extreme
 decreases-compare_extreme l = 2 ^ 65 * goal.size-compare_extreme l + 2
@@ -124,4 +125,4 @@ abbrev pub decreases-add_of_factors : goal.decreases-add_of_factors
 decreases-add_of_factors l = 2 ^ 65 * goal.size-add_of_factors l + 1
 
 abbrev pub decreases-add_instances : goal.decreases-add_instances
-decreases-add_instances l = 2 ^ 65 * goal.size-add_instances l + length l.bounds.now + 2
+decreases-add_instances l = 2 ^ 65 * size-Formula l.binder.formula.now + length l.binder.bounds.now + 2

@@ -13,12 +13,12 @@ use Rattle.ground_walk.proofs.leaves.atom.Goals as goal
 pub answer_of_cases-requires : goal.answer_of_cases-requires
 answer_of_cases-requires c =
     rw (c.as_slice.ensures.value, c.in_ok-cases-in-None.ensures, c.in_ok-rows.ensures)
-    (atom-cases-in c.args.base.now c.args.symbol (terms_of (map term_view c.args.args.now)) (env_view c.args.env.now)
+    (atom-cases-in c.args.scope.base.now c.args.symbol (terms_of (map term_view c.args.args.now)) (env_view c.args.scope.env.now)
     c.args.problem.now c.requires.given c.requires.room c.requires.fits.0)
 
 pub returns-in-Some-clause-made : goal.returns-in-Some-clause-made
 returns-in-Some-clause-made c =
-    let b = c.args.base.now in
+    let b = c.args.scope.base.now in
     let p = c.args.problem.now in
     let cs = map (atom_case b c.args.symbol) c.in_ok-rows.rows in
     let is = without-made cs c.in-Some.answer p c.in-Some.ensures in
@@ -27,13 +27,13 @@ returns-in-Some-clause-made c =
 
 pub returns-in-Some-clause-grows : goal.returns-in-Some-clause-grows
 returns-in-Some-clause-grows c =
-    let b = c.args.base.now in
+    let b = c.args.scope.base.now in
     let p = c.args.problem.now in
     let cs = map (atom_case b c.args.symbol) c.in_ok-rows.rows in
     let within : AllByRecursion (IsCaseOf p.vars) cs =
     rw c.in_ok-rows.ensures
     (atom-cases-in b c.args.symbol (terms_of (map term_view c.args.args.now))
-    (env_view c.args.env.now) p c.requires.given
+    (env_view c.args.scope.env.now) p c.requires.given
     c.requires.room c.requires.fits.0) in
     subst (λ (g : GroundResult). Grows p g.problem g.answer) (without-made cs c.in-Some.answer p c.in-Some.ensures)
     (cases-grow p cs within)

@@ -15,15 +15,15 @@ answer_of_cases-requires c =
       c.as_slice.ensures.value,
       c.in_ok-values.ensures.rows,
       c.in_ok-values.ensures.problem,
-    ) (comparison-cases-in c.args.cmp c.args.problem.now c.args.left.now c.args.right.now c.requires.left
+    ) (comparison-cases-in c.args.rows.cmp c.args.problem.now c.args.rows.left.now c.args.rows.right.now c.requires.left
     c.requires.right)
 
 pub returns-clause-made : goal.returns-clause-made
 returns-clause-made c =
-    let cmp = c.args.cmp in
+    let cmp = c.args.rows.cmp in
     let p = c.args.problem.now in
-    let xs = c.args.left.now in
-    let ys = c.args.right.now in
+    let xs = c.args.rows.left.now in
+    let ys = c.args.rows.right.now in
     let q = c.answer_of_cases.new.problem in
     let some : 1 ≤ length xs = omega (arith, c.if-len-eq0.false, c.len.ensures) in
     let made : IfOk c.answer_of_cases.result
@@ -41,7 +41,7 @@ returns-clause-made c =
 
 pub returns-clause-grows : goal.returns-clause-grows
 returns-clause-grows c =
-    let grown = guards-grow c.args.problem.now c.args.right.now c.requires.right in
+    let grown = guards-grow c.args.problem.now c.args.rows.right.now c.requires.right in
     let more : c.args.problem.now.vars ≤ c.guard_answers.new.problem.vars = subst
     (λ (q : ProblemState). c.args.problem.now.vars ≤ q.vars) (sym c.in_ok-values.ensures.problem) grown.vars in
     IfOk-weaker c.answer_of_cases.result _ _ (λ a g. record { vars = omega (arith, more, g.vars); within = g.within })

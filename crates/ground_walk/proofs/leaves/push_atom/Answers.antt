@@ -12,18 +12,18 @@ use Rattle.ground_walk.proofs.leaves.push_atom.Goals as goal
 pub push_cases-requires-clause-cases : goal.push_cases-requires-clause-cases
 push_cases-requires-clause-cases c =
     rw (c.as_slice.ensures.value, c.in_ok-cases-in-None.ensures, c.in_ok-rows.ensures)
-    (atom-cases-in c.args.base.now c.args.symbol (terms_of (map term_view c.args.args.now)) (env_view c.args.env.now)
+    (atom-cases-in c.args.scope.base.now c.args.symbol (terms_of (map term_view c.args.args.now)) (env_view c.args.scope.env.now)
     c.args.problem.now c.requires.given c.requires.room c.requires.fits.0)
 
 pub push_answer-requires-clause-answer : goal.push_answer-requires-clause-answer
 push_answer-requires-clause-answer c =
-    let b = c.args.base.now in
+    let b = c.args.scope.base.now in
     let p = c.args.problem.now in
     let cs = map (atom_case b c.args.symbol) c.in_ok-rows.rows in
     let within : AllByRecursion (IsCaseOf p.vars) cs =
     rw c.in_ok-rows.ensures
     (atom-cases-in b c.args.symbol (terms_of (map term_view c.args.args.now))
-    (env_view c.args.env.now) p c.requires.given
+    (env_view c.args.scope.env.now) p c.requires.given
     c.requires.room c.requires.fits.0) in
     rw c.signed.ensures (signed-in p.vars c.args.sign c.in-Some.answer
     (answer-in p.vars cs c.in-Some.answer within c.in-Some.ensures))

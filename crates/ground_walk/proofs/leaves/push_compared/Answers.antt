@@ -10,7 +10,7 @@ pub push_cases-requires-clause-lits : goal.push_cases-requires-clause-lits
 push_cases-requires-clause-lits c =
     let p = c.args.problem.now in
     let q = c.guard_answers.new.problem in
-    let grown = guards-grow p c.args.right.now c.requires.right in
+    let grown = guards-grow p c.args.rows.right.now c.requires.right in
     let more : p.vars ≤ q.vars =
     subst (λ (r : ProblemState). p.vars ≤ r.vars) (sym c.in_ok-values.ensures.problem) grown.vars in
     lits-more p.vars q.vars more c.args.lits.now c.requires.lits
@@ -23,17 +23,17 @@ push_cases-requires-clause-cases c =
       c.as_slice.ensures.value,
       c.in_ok-values.ensures.rows,
       c.in_ok-values.ensures.problem,
-    ) (comparison-cases-in c.args.cmp c.args.problem.now c.args.left.now c.args.right.now c.requires.left
+    ) (comparison-cases-in c.args.rows.cmp c.args.problem.now c.args.rows.left.now c.args.rows.right.now c.requires.left
     c.requires.right)
 
 pub returns-clause-made : goal.returns-clause-made
 returns-clause-made c =
-    let cmp = c.args.cmp in
+    let cmp = c.args.rows.cmp in
     let sign = c.args.sign in
     let ls = c.args.lits.now in
     let p = c.args.problem.now in
-    let xs = c.args.left.now in
-    let ys = c.args.right.now in
+    let xs = c.args.rows.left.now in
+    let ys = c.args.rows.right.now in
     let q = c.push_cases.new.problem in
     let some : 1 ≤ length xs = omega (arith, c.if-len-eq0.false, c.len.ensures) in
     let made : OnOk c.push_cases.result
@@ -53,7 +53,7 @@ pub returns-clause-grows : goal.returns-clause-grows
 returns-clause-grows c =
     let p = c.args.problem.now in
     let q = c.guard_answers.new.problem in
-    let grown = guards-grow p c.args.right.now c.requires.right in
+    let grown = guards-grow p c.args.rows.right.now c.requires.right in
     let more : p.vars ≤ q.vars =
     subst (λ (r : ProblemState). p.vars ≤ r.vars) (sym c.in_ok-values.ensures.problem) grown.vars in
     on-ok c.push_cases.result (λ same. omega (arith, more, same)) c.push_cases.ensures.vars

@@ -23,9 +23,9 @@ use Rattle.ground_walk.proofs.sentences.+sentence.Goals as goal
 
 pub push_any-returns-then-branch-clause-made : goal.push_any-returns-then-branch-clause-made
 push_any-returns-then-branch-clause-made t c =
-    let b = c.args.base.now in
+    let b = c.args.scope.base.now in
     let sign = c.args.sign in
-    let e = env_view c.args.env.now in
+    let e = env_view c.args.scope.env.now in
     let z = c.in-Some.last.now in
     let others = c.in-Some.others.now in
     let i = c.loop-formula.formula-index in
@@ -44,9 +44,9 @@ push_any-returns-then-branch-clause-made t c =
 
 pub push_any-returns-then-branch-clause-lits : goal.push_any-returns-then-branch-clause-lits
 push_any-returns-then-branch-clause-lits t c =
-    let b = c.args.base.now in
+    let b = c.args.scope.base.now in
     let sign = c.args.sign in
-    let e = env_view c.args.env.now in
+    let e = env_view c.args.scope.env.now in
     let x = c.formula-item.result in
     let ls = c.args.lits.now.items in
     let before = c.loop-formula.lits.items in
@@ -61,9 +61,9 @@ push_any-returns-then-branch-clause-lits t c =
 
 pub push_any-loop-formula-preserved : goal.push_any-loop-formula-preserved
 push_any-loop-formula-preserved t c =
-    let b = c.args.base.now in
+    let b = c.args.scope.base.now in
     let sign = c.args.sign in
-    let e = env_view c.args.env.now in
+    let e = env_view c.args.scope.env.now in
     let z = c.in-Some.last.now in
     let others = c.in-Some.others.now in
     let i = c.loop-formula.formula-index in
@@ -93,10 +93,10 @@ push_any-loop-formula-preserved t c =
 
 pub push_each-push_each-requires : goal.push_each-push_each-requires
 push_each-push_each-requires t c =
-    let b = c.args.base.now in
+    let b = c.args.scope.base.now in
     let sign = c.args.sign in
-    let e = env_view c.args.env.now in
-    let f = formula_view c.args.formula.now in
+    let e = env_view c.args.scope.env.now in
+    let f = formula_view c.args.binder.formula.now in
     let ls = c.args.lits.now.items in
     let these = c.split_in.result.0.bounds.now in
     let others = c.split_in.result.1.now in
@@ -114,7 +114,7 @@ push_each-push_each-requires t c =
         (
           omega (arith, c.requires.room, c.loop-number.invariant.vars),
           (
-            each_after b.domains c.args.bounds.now these others c.split_in.ensures.parts
+            each_after b.domains c.args.binder.bounds.now these others c.split_in.ensures.parts
                 (IsGroundable b f) e inner i within is c.requires.fits,
             c.loop-number.invariant.within,
           ),
@@ -124,10 +124,10 @@ push_each-push_each-requires t c =
 
 pub push_each-loop-number-preserved : goal.push_each-loop-number-preserved
 push_each-loop-number-preserved t c =
-    let b = c.args.base.now in
+    let b = c.args.scope.base.now in
     let sign = c.args.sign in
-    let e = env_view c.args.env.now in
-    let f = formula_view c.args.formula.now in
+    let e = env_view c.args.scope.env.now in
+    let f = formula_view c.args.binder.formula.now in
     let ls = c.args.lits.now.items in
     let these = c.split_in.result.0.bounds.now in
     let others = c.split_in.result.1.now in
@@ -160,10 +160,10 @@ push_each-loop-number-preserved t c =
 
 pub push_each-returns-clause-made : goal.push_each-returns-clause-made
 push_each-returns-clause-made t c =
-    let b = c.args.base.now in
+    let b = c.args.scope.base.now in
     let sign = c.args.sign in
-    let e = env_view c.args.env.now in
-    let f = formula_view c.args.formula.now in
+    let e = env_view c.args.scope.env.now in
+    let f = formula_view c.args.binder.formula.now in
     let ls = c.args.lits.now.items in
     let these = c.split_in.result.0.bounds.now in
     let others = c.split_in.result.1.now in
@@ -174,25 +174,25 @@ push_each-returns-clause-made t c =
     let past : length cs ≤ i = rw (← count) c.loop-number-test.false in
     let F = λ (q : ProblemState) (a : List Elem). assert_step b sign f ls q (e ++ a) in
     sym
-    (fold_by_front b.domains c.args.bounds.now these others c.split_in.ensures.parts F c.args.problem.now
+    (fold_by_front b.domains c.args.binder.bounds.now these others c.split_in.ensures.parts F c.args.problem.now
     ∙ sym c.loop-number.invariant.same ∙ fold_done (after_front F rest) cs i c.loop-number.problem past)
 
 pub push_quantified-returns-then-sign-all-clause-made : goal.push_quantified-returns-then-sign-all-clause-made
 push_quantified-returns-then-sign-all-clause-made t c =
     subst (λ (q : ProblemState). OnOk c.push_instances.result (c.push_instances.new.problem ≡ q))
-    (all-asserted c.args.base.now c.args.bounds.now (formula_view c.args.formula.now) (env_view c.args.env.now)
+    (all-asserted c.args.scope.base.now c.args.binder.bounds.now (formula_view c.args.binder.formula.now) (env_view c.args.scope.env.now)
     c.args.lits.now.items c.args.problem.now c.args.all c.args.sign c.if-sign-all.true) c.push_instances.ensures.made
 
 pub push_quantified-returns-else-sign-all-clause-made : goal.push_quantified-returns-else-sign-all-clause-made
 push_quantified-returns-else-sign-all-clause-made t c =
     subst (λ (q : ProblemState). OnOk c.push_some.result (c.push_some.new.problem ≡ q))
-    (some-asserted c.args.base.now c.args.bounds.now (formula_view c.args.formula.now) (env_view c.args.env.now)
+    (some-asserted c.args.scope.base.now c.args.binder.bounds.now (formula_view c.args.binder.formula.now) (env_view c.args.scope.env.now)
     c.args.lits.now.items c.args.problem.now c.args.all c.args.sign c.if-sign-all.false) c.push_some.ensures.made
 
 pub push-returns-in_ok-settled-in-Implies-clause-lits : goal.push-returns-in_ok-settled-in-Implies-clause-lits
 push-returns-in_ok-settled-in-Implies-clause-lits t c =
-    let b = c.args.base.now in
-    let e = env_view c.args.env.now in
+    let b = c.args.scope.base.now in
+    let e = env_view c.args.scope.env.now in
     let f = formula_view c.deref-then-sign.result.now in
     let ls = c.args.lits.now.items in
     let p = c.args.problem.now in
@@ -208,50 +208,50 @@ push-returns-in_ok-settled-in-Implies-clause-lits t c =
 
 pub push_led-next-index-requires-clause-fits : goal.push_led-next-index-requires-clause-fits
 push_led-next-index-requires-clause-fits t c =
-    let b = c.args.base.now in
+    let b = c.args.scope.base.now in
     let these = c.first_variable.result.0.bounds.now in
     let place = c.args.place in
     let cs = choices b.domains these in
     let count : c.first_variable.result.0.count ≡ length cs = rw c.domains.ensures at c.first_variable.ensures.count in
-    let fits = fits-all (AddsNothing b c.args.sign (formula_view c.args.formula.now)) b.domains place.keys.now place.key
-    place.steps.now c.args.bounds.now these c.first_variable.result.1.now (env_view c.args.env.now)
+    let fits = fits-all (AddsNothing b c.args.sign (formula_view c.args.binder.formula.now)) b.domains place.keys.now place.key
+    place.steps.now c.args.binder.bounds.now these c.first_variable.result.1.now (env_view c.args.scope.env.now)
     c.first_variable.ensures.parts c.first_variable.ensures.one c.requires.led c.requires.order in
     rw count fits
 
 pub push_led-next-index-requires-in-loop-index-clause-fits : goal.push_led-next-index-requires-in-loop-index-clause-fits
 push_led-next-index-requires-in-loop-index-clause-fits t c =
-    let b = c.args.base.now in
+    let b = c.args.scope.base.now in
     let these = c.first_variable.result.0.bounds.now in
     let place = c.args.place in
     let cs = choices b.domains these in
     let count : c.first_variable.result.0.count ≡ length cs = rw c.domains.ensures at c.first_variable.ensures.count in
-    let fits = fits-all (AddsNothing b c.args.sign (formula_view c.args.formula.now)) b.domains place.keys.now place.key
-    place.steps.now c.args.bounds.now these c.first_variable.result.1.now (env_view c.args.env.now)
+    let fits = fits-all (AddsNothing b c.args.sign (formula_view c.args.binder.formula.now)) b.domains place.keys.now place.key
+    place.steps.now c.args.binder.bounds.now these c.first_variable.result.1.now (env_view c.args.scope.env.now)
     c.first_variable.ensures.parts c.first_variable.ensures.one c.requires.led c.requires.order in
     rw count fits
 
 pub push_led-below-below-requires : goal.push_led-below-below-requires
 push_led-below-below-requires t c =
-    let b = c.args.base.now in
+    let b = c.args.scope.base.now in
     let these = c.first_variable.result.0.bounds.now in
     let place = c.args.place in
     let cs = choices b.domains these in
     let count : c.first_variable.result.0.count ≡ length cs = rw c.domains.ensures at c.first_variable.ensures.count in
-    let fits = fits-one (AddsNothing b c.args.sign (formula_view c.args.formula.now)) b.domains place.keys.now place.key
-    place.steps.now c.args.bounds.now these c.first_variable.result.1.now (env_view c.args.env.now)
+    let fits = fits-one (AddsNothing b c.args.sign (formula_view c.args.binder.formula.now)) b.domains place.keys.now place.key
+    place.steps.now c.args.binder.bounds.now these c.first_variable.result.1.now (env_view c.args.scope.env.now)
     c.first_variable.ensures.parts c.first_variable.ensures.one c.requires.led c.loop-index.index
     (rw (← count) c.loop-index-test.true) c.requires.order in
     record { fits = fits }
 
 pub push_led-push_led-requires : goal.push_led-push_led-requires
 push_led-push_led-requires t c =
-    let b = c.args.base.now in
-    let e = env_view c.args.env.now in
-    let f = formula_view c.args.formula.now in
+    let b = c.args.scope.base.now in
+    let e = env_view c.args.scope.env.now in
+    let f = formula_view c.args.binder.formula.now in
     let Out = AddsNothing b c.args.sign f in
     let these = c.first_variable.result.0.bounds.now in
     let others = c.first_variable.result.1.now in
-    let bounds = c.args.bounds.now in
+    let bounds = c.args.binder.bounds.now in
     let place = c.args.place in
     let cs = choices b.domains these in
     let i = c.loop-index.index in
@@ -288,13 +288,13 @@ push_led-push_led-requires t c =
 
 pub push_led-loop-index-init : goal.push_led-loop-index-init
 push_led-loop-index-init t c =
-    let b = c.args.base.now in
-    let e = env_view c.args.env.now in
-    let f = formula_view c.args.formula.now in
+    let b = c.args.scope.base.now in
+    let e = env_view c.args.scope.env.now in
+    let f = formula_view c.args.binder.formula.now in
     let Out = AddsNothing b c.args.sign f in
     let these = c.first_variable.result.0.bounds.now in
     let others = c.first_variable.result.1.now in
-    let bounds = c.args.bounds.now in
+    let bounds = c.args.binder.bounds.now in
     let place = c.args.place in
     let cs = choices b.domains these in
     let rest = choices b.domains others in
@@ -317,15 +317,15 @@ push_led-loop-index-init t c =
 
 pub push_led-loop-index-preserved : goal.push_led-loop-index-preserved
 push_led-loop-index-preserved t c =
-    let b = c.args.base.now in
+    let b = c.args.scope.base.now in
     let sign = c.args.sign in
-    let e = env_view c.args.env.now in
-    let f = formula_view c.args.formula.now in
+    let e = env_view c.args.scope.env.now in
+    let f = formula_view c.args.binder.formula.now in
     let ls = c.args.lits.now.items in
     let Out = AddsNothing b sign f in
     let these = c.first_variable.result.0.bounds.now in
     let others = c.first_variable.result.1.now in
-    let bounds = c.args.bounds.now in
+    let bounds = c.args.binder.bounds.now in
     let place = c.args.place in
     let cs = choices b.domains these in
     let rest = choices b.domains others in
@@ -366,10 +366,10 @@ push_led-loop-index-preserved t c =
 
 pub push_led-returns-clause-made : goal.push_led-returns-clause-made
 push_led-returns-clause-made t c =
-    let b = c.args.base.now in
+    let b = c.args.scope.base.now in
     let sign = c.args.sign in
-    let e = env_view c.args.env.now in
-    let f = formula_view c.args.formula.now in
+    let e = env_view c.args.scope.env.now in
+    let f = formula_view c.args.binder.formula.now in
     let ls = c.args.lits.now.items in
     let these = c.first_variable.result.0.bounds.now in
     let others = c.first_variable.result.1.now in
@@ -380,5 +380,5 @@ push_led-returns-clause-made t c =
     let past : length cs ≤ i = rw (← count) c.loop-index-test.false in
     let F = λ (q : ProblemState) (a : List Elem). assert_step b sign f ls q (e ++ a) in
     sym
-    (fold_by_front b.domains c.args.bounds.now these others c.first_variable.ensures.parts F c.args.problem.now
+    (fold_by_front b.domains c.args.binder.bounds.now these others c.first_variable.ensures.parts F c.args.problem.now
     ∙ sym c.loop-index.invariant.same ∙ fold_done (after_front F rest) cs i c.loop-index.problem past)

@@ -10,11 +10,11 @@ use Rattle.ground_walk.proofs.sentences.push_some.Goals as goal
 
 pub returns-clause-lits : goal.returns-clause-lits
 returns-clause-lits c =
-    let b = c.args.base.now in
-    let e = env_view c.args.env.now in
-    let f = formula_view c.args.formula.now in
+    let b = c.args.scope.base.now in
+    let e = env_view c.args.scope.env.now in
+    let f = formula_view c.args.binder.formula.now in
     let ls = c.args.lits.now.items in
-    let xs = choices b.domains c.args.bounds.now in
+    let xs = choices b.domains c.args.binder.bounds.now in
     let d = fold (λ (r : Parts) (x : List Elem). part_step b false c.args.sign f r (e ++ x))
     (open_parts ls c.args.problem.now) xs in
     let made : MakesParts d c.in_ok-settled.settled c.instances.new.lits.items c.instances.new.problem =

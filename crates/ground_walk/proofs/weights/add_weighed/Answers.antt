@@ -6,5 +6,5 @@ use Rattle.ground_walk.proofs.weights.add_weighed.Goals as goal
 pub push_weighed-requires-clause-rows : goal.push_weighed-requires-clause-rows
 push_weighed-requires-clause-rows c =
     rw c.in_ok-rows.ensures
-    (rows-in c.args.base.now (term_view c.in-Some.term.now) (env_view c.args.env.now) c.args.problem.now
+    (rows-in c.args.scope.base.now (term_view c.in-Some.term.now) (env_view c.args.scope.env.now) c.args.problem.now
     c.requires.given c.requires.room)

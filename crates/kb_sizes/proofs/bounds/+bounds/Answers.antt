@@ -18,8 +18,8 @@ use Rattle.kb_sizes.proofs.bounds.+bounds.Goals as goal
 
 pub node-returns-in_ok-range-in-Agg-clause-range : goal.node-returns-in_ok-range-in-Agg-clause-range
 node-returns-in_ok-range-in-Agg-clause-range t c =
-    let v = c.args.vocab.now in
-    let d = c.args.domains.now in
+    let v = c.args.setting.vocab.now in
+    let d = c.args.setting.domains.now in
     let bs = c.deref-in-Agg.result.now in
     let w = term_view c.deref-in-Agg-3.result.now in
     let inner = c.in_ok-formula-in-Agg.ensures.scope ∙ c.in_ok-enter-in-Agg.ensures in
@@ -34,8 +34,8 @@ node-returns-in_ok-range-in-Agg-clause-range t c =
 
 pub node-returns-in_ok-range-in-Agg-clause-own : goal.node-returns-in_ok-range-in-Agg-clause-own
 node-returns-in_ok-range-in-Agg-clause-own t c =
-    let v = c.args.vocab.now in
-    let d = c.args.domains.now in
+    let v = c.args.setting.vocab.now in
+    let d = c.args.setting.domains.now in
     let bs = c.deref-in-Agg.result.now in
     let w = term_view c.deref-in-Agg-3.result.now in
     let inner = c.in_ok-formula-in-Agg.ensures.scope ∙ c.in_ok-enter-in-Agg.ensures in
@@ -51,8 +51,8 @@ node-returns-in_ok-range-in-Agg-clause-own t c =
 
 pub node-returns-in_ok-range-in-Agg-clause-wide : goal.node-returns-in_ok-range-in-Agg-clause-wide
 node-returns-in_ok-range-in-Agg-clause-wide t c =
-    let v = c.args.vocab.now in
-    let d = c.args.domains.now in
+    let v = c.args.setting.vocab.now in
+    let d = c.args.setting.domains.now in
     let bs = c.deref-in-Agg.result.now in
     let f = formula_view c.deref-in-Agg-2.result.now in
     let w = term_view c.deref-in-Agg-3.result.now in
@@ -75,14 +75,14 @@ node-returns-in_ok-range-in-Agg-clause-wide t c =
 
 pub term-returns-clause-wide : goal.term-returns-clause-wide
 term-returns-clause-wide t c =
-    term_set c.args.vocab.now c.args.domains.now (term_view c.args.of.now) c.args.scope.now.items c.args.wide.now.items
+    term_set c.args.setting.vocab.now c.args.setting.domains.now (term_view c.args.of.now) c.args.scope.now.items c.args.wide.now.items
     c.push.new.self.items c.node.new.wide.items c.len-at.result c.in_ok-found.found.wide
     (c.len-at.ensures ∙ search rules) c.in_ok-push.ensures.items c.in_ok-found.ensures.wide c.in_ok-found.ensures.own
 
 pub sum-loop-part-preserved : goal.sum-loop-part-preserved
 sum-loop-part-preserved t c =
-    let v = c.args.vocab.now in
-    let d = c.args.domains.now in
+    let v = c.args.setting.vocab.now in
+    let d = c.args.setting.domains.now in
     let scope = c.args.scope.now.items in
     let parts = c.args.parts.now in
     let i = c.loop-part.part-index in
@@ -116,8 +116,8 @@ sum-loop-part-preserved t c =
 
 pub product-loop-factor-preserved : goal.product-loop-factor-preserved
 product-loop-factor-preserved t c =
-    let v = c.args.vocab.now in
-    let d = c.args.domains.now in
+    let v = c.args.setting.vocab.now in
+    let d = c.args.setting.domains.now in
     let scope = c.args.scope.now.items in
     let factors = c.args.factors.now in
     let i = c.loop-factor.factor-index in

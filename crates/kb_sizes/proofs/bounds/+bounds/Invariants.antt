@@ -12,39 +12,39 @@ invariant-sum-loop-part l =
     let left = summands_of (map signed_view (drop l.part-index l.parts)) in
     let all = summands_of (map signed_view l.parts) in
     (l.scope.items ≡ l.fn.scope.items)
-    × (l.wide.items ++ wide_at (summands_bounds l.vocab l.domains left l.fn.scope.items) ≡ l.fn.wide.items ++ wide_at
-    (summands_bounds l.vocab l.domains all l.fn.scope.items))
-    × (fold clamping_sum (range_view l.range) (clamped_summands l.vocab l.domains left l.fn.scope.items)
-    ≡ fold clamping_sum (exactly (pos 0)) (clamped_summands l.vocab l.domains all l.fn.scope.items))
+    × (l.wide.items ++ wide_at (summands_bounds l.setting.vocab.now l.setting.domains.now left l.fn.scope.items) ≡ l.fn.wide.items ++ wide_at
+    (summands_bounds l.setting.vocab.now l.setting.domains.now all l.fn.scope.items))
+    × (fold clamping_sum (range_view l.range) (clamped_summands l.setting.vocab.now l.setting.domains.now left l.fn.scope.items)
+    ≡ fold clamping_sum (exactly (pos 0)) (clamped_summands l.setting.vocab.now l.setting.domains.now all l.fn.scope.items))
     × ((l.any || is_wide (front_bounds clamping_sum (range_view l.range)
-    (clamped_summands l.vocab l.domains left l.fn.scope.items)))
-    ≡ is_wide (front_bounds clamping_sum (exactly (pos 0)) (clamped_summands l.vocab l.domains all l.fn.scope.items)))
+    (clamped_summands l.setting.vocab.now l.setting.domains.now left l.fn.scope.items)))
+    ≡ is_wide (front_bounds clamping_sum (exactly (pos 0)) (clamped_summands l.setting.vocab.now l.setting.domains.now all l.fn.scope.items)))
 
 abbrev pub invariant-product-loop-factor : goal.invariant-product-loop-factor
 invariant-product-loop-factor l =
     let left = terms_of (map term_view (drop l.factor-index l.factors)) in
     let all = terms_of (map term_view l.factors) in
     (l.scope.items ≡ l.fn.scope.items)
-    × (l.wide.items ++ wide_at (terms_bounds l.vocab l.domains left l.fn.scope.items) ≡ l.fn.wide.items ++ wide_at
-    (terms_bounds l.vocab l.domains all l.fn.scope.items))
-    × (fold clamping_product (range_view l.range) (clamped_factors l.vocab l.domains left l.fn.scope.items)
-    ≡ fold clamping_product (exactly (pos 1)) (clamped_factors l.vocab l.domains all l.fn.scope.items))
+    × (l.wide.items ++ wide_at (terms_bounds l.setting.vocab.now l.setting.domains.now left l.fn.scope.items) ≡ l.fn.wide.items ++ wide_at
+    (terms_bounds l.setting.vocab.now l.setting.domains.now all l.fn.scope.items))
+    × (fold clamping_product (range_view l.range) (clamped_factors l.setting.vocab.now l.setting.domains.now left l.fn.scope.items)
+    ≡ fold clamping_product (exactly (pos 1)) (clamped_factors l.setting.vocab.now l.setting.domains.now all l.fn.scope.items))
     × ((l.any || is_wide (front_bounds clamping_product (range_view l.range)
-    (clamped_factors l.vocab l.domains left l.fn.scope.items)))
+    (clamped_factors l.setting.vocab.now l.setting.domains.now left l.fn.scope.items)))
     ≡ is_wide (front_bounds clamping_product (exactly (pos 1))
-    (clamped_factors l.vocab l.domains all l.fn.scope.items)))
+    (clamped_factors l.setting.vocab.now l.setting.domains.now all l.fn.scope.items)))
 
 abbrev pub invariant-terms-loop-one : goal.invariant-terms-loop-one
 invariant-terms-loop-one l =
     (l.scope.items ≡ l.fn.scope.items)
-    × (l.wide.items ++ wide_at (terms_bounds l.vocab l.domains (terms_of (map term_view (drop l.one-index l.all)))
+    × (l.wide.items ++ wide_at (terms_bounds l.setting.vocab.now l.setting.domains.now (terms_of (map term_view (drop l.one-index l.all)))
     l.fn.scope.items)
-    ≡ l.fn.wide.items ++ wide_at (terms_bounds l.vocab l.domains (terms_of (map term_view l.all)) l.fn.scope.items))
+    ≡ l.fn.wide.items ++ wide_at (terms_bounds l.setting.vocab.now l.setting.domains.now (terms_of (map term_view l.all)) l.fn.scope.items))
 
 abbrev pub invariant-formulas-loop-one : goal.invariant-formulas-loop-one
 invariant-formulas-loop-one l =
     (l.scope.items ≡ l.fn.scope.items)
-    × (l.wide.items ++ wide_at (formulas_bounds l.vocab l.domains
+    × (l.wide.items ++ wide_at (formulas_bounds l.setting.vocab.now l.setting.domains.now
     (formulas_of (map formula_view (drop l.one-index l.all))) l.fn.scope.items)
-    ≡ l.fn.wide.items ++ wide_at (formulas_bounds l.vocab l.domains (formulas_of (map formula_view l.all))
+    ≡ l.fn.wide.items ++ wide_at (formulas_bounds l.setting.vocab.now l.setting.domains.now (formulas_of (map formula_view l.all))
     l.fn.scope.items))

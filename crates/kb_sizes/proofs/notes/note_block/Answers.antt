@@ -10,6 +10,6 @@ pub returns : goal.returns
 returns c =
     let o = c.args.earliest.now.first in
     let ps = c.args.places.now in
-    let bounds = term_bounds c.args.vocab.now c.args.domains.now (term_view c.args.block.now.value) [] in
+    let bounds = term_bounds c.args.setting.vocab.now c.args.setting.domains.now (term_view c.args.block.now.value) [] in
     c.note_terms.ensures ∙ ap (λ ws. fold wide_noted o (zip ps ws)) (c.deref.ensures.value ∙ c.in_ok-wide.ensures)
     ∙ terms_noted o ps bounds

@@ -8,6 +8,6 @@ use Rattle.kb_sizes.proofs.theory_bounds.definitions.Given as goal
 
 abbrev pub invariant-loop-one : goal.invariant-loop-one
 invariant-loop-one l =
-    l.wide.items ++ wide_at (flat_map (item_bounds l.vocab l.domains)
+    l.wide.items ++ wide_at (flat_map (item_bounds l.setting.vocab.now l.setting.domains.now)
     (flat_map rules_of (map definition_view (drop l.one-index l.all)))) ≡ l.fn.wide.items ++ wide_at
-    (flat_map (item_bounds l.vocab l.domains) (flat_map rules_of (map definition_view l.all)))
+    (flat_map (item_bounds l.setting.vocab.now l.setting.domains.now) (flat_map rules_of (map definition_view l.all)))

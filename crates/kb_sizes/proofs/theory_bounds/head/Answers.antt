@@ -9,8 +9,8 @@ use Rattle.kb_sizes.proofs.theory_bounds.head.Goals as goal
 
 pub returns-in_ok-term-in-Some-clause-wide : goal.returns-in_ok-term-in-Some-clause-wide
 returns-in_ok-term-in-Some-clause-wide c =
-    let v = c.args.vocab.now in
-    let d = c.args.domains.now in
+    let v = c.args.setting.vocab.now in
+    let d = c.args.setting.domains.now in
     let scope = c.args.scope.now.items in
     let xs = c.args.wide.now.items in
     let ys = c.terms.new.wide.items in
@@ -26,8 +26,8 @@ returns-in_ok-term-in-Some-clause-wide c =
 
 pub returns-in-None-clause-wide : goal.returns-in-None-clause-wide
 returns-in-None-clause-wide c =
-    let v = c.args.vocab.now in
-    let d = c.args.domains.now in
+    let v = c.args.setting.vocab.now in
+    let d = c.args.setting.domains.now in
     let scope = c.args.scope.now.items in
     let xs = c.args.wide.now.items in
     let args = map term_view c.args.of.now.args in

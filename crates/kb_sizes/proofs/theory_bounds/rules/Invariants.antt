@@ -8,6 +8,6 @@ use Rattle.kb_sizes.proofs.theory_bounds.rules.Given as goal
 
 abbrev pub invariant-loop-one : goal.invariant-loop-one
 invariant-loop-one l =
-    l.wide.items ++ wide_at (flat_map (item_bounds l.vocab l.domains)
+    l.wide.items ++ wide_at (flat_map (item_bounds l.setting.vocab.now l.setting.domains.now)
     (rules_in (map rule_view (drop l.one-index l.all)))) ≡ l.fn.wide.items ++ wide_at
-    (flat_map (item_bounds l.vocab l.domains) (rules_in (map rule_view l.all)))
+    (flat_map (item_bounds l.setting.vocab.now l.setting.domains.now) (rules_in (map rule_view l.all)))

@@ -9,6 +9,6 @@ use Rattle.kb_sizes.proofs.theory_bounds.sentences.Given as goal
 abbrev pub invariant-loop-one : goal.invariant-loop-one
 invariant-loop-one l =
     (l.scope.items ≡ [])
-    × (l.wide.items ++ wide_at (flat_map (item_bounds l.vocab l.domains)
+    × (l.wide.items ++ wide_at (flat_map (item_bounds l.setting.vocab.now l.setting.domains.now)
     (sentences_in (map formula_view (drop l.one-index l.all)))) ≡ l.fn.wide.items ++ wide_at
-    (flat_map (item_bounds l.vocab l.domains) (sentences_in (map formula_view l.all))))
+    (flat_map (item_bounds l.setting.vocab.now l.setting.domains.now) (sentences_in (map formula_view l.all))))
