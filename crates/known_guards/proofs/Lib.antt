@@ -1,0 +1,3 @@
+pub mod FormulaViews
+pub mod GuardSteps
+pub mod GuardRows
