@@ -11,7 +11,8 @@ use kb_logic::Memory;
 use narrowed_bases::theories::{open_weight_at, theory_of};
 use open_sizes::laws::small_bases_fit;
 use partial_structures::{Partial, Truth};
-use quantifier_bounds::{BoundFault, refine};
+use quantifier_bounds::BoundFault;
+use refinement::refine;
 use std::alloc::Global;
 use type_derivation::TypedKb;
 
@@ -77,7 +78,7 @@ fn push_closure(
 {
     push_symbols(alloc, kb, known, out)?;
     out.extend_from_slice(b"open ")?;
-    push_number(alloc, open_weight_at(kb, theory, known), out)
+    push_number(alloc, open_weight_at(alloc, kb, theory, known), out)
 }
 
 /// Pushes the line of the theory with this number and these data.

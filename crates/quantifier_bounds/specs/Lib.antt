@@ -3,6 +3,5 @@ pub mod Places
 pub mod Fits
 pub mod Walks
 pub mod Rules
-pub mod Passes
 pub mod Open
 pub mod Laws

@@ -187,7 +187,7 @@ fn define_all<'a>(
 }
 
 /// Each definition must be obeyed.
-pub(crate) fn definitions_must<'a>(
+pub fn definitions_must<'a>(
     known: &mut Partial,
     setting: Setting<'a>,
     definitions: &'a [Definition],

@@ -180,7 +180,11 @@ fn free_len(domains: &[ElemList], asked: Asked<'_>, bounds: &[Bound]) -> usize
 }
 
 /// Some of the first variables, at most so many of them, and the others.
-fn front<'a>(domains: &'a [ElemList], bounds: &'a [Bound], len: usize) -> (Block<'a>, &'a [Bound])
+pub fn front<'a>(
+    domains: &'a [ElemList],
+    bounds: &'a [Bound],
+    len: usize,
+) -> (Block<'a>, &'a [Bound])
     requires some { 0 < len }
     requires within { len ≤ length bounds.now }
     ensures parts { bounds.now ≡ result.0.bounds.now ++ result.1.now }

@@ -150,7 +150,7 @@ fn symbol_must<'a>(
 }
 
 /// Each function must have a value everywhere.
-pub(crate) fn functions_must(known: &mut Partial, setting: Setting<'_>) -> Result<bool, BoundFault>
+pub fn functions_must(known: &mut Partial, setting: Setting<'_>) -> Result<bool, BoundFault>
     requires symbols { setting.symbols.now ≡ known.old.symbols }
     requires domains { setting.domains.now ≡ known.old.domains }
     requires few { length known.old.symbols ≤ 2 ^ 32 }

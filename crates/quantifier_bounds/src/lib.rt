@@ -13,9 +13,12 @@ mod leaves;
 mod left;
 mod order;
 mod places;
-mod refinement;
 mod walk;
 
+pub use definitions::definitions_must;
+pub use derivation::front;
 pub use fault::BoundFault;
+pub use functions::functions_must;
 pub use instances::open_instances;
-pub use refinement::refine;
+pub use order::nth;
+pub use walk::{Setting, either, must};

@@ -6,7 +6,7 @@ ghost use Rattle.std.specs.Prelude.{◌<◌};
 ghost use Rattle.quantifier_bounds.specs.Walks.{IsNth};
 
 /// The number of the item that comes after so many others, of a count of them.
-pub(crate) fn nth(falling: bool, turn: u64, count: u64) -> u64
+pub fn nth(falling: bool, turn: u64, count: u64) -> u64
     requires { turn < count }
     ensures nth { IsNth falling turn count result }
     ensures within { result < count }

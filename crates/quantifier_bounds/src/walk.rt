@@ -25,7 +25,7 @@ use std::alloc::Global;
 /// What no step of a pass changes. A pass goes through instances and tuples from the first to the last, or where it is
 /// `falling` from the last to the first.
 #[derive(Clone, Copy)]
-pub(crate) struct Setting<'a> {
+pub struct Setting<'a> {
     pub alloc: Global,
     pub symbols: &'a [Symbol],
     pub domains: &'a [ElemList],
@@ -39,7 +39,8 @@ pub(crate) struct Want {
     pub left_only: bool,
 }
 
-pub(crate) fn either(a: bool, b: bool) -> bool
+/// Whether one of two steps changed anything.
+pub fn either(a: bool, b: bool) -> bool
     ensures { result ≡ (a || b) }
 {
     a || b
@@ -92,7 +93,7 @@ fn is_passed<'a>(known: &'a Partial, formula: &'a Formula, want: Want, env: &'a 
 
 /// Makes known what follows where the formula must have this value. Whether that was anything.
 #[cycle(must)]
-pub(crate) fn must<'a>(
+pub fn must<'a>(
     known: &mut Partial,
     setting: Setting<'a>,
     formula: &'a Formula,
@@ -166,7 +167,7 @@ fn parts<'a>(
 
 /// Each of the formulas must have this value.
 #[cycle(must)]
-pub(crate) fn all<'a>(
+fn all<'a>(
     known: &mut Partial,
     setting: Setting<'a>,
     formulas: &'a [Formula],

@@ -2,9 +2,9 @@ use Rattle.std.proofs.Common.{◌≡◌, ◌≤◌, ◌^◌, length}
 use Rattle.kb_logic.specs.Views.{theory_view}
 use Rattle.partial_structures.specs.Consistency.{KnowsMore}
 use Rattle.quantifier_bounds.specs.Fits.{TheoryFits}
-use Rattle.quantifier_bounds.specs.Passes.{ObeysTheory}
+use Rattle.refinement.specs.Passes.{ObeysTheory}
 use Rattle.quantifier_bounds.specs.Steps.{IsSound, unknown_atoms}
-use Rattle.quantifier_bounds.proofs.refinement.narrow.Given as goal
+use Rattle.refinement.proofs.passes.narrow.Given as goal
 
 -- what the theory fixes alone was made known
 abbrev pub invariant-passes : goal.invariant-passes
