@@ -1,5 +1,5 @@
 //! Why a file is refused, and what makes it too large.
-ghost use Rattle.std.specs.Prelude.{◌≤◌, ◌^◌, length, map};
+ghost use Rattle.std.specs.Prelude.{map};
 ghost use Rattle.std.specs.List.{AllByRecursion};
 ghost use Rattle.kb_sizes.specs.Counted.{IsCountable};
 ghost use Rattle.open_sizes.specs.Fits.{WeighingFits};
@@ -22,7 +22,6 @@ use open_sizes::laws::small_bases_fit;
 use partial_structures::Partial;
 use std::alloc::{AllocError as Memory, Global};
 use structure_reader::read_data;
-use typing_laws::derived_is_well_formed;
 
 /// The greatest weight of a knowledge base whose data are not narrowed: of others, what is left open may be refused.
 const OPEN_LIMIT: u64 = 4_000_000;
@@ -97,8 +96,7 @@ fn open_lines(
     known: &Partial,
     weight: u64,
 ) -> Result<Vec<u8>, Memory>
-    requires few { length known.now.symbols ≤ 2 ^ 32 }
-    requires fits { WeighingFits known.now (theory_at (typed_view file.now.kb) file.now.picked.theory)
+    requires { WeighingFits known.now (theory_at (typed_view file.now.kb) file.now.picked.theory)
         (map (λ t. t.term) (map named_term_view file.now.kb.terms)) }
 {
     let parts = weights_in(alloc, file, &Domains::listed(known.domains()))?;
@@ -131,8 +129,7 @@ fn left_open(
     known: &Partial,
     weight: u64,
 ) -> Result<Option<Refusal>, Memory>
-    requires few { length known.now.symbols ≤ 2 ^ 32 }
-    requires fits { WeighingFits known.now (theory_at (typed_view file.now.kb) file.now.picked.theory)
+    requires { WeighingFits known.now (theory_at (typed_view file.now.kb) file.now.picked.theory)
         (map (λ t. t.term) (map named_term_view file.now.kb.terms)) }
 {
     let Some(place) = file.kb.places.theories.get(file.picked.theory) else {
@@ -155,7 +152,6 @@ fn explained_over(alloc: Global, bytes: &[u8], file: &TypedFile) -> Result<Optio
 {
     accepted_can_be_grounded();
     accepted_is_bounded();
-    derived_is_well_formed();
     small_bases_fit();
     let Some(structure) = file.raw.structures.as_slice().get(file.picked.structure) else {
         return Ok(None);

@@ -9,7 +9,6 @@ mod lines;
 mod numbers;
 mod open;
 mod parts;
-mod pieces;
 mod reading;
 
 pub use explaining::{Refusal, explained};

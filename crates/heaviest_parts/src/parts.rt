@@ -28,7 +28,8 @@ pub struct Part {
 /// How often an occurrence weighs more than a ground atom.
 const WEIGHT_OF_OCCURRENCE: u64 = 4;
 
-fn weighed(piece: Piece, place: usize, occurrences: u64) -> Part {
+/// A part with its weight by its occurrences.
+pub fn weighed(piece: Piece, place: usize, occurrences: u64) -> Part {
     Part {
         piece,
         place,

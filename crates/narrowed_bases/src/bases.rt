@@ -16,7 +16,8 @@ use crate::narrowings::Narrowing;
 use crate::theories::{open_weight_at, theory_of, weight_at};
 use open_sizes::laws::{open_is_less, small_bases_fit};
 use partial_structures::Partial;
-use quantifier_bounds::{BoundFault, refine};
+use quantifier_bounds::BoundFault;
+use refinement::refine;
 use std::alloc::Global;
 use type_derivation::TypedKb;
 
@@ -24,7 +25,12 @@ use type_derivation::TypedKb;
 const OPEN_LIMIT: u64 = 4_000_000;
 
 /// The narrowed data, where what they leave open is within its limit.
-fn weighed(kb: &TypedKb, theory: usize, known: Partial) -> Result<Narrowing, NarrowError>
+fn weighed(
+    alloc: Global,
+    kb: &TypedKb,
+    theory: usize,
+    known: Partial,
+) -> Result<Narrowing, NarrowError>
     requires theory { theory < length kb.now.theories }
     requires few { length known.symbols ≤ 2 ^ 32 }
     requires fits { WeighingFits known (theory_at (typed_view kb.now) theory)
@@ -34,7 +40,7 @@ fn weighed(kb: &TypedKb, theory: usize, known: Partial) -> Result<Narrowing, Nar
     ensures heavy { IfErr result (λ e. (e ≡ TooLarge)
         × (open_limit < open_weight (base_of_file (typed_view kb.now) theory known) known)) }
 {
-    if open_weight_at(kb, theory, &known) > OPEN_LIMIT {
+    if open_weight_at(alloc, kb, theory, &known) > OPEN_LIMIT {
         return Err(NarrowError::TooLarge);
     }
     Ok(Narrowing::Narrowed(known))
@@ -65,7 +71,7 @@ pub fn narrow(
         return Ok(Narrowing::Plain);
     }
     match refine(alloc, theory_of(kb, theory), known) {
-        Ok(narrowed) => weighed(kb, theory, narrowed),
+        Ok(narrowed) => weighed(alloc, kb, theory, narrowed),
         Err(BoundFault::Contradiction) => Ok(Narrowing::Contradiction),
         Err(BoundFault::Memory) => Err(NarrowError::Memory),
     }

@@ -12,6 +12,7 @@ use kb_logic::Theory;
 use kb_sizes::weight;
 use open_sizes::open_weight;
 use partial_structures::Partial;
+use std::alloc::Global;
 use type_derivation::TypedKb;
 
 /// The theory with this number.
@@ -36,7 +37,7 @@ pub fn weight_at(kb: &TypedKb, theory: usize, known: &Partial) -> u64
 }
 
 /// The weight of what is open of them where this is known, or the greatest number of 64 bits.
-pub fn open_weight_at(kb: &TypedKb, theory: usize, known: &Partial) -> u64
+pub fn open_weight_at(alloc: Global, kb: &TypedKb, theory: usize, known: &Partial) -> u64
     requires theory { theory < length kb.now.theories }
     requires few { length known.now.symbols ≤ 2 ^ 32 }
     requires fits { WeighingFits known.now (theory_at (typed_view kb.now) theory)
@@ -44,5 +45,11 @@ pub fn open_weight_at(kb: &TypedKb, theory: usize, known: &Partial) -> u64
     ensures { result
         ≡ capped (weight_of_open (base_of_file (typed_view kb.now) theory known.now) known.now) }
 {
-    open_weight(&kb.vocab, known, theory_of(kb, theory), kb.terms.as_slice())
+    open_weight(
+        alloc,
+        &kb.vocab,
+        known,
+        theory_of(kb, theory),
+        kb.terms.as_slice(),
+    )
 }

@@ -1,4 +1,5 @@
 pub mod OpenWeights
+pub mod Weighings
 pub mod Atoms
 pub mod Fits
 pub mod Laws

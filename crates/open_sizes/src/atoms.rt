@@ -7,7 +7,7 @@ ghost use Rattle.quantifier_bounds.specs.Steps.{unknown_atoms};
 ghost use Rattle.open_sizes.specs.Atoms.{open_in_symbol, open_in_tuples, open_in_values};
 ghost use Rattle.open_sizes.specs.OpenWeights.{where_open};
 
-use crate::setting::is_open;
+use crate::connectives::is_open;
 use kb_logic::Symbol;
 use kb_logic::values::{domain_in, elem_value};
 use kb_sizes::capped::plus;

@@ -1,7 +1,7 @@
 //! The weight of what is open in a theory and in the terms that may be asked for.
 ghost use Rattle.std.specs.Prelude.{◌≡◌, ◌≤◌, ◌^◌, [], length, map, sum_by};
 ghost use Rattle.std.specs.List.{AllByRecursion};
-ghost use Rattle.kb_logic.specs.Views.{definition_view, formula_view, rule_view, theory_view};
+ghost use Rattle.kb_logic.specs.Views.{definition_view, formula_view, rule_view, term_view, theory_view};
 ghost use Rattle.kb_logic.specs.Trees.{DefinitionTree};
 ghost use Rattle.certain_truth.specs.KnownArithmetic.{CertaintyFits, ValueFits};
 ghost use Rattle.reading_stages.specs.SizesStage.{capped};
@@ -11,57 +11,59 @@ ghost use Rattle.open_sizes.specs.OpenWeights.{open_in_asked, open_in_body, open
 ghost use Rattle.open_sizes.specs.OpenWeights.{open_occurrences, open_weight_of};
 
 use crate::atoms::unknown;
-use crate::occurrences::{in_asked, in_instances, in_sentence};
+use crate::occurrences::in_asked;
+use crate::outermost::{in_instances, in_sentence};
 use crate::setting::{Setting, choices_of};
 use kb_logic::{Definition, Formula, Rule, Term, Theory, Vocabulary};
 use kb_sizes::capped::{plus, times};
 use partial_structures::Partial;
+use std::alloc::Global;
 use type_derivation::Named;
 
-fn sentences(setting: Setting<'_>, all: &[Formula]) -> u64
+fn sentences(alloc: Global, setting: Setting<'_>, all: &[Formula]) -> u64
     requires { AllByRecursion (λ f. CertaintyFits setting.known.now f []) (map formula_view all.now) }
     ensures { result ≡ capped (sum_by (λ f. open_occurrences setting.entry.vocabulary.now setting.entry.known.now f [])
         (map formula_view all.now)) }
 {
     let mut count = 0u64;
     for one in all {
-        count = plus(count, in_sentence(setting, one));
+        count = plus(count, in_sentence(alloc, setting, one));
     }
     count
 }
 
-fn body(setting: Setting<'_>, rule: &Rule) -> u64
+fn body(alloc: Global, setting: Setting<'_>, rule: &Rule) -> u64
     requires { BodyFits setting.known.now (rule_view rule.now) }
     ensures { result ≡ capped (open_in_body setting.entry.vocabulary.now setting.entry.known.now (rule_view rule.now)) }
 {
     if rule.has_body {
-        in_instances(setting, rule.vars.as_slice(), &rule.body)
+        in_instances(alloc, setting, rule.vars.as_slice(), &rule.body)
     } else {
         0
     }
 }
 
-fn in_rule(setting: Setting<'_>, rule: &Rule) -> u64
+fn in_rule(alloc: Global, setting: Setting<'_>, rule: &Rule) -> u64
     requires { BodyFits setting.known.now (rule_view rule.now) }
     ensures { result ≡ capped (open_in_rule setting.entry.vocabulary.now setting.entry.known.now (rule_view rule.now)) }
 {
     let heads = choices_of(setting, rule.vars.as_slice());
-    plus(plus(1, heads), body(setting, rule))
+    plus(plus(1, heads), body(alloc, setting, rule))
 }
 
-fn rules(setting: Setting<'_>, all: &[Rule]) -> u64
+fn rules(alloc: Global, setting: Setting<'_>, all: &[Rule]) -> u64
     requires { AllByRecursion (BodyFits setting.known.now) (map rule_view all.now) }
     ensures { result ≡ capped (sum_by (open_in_rule setting.entry.vocabulary.now setting.entry.known.now)
         (map rule_view all.now)) }
 {
     let mut count = 0u64;
     for one in all {
-        count = plus(count, in_rule(setting, one));
+        count = plus(count, in_rule(alloc, setting, one));
     }
     count
 }
 
-fn definitions(setting: Setting<'_>, all: &[Definition]) -> u64
+fn definitions(alloc: Global, setting: Setting<'_>, all: &[Definition]) -> u64
     requires { AllByRecursion (λ d. AllByRecursion (BodyFits setting.known.now) d.rules)
         (map definition_view all.now) }
     ensures { result ≡ capped (sum_by (open_in_definition setting.entry.vocabulary.now setting.entry.known.now)
@@ -69,7 +71,7 @@ fn definitions(setting: Setting<'_>, all: &[Definition]) -> u64
 {
     let mut count = 0u64;
     for one in all {
-        count = plus(count, rules(setting, one.rules.as_slice()));
+        count = plus(count, rules(alloc, setting, one.rules.as_slice()));
     }
     count
 }
@@ -86,11 +88,48 @@ fn asked(setting: Setting<'_>, all: &[Named<Term>]) -> u64
     count
 }
 
+/// The open occurrences in a sentence, or the greatest number of 64 bits.
+pub fn open_in_sentence(
+    alloc: Global,
+    vocabulary: &Vocabulary,
+    known: &Partial,
+    sentence: &Formula,
+) -> u64
+    requires { CertaintyFits known.now (formula_view sentence.now) [] }
+    ensures { result ≡ capped (open_occurrences vocabulary.now known.now (formula_view sentence.now) []) }
+{
+    in_sentence(alloc, Setting { vocabulary, known }, sentence)
+}
+
+/// The open occurrences in a definition, or the greatest number of 64 bits.
+pub fn open_in_definition(
+    alloc: Global,
+    vocabulary: &Vocabulary,
+    known: &Partial,
+    definition: &Definition,
+) -> u64
+    requires { AllByRecursion (BodyFits known.now) (map rule_view definition.now.rules) }
+    ensures { result ≡ capped (open_in_definition vocabulary.now known.now (definition_view definition.now)) }
+{
+    let setting = Setting { vocabulary, known };
+    rules(alloc, setting, definition.rules.as_slice())
+}
+
+/// The open occurrences in a term that may be asked for, or the greatest number of 64 bits.
+pub fn open_in_asked(vocabulary: &Vocabulary, known: &Partial, term: &Term) -> u64
+    requires { ValueFits known.now (term_view term.now) [] }
+    ensures { result ≡ capped (open_in_asked vocabulary.now known.now (term_view term.now)) }
+{
+    in_asked(Setting { vocabulary, known }, term)
+}
+
 /// The weight of what is open in the theory and in the terms that may be asked for, where this is known of the
-/// atoms: at most the greatest number of 64 bits. It takes no memory.
+/// atoms: at most the greatest number of 64 bits. Memory is taken for the rows of known tables alone; where there is
+/// none, all instances are walked.
 ///
 /// The vocabulary is the one over whose atoms it is known.
 pub fn open_weight(
+    alloc: Global,
     vocabulary: &Vocabulary,
     known: &Partial,
     theory: &Theory,
@@ -102,8 +141,8 @@ pub fn open_weight(
         (map named_term_view terms.now))) }
 {
     let setting = Setting { vocabulary, known };
-    let in_sentences = sentences(setting, theory.sentences.as_slice());
-    let in_definitions = definitions(setting, theory.definitions.as_slice());
+    let in_sentences = sentences(alloc, setting, theory.sentences.as_slice());
+    let in_definitions = definitions(alloc, setting, theory.definitions.as_slice());
     let in_terms = asked(setting, terms);
     let all = plus(plus(in_sentences, in_definitions), in_terms);
     plus(unknown(known), times(4, all))

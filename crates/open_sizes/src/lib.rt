@@ -3,9 +3,12 @@
 
 mod atoms;
 mod bases;
+mod connectives;
 pub mod examples;
 pub mod laws;
 mod occurrences;
+mod outermost;
 mod setting;
+mod weighed;
 
-pub use bases::open_weight;
+pub use bases::{open_in_asked, open_in_definition, open_in_sentence, open_weight};

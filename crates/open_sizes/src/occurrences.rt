@@ -1,18 +1,26 @@
-//! The open occurrences in formulas and terms.
-ghost use Rattle.std.specs.Prelude.{◌≡◌, ◌+◌, ◌++◌, [], fold, map, sum_by};
+//! What is certain of formulas, and the open occurrences in them and in terms, in one walk.
+ghost use Rattle.std.specs.Prelude.{◌≡◌, ◌+◌, ◌++◌, [], false, fold, map, sum_by};
 ghost use Rattle.std.specs.List.{AllByRecursion};
 ghost use Rattle.kb_logic.specs.Structures.{choices};
 ghost use Rattle.kb_logic.specs.Trees.{formulas_of, summands_of, terms_of};
 ghost use Rattle.kb_logic.specs.Views.{formula_view, signed_view, term_view};
+ghost use Rattle.kb_logic.specs.Weights.{applications_count};
 ghost use Rattle.plain_evaluation.specs.Environments.{env_view};
+ghost use Rattle.certain_truth.specs.Certainty.{certain_truth};
+ghost use Rattle.certain_truth.specs.Evaluation.{parts_of};
+ghost use Rattle.certain_truth.specs.Evaluation.{joined as joined_truth};
 ghost use Rattle.certain_truth.specs.KnownArithmetic.{CertaintyFits, OperandsFit, PartsFit, ValueFits, ValuesFit};
 ghost use Rattle.reading_stages.specs.SizesStage.{capped};
-ghost use Rattle.open_sizes.specs.OpenWeights.{open_in_asked, open_in_parts, open_in_summands};
-ghost use Rattle.open_sizes.specs.OpenWeights.{open_in_term, open_in_terms, open_occurrences};
+ghost use Rattle.open_sizes.specs.OpenWeights.{open_in_asked, open_in_parts, open_in_summands, open_in_term};
+ghost use Rattle.open_sizes.specs.OpenWeights.{open_in_terms, open_occurrences, where_open};
+ghost use Rattle.open_sizes.specs.Weighings.{is_all, is_over, IsWeighed};
 
-use crate::setting::{Setting, all_applications, applications, choices_of, is_certain, is_known};
+use crate::connectives::{Joining, is_false, is_open, is_over};
+use crate::setting::{Setting, all_applications, applications, certain_in, choices_of, is_known};
+use crate::weighed::{Weighed, certain, denied, equated, implied, joined, none_yet, settled};
 use kb_logic::{Bound, Formula, Signed, Term};
 use kb_sizes::capped::{plus, times};
+use partial_structures::Truth;
 use plain_evaluation::environments::{Env, extend, split_in};
 
 /// The open occurrences in a term.
@@ -84,7 +92,8 @@ fn gathered<'a>(
         (choices setting.entry.known.now.domains bounds.now) }
 {
     if bounds.is_empty() {
-        let more = plus(formula(setting, condition, env), term(setting, weight, env));
+        let condition = formula(setting, condition, env);
+        let more = plus(condition.count, term(setting, weight, env));
         return plus(before, more);
     }
     let (block, others) = split_in(setting.known.domains().as_slice(), bounds);
@@ -96,99 +105,162 @@ fn gathered<'a>(
     count
 }
 
-/// The open occurrences in a formula.
+/// What is certain of a formula, and its open occurrences.
 #[cycle(occurrences)]
-fn formula<'a>(setting: Setting<'a>, of: &'a Formula, env: &'a Env<'a>) -> u64
+pub(crate) fn formula<'a>(setting: Setting<'a>, of: &'a Formula, env: &'a Env<'a>) -> Weighed
     requires { CertaintyFits setting.known.now (formula_view of.now) (env_view env.now) }
-    ensures { result ≡ capped (open_occurrences setting.entry.vocabulary.now setting.entry.known.now
-        (formula_view of.now) (env_view env.now)) }
+    ensures { IsWeighed setting.entry.vocabulary.now setting.entry.known.now (formula_view of.now) (env_view env.now)
+        result }
 {
-    if is_certain(setting, of, env) {
-        return 0;
-    }
     match of {
-        Formula::True => 0,
-        Formula::False => 0,
-        Formula::Atom(_, args) => plus(all_applications(setting, args), terms(setting, args, env)),
+        Formula::True => certain(Truth::Yes),
+        Formula::False => certain(Truth::No),
+        Formula::Atom(_, args) => atom(setting, certain_in(setting, of, env), args, env),
         Formula::Compare(_, left, right) => {
+            let truth = certain_in(setting, of, env);
+            if !is_open(truth) {
+                return certain(truth);
+            }
             let own = times(applications(setting, left), applications(setting, right));
-            plus(
+            let sides = plus(
                 plus(own, term(setting, left, env)),
                 term(setting, right, env),
-            )
+            );
+            Weighed {
+                truth,
+                count: sides,
+            }
         }
-        Formula::Not(inner) => plus(1, formula(setting, inner, env)),
-        Formula::And(parts) => plus(1, formulas(setting, parts, env)),
-        Formula::Or(parts) => plus(1, formulas(setting, parts, env)),
+        Formula::Not(inner) => denied(formula(setting, inner, env)),
+        Formula::And(parts) => settled(formulas(setting, Joining::Conjunction, parts, env)),
+        Formula::Or(parts) => settled(formulas(setting, Joining::Disjunction, parts, env)),
         Formula::Implies(left, right) => {
-            let first = plus(1, formula(setting, left, env));
-            plus(first, formula(setting, right, env))
+            let first = formula(setting, left, env);
+            if is_false(first.truth) {
+                return certain(Truth::Yes);
+            }
+            implied(first, formula(setting, right, env))
         }
         Formula::Iff(left, right) => {
-            let first = plus(1, formula(setting, left, env));
-            plus(first, formula(setting, right, env))
+            let first = formula(setting, left, env);
+            equated(first, formula(setting, right, env))
         }
-        Formula::All(bounds, inner) => instances(setting, bounds, inner, env, 1),
-        Formula::Any(bounds, inner) => instances(setting, bounds, inner, env, 1),
-        Formula::Number(_, _, bounds, inner) => instances(setting, bounds, inner, env, 1),
+        Formula::All(bounds, inner) => {
+            let before = none_yet(Joining::Conjunction);
+            settled(instances(setting, Joining::Conjunction, bounds, inner, env, before))
+        }
+        Formula::Any(bounds, inner) => {
+            let before = none_yet(Joining::Disjunction);
+            settled(instances(setting, Joining::Disjunction, bounds, inner, env, before))
+        }
+        Formula::Number(_, _, bounds, inner) => {
+            numbered(setting, certain_in(setting, of, env), bounds, inner, env)
+        }
     }
 }
 
+/// Of an atom of which so much is certain.
 #[cycle(occurrences)]
-fn formulas<'a>(setting: Setting<'a>, all: &'a [Formula], env: &'a Env<'a>) -> u64
-    requires { PartsFit setting.known.now (formulas_of (map formula_view all.now)) (env_view env.now) }
-    ensures { result ≡ capped (open_in_parts setting.entry.vocabulary.now setting.entry.known.now
-        (formulas_of (map formula_view all.now)) (env_view env.now)) }
+fn atom<'a>(setting: Setting<'a>, truth: Truth, args: &'a [Term], env: &'a Env<'a>) -> Weighed
+    requires { ValuesFit setting.known.now (terms_of (map term_view args.now)) (env_view env.now) }
+    ensures truth { result.truth ≡ truth }
+    ensures count { result.count ≡ capped (where_open truth (applications_count setting.entry.vocabulary.now
+        setting.entry.known.now.domains (terms_of (map term_view args.now)) + open_in_terms
+        setting.entry.vocabulary.now setting.entry.known.now (terms_of (map term_view args.now)) (env_view env.now))) }
 {
-    let mut count = 0u64;
-    for one in all {
-        count = plus(count, formula(setting, one, env));
+    if !is_open(truth) {
+        return certain(truth);
     }
-    count
+    let count = plus(all_applications(setting, args), terms(setting, args, env));
+    Weighed { truth, count }
 }
 
-/// The open occurrences in a formula under each assignment, more than before.
+/// Of a number quantifier of which so much is certain.
 #[cycle(occurrences)]
-fn instances<'a>(
+fn numbered<'a>(
     setting: Setting<'a>,
+    truth: Truth,
     bounds: &'a [Bound],
     of: &'a Formula,
     env: &'a Env<'a>,
-    before: u64,
-) -> u64
+) -> Weighed
     requires { AllByRecursion (λ a. CertaintyFits setting.known.now (formula_view of.now) (env_view env.now ++ a))
         (choices setting.known.now.domains bounds.now) }
-    ensures { result ≡ fold (λ n a. capped (n + open_occurrences setting.entry.vocabulary.now setting.entry.known.now
-        (formula_view of.now) (env_view env.now ++ a))) before (choices setting.entry.known.now.domains bounds.now) }
+    ensures truth { result.truth ≡ truth }
+    ensures count { result.count ≡ capped (where_open truth (1 + sum_by (λ a. open_occurrences
+        setting.entry.vocabulary.now setting.entry.known.now (formula_view of.now) (env_view env.now ++ a))
+        (choices setting.entry.known.now.domains bounds.now))) }
+{
+    if !is_open(truth) {
+        return certain(truth);
+    }
+    let before = none_yet(Joining::Survey);
+    let all = instances(setting, Joining::Survey, bounds, of, env, before);
+    Weighed {
+        truth,
+        count: all.count,
+    }
+}
+
+/// Of parts of a conjunction or a disjunction, up to one that settles it.
+#[cycle(occurrences)]
+fn formulas<'a>(
+    setting: Setting<'a>,
+    joining: Joining,
+    all: &'a [Formula],
+    env: &'a Env<'a>,
+) -> Weighed
+    requires { PartsFit setting.known.now (formulas_of (map formula_view all.now)) (env_view env.now) }
+    ensures truth { result.truth ≡ parts_of (is_all joining) setting.entry.known.now
+        (formulas_of (map formula_view all.now)) (env_view env.now) }
+    ensures count { is_over joining result.truth ≡ false → result.count ≡ capped (1 + open_in_parts
+        setting.entry.vocabulary.now setting.entry.known.now (formulas_of (map formula_view all.now))
+        (env_view env.now)) }
+{
+    let mut so_far = none_yet(joining);
+    for one in all {
+        if is_over(joining, so_far.truth) {
+            return so_far;
+        }
+        so_far = joined(joining, so_far, formula(setting, one, env));
+    }
+    so_far
+}
+
+/// Of the formula under each assignment, more than before, up to one that settles it.
+#[cycle(occurrences)]
+pub(crate) fn instances<'a>(
+    setting: Setting<'a>,
+    joining: Joining,
+    bounds: &'a [Bound],
+    of: &'a Formula,
+    env: &'a Env<'a>,
+    before: Weighed,
+) -> Weighed
+    requires fits { AllByRecursion (λ a. CertaintyFits setting.known.now (formula_view of.now) (env_view env.now ++ a))
+        (choices setting.known.now.domains bounds.now) }
+    requires small { before.count ≡ capped before.count }
+    ensures truth { result.truth ≡ fold (λ t a. joined_truth (is_all joining) t (certain_truth
+        setting.entry.known.now (formula_view of.now) (env_view env.now ++ a))) before.truth
+        (choices setting.entry.known.now.domains bounds.now) }
+    ensures count { is_over joining result.truth ≡ false → result.count ≡ fold (λ n a. capped (n + open_occurrences
+        setting.entry.vocabulary.now setting.entry.known.now (formula_view of.now) (env_view env.now ++ a)))
+        before.count (choices setting.entry.known.now.domains bounds.now) }
+    ensures small { result.count ≡ capped result.count }
 {
     if bounds.is_empty() {
-        return plus(before, formula(setting, of, env));
+        return joined(joining, before, formula(setting, of, env));
     }
     let (block, others) = split_in(setting.known.domains().as_slice(), bounds);
-    let mut count = before;
+    let mut so_far = before;
     for number in 0..block.count {
-        count = instances(setting, others, of, &extend(env, block, number), count);
+        if is_over(joining, so_far.truth) {
+            return so_far;
+        }
+        let inner = extend(env, block, number);
+        so_far = instances(setting, joining, others, of, &inner, so_far);
     }
-    count
-}
-
-/// The open occurrences in a sentence.
-pub(crate) fn in_sentence<'a>(setting: Setting<'a>, of: &'a Formula) -> u64
-    requires { CertaintyFits setting.known.now (formula_view of.now) [] }
-    ensures { result ≡ capped (open_occurrences setting.entry.vocabulary.now setting.entry.known.now
-        (formula_view of.now) []) }
-{
-    formula(setting, of, &Env::Given(&[]))
-}
-
-/// The open occurrences in a formula under all assignments of its variables.
-pub(crate) fn in_instances<'a>(setting: Setting<'a>, bounds: &'a [Bound], of: &'a Formula) -> u64
-    requires { AllByRecursion (CertaintyFits setting.known.now (formula_view of.now))
-        (choices setting.known.now.domains bounds.now) }
-    ensures { result ≡ capped (sum_by (open_occurrences setting.entry.vocabulary.now setting.entry.known.now
-        (formula_view of.now)) (choices setting.entry.known.now.domains bounds.now)) }
-{
-    instances(setting, bounds, of, &Env::Given(&[]), 0)
+    so_far
 }
 
 /// The open occurrences in a term that may be asked for.

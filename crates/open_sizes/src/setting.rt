@@ -1,5 +1,5 @@
 //! What is weighed over, and what is asked of it.
-ghost use Rattle.std.specs.Prelude.{◌≡◌, length, map, not, is_some};
+ghost use Rattle.std.specs.Prelude.{◌≡◌, length, map, is_some};
 ghost use Rattle.kb_logic.specs.Structures.{choices};
 ghost use Rattle.kb_logic.specs.Trees.{terms_of};
 ghost use Rattle.kb_logic.specs.Views.{formula_view, term_view};
@@ -8,7 +8,6 @@ ghost use Rattle.plain_evaluation.specs.Environments.{env_view};
 ghost use Rattle.certain_truth.specs.Certainty.{certain_truth, known_value};
 ghost use Rattle.certain_truth.specs.KnownArithmetic.{CertaintyFits, ValueFits};
 ghost use Rattle.reading_stages.specs.SizesStage.{capped};
-ghost use Rattle.quantifier_bounds.specs.Steps.{is_unknown};
 
 use certain_truth::{certain_formula, known_term};
 use kb_logic::{Bound, Formula, Term, Vocabulary};
@@ -25,22 +24,12 @@ pub(crate) struct Setting<'a> {
     pub known: &'a Partial,
 }
 
-pub(crate) fn is_open(truth: Truth) -> bool
-    ensures { result ≡ is_unknown truth }
-{
-    match truth {
-        Truth::Unknown => true,
-        _ => false,
-    }
-}
-
-/// Whether the formula is certain.
-pub(crate) fn is_certain<'a>(setting: Setting<'a>, of: &'a Formula, env: &'a Env<'a>) -> bool
+/// What is certain of the formula.
+pub(crate) fn certain_in<'a>(setting: Setting<'a>, of: &'a Formula, env: &'a Env<'a>) -> Truth
     requires { CertaintyFits setting.known.now (formula_view of.now) (env_view env.now) }
-    ensures { is_unknown (certain_truth setting.entry.known.now (formula_view of.now) (env_view env.now))
-        ≡ not result }
+    ensures { result ≡ certain_truth setting.entry.known.now (formula_view of.now) (env_view env.now) }
 {
-    !is_open(certain_formula(&*setting.known, &*of, &*env))
+    certain_formula(&*setting.known, &*of, &*env)
 }
 
 /// Whether the term's value is known.

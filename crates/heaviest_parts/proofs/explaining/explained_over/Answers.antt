@@ -1,4 +1,4 @@
-use Rattle.std.proofs.Common.{length, map, [], ap, arith}
+use Rattle.std.proofs.Common.{map, []}
 use Rattle.kb_logic.specs.Bounds.{TermIsBounded}
 use Rattle.fo_syntax.specs.BlockView.{structure_view}
 use Rattle.reading_stages.specs.FileBases.{base_of_file, theory_at}
@@ -10,20 +10,8 @@ use Rattle.file_bases.specs.FileLaws.{IsBoundedBase}
 use Rattle.heaviest_parts.proofs.Fits.{asked_of}
 use Rattle.heaviest_parts.proofs.explaining.explained_over.Goals as goal
 
-pub left_open-requires-clause-few : goal.left_open-requires-clause-few
-left_open-requires-clause-few c =
-    let is = c.requires in
-    let f = typed_view c.args.file.now.kb in
-    let theory = c.args.file.now.picked.theory in
-    let ground : IsGroundTheory (base_of_file f theory c.in-Ok.known) =
-    c.accepted_can_be_grounded.ensures is.0 is.1 f is.2 is.3 theory (structure_view c.in-Some.structure.now)
-    c.in-Ok.known c.in-Ok.ensures.ok.given in
-    let same = ap length ground.known.symbols in
-    let few = (c.derived_is_well_formed.ensures is.0 is.1 f is.2 is.3).few_symbols in
-    omega (arith, same, few)
-
-pub left_open-requires-clause-fits : goal.left_open-requires-clause-fits
-left_open-requires-clause-fits c =
+pub left_open-requires : goal.left_open-requires
+left_open-requires c =
     let is = c.requires in
     let kb = c.args.file.now.kb in
     let f = typed_view kb in
