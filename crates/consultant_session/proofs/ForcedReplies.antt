@@ -14,7 +14,8 @@ use Rattle.claimed_replies.specs.Claims.{AreForcedOver}
 use Rattle.consultant_session.proofs.FoundLemmas.{choices_over}
 use Rattle.consultant_session.proofs.LiteralsOver.{some_over}
 
-module _ (kb : Base) (numbers : GroundBase) (p : ProblemState) (is : IsTaskOf kb numbers p) (s : State) (c : Command) where
+module _ (kb : Base) (numbers : GroundBase) (p : ProblemState) (is : IsTaskOf kb numbers p) (s : State)
+    (c : Command) where
   of_answer : (r : Reply) → RightAnswer kb s c r → AreForcedOver numbers r
   of_answer (reply.Forced ls) right = choices_over kb numbers p ls is (some_over kb ls right.1.order)
   of_answer r right = tt

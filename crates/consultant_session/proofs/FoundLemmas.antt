@@ -1,11 +1,10 @@
--- What a task answers is what a query finds.
-use Rattle.std.proofs.Common.{List, [], ◌∷◌, sym, subst, inl, inr, Result, Ok, Err, IfOk}
+-- Choices over the knowledge base, and some of them.
+use Rattle.std.proofs.Common.{List, [], ◌∷◌, sym, subst, inl, inr}
 use Rattle.std.specs.List.{AllByRecursion}
 use Rattle.std.proofs.lemmas.List.Elements.{All-from_recursion}
 use Rattle.kb_logic.specs.declared.structures.Literal.{Literal}
-use Rattle.kb_logic.specs.declared.structures.Structure.{Structure}
-use Rattle.kb_logic.specs.Bases.{Base, IsModelUnder}
-use Rattle.kb_logic.specs.Models.{HoldsIn, IsAtomOver, atom_of}
+use Rattle.kb_logic.specs.Bases.{Base}
+use Rattle.kb_logic.specs.Models.{IsAtomOver, atom_of}
 use Rattle.kb_logic.proofs.Atoms.{elements_tuple}
 use Rattle.ground_core.specs.Problems.{ProblemState}
 use Rattle.ground_core.specs.Solving.{IsSublist}
@@ -13,12 +12,6 @@ use Rattle.term_values.specs.GroundBases.{GroundBase}
 use Rattle.ground_task.specs.Choices.{AreOver}
 use Rattle.consult_text.specs.Literals.{IsLiteralOver}
 use Rattle.ground_task.specs.Tasks.{IsTaskOf}
-
--- what two facts say of what was found
-pub if_ok : {A E : Type 0} {P Q R : A → Type 0} (r : Result A E) → ((x : A) → P x → Q x → R x) → IfOk r P
-    → IfOk r Q → IfOk r R
-if_ok (Ok x) f p q = f x p q
-if_ok (Err e) f p q = tt
 
 -- the atom of a literal over the knowledge base is one of its atoms
 pub atom_over : (kb : Base) (l : Literal) → IsLiteralOver kb l
@@ -49,13 +42,3 @@ of_some P [] ys is all = tt
 of_some P (x ∷ xs) [] is all = absurd is
 of_some P (x ∷ xs) (y ∷ ys) (inl is) all = (subst P (sym is.0) all.0, of_some P xs ys is.1 all.1)
 of_some P (x ∷ xs) (y ∷ ys) (inr is) all = of_some P (x ∷ xs) ys is all.1
-
--- a model under the choices is one under some of them
-pub under_some : (kb : Base) (core choices : List Literal) (m : Structure) → IsSublist core choices
-    → IsModelUnder kb choices m → IsModelUnder kb core m
-under_some kb core choices m is model = record {
-  structure = model.structure;
-  extends = model.extends;
-  theory = model.theory;
-  chosen = of_some (HoldsIn m) core choices is model.chosen;
-}

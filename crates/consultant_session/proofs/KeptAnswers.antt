@@ -1,6 +1,5 @@
 -- What is kept of answers and supports stays right as a session goes on.
-use Rattle.std.proofs.Common.{◌≡◌, ℕ, Bool, true, false, not, List, [], ◌∷◌, ◌++◌, All, Option, Some, None, Result, Ok}
-use Rattle.std.proofs.Common.{Err}
+use Rattle.std.proofs.Common.{◌≡◌, ℕ, Bool, true, false, not, List, [], ◌∷◌, ◌++◌, All, Some, None}
 use Rattle.std.proofs.Common.{refl, sym, ◌∙◌, ap, subst, filter, cond, inl, inr, ◌<◌, length, arith, if◌then◌else◌}
 use Rattle.std.specs.List.{Any, AllByRecursion}
 use Rattle.std.proofs.lemmas.Bool.{cases_Bool, false≢true}
@@ -10,8 +9,7 @@ use Rattle.kb_logic.specs.declared.structures.Structure.{Structure}
 use Rattle.kb_logic.specs.Bases.{Base}
 use Rattle.kb_logic.specs.InForce.{HasNoModel, IsModelOf}
 use Rattle.kb_logic.specs.Lists.{IsPrefix, IsSublist}
-use Rattle.kb_logic.specs.Structures.{EachWith}
-use Rattle.kb_logic.proofs.Has.{Has, has_from, contains_from}
+use Rattle.kb_logic.proofs.Has.{Has, contains_from}
 use Rattle.kb_logic.proofs.Members.{one_is_some}
 use Rattle.kb_logic.proofs.Tables.{each_right}
 use Rattle.lit_core.specs.declared.literals.Lit.{Lit}
@@ -33,10 +31,10 @@ use Rattle.consult_text.specs.declared.commands.Command.{Command}
 use Rattle.consult_text.specs.declared.commands.Command.TheVariants as command
 use Rattle.consult_text.specs.declared.replies.Reply.{Reply}
 use Rattle.consult_text.specs.declared.replies.Reply.TheVariants as reply
-use Rattle.consult_text.specs.Replies.{IsQuery, NeedsModel}
+use Rattle.consult_text.specs.Replies.{NeedsModel}
 use Rattle.consult_text.specs.RightReplies.{RightReply, RightUnless, in_force}
-use Rattle.consult_text.specs.States.{State, command_refusal, is_chosen, same_literal, without}
-use Rattle.consultant_session.specs.Queries.{CoversReply, Refutes}
+use Rattle.consult_text.specs.States.{State, is_chosen, same_literal, without}
+use Rattle.session_queries.specs.Queries.{CoversReply, Refutes}
 use Rattle.consultant_session.specs.Sessions.{IsKeptAnswer}
 use Rattle.consultant_session.proofs.StepLemmas.{needs-query, plain}
 

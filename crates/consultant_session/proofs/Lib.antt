@@ -2,8 +2,7 @@ pub mod MemberLemmas
 pub mod ChoiceLemmas
 pub mod KnownLemmas
 pub mod SolverLemmas
-pub mod QueryLemmas
-pub mod MinimumLemmas
+pub mod CommandLemmas
 pub mod OpenLemmas
 pub mod FoundLemmas
 pub mod StepLemmas

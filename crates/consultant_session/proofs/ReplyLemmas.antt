@@ -1,6 +1,6 @@
 -- What is promised of a reply, from what is promised of its parts.
 use Rattle.std.proofs.Common.{◌≡◌, ◌∙◌, ℕ, ◌<◌, List, [], ◌∷◌, All, Option, Some, None, Result, Ok, Err, refl, sym, ap}
-use Rattle.std.proofs.Common.{subst, inl, inr, ◌⊎◌, ⊎_elim, length, get_or, slice_get, IfOk, OnOk, OnErr, suc, arith}
+use Rattle.std.proofs.Common.{subst, inl, inr, ◌⊎◌, length, get_or, slice_get, IfOk, OnOk, OnErr, suc, arith}
 use Rattle.std.proofs.Common.{◌≤◌, not}
 use Rattle.std.specs.List.{AllByRecursion}
 use Rattle.std.specs.declared.alloc.AllocError.{AllocError as Memory}
@@ -35,15 +35,16 @@ use Rattle.consult_text.specs.declared.refusals.F.{F}
 use Rattle.consult_text.specs.Replies.{IsAnswerTo, IsQuery, NeedsModel}
 use Rattle.consult_text.specs.RightReplies.{RightReply, RightUnless, in_force}
 use Rattle.consult_text.specs.States.{State, command_refusal, state_after}
-use Rattle.consultant_session.specs.Queries.{left_by, CoversReply, IsRefused, Refutes, Searches}
+use Rattle.session_queries.specs.Queries.{CoversReply, IsUndecided, Refutes}
+use Rattle.consultant_session.specs.Commands.{left_by, IsRefused, Searches}
 use Rattle.consultant_session.specs.Sessions.{SessionState, Carries, IsKeptAnswer, IsSameButAnswers, Replies}
 use Rattle.consultant_session.specs.Sessions.{TakesMemory}
-use Rattle.consultant_session.specs.Sessions.{SupportsAfter, PropagatesUpTo, IsKeptLast, IsUndecided}
+use Rattle.consultant_session.specs.Sessions.{SupportsAfter, PropagatesUpTo, IsKeptLast}
 use Rattle.consult_base.specs.Opened.{Opened, base_of}
-use Rattle.consultant_session.specs.Solvers.{IsSolverOf}
+use Rattle.session_queries.specs.Solvers.{IsSolverOf}
 use Rattle.consultant_session.proofs.FoundLemmas.{atom_over}
 use Rattle.consultant_session.proofs.KeptAnswers.{answers-grow, none-refused}
-use Rattle.consultant_session.proofs.QueryLemmas.{decides, idle}
+use Rattle.consultant_session.proofs.CommandLemmas.{decides, idle}
 use Rattle.consultant_session.proofs.StepLemmas.{core-refutes, needs-query, plain, right-refusal}
 
 -- a literal over the knowledge base has a number

@@ -1,5 +1,5 @@
 -- The solver that a session keeps, from command to command.
-use Rattle.std.proofs.Common.{◌≡◌, ◌≤◌, ℕ, List, [], ◌∷◌, refl, sym, subst, Some, slice_get}
+use Rattle.std.proofs.Common.{◌≡◌, ℕ, List, [], ◌∷◌, refl, subst, Some, slice_get}
 use Rattle.std.proofs.lemmas.List.Elements.{All-nil}
 use Rattle.kb_logic.specs.Bases.{Base}
 use Rattle.ground_core.specs.Meaning.{RefutesAll}
@@ -7,9 +7,8 @@ use Rattle.ground_core.specs.Moments.{IsMomentOf}
 use Rattle.ground_core.specs.Solving.{SolveState, IsKept}
 use Rattle.ground_task.specs.Tasks.{IsTaskOf}
 use Rattle.term_values.specs.GroundBases.{GroundBase}
-use Rattle.consult_text.specs.Searches.{weight}
 use Rattle.clause_learning.specs.SolverState.{forgotten}
-use Rattle.consultant_session.specs.Solvers.{IsSolverOf, IsTaskOver}
+use Rattle.session_queries.specs.Solvers.{IsSolverOf, IsTaskOver}
 
 none-at : {A : Type 0} (xs : List A) (k : ℕ) (x : A) → xs ≡ [] → slice_get xs k ≡ Some x → ⊥
 none-at [] k x none at = cc
@@ -31,17 +30,7 @@ forgotten-kept s is = record {
   free = is.free;
 }
 
--- so the task of a session stays one
-pub forgotten-over : (kb : Base) (numbers numbers' : GroundBase) (s t : SolveState) → t ≡ forgotten s
-    → (IsTaskOf kb numbers s.problem → IsTaskOf kb numbers' t.problem) → IsTaskOver kb numbers s
-    → IsTaskOver kb numbers' t
-forgotten-over kb numbers numbers' s t same task is = record {
-  task = task is.task;
-  kept = subst IsKept (sym same) (forgotten-kept s is.kept);
-  free = subst (λ (u : SolveState). u.free ≤ weight kb) (sym same) is.free;
-}
-
--- its solver is one of the knowledge base
+-- the solver of a session's task is one of the knowledge base
 pub solver-of : (kb : Base) (numbers : GroundBase) (s : SolveState) → IsTaskOver kb numbers s → IsSolverOf kb s
 solver-of kb numbers s is = record {
   task = subst (λ (b : GroundBase). IsTaskOf kb b s.problem) is.task.numbers is.task;

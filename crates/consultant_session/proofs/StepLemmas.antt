@@ -20,8 +20,8 @@ use Rattle.consult_text.specs.declared.replies.Reply.TheVariants as reply
 use Rattle.consult_text.specs.Replies.{IsQuery, NeedsModel}
 use Rattle.consult_text.specs.RightReplies.{RightReply, RightUnless, in_force}
 use Rattle.consult_text.specs.States.{State, command_refusal, state_after}
-use Rattle.consultant_session.specs.Queries.{left_by, IsRefused, IsNotRefused}
-use Rattle.consultant_session.specs.Solvers.{IsTaskOver}
+use Rattle.consultant_session.specs.Commands.{left_by, IsRefused, IsNotRefused}
+use Rattle.session_queries.specs.Solvers.{IsTaskOver}
 use Rattle.consultant_session.specs.Sessions.{TakesMemory}
 
 pub needs-query : (c : Command) → NeedsModel c → IsQuery c

@@ -12,7 +12,7 @@ use Rattle.consult_text.specs.declared.commands.Command.{Command}
 use Rattle.consult_text.specs.declared.commands.Command.TheVariants as command
 use Rattle.consult_text.specs.declared.replies.Reply.{Reply}
 use Rattle.consult_text.specs.declared.replies.Reply.TheVariants as reply
-use Rattle.consult_text.specs.Replies.{IsQuery, NeedsModel}
+use Rattle.consult_text.specs.Replies.{NeedsModel}
 use Rattle.consult_text.specs.RightReplies.{RightReply}
 use Rattle.consult_text.specs.States.{State, first_state, is_chosen, state_after}
 use Rattle.lit_core.specs.declared.literals.Lit.{Lit}
@@ -27,14 +27,13 @@ use Rattle.kept_answers.specs.Answers.{kept_reply}
 use Rattle.kept_answers.specs.declared.answers.Answered.{Answered}
 use Rattle.found_models.specs.Found.{FoundState}
 use Rattle.found_models.specs.Models.{AreFoundModels}
-use Rattle.consultant_session.specs.Queries.{CoversReply, IsRefusedAtOnce, Refutes, Searches, SearchesUpTo}
-use Rattle.consultant_session.specs.Solvers.{AreUnknownOf, IsTaskOver}
+use Rattle.session_queries.specs.Queries.{CoversReply, Refutes, SearchesUpTo}
+use Rattle.session_queries.specs.Solvers.{AreUnknownOf, IsTaskOver}
+use Rattle.consultant_session.specs.Commands.{IsRefusedAtOnce, Searches}
 
 -- what a session holds: the knowledge base that it was opened on, the state that its commands left, and what is kept
--- from
--- one to the next: the solver, literals that were found forced with choices that force them, and the last answer to
--- each
--- kind of query
+-- from one to the next: the solver, literals that were found forced with choices that force them, and the last answer
+-- to each kind of query
 pub record SessionState : Type 0 where
   pub kb : Opened
   pub state : State
@@ -122,11 +121,6 @@ pub record IsSameButAnswers (old new : SessionState) : Type 0 where
   pub state : new.state ≡ old.state
   pub solver : new.solver ≡ old.solver
   pub supports : new.supports ≡ old.supports
-
--- the reply leaves its query undecided
-abbrev pub IsUndecided : Reply → Type 0
-IsUndecided (reply.Undecided k) = ⊤
-IsUndecided _ = ⊥
 
 -- the reply to a query is kept, unless it stays undecided
 abbrev pub IsKeptLast : List Answered → Command → Reply → Type 0

@@ -3,9 +3,9 @@ ghost use Rattle.std.specs.Prelude.{◌≡◌, All, IfOk, MatchBool, OnOk, OnErr
 ghost use Rattle.consult_text.specs.declared.replies.Reply.{Reply as AReply};
 ghost use Rattle.ground_task.specs.Tasks.{AreRefuted, atom_base};
 ghost use Rattle.consult_text.specs.Replies.{IsQuery, NeedsModel};
-ghost use Rattle.consultant_session.specs.Queries.{CoversReply, IsNotRefused, IsRefused, IsRefusedAtOnce, Refutes};
-ghost use Rattle.consultant_session.specs.Queries.{Searches};
-ghost use Rattle.consultant_session.specs.Solvers.{IsSolverOf};
+ghost use Rattle.session_queries.specs.Queries.{CoversReply, Refutes};
+ghost use Rattle.session_queries.specs.Solvers.{IsSolverOf};
+ghost use Rattle.consultant_session.specs.Commands.{IsNotRefused, IsRefused, IsRefusedAtOnce, Searches};
 ghost use Rattle.consultant_session.specs.Sessions.{AreChoicesOver, IsJustOpened, IsKeptAnswer, IsKeptLast};
 ghost use Rattle.consultant_session.specs.Sessions.{IsRepeated, Replies};
 ghost use Rattle.consultant_session.specs.Sessions.{IsSameButAnswers, PropagatesUpTo, SupportsAfter, TakesMemory};
@@ -20,8 +20,6 @@ mod asking;
 mod changing;
 mod logging;
 
-use crate::commands::{is_query, is_undecided, needs_model};
-use crate::tasks::opened;
 use chooser::Choose;
 use clause_learning::Solver;
 use consult_base::KnowledgeBase;
@@ -33,6 +31,7 @@ use kb_sizes::atoms;
 use kept_answers::KeptAnswers;
 use kept_supports::KeptSupports;
 use lit_core::Lit;
+use session_queries::{is_query, is_undecided, needs_model, opened};
 use std::alloc::Global;
 use std::marker::Model;
 

@@ -84,5 +84,6 @@ answers_more logs kb first number lines line s t old mid new count so_far answer
       subst (Appends old.out new.out) (texts_more kb so_far.0 next)
           (appends_more old.out mid.out new.out _ _ so_far.2 answer.out),
       log_more logs kb first number lines so_far.0 s next old.log mid.log new.log count so_far.1 so_far.3
-          (subst (λ (u : State). GrowsLog logs (IsStatement kb u number next) mid.log new.log) answer.leaves answer.log),
+          (subst (λ (u : State). GrowsLog logs (IsStatement kb u number next) mid.log new.log) answer.leaves
+          answer.log),
     )

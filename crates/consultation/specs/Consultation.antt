@@ -10,7 +10,7 @@ use Rattle.consult_text.specs.declared.replies.Reply.{Reply}
 use Rattle.consult_text.specs.declared.replies.Reply.TheVariants as reply
 use Rattle.consult_text.specs.RightReplies.{RightReply}
 use Rattle.consult_text.specs.States.{State, state_after}
-use Rattle.consultant_session.specs.Queries.{IsSearched}
+use Rattle.consultant_session.specs.Commands.{IsSearched}
 use Rattle.consultation.specs.declared.said.Said.{Said}
 use Rattle.consultation.specs.declared.said.Said.TheVariants as said
 

@@ -6,19 +6,19 @@ ghost use Rattle.consult_text.specs.Literals.{IsLiteralOver};
 ghost use Rattle.consult_text.specs.RightReplies.{RightReply};
 ghost use Rattle.ground_core.specs.Solving.{IsPrefix};
 ghost use Rattle.ground_task.specs.Tasks.{AreRefuted, atom_base};
-ghost use Rattle.consultant_session.specs.Queries.{CoversReply, IsKeptOrNew, Refutes, Searches};
-ghost use Rattle.consultant_session.specs.Queries.{most_additions};
+ghost use Rattle.session_queries.specs.Queries.{CoversReply, Refutes};
+ghost use Rattle.consultant_session.specs.Commands.{IsKeptOrNew, Searches};
+ghost use Rattle.consultant_session.specs.Commands.{most_additions};
 ghost use Rattle.consultant_session.specs.Sessions.{PropagatesUpTo};
-ghost use Rattle.consultant_session.specs.Solvers.{IsSolverOf};
+ghost use Rattle.session_queries.specs.Solvers.{IsSolverOf};
 
 use super::Session;
-use crate::queries::{explain, minimize, model, models, propagate, why};
-use crate::tasks::open_anew;
 use chooser::Choose;
 use consult_text::Reply;
 use forced_literals::Unknown;
 use found_models::models_under;
 use kb_logic::{Literal, Memory};
+use session_queries::{explain, minimize, model, models, open_anew, propagate, why};
 
 /// So many bounds and exclusions stay in the solver's problem.
 const MOST_ADDITIONS: usize = 1_000;

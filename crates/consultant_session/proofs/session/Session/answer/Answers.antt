@@ -1,6 +1,6 @@
 use Rattle.std.proofs.Common.{◌≡◌, Bool, true, MatchBool, rules, subst}
 use Rattle.consult_base.specs.Opened.{base_of}
-use Rattle.consultant_session.specs.Queries.{IsNotRefused, IsRefused}
+use Rattle.consultant_session.specs.Commands.{IsNotRefused, IsRefused}
 use Rattle.consultant_session.proofs.ReplyLemmas.{failure-replies, refusal-replies}
 use Rattle.consultant_session.proofs.session.Session.answer.Goals as goal
 

@@ -1,12 +1,12 @@
-use Rattle.std.proofs.Common.{◌≡◌, ◌∙◌, Ok, rules, refl, sym, ap, subst}
+use Rattle.std.proofs.Common.{◌≡◌, Ok, rules, refl, sym, ap, subst}
 use Rattle.clause_learning.specs.GoingOn.{prefix-itself, prefix-same}
 use Rattle.ground_core.specs.Solving.{SolveState}
 use Rattle.consult_base.specs.Opened.{base_of}
 use Rattle.consult_text.specs.declared.commands.Command.{Command}
 use Rattle.consult_text.specs.declared.commands.Command.TheVariants as command
-use Rattle.consultant_session.specs.Queries.{IsNotRefused}
+use Rattle.consultant_session.specs.Commands.{IsNotRefused}
 use Rattle.consultant_session.specs.Sessions.{Replies}
-use Rattle.consultant_session.specs.Solvers.{IsSolverOf}
+use Rattle.session_queries.specs.Solvers.{IsSolverOf}
 use Rattle.consultant_session.proofs.ReplyLemmas.{change-replies, query-replies, not-forced, on-err, on-ok}
 use Rattle.consultant_session.proofs.SolverLemmas.{forgotten-solver}
 use Rattle.consultant_session.proofs.session.Session.carry_out.Goals as goal

@@ -2,7 +2,7 @@ use Rattle.std.proofs.Common.{ap, sym, subst}
 use Rattle.ground_task.specs.Tasks.{atom_base}
 use Rattle.consult_base.specs.Opened.{base_of}
 use Rattle.consult_text.specs.RightReplies.{RightReply}
-use Rattle.consultant_session.specs.Queries.{CoversReply, Refutes}
+use Rattle.session_queries.specs.Queries.{CoversReply, Refutes}
 use Rattle.consultant_session.specs.Sessions.{SessionState}
 use Rattle.consultant_session.proofs.ReplyLemmas.{answers-after, is-decided, lasts, on-err, on-ok-map, undecided-last}
 use Rattle.consultant_session.proofs.session.Session.keep.Goals as goal

@@ -7,7 +7,7 @@ use Rattle.consult_text.specs.RightReplies.{RightAnswer}
 use Rattle.clause_learning.specs.GoingOn.{prefix-itself}
 use Rattle.consultant_session.proofs.FoundLemmas.{choices_over}
 use Rattle.consultant_session.proofs.KeptAnswers.{answers-stay}
-use Rattle.consultant_session.proofs.QueryLemmas.{still_over, query_searches, refuted_by}
+use Rattle.consultant_session.proofs.CommandLemmas.{still_over, query_searches, refuted_by}
 use Rattle.consultant_session.proofs.session.Session.model.Goals as goal
 
 pub model-requires-clause-task : goal.model-requires-clause-task

@@ -8,12 +8,13 @@ use Rattle.consult_text.specs.RightReplies.{RightAnswer}
 use Rattle.consult_text.specs.States.{State}
 use Rattle.ground_core.specs.Solving.{SolveState}
 use Rattle.ground_task.specs.Tasks.{atom_base}
-use Rattle.consultant_session.specs.Queries.{IsKeptOrNew, Refutes, Searches}
+use Rattle.session_queries.specs.Queries.{Refutes}
+use Rattle.consultant_session.specs.Commands.{IsKeptOrNew, Searches}
 use Rattle.consultant_session.specs.Sessions.{SessionState}
 use Rattle.clause_learning.specs.GoingOn.{prefix-itself}
 use Rattle.consultant_session.proofs.FoundLemmas.{choices_over}
 use Rattle.consultant_session.proofs.KeptAnswers.{answers-stay}
-use Rattle.consultant_session.proofs.QueryLemmas.{idle, left_of, still_over, query_searches, refuted_by}
+use Rattle.consultant_session.proofs.CommandLemmas.{idle, left_of, still_over, query_searches, refuted_by}
 use Rattle.consultant_session.proofs.session.Session.models.Goals as goal
 
 pub returns-in_err-renew-clause-searches : goal.returns-in_err-renew-clause-searches

@@ -1,4 +1,4 @@
-use Rattle.std.proofs.Common.{◌+◌, ◌∙◌, Bool, List, IfOk, All, length, true, inl, map, refl, sym, ap, subst}
+use Rattle.std.proofs.Common.{◌+◌, ◌∙◌, Bool, List, IfOk, All, length, true, inl, map, refl, sym, subst}
 use Rattle.kb_logic.specs.declared.structures.Literal.{Literal}
 use Rattle.kb_logic.specs.InForce.{literal_with}
 use Rattle.lit_core.specs.declared.literals.Lit.{Lit}
@@ -13,11 +13,11 @@ use Rattle.consult_text.specs.declared.commands.Command.TheVariants as command
 use Rattle.consult_text.specs.RightReplies.{RightAnswer}
 use Rattle.kept_supports.specs.Supports.{IsSupported, undecided}
 use Rattle.forced_literals.specs.OpenTasks.{IsOpenTaskOf, IsOpenTaskWith}
-use Rattle.consultant_session.specs.Queries.{CoversReply, SearchesUpTo}
+use Rattle.session_queries.specs.Queries.{CoversReply, SearchesUpTo}
 use Rattle.consultant_session.proofs.FoundLemmas.{choices_over}
 use Rattle.consultant_session.proofs.KeptAnswers.{answers-stay}
 use Rattle.consultant_session.proofs.OpenLemmas.{open-task}
-use Rattle.consultant_session.proofs.QueryLemmas.{idle, still_over, query_searches, refuted_by}
+use Rattle.consultant_session.proofs.CommandLemmas.{idle, still_over, query_searches, refuted_by}
 use Rattle.consultant_session.proofs.ReplyLemmas.{if-ok}
 use Rattle.consultant_session.proofs.SolverLemmas.{solver-of}
 use Rattle.consultant_session.proofs.session.Session.propagate.Goals as goal

@@ -1,10 +1,8 @@
-use Rattle.std.proofs.Common.{List, Option, MatchOption, sym, subst}
-use Rattle.lit_core.specs.declared.literals.Lit.{Lit}
+use Rattle.std.proofs.Common.{MatchOption, sym, subst}
 use Rattle.ground_core.specs.Solving.{HasCoreWithin}
 use Rattle.ground_task.specs.Choices.{AreOver}
 use Rattle.consult_base.specs.Opened.{base_of}
 use Rattle.consultant_session.proofs.FoundLemmas.{choices_over}
-use Rattle.consultant_session.proofs.SolverLemmas.{solver-of}
 use Rattle.consultant_session.proofs.StepLemmas.{is-refused, is-not-refused}
 use Rattle.consultant_session.proofs.session.Session.refuses.Goals as goal
 

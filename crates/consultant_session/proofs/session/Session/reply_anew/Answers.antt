@@ -1,6 +1,5 @@
-use Rattle.std.proofs.Common.{Ok, Err, sym, ap, subst}
 use Rattle.consult_base.specs.Opened.{base_of}
-use Rattle.consultant_session.proofs.ReplyLemmas.{keeps-right, kept-after, lost-after}
+use Rattle.consultant_session.proofs.ReplyLemmas.{keeps-right, kept-after}
 use Rattle.consultant_session.proofs.session.Session.reply_anew.Goals as goal
 
 pub keep-requires-clause-right : goal.keep-requires-clause-right

@@ -3,7 +3,6 @@ use Rattle.std.specs.List.{list_any}
 use Rattle.kb_logic.specs.declared.structures.Literal.{Literal}
 use Rattle.term_values.specs.GroundBases.{GroundBase}
 use Rattle.atom_numbers.specs.Numbers.{HasNumber}
-use Rattle.consequences.specs.declared.kept.Kept.{Kept}
 use Rattle.kept_supports.specs.Supports.{IsSupported}
 use Rattle.consult_base.specs.Opened.{base_of}
 use Rattle.consult_text.specs.Literals.{IsLiteralOver}

@@ -3,8 +3,8 @@ use Rattle.ground_core.specs.Solving.{IsKept}
 use Rattle.clause_learning.specs.SolverState.{SolverState}
 use Rattle.consult_base.specs.Opened.{base_of}
 use Rattle.consult_text.specs.Searches.{weight}
-use Rattle.consultant_session.proofs.FoundLemmas.{if_ok}
-use Rattle.consultant_session.proofs.tasks.task_of.Goals as goal
+use Rattle.session_queries.proofs.TaskLemmas.{if_ok}
+use Rattle.session_queries.proofs.tasks.task_of.Goals as goal
 
 pub returns-clause-over : goal.returns-clause-over
 returns-clause-over g c =

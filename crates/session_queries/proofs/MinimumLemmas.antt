@@ -24,8 +24,8 @@ use Rattle.consult_text.specs.declared.commands.Command.{Command}
 use Rattle.consult_text.specs.declared.replies.Reply.{Reply}
 use Rattle.consult_text.specs.Searches.{searches, term_width}
 use Rattle.consult_text.specs.States.{State}
-use Rattle.consultant_session.specs.Queries.{QueryEnds, IsHalted}
-use Rattle.consultant_session.proofs.QueryLemmas.{IsCalled, halts}
+use Rattle.session_queries.specs.Queries.{QueryEnds, IsHalted}
+use Rattle.session_queries.proofs.QueryLemmas.{IsCalled, halts}
 
 -- two numbers within an interval are no further apart than it is wide
 near : (i : Interval) (x y : ℤ) → IsWithin i x → IsWithin i y → x ≤ℤ (y +ℤ pos (width_of i))

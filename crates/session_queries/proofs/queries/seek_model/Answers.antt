@@ -3,8 +3,8 @@ use Rattle.kb_logic.specs.declared.structures.Structure.{Structure}
 use Rattle.ground_task.specs.Tasks.{IsTaskOf, ShowsNone}
 use Rattle.found_models.specs.Models.{IsAnswer}
 use Rattle.consult_text.specs.declared.replies.Reply.TheVariants as reply
-use Rattle.consultant_session.proofs.QueryLemmas.{unspent_budget, found, halts}
-use Rattle.consultant_session.proofs.queries.seek_model.Goals as goal
+use Rattle.session_queries.proofs.QueryLemmas.{unspent_budget, found, halts}
+use Rattle.session_queries.proofs.queries.seek_model.Goals as goal
 
 pub new_model-requires-clause-budget : goal.new_model-requires-clause-budget
 new_model-requires-clause-budget g c =

@@ -1,11 +1,11 @@
-use Rattle.std.proofs.Common.{List, Option, Some, refl, sym, subst, arith}
+use Rattle.std.proofs.Common.{List, Some, refl, sym, subst}
 use Rattle.kb_logic.specs.declared.structures.Literal.{Literal}
 use Rattle.ground_task.specs.Tasks.{ShowsNone}
 use Rattle.consult_text.specs.declared.replies.Reply.TheVariants as reply
 use Rattle.forced_literals.specs.OpenTasks.{CoversWhereSome, IsAnswer, IsOpenTaskWith}
-use Rattle.consultant_session.proofs.QueryLemmas.{unspent_budget, found, halts}
-use Rattle.consultant_session.proofs.OpenLemmas.{few-undecided}
-use Rattle.consultant_session.proofs.queries.propagate.Goals as goal
+use Rattle.session_queries.proofs.QueryLemmas.{unspent_budget, found, halts}
+use Rattle.session_queries.proofs.OpenLemmas.{few-undecided}
+use Rattle.session_queries.proofs.queries.propagate.Goals as goal
 
 pub forced-requires-clause-budget : goal.forced-requires-clause-budget
 forced-requires-clause-budget g c =

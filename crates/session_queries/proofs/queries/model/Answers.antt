@@ -4,8 +4,8 @@ use Rattle.kb_logic.specs.Bases.{IsModelUnder}
 use Rattle.ground_task.specs.Tasks.{IsTaskOf}
 use Rattle.found_models.specs.Models.{AreFoundModels}
 use Rattle.consult_text.specs.declared.replies.Reply.TheVariants as reply
-use Rattle.consultant_session.proofs.QueryLemmas.{unsearched, narrower}
-use Rattle.consultant_session.proofs.queries.model.Goals as goal
+use Rattle.session_queries.proofs.QueryLemmas.{unsearched, narrower}
+use Rattle.session_queries.proofs.queries.model.Goals as goal
 
 pub returns-in-Ok-Some-clause-ends : goal.returns-in-Ok-Some-clause-ends
 returns-in-Ok-Some-clause-ends g c =

@@ -13,7 +13,7 @@ ghost use Rattle.forced_literals.specs.OpenTasks.{IsOpenTask, IsOpenTaskWith};
 ghost use Rattle.ground_task.specs.Choices.{AreOver};
 ghost use Rattle.ground_task.specs.Tasks.{IsTask, IsTaskOf};
 ghost use Rattle.found_models.specs.Models.{AreFoundModels, IsTaskWith};
-ghost use Rattle.consultant_session.specs.Queries.{CoversReply, IsHalted, QueryEnds, SearchesUpTo};
+ghost use Rattle.session_queries.specs.Queries.{CoversReply, IsHalted, QueryEnds, SearchesUpTo};
 
 use chooser::Choose;
 use clause_learning::Solver;

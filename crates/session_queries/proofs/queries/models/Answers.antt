@@ -3,8 +3,8 @@ use Rattle.ground_task.specs.Tasks.{IsTaskOf, ShowsNone}
 use Rattle.task_queries.specs.declared.found.Models.{Models}
 use Rattle.consult_text.specs.declared.replies.Reply.TheVariants as reply
 use Rattle.task_queries.specs.Queries.{AnswersModels}
-use Rattle.consultant_session.proofs.QueryLemmas.{unspent_budget, found, halts}
-use Rattle.consultant_session.proofs.queries.models.Goals as goal
+use Rattle.session_queries.proofs.QueryLemmas.{unspent_budget, found, halts}
+use Rattle.session_queries.proofs.queries.models.Goals as goal
 
 pub models-requires-clause-budget : goal.models-requires-clause-budget
 models-requires-clause-budget g c =

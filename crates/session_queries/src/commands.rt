@@ -1,12 +1,12 @@
 //! Which commands are queries, and which replies leave one undecided.
 ghost use Rattle.std.specs.Prelude.{MatchBool};
 ghost use Rattle.consult_text.specs.Replies.{IsQuery, NeedsModel};
-ghost use Rattle.consultant_session.specs.Sessions.{IsUndecided};
+ghost use Rattle.session_queries.specs.Queries.{IsUndecided};
 
 use consult_text::{Command, Reply};
 
 /// Whether it asks about the models under what is in force.
-pub(crate) fn is_query(command: &Command) -> bool
+pub fn is_query(command: &Command) -> bool
     ensures { MatchBool result (IsQuery command.now) (IsQuery command.now → ⊥) }
 {
     match command {
@@ -21,7 +21,7 @@ pub(crate) fn is_query(command: &Command) -> bool
 }
 
 /// Whether it is one that has an answer of its own only where there is a model.
-pub(crate) fn needs_model(command: &Command) -> bool
+pub fn needs_model(command: &Command) -> bool
     ensures { MatchBool result (NeedsModel command.now) (NeedsModel command.now → ⊥) }
 {
     match command {
@@ -35,7 +35,7 @@ pub(crate) fn needs_model(command: &Command) -> bool
 }
 
 /// Whether the reply leaves its query undecided.
-pub(crate) fn is_undecided(reply: &Reply) -> bool
+pub fn is_undecided(reply: &Reply) -> bool
     ensures { MatchBool result (IsUndecided reply.now) (IsUndecided reply.now → ⊥) }
 {
     match reply {

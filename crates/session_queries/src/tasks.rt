@@ -1,17 +1,42 @@
 //! The task of a session.
 ghost use Rattle.std.specs.Prelude.{◌≡◌, [], IfOk, OnErr, OnOk};
+ghost use Rattle.clause_learning.specs.SolverState.{AddsProblem, IsSolver, empty_solver};
 ghost use Rattle.consult_base.specs.Opened.{base_of};
-ghost use Rattle.consultant_session.specs.Solvers.{AreUnknownOf, IsNewSolverOf, IsTaskOver};
+ghost use Rattle.def_ground.specs.Groundings.{HasNoBounds};
+ghost use Rattle.ground_core.specs.Meaning.{HasTermsInRange};
+ghost use Rattle.session_queries.specs.Solvers.{AreUnknownOf, IsNewSolverOf, IsTaskOver};
 
 use atom_numbers::open_literals;
 use chooser::Choose;
 use clause_learning::Solver;
 use consult_base::KnowledgeBase;
+use ground_core::Problem;
 use ground_task::Task;
 use grounder::ground;
 use kb_logic::Memory;
 use lit_core::Lit;
 use std::alloc::Global;
+
+// A problem and a solver are large, and each way out that gives one up is dear to prove: so each has one such way out.
+/// A solver to which this problem was said, and nothing else.
+fn solver_with<C: Choose + Drop>(
+    alloc: Global,
+    rule: C,
+    problem: &Problem,
+) -> Result<Solver<C>, Memory>
+    requires bounds { HasNoBounds problem.now }
+    requires range { HasTermsInRange problem.now }
+    ensures value { IfOk result (AddsProblem empty_solver problem.now) }
+    ensures laws { IfOk result IsSolver }
+{
+    let Ok(mut solver) = Solver::new(alloc, rule) else {
+        return Err(Memory);
+    };
+    match solver.add_problem(problem) {
+        Ok(()) => Ok(solver),
+        Err(_) => Err(Memory),
+    }
+}
 
 /// A solver of the knowledge base's ground problem. That is not too large, since the knowledge base's weight is within
 /// its limit: only memory may be wanting.
@@ -22,14 +47,8 @@ fn solver_of<C: Choose + Drop>(
 ) -> Result<Solver<C>, Memory>
     ensures { IfOk result (λ solver. IsNewSolverOf (base_of kb.now) solver.kept) }
 {
-    let Ok(problem) = ground(alloc, kb.typed(), kb.theory(), kb.data(), kb.narrowing()) else {
-        return Err(Memory);
-    };
-    let Ok(mut solver) = Solver::new(alloc, rule) else {
-        return Err(Memory);
-    };
-    match solver.add_problem(&problem) {
-        Ok(()) => Ok(solver),
+    match ground(alloc, kb.typed(), kb.theory(), kb.data(), kb.narrowing()) {
+        Ok(problem) => solver_with(alloc, rule, &problem),
         Err(_) => Err(Memory),
     }
 }

@@ -3,8 +3,8 @@ use Rattle.ground_task.specs.Tasks.{IsTaskOf}
 use Rattle.kb_logic.specs.declared.structures.Literal.{Literal}
 use Rattle.consult_text.specs.declared.replies.Reply.TheVariants as reply
 use Rattle.task_queries.specs.Queries.{AnswersConflict}
-use Rattle.consultant_session.proofs.QueryLemmas.{unspent_budget, found, halts}
-use Rattle.consultant_session.proofs.queries.why.Goals as goal
+use Rattle.session_queries.proofs.QueryLemmas.{unspent_budget, found, halts}
+use Rattle.session_queries.proofs.queries.why.Goals as goal
 
 pub conflict-requires-clause-budget : goal.conflict-requires-clause-budget
 conflict-requires-clause-budget g c =

@@ -6,9 +6,9 @@ use Rattle.consult_text.specs.declared.replies.Reply.TheVariants as reply
 use Rattle.consult_text.specs.Searches.{term_width}
 use Rattle.task_queries.specs.Queries.{AnswersLeast}
 use Rattle.task_queries.specs.declared.found.Least.{Least}
-use Rattle.consultant_session.proofs.QueryLemmas.{unspent_budget, IsCalled, found}
-use Rattle.consultant_session.proofs.MinimumLemmas.{spans, halts_by}
-use Rattle.consultant_session.proofs.queries.minimize.Goals as goal
+use Rattle.session_queries.proofs.QueryLemmas.{unspent_budget, IsCalled, found}
+use Rattle.session_queries.proofs.MinimumLemmas.{spans, halts_by}
+use Rattle.session_queries.proofs.queries.minimize.Goals as goal
 
 pub least-requires-clause-budget : goal.least-requires-clause-budget
 least-requires-clause-budget g c =

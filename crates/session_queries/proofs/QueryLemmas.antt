@@ -1,13 +1,11 @@
--- How queries of a task end, and what commands learn.
-use Rattle.std.proofs.Common.{◌≡◌, ◌∙◌, ℕ, ◌+◌, ◌-◌, ◌*◌, ◌^◌, ◌<◌, ◌≤◌, List, [], length, refl, sym, ap, subst}
-use Rattle.std.proofs.Common.{arith, inl, inr}
-use Rattle.std.proofs.Common.{Option, Some, None, Result, Ok, Err, IfOk, IfSome}
+-- How queries of a task end, and what they learn.
+use Rattle.std.proofs.Common.{◌≡◌, ◌∙◌, ℕ, ◌+◌, ◌*◌, ◌^◌, ◌<◌, ◌≤◌, List, length, refl, sym, ap, subst}
+use Rattle.std.proofs.Common.{arith, Option, Some, None, Result, Ok, Err, IfOk, IfSome}
 use Rattle.std.specs.declared.alloc.AllocError.{AllocError as Memory}
 use Rattle.std.proofs.lemmas.Nat.{mul-le, pow_pos}
 use Rattle.std.proofs.Math.Nat.{pow-le-pow_right}
 use Rattle.kb_logic.specs.declared.structures.Literal.{Literal}
 use Rattle.kb_logic.specs.Bases.{Base}
-use Rattle.kb_logic.specs.Lists.{IsPrefix}
 use Rattle.lit_core.specs.declared.literals.Lit.{Lit}
 use Rattle.term_values.specs.GroundBases.{GroundBase}
 use Rattle.ground_core.specs.declared.solving.Budget.{Budget}
@@ -15,22 +13,15 @@ use Rattle.ground_core.specs.declared.solving.Halt.{Halt}
 use Rattle.ground_core.specs.declared.solving.Halt.TheVariants as halt
 use Rattle.ground_core.specs.Solving.{SolveState, HaltedAt, IsBudgetOf, IsKept}
 use Rattle.ground_core.specs.Calls.{CallEnds}
-use Rattle.ground_task.specs.Tasks.{IsTaskOf, atom_base}
+use Rattle.ground_task.specs.Tasks.{IsTaskOf}
 use Rattle.clause_learning.specs.GoingOn.{prefix-same}
 use Rattle.consult_text.specs.declared.commands.Command.{Command}
-use Rattle.consult_text.specs.declared.commands.Command.TheVariants as command
-use Rattle.consult_text.specs.declared.refusals.F.{F}
 use Rattle.consult_text.specs.declared.replies.Reply.{Reply}
 use Rattle.consult_text.specs.declared.replies.Reply.TheVariants as reply
-use Rattle.consult_text.specs.States.{State}
-use Rattle.consult_text.specs.Replies.{IsQuery, IsAnswerTo}
-use Rattle.consult_text.specs.RightReplies.{RightAnswer, RightUnless}
+use Rattle.consult_text.specs.Replies.{IsQuery}
+use Rattle.consult_text.specs.RightReplies.{RightAnswer}
 use Rattle.consult_text.specs.Searches.{weight, searches}
-use Rattle.consultant_session.specs.Solvers.{IsSolverOf, IsTaskOver}
-use Rattle.consultant_session.specs.Queries.{left_by, most_additions, MayOpenAnew, IsLeft, IsKeptOrNew, Learns}
-use Rattle.consultant_session.specs.Queries.{Searches}
-use Rattle.consultant_session.specs.Queries.{IsSearched, IsHalted, QueryEnds, Refutes}
-use Rattle.consultant_session.proofs.SolverLemmas.{solver-of}
+use Rattle.session_queries.specs.Queries.{IsHalted, Learns, QueryEnds, Refutes}
 
 -- at most m searches with at most so many free variables are no more than these
 pub enough_for : (m n free most spent : ℕ) → m ≤ n → free ≤ most → spent < m * 2 ^ (free + m)
@@ -141,11 +132,6 @@ module _ (Of : Base → Type 0) (choices : List Literal) {n : ℕ} {c : Command}
   halts halt.Memory (Ok r) at is fewer = absurd is
   halts halt.Memory (Err e) at is fewer = ended (Err e) tt tt (λ kb task small. tt)
 
--- a query that stays undecided was searched for
-pub was_searched : (kb : Base) (c : Command) (budget : Option ℕ) (r : Reply) (old new : SolveState)
-    → Searches kb c budget (Ok r) old new → IsSearched kb r
-was_searched kb c budget r old new is = λ k same. (new, is.solver, omega (arith, is.learns.undecided k same))
-
 -- nothing is learnt beyond what is left
 pub learns_nothing : (c : Command) (budget : Option ℕ) (result : Result Reply Memory) (left new : SolveState)
     → new.learnt ≡ left.learnt → new.cores ≡ left.cores → IfOk result (λ r. (k : ℕ) → r ≡ reply.Undecided k → ⊥)
@@ -166,18 +152,6 @@ learns_nothing c budget result left new learnt cores decided = record {
         → IfOk result (λ r. (k : ℕ) → r ≡ reply.Undecided k → length new.learnt ≡ length left.learnt + k)
     counted (Ok r) decided = λ k is. absurd (decided k is)
     counted (Err e) decided = tt
-
--- and a command that is none learns nothing
-pub idle : (kb : Base) (c : Command) (budget : Option ℕ) (result : Result Reply Memory) (old new : SolveState)
-    → new.learnt ≡ left_by c old.learnt → new.cores ≡ left_by c old.cores
-    → IfOk result (λ r. (k : ℕ) → r ≡ reply.Undecided k → ⊥) → IsSolverOf kb new
-    → Searches kb c budget result old new
-idle kb c budget result old new learnt cores decided is = record {
-  solver = is;
-  left = new;
-  from = inl (learnt, cores);
-  learns = learns_nothing c budget result new new refl refl decided;
-}
 
 -- a query that ends without a search: nothing happens
 pub unsearched : (Of : Base → Type 0) (choices : List Literal) {c : Command} {budget : Option ℕ}
@@ -209,48 +183,3 @@ narrower Of Of' choices of ends = record {
   kept = ends.kept;
   free = ends.free;
 }
-
--- a right reply to a command that is no query leaves nothing undecided
-pub decides : (f : Option F) (kb : Base) (s : State) (c : Command) (r : Reply) → (IsQuery c → ⊥)
-    → RightUnless f kb s c r → (k : ℕ) → r ≡ reply.Undecided k → ⊥
-decides (Some f) kb s c r other is k same = let both : reply.Undecided k ≡ reply.Refused f = sym same ∙ is in cc
-decides None kb s c r other is k same = other (subst (IsAnswerTo c) same is.0)
-
--- the task of a session after a query
-pub still_over : (Of : Base → Type 0) (kb : Base) (c : Command) (choices : List Literal) (budget : Option ℕ)
-    (numbers numbers' : GroundBase) (old new : SolveState) (result : Result Reply Memory)
-    → QueryEnds Of c choices budget numbers numbers' old new result
-    → IsTaskOver kb numbers old → IsTaskOver kb numbers' new
-still_over Of kb c choices budget numbers numbers' old new result ends is = record {
-  task = ends.task kb is.task;
-  kept = ends.kept;
-  free = subst (λ (n : ℕ). n ≤ weight kb) (sym ends.free) is.free;
-}
-
--- what stays of what a command finds, where the task is as it was, or opened anew
-pub left_of : (c : Command) (old mid : SolveState) → (left_by c old.learnt ≡ old.learnt)
-    → (left_by c old.cores ≡ old.cores) → (most_additions < length old.additions → MayOpenAnew c old)
-    → IsKeptOrNew old mid → IsLeft c old mid
-left_of c old mid learnt cores may (inl same) =
-    inl (ap (λ (s : SolveState). s.learnt) same ∙ sym learnt, ap (λ (s : SolveState). s.cores) same ∙ sym cores)
-left_of c old mid learnt cores may (inr new) = inr (may new.0, new.1, new.2)
-
--- and what the query did to its solver
-pub query_searches : (Of : Base → Type 0) (kb : Base) (c : Command) (choices : List Literal) (budget : Option ℕ)
-    (numbers numbers' : GroundBase) (old mid new : SolveState) (result : Result Reply Memory) → IsLeft c old mid
-    → QueryEnds Of c choices budget numbers numbers' mid new result → IsTaskOver kb numbers mid
-    → Searches kb c budget result old new
-query_searches Of kb c choices budget numbers numbers' old mid new result left ends is = record {
-  solver = solver-of kb numbers' new (still_over Of kb c choices budget numbers numbers' mid new result ends is);
-  left = mid;
-  from = left;
-  learns = ends.learns;
-}
-
--- that there is no model is shown in the knowledge base's own numbers
-pub refuted_by : (kb : Base) (numbers : GroundBase) (choices choices' : List Literal) (cores : List (List Lit))
-    (result : Result Reply Memory) → numbers ≡ atom_base kb → choices ≡ choices'
-    → IfOk result (Refutes numbers choices cores) → IfOk result (Refutes (atom_base kb) choices' cores)
-refuted_by kb numbers choices choices' cores result same is refuted =
-    subst (λ (ls : List Literal). IfOk result (Refutes (atom_base kb) ls cores)) is
-    (subst (λ (b : GroundBase). IfOk result (Refutes b choices cores)) same refuted)

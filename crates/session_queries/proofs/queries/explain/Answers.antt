@@ -4,8 +4,8 @@ use Rattle.kb_logic.specs.declared.structures.Literal.{Literal}
 use Rattle.task_queries.specs.declared.found.Reason.TheVariants.{By}
 use Rattle.consult_text.specs.declared.replies.Reply.TheVariants as reply
 use Rattle.task_queries.specs.Queries.{AnswersSupport, ShowsInconsistent}
-use Rattle.consultant_session.proofs.QueryLemmas.{unspent_budget, found, halts}
-use Rattle.consultant_session.proofs.queries.explain.Goals as goal
+use Rattle.session_queries.proofs.QueryLemmas.{unspent_budget, found, halts}
+use Rattle.session_queries.proofs.queries.explain.Goals as goal
 
 pub support-requires-clause-budget : goal.support-requires-clause-budget
 support-requires-clause-budget g c =

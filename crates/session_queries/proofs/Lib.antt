@@ -1,0 +1,4 @@
+pub mod QueryLemmas
+pub mod MinimumLemmas
+pub mod OpenLemmas
+pub mod TaskLemmas
