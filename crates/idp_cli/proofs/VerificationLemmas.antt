@@ -1,5 +1,6 @@
 -- How the verification of a log ends, from how the log is read and what is printed of it.
-use Rattle.std.proofs.Common.{◌≡◌, ◌≢◌, ◌⊎◌, ◌≤◌, ℕ, List, length, refl, sym, subst, Option, Some, None, Err, inl, inr, ◌∙◌}
+use Rattle.std.proofs.Common.{◌≡◌, ◌≢◌, ◌⊎◌, ◌≤◌, ◌∙◌, ℕ, List, length, refl, sym, subst, Option, Some, None, Err}
+use Rattle.std.proofs.Common.{inl, inr}
 use Rattle.std.specs.Io.KnownBytes.{Appends}
 use Rattle.kb_io.specs.Outside.{KeptNumber, Rose}
 use Rattle.kb_io.specs.ReadWrite.{AppendsPrefix}
