@@ -26,13 +26,15 @@ use Rattle.def_ground.specs.GroundForms.{IsAdding, IsNumberTerm}
 use Rattle.def_ground.specs.Linear.{Linear}
 use Rattle.def_ground.specs.LinearValues.{Comes, joined_values, joined_value, IsRightAfter}
 use Rattle.def_ground.specs.Meanings.{Means, HasAtoms, HasRoom}
-use Rattle.def_ground.specs.Thresholds.{compared_with_rows, flipped, less, rows_between_sides}
+use Rattle.def_ground.specs.SumSides.{compared_sums}
+use Rattle.def_ground.specs.Thresholds.{compared_with_rows, flipped}
 use Rattle.def_ground.proofs.Growing.{more-refl}
-use Rattle.def_ground.proofs.Leaves.{rows-more, rows-paired, term-in}
+use Rattle.def_ground.proofs.Leaves.{rows-more, term-in}
 use Rattle.def_ground.proofs.LinearInstances.{HasWeight, instances-come}
 use Rattle.def_ground.proofs.LinearStart.{start-comes}
 use Rattle.def_ground.proofs.ThresholdRows.{comes-compared-rows}
-use Rattle.def_ground.proofs.ThresholdSides.{flipped-compared, sides-compared, between-selected}
+use Rattle.def_ground.proofs.SumSides.{IsNumberSide, sums-right}
+use Rattle.def_ground.proofs.ThresholdSides.{flipped-compared, sides-compared}
 use Rattle.def_ground.proofs.FormSteps.{means-then}
 use Rattle.def_ground.proofs.Products.{times-plus, times-one, times-zero}
 use Rattle.def_ground.proofs.SideValues.{weight_sum, AreNumbers, weight_for, adding-value, all-has, number-is}
@@ -296,39 +298,39 @@ module _ (b : GroundBase) (p : ProblemState) (at : HasAtoms b p) (room : HasRoom
   both-adding : (both : Linear)
       → Comes kind.Sum p both (λ v. number (counted_in (structure_of b v) x e -ℤ counted_in (structure_of b v) y e))
       → IsSplit x → IsSplit y
-      → (let g = compared_with_rows kind.Sum c both (rows_between_sides xs ys) in
-      Means p g.problem g.answer (λ v. compared c (X v) (Y v)))
+      → (let g = compared_sums c both xs ys in Means p g.problem g.answer (λ v. compared c (X v) (Y v)))
   both-adding both h split-x split-y =
-      let rs = rows_between_sides xs ys in
-      let g = compared_with_rows kind.Sum c both rs in
+      let g = compared_sums c both xs ys in
       let C : (ℕ → Bool) → ℤ = λ v. counted_in (structure_of b v) x e -ℤ counted_in (structure_of b v) y e in
-      let D : (ℕ → Bool) → ℤ = λ v. left_in (structure_of b v) y e -ℤ left_in (structure_of b v) x e in
-      means-then p p g.problem g.answer (λ v. compared c (number (C v)) (number (D v)))
+      let A : (ℕ → Bool) → ℤ = λ v. left_in (structure_of b v) x e in
+      let B : (ℕ → Bool) → ℤ = λ v. left_in (structure_of b v) y e in
+      means-then p p g.problem g.answer (λ v. compared c (number (C v)) (number (B v -ℤ A v)))
       (λ v. compared c (X v) (Y v)) (more-refl p)
-      (comes-compared-rows kind.Sum c p both (λ v. number (C v)) D rs h
-      (rows-more p.vars both.problem.vars h.more.grows rs
-      (rows-paired p.vars less ys xs (term-in b p room e y) (term-in b p room e x)))
+      (sums-right c p both xs ys C A B
+      (record { sum = h; left = number-side x split-x; right = number-side y split-y }))
       (λ v s.
-      let over = at v (h.more.restricts v s) in
-      let l = split-x v over in
-      let r = split-y v over in
-      between-selected v xs ys l.left r.left l.rows r.rows
-      ∙ ap (λ z. number z ∷ []) (left-is v over l r)))
-      (λ v s.
-      let over = at v s in
-      let l = split-x v over in
-      let r = split-y v over in
+      let l = split-x v (at v s) in
+      let r = split-y v (at v s) in
       let cx = counted_in (structure_of b v) x e in
       let cy = counted_in (structure_of b v) y e in
-      ap (λ z. compared c (number (C v)) (number z)) (sym (left-is v over l r))
+      ap (λ z. compared c (number (C v)) (number (B v -ℤ z))) (sym (left-is x v (at v s) l))
+      ∙ ap (λ z. compared c (number (C v)) (number (z -ℤ l.left))) (sym (left-is y v (at v s) r))
       ∙ sym (sides-compared c cx cy l.left r.left)
       ∙ ap (λ d. compared c d (number (cy +ℤ r.left))) (sym l.value) ∙ ap (compared c (X v)) (sym r.value))
     where
-      left-is : (v : ℕ → Bool) (over : IsOver b v) (l : Splits b v over x e) (r : Splits b v over y e)
-          → r.left -ℤ l.left ≡ left_in (structure_of b v) y e -ℤ left_in (structure_of b v) x e
-      left-is v over l r =
-          let a = ap number_of l.value in
-          let d = ap number_of r.value in omega (arith, ints, a, d)
+      left-is : (t : TermTree) (v : ℕ → Bool) (over : IsOver b v) (l : Splits b v over t e)
+          → l.left ≡ left_in (structure_of b v) t e
+      left-is t v over l = let a = ap number_of l.value in omega (arith, ints, a)
+
+      -- a side's rows, and what is left of it
+      number-side : (t : TermTree) → IsSplit t
+          → IsNumberSide p (rows_of_term b t e) (λ v. left_in (structure_of b v) t e)
+      number-side t split = record {
+        within = term-in b p room e t;
+        one = λ v s. let l = split v (at v s) in
+            l.rows ∙ ap (λ z. number z ∷ []) (left-is t v (at v s) l);
+        local = λ v w agree. ap (λ m. left_in m t e) (room.same v w agree);
+      }
 
   pub compared-right : (ox oy : Option AggKind) (left right both : Linear)
       → ((k : AggKind) → ox ≡ Some k → Comes k p left X × (has_aggregate y ≡ false) × IsSplit y)

@@ -2,9 +2,9 @@
 use Rattle.std.proofs.Common.{inl, inr, ◌∙◌, ◌≡◌, ℕ, ◌+◌, ◌*◌, ◌≤◌, Bool, true, false, List, [], ◌∷◌, ◌++◌, map, length}
 use Rattle.std.proofs.Common.{if◌then◌else◌, Option, Some, None, refl, ap, subst, arith, fold, ℤ, pos, neg_ℤ}
 use Rattle.std.proofs.Common.{◌*ℤ◌, ◌||◌}
-use Rattle.std.proofs.lemmas.List.{length-append, length-map}
 use Rattle.std.specs.List.{list_all, sum_by, AllByRecursion}
 use Rattle.std.proofs.lemmas.List.Sums.{sum_by-cons}
+use Rattle.std.proofs.lemmas.List.{length-map}
 use Rattle.std.proofs.lemmas.Nat.{mul-le}
 use Rattle.kb_logic.specs.declared.elements.Elem.{Elem}
 use Rattle.kb_logic.specs.declared.syntax.AggKind.{AggKind}
@@ -28,12 +28,13 @@ use Rattle.kb_logic.specs.declared.vocabularies.Bound.{Bound}
 use Rattle.kb_logic.specs.Bounds.{HasTypes, types_of}
 use Rattle.kb_logic.proofs.Has.{Has}
 use Rattle.lit_core.specs.declared.literals.Lit.{Lit}
+use Rattle.ground_core.specs.declared.parts.Part.{Part}
 use Rattle.ground_core.specs.Problems.{ProblemState}
 use Rattle.ground_core.specs.Growth.{with_clause}
 use Rattle.def_ground.specs.declared.answers.Answer.{Answer}
 use Rattle.def_ground.specs.declared.answers.Answer.TheVariants.{Constant, Literal}
 use Rattle.term_values.specs.GroundBases.{GroundBase}
-use Rattle.term_values.specs.Rows.{pair_rows, rows_of_term, rows_of_terms}
+use Rattle.term_values.specs.Rows.{map_rows, rows_of_term, rows_of_terms}
 use Rattle.def_ground.specs.Cases.{answer_or_cases, answer_without, Case, is_always, plain_answer, cases_of}
 use Rattle.def_ground.specs.CaseSentences.{or_clause, answer_or_clauses, assert_comparison, assert_alike}
 use Rattle.def_ground.specs.Disjuncts.{own_part, disjuncts_of, all_disjuncts}
@@ -44,7 +45,8 @@ use Rattle.def_ground.specs.Forms.{parts_each, close_parts, opposite_result, sam
 use Rattle.def_ground.specs.Forms.{compared_sides, sums_of, sums_of_summands, sums_of_factors}
 use Rattle.def_ground.specs.Counting.{has_aggregate, have_aggregates, integer_factor, extreme_of}
 use Rattle.def_ground.specs.Linear.{Linear, weighed_under, with_problem, instance_step}
-use Rattle.def_ground.specs.Thresholds.{flipped, less, rows_between_sides}
+use Rattle.def_ground.specs.SumSides.{raised, compared_by_parts, compared_sums}
+use Rattle.def_ground.specs.Thresholds.{flipped}
 use Rattle.def_ground.specs.Sentences.{are_few, parts_clause, assert_each, assert_of, assert_all, assert_any}
 use Rattle.def_ground.specs.Sentences.{assert_sentences}
 use Rattle.def_ground.proofs.TypedForms.{choice-types}
@@ -52,7 +54,8 @@ use Rattle.def_ground.specs.Laws.{FewVariables}
 use Rattle.term_values.proofs.FewRows.{term-few, terms-few}
 use Rattle.term_values.proofs.TypedLaws.{typed-term, typed-places}
 use Rattle.def_ground.proofs.Counting.{linear}
-use Rattle.def_ground.proofs.LinearFew.{compared-few, compared-rows-few, instance-few}
+use Rattle.def_ground.proofs.LinearFew.{compared-few, compared-rows-few, compared-beside-few}
+use Rattle.def_ground.proofs.LinearFew.{instance-few}
 
 gate-vars : (all : Bool) (ls : List Lit) (p : ProblemState) → (gate_of all ls p).problem.vars ≤ p.vars + 1
 gate-vars all [] p = omega arith
@@ -179,16 +182,6 @@ result-few : (c : Bool) (x y : GroundResult) (n : ℕ) → x.problem.vars ≤ n 
 result-few true x y n h k = h
 result-few false x y n h k = k
 
-pairs-length : {X Y Z : Type 0} (op : X → Y → Z) (xs : List (List Lit × X)) (ys : List (List Lit × Y))
-    → length (pair_rows op xs ys) ≡ length xs * length ys
-pairs-length op [] ys = omega arith
-pairs-length {X} {Y} {Z} op (x ∷ xs) ys =
-    let f : List Lit × Y → List Lit × Z = λ y. (x.0 ++ y.0, op x.1 y.1) in
-    let one = length-map ys f in
-    let more = pairs-length op xs ys in
-    let both = length-append (map f ys) (pair_rows op xs ys) in
-    omega (arith, one, more, both)
-
 extreme-once : (v : Vocabulary) (d : List (List Elem)) (x : TermTree) (k : AggKind) → extreme_of x ≡ Some k
     → application_count v d x ≡ 1
 extreme-once v d (variable n) k h = absurd cc
@@ -216,11 +209,18 @@ sides-vars c None (Some k) left right both xs ys p m n a d one_x one_y l r w hx 
     let same : a * d ≡ a = ap (λ i. a * i) one ∙ (let e : a * 1 ≡ a = omega arith in e) in
     omega (arith, few, r, hx, same)
 sides-vars c None None left right both xs ys p m n a d one_x one_y l r w hx hy =
-    let few = compared-rows-few kind.Sum c both (rows_between_sides xs ys) in
-    let pairs = pairs-length less ys xs in
-    let product = mul-le (length ys) (length xs) d a hy hx in
-    let turned : d * a ≡ a * d = omega arith in
-    omega (arith, few, pairs, product, turned, w)
+    let few : (compared_sums c both xs ys).problem.vars ≤ both.problem.vars + 4 * (a * d) = by-parts both.parts in
+    omega (arith, few, w)
+  where
+    by-parts : (ps : List Part) → (compared_by_parts ps c both xs ys).problem.vars ≤ both.problem.vars + 4 * (a * d)
+    by-parts [] =
+        let f : List Lit × Denotation → List Lit × Denotation = λ r. (r.0, raised both.base r.1) in
+        let same = length-map xs f in
+        comparison-vars c (map_rows (raised both.base) xs) ys both.problem a d (omega (arith, same, hx)) hy
+    by-parts (q ∷ ps) =
+        let few = compared-beside-few c both xs ys in
+        let product = mul-le (length xs) (length ys) a d hx hy in
+        omega (arith, few, product)
 
 module _ (b : GroundBase) (given : AreDomainsOf b.vocabulary b.domains) where
   compared-vars : (c : Cmp) (x y : TermTree) (scope : List ℕ) (e : List Elem) (p : ProblemState)

@@ -16,10 +16,11 @@ use Rattle.kb_logic.specs.Trees.{implication, equivalence, universal, existentia
 use Rattle.kb_logic.specs.Trees.{more_formulas}
 use Rattle.lit_core.specs.declared.literals.Lit.{Lit}
 use Rattle.lit_core.specs.Literals.{negated}
+use Rattle.ground_core.specs.declared.parts.Part.{Part}
 use Rattle.ground_core.specs.Problems.{ProblemState}
 use Rattle.ground_core.specs.Growth.{next_lit, with_clause, clauses_of_same}
 use Rattle.term_values.specs.GroundBases.{GroundBase}
-use Rattle.term_values.specs.Rows.{rows_of_term, rows_of_terms}
+use Rattle.term_values.specs.Rows.{map_rows, rows_of_term, rows_of_terms}
 use Rattle.def_ground.specs.declared.answers.Answer.{Answer}
 use Rattle.def_ground.specs.declared.answers.Answer.TheVariants.{Constant, Literal}
 use Rattle.def_ground.specs.Answers.{GroundResult, gate_of}
@@ -30,8 +31,10 @@ use Rattle.def_ground.specs.Forms.{opposite_result, signed_result, same_of, atom
 use Rattle.def_ground.specs.Forms.{compared_sides, sums_of, sums_of_summands, sums_of_factors}
 use Rattle.def_ground.specs.Counting.{has_aggregate, have_aggregates, integer_factor, extreme_of}
 use Rattle.def_ground.specs.Linear.{Linear, instance_step, compared_at}
-use Rattle.def_ground.specs.Thresholds.{compared_with_rows, flipped, rows_between_sides}
-use Rattle.def_ground.proofs.LinearKeeps.{compared-keeps, compared-rows-keep, instances-keep}
+use Rattle.def_ground.specs.SumSides.{raised, compared_by_parts, compared_sums}
+use Rattle.def_ground.specs.Thresholds.{compared_with_rows, flipped}
+use Rattle.def_ground.proofs.LinearKeeps.{compared-keeps, compared-rows-keep, compared-beside-keeps}
+use Rattle.def_ground.proofs.LinearKeeps.{instances-keep}
 use Rattle.def_ground.specs.CaseSentences.{or_clause, answer_or_clauses, assert_cases}
 use Rattle.def_ground.specs.CaseSentences.{assert_comparison, alike_clauses, assert_alike}
 use Rattle.def_ground.specs.Disjuncts.{own_part, disjuncts_of, all_disjuncts}
@@ -102,8 +105,11 @@ sides-keep None (Some k) c p left right both xs ys l r m =
     keeps-on p right.problem (compared_with_rows k (flipped c) right xs).problem r
     (compared-rows-keep k (flipped c) right xs)
 sides-keep None None c p left right both xs ys l r m =
-    let rs = rows_between_sides xs ys in
-    keeps-on p both.problem (compared_with_rows kind.Sum c both rs).problem m (compared-rows-keep kind.Sum c both rs)
+    keeps-on p both.problem (compared_sums c both xs ys).problem m (by-parts both.parts)
+  where
+    by-parts : (ps : List Part) → Keeps both.problem (compared_by_parts ps c both xs ys).problem
+    by-parts [] = comparison-keeps c (map_rows (raised both.base) xs) ys both.problem
+    by-parts (q ∷ ps) = compared-beside-keeps c both xs ys
 
 module _ (b : GroundBase) where
   mutual

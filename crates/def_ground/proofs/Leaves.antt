@@ -16,7 +16,7 @@ use Rattle.lit_core.specs.declared.literals.Lit.{Lit}
 use Rattle.lit_core.specs.Literals.{literal_value, negated}
 use Rattle.ground_core.specs.Problems.{ProblemState, IsProblem, IsLitOf, AreLitsOf}
 use Rattle.ground_core.specs.Meaning.{Satisfies}
-use Rattle.ground_core.specs.More.{DefinesMore}
+use Rattle.ground_core.specs.More.{DefinesMore, Agree}
 use Rattle.ground_core.proofs.Mores.{more-trans}
 use Rattle.def_ground.specs.declared.answers.Answer.{Answer}
 use Rattle.def_ground.specs.declared.answers.Answer.TheVariants.{Constant, Literal}
@@ -254,16 +254,16 @@ pub side-in : (n : ℕ) (test : Denotation → Bool) (rs : List (Answer × Denot
 side-in n test rs h =
     if-in n (list_all (λ (r : Answer × Denotation). test r.1) rs) None (any_where test rs) tt (any-in n test rs h)
 
--- the cases of a comparison say what it is
-comparison-ready : (c : Cmp) (x y : TermTree) (b : GroundBase) (e : List Elem) (p : ProblemState) → IsProblem p
-    → HasAtoms b p → HasRoom b p → IsGroundTerm b y
-    → (xs : List (List Lit × Denotation)) → RowsIn p.vars xs
-    → ((v : ℕ → Bool) → Satisfies p v → selected_values v xs ≡ value_of (structure_of b v) x e ∷ [])
-    → (let s = guard_answers (rows_of_term b y e) p in
-    AreReady p s.problem (map (comparison_case c s.rows) xs) (λ v. truth_of (structure_of b v) (comparison c x y) e))
-comparison-ready c x y b e p fine at room h xs within sel =
-    let ys = rows_of_term b y e in
-    let s = singles-right ys p fine (term-in b p room e y) in
+-- the cases of rows that are compared say how the values that are selected compare
+rows-ready : (c : Cmp) (p : ProblemState) (xs ys : List (List Lit × Denotation)) (X Y : (ℕ → Bool) → Denotation)
+    → IsProblem p → RowsIn p.vars xs → RowsIn p.vars ys
+    → ((v w : ℕ → Bool) → Agree p.vars v w → compared c (X v) (Y v) ≡ compared c (X w) (Y w))
+    → ((v : ℕ → Bool) → Satisfies p v → selected_values v xs ≡ X v ∷ [])
+    → ((v : ℕ → Bool) → Satisfies p v → selected_values v ys ≡ Y v ∷ [])
+    → (let s = guard_answers ys p in
+    AreReady p s.problem (map (comparison_case c s.rows) xs) (λ v. compared c (X v) (Y v)))
+rows-ready c p xs ys X Y fine within-x within-y local sel-x sel-y =
+    let s = singles-right ys p fine within-y in
     let q = (guard_answers ys p).problem in
     let rs = (guard_answers ys p).rows in
     let C : List Lit × Denotation → Case = comparison_case c rs in
@@ -277,22 +277,46 @@ comparison-ready c x y b e p fine at room h xs within sel =
                 side-in q.vars (λ d. compared c r.1 d) rs s.within;
             no =
                 side-in q.vars (λ d. not (compared c r.1 d)) rs s.within;
-          }) within;
-      local = λ v w agree. ap (λ m. truth_of m (comparison c x y) e) (room.same v w agree);
+          }) within-x;
+      local = local;
       say = λ v sat.
           let old = s.more.restricts v sat in
-          let over = at v old in
-          let vx = value_of (structure_of b v) x e in
-          let vy = value_of (structure_of b v) y e in
-          let k = case-selected v C (λ r. refl) xs vx (sel v old) in
-          let one : chosen-answers v rs ≡ vy ∷ [] = s.right v sat ∙ term-right b v over e y h in
+          let k = case-selected v C (λ r. refl) xs (X v) (sel-x v old) in
+          let one : chosen-answers v rs ≡ Y v ∷ [] = s.right v sat ∙ sel-y v old in
           record {
             case = C k.0;
             one = k.2;
-            yes = side-right v (λ d. compared c k.0.1 d) rs vy one ∙ ap (λ d. compared c d vy) k.1;
-            no = side-right v (λ d. not (compared c k.0.1 d)) rs vy one ∙ ap (λ d. not (compared c d vy)) k.1;
+            yes = side-right v (λ d. compared c k.0.1 d) rs (Y v) one ∙ ap (λ d. compared c d (Y v)) k.1;
+            no = side-right v (λ d. not (compared c k.0.1 d)) rs (Y v) one ∙ ap (λ d. not (compared c d (Y v))) k.1;
           };
     }
+
+-- where the left rows are none, no valuation satisfies the problem
+pub compared-rows-right : (c : Cmp) (p : ProblemState) (xs ys : List (List Lit × Denotation))
+    (X Y : (ℕ → Bool) → Denotation) → IsProblem p → RowsIn p.vars xs → RowsIn p.vars ys
+    → ((v w : ℕ → Bool) → Agree p.vars v w → compared c (X v) (Y v) ≡ compared c (X w) (Y w))
+    → ((v : ℕ → Bool) → Satisfies p v → selected_values v xs ≡ X v ∷ [])
+    → ((v : ℕ → Bool) → Satisfies p v → selected_values v ys ≡ Y v ∷ [])
+    → (let g = comparison_of c xs ys p in Means p g.problem g.answer (λ v. compared c (X v) (Y v)))
+compared-rows-right c p [] ys X Y fine within-x within-y local sel-x sel-y =
+    record { fine = fine; more = more-refl p; within = tt; right = λ v s. let z = sel-x v s in cc }
+compared-rows-right c p (x ∷ xs) ys X Y fine within-x within-y local sel-x sel-y =
+    let s = guard_answers ys p in
+    ready-means p s.problem (map (comparison_case c s.rows) (x ∷ xs)) (λ v. compared c (X v) (Y v))
+    (rows-ready c p (x ∷ xs) ys X Y fine within-x within-y local sel-x sel-y)
+
+-- the cases of a comparison say what it is
+comparison-ready : (c : Cmp) (x y : TermTree) (b : GroundBase) (e : List Elem) (p : ProblemState) → IsProblem p
+    → HasAtoms b p → HasRoom b p → IsGroundTerm b y
+    → (xs : List (List Lit × Denotation)) → RowsIn p.vars xs
+    → ((v : ℕ → Bool) → Satisfies p v → selected_values v xs ≡ value_of (structure_of b v) x e ∷ [])
+    → (let s = guard_answers (rows_of_term b y e) p in
+    AreReady p s.problem (map (comparison_case c s.rows) xs) (λ v. truth_of (structure_of b v) (comparison c x y) e))
+comparison-ready c x y b e p fine at room h xs within sel =
+    rows-ready c p xs (rows_of_term b y e) (λ v. value_of (structure_of b v) x e)
+    (λ v. value_of (structure_of b v) y e) fine within (term-in b p room e y)
+    (λ v w agree. ap (λ m. truth_of m (comparison c x y) e) (room.same v w agree)) sel
+    (λ v s. term-right b v (at v s) e y h)
 
 -- where the left term has no row, no valuation satisfies the problem
 none-means : (c : Cmp) (x y : TermTree) (b : GroundBase) (e : List Elem) (p : ProblemState) → IsProblem p

@@ -15,6 +15,7 @@ pub mod ThresholdSums
 pub mod ThresholdExtremes
 pub mod ThresholdComparisons
 pub mod ThresholdRows
+pub mod SumSides
 pub mod ComparedSides
 pub mod FormLaws
 pub mod LeafLaws

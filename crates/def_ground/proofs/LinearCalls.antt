@@ -155,6 +155,18 @@ guards-at n [] k g h e = absurd cc
 guards-at n (r ∷ rs) zero g h e = let is : r.0 ≡ g = cc in subst (AreLitsOf n) is h.0
 guards-at n (r ∷ rs) (suc k) g h e = guards-at n rs k g h.1 e
 
+-- the value of one row more of a fold over the values
+pub next-valued : {X Y : Type 0} (f : Y → X → Y) (rs : List (List Lit × X)) (k : ℕ) (x : X) (st next all : Y)
+    → option_map (λ r. r.1) (slice_get rs k) ≡ Some x → next ≡ f st x
+    → fold (λ y r. f y r.1) st (drop k rs) ≡ all → fold (λ y r. f y r.1) next (drop (k + 1) rs) ≡ all
+next-valued f [] k x st next all hx is so = absurd cc
+next-valued f (r ∷ rs) zero x st next all hx is so =
+    let value : r.1 ≡ x = cc in
+    ap (λ y. fold (λ z q. f z q.1) y rs) (is ∙ ap (f st) (sym value)) ∙ so
+next-valued f (r ∷ rs) (suc k) x st next all hx is so =
+    let more : suc k + 1 ≡ suc (k + 1) = omega arith in
+    ap (λ n. fold (λ z q. f z q.1) next (drop n (r ∷ rs))) more ∙ next-valued f rs k x st next all hx is so
+
 -- one row more of a fold
 pub next-folded : {X Y : Type 0} (f : Y → List Lit × X → Y) (rs : List (List Lit × X)) (k : ℕ) (g : List Lit) (x : X)
     (st next all : Y) → option_map (λ r. r.0) (slice_get rs k) ≡ Some g

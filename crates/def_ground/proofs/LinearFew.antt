@@ -1,6 +1,9 @@
 -- How many variables aggregates take.
-use Rattle.std.proofs.Common.{◌+◌, ◌*◌, ◌≤◌, ℤ, pos, ◌+ℤ◌, ◌-ℤ◌, ◌*ℤ◌, int_le, int_lt, Bool, true, false, map, length}
-use Rattle.std.proofs.Common.{if◌then◌else◌, List, [], ◌∷◌, fold, Option, Some, None, arith}
+use Rattle.std.proofs.Common.{◌≡◌, ℕ, ◌+◌, ◌*◌, ◌≤◌, ℤ, pos, neg_ℤ, ◌+ℤ◌, ◌-ℤ◌, ◌*ℤ◌, int_le, int_lt, int_eq, Bool, true, false}
+use Rattle.std.proofs.Common.{not, cond, if◌then◌else◌, map, length, List, [], ◌∷◌, fold, Option, Some, None, refl, sym, ap}
+use Rattle.std.proofs.Common.{subst, ◌∙◌, ◌⊎◌, inl, inr, arith}
+use Rattle.std.proofs.lemmas.Bool.Decides.{nat_tests}
+use Rattle.std.proofs.lemmas.Int.{ints}
 use Rattle.kb_logic.specs.declared.elements.Elem.{Elem}
 use Rattle.kb_logic.specs.declared.elements.ExtInt.TheVariants.{Num}
 use Rattle.kb_logic.specs.declared.syntax.AggKind.{AggKind}
@@ -18,8 +21,10 @@ use Rattle.def_ground.specs.Answers.{GroundResult, opposite_of, gate_of}
 use Rattle.def_ground.specs.Cases.{Case, answer_or_cases, answer_without, cases_of}
 use Rattle.def_ground.specs.Linear.{Linear, lowest, highest, sum_reaches, lits_below, lits_from, reaches_number}
 use Rattle.def_ground.specs.Linear.{both_of}
-use Rattle.def_ground.specs.Linear.{is_number, compared_at, with_problem, weighed, weighed_under, summed_row}
+use Rattle.def_ground.specs.Linear.{is_number, compared_at, with_base, with_problem, weighed, weighed_under, summed_row}
 use Rattle.def_ground.specs.Linear.{listed_under, listed_row, row_step, rows_of_kind, instance_step}
+use Rattle.def_ground.specs.SumSides.{outer, with_number, with_value, number_or_zero, outermost, more_than, with_more}
+use Rattle.def_ground.specs.SumSides.{row_spread, spread, sided, sided_at, sides_meet, sides_by, compared_beside}
 use Rattle.def_ground.specs.Thresholds.{CasesSoFar, compared_with_row, threshold_step, compared_with_rows}
 use Rattle.def_ground.proofs.LinearGuards.{guarded-few}
 
@@ -171,6 +176,228 @@ steps-few k z a (r ∷ rs) st =
     let one = step-few k z a st r in
     let more = steps-few k z a rs (row_step k z a st r) in
     omega (arith, one, more)
+
+-- ---- both sides of a comparison
+
+-- the rows that are more than m
+abbrev ones : Option ℤ → ℕ
+ones None = 0
+ones (Some w) = 1
+
+abbrev others : ℤ → List (List Lit × Denotation) → ℕ
+others m [] = 0
+others m (r ∷ rs) = ones (more_than m r.1) + others m rs
+
+one-few : (o : Option ℤ) → ones o ≤ 1
+one-few None = omega arith
+one-few (Some w) = omega arith
+
+others-few : (m : ℤ) (rs : List (List Lit × Denotation)) → others m rs ≤ length rs
+others-few m [] = omega arith
+others-few m (r ∷ rs) =
+    let one = one-few (more_than m r.1) in
+    let more = others-few m rs in
+    omega (arith, one, more)
+
+-- m itself is not more
+itself : (m : ℤ) → ones (more_than m (number m)) ≡ 0
+itself m = by (int_eq m m) refl
+  where
+    by : (t : Bool) → int_eq m m ≡ t → ones (if t then None else Some (m -ℤ m)) ≡ 0
+    by true e = refl
+    by false e = absurd (wrong e)
+      where
+        wrong : int_eq m m ≡ false → ⊥
+        wrong e = grind (arith, ints, nat_tests)
+
+module _ (high : Bool) where
+  abbrev most : Option ℤ → List (List Lit × Denotation) → Option ℤ
+  most o rs = fold (λ y r. with_value high y r.1) o rs
+
+  -- the outermost number is that before the rows, or that of a row
+  abbrev Attained : Option ℤ → List (List Lit × Denotation) → Type 0
+  Attained o rs = (most o rs ≡ o) ⊎ (others (number_or_zero (most o rs)) rs + 1 ≤ length rs)
+
+  outer-is : (y z : ℤ) → (outer high y z ≡ y) ⊎ (outer high y z ≡ z)
+  outer-is y z = by high
+    where
+      by : (h : Bool) → (outer h y z ≡ y) ⊎ (outer h y z ≡ z)
+      by true = by_test (int_lt z y)
+        where
+          by_test : (t : Bool) → (cond t y z ≡ y) ⊎ (cond t y z ≡ z)
+          by_test true = inl refl
+          by_test false = inr refl
+      by false = by_test (int_lt z y)
+        where
+          by_test : (t : Bool) → (cond t z y ≡ y) ⊎ (cond t z y ≡ z)
+          by_test true = inr refl
+          by_test false = inl refl
+
+  own-first : (z : ℤ) (o : Option ℤ) (g : List Lit) (rs : List (List Lit × Denotation)) → most o rs ≡ Some z
+      → (let all : List (List Lit × Denotation) = (g, number z) ∷ rs in
+      others (number_or_zero (most o rs)) all + 1 ≤ length all)
+  own-first z o g rs e =
+      let own = itself z in
+      let few = others-few z rs in
+      let all : List (List Lit × Denotation) = (g, number z) ∷ rs in
+      let here : others z all + 1 ≤ length all = omega (arith, own, few) in
+      subst (λ y. others (number_or_zero y) all + 1 ≤ length all) (sym e) here
+
+  one-more : (m : ℤ) (g : List Lit) (d : Denotation) (rs : List (List Lit × Denotation)) → others m rs + 1 ≤ length rs
+      → (let all : List (List Lit × Denotation) = (g, d) ∷ rs in others m all + 1 ≤ length all)
+  one-more m g d rs h = let one = one-few (more_than m d) in omega (arith, one, h)
+
+  no-number : (g : List Lit) (d : Denotation) (o : Option ℤ) (rs : List (List Lit × Denotation))
+      → with_value high o d ≡ o → Attained o rs → (let all : List (List Lit × Denotation) = (g, d) ∷ rs in Attained o all)
+  no-number g d o rs same h =
+      let all : List (List Lit × Denotation) = (g, d) ∷ rs in
+      let e : most o all ≡ most o rs = ap (λ y. most y rs) same in
+      elim h as (λ _. Attained o all) [
+        | inl f ↦ inl (e ∙ f)
+        | inr k ↦ inr
+            (subst (λ y. others (number_or_zero y) all + 1 ≤ length all) (sym e)
+            (one-more (number_or_zero (most o rs)) g d rs k))
+      ]
+
+  a-number : (g : List Lit) (z w : ℤ) (o : Option ℤ) (rs : List (List Lit × Denotation))
+      → with_number high o z ≡ Some w → (Some w ≡ o) ⊎ (w ≡ z) → Attained (Some w) rs
+      → (let all : List (List Lit × Denotation) = (g, number z) ∷ rs in Attained o all)
+  a-number g z w o rs is which h =
+      let all : List (List Lit × Denotation) = (g, number z) ∷ rs in
+      let e : most o all ≡ most (Some w) rs = ap (λ y. most y rs) is in
+      let turn : others (number_or_zero (most (Some w) rs)) all + 1 ≤ length all → Attained o all =
+      λ k. inr (subst (λ y. others (number_or_zero y) all + 1 ≤ length all) (sym e) k) in
+      elim h as (λ _. Attained o all) [
+        | inl f ↦ elim which as (λ _. Attained o all) [
+          | inl same ↦ inl (e ∙ f ∙ same)
+          | inr own ↦ turn (own-first z (Some w) g rs (f ∙ ap Some own))
+        ]
+        | inr k ↦ turn (one-more (number_or_zero (most (Some w) rs)) g (number z) rs k)
+      ]
+
+  next-attained : (g : List Lit) (d : Denotation) (o : Option ℤ) (rs : List (List Lit × Denotation))
+      → ((y : Option ℤ) → Attained y rs) → (let all : List (List Lit × Denotation) = (g, d) ∷ rs in Attained o all)
+  next-attained g (number z) None rs h = a-number g z z None rs refl (inr refl) (h (Some z))
+  next-attained g (number z) (Some y) rs h =
+      let w = outer high y z in
+      a-number g z w (Some y) rs refl
+      (elim (outer-is y z) as (λ _. (Some w ≡ Some y) ⊎ (w ≡ z)) [
+        | inl e ↦ inl (ap Some e)
+        | inr e ↦ inr e
+      ]) (h (Some w))
+  next-attained g (named n) o rs h = no-number g (named n) o rs refl (h o)
+  next-attained g minus_infinity o rs h = no-number g minus_infinity o rs refl (h o)
+  next-attained g plus_infinity o rs h = no-number g plus_infinity o rs refl (h o)
+  next-attained g undefined o rs h = no-number g undefined o rs refl (h o)
+
+  attained : (rs : List (List Lit × Denotation)) (o : Option ℤ) → Attained o rs
+  attained [] o = inl refl
+  attained (r ∷ rs) o = next-attained r.0 r.1 o rs (λ y. attained rs y)
+
+  -- a number stays one
+  stays-some : (rs : List (List Lit × Denotation)) (y : ℤ) → most (Some y) rs ≡ None → ⊥
+  stays-some [] y e = cc
+  stays-some (r ∷ rs) y e = by r.1 (λ w. stays-some rs w) e
+    where
+      by : (d : Denotation) → ((w : ℤ) → most (Some w) rs ≡ None → ⊥) → most (with_value high (Some y) d) rs ≡ None → ⊥
+      by (number z) more f = more (outer high y z) f
+      by (named n) more f = more y f
+      by minus_infinity more f = more y f
+      by plus_infinity more f = more y f
+      by undefined more f = more y f
+
+  none-more : (m : ℤ) (rs : List (List Lit × Denotation)) → most None rs ≡ None → others m rs ≡ 0
+  none-more m [] e = refl
+  none-more m (r ∷ rs) e = by r.1 (none-more m rs) e
+    where
+      by : (d : Denotation) → (most None rs ≡ None → others m rs ≡ 0) → most (with_value high None d) rs ≡ None
+          → ones (more_than m d) + others m rs ≡ 0
+      by (number z) more f = absurd (stays-some rs z f)
+      by (named n) more f = let none = more f in omega (arith, none)
+      by minus_infinity more f = let none = more f in omega (arith, none)
+      by plus_infinity more f = let none = more f in omega (arith, none)
+      by undefined more f = let none = more f in omega (arith, none)
+
+  -- a row at least is no more than the outermost number
+  beside-few : (r : List Lit × Denotation) (rs : List (List Lit × Denotation))
+      → others (outermost high (r ∷ rs)) (r ∷ rs) + 1 ≤ length (r ∷ rs)
+  beside-few r rs =
+      elim (attained (r ∷ rs) None) as (λ _. others (outermost high (r ∷ rs)) (r ∷ rs) + 1 ≤ length (r ∷ rs)) [
+        | inl e ↦ (let none = none-more (outermost high (r ∷ rs)) (r ∷ rs) e in omega (arith, none))
+        | inr k ↦ k
+      ]
+
+more-few : (z : ℤ) (o : Option ℤ) (g : List Lit) (st : Linear) → (with_more z o g st).problem.vars ≤ st.problem.vars + ones o
+more-few z None g st = omega arith
+more-few z (Some w) g st = under-few (z *ℤ w) (Constant true) g st
+
+rows-spread-few : (z m : ℤ) (rs : List (List Lit × Denotation)) (st : Linear)
+    → (fold (row_spread z m) st rs).problem.vars ≤ st.problem.vars + others m rs
+rows-spread-few z m [] st = omega arith
+rows-spread-few z m (r ∷ rs) st =
+    let one = more-few z (more_than m r.1) r.0 st in
+    let more = rows-spread-few z m rs (row_spread z m st r) in
+    omega (arith, one, more)
+
+spread-few : (high : Bool) (z : ℤ) (r : List Lit × Denotation) (rs : List (List Lit × Denotation)) (st : Linear)
+    → (spread z (outermost high (r ∷ rs)) (r ∷ rs) st).problem.vars + 1 ≤ st.problem.vars + length (r ∷ rs)
+spread-few high z r rs st =
+    let m = outermost high (r ∷ rs) in
+    let all = rows-spread-few z m (r ∷ rs) (with_base (z *ℤ m) st.problem st) in
+    let few = beside-few high r rs in
+    omega (arith, all, few)
+
+module _ (x y : List Lit × Denotation) (xs ys : List (List Lit × Denotation)) where
+  -- each side takes one less than it has rows
+  sided-few : (high : Bool) (st : Linear)
+      → (sided high st (x ∷ xs) (y ∷ ys)).problem.vars + 2 ≤ st.problem.vars + length (x ∷ xs) + length (y ∷ ys)
+  sided-few high st =
+      let left = spread (pos 1) (outermost high (x ∷ xs)) (x ∷ xs) st in
+      let one = spread-few high (pos 1) x xs st in
+      let two = spread-few (not high) (neg_ℤ (pos 1)) y ys left in
+      omega (arith, one, two)
+
+  meet-few : (st : Linear)
+      → (sides_meet st (x ∷ xs) (y ∷ ys)).problem.vars + 1 ≤ st.problem.vars + 2 * (length (x ∷ xs) + length (y ∷ ys))
+  meet-few st =
+      let low = sided_at true cmp.Ge st (x ∷ xs) (y ∷ ys) in
+      let mid = with_problem low.problem st in
+      let high = sided_at false cmp.Le mid (x ∷ xs) (y ∷ ys) in
+      let one = sided-few true st in
+      let own = reaches-few kind.Sum (sided true st (x ∷ xs) (y ∷ ys)) (pos 0) in
+      let two = sided-few false mid in
+      let next = reaches-few kind.Sum (sided false mid (x ∷ xs) (y ∷ ys)) (pos 0 +ℤ pos 1) in
+      let both = both-few low.answer high.answer high.problem in
+      omega (arith, one, own, two, next, both)
+
+  once-few : (high : Bool) (c : Cmp) (st : Linear)
+      → (sided_at high c st (x ∷ xs) (y ∷ ys)).problem.vars + 1
+      ≤ st.problem.vars + 2 * (length (x ∷ xs) + length (y ∷ ys))
+  once-few high c st =
+      let one = sided-few high st in
+      let own = compared-few kind.Sum c (sided high st (x ∷ xs) (y ∷ ys)) (pos 0) in
+      omega (arith, one, own)
+
+  by-few : (c : Cmp) (st : Linear)
+      → (sides_by c st (x ∷ xs) (y ∷ ys)).problem.vars + 1 ≤ st.problem.vars + 2 * (length (x ∷ xs) + length (y ∷ ys))
+  by-few cmp.Eq st = meet-few st
+  by-few cmp.Ne st = meet-few st
+  by-few cmp.Lt st = once-few false cmp.Lt st
+  by-few cmp.Gt st = once-few true cmp.Gt st
+  by-few cmp.Le st = once-few false cmp.Le st
+  by-few cmp.Ge st = once-few true cmp.Ge st
+
+-- two sides take at most four for each pair of their rows
+pub compared-beside-few : (c : Cmp) (st : Linear) (xs ys : List (List Lit × Denotation))
+    → (compared_beside c st xs ys).problem.vars ≤ st.problem.vars + 4 * (length xs * length ys)
+compared-beside-few c st [] ys = omega arith
+compared-beside-few c st (x ∷ xs) [] = omega arith
+compared-beside-few c st (x ∷ xs) (y ∷ ys) =
+    let few = by-few x y xs ys c st in
+    let all : length (x ∷ xs) * length (y ∷ ys) ≡ length xs * length ys + length xs + length ys + 1 = omega arith in
+    omega (arith, few, all)
+
+-- ---- all instances
 
 -- an instance takes at most one for each row of its weight, beside those of its condition
 pub instance-few : (k : AggKind) (z : ℤ) (F : List Elem → ProblemState → GroundResult)

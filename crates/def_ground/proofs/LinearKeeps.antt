@@ -1,6 +1,6 @@
 -- Aggregates keep what is said: they add gates and constraints alone, and clauses for the cases of their comparisons.
-use Rattle.std.proofs.Common.{ℤ, pos, ◌+ℤ◌, ◌-ℤ◌, ◌*ℤ◌, int_le, int_lt, Bool, true, false, if◌then◌else◌, List, [], ◌∷◌}
-use Rattle.std.proofs.Common.{map, fold}
+use Rattle.std.proofs.Common.{ℤ, pos, neg_ℤ, ◌+ℤ◌, ◌-ℤ◌, ◌*ℤ◌, int_le, int_lt, Bool, true, false, not, if◌then◌else◌}
+use Rattle.std.proofs.Common.{List, [], ◌∷◌, map, fold, Option, Some, None}
 use Rattle.kb_logic.specs.declared.elements.Elem.{Elem}
 use Rattle.kb_logic.specs.declared.elements.ExtInt.TheVariants.{Num}
 use Rattle.kb_logic.specs.declared.syntax.AggKind.{AggKind}
@@ -19,8 +19,10 @@ use Rattle.def_ground.specs.Cases.{cases_of}
 use Rattle.def_ground.specs.Guards.{guarded_by}
 use Rattle.def_ground.specs.Linear.{Linear, lowest, highest, sum_reaches, lits_below, lits_from, reaches_number}
 use Rattle.def_ground.specs.Linear.{both_of}
-use Rattle.def_ground.specs.Linear.{is_number, compared_at, with_problem, weighed, weighed_under, summed_row}
+use Rattle.def_ground.specs.Linear.{is_number, compared_at, with_base, with_problem, weighed, weighed_under, summed_row}
 use Rattle.def_ground.specs.Linear.{listed_under, listed_row, row_step, rows_of_kind, instance_step}
+use Rattle.def_ground.specs.SumSides.{outermost, more_than, with_more, row_spread, spread, sided, sided_at, sides_meet}
+use Rattle.def_ground.specs.SumSides.{sides_by, compared_beside}
 use Rattle.def_ground.specs.Thresholds.{CasesSoFar, compared_with_row, threshold_step, compared_with_rows}
 use Rattle.def_ground.proofs.KeepSteps.{Keeps, keeps-all, keeps-on, keeps-gate, keeps-sum, gate-keeps, cases-keep}
 
@@ -158,6 +160,58 @@ steps-keep k z a (r ∷ rs) st =
     let next = row_step k z a st r in
     keeps-on st.problem next.problem (fold (row_step k z a) next rs).problem (step-keeps k z a st r)
     (steps-keep k z a rs next)
+
+-- ---- both sides of a comparison
+
+more-keeps : (z : ℤ) (o : Option ℤ) (g : List Lit) (st : Linear) → Keeps st.problem (with_more z o g st).problem
+more-keeps z None g st = keeps-all st.problem
+more-keeps z (Some w) g st = under-keeps (z *ℤ w) (Constant true) g st
+
+rows-spread-keep : (z m : ℤ) (rs : List (List Lit × Denotation)) (st : Linear)
+    → Keeps st.problem (fold (row_spread z m) st rs).problem
+rows-spread-keep z m [] st = keeps-all st.problem
+rows-spread-keep z m (r ∷ rs) st =
+    let next = row_spread z m st r in
+    keeps-on st.problem next.problem (fold (row_spread z m) next rs).problem (more-keeps z (more_than m r.1) r.0 st)
+    (rows-spread-keep z m rs next)
+
+sided-keeps : (high : Bool) (c : Cmp) (st : Linear) (xs ys : List (List Lit × Denotation))
+    → Keeps st.problem (sided_at high c st xs ys).problem
+sided-keeps high c st xs ys =
+    let low = outermost high xs in
+    let left = spread (pos 1) low xs st in
+    let m = outermost (not high) ys in
+    let both = sided high st xs ys in
+    keeps-on st.problem left.problem (sided_at high c st xs ys).problem
+    (rows-spread-keep (pos 1) low xs (with_base (pos 1 *ℤ low) st.problem st))
+    (keeps-on left.problem both.problem (sided_at high c st xs ys).problem
+    (rows-spread-keep (neg_ℤ (pos 1)) m ys (with_base (neg_ℤ (pos 1) *ℤ m) left.problem left))
+    (compared-keeps kind.Sum c both (pos 0)))
+
+meet-keeps : (st : Linear) (xs ys : List (List Lit × Denotation)) → Keeps st.problem (sides_meet st xs ys).problem
+meet-keeps st xs ys =
+    let low = sided_at true cmp.Ge st xs ys in
+    let mid = with_problem low.problem st in
+    let high = sided_at false cmp.Le mid xs ys in
+    keeps-on st.problem low.problem (sides_meet st xs ys).problem (sided-keeps true cmp.Ge st xs ys)
+    (keeps-on low.problem high.problem (sides_meet st xs ys).problem (sided-keeps false cmp.Le mid xs ys)
+    (both-keep low.answer high.answer high.problem))
+
+by-keeps : (c : Cmp) (st : Linear) (xs ys : List (List Lit × Denotation)) → Keeps st.problem (sides_by c st xs ys).problem
+by-keeps cmp.Eq st xs ys = meet-keeps st xs ys
+by-keeps cmp.Ne st xs ys = meet-keeps st xs ys
+by-keeps cmp.Lt st xs ys = sided-keeps false cmp.Lt st xs ys
+by-keeps cmp.Gt st xs ys = sided-keeps true cmp.Gt st xs ys
+by-keeps cmp.Le st xs ys = sided-keeps false cmp.Le st xs ys
+by-keeps cmp.Ge st xs ys = sided-keeps true cmp.Ge st xs ys
+
+pub compared-beside-keeps : (c : Cmp) (st : Linear) (xs ys : List (List Lit × Denotation))
+    → Keeps st.problem (compared_beside c st xs ys).problem
+compared-beside-keeps c st [] ys = keeps-all st.problem
+compared-beside-keeps c st (x ∷ xs) [] = keeps-all st.problem
+compared-beside-keeps c st (x ∷ xs) (y ∷ ys) = by-keeps c st (x ∷ xs) (y ∷ ys)
+
+-- ---- all instances
 
 -- an instance keeps what its condition keeps
 pub instance-keeps : (k : AggKind) (z : ℤ) (F : List Elem → ProblemState → GroundResult)

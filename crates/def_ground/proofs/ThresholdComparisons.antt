@@ -176,7 +176,7 @@ module _ (p : ProblemState) (fine : IsProblem p) (F G : (ℕ → Bool) → Bool)
       → Means p p a (λ v. F v && G v)
   alone a within right = record { fine = fine; more = more-refl p; within = within; right = right }
 
-  both-right : (a b : Answer) → AnswerWithin p.vars a → AnswerWithin p.vars b
+  pub both-right : (a b : Answer) → AnswerWithin p.vars a → AnswerWithin p.vars b
       → ((v : ℕ → Bool) → Satisfies p v → answer_value v a ≡ F v)
       → ((v : ℕ → Bool) → Satisfies p v → answer_value v b ≡ G v)
       → Means p (both_of a b p).problem (both_of a b p).answer (λ v. F v && G v)

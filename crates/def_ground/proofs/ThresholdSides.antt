@@ -1,5 +1,5 @@
 -- Comparisons turned round, and brought to one side.
-use Rattle.std.proofs.Common.{◌≡◌, ℕ, ℤ, ◌+ℤ◌, ◌-ℤ◌, int_lt, int_eq, Bool, true, false, not, ◌||◌, List, [], ◌∷◌, refl}
+use Rattle.std.proofs.Common.{◌≡◌, ℤ, ◌+ℤ◌, ◌-ℤ◌, int_lt, int_eq, Bool, true, false, not, ◌||◌, refl}
 use Rattle.std.proofs.Common.{ap, ◌∙◌, arith}
 use Rattle.std.proofs.lemmas.Bool.Decides.{nat_tests}
 use Rattle.std.proofs.lemmas.Int.{ints}
@@ -7,10 +7,7 @@ use Rattle.kb_logic.specs.declared.syntax.Cmp.{Cmp}
 use Rattle.kb_logic.specs.declared.syntax.Cmp.TheVariants as cmp
 use Rattle.kb_logic.specs.Denotations.{Denotation, number, named, minus_infinity, plus_infinity, undefined, compared}
 use Rattle.kb_logic.specs.Denotations.{same_value}
-use Rattle.lit_core.specs.declared.literals.Lit.{Lit}
-use Rattle.term_values.specs.Rows.{selected_values}
-use Rattle.term_values.proofs.RowLaws.{selected-paired}
-use Rattle.def_ground.specs.Thresholds.{flipped, less, rows_between_sides}
+use Rattle.def_ground.specs.Thresholds.{flipped}
 
 -- ---- turned round
 
@@ -97,9 +94,3 @@ sides-compared c l r a b =
     by cmp.Gt e f g = f
     by cmp.Le e f g = ap (λ t. t || int_eq (l +ℤ a) (r +ℤ b)) e ∙ ap (λ t. int_lt (l -ℤ r) (b -ℤ a) || t) g
     by cmp.Ge e f g = ap (λ t. t || int_eq (l +ℤ a) (r +ℤ b)) f ∙ ap (λ t. int_lt (b -ℤ a) (l -ℤ r) || t) g
-
--- the one row that is left between the sides
-pub between-selected : (v : ℕ → Bool) (xs ys : List (List Lit × Denotation)) (a b : ℤ)
-    → selected_values v xs ≡ number a ∷ [] → selected_values v ys ≡ number b ∷ []
-    → selected_values v (rows_between_sides xs ys) ≡ number (b -ℤ a) ∷ []
-between-selected v xs ys a b e f = selected-paired v less ys xs (number b) (number a) f e

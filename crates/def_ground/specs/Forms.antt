@@ -27,7 +27,8 @@ use Rattle.def_ground.specs.Cases.{Case, case_of, cases_of}
 use Rattle.def_ground.specs.Comparisons.{comparison_of}
 use Rattle.def_ground.specs.Counting.{has_aggregate, have_aggregates, integer_factor, extreme_of}
 use Rattle.def_ground.specs.Linear.{Linear, instance_step, compared_at}
-use Rattle.def_ground.specs.Thresholds.{compared_with_rows, flipped, rows_between_sides}
+use Rattle.def_ground.specs.SumSides.{compared_sums}
+use Rattle.def_ground.specs.Thresholds.{compared_with_rows, flipped}
 
 -- what is known of an atom, or its literal
 abbrev pub answer_of_atom : Option Bool → ℕ → Answer
@@ -105,7 +106,7 @@ abbrev pub compared_sides : Option AggKind → Option AggKind → Cmp → (left 
     → List (List Lit × Denotation) → List (List Lit × Denotation) → GroundResult
 compared_sides (Some k) o c left right both xs ys = compared_with_rows k c left ys
 compared_sides None (Some k) c left right both xs ys = compared_with_rows k (flipped c) right xs
-compared_sides None None c left right both xs ys = compared_with_rows kind.Sum c both (rows_between_sides xs ys)
+compared_sides None None c left right both xs ys = compared_sums c both xs ys
 
 abbrev mutual
   -- what a formula comes to

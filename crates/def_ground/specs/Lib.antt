@@ -6,6 +6,7 @@ pub mod Guards
 pub mod Counting
 pub mod Linear
 pub mod Thresholds
+pub mod SumSides
 pub mod Forms
 pub mod CaseSentences
 pub mod Disjuncts
@@ -18,7 +19,6 @@ pub mod AskedTerms
 pub mod Meanings
 pub mod LinearValues
 pub mod LinearViews
-pub mod ThresholdViews
 pub mod Groundings
 pub mod Laws
 pub mod Examples

@@ -1,12 +1,11 @@
--- Comparisons of an aggregate with the rows of other terms: a threshold for each row.
-use Rattle.std.specs.Prelude.{◌-ℤ◌, List, [], ◌∷◌, ◌++◌, fold, false, true}
+-- Comparisons of a minimum or a maximum with the rows of other terms: a threshold for each row.
+use Rattle.std.specs.Prelude.{List, [], ◌∷◌, ◌++◌, fold, false, true}
 use Rattle.kb_logic.specs.declared.syntax.AggKind.{AggKind}
 use Rattle.kb_logic.specs.declared.syntax.Cmp.{Cmp}
 use Rattle.kb_logic.specs.declared.syntax.Cmp.TheVariants as cmp
 use Rattle.kb_logic.specs.Denotations.{Denotation, number, named, minus_infinity, plus_infinity, undefined}
 use Rattle.lit_core.specs.declared.literals.Lit.{Lit}
 use Rattle.ground_core.specs.Problems.{ProblemState}
-use Rattle.term_values.specs.Rows.{pair_rows}
 use Rattle.def_ground.specs.declared.answers.Answer.TheVariants.{Constant}
 use Rattle.def_ground.specs.Answers.{GroundResult}
 use Rattle.def_ground.specs.Cases.{Case, case_of, cases_of}
@@ -46,14 +45,3 @@ flipped cmp.Lt = cmp.Gt
 flipped cmp.Gt = cmp.Lt
 flipped cmp.Le = cmp.Ge
 flipped cmp.Ge = cmp.Le
-
--- the one number less the other
-abbrev pub less : Denotation → Denotation → Denotation
-less (number a) (number b) = number (a -ℤ b)
-less _ _ = undefined
-
--- what is left on the right side of a comparison where only the aggregates stay on the left: the rows of the right
--- side less those of the left one
-abbrev pub rows_between_sides : List (List Lit × Denotation) → List (List Lit × Denotation)
-    → List (List Lit × Denotation)
-rows_between_sides xs ys = pair_rows less ys xs

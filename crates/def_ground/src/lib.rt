@@ -12,6 +12,7 @@ mod laws;
 mod linear;
 mod shown_cases;
 mod sides;
+mod sum_sides;
 mod threshold_rows;
 mod thresholds;
 
@@ -26,5 +27,6 @@ pub use laws::{
 };
 pub use linear::{Linear, Weighing, guarded_literal, push_counted, push_weighed};
 pub use sides::{GuardedValue, case_of_row};
-pub use threshold_rows::{compared_between, compared_with_rows};
+pub use sum_sides::compared_beside;
+pub use threshold_rows::compared_with_rows;
 pub use thresholds::{compared_at, flipped};

@@ -196,7 +196,7 @@ fn weigh(alloc: Global, weight: i64, answer: Answer, linear: &mut Linear) -> Res
 }
 
 /// Adds the weight under an answer and guards.
-fn weigh_under(
+pub(crate) fn weigh_under(
     alloc: Global,
     weight: i64,
     answer: Answer,

@@ -77,7 +77,7 @@ fn least_of(bound: i128, base: i64) -> Result<i64, Memory>
 }
 
 /// The same parts.
-fn copied(alloc: Global, parts: &[Part]) -> Result<PartList, Memory>
+pub(crate) fn copied(alloc: Global, parts: &[Part]) -> Result<PartList, Memory>
     ensures { IfOk result (λ ps. ps ≡ parts.now) }
 {
     Ok(PartList::from_vec(parts.to_vec(alloc)?))
@@ -159,7 +159,12 @@ fn reaches(
 }
 
 /// Whether both are so.
-fn both(alloc: Global, a: Answer, b: Answer, problem: &mut Problem) -> Result<Answer, Memory>
+pub(crate) fn both(
+    alloc: Global,
+    a: Answer,
+    b: Answer,
+    problem: &mut Problem,
+) -> Result<Answer, Memory>
     requires first { AnswerWithin problem.old.vars a }
     requires second { AnswerWithin problem.old.vars b }
     ensures made { IfOk result (λ r. Makes (both_of a b problem.old) r problem.new) }

@@ -2,18 +2,20 @@
 use Rattle.std.proofs.Common.{◌≡◌, ℕ, zero, suc, ◌+◌, ◌<◌, ◌≤◌, Bool, true, false, not, if◌then◌else◌, List, [], ◌∷◌}
 use Rattle.std.proofs.Common.{◌++◌, map, length, take}
 use Rattle.std.proofs.Common.{OnOk, Result, Ok, Err, drop, Option, Some, None, slice_get, refl, sym, ap, subst, ◌∙◌}
-use Rattle.std.proofs.Common.{arith}
+use Rattle.std.proofs.Common.{ℤ, pos, arith}
+use Rattle.std.proofs.lemmas.Int.{ints}
 use Rattle.std.specs.Option.{option_map}
 use Rattle.std.specs.List.{AllByRecursion}
 use Rattle.kb_logic.specs.declared.elements.Elem.{Elem}
 use Rattle.kb_logic.specs.declared.syntax.Cmp.{Cmp}
-use Rattle.kb_logic.specs.Denotations.{Denotation, compared}
+use Rattle.kb_logic.specs.Denotations.{Denotation, number, named, minus_infinity, plus_infinity, undefined, compared}
 use Rattle.kb_logic.specs.Trees.{TermTree, TermTrees}
 use Rattle.lit_core.specs.declared.literals.Lit.{Lit}
+use Rattle.ground_core.specs.declared.parts.Part.{Part}
 use Rattle.ground_core.specs.Problems.{ProblemState, AreLitsOf}
 use Rattle.term_values.specs.GroundBases.{GroundBase, first_var, known_of, row_index, tuples_at}
 use Rattle.term_values.specs.KnownBases.{IsGroundBase}
-use Rattle.term_values.specs.Rows.{rows_of_term, rows_of_terms}
+use Rattle.term_values.specs.Rows.{map_rows, rows_of_term, rows_of_terms}
 use Rattle.term_values.proofs.RowFacts.{place-below}
 use Rattle.def_ground.specs.declared.answers.Answer.{Answer}
 use Rattle.def_ground.specs.declared.answers.Answer.TheVariants.{Constant, Literal}
@@ -24,7 +26,9 @@ use Rattle.def_ground.specs.Comparisons.{guard_answers, comparison_case, compari
 use Rattle.def_ground.specs.Forms.{answer_of_atom, atom_answer, atom_case, signed_result}
 use Rattle.def_ground.specs.Problems.{start_problem}
 use Rattle.def_ground.specs.GroundForms.{IsPredicateOf}
+use Rattle.def_ground.specs.Linear.{Linear}
 use Rattle.def_ground.specs.Meanings.{HasRoom, IsCaseOf}
+use Rattle.def_ground.specs.SumSides.{raised, compared_by_parts, compared_sums}
 use Rattle.def_ground.proofs.AssertLaws.{room-grown}
 use Rattle.def_ground.proofs.Growing.{lits-more}
 use Rattle.def_ground.proofs.Leaves.{first-above, known-in, case-in, cases-in, term-in, terms-in, rows-more}
@@ -60,6 +64,35 @@ next-row C (r ∷ rs) zero g x hg hx =
 next-row C (r ∷ rs) (suc k) g x hg hx =
     let next : suc k + 1 ≡ suc (k + 1) = omega arith in
     ap (λ n. map C (take n (r ∷ rs))) next ∙ ap (λ cs. C r ∷ cs) (next-row C rs k g x hg hx)
+
+-- and where the values are raised
+pub next-raised : {Y : Type 0} (C : List Lit × Denotation → Y) (w : ℤ) (rs : List (List Lit × Denotation)) (k : ℕ)
+    (g : List Lit) (x : Denotation) → option_map (λ r. r.0) (slice_get rs k) ≡ Some g
+    → option_map (λ r. r.1) (slice_get rs k) ≡ Some x
+    → map C (map_rows (raised w) (take (k + 1) rs))
+    ≡ map C (map_rows (raised w) (take k rs)) ++ C (g, raised w x) ∷ []
+next-raised C w [] k g x hg hx = cc
+next-raised C w (r ∷ rs) zero g x hg hx =
+    let guards : r.0 ≡ g = cc in
+    let value : r.1 ≡ x = cc in
+    ap (λ l. C (l, raised w r.1) ∷ []) guards ∙ ap (λ y. C (g, raised w y) ∷ []) value
+next-raised C w (r ∷ rs) (suc k) g x hg hx =
+    let next : suc k + 1 ≡ suc (k + 1) = omega arith in
+    ap (λ n. map C (map_rows (raised w) (take n (r ∷ rs)))) next
+    ∙ ap (λ cs. C (r.0, raised w r.1) ∷ cs) (next-raised C w rs k g x hg hx)
+
+-- a value raised by 0
+raised-zero : (d : Denotation) → raised (pos 0) d ≡ d
+raised-zero (number z) = ap number (omega (arith, ints))
+raised-zero (named n) = refl
+raised-zero minus_infinity = refl
+raised-zero plus_infinity = refl
+raised-zero undefined = refl
+
+pub none-raised : (rs : List (List Lit × Denotation)) → map_rows (raised (pos 0)) rs ≡ rs
+none-raised [] = refl
+none-raised (r ∷ rs) =
+    ap (λ d. (r.0, d) ∷ map_rows (raised (pos 0)) rs) (raised-zero r.1) ∙ ap (λ qs. r ∷ qs) (none-raised rs)
 
 -- the row that is next of those that are left
 pub row-left : {X : Type 0} (rs : List (List Lit × X)) (k : ℕ) (g : List Lit) (x : X)
@@ -175,11 +208,22 @@ comparison-cases-in c p xs ys hx hy =
     }) hx
 
 -- a comparison whose left term has a row
-pub comparison-by-rows : (c : Cmp) (p : ProblemState) (xs ys : List (List Lit × Denotation)) → 1 ≤ length xs
-    → comparison_of c xs ys p
-    ≡ cases_of (map (comparison_case c (guard_answers ys p).rows) xs) (guard_answers ys p).problem
-comparison-by-rows c p [] ys h = absurd (omega (arith, h))
-comparison-by-rows c p (x ∷ xs) ys h = refl
+pub comparison-by-rows : (c : Cmp) (p : ProblemState) (w : ℤ) (xs ys : List (List Lit × Denotation)) → 1 ≤ length xs
+    → (let zs = map_rows (raised w) xs in
+    comparison_of c zs ys p
+    ≡ cases_of (map (comparison_case c (guard_answers ys p).rows) zs) (guard_answers ys p).problem)
+comparison-by-rows c p w [] ys h = absurd (omega (arith, h))
+comparison-by-rows c p w (x ∷ xs) ys h = refl
+
+-- a sum without parts is compared by rows
+pub no-parts : (c : Cmp) (st : Linear) (xs ys : List (List Lit × Denotation)) → length st.parts ≡ 0
+    → compared_sums c st xs ys ≡ comparison_of c (map_rows (raised st.base) xs) ys st.problem
+no-parts c st xs ys h = by st.parts h
+  where
+    by : (ps : List Part) → length ps ≡ 0
+        → compared_by_parts ps c st xs ys ≡ comparison_of c (map_rows (raised st.base) xs) ys st.problem
+    by [] none = refl
+    by (p ∷ ps) none = absurd (omega (arith, none))
 
 -- the guards of the next row are over the first n variables
 pub guards-within : {X : Type 0} (n : ℕ) (rs : List (List Lit × X)) (k : ℕ) (g : List Lit)
@@ -211,12 +255,13 @@ module _ (rs : List (List Lit × Denotation)) (k : ℕ) (g : List Lit) (x : Deno
       (drop (k + 1) rs) all.1
 
 -- a comparison that is asserted, whose left term has a row
-pub asserted-by-rows : (sign : Bool) (c : Cmp) (ls : List Lit) (p : ProblemState)
+pub asserted-by-rows : (sign : Bool) (c : Cmp) (ls : List Lit) (p : ProblemState) (w : ℤ)
     (xs ys : List (List Lit × Denotation)) → 1 ≤ length xs
-    → assert_comparison sign c xs ys ls p
-    ≡ assert_cases sign ls (map (comparison_case c (guard_answers ys p).rows) xs) (guard_answers ys p).problem
-asserted-by-rows sign c ls p [] ys h = absurd (omega (arith, h))
-asserted-by-rows sign c ls p (x ∷ xs) ys h = refl
+    → (let zs = map_rows (raised w) xs in
+    assert_comparison sign c zs ys ls p
+    ≡ assert_cases sign ls (map (comparison_case c (guard_answers ys p).rows) zs) (guard_answers ys p).problem)
+asserted-by-rows sign c ls p w [] ys h = absurd (omega (arith, h))
+asserted-by-rows sign c ls p w (x ∷ xs) ys h = refl
 
 -- what an Ok promises gives what it gives
 pub on-ok : {A E : Type 0} {P Q : Type 0} (r : Result A E) → (P → Q) → OnOk r P → OnOk r Q

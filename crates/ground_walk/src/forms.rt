@@ -17,20 +17,18 @@ ghost use Rattle.def_ground.specs.Answers.{Makes, Grows, AnswerWithin};
 ghost use Rattle.def_ground.specs.Forms.{form_of, parts_of, signed_result, close_parts, next_parts, no_more_parts};
 ghost use Rattle.def_ground.specs.Forms.{same_of, no_parts_yet, sums_of, sums_of_summands, sums_of_factors};
 ghost use Rattle.def_ground.specs.LinearViews.{linear_view, LinearGrows};
-ghost use Rattle.def_ground.specs.Thresholds.{compared_with_rows as compared_by_rows, rows_between_sides};
+ghost use Rattle.def_ground.specs.SumSides.{compared_sums};
+ghost use Rattle.def_ground.specs.Thresholds.{compared_with_rows as compared_by_rows};
 ghost use Rattle.ground_walk.specs.Groundable.{HasVars, IsGroundable, AreGroundable, AreInstancesGroundable};
 ghost use Rattle.ground_walk.specs.Groundable.{AreSummandsGroundable, AreFactorsGroundable};
 ghost use Rattle.ground_walk.specs.Steps.{PartsGrow, MakesParts, open_parts, part_step};
 ghost use Rattle.ground_walk.specs.Weighing.{weight_view, InstanceFits, weighed_step};
 
 use crate::counting::{Sides, have_aggregates, sides_of, times_integers, with_sign};
-use crate::leaves::{Compared, atom, comparison};
+use crate::leaves::{Compared, atom, compare_sides, comparison};
 use crate::scopes::{Binder, Scope};
 use crate::weights::{Weights, add_instance};
-use def_ground::{
-    Answer, Linear, add_part, close, compared_at, compared_between, compared_with_rows, flipped,
-    same,
-};
+use def_ground::{Answer, Linear, add_part, close, compared_at, compared_with_rows, flipped, same};
 use ground_core::{Memory, Problem};
 use kb_logic::{AggKind, Cmp, Formula, Signed, Term};
 use lit_core::Lit;
@@ -353,18 +351,18 @@ fn compare_sums<'a>(
     requires left { RowsFit scope.base.now (term_view left.now) (env_view scope.env.now) }
     requires right { RowsFit scope.base.now (term_view right.now) (env_view scope.env.now) }
     ensures made { IfOk result
-        (λ a. Makes (compared_by_rows kind.Sum cmp
+        (λ a. Makes (compared_sums cmp
         (sums_of scope.entry.base.now (neg_ℤ (pos 1)) (term_view right.now) (env_view scope.entry.env.now)
         (linear_view left_linear problem.old))
-        (rows_between_sides (rows_of_term scope.entry.base.now (term_view left.now) (env_view scope.entry.env.now))
-        (rows_of_term scope.entry.base.now (term_view right.now) (env_view scope.entry.env.now)))) a problem.new) }
+        (rows_of_term scope.entry.base.now (term_view left.now) (env_view scope.entry.env.now))
+        (rows_of_term scope.entry.base.now (term_view right.now) (env_view scope.entry.env.now))) a problem.new) }
     ensures grows { IfOk result (λ a. Grows problem.old problem.new a) }
 {
     let mut linear = left_linear;
     add_aggregates(scope, -1, right, &mut linear, problem)?;
     let left_rows = scope.base.rows(scope.alloc, left, scope.env)?;
     let right_rows = scope.base.rows(scope.alloc, right, scope.env)?;
-    compared_between(scope.alloc, cmp, &linear, &left_rows, &right_rows, problem)
+    compare_sides(scope.alloc, cmp, &linear, &left_rows, &right_rows, problem)
 }
 
 /// The parts of the aggregates in a term.

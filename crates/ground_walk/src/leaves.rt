@@ -3,13 +3,14 @@ ghost use Rattle.std.specs.Prelude.{◌≡◌, ◌≤◌, IsNone, IfSome, MatchO
 ghost use Rattle.std.specs.List.{AllByRecursion};
 ghost use Rattle.kb_logic.specs.Bounds.{value_type_of};
 ghost use Rattle.kb_logic.specs.Trees.{terms_of, atom};
+ghost use Rattle.kb_logic.specs.Values.{value_view};
 ghost use Rattle.kb_logic.specs.Views.{term_view};
 ghost use Rattle.plain_evaluation.specs.Environments.{env_view};
-ghost use Rattle.ground_core.specs.Problems.{AreLitsOf, ProblemState};
+ghost use Rattle.ground_core.specs.Problems.{AreLitsOf, ArePartsOf, ProblemState};
 ghost use Rattle.term_values.specs.GroundBases.{row_index, tuples_at};
 ghost use Rattle.term_values.specs.KnownBases.{IsGroundBase};
 ghost use Rattle.term_values.specs.RowArithmetic.{RowsFit};
-ghost use Rattle.term_values.specs.Rows.{rows_of_term};
+ghost use Rattle.term_values.specs.Rows.{map_rows, rows_of_term};
 ghost use Rattle.term_values.specs.RowValues.{row_value};
 ghost use Rattle.def_ground.specs.declared.answers.Answer.TheVariants.{Constant};
 ghost use Rattle.def_ground.specs.Answers.{Makes, Grows, gate_of};
@@ -18,16 +19,18 @@ ghost use Rattle.def_ground.specs.CaseSentences.{assert_comparison};
 ghost use Rattle.def_ground.specs.CaseViews.{case_view, guarded_view};
 ghost use Rattle.def_ground.specs.Comparisons.{guard_answers as answers_of_guards, comparison_case, comparison_of};
 ghost use Rattle.def_ground.specs.Forms.{form_of, atom_case, atom_answer as answer_at};
+ghost use Rattle.def_ground.specs.LinearViews.{linear_view};
 ghost use Rattle.def_ground.specs.Sentences.{assert_of};
+ghost use Rattle.def_ground.specs.SumSides.{compared_sums, raised as raised_value};
 ghost use Rattle.ground_walk.specs.Groundable.{HasVars, IsGroundable, HaveLits};
 
 use crate::scopes::Scope;
 use def_ground::{
-    Answer, Case, GuardedValue, answer_of_cases, case_of, case_of_row, gate, push_answer,
-    push_cases,
+    Answer, Case, GuardedValue, Linear, answer_of_cases, case_of, case_of_row, compared_beside,
+    gate, push_answer, push_cases,
 };
 use ground_core::{LitList, Memory, Problem};
-use kb_logic::values::compare;
+use kb_logic::values::{Value, compare};
 use kb_logic::{Cmp, Term};
 use lit_core::Lit;
 use std::alloc::Global;
@@ -41,10 +44,11 @@ pub(crate) struct Compared<'a> {
     pub right: &'a Term,
 }
 
-/// The rows of two terms that are compared.
+/// The rows of two terms that are compared. The base is added to the numbers of the left ones.
 #[derive(Clone, Copy)]
 struct ComparedRows<'a> {
     cmp: Cmp,
+    base: i64,
     left: &'a Rows<'a>,
     right: &'a Rows<'a>,
 }
@@ -181,19 +185,34 @@ fn guard_answers<'a>(
     Ok(answers)
 }
 
+/// A value with a number more, where it is one. A number past 64 bits counts as out of memory.
+fn raised<'a>(base: i64, value: Value<'a>) -> Result<Value<'a>, Memory>
+    ensures { IfOk result (λ x. value_view x ≡ raised_value base (value_view value.entry)) }
+{
+    let Value::Num(number) = value else {
+        return Ok(value);
+    };
+    match number.checked_add(base) {
+        Some(number) => Ok(Value::Num(number)),
+        None => Err(Memory),
+    }
+}
+
 /// The cases of a comparison, by the rows of its left term.
 fn comparison_cases<'r>(
     alloc: Global,
-    cmp: Cmp,
-    left: &'r Rows<'_>,
+    rows: ComparedRows<'r>,
     right: &[GuardedValue<'_>],
 ) -> Result<Vec<Case<'r>>, Memory>
     ensures { IfOk result (λ cs. map case_view cs.items
-        ≡ map (comparison_case cmp (map guarded_view right.now)) left.now) }
+        ≡ map (comparison_case rows.entry.cmp (map guarded_view right.now))
+        (map_rows (raised_value rows.entry.base) rows.entry.left.now)) }
 {
+    let left = rows.left;
     let mut cases = Vec::with_capacity(alloc, left.len())?;
     for row in 0..left.len() {
-        let case = case_of_row(alloc, cmp, left.guards(row), left.value(row), right)?;
+        let value = raised(rows.base, left.value(row))?;
+        let case = case_of_row(alloc, rows.cmp, left.guards(row), value, right)?;
         cases.push(case)?;
     }
     Ok(cases)
@@ -208,14 +227,15 @@ fn compare_rows(
     requires left { HaveLits problem.old.vars rows.left.now }
     requires right { HaveLits problem.old.vars rows.right.now }
     ensures made { IfOk result (λ a. Makes
-        (comparison_of rows.entry.cmp rows.entry.left.now rows.entry.right.now problem.old) a problem.new) }
+        (comparison_of rows.entry.cmp (map_rows (raised_value rows.entry.base) rows.entry.left.now)
+        rows.entry.right.now problem.old) a problem.new) }
     ensures grows { IfOk result (λ a. Grows problem.old problem.new a) }
 {
     if rows.left.len() == 0 {
         return Ok(Answer::Constant(true));
     }
     let values = guard_answers(alloc, rows.right, problem)?;
-    let cases = comparison_cases(alloc, rows.cmp, rows.left, values.as_slice())?;
+    let cases = comparison_cases(alloc, rows, values.as_slice())?;
     answer_of_cases(alloc, cases.as_slice(), problem)
 }
 
@@ -260,10 +280,40 @@ pub(crate) fn comparison<'a>(
     let right_rows = scope.base.rows(scope.alloc, sides.right, scope.env)?;
     let rows = ComparedRows {
         cmp: sides.cmp,
+        base: 0,
         left: &left_rows,
         right: &right_rows,
     };
     compare_rows(scope.alloc, rows, problem)
+}
+
+// Where data fix each instance of the counts and sums, their whole is a number, and needs no constraint.
+/// How counts and sums compare with what is left of the sides, of which these are the rows.
+pub(crate) fn compare_sides(
+    alloc: Global,
+    cmp: Cmp,
+    linear: &Linear,
+    left: &Rows<'_>,
+    right: &Rows<'_>,
+    problem: &mut Problem,
+) -> Result<Answer, Memory>
+    requires parts { ArePartsOf problem.old.vars linear.now.parts }
+    requires left { HaveLits problem.old.vars left.now }
+    requires right { HaveLits problem.old.vars right.now }
+    ensures made { IfOk result
+        (λ a. Makes (compared_sums cmp (linear_view linear.now problem.old) left.now right.now) a problem.new) }
+    ensures grows { IfOk result (λ a. Grows problem.old problem.new a) }
+{
+    if linear.parts.is_empty() {
+        let rows = ComparedRows {
+            cmp,
+            base: linear.base,
+            left,
+            right,
+        };
+        return compare_rows(alloc, rows, problem);
+    }
+    compared_beside(alloc, cmp, linear, left, right, problem)
 }
 
 /// Says that one of the literals is true, or the comparison of terms with these rows is, or where the sign is false is
@@ -278,8 +328,8 @@ fn push_compared(
     requires left { HaveLits problem.old.vars rows.left.now }
     requires right { HaveLits problem.old.vars rows.right.now }
     requires lits { AreLitsOf problem.old.vars lits.now }
-    ensures made { OnOk result (problem.new ≡ assert_comparison sign rows.entry.cmp rows.entry.left.now
-        rows.entry.right.now lits.now problem.old) }
+    ensures made { OnOk result (problem.new ≡ assert_comparison sign rows.entry.cmp
+        (map_rows (raised_value rows.entry.base) rows.entry.left.now) rows.entry.right.now lits.now problem.old) }
     ensures grows { OnOk result (problem.old.vars ≤ problem.new.vars) }
 {
     if rows.left.len() == 0 {
@@ -287,7 +337,7 @@ fn push_compared(
         return push_answer(alloc, always.signed(sign), lits, problem);
     }
     let values = guard_answers(alloc, rows.right, problem)?;
-    let cases = comparison_cases(alloc, rows.cmp, rows.left, values.as_slice())?;
+    let cases = comparison_cases(alloc, rows, values.as_slice())?;
     push_cases(alloc, sign, lits, cases.as_slice(), problem)
 }
 
@@ -315,6 +365,7 @@ pub(crate) fn push_comparison<'a>(
     let right_rows = scope.base.rows(scope.alloc, sides.right, scope.env)?;
     let rows = ComparedRows {
         cmp: sides.cmp,
+        base: 0,
         left: &left_rows,
         right: &right_rows,
     };

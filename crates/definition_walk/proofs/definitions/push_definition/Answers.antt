@@ -2,7 +2,10 @@ use Rattle.std.proofs.Common.{◌≡◌, [], length, map, fold, refl, subst, sym
 use Rattle.std.proofs.lemmas.Result.{on_ok_weaker}
 use Rattle.kb_logic.specs.declared.vocabularies.Vocabulary.{Vocabulary}
 use Rattle.kb_logic.specs.Views.{rule_view, definition_view}
-use Rattle.def_ground.specs.Definitions.{Instances, rule_instances, all_instances, complete_atom}
+use Rattle.kb_logic.specs.Trees.{DefinitionTree}
+use Rattle.ground_core.specs.Problems.{ProblemState}
+use Rattle.term_values.specs.GroundBases.{GroundBase}
+use Rattle.def_ground.specs.Definitions.{Instances, rule_instances, all_instances, complete_atom, defined_vars}
 use Rattle.definition_walk.specs.Lists.{lists_of}
 use Rattle.definition_walk.specs.Marks.{HaveMarks}
 use Rattle.definition_walk.specs.Steps.{Stands}
@@ -28,6 +31,14 @@ complete_marked-requires-clause-bodies c =
     c.in_ok-push_rules.ensures.grows.within
     (empty-within c.args.problem.now.vars (lists_of c.in_ok-empty_lists.field-0) c.in_ok-empty_lists.ensures.1)
 
+-- Over any instances: those of the definition would be computed here, with all that grounding is.
+finished : (b : GroundBase) (d : DefinitionTree) (all : Instances) (mid new : ProblemState) → mid ≡ all.problem
+    → new ≡ fold (complete_atom b all.bodies) mid (ranges b d 1 0 b.vocabulary.symbols)
+    → new ≡ fold (complete_atom b all.bodies) all.problem (defined_vars b d)
+finished b d all mid new same made =
+    made ∙ ap (λ q. fold (complete_atom b all.bodies) q (ranges b d 1 0 b.vocabulary.symbols)) same
+    ∙ ap (fold (complete_atom b all.bodies) all.problem) (sym (defined-are-ranges b d))
+
 pub returns-clause-made : goal.returns-clause-made
 returns-clause-made c =
     let b = c.args.base.now in
@@ -45,7 +56,6 @@ returns-clause-made c =
     subst (HaveMarks d) (sym c.as_slice-2.ensures.value)
     (subst (λ rs. HaveMarks (rules_defined rs) c.in_ok-marks.marks.items) c.as_slice-rules.ensures
     c.in_ok-marks.ensures.1) in
-    on_ok_weaker c.complete_marked.result (λ made. made d all.bodies marked stands.bodies
-    ∙ ap (λ q. fold (complete_atom b all.bodies) q (ranges b d 1 0 b.vocabulary.symbols)) stands.problem
-    ∙ ap (fold (complete_atom b all.bodies) all.problem) (sym (defined-are-ranges b d)))
+    on_ok_weaker c.complete_marked.result (λ made. finished b d all c.push_rules.new.problem
+    c.complete_marked.new.problem stands.problem (made d all.bodies marked stands.bodies))
     c.complete_marked.ensures.made

@@ -313,14 +313,14 @@ compare_extreme-compared_with_rows-requires-clause-rows t c =
     (rows-in c.args.scope.base.now (term_view c.args.other.now) (env_view c.args.scope.env.now) c.aggregates_of.new.problem
     c.requires.given (omega (arith, c.requires.room, c.in_ok-linear.ensures.grows.vars)))
 
-pub compare_sums-compared_between-requires-clause-left : goal.compare_sums-compared_between-requires-clause-left
-compare_sums-compared_between-requires-clause-left t c =
+pub compare_sums-compare_sides-requires-clause-left : goal.compare_sums-compare_sides-requires-clause-left
+compare_sums-compare_sides-requires-clause-left t c =
     rw c.in_ok-left_rows.ensures
     (rows-in c.args.scope.base.now (term_view c.args.left.now) (env_view c.args.scope.env.now) c.add_aggregates.new.problem
     c.requires.given (omega (arith, c.requires.room, c.in_ok-add_aggregates.ensures.grows.vars)))
 
-pub compare_sums-compared_between-requires-clause-right : goal.compare_sums-compared_between-requires-clause-right
-compare_sums-compared_between-requires-clause-right t c =
+pub compare_sums-compare_sides-requires-clause-right : goal.compare_sums-compare_sides-requires-clause-right
+compare_sums-compare_sides-requires-clause-right t c =
     rw c.in_ok-right_rows.ensures
     (rows-in c.args.scope.base.now (term_view c.args.right.now) (env_view c.args.scope.env.now) c.add_aggregates.new.problem
     c.requires.given (omega (arith, c.requires.room, c.in_ok-add_aggregates.ensures.grows.vars)))
