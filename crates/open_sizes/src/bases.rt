@@ -124,8 +124,8 @@ pub fn open_in_asked(vocabulary: &Vocabulary, known: &Partial, term: &Term) -> u
 }
 
 /// The weight of what is open in the theory and in the terms that may be asked for, where this is known of the
-/// atoms: at most the greatest number of 64 bits. Memory is taken for the rows of known tables alone; where there is
-/// none, all instances are walked.
+/// atoms: at most the greatest number of 64 bits. Memory is taken for the rows of known tables and for what is known of
+/// one symbol's atoms; where there is none, all instances and atoms are walked.
 ///
 /// The vocabulary is the one over whose atoms it is known.
 pub fn open_weight(
@@ -145,5 +145,5 @@ pub fn open_weight(
     let in_definitions = definitions(alloc, setting, theory.definitions.as_slice());
     let in_terms = asked(setting, terms);
     let all = plus(plus(in_sentences, in_definitions), in_terms);
-    plus(unknown(known), times(4, all))
+    plus(unknown(alloc, known), times(4, all))
 }

@@ -12,3 +12,4 @@ pub mod Consistent
 pub mod Contained
 pub mod KnownHold
 pub mod ElementLemmas
+mod Rest
