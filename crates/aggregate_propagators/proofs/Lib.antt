@@ -7,6 +7,9 @@ pub mod Full
 mod ListFacts
 mod Deciding
 mod Singles
+mod Looks
+mod Moves
+mod Followed
 mod Spares
 mod Acting
 mod Joined

@@ -1,5 +1,5 @@
 -- Where each variable stands once, a value of one part's variable changes one summand.
-use Rattle.std.proofs.Common.{◌≡◌, ℕ, zero, suc, ℤ, ◌+ℤ◌, ◌<◌, ◌≤◌, nat_eq, nat_lt, ◌&&◌, not, Bool, true, false}
+use Rattle.std.proofs.Common.{◌≡◌, ℕ, zero, suc, ℤ, ◌+ℤ◌, ◌<◌, ◌≤◌, nat_eq, nat_lt, not, Bool, true, false}
 use Rattle.std.proofs.Common.{if◌then◌else◌, Option, Some, None, List, [], ◌∷◌, length, get_or, All, Contains, refl}
 use Rattle.std.proofs.Common.{sym, ap, ◌∙◌, subst, arith}
 use Rattle.std.specs.List.{AllByRecursion}
@@ -18,7 +18,7 @@ use Rattle.aggregate_propagators.specs.Laws.{HasVarsOnce}
 use Rattle.aggregate_propagators.specs.Reasons.{differ, in_end}
 use Rattle.aggregate_propagators.specs.Totals.{gain, gain_if, goal_of, met, with_side}
 use Rattle.aggregate_propagators.specs.Implied.{Decides}
-use Rattle.aggregate_propagators.specs.Once.{follows, rises, StandsOnce, end_total, moved}
+use Rattle.aggregate_propagators.specs.Once.{follows, rises, end_total, moved}
 use Rattle.aggregate_propagators.proofs.Deciding.{by-total, apart, other-none, either-sign}
 
 -- rising parts stand once
@@ -32,44 +32,21 @@ if-true : (t x : Bool) → (if t then x else false) ≡ true → (t ≡ true) ×
 if-true true x e = (refl, e)
 if-true false x e = cc
 
-and-true : (t x : Bool) → (t && x) ≡ true → (t ≡ true) × (x ≡ true)
-and-true true x e = (refl, e)
-and-true false x e = cc
-
-not-true : (t : Bool) → not t ≡ true → t ≡ false
-not-true false e = refl
-not-true true e = cc
-
-follows-lt : (out m k : ℕ) → follows out (Some m) k ≡ true → nat_lt m k ≡ true
-follows-lt out m k e = (and-true (nat_lt m k) (not (nat_eq k out)) e).0
-
-follows-out : (out : ℕ) (last : Option ℕ) (k : ℕ) → follows out last k ≡ true → nat_eq k out ≡ false
-follows-out out None k e = not-true (nat_eq k out) e
-follows-out out (Some m) k e = not-true (nat_eq k out) ((and-true (nat_lt m k) (not (nat_eq k out)) e).1)
-
-above : (out m n : ℕ) (ps : List Part) → n ≤ m → rises out (Some m) ps ≡ true
+above : (m n : ℕ) (ps : List Part) → n ≤ m → rises (Some m) ps ≡ true
     → AllByRecursion (λ (q : Part). nat_eq n q.lit.var.0 ≡ false) ps
-above out m n [] l e = tt
-above out m n (p ∷ ps) l e =
-    let both = if-true (follows out (Some m) p.lit.var.0) (rises out (Some p.lit.var.0) ps) e in
-    let lt = follows-lt out m p.lit.var.0 both.0 in
-    (less-apart n m p.lit.var.0 l lt, above out p.lit.var.0 n ps (less-le n m p.lit.var.0 l lt) both.1)
+above m n [] l e = tt
+above m n (p ∷ ps) l e =
+    let both = if-true (nat_lt m p.lit.var.0) (rises (Some p.lit.var.0) ps) e in
+    (less-apart n m p.lit.var.0 l both.0, above p.lit.var.0 n ps (less-le n m p.lit.var.0 l both.0) both.1)
 
-once : (out : ℕ) (last : Option ℕ) (ps : List Part) → rises out last ps ≡ true → HasVarsOnce ps
-once out last [] e = tt
-once out last (p ∷ ps) e =
-    let both = if-true (follows out last p.lit.var.0) (rises out (Some p.lit.var.0) ps) e in
-    (above out p.lit.var.0 p.lit.var.0 ps (omega arith) both.1, once out (Some p.lit.var.0) ps both.1)
+once : (last : Option ℕ) (ps : List Part) → rises last ps ≡ true → HasVarsOnce ps
+once last [] e = tt
+once last (p ∷ ps) e =
+    let both = if-true (follows last p.lit.var.0) (rises (Some p.lit.var.0) ps) e in
+    (above p.lit.var.0 p.lit.var.0 ps (omega arith) both.1, once (Some p.lit.var.0) ps both.1)
 
-off : (out : ℕ) (last : Option ℕ) (ps : List Part) → rises out last ps ≡ true
-    → AllByRecursion (λ (p : Part). nat_eq p.lit.var.0 out ≡ false) ps
-off out last [] e = tt
-off out last (p ∷ ps) e =
-    let both = if-true (follows out last p.lit.var.0) (rises out (Some p.lit.var.0) ps) e in
-    (follows-out out last p.lit.var.0 both.0, off out (Some p.lit.var.0) ps both.1)
-
-pub stands-once : (c : AggCon) → rises c.out.var.0 None c.parts ≡ true → StandsOnce c
-stands-once c e = record { parts = once c.out.var.0 None c.parts e; out = off c.out.var.0 None c.parts e }
+pub stand-once : (ps : List Part) → rises None ps ≡ true → HasVarsOnce ps
+stand-once ps e = once None ps e
 
 -- the value of another variable
 skip : {X : Type 0} (t : Bool) (x y : X) → t ≡ false → (if t then x else y) ≡ y
@@ -89,10 +66,10 @@ take-it false x y e = absurd (wrong e)
 eq-itself : (n : ℕ) → nat_eq n n ≡ true
 eq-itself n = grind (arith, nat_tests)
 
-eq-back : (m n : ℕ) → nat_eq m n ≡ false → nat_eq n m ≡ false
+pub eq-back : (m n : ℕ) → nat_eq m n ≡ false → nat_eq n m ≡ false
 eq-back m n e = grind (arith, nat_tests)
 
-known-apart : (a : ℕ → Option Bool) (n : ℕ) (b : Bool) (l : Lit) → nat_eq n l.var.0 ≡ false
+pub known-apart : (a : ℕ → Option Bool) (n : ℕ) (b : Bool) (l : Lit) → nat_eq n l.var.0 ≡ false
     → known_of (changed a n b) l ≡ known_of a l
 known-apart a n b l e = ap (by_sign_if_any l.positive) (skip (nat_eq n l.var.0) (Some b) (a l.var.0) e)
 
@@ -138,12 +115,11 @@ module _ (high : Bool) (k : AggKind) (least : ExtInt) where
       omega (arith, ints, here, rest)
 
   -- the total once an unassigned part has a value
-  pub moved-total : (a : ℕ → Option Bool) (ps : List Part) (p : Part) (value : Bool) → Contains ps p → HasVarsOnce ps
+  pub moved-total : (a : ℕ → Option Bool) (ps : List Part) (p : Part) (b : Bool) → Contains ps p → HasVarsOnce ps
       → known_of a p.lit ≡ None
-      → end_total (changed a p.lit.var.0 (by_sign p.lit.positive value)) high k least ps
-      ≡ moved high k least p.weight value (end_total a high k least ps)
-  moved-total a ps p value m h none =
-      let b = by_sign p.lit.positive value in
+      → end_total (changed a p.lit.var.0 b) high k least ps
+      ≡ moved high k least p.weight (known_of (changed a p.lit.var.0 b) p.lit) (end_total a high k least ps)
+  moved-total a ps p b m h none =
       let f : Part → ℤ = λ q. end_total (changed a q.lit.var.0 b) high k least ps in
       let raw : end_total (changed a p.lit.var.0 b) high k least ps +ℤ portion a p ≡ end_total a high k least ps
       +ℤ portion (changed a p.lit.var.0 b) p =
@@ -151,29 +127,56 @@ module _ (high : Bool) (k : AggKind) (least : ExtInt) where
       ≡ end_total a high k least ps +ℤ portion (changed a q.lit.var.0 b) q) m.2
       (one-changed a b ps m.0 p m.1 h) in
       let was = portion-of p (known_of a p.lit) None none in
-      let now = portion-of p (known_of (changed a p.lit.var.0 b) p.lit) (Some value)
-      (known-here a p.lit b ∙ ap Some (twice p.lit.positive value)) in
-      omega (arith, ints, raw, was, now)
-    where
-      twice : (s x : Bool) → by_sign s (by_sign s x) ≡ x
-      twice true x = refl
-      twice false true = refl
-      twice false false = refl
+      omega (arith, ints, raw, was)
+
+-- the value that a literal was given
+known-made : (a : ℕ → Option Bool) (l : Lit) (value : Bool)
+    → known_of (changed a l.var.0 (by_sign l.positive value)) l ≡ Some value
+known-made a l value = known-here a l (by_sign l.positive value) ∙ ap Some (twice l.positive value)
+  where
+    twice : (s x : Bool) → by_sign s (by_sign s x) ≡ x
+    twice true x = refl
+    twice false true = refl
+    twice false false = refl
+
+-- literals of which one has a value are of different variables
+pub none-under : (s : Bool) (o : Option Bool) → by_sign_if_any s o ≡ None → o ≡ None
+none-under s None e = refl
+none-under s (Some b) e = absurd (wrong (by_sign s b) e)
+  where
+    wrong : (x : Bool) → Some x ≡ None → ⊥
+    wrong x e = cc
+
+same-var : (i n : ℕ) → nat_eq i n ≡ true → i ≡ n
+same-var i n e = grind (arith, nat_tests)
+
+pub apart-by-value : (a : ℕ → Option Bool) (l m : Lit) (b : Bool) → known_of a l ≡ None → known_of a m ≡ Some b
+    → nat_eq l.var.0 m.var.0 ≡ false
+apart-by-value a l m b none some = by (nat_eq l.var.0 m.var.0) refl
+  where
+    wrong : None ≡ Some b → ⊥
+    wrong e = cc
+
+    by : (t : Bool) → nat_eq l.var.0 m.var.0 ≡ t → t ≡ false
+    by false e = refl
+    by true e =
+        let here : a m.var.0 ≡ None = ap a (sym (same-var l.var.0 m.var.0 e))
+        ∙ none-under l.positive (a l.var.0) none in
+        absurd (wrong (sym (ap (by_sign_if_any m.positive) here) ∙ some))
 
 -- whether a part's value contradicts, by the moved total
-pub wrong-by-moved : (a : ℕ → Option Bool) (c : AggCon) (high : Bool) (p : Part) (value : Bool) → StandsOnce c
+pub wrong-by-moved : (a : ℕ → Option Bool) (c : AggCon) (high : Bool) (p : Part) (value : Bool) → HasVarsOnce c.parts
     → Contains c.parts p → known_of a c.out ≡ Some high → known_of a p.lit ≡ None
     → differ high
     (with_side c.kind (met (goal_of c.kind c.least)
-    (moved high c.kind c.least p.weight value (end_total a high c.kind c.least c.parts)))) ≡ contradicts
+    (moved high c.kind c.least p.weight (Some value) (end_total a high c.kind c.least c.parts)))) ≡ contradicts
     (changed a p.lit.var.0 (by_sign p.lit.positive value)) c
 wrong-by-moved a c high p value s m out none =
     let b = by_sign p.lit.positive value in
-    let off-out : nat_eq p.lit.var.0 c.out.var.0 ≡ false =
-    subst (λ (q : Part). nat_eq q.lit.var.0 c.out.var.0 ≡ false) m.2
-    (All-from_recursion (λ (q : Part). nat_eq q.lit.var.0 c.out.var.0 ≡ false) c.parts s.out m.0 p m.1) in
+    let off-out : nat_eq p.lit.var.0 c.out.var.0 ≡ false = apart-by-value a p.lit c.out high none out in
     ap (λ z. differ high (with_side c.kind (met (goal_of c.kind c.least) z)))
-    (sym (moved-total high c.kind c.least a c.parts p value m s.parts none))
+    (ap (λ o. moved high c.kind c.least p.weight o (end_total a high c.kind c.least c.parts))
+    (sym (known-made a p.lit value)) ∙ sym (moved-total high c.kind c.least a c.parts p b m s none))
     ∙ by-total (changed a p.lit.var.0 b) c high (known-apart a p.lit.var.0 b c.out off-out ∙ out)
 
 own-sign : (s : Bool) → by_sign s true ≡ s
@@ -213,19 +216,22 @@ part-open a c l e f none b =
     (subst (λ b. contradicts (changed a l.var.0 b) c ≡ false) (own-sign l.positive) e)
     (subst (λ b. contradicts (changed a l.var.0 b) c ≡ false) (other-sign l.positive) f)
 
--- where the result is unassigned, nothing else is decided
+-- where the result is unassigned and open, nothing else is decided
 no-result : (a : ℕ → Option Bool) (c : AggCon) → known_of a c.out ≡ None → contradicts a c ≡ false
 no-result a c e =
     ap (λ o. refuted_by o (reaches c.least (least_possible a c.kind c.parts))
     (reaches c.least (greatest_possible a c.kind c.parts))) e
 
-pub rest-open : (a : ℕ → Option Bool) (c : AggCon) → StandsOnce c → known_of a c.out ≡ None
+pub rest-open : (a : ℕ → Option Bool) (c : AggCon) → IsOpenAt a c c.out → known_of a c.out ≡ None
     → All (λ (p : Part). IsOpenAt a c p.lit) c.parts
-rest-open a c s e k d lt none b =
-    let p : Part = get_or c.parts k d in
-    let off-out : nat_eq p.lit.var.0 c.out.var.0 ≡ false =
-    All-from_recursion (λ (q : Part). nat_eq q.lit.var.0 c.out.var.0 ≡ false) c.parts s.out k d lt in
-    no-result (changed a p.lit.var.0 b) c (known-apart a p.lit.var.0 b c.out off-out ∙ e)
+rest-open a c quiet e k d lt none b = by (nat_eq n c.out.var.0) refl
+  where
+    n : ℕ
+    n = (get_or c.parts k d).lit.var.0
+
+    by : (t : Bool) → nat_eq n c.out.var.0 ≡ t → contradicts (changed a n b) c ≡ false
+    by false off = no-result (changed a n b) c (known-apart a n b c.out off ∙ e)
+    by true on = subst (λ (m : ℕ). contradicts (changed a m b) c ≡ false) (sym (same-var n c.out.var.0 on)) (quiet e b)
 
 -- where it is assigned, it is decided no more
 pub result-open : (a : ℕ → Option Bool) (c : AggCon) (high : Bool) → known_of a c.out ≡ Some high → IsOpenAt a c c.out

@@ -34,14 +34,14 @@ gap-low-by : (x y : ℤ) (t : Bool) → int_lt x y ≡ t → pos 0 ≤ℤ (if t 
 gap-low-by x y true e = grind (arith, ints, nat_tests)
 gap-low-by x y false e = grind (arith, ints, nat_tests)
 
-gap-low : (x y : ℤ) → pos 0 ≤ℤ gap x y
+pub gap-low : (x y : ℤ) → pos 0 ≤ℤ gap x y
 gap-low x y = gap-low-by x y (int_lt x y) refl
 
 gap-none-by : (x : ℤ) (t : Bool) → int_lt x x ≡ t → (if t then x -ℤ x else x -ℤ x) ≡ pos 0
 gap-none-by x true e = omega (arith, ints)
 gap-none-by x false e = omega (arith, ints)
 
-gap-none : (x : ℤ) → gap x x ≡ pos 0
+pub gap-none : (x : ℤ) → gap x x ≡ pos 0
 gap-none x = gap-none-by x (int_lt x x) refl
 
 le-of : (x y : ℤ) → int_le x y ≡ true → x ≤ℤ y
@@ -172,7 +172,7 @@ spare-by : (g s : ℤ) (x : Bool) → int_le g s ≡ x → pos 0 ≤ℤ (if x th
 spare-by g s true e = grind (arith, ints, nat_tests)
 spare-by g s false e = grind (arith, ints, nat_tests)
 
-spare-low : (g : ExtInt) (s : ℤ) → pos 0 ≤ℤ spare_of g s
+pub spare-low : (g : ExtInt) (s : ℤ) → pos 0 ≤ℤ spare_of g s
 spare-low NegInf s = omega (arith, ints)
 spare-low (Num g) s = spare-by g s (int_le g s) refl
 spare-low PosInf s = omega (arith, ints)

@@ -3,7 +3,9 @@ use Rattle.std.specs.Prelude.{◌≡◌, ◌⊎◌, ℕ, ◌<◌, Bool, true, Op
 use Rattle.lit_core.specs.declared.literals.Lit.{Lit}
 use Rattle.ground_core.specs.declared.parts.Part.{Part}
 use Rattle.ground_core.specs.declared.parts.AggCon.{AggCon}
-use Rattle.ground_core.specs.Intervals.{changed, contradicts, known_of, IsOpenAt}
+use Rattle.lit_core.specs.Truth.{IsFalsified, IsSatisfied, IsUnitAt}
+use Rattle.ground_core.specs.Meaning.{SumHolds}
+use Rattle.ground_core.specs.Intervals.{changed, contradicts, known_of, refuting, IsOpenAt}
 
 -- the values that an assignment of the first variables gives
 abbrev pub assigned : List (Option Bool) → ℕ → Option Bool
@@ -21,6 +23,14 @@ IsWithin xs c = (c.out.var.0 < length xs) × All (λ (p : Part). p.lit.var.0 < l
 -- the constraint has the literal's variable
 abbrev pub IsOfSum : Lit → AggCon → Type 0
 IsOfSum l c = (c.out.var.0 ≡ l.var.0) ⊎ Any (λ (p : Part). p.lit.var.0 ≡ l.var.0) c.parts
+
+-- the clause holds wherever the constraint does and is of its variables; it is false now or has one literal left, and
+-- alone it contradicts the constraint
+pub record Follows (values : List (Option Bool)) (c : AggCon) (cl : List Lit) : Type 0 where
+  pub holds : (v : ℕ → Bool) → SumHolds v c → IsSatisfied v cl
+  pub acts : IsFalsified values cl ⊎ ((l : Lit) × IsUnitAt values cl l)
+  pub alone : contradicts (refuting cl) c ≡ true
+  pub variables : All (λ l. IsOfSum l c) cl
 
 -- the literal is unassigned, and contradicts the constraint if it is made true
 pub record Decides (a : ℕ → Option Bool) (c : AggCon) (l : Lit) : Type 0 where

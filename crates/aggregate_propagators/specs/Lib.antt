@@ -4,4 +4,5 @@ pub mod Reasons
 pub mod Implied
 pub mod Thresholds
 pub mod Once
+pub mod Looking
 pub mod Spared

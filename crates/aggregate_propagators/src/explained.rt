@@ -1,5 +1,5 @@
 //! The clause of a contradiction.
-ghost use Rattle.std.specs.Prelude.{◌≡◌, ◌<◌, ◌≤ℤ◌, ◌-ℤ◌, ◌^◌, pos, neg_ℤ, length, All, IfOk};
+ghost use Rattle.std.specs.Prelude.{◌≡◌, ◌<◌, ◌+◌, ◌≤ℤ◌, ◌-ℤ◌, ◌^◌, pos, neg_ℤ, length, All, IfOk};
 ghost use Rattle.ground_core.specs.declared.parts.Part.{Part as PartRow};
 ghost use Rattle.aggregate_propagators.specs.Reasons.{asks_high, denied};
 ghost use Rattle.aggregate_propagators.specs.Implied.{assigned, under, IsWithin};
@@ -15,7 +15,7 @@ use lit_core::{Assignment, Clause, Lit};
 use std::alloc::Global;
 
 /// The literal of the variable that is false, where this literal has this value.
-fn false_one(value: Option<bool>, lit: Lit) -> Lit
+pub fn false_one(value: Option<bool>, lit: Lit) -> Lit
     ensures { result ≡ denied value lit }
 {
     match value {
@@ -37,7 +37,7 @@ fn gap_of(x: i64, y: i64) -> i128
 }
 
 /// How far the end of the interval moves where the part's value is forgotten.
-fn move_of(high: bool, kind: AggKind, least: Amount, part: &Part, value: Option<bool>) -> i128
+pub fn move_of(high: bool, kind: AggKind, least: Amount, part: &Part, value: Option<bool>) -> i128
     ensures value { result ≡ forgotten high kind (amount_of least) part.now.weight value }
     ensures low { pos 0 ≤ℤ result }
 {
@@ -48,10 +48,10 @@ fn move_of(high: bool, kind: AggKind, least: Amount, part: &Part, value: Option<
 }
 
 /// How far a sum may move and still be on the same side of the goal.
-fn spare_around(goal: Amount, sum: i128) -> i128
+pub fn spare_around(goal: Amount, sum: i128) -> i128
     requires near { IsNear (amount_of goal) }
-    requires low { neg_ℤ (pos (2 ^ 126)) ≤ℤ sum }
-    requires high { sum ≤ℤ pos (2 ^ 126) }
+    requires low { neg_ℤ (pos (2 ^ 126 + 2 ^ 64)) ≤ℤ sum }
+    requires high { sum ≤ℤ pos (2 ^ 126 + 2 ^ 64) }
     ensures value { result ≡ spare_of (amount_of goal) sum }
     ensures low { pos 0 ≤ℤ result }
 {
@@ -68,7 +68,7 @@ fn spare_around(goal: Amount, sum: i128) -> i128
 }
 
 /// What is left of the spare.
-fn left_of(spare: i128, by: i128) -> i128
+pub fn left_of(spare: i128, by: i128) -> i128
     requires low { pos 0 ≤ℤ by }
     requires room { by ≤ℤ spare }
     ensures value { result ≡ spare -ℤ by }

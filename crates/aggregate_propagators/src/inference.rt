@@ -24,8 +24,8 @@ fn decided(c: Threshold, parts: &[Part], values: &Assignment) -> Option<Lit>
         × (AreOpen (assigned values.now) (constraint_of c parts.now) → ⊥)) }
     ensures none { IfNone result (AreOpen (assigned values.now) (constraint_of c parts.now)) }
 {
-    // Where each variable stands once, one sum serves all tries; elsewhere each try goes through all parts.
-    if is_rising(c.out.var.0, parts) {
+    // Where no variable stands in two parts, one sum serves all tries; elsewhere each try goes through all parts.
+    if is_rising(parts) {
         return decided_once(c, parts, values);
     }
     decided_each(c, parts, values)

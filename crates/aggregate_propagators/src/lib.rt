@@ -6,9 +6,11 @@ mod ends;
 mod explained;
 mod inference;
 mod laws;
+mod movers;
 mod rising;
 mod single;
 mod thresholds;
+mod together;
 mod trials;
 mod valuations;
 
@@ -20,4 +22,5 @@ pub use laws::{
     few_reasons_suffice, quiet_is_enough, reaches_by_totals, reasons_suffice,
 };
 pub use thresholds::{Amount, Threshold, threshold_of};
+pub use together::implied_each;
 pub use valuations::is_sum_held;

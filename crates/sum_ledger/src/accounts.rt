@@ -4,6 +4,15 @@ use ground_core::{AggCon, Part};
 use kb_logic::AggKind;
 use lit_core::{Assignment, Lit};
 
+/// A look at a constraint.
+#[derive(Clone, Copy)]
+struct Look {
+    /// So often was something taken back before it.
+    time: u64,
+    /// The end that the result asked for.
+    end: i128,
+}
+
 /// The ends of what a constraint's parts can gain together, and what they have to reach.
 ///
 /// A constraint says that `out` is true exactly where the gains reach the goal (`Totals` of aggregate_propagators); for
@@ -28,10 +37,12 @@ pub struct Account {
     pub is_shared: bool,
     /// Whether the constraint changed since it was asked.
     pub is_waiting: bool,
+    /// The last look, if it found all that follows.
+    seen: Option<Look>,
 }
 
 /// A constraint whose result stands in one of its parts, and that has more parts than this, is asked only once it is
-/// contradicted. It says that a function has one value: each value that it excludes costs a look at all of its parts,
+/// contradicted. It says that a function has one value: each value that it excludes is held as a clause of its own,
 /// where a search that decides the value costs next to nothing.
 const MOST_LOOKED_AHEAD: usize = 256;
 
@@ -109,6 +120,7 @@ impl Account {
             is_plain: are_apart(threshold, sum.parts.as_slice()),
             is_shared: false,
             is_waiting: true,
+            seen: None,
         };
         for part in sum.parts.as_slice() {
             let gain = gain_of(threshold.kind, threshold.least, part.weight);
@@ -125,6 +137,7 @@ impl Account {
     pub fn begin(&mut self) {
         self.low = self.first_low;
         self.high = self.first_high;
+        self.seen = None;
     }
 
     /// Counts one more part, which has no value. Where its variable is the result's, the part has one whenever the
@@ -152,6 +165,35 @@ impl Account {
         let (low, high) = moves(gain, value);
         self.low = self.low.wrapping_sub(low);
         self.high = self.high.wrapping_sub(high);
+    }
+
+    /// The end that the result asks for, where it has a value.
+    fn asked_end(&self, values: &Assignment) -> Option<i128> {
+        match value_of(values, self.out) {
+            Some(true) => Some(self.high),
+            Some(false) => Some(self.low),
+            None => None,
+        }
+    }
+
+    /// Notes that a look found all that follows, where that is so: where the variables stand once and the result has a
+    /// value.
+    pub fn note_look(&mut self, values: &Assignment, time: u64) {
+        self.seen = None;
+        if self.is_plain {
+            if let Some(end) = self.asked_end(values) {
+                self.seen = Some(Look { time, end });
+            }
+        }
+    }
+
+    /// Whether all that follows was found before: nothing was taken back since, and no value moved the end that the
+    /// result asks for. So are those that the constraint itself implied.
+    pub fn is_seen(&self, values: &Assignment, time: u64) -> bool {
+        match (self.seen, self.asked_end(values)) {
+            (Some(look), Some(end)) => look.time == time && look.end == end,
+            _ => false,
+        }
     }
 
     /// Whether the value of one variable more may contradict the constraint.

@@ -1,12 +1,12 @@
 //! The constraints that changed since they were asked.
-ghost use Rattle.std.specs.Prelude.{All, IfOk, IfSome};
+ghost use Rattle.std.specs.Prelude.{◌≡◌, ◌<◌, [], length, All, IfOk, IfSome};
 ghost use Rattle.clause_store.specs.StoreState.{IsStore};
 ghost use Rattle.aggregate_propagators.specs.Implied.{IsWithin};
 ghost use Rattle.sum_ledger.specs.Asking.{IsImpliedAt};
 
 use crate::accounts::Account;
-use crate::consequences::Consequence;
-use aggregate_propagators::{gain_of, implied, threshold_of};
+use crate::consequences::Consequences;
+use aggregate_propagators::{gain_of, implied_each, threshold_of};
 use clause_store::Store;
 use ground_core::{AggCon, Memory};
 use lit_core::Lit;
@@ -41,6 +41,8 @@ pub struct Ledger {
     waiting: Vec<usize>,
     /// So many steps of the trail are counted.
     counted: usize,
+    /// So often was something taken back.
+    time: u64,
 }
 
 impl Ledger {
@@ -52,6 +54,7 @@ impl Ledger {
             occurrences: Vec::new(alloc),
             waiting: Vec::new(alloc),
             counted: 0,
+            time: 0,
         }
     }
 
@@ -191,6 +194,7 @@ impl Ledger {
         if self.accounts.is_empty() {
             return;
         }
+        self.time = self.time.wrapping_add(1);
         let count = self.counted.min(store.trail().len());
         for place in (0..count).rev() {
             let step = store.step(place);
@@ -203,46 +207,57 @@ impl Ledger {
         self.counted = 0;
     }
 
-    /// A clause that the constraint with this number implies, if it is worth a look.
+    /// What the constraint with this number implies, if it is worth a look.
     fn ask_one(
         &mut self,
         alloc: Global,
         sums: &[AggCon],
         store: &Store,
         place: usize,
-    ) -> Result<Option<Consequence>, Memory>
+    ) -> Result<Option<Consequences>, Memory>
         requires laws { IsStore store.now }
         requires within { All (IsWithin store.now.trail.values) sums.now }
-        ensures { IfOk result (λ o. IfSome o (λ found. IsImpliedAt sums.now store.now.trail.values found.place found.clause)) }
+        ensures all { IfOk result (λ o. IfSome o (λ found. All (IsImpliedAt sums.now store.now.trail.values found.place)
+            found.clauses)) }
+        ensures some { IfOk result (λ o. IfSome o (λ found. found.clauses ≡ [] → ⊥)) }
+        ensures place { IfOk result (λ o. IfSome o (λ found. found.place < length sums.now)) }
     {
+        let time = self.time;
         let Some(account) = self.accounts.get_mut(place) else {
             return Ok(None);
         };
         account.is_waiting = false;
-        if !account.is_tight(store.assignment()) || place >= sums.len() {
+        let values = store.assignment();
+        if place >= sums.len() || !account.is_tight(values) || account.is_seen(values, time) {
             return Ok(None);
         }
-        match implied(alloc, &sums[place], store.assignment())? {
-            Some(clause) => {
-                // It may imply more.
-                self.wake(place);
-                Ok(Some(Consequence { place, clause }))
-            }
-            None => Ok(None),
+        account.note_look(values, time);
+        let is_plain = account.is_plain;
+        let clauses = implied_each(alloc, &sums[place], values)?;
+        if clauses.is_empty() {
+            return Ok(None);
         }
+        if !is_plain {
+            // It may imply more.
+            self.wake(place);
+        }
+        Ok(Some(Consequences { place, clauses }))
     }
 
-    /// A clause that one of the constraints implies, and that is false now or has one literal left, with the constraint's
-    /// place; None where none was found among those that changed.
+    /// What one of the constraints that changed implies: clauses, at least one, each of which is false now or has one
+    /// literal left, with the constraint's place; None where none was found.
     pub fn ask(
         &mut self,
         alloc: Global,
         sums: &[AggCon],
         store: &Store,
-    ) -> Result<Option<Consequence>, Memory>
+    ) -> Result<Option<Consequences>, Memory>
         requires laws { IsStore store.now }
         requires within { All (IsWithin store.now.trail.values) sums.now }
-        ensures { IfOk result (λ o. IfSome o (λ found. IsImpliedAt sums.now store.now.trail.values found.place found.clause)) }
+        ensures all { IfOk result (λ o. IfSome o (λ found. All (IsImpliedAt sums.now store.now.trail.values found.place)
+            found.clauses)) }
+        ensures some { IfOk result (λ o. IfSome o (λ found. found.clauses ≡ [] → ⊥)) }
+        ensures place { IfOk result (λ o. IfSome o (λ found. found.place < length sums.now)) }
     {
         if self.accounts.is_empty() {
             return Ok(None);

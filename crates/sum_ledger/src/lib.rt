@@ -6,6 +6,6 @@ mod consequences;
 mod ledger;
 mod scan;
 
-pub use consequences::Consequence;
+pub use consequences::{Consequence, Consequences};
 pub use ledger::Ledger;
 pub use scan::first_implied;

@@ -1,8 +1,7 @@
 use Rattle.std.proofs.Common.{sym, ◌∙◌}
-use Rattle.aggregate_propagators.specs.Thresholds.{constraint_of}
-use Rattle.aggregate_propagators.proofs.Singles.{stands-once}
+use Rattle.aggregate_propagators.proofs.Singles.{stand-once}
 use Rattle.aggregate_propagators.proofs.inference.decided.Goals as goal
 
 pub decided_once-requires-clause-once : goal.decided_once-requires-clause-once
 decided_once-requires-clause-once c =
-    stands-once (constraint_of c.args.c c.args.parts.now) (sym c.is_rising.ensures ∙ c.if-is_rising.true)
+    stand-once c.args.parts.now (sym c.is_rising.ensures ∙ c.if-is_rising.true)

@@ -17,14 +17,14 @@ returns-in-Some-clause-some c = (
 
 pub loop-part-preserved : goal.loop-part-preserved
 loop-part-preserved c =
-    let con = constraint_of c.args.c c.args.parts.now in
+    let con = constraint_of c.args.end.of c.args.parts.now in
     All-more (λ (p : Part). IsOpenAt (assigned c.args.values.now) con p.lit) c.args.parts.now c.loop-part.part-index
     no_part c.loop-part-test.true c.loop-part.invariant c.in_default.ensures.none
 
 pub returns-clause-none : goal.returns-clause-none
 returns-clause-none c =
-    let con = constraint_of c.args.c c.args.parts.now in (
-      result-open (assigned c.args.values.now) con c.args.high c.requires.out,
+    let con = constraint_of c.args.end.of c.args.parts.now in (
+      result-open (assigned c.args.values.now) con c.args.end.high c.requires.end.out,
       subst (All (λ (p : Part). IsOpenAt (assigned c.args.values.now) con p.lit))
           (take_all c.loop-part.part-index c.args.parts.now
           (omega (arith, c.loop-part-test.false))) c.loop-part.invariant,

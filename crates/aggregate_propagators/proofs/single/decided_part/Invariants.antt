@@ -8,5 +8,5 @@ use Rattle.aggregate_propagators.proofs.single.decided_part.Given as goal
 -- none so far is decided
 abbrev pub invariant-loop-part : goal.invariant-loop-part
 invariant-loop-part l =
-    All (λ (p : Part). IsOpenAt (assigned l.fn.values) (constraint_of l.fn.c l.fn.parts) p.lit)
+    All (λ (p : Part). IsOpenAt (assigned l.fn.values) (constraint_of l.fn.end.of l.fn.parts) p.lit)
     (take l.part-index l.fn.parts)
