@@ -1,7 +1,7 @@
 -- Clauses that stand in an arena.
 use Rattle.std.proofs.Common.{◌≡◌, ℕ, zero, suc, ◌<◌, ◌≤◌, ◌+◌, ◌-◌, ◌^◌, Bool, true, false, cond, Option, Some, None}
 use Rattle.std.proofs.Common.{List, [], ◌∷◌, ◌++◌, length, length-append, get_or, min, map, set, take, drop, refl, sym}
-use Rattle.std.proofs.Common.{ap, ◌∙◌, ⊎_elim, ◌⊎◌, arith, slice_get, subst, vec_len, vec_capacity}
+use Rattle.std.proofs.Common.{ap, ◌∙◌, ⊎_elim, ◌⊎◌, inl, inr, arith, slice_get, subst, vec_len, vec_capacity}
 use Rattle.std.specs.List.{dedup, dedup_from}
 use Rattle.std.proofs.lemmas.Option.{slice_get-get_or, slice_get_within, same_Some}
 use Rattle.std.proofs.lemmas.List.{take-append-le, drop-append-le, drop-take, length-drop, length-take, take_all}
@@ -11,7 +11,8 @@ use Rattle.std.proofs.lemmas.Bool.{cases_eq, cases_lt}
 use Rattle.lit_core.specs.declared.literals.Lit.{Lit}
 use Rattle.clause_base.specs.declared.clause_db.Entry.{Entry}
 use Rattle.clause_base.specs.declared.clause_db.ClauseDb.TheInside.{Inside}
-use Rattle.clause_base.specs.ClauseDbFields.{AreRemoved, EndsAt, EndsBy, IsOrdered, IsKept, HasRoom, clause_of, part_of}
+use Rattle.clause_base.specs.ClauseDbFields.{AreRemoved, EndsAt, EndsBy, HaveSkips, IsSkip, IsOrdered, IsKept, HasRoom}
+use Rattle.clause_base.specs.ClauseDbFields.{clause_of, part_of}
 use Rattle.clause_base.proofs.ListFacts.{slice_get-mapped, slice_get-set_same, slice_get-set_other}
 use Rattle.clause_base.proofs.ListFacts.{slice_get-push_cases}
 
@@ -89,6 +90,7 @@ kept-same a b h lits entries live buffer room = record {
   live = rw (live, entries) h.live;
   removed = λ id e le at. h.removed id e (omega (arith, live)) (ap (λ (xs : List Entry). slice_get xs id)
       (sym entries) ∙ at);
+  skips = subst HaveSkips (sym entries) h.skips;
   room = room;
 }
 
@@ -140,13 +142,43 @@ narrows-ordered entries id e f at narrow h i j g k lt here there n is =
     let t : k.start ≡ p.0.start = p.2.start in
     omega arith
 
+-- an entry after a write is the new one, or it was there before
+set-at : (entries : List Entry) (id : ℕ) (e f : Entry) → slice_get entries id ≡ Some e → (i : ℕ) (g : Entry)
+    → slice_get (set entries id f) i ≡ Some g → ((i ≡ id) × (g ≡ f)) ⊎ (slice_get entries i ≡ Some g)
+set-at entries id e f at i g here = ⊎_elim
+    (λ same. inl (
+      same,
+      same_Some g f (sym here ∙ ap (slice_get (set entries id f)) same
+          ∙ slice_get-set_same entries id f (slice_get_within entries id e at)),
+    ))
+    (λ ne. inr (sym (slice_get-set_other entries id i f ne) ∙ here))
+    (cases_eq i id)
+
+-- skips stay right where an entry is written that is removed if the one before it was, and whose skip is right
+pub skips-set : (entries : List Entry) (id : ℕ) (e f : Entry) → slice_get entries id ≡ Some e → HaveSkips entries
+    → (e.size ≡ 0 → f.size ≡ 0) → IsSkip entries id f → HaveSkips (set entries id f)
+skips-set entries id e f at h stays right j g here i k gone lt near there = ⊎_elim
+    (λ new. let size : g.size ≡ f.size = ap (λ (x : Entry). x.size) new.1 in
+    let first : g.first ≡ f.first = ap (λ (x : Entry). x.first) new.1 in
+    let is : j ≡ id = new.0 in
+    ⊎_elim
+    (λ both. absurd (let same : i ≡ id = both.0 in omega arith))
+    (λ old. right i k (omega arith) (omega arith) (omega arith) old)
+    (set-at entries id e f at i k there))
+    (λ was. ⊎_elim
+    (λ new. ap (λ (x : Entry). x.size) new.1 ∙ stays (h j g was id e gone (let same : i ≡ id = new.0 in omega arith)
+    (let same : i ≡ id = new.0 in omega arith) at))
+    (λ old. h j g was i k gone lt near old)
+    (set-at entries id e f at i k there))
+    (set-at entries id e f at j g here)
+
 -- one entry narrows, and the arena ends no earlier than the last that is not removed
 pub kept-set : (a b : Inside) (id end : ℕ) (e f : Entry) → IsKept a → slice_get a.entries.items id ≡ Some e
     → Narrows e f → b.lits.items ≡ take end a.lits.items → b.entries.items ≡ set a.entries.items id f
-    → b.live ≤ length b.entries.items → AreRemoved b.entries.items b.live
+    → b.live ≤ length b.entries.items → AreRemoved b.entries.items b.live → HaveSkips b.entries.items
     → ((i : ℕ) (g : Entry) → slice_get b.entries.items i ≡ Some g → EndsBy g end) → b.buffer.items ≡ []
     → ((n : ℕ) → b.spare ≡ Some n → HasRoom b n) → IsKept b
-kept-set a b id end e f h at narrow lits entries live removed ends buffer room =
+kept-set a b id end e f h at narrow lits entries live removed skips ends buffer room =
     let old : (i : ℕ) (g : Entry) → slice_get b.entries.items i ≡ Some g
     → (o : Entry) × (slice_get a.entries.items i ≡ Some o) × Narrows o g =
     λ i g here. narrows a.entries.items id e f at narrow i g (ap (λ (xs : List Entry). slice_get xs i)
@@ -163,14 +195,16 @@ kept-set a b id end e f h at narrow lits entries live removed ends buffer room =
       ordered = subst IsOrdered (sym entries) (narrows-ordered a.entries.items id e f at narrow h.ordered);
       live = live;
       removed = removed;
+      skips = skips;
       room = room;
     }
 
 -- an entry that tells the same part
 pub kept-place : (a b : Inside) (id : ℕ) (e f : Entry) → IsKept a → slice_get a.entries.items id ≡ Some e
-    → f.start ≡ e.start → f.size ≡ e.size → b.lits ≡ a.lits → b.entries.items ≡ set a.entries.items id f
-    → b.live ≡ a.live → b.buffer ≡ a.buffer → ((n : ℕ) → b.spare ≡ Some n → HasRoom b n) → IsKept b
-kept-place a b id e f h at start size lits entries live buffer room =
+    → f.start ≡ e.start → f.size ≡ e.size → IsSkip a.entries.items id f → b.lits ≡ a.lits
+    → b.entries.items ≡ set a.entries.items id f → b.live ≡ a.live → b.buffer ≡ a.buffer
+    → ((n : ℕ) → b.spare ≡ Some n → HasRoom b n) → IsKept b
+kept-place a b id e f h at start size skip lits entries live buffer room =
     let narrow : Narrows e f = record { start = start; size = λ n is. sym size ∙ is } in
     let old : (i : ℕ) (g : Entry) → slice_get b.entries.items i ≡ Some g
     → (o : Entry) × (slice_get a.entries.items i ≡ Some o) × Narrows o g × (g.size ≡ o.size) =
@@ -179,6 +213,7 @@ kept-place a b id e f h at start size lits entries live buffer room =
     ∙ sym (take_all (length a.lits.items) a.lits.items (omega arith))) entries
     (rw (live, entries, length-set) h.live)
     (λ i g le here. let o = old i g here in o.3 ∙ h.removed i o.0 (omega (arith, live)) o.1)
+    (subst HaveSkips (sym entries) (skips-set a.entries.items id e f at h.skips (λ is. size ∙ is) skip))
     (λ i g here n is. let o = old i g here in let le : o.0.start + n ≤ length a.lits.items =
     h.within i o.0 o.1 n (o.2.size n is) in let s : g.start ≡ o.0.start = o.2.start in omega arith)
     (ap (λ x. x.items) buffer ∙ h.empty) room
@@ -289,6 +324,14 @@ kept-push a b more e h lits entries buffer spare live start size =
       live = omega (arith, live);
       removed = λ id f le at. absurd (let lt : id < length b.entries.items = slice_get_within b.entries.items id f at in
           omega (arith, live));
+      skips = λ j g at i k gone lt near below. ⊎_elim
+          (λ old. ⊎_elim
+          (λ both. h.skips j g old i k gone lt near both)
+          (λ new. absurd (let m : i ≡ length a.entries.items = new.0 in
+          let in_old : j < length a.entries.items = slice_get_within a.entries.items j g old in omega arith))
+          (was i k below))
+          (λ new. absurd (let s : g.size ≡ length more + 1 = ap (λ (x : Entry). x.size) new.1 ∙ size in omega arith))
+          (was j g at);
       room = λ n is. (let z : None ≡ Some n = sym spare ∙ is in cc);
     }
 

@@ -36,7 +36,6 @@ pub packed-longer : (clauses : List (Option (List Lit))) (vars : ℕ) (s : Short
     → IsPacked clauses vars (record { lists = lists; packed = s.packed })
 packed-longer clauses vars s lists h w = record {
   within = h.within;
-  count = let c = h.count in let le = w.len in omega arith;
   complete = λ id c lt held short l m.
       let r = h.complete id c lt held short l m in (r.0, r.1, w.kept (number_of l) r.0 r.2, r.3, r.4);
   sound = λ l os o e m. ⊎_elim (λ b. h.sound l os o b m) (λ n. absurd (nothing os o m n))
@@ -161,7 +160,6 @@ pub packed-grows : (clauses : List (Option (List Lit))) (vars id : ℕ) (c : Lis
     → IsPacked clauses vars (record { lists = lists; packed = s.packed })
 packed-grows clauses vars id c s lists held short below g h = record {
   within = h.within;
-  count = let n = h.count in let e = g.len in omega arith;
   complete = λ n d lt is is_short l m. listed-grows s.lists lists id c l n g (h.complete n d lt is is_short l m);
   sound = λ l os o e m d is. ⊎_elim
       (λ b. h.sound l b.0 o b.1 b.2 d is)
@@ -190,7 +188,6 @@ pub packed-next : (clauses : List (Option (List Lit))) (vars : ℕ) (s : ShortSt
     → IsPacked clauses vars (record { lists = s.lists; packed = s.packed + 1 })
 packed-next clauses vars s lt all h = record {
   within = omega arith;
-  count = h.count;
   complete = λ id c less held short l m. ⊎_elim
       (λ (same : id ≡ s.packed). subst (λ (n : ℕ). IsListed s.lists l n) (sym same)
       (all c (ap (slice_get clauses) (sym same) ∙ held) short l m))
@@ -204,18 +201,16 @@ packed-next clauses vars s lt all h = record {
 pub packed-empty : IsPacked [] 0 (record { lists = []; packed = 0 })
 packed-empty = record {
   within = omega arith;
-  count = omega arith;
   complete = λ id c lt. absurd (omega arith);
   sound = λ l os o e. absurd (cc);
   in_range = λ j os o e. absurd (cc);
 }
 
--- more variables, for which there are lists
+-- more variables
 pub packed-grow : (clauses : List (Option (List Lit))) (vars more : ℕ) (s : ShortState) → IsPacked clauses vars s
-    → vars ≤ more → 2 * more ≤ length s.lists → IsPacked clauses more s
-packed-grow clauses vars more s h le room = record {
+    → vars ≤ more → IsPacked clauses more s
+packed-grow clauses vars more s h le = record {
   within = h.within;
-  count = room;
   complete = h.complete;
   sound = h.sound;
   in_range = λ j os o e m. let r = h.in_range j os o e m in (r.0, λ x other. let lt = r.1 x other in omega arith);
@@ -226,7 +221,6 @@ pub packed-push : (clauses : List (Option (List Lit))) (c : List Lit) (vars : �
     → IsPacked clauses vars s → IsPacked (clauses ++ Some c ∷ []) vars s
 packed-push clauses c vars s h = record {
   within = let le = h.within in let n = length_push clauses (Some c) in omega arith;
-  count = h.count;
   complete = λ id d lt held. h.complete id d lt (old id (Some d) (let le = h.within in omega arith) held);
   sound = λ l os o e m d held.
       h.sound l os o e m d (old o.id (Some d) (h.in_range (number_of l) os o e m).0 held);
@@ -247,7 +241,6 @@ pub packed-remove : (clauses : List (Option (List Lit))) (id vars : ℕ) (s : Sh
     → IsPacked clauses vars s → IsPacked (set clauses id None) vars s
 packed-remove clauses id vars s h = record {
   within = let le = h.within in let n = length-set clauses id None in omega arith;
-  count = h.count;
   complete = λ n c lt held. h.complete n c lt (old n c held);
   sound = λ l os o e m c held. h.sound l os o e m c (old o.id c held);
   in_range = λ j os o e m.

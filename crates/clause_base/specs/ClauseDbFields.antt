@@ -38,6 +38,16 @@ EndsBy e end = (n : ℕ) → e.size ≡ suc n → e.start + n ≤ end
 abbrev pub AreRemoved : List Entry → ℕ → Type 0
 AreRemoved entries live = (id : ℕ) (e : Entry) → live ≤ id → slice_get entries id ≡ Some e → e.size ≡ 0
 
+-- where the clause of this entry was removed, so many entries just before it as its skip `first` says are of removed
+-- clauses too
+abbrev pub IsSkip : List Entry → ℕ → Entry → Type 0
+IsSkip entries id e = (i : ℕ) (f : Entry) → e.size ≡ 0 → i < id → id ≤ i + e.first → slice_get entries i ≡ Some f
+    → f.size ≡ 0
+
+-- the skip of every removed clause is right
+abbrev pub HaveSkips : List Entry → Type 0
+HaveSkips entries = (id : ℕ) (e : Entry) → slice_get entries id ≡ Some e → IsSkip entries id e
+
 -- each clause ends before any later one begins
 abbrev pub IsOrdered : List Entry → Type 0
 IsOrdered entries = (i j : ℕ) (e f : Entry) → i < j → slice_get entries i ≡ Some e → slice_get entries j ≡ Some f
@@ -55,4 +65,6 @@ pub record IsKept (a : Inside) : Type 0 where
   pub ordered : IsOrdered a.entries.items
   pub live : a.live ≤ length a.entries.items
   pub removed : AreRemoved a.entries.items a.live
+  -- a walk over removed clauses may jump as far as they say
+  pub skips : HaveSkips a.entries.items
   pub room : (n : ℕ) → a.spare ≡ Some n → HasRoom a n

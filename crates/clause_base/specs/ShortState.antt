@@ -1,5 +1,5 @@
 -- Short clauses in lists, one for each literal, and what the other literals of one say.
-use Rattle.std.specs.Prelude.{◌≡◌, ◌≢◌, ℕ, ◌<◌, ◌≤◌, ◌*◌, ◌⊎◌, Bool, true, false, Option, Some, None, List, length}
+use Rattle.std.specs.Prelude.{◌≡◌, ◌≢◌, ℕ, ◌<◌, ◌≤◌, ◌⊎◌, Bool, true, false, Option, Some, None, List, length}
 use Rattle.std.specs.Prelude.{All, Contains, slice_get}
 use Rattle.lit_core.specs.declared.literals.Lit.{Lit}
 use Rattle.lit_core.specs.Literals.{value_in}
@@ -34,7 +34,6 @@ IsListed lists l id = (os : List Occurrence) × (o : Occurrence) × (slice_get l
 -- the held short clauses below `packed` are in the lists of all their literals, and of held clauses nothing else is
 pub record IsPacked (clauses : List (Option (List Lit))) (vars : ℕ) (s : ShortState) : Type 0 where
   pub within : s.packed ≤ length clauses
-  pub count : 2 * vars ≤ length s.lists
   pub complete : (id : ℕ) (c : List Lit) → id < s.packed → slice_get clauses id ≡ Some (Some c) → IsShort c → (l : Lit)
       → Contains c l → IsListed s.lists l id
   pub sound : (l : Lit) (os : List Occurrence) (o : Occurrence) → slice_get s.lists (number_of l) ≡ Some os

@@ -9,7 +9,7 @@ ghost use Rattle.std.specs.Prelude.{All, vec_capacity};
 ghost use Rattle.lit_core.specs.declared.literals.Lit.{Lit};
 ghost use Rattle.lit_core.specs.Literals.{HasEachOnce};
 ghost use Rattle.lit_core.specs.Packing.{Fits};
-ghost use Rattle.clause_base.specs.ClauseDbFields.{AreRemoved, EndsAt};
+ghost use Rattle.clause_base.specs.ClauseDbFields.{AreRemoved, EndsAt, HaveSkips};
 ghost use Rattle.clause_base.specs.StoreState.{IsEachOnceOf};
 
 use lit_core::{Lit, Memory, PackedLit};
@@ -23,7 +23,10 @@ struct Entry {
     start: u32,
     /// One more than the number of its literals, or 0 where it was removed.
     size: u32,
-    /// Where a search for another literal to watch begins, for each of its two watches. Any number is right.
+    /// Where a search for another literal to watch begins, for each of its two watches. Any number is right there.
+    ///
+    /// Where the clause was removed, `first` is the skip: so many entries just before this one are of removed clauses
+    /// too. It may be less than there are, and 0 says nothing.
     first: u32,
     second: u32,
 }
@@ -143,17 +146,22 @@ fn moved(entry: Entry, node: usize, place: usize) -> Entry
     }
 }
 
-/// How many entries there are up to the last that is not removed, where all from `live` on are.
+/// How many entries there are up to the last that is not removed, where all from `live` on are. Of a gap whose skip was
+/// written one entry is looked at.
 fn live_of(entries: &[Entry], live: usize) -> usize
     requires within { live ≤ length entries.now }
     requires removed { AreRemoved entries.now live }
+    requires skips { HaveSkips entries.now }
     ensures within { result ≤ length entries.now }
     ensures removed { AreRemoved entries.now result }
 {
-    for id in (0..live).rev() {
-        if entries[id].size != 0 {
-            return id + 1;
+    let mut at = live;
+    while at > 0 {
+        let last = entries[at - 1];
+        if last.size != 0 {
+            return at;
         }
+        at = (at - 1).saturating_sub(last.first as usize);
     }
     0
 }
@@ -233,6 +241,25 @@ impl ClauseDb {
         Ok(())
     }
 
+    /// Writes the skip of the last entry, where its clause was removed, before another one is added.
+    ///
+    /// Searches push clauses and give them back, one search after another. Without the skip each of them would, as it
+    /// gives back the first that it pushed, walk over all that the searches before it gave back.
+    fn note_gap(&mut self)
+        ensures { self.new ≡ self.old }
+    {
+        if self.live == self.entries.len() {
+            return;
+        }
+        let last = self.entries.len() - 1;
+        let skip = (last - self.live).min(u32::MAX as usize);
+        let entry = self.entries[last];
+        self.entries[last] = Entry {
+            first: skip as u32,
+            ..entry
+        };
+    }
+
     /// Adds the clause of these literals, for which there is room.
     pub fn push(&mut self, lits: &[Lit])
         requires room { length lits.now < self.old.spare }
@@ -243,6 +270,7 @@ impl ClauseDb {
           spare = 0;
         }) }
     {
+        self.note_gap();
         let start = self.lits.len() as u32;
         append_once(&mut self.lits, &mut self.buffer, lits);
         let size = self.lits.len() as u32 - start + 1;
@@ -295,13 +323,16 @@ impl ClauseDb {
         }
     }
 
-    /// Remembers where the next search at this node begins.
+    /// Remembers where the next search at this node begins, if the clause is held: a removed one has its skip there.
     pub fn set_place(&mut self, node: usize, place: usize)
         requires node { node < 2 * length self.old.clauses }
         requires place { place < 2 ^ 32 }
         ensures { self.new ≡ self.old }
     {
         let entry = self.entries[node / 2];
+        if entry.size == 0 {
+            return;
+        }
         self.entries[node / 2] = moved(entry, node, place);
     }
 
@@ -312,7 +343,11 @@ impl ClauseDb {
         ensures { self.new ≡ record { clauses = slice_set self.old.clauses id None; spare = self.old.spare } }
     {
         let entry = self.entries[id as usize];
-        self.entries[id as usize] = Entry { size: 0, ..entry };
+        self.entries[id as usize] = Entry {
+            size: 0,
+            first: 0,
+            ..entry
+        };
         self.live = live_of(self.entries.as_slice(), self.live);
         let end = end_of(self.entries.as_slice(), self.live);
         self.lits.truncate(end);

@@ -76,6 +76,20 @@ impl ShortClauses {
         add_empty(&mut self.lists, count, self.alloc)
     }
 
+    /// As `add_lists` where a clause is listed. Else no list is needed, and those of a million variables take 64 MiB.
+    pub fn grow_lists(&mut self, count: usize) -> Result<(), Memory>
+        ensures kept { (clauses : List (Option (List Lit))) (vars : ℕ) → IsPacked clauses vars self.old
+            → IsPacked clauses vars self.new }
+        ensures packed { self.new.packed ≡ self.old.packed }
+        ensures longer { length self.old.lists ≤ length self.new.lists }
+        ensures enough { OnOk result (0 < self.old.packed → count ≤ length self.new.lists) }
+    {
+        if self.packed == 0 {
+            return Ok(());
+        }
+        self.add_lists(count)
+    }
+
     /// The short clauses below this number are listed.
     pub fn packed(&self) -> usize
         ensures { result ≡ self.now.packed }

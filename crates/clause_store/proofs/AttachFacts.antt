@@ -11,9 +11,9 @@ use Rattle.clause_store.specs.declared.attachment.WatchChoice.TheVariants.{Two}
 use Rattle.clause_base.specs.ListsState.{ListsState, HasLaws, nodes_of}
 use Rattle.clause_base.specs.StoreState.{IsHeld}
 use Rattle.clause_base.specs.TrailLaws.{IsMade}
-use Rattle.clause_store.specs.Watching.{code_of, store_of, HasWatch, IsLong, IsWatcher, IsWatchNode, IsListed}
+use Rattle.clause_store.specs.Watching.{code_of, store_of, HasWatch, IsGood, IsLong, IsWatcher, IsWatchNode, IsListed}
 use Rattle.clause_store.specs.Watching.{IsNodeOf, IsWatched}
-use Rattle.clause_store.specs.Visits.{CanAttach, IsPartner, WatchChoiceGives}
+use Rattle.clause_store.specs.Visits.{CanAttach, IsPartner, NeedsNoWatch, WatchChoiceGives}
 use Rattle.clause_store.proofs.WatchFacts.{guards-unfalse, same-held}
 use Rattle.clause_store.proofs.NodeFacts.{same-node}
 
@@ -122,8 +122,15 @@ module _ (e : Watcher) (h : IsWatcher e) (more : e.checked < length e.held.claus
         count = let k : 2 * length e.trail.values ≤ length e.lists.lists = h.count in omega arith;
         small = h.small;
         room = λ spare. let k : 2 * length e.held.clauses + 2 ≤ length e.lists.labels = h.room spare in omega arith;
+        shorts = h.shorts;
         short = h.short;
         closed = h.closed;
+        single = λ i c lt held few. ⊎_elim
+            (λ same.
+            let many : 2 ≤ length c = (can c (subst (λ (n : ℕ). IsHeld (store_of e) n c) same held)).0.0 in
+            absurd (omega arith))
+            (λ ne. h.single i c (omega arith) held few)
+            (cases_eq i e.checked);
         guarded = λ i c lt held long. ⊎_elim
             (λ same. (
               w,
@@ -143,9 +150,24 @@ module _ (e : Watcher) (h : IsWatcher e) (more : e.checked < length e.held.claus
             (second.was j n has);
       }
 
--- a clause that was removed or is listed with the short ones is passed over
+-- a clause that needs no watch is not one of those that are watched
+unwatched : (e : Watcher) (id : ℕ) (c : List Lit) → NeedsNoWatch e id c → IsLong e id c → ⊥
+unwatched e id c none long = ⊎_elim
+    (λ listed. long.1 listed.0 listed.1)
+    (λ few. let many : 2 ≤ length c = long.0 in let one : length c ≤ 1 = few.0 in omega arith)
+    none
+
+-- ... and if it has no two literals, one is true at level 0
+passed-good : (e : Watcher) (id : ℕ) (c : List Lit) → NeedsNoWatch e id c → length c ≤ 1
+    → IsGood e.trail.steps e.stale c
+passed-good e id c none few = ⊎_elim
+    (λ listed. let many : 2 ≤ length c = listed.1.0 in absurd (omega arith))
+    (λ good. good.1)
+    none
+
+-- such a clause is passed over
 pub skip-watcher : (e : Watcher) → IsWatcher e → e.checked < length e.held.clauses
-    → ((c : List Lit) → IsHeld (store_of e) e.checked c → IsLong e e.checked c → ⊥) → IsWatcher
+    → ((c : List Lit) → IsHeld (store_of e) e.checked c → NeedsNoWatch e e.checked c) → IsWatcher
     (record {
       held = e.held;
       short = e.short;
@@ -164,16 +186,21 @@ skip-watcher e h more passed = record {
   count = h.count;
   small = h.small;
   room = h.room;
+  shorts = h.shorts;
   short = h.short;
   closed = h.closed;
+  single = λ i c lt held few. ⊎_elim
+      (λ same. passed-good e e.checked c (passed c (subst (λ (n : ℕ). IsHeld (store_of e) n c) same held)) few)
+      (λ ne. h.single i c (omega arith) held few)
+      (cases_eq i e.checked);
   guarded = λ i c lt held long. ⊎_elim
-      (λ same. absurd (passed c (subst (λ (n : ℕ). IsHeld (store_of e) n c) same held)
+      (λ same. absurd (unwatched e e.checked c (passed c (subst (λ (n : ℕ). IsHeld (store_of e) n c) same held))
       (subst (λ (n : ℕ). IsLong e n c) same long)))
       (λ ne. h.guarded i c (omega arith) held long)
       (cases_eq i e.checked);
   current = h.current;
   listed = λ i c lt held long. ⊎_elim
-      (λ same. absurd (passed c (subst (λ (n : ℕ). IsHeld (store_of e) n c) same held)
+      (λ same. absurd (unwatched e e.checked c (passed c (subst (λ (n : ℕ). IsHeld (store_of e) n c) same held))
       (subst (λ (n : ℕ). IsLong e n c) same long)))
       (λ ne. let g = h.listed i c (omega arith) held long in record {
         watch = g.watch;
@@ -219,8 +246,11 @@ rest-watcher e n h all gone =
       count = h.count;
       small = h.small;
       room = h.room;
+      shorts = h.shorts;
       short = h.short;
       closed = h.closed;
+      single = λ i c lt held few. ⊎_elim (λ before. h.single i c before held few)
+          (λ ge. absurd (gone i c ge held)) (cases_lt i e.checked);
       guarded = λ i c lt held long. ⊎_elim (λ before. h.guarded i c before held long)
           (λ ge. absurd (gone i c ge held)) (cases_lt i e.checked);
       current = h.current;
@@ -301,3 +331,16 @@ one-attach e l c h held long has t low d k =
         ways = inl (m.0, m.1, m.2, subst (Contains c) (sym m.3) has, ⊎_elim (λ s. inl s) (λ z. inr (omega arith)) low);
       }),
     )
+
+-- a clause of one literal, which is true at level 0 or where levels are passed over, needs no watch
+pub single-passed : (e : Watcher) (l : Lit) (c : List Lit) → IsWatcher e → IsHeld (store_of e) e.checked c
+    → length c ≤ 1 → Contains c l → value_in e.trail.values l ≡ Some true
+    → ((e.stale ≡ true) ⊎ (e.trail.level ≡ 0)) → (d : List Lit) → IsHeld (store_of e) e.checked d
+    → NeedsNoWatch e e.checked d
+single-passed e l c h held few has t low d k =
+    let m : IsMade e.trail.steps l = h.store.trail.coherent.was_made l t in
+    let top : m.1.level ≤ e.trail.level = h.store.trail.top m.0 m.1 m.2 in
+    subst (NeedsNoWatch e e.checked) (same-held (store_of e) e.checked c d held k) (inr (
+      few,
+      (m.0, m.1, m.2, subst (Contains c) (sym m.3) has, ⊎_elim (λ s. inl s) (λ z. inr (omega arith)) low),
+    ))

@@ -16,11 +16,11 @@ use Rattle.clause_base.specs.ListsState.{ListsState, HasLaws, nodes_of}
 use Rattle.clause_base.specs.StoreState.{IsStore, IsHeld, Implies, with_trail}
 use Rattle.clause_store.specs.declared.watched.Watch.{Watch}
 use Rattle.clause_store.specs.declared.watched.Watcher.{Watcher}
-use Rattle.clause_store.specs.Watching.{store_of, Guards, IsClosed, IsWatched, IsWatcher}
+use Rattle.clause_store.specs.Watching.{store_of, Guards, IsClosed, IsGood, IsWatched, IsWatcher}
 use Rattle.clause_store.specs.Visits.{MayAssign}
 use Rattle.clause_base.proofs.ListFacts.{slice_get-push_cases, slice_get-take, slice_get-take-below}
 use Rattle.clause_base.proofs.StoreFacts.{store-assign, store-cut, store-cleared, store-fix}
-use Rattle.clause_store.proofs.WatchFacts.{watched-push}
+use Rattle.clause_store.proofs.WatchFacts.{good-push, watched-push}
 use Rattle.clause_store.proofs.ClosedFacts.{closed-none, closed-push, closed-stale}
 use Rattle.clause_store.proofs.ImplyFacts.{owned-sized}
 
@@ -28,12 +28,15 @@ guards-stale : (steps : List Step) (q : ℕ) (stale : Bool) (a b : Lit) → Guar
     → Guards steps q true a b
 guards-stale steps q stale a b g k t lt e is = let w = g k t lt e is in (w.0, w.1, w.2, w.3, inl refl)
 
+good-stale : (steps : List Step) (stale : Bool) (c : List Lit) → IsGood steps stale c → IsGood steps true c
+good-stale steps stale c g = (g.0, g.1, g.2, g.3, inl refl)
+
 pub watched-stale : (steps : List Step) (q : ℕ) (stale : Bool) (c : List Lit) (w : Watch) → IsWatched steps q stale c w
     → IsWatched steps q true c w
 watched-stale steps q stale c w h = record {
   has_first = h.has_first;
   has_second = h.has_second;
-  ways = ⊎_elim (λ g. inl (g.0, g.1, g.2, g.3, inl refl)) (λ p.
+  ways = ⊎_elim (λ g. inl (good-stale steps stale c g)) (λ p.
       inr (record {
         distinct = p.distinct;
         first = guards-stale steps q stale w.first w.second p.first;
@@ -60,7 +63,9 @@ watcher-stale e h = record {
   count = h.count;
   small = h.small;
   room = h.room;
+  shorts = h.shorts;
   short = h.short;
+  single = λ id c lt held few. good-stale e.trail.steps e.stale c (h.single id c lt held few);
   closed = λ id c lt held short. closed-stale e.trail.steps e.queue e.stale c (h.closed id c lt held short);
   guarded = λ id c lt held long. let g = h.guarded id c lt held long in
       (g.0, g.1, watched-stale e.trail.steps e.queue e.stale c g.0 g.2);
@@ -109,7 +114,9 @@ watcher-step e t h store current =
       count = rw length-set h.count;
       small = rw length-set h.small;
       room = h.room;
+      shorts = rw length-set h.shorts;
       short = rw length-set h.short;
+      single = λ i c lt held few. good-push e.trail.steps t e.stale c (h.single i c lt held few);
       closed = λ i c lt held short. closed-push e.trail.steps t e.queue e.stale c h.queue (h.closed i c lt held short);
       guarded = λ i c lt held long. let g = h.guarded i c lt held long in
           (g.0, g.1, watched-push e.trail.steps t e.queue e.stale c g.0 h.queue g.2);
@@ -189,7 +196,9 @@ watcher-emptied e lists t stale h store size laws nodes count empty low = record
   small = let k : length e.trail.values ≤ 2 ^ 31 = h.small in omega arith;
   room = λ spare. let k : 2 * length e.held.clauses + 2 ≤ length e.lists.labels = h.room spare in
       let n : length lists.labels ≡ length e.lists.labels = ap length nodes in omega arith;
+  shorts = λ some. let k : 2 * length e.trail.values ≤ length e.short.lists = h.shorts some in omega arith;
   short = rw size h.short;
+  single = λ i c lt held few. absurd (omega arith);
   closed = λ i c lt held short. closed-none t.steps stale c short (store.once i c held);
   guarded = λ i c lt held long. absurd (omega arith);
   current = λ n k u le eu. let a : u.level ≤ t.level = store.trail.top k u eu in let z : t.level ≡ 0 =
@@ -256,19 +265,19 @@ module _ (e : Watcher) (level : ℕ) (t : TrailState) (h : IsWatcher e) (fresh :
       (λ l. (w.0, w.1, kept-low w.0 w.1 w.2 (omega arith), w.3, inr l))
       w.4
 
+  good-cut : (c : List Lit) → IsGood e.trail.steps e.stale c → IsGood t.steps e.stale c
+  good-cut c g = ⊎_elim
+      (λ s. absurd (both_ways e.stale fresh s))
+      (λ z. (g.0, g.1, kept-low g.0 g.1 g.2 (omega arith), g.3, inr z))
+      g.4
+
   watched-cut : (c : List Lit) (w : Watch) (q : ℕ) → q ≤ e.queue → IsWatched e.trail.steps e.queue e.stale c w
       → IsWatched t.steps q e.stale c w
   watched-cut c w q qle p = record {
     has_first = p.has_first;
     has_second = p.has_second;
     ways = ⊎_elim
-        (λ g. ⊎_elim (λ s. absurd (both_ways e.stale fresh s)) (λ z. inl (
-          g.0,
-          g.1,
-          kept-low g.0 g.1 g.2 (omega arith),
-          g.3,
-          inr z,
-        )) g.4)
+        (λ g. inl (good-cut c g))
         (λ r. inr (record {
           distinct = r.distinct;
           first = guards-cut w.first w.second q qle r.first;
@@ -312,7 +321,9 @@ module _ (e : Watcher) (level : ℕ) (t : TrailState) (h : IsWatcher e) (fresh :
     count = rw cut.size h.count;
     small = rw cut.size h.small;
     room = h.room;
+    shorts = rw cut.size h.shorts;
     short = rw cut.size h.short;
+    single = λ i c lt held few. good-cut c (h.single i c lt held few);
     closed = λ i c lt held short. closed-cut c q (omega arith) (h.closed i c lt held short);
     guarded = λ i c lt held long. let g = h.guarded i c lt held long in
         (g.0, g.1, watched-cut c g.0 q (omega arith) g.2);

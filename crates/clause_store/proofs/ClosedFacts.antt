@@ -18,18 +18,24 @@ use Rattle.clause_store.specs.Watching.{store_of, IsClosed, IsLong, IsWatcher}
 use Rattle.clause_store.specs.Visits.{IsNext}
 use Rattle.clause_store.proofs.WatchFacts.{made-false, true-level}
 
--- whether the clause is listed with the short ones
-pub decide_long : (e : Watcher) (id : ℕ) (c : List Lit) → IsLong e id c ⊎ ((id < e.short.packed) × IsShort c)
+-- whether the clause is one of those that are watched, or listed with the short ones, or has no two literals
+pub decide_long : (e : Watcher) (id : ℕ) (c : List Lit)
+    → IsLong e id c ⊎ (((id < e.short.packed) × IsShort c) ⊎ (length c ≤ 1))
 decide_long e id c = ⊎_elim
+    (λ two.
+    let least : 2 ≤ length c = (let x : 1 < length c = two in omega arith) in
+    ⊎_elim
     (λ below. ⊎_elim
-    (λ two. ⊎_elim
-    (λ four. inr (below, (let x : 1 < length c = two in omega arith, let x : length c < 5 = four in omega arith)))
-    (λ many. inl (λ p s. let x : length c ≤ 4 = s.1 in let y : 5 ≤ length c = many in absurd (omega arith)))
+    (λ four. inr (inl (below, (least, let x : length c < 5 = four in omega arith))))
+    (λ many. inl (
+      least,
+      λ p s. let x : length c ≤ 4 = s.1 in let y : 5 ≤ length c = many in absurd (omega arith),
+    ))
     (cases_lt (length c) 5))
-    (λ few. inl (λ p s. let x : 2 ≤ length c = s.0 in let y : length c ≤ 1 = few in absurd (omega arith)))
-    (cases_lt 1 (length c)))
-    (λ above. inl (λ p s. let x : e.short.packed ≤ id = above in absurd (omega arith)))
-    (cases_lt id e.short.packed)
+    (λ above. inl (least, λ p s. let x : e.short.packed ≤ id = above in absurd (omega arith)))
+    (cases_lt id e.short.packed))
+    (λ few. inr (inr few))
+    (cases_lt 1 (length c))
 
 -- a short clause has another literal
 pub other_member : (c : List Lit) (m : Lit) → 2 ≤ length c → HasEachOnce c → (l : Lit) × Contains c l × (l ≡ m → ⊥)

@@ -7,16 +7,16 @@ use Rattle.lit_core.proofs.LiteralFacts.{nothing_in_none}
 use Rattle.clause_base.specs.TrailState.{TrailState}
 use Rattle.clause_base.specs.TrailLaws.{IsTrail, empty_trail}
 use Rattle.clause_base.specs.ListsState.{ListsState, HasLaws, nodes_of}
-use Rattle.clause_base.specs.ShortState.{ShortState, HaveLists, IsPacked, IsShort}
+use Rattle.clause_base.specs.ShortState.{ShortState, HaveLists, IsPacked}
 use Rattle.clause_base.specs.StoreState.{IsStore, IsHeld}
 use Rattle.clause_base.specs.declared.trail.Step.{Step}
 use Rattle.clause_store.specs.declared.watched.Watch.{Watch}
 use Rattle.clause_store.specs.declared.watched.Watcher.{Watcher}
-use Rattle.clause_store.specs.Watching.{code_of, store_of, HasWatch, IsClosed, IsLong, IsWatcher, IsWatched}
+use Rattle.clause_store.specs.Watching.{code_of, store_of, HasWatch, IsClosed, IsGood, IsLong, IsWatcher, IsWatched}
 use Rattle.clause_base.proofs.ShortFacts.{packed-empty}
 use Rattle.clause_base.proofs.StoreFacts.{store-longer}
 use Rattle.clause_store.proofs.ClosedFacts.{closed-none}
-use Rattle.clause_store.proofs.NodeFacts.{short-within}
+use Rattle.clause_store.proofs.NodeFacts.{code-le}
 
 -- what is written on nodes stays where there are more of them
 pub watch-kept : (labels more : List ℕ) → ((k x : ℕ) → slice_get labels k ≡ Some x → slice_get more k ≡ Some x)
@@ -27,10 +27,10 @@ watch-kept labels more kept id w h = record {
       kept (2 * id) (code_of w.second) h.second;
 }
 
--- what is not listed with the short ones is not in the same lists
-packed-same : (a b : ShortState) → a ≡ b → (id : ℕ) (c : List Lit) → (id < a.packed → IsShort c → ⊥)
-    → id < b.packed → IsShort c → ⊥
-packed-same a b same id c long below short = long (subst (λ (s : ShortState). id < s.packed) (sym same) below) short
+-- what is watched is so beside the same lists of short clauses
+abbrev long-same : (e b : Watcher) → e.short ≡ b.short → (id : ℕ) (c : List Lit) → IsLong e id c → IsLong b id c
+long-same e b same id c long =
+    (long.0, λ below short. long.1 (subst (λ (s : ShortState). id < s.packed) (sym same) below) short)
 
 -- more nodes and other clauses, of which those that are watched were held before
 pub watcher-held : (e : Watcher) (b : Watcher) → IsWatcher e → IsStore (store_of b) → b.trail ≡ e.trail
@@ -45,7 +45,7 @@ watcher-held e b h store trail queue checked stale short packed shorter nodes ro
     let all : e.checked ≤ length e.held.clauses = h.checked in
     let some : e.short.packed ≤ length e.held.clauses = h.short.within in
     let was_long : (id : ℕ) (c : List Lit) → IsLong b id c → IsLong e id c =
-    λ id c long. packed-same b.short e.short short id c long in
+    λ id c long. long-same b e short id c long in
     record {
       store = store;
       lists = laws;
@@ -55,7 +55,9 @@ watcher-held e b h store trail queue checked stale short packed shorter nodes ro
       count = let k : 2 * length e.trail.values ≤ length e.lists.lists = h.count in rw trail (omega arith);
       small = rw trail h.small;
       room = room;
+      shorts = rw (trail, short) h.shorts;
       short = rw (trail, short) packed;
+      single = λ id c lt held few. rw (trail, stale) (h.single id c (omega arith) (was id c (omega arith) held) few);
       closed = λ id c lt held small.
           let same : b.short.packed ≡ e.short.packed = ap (λ (s : ShortState). s.packed) short in
           rw (trail, queue, stale) (h.closed id c (omega arith) (was id c (omega arith) held) small);
@@ -81,7 +83,7 @@ watcher-held e b h store trail queue checked stale short packed shorter nodes ro
             checked = rw checked g.checked;
             long = λ c held.
                 let lt : g.id < e.checked = g.checked in
-                packed-same e.short b.short (sym short) g.id c (g.long c (was g.id c (omega arith) held));
+                long-same e b (sym short) g.id c (g.long c (was g.id c (omega arith) held));
             watch = g.watch;
             is_watch = watch-kept e.lists.labels b.lists.labels kept g.id g.watch g.is_watch;
             first = rw trail g.first;
@@ -91,7 +93,8 @@ watcher-held e b h store trail queue checked stale short packed shorter nodes ro
 
 -- more variables, and more lists
 pub watcher-longer : (e : Watcher) (lists : ListsState) (short : ShortState) (t : TrailState) → IsWatcher e
-    → IsPacked e.held.clauses (length t.values) short → short.packed ≡ e.short.packed → t.steps ≡ e.trail.steps
+    → IsPacked e.held.clauses (length t.values) short → (0 < short.packed → 2 * length t.values ≤ length short.lists)
+    → short.packed ≡ e.short.packed → t.steps ≡ e.trail.steps
     → t.level ≡ e.trail.level → length e.trail.values ≤ length t.values → IsTrail t → HasLaws lists
     → lists.labels ≡ e.lists.labels → 2 * length t.values ≤ length lists.lists → length t.values ≤ 2 ^ 31
     → ((j : ℕ) → nodes_of lists j ≡ nodes_of e.lists j) → IsWatcher (record {
@@ -103,7 +106,7 @@ pub watcher-longer : (e : Watcher) (lists : ListsState) (short : ShortState) (t 
       checked = e.checked;
       stale = e.stale;
     })
-watcher-longer e lists short t h packed below steps level longer trail laws nodes count small same =
+watcher-longer e lists short t h packed shorts below steps level longer trail laws nodes count small same =
     record {
       store = store-longer (store_of e) t h.store steps longer trail;
       lists = laws;
@@ -115,10 +118,13 @@ watcher-longer e lists short t h packed below steps level longer trail laws node
       small = small;
       room = λ spare. let k : 2 * length e.held.clauses + 2 ≤ length e.lists.labels = h.room spare in
           let n : length lists.labels ≡ length e.lists.labels = ap length nodes in omega arith;
+      shorts = shorts;
       short = packed;
+      single = λ id c lt held few. subst (λ (xs : List Step). IsGood xs e.stale c) (sym steps)
+          (h.single id c lt held few);
       closed = λ id c lt held small. subst (λ (xs : List Step). IsClosed xs e.queue e.stale c) (sym steps)
           (h.closed id c (omega arith) held small);
-      guarded = λ id c lt held long. let g = h.guarded id c lt held (λ p s. long (omega arith) s) in (
+      guarded = λ id c lt held long. let g = h.guarded id c lt held (long.0, λ p s. long.1 (omega arith) s) in (
         g.0,
         subst (λ (ls : List ℕ). HasWatch ls id g.0) (sym nodes) g.1,
         subst (λ (xs : List Step). IsWatched xs e.queue e.stale c g.0) (sym steps) g.2,
@@ -126,7 +132,7 @@ watcher-longer e lists short t h packed below steps level longer trail laws node
       current = λ n k u le eu. h.current n k u le (subst (λ (xs : List Step). slice_get xs k ≡ Some u) steps eu)
           ∙ sym level;
       listed = λ id c lt held long.
-          let g = h.listed id c lt held (λ p s. long (omega arith) s) in
+          let g = h.listed id c lt held (long.0, λ p s. long.1 (omega arith) s) in
           record {
             watch = g.watch;
             is_watch = subst (λ (ls : List ℕ). HasWatch ls id g.watch) (sym nodes) g.is_watch;
@@ -141,7 +147,7 @@ watcher-longer e lists short t h packed below steps level longer trail laws node
             id = g.id;
             of = g.of;
             checked = g.checked;
-            long = λ c held p s. g.long c held (omega arith) s;
+            long = λ c held. let was = g.long c held in (was.0, λ p s. was.1 (omega arith) s);
             watch = g.watch;
             is_watch =
                 subst (λ (ls : List ℕ). HasWatch ls g.id g.watch) (sym nodes) g.is_watch;
@@ -151,15 +157,16 @@ watcher-longer e lists short t h packed below steps level longer trail laws node
           };
     }
 
--- there is a list of short clauses for each literal of the clauses
-pub have-lists : (e : Watcher) → IsWatcher e → HaveLists (length e.short.lists) e.held.clauses
-have-lists e h id c held = All-weaker (λ l. l.var.0 < length e.trail.values) (λ l. code_of l < length e.short.lists)
-    (short-within e h) c (h.store.in_range id c held)
+-- so many lists of short clauses are one for each literal of the clauses
+pub have-lists : (e : Watcher) → IsWatcher e → (n : ℕ) → 2 * length e.trail.values ≤ n → HaveLists n e.held.clauses
+have-lists e h n all id c held = All-weaker (λ l. l.var.0 < length e.trail.values) (λ l. code_of l < n)
+    (λ l lt. let le : code_of l ≤ 2 * l.var.0 + 1 = code-le l in omega arith) c (h.store.in_range id c held)
 
 -- nothing is assigned and no clause is watched, and more short clauses may be listed
 pub watcher-packed : (e : Watcher) (lists : ListsState) (short : ShortState) → IsWatcher e → e.trail.steps ≡ []
     → HasLaws lists → lists.labels ≡ e.lists.labels → length lists.lists ≡ length e.lists.lists
-    → ((j : ℕ) → nodes_of lists j ≡ []) → IsPacked e.held.clauses (length e.trail.values) short → IsWatcher (record {
+    → ((j : ℕ) → nodes_of lists j ≡ []) → IsPacked e.held.clauses (length e.trail.values) short
+    → (0 < short.packed → 2 * length e.trail.values ≤ length short.lists) → IsWatcher (record {
       held = e.held;
       short = short;
       lists = lists;
@@ -168,7 +175,7 @@ pub watcher-packed : (e : Watcher) (lists : ListsState) (short : ShortState) →
       checked = 0;
       stale = e.stale;
     })
-watcher-packed e lists short h none laws nodes count empty packed =
+watcher-packed e lists short h none laws nodes count empty packed shorts =
     let q : e.queue ≤ length e.trail.steps = h.queue in
     let zero_steps : length e.trail.steps ≡ 0 = ap length none in
     let start : e.queue ≡ 0 = omega arith in
@@ -183,7 +190,9 @@ watcher-packed e lists short h none laws nodes count empty packed =
       small = h.small;
       room = λ spare. let k : 2 * length e.held.clauses + 2 ≤ length e.lists.labels = h.room spare in
           let n : length lists.labels ≡ length e.lists.labels = ap length nodes in omega arith;
+      shorts = shorts;
       short = packed;
+      single = λ i c lt held few. absurd (omega arith);
       closed = λ i c lt held small. rw start (closed-none e.trail.steps e.stale c small (h.store.once i c held));
       guarded = λ i c lt held long. absurd (omega arith);
       current = h.current;
@@ -207,7 +216,9 @@ watcher-empty e store clauses spare trail queue checked short laws empty =
       count = omega arith;
       small = omega arith;
       room = λ pos. absurd (omega arith);
+      shorts = λ some. let z : e.short.packed ≡ 0 = ap (λ (s : ShortState). s.packed) short in absurd (omega arith);
       short = rw (clauses, short, no_values) packed-empty;
+      single = λ id c lt held few. absurd (omega arith);
       closed = λ id c lt held small. let z : e.short.packed ≡ 0 = ap (λ (s : ShortState). s.packed) short in
           absurd (omega arith);
       guarded = λ id c lt held long. absurd (omega arith);

@@ -98,7 +98,9 @@ module _ (e : Watcher) (h : IsWatcher e) (node : ℕ) (f : Lit) (next : IsNext e
         count = rw length-set h.count;
         small = rw length-set h.small;
         room = h.room;
+        shorts = rw length-set h.shorts;
         short = rw length-set h.short;
+        single = λ i c lt held few. good-push e.trail.steps t e.stale c (h.single i c lt held few);
         closed = λ i c lt held short. closed-push e.trail.steps t e.queue e.stale c h.queue
             (h.closed i c lt held short);
         guarded = λ i c lt held long. let g = h.guarded i c lt held long in

@@ -255,7 +255,9 @@ module _ (e : Watcher) (h : IsWatcher e) (f : Lit) (next : IsNext e f) (node : �
           ≤ length e.lists.lists = h.count in omega arith;
       small = h.small;
       room = λ spare. let k : 2 * length e.held.clauses + 2 ≤ length e.lists.labels = h.room spare in omega arith;
+      shorts = h.shorts;
       short = h.short;
+      single = h.single;
       closed = h.closed;
       guarded = λ i c lt held long. ⊎_elim
           (λ same. (

@@ -63,12 +63,12 @@ code-within e h l lt =
     let all : 2 * length e.trail.values ≤ length e.lists.lists = h.count in
     omega arith
 
--- and one of short clauses
-pub short-within : (e : Watcher) → IsWatcher e → (l : Lit) → l.var.0 < length e.trail.values
+-- and one of short clauses, where any are listed
+pub short-within : (e : Watcher) → IsWatcher e → 0 < e.short.packed → (l : Lit) → l.var.0 < length e.trail.values
     → code_of l < length e.short.lists
-short-within e h l lt =
+short-within e h some l lt =
     let le : code_of l ≤ 2 * l.var.0 + 1 = code-le l in
-    let all : 2 * length e.trail.values ≤ length e.short.lists = h.short.count in
+    let all : 2 * length e.trail.values ≤ length e.short.lists = h.shorts some in
     omega arith
 
 -- and its number fits

@@ -117,5 +117,9 @@ module _ (e : Watcher) (h : IsWatcher e) (done : length e.trail.steps ≤ e.queu
       (λ good. settled-true e.trail.values c good.1.lit good.3 (coherent.are_true good.0 good.1 good.2))
       (λ p. pair-settled c g.0.first g.0.second g.2.has_first g.2.has_second p)
       g.2.ways)
+      (λ other. ⊎_elim
       (λ short. short-settled c short.1 (h.store.once id c held) (h.closed id c short.0 held short.1))
+      (λ few. let good = h.single id c (omega arith) held few in
+      settled-true e.trail.values c good.1.lit good.3 (coherent.are_true good.0 good.1 good.2))
+      other)
       (decide_long e id c)

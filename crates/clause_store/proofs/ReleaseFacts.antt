@@ -120,7 +120,9 @@ module _ (e : Watcher) (h : IsWatcher e) (f : Lit) (node : ℕ) (before : Option
     small = h.small;
     room = λ spare. let k : 2 * length e.held.clauses + 2 ≤ length e.lists.labels = h.room spare in
         let n : length lists.labels ≡ length e.lists.labels = ap length labels in omega arith;
+    shorts = h.shorts;
     short = h.short;
+    single = h.single;
     closed = h.closed;
     guarded = λ i c lt held long. let g = h.guarded i c lt held long in
         (g.0, subst (λ (ls : List ℕ). HasWatch ls i g.0) (sym labels) g.1, g.2);

@@ -165,7 +165,7 @@ module _ (old e new : Watcher) (f : Lit) (n : ℕ) (at before last : Option ℕ)
       heldo = was-held id c held
 
       longo : IsLong e id c
-      longo below short = long (subst (λ (s : ShortState). id < s.packed) (sym keeps.short) below) short
+      longo = (long.0, λ below short. long.1 (subst (λ (s : ShortState). id < s.packed) (sym keeps.short) below) short)
 
       lto : id < e.checked
       lto = let x : new.checked ≡ e.checked = keeps.checked in omega arith
@@ -236,7 +236,9 @@ module _ (old e : Watcher) (f : Lit) (before : Option ℕ) (h : Walks old e f No
         count = h.watcher.count;
         small = h.watcher.small;
         room = h.watcher.room;
+        shorts = h.watcher.shorts;
         short = h.watcher.short;
+        single = h.watcher.single;
         closed = h.closed;
         guarded = λ id c lt held long. ⊎_elim (λ g. g) (λ w. absurd (nothing_in_none w.0
             (subst (λ (xs : List ℕ). Contains xs w.0) none w.2))) (h.walked id c lt held long);

@@ -12,13 +12,14 @@ use Rattle.clause_store.specs.declared.propagation.Replacement.{Replacement}
 use Rattle.clause_store.specs.declared.propagation.Replacement.TheVariants.{Deleted, Literal, Unit as UnitLeft}
 use Rattle.clause_store.specs.declared.propagation.Replacement.TheVariants.{Conflict as AllFalse}
 use Rattle.clause_store.specs.declared.attachment.WatchChoice.{WatchChoice}
-use Rattle.clause_store.specs.declared.attachment.WatchChoice.TheVariants.{Unwatched, Two, One}
+use Rattle.clause_store.specs.declared.attachment.WatchChoice.TheVariants.{Unwatched, Single, Two, One}
 use Rattle.clause_store.specs.declared.attachment.WatchChoice.TheVariants.{Conflict as NoChoice}
 use Rattle.clause_store.specs.declared.watched.Watch.{Watch}
 use Rattle.clause_store.specs.declared.watched.Watcher.{Watcher}
 use Rattle.clause_base.specs.declared.trail.Step.{Step}
 use Rattle.clause_base.specs.Links.{last_of}
 use Rattle.clause_base.specs.ListsState.{ListsState, nodes_of}
+use Rattle.clause_base.specs.ShortState.{IsShort}
 use Rattle.clause_base.specs.StoreState.{IsHeld, IsConflict}
 use Rattle.clause_base.specs.declared.occurrences.Occurrence.{Occurrence}
 use Rattle.clause_store.specs.Watching.{code_of, AreClosed, Guarded, HasWatch, IsClosed, IsGood, IsLong, IsNodeOf}
@@ -148,7 +149,7 @@ abbrev pub MayAssign : Watcher → Option ℕ → Type 0
 MayAssign e None = (e.stale ≡ true) ⊎ (length e.trail.steps ≤ e.queue)
 MayAssign e (Some id) = Unit {0}
 
--- the next clause is not listed with the short ones, and may be watched so
+-- the next clause is one of those that are watched, and may be watched so
 abbrev pub CanAttach : Watcher → Watch → Type 0
 CanAttach e w = (c : List Lit) → IsHeld (store_of e) e.checked c → IsLong e e.checked c
     × IsWatched e.trail.steps e.queue e.stale c w
@@ -158,16 +159,26 @@ abbrev pub OpensAt : List (Option Bool) → List Lit → Option Lit → Type 0
 OpensAt a c None = All (λ m. value_in a m ≡ Some false) c
 OpensAt a c (Some l) = Contains c l × (value_in a l ≢ Some false)
 
--- which literals of the clause with this number are not false: two at least, or one alone, or none; or the clause was
--- removed or is listed with the short ones
+-- the literal is the last one of the clause that is not false
+pub record IsLast (e : Watcher) (id : ℕ) (l : Lit) (c : List Lit) : Type 0 where
+  pub held : IsHeld (store_of e) id c
+  pub member : Contains c l
+  pub unfalse : value_in e.trail.values l ≢ Some false
+  pub others : All (λ m. (m ≡ l) ⊎ (value_in e.trail.values m ≡ Some false)) c
+
+-- the clause is listed with the short ones, or has one literal, which is true at level 0
+abbrev pub NeedsNoWatch : Watcher → ℕ → List Lit → Type 0
+NeedsNoWatch e id c = ((id < e.short.packed) × IsShort c) ⊎ ((length c ≤ 1) × IsGood e.trail.steps e.stale c)
+
+-- which literals of the clause with this number are not false: two at least, or one alone, or none, or the only one
+-- that it has; or the clause was removed or is listed with the short ones
 abbrev pub WatchChoiceGives : Watcher → ℕ → WatchChoice → Type 0
-WatchChoiceGives e id Unwatched = (c : List Lit) → IsHeld (store_of e) id c → IsLong e id c → ⊥
+WatchChoiceGives e id Unwatched = (c : List Lit) → IsHeld (store_of e) id c → (id < e.short.packed) × IsShort c
+WatchChoiceGives e id (Single l) = (c : List Lit) × IsLast e id l c × (length c ≤ 1)
 WatchChoiceGives e id (Two w) = (c : List Lit) × IsHeld (store_of e) id c × Contains c w.first × Contains c w.second
     × (w.second ≢ w.first) × (value_in e.trail.values w.first ≢ Some false)
     × (value_in e.trail.values w.second ≢ Some false) × IsLong e id c
-WatchChoiceGives e id (One l) = (c : List Lit) × IsHeld (store_of e) id c × Contains c l
-    × (value_in e.trail.values l ≢ Some false) × All (λ m. (m ≡ l) ⊎ (value_in e.trail.values m ≡ Some false)) c
-    × IsLong e id c
+WatchChoiceGives e id (One l) = (c : List Lit) × IsLast e id l c × IsLong e id c
 WatchChoiceGives e id NoChoice = IsConflict (store_of e) id
 
 -- another literal of the clause, which became false at no lower level than this one became true
@@ -180,7 +191,7 @@ pub record IsPartner (e : Watcher) (id : ℕ) (l m : Lit) : Type 0 where
   pub made : step.lit ≡ l
   pub later : (k : ℕ) (t : Step) → slice_get e.trail.steps k ≡ Some t → t.lit ≡ negated m → step.level ≤ t.level
 
--- one clause more is watched, or a clause is false
+-- one clause more needs no watch or is watched, or a clause is false
 abbrev pub AttachGives : Watcher → Watcher → Option ℕ → Type 0
 AttachGives old new None = new.checked ≡ old.checked + 1
 AttachGives old new (Some id) = IsConflict (store_of new) id

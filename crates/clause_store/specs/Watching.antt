@@ -69,9 +69,9 @@ abbrev pub AreClosed : Watcher → ℕ → Type 0
 AreClosed e q = (id : ℕ) (c : List Lit) → id < e.short.packed → IsHeld (store_of e) id c → IsShort c
     → IsClosed e.trail.steps q e.stale c
 
--- the clause is not listed with the short ones
+-- the clause is one of those that are watched: it has two literals or more, and is not listed with the short ones
 abbrev pub IsLong : Watcher → ℕ → List Lit → Type 0
-IsLong e id c = id < e.short.packed → IsShort c → ⊥
+IsLong e id c = (2 ≤ length c) × (id < e.short.packed → IsShort c → ⊥)
 
 -- the nodes of the clause link in the lists of its watched literals
 pub record IsListed (e : Watcher) (id : ℕ) : Type 0 where
@@ -80,7 +80,7 @@ pub record IsListed (e : Watcher) (id : ℕ) : Type 0 where
   pub first : Contains (nodes_of e.lists (code_of watch.first)) (2 * id)
   pub second : Contains (nodes_of e.lists (code_of watch.second)) (2 * id + 1)
 
--- the clause of a node that enlists was watched, by literals of the store, and is not listed with the short ones
+-- the clause of a node that enlists is one of those that are watched, by literals of the store
 pub record IsWatchNode (e : Watcher) (node : ℕ) : Type 0 where
   pub id : ℕ
   pub of : IsNodeOf node id
@@ -102,9 +102,14 @@ pub record IsWatcher (e : Watcher) : Type 0 where
   pub small : length e.trail.values ≤ 2 ^ 31
   -- room for the nodes of the next clause
   pub room : 0 < e.held.spare → 2 * length e.held.clauses + 2 ≤ length e.lists.labels
-  -- the short clauses that are listed are closed over what is propagated, and the others are watched
+  -- where short clauses are listed, there is a list for each literal
+  pub shorts : 0 < e.short.packed → 2 * length e.trail.values ≤ length e.short.lists
+  -- the short clauses that are listed are closed over what is propagated, a clause of one literal is true at level 0,
+  -- and the others are watched
   pub short : IsPacked e.held.clauses (length e.trail.values) e.short
   pub closed : AreClosed e e.queue
+  pub single : (id : ℕ) (c : List Lit) → id < e.checked → IsHeld (store_of e) id c → length c ≤ 1
+      → IsGood e.trail.steps e.stale c
   pub guarded : (id : ℕ) (c : List Lit) → id < e.checked → IsHeld (store_of e) id c → IsLong e id c
       → Guarded e e.queue id c
   -- while levels are not passed over, what is not yet propagated is of the current level

@@ -4,9 +4,10 @@ ghost use Rattle.std.specs.Prelude.{IfSome, ◌⊎◌, ◌≢◌, true};
 ghost use Rattle.lit_core.specs.declared.literals.Lit.{Lit};
 ghost use Rattle.lit_core.specs.Literals.{value_in};
 ghost use Rattle.clause_base.specs.StoreState.{IsHeld, IsConflict, Propagates};
-ghost use Rattle.clause_store.specs.declared.attachment.WatchChoice.TheVariants.{One};
-ghost use Rattle.clause_store.specs.Visits.{AttachGives, CanAttach, IsPartner, OpensAt, WatchChoiceGives};
-ghost use Rattle.clause_store.specs.Watching.{store_of, IsLong, IsWatcher};
+ghost use Rattle.clause_store.specs.declared.attachment.WatchChoice.TheVariants.{One, Single};
+ghost use Rattle.clause_store.specs.Visits.{AttachGives, CanAttach, IsLast, IsPartner, NeedsNoWatch, OpensAt};
+ghost use Rattle.clause_store.specs.Visits.{WatchChoiceGives};
+ghost use Rattle.clause_store.specs.Watching.{store_of, IsWatcher};
 
 use crate::propagation::find_replacement;
 use crate::watched::{Watch, Watcher, label_of, list_of};
@@ -18,6 +19,8 @@ use lit_core::{Assignment, Lit, PackedLit};
 pub enum WatchChoice {
     /// The clause needs no watch: it was removed, or is listed with the short ones.
     Unwatched,
+    /// This one, and it is the only one that the clause has.
+    Single(Lit),
     /// These two at least.
     Two(Watch),
     /// This one alone.
@@ -63,12 +66,12 @@ impl Watcher {
         self.checked += 1;
     }
 
-    /// Passes over the next clause, which was removed or is listed with the short ones.
+    /// Passes over the next clause, which was removed or needs no watch.
     fn skip(&mut self)
         requires watcher { IsWatcher self.old }
         requires more { self.old.checked < length self.old.held.clauses }
         requires passed { (c : List Lit) → IsHeld (store_of self.old) self.old.checked c
-            → IsLong self.old self.old.checked c → ⊥ }
+            → NeedsNoWatch self.old self.old.checked c }
         ensures watcher { IsWatcher self.new }
         ensures store { store_of self.new ≡ store_of self.old }
         ensures checked { self.new.checked ≡ self.old.checked + 1 }
@@ -101,6 +104,7 @@ impl Watcher {
         }
         match open_literal(self.trail.assignment(), lits) {
             None => WatchChoice::Conflict,
+            Some(first) if lits.len() < 2 => WatchChoice::Single(first),
             Some(first) => match find_replacement(self.trail.assignment(), lits, 0, first) {
                 Some(place) => WatchChoice::Two(Watch {
                     first,
@@ -111,7 +115,7 @@ impl Watcher {
         }
     }
 
-    /// Watches the next clause, and makes its last literal true where the others are false.
+    /// Watches the next clause, if it needs that, and makes its last literal true where the others are false.
     fn attach_next(&mut self) -> Option<u64>
         requires watcher { IsWatcher self.old }
         requires more { self.old.checked < length self.old.held.clauses }
@@ -122,6 +126,10 @@ impl Watcher {
         match self.pick(self.checked) {
             WatchChoice::Unwatched => {
                 self.skip();
+                None
+            }
+            WatchChoice::Single(lit) => {
+                self.pass_single(lit);
                 None
             }
             WatchChoice::Two(watch) => {
@@ -139,7 +147,7 @@ impl Watcher {
     /// Makes the last literal of the next clause true, if it is not.
     fn make_true(&mut self, lit: Lit)
         requires watcher { IsWatcher self.old }
-        requires last { WatchChoiceGives self.old self.old.checked (WatchChoice.One lit) }
+        requires last { (c : List Lit) × IsLast self.old self.old.checked lit c }
         ensures watcher { IsWatcher self.new }
         ensures same { Propagates (store_of self.old) (store_of self.new) }
         ensures checked { self.new.checked ≡ self.old.checked }
@@ -164,6 +172,21 @@ impl Watcher {
         if self.trail.level() > 0 {
             self.mark_stale();
         }
+    }
+
+    /// Makes the literal of the next clause true, which has no other one, and passes over the clause: what is true at
+    /// level 0 stays so while the clause counts as looked at.
+    fn pass_single(&mut self, lit: Lit)
+        requires watcher { IsWatcher self.old }
+        requires more { self.old.checked < length self.old.held.clauses }
+        requires last { WatchChoiceGives self.old self.old.checked (WatchChoice.Single lit) }
+        ensures watcher { IsWatcher self.new }
+        ensures same { Propagates (store_of self.old) (store_of self.new) }
+        ensures checked { self.new.checked ≡ self.old.checked + 1 }
+    {
+        self.make_true(lit);
+        self.mark_above();
+        self.skip();
     }
 
     /// Another literal of the next clause, which became false no earlier than this one became true.

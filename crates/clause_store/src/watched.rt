@@ -17,6 +17,9 @@
 //! with the others beside its number (short_visits.rt). A walk reads such a list in order, where a visit of a watch
 //! costs a cache miss or two, and moves nothing. Later clauses are watched, so that a push takes no memory for lists.
 //!
+//! A clause of one literal is not watched either: from when it is looked at its literal is true at level 0, until all
+//! are looked at anew. The known atoms of a problem come as such clauses, often a million of them.
+//!
 //! A clause of which no literal is true is the reason for nothing, so it may be removed under any trail (`release`):
 //! that is for clauses that served once, and of which more come than a search could watch. Its nodes stay in their
 //! lists until a walk meets them there, and are then taken out, so that each costs one visit more at most.
@@ -142,7 +145,7 @@ impl Watcher {
             return Err(Memory);
         }
         self.lists.add_lists(2 * n as usize)?;
-        self.short.add_lists(2 * n as usize)?;
+        self.short.grow_lists(2 * n as usize)?;
         self.trail.grow(n as usize)
     }
 
@@ -227,6 +230,7 @@ impl Watcher {
     {
         self.lists.clear();
         self.checked = 0;
+        self.short.add_lists(2 * self.trail.assignment().len())?;
         self.short.pack(&self.held)
     }
 

@@ -1,5 +1,9 @@
+use Rattle.std.proofs.Common.{length, ◌≤◌}
 use Rattle.clause_base.specs.ClauseDbFields.{AreRemoved}
 use Rattle.clause_base.proofs.clause_db.live_of.Given as goal
 
-abbrev pub invariant-loop-id : goal.invariant-loop-id
-invariant-loop-id l = AreRemoved l.entries l.id
+abbrev pub invariant-loop-at : goal.invariant-loop-at
+invariant-loop-at l = (l.at ≤ length l.entries) × AreRemoved l.entries l.at
+
+abbrev pub decreases-loop-at : goal.decreases-loop-at
+decreases-loop-at l = l.at

@@ -52,5 +52,6 @@ returns c =
       more c,
       c.append_once.ensures.once.1,
       fields ∙ ap (λ (ys : List (Option (List Lit))). record { clauses = ys; spare = 0 }) pushed
-          ∙ ap (λ (s : ClauseDbState). record { clauses = s.clauses ++ Some (more c) ∷ []; spare = 0 }) c.self.view_is,
+          ∙ ap (λ (s : ClauseDbState). record { clauses = s.clauses ++ Some (more c) ∷ []; spare = 0 })
+          (c.self.view_is ∙ c.note_gap.ensures),
     )

@@ -5,10 +5,11 @@ use Rattle.std.proofs.lemmas.Option.{slice_get_read}
 use Rattle.std.proofs.lemmas.List.{length-map, map-set}
 use Rattle.lit_core.specs.declared.literals.Lit.{Lit}
 use Rattle.clause_base.specs.ClauseDbState.{ClauseDbState}
-use Rattle.clause_base.specs.ClauseDbFields.{AreRemoved, EndsAt, EndsBy, IsOrdered, clause_of, spare_of}
+use Rattle.clause_base.specs.ClauseDbFields.{AreRemoved, EndsAt, EndsBy, HaveSkips, IsOrdered, clause_of, spare_of}
 use Rattle.clause_base.specs.declared.clause_db.Entry.{Entry}
 use Rattle.clause_base.specs.declared.clause_db.ClauseDb.TheInside.{Inside}
 use Rattle.clause_base.proofs.ArenaFacts.{Narrows, all-end, clauses-cut, kept-set, narrows-ordered, room-less}
+use Rattle.clause_base.proofs.ArenaFacts.{skips-set}
 use Rattle.clause_base.proofs.clause_db.ClauseDb.remove.Goals as goal
 
 module _ (c : goal.After-truncate) where
@@ -19,7 +20,7 @@ module _ (c : goal.After-truncate) where
   e = c.index-entry.result.now
 
   abbrev f : Entry
-  f = record { start = e.start; size = 0; first = e.first; second = e.second }
+  f = record { start = e.start; size = 0; first = 0; second = e.second }
 
   abbrev now : List Entry
   now = set a.entries.items c.args.id f
@@ -34,6 +35,10 @@ module _ (c : goal.After-truncate) where
 
   narrow : Narrows e f
   narrow = record { start = refl; size = λ n is. absurd (let z : 0 ≡ suc n = is in omega arith) }
+
+  skips : HaveSkips now
+  skips = skips-set a.entries.items c.args.id e f at c.self.invariant.skips (λ gone. refl)
+      (λ i g gone lt near there. absurd (omega (arith, lt, near)))
 
   live : c.live_of-self-inside.result ≤ length now
   live = subst (λ (xs : List Entry). c.live_of-self-inside.result ≤ length xs) c.as_slice.ensures.value
@@ -63,7 +68,8 @@ invariant_of-self c =
       live = c.live_of-self-inside.result;
     } in
     kept-set c.self.inside b c.args.id c.end_of-end.result (e c) (f c) c.self.invariant (at c)
-    (narrow c) c.truncate.ensures.items refl (live c) (removed c) (ends c) c.self.invariant.empty
+    (narrow c) c.truncate.ensures.items refl (live c) (removed c)
+    (skips c) (ends c) c.self.invariant.empty
     (λ n is. let r = c.self.invariant.room n is in room-less c.self.inside b n r refl refl refl
     (omega (arith, c.truncate.ensures.len)) c.truncate.ensures.capacity)
 

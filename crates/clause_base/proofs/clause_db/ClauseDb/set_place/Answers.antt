@@ -32,7 +32,8 @@ invariant_of-self c =
       live = a.live;
     } in
     let at = entry-at a c.args.self.now c.self.view_is c.args.node (omega arith) e c.index-entry.ensures in
-    kept-place a b (c.args.node / 2) e f c.self.invariant at c.moved.ensures.0 c.moved.ensures.1 refl refl refl refl
+    kept-place a b (c.args.node / 2) e f c.self.invariant at c.moved.ensures.0 c.moved.ensures.1
+    (λ i g is lt near there. absurd (c.if-entry-eq0.false (sym c.moved.ensures.1 ∙ is))) refl refl refl refl
     (λ n is. let r = c.self.invariant.room n is in room-more a b n r (omega arith) (omega arith) (omega arith)
     (omega arith) (omega arith))
 
