@@ -6,6 +6,7 @@ ghost use Rattle.clause_store.specs.StoreState.{IsStore};
 ghost use Rattle.search_decisions.specs.Scores.{AreListed, AreListedFirst, HaveValues, IsOpenBetween, Raises};
 
 use crate::costs::Costs;
+use crate::near::Near;
 use crate::order::Order;
 use crate::phases::Phases;
 use crate::scores::Scores;
@@ -26,6 +27,8 @@ pub struct Decider {
     pub settled: Settled,
     /// What decides it where a term is to be small.
     pub costs: Costs,
+    /// What decides it where models are listed.
+    pub near: Near,
     /// What the rule chooses from.
     pub scores: Scores,
     /// The ground atoms by falling score.
@@ -41,6 +44,7 @@ impl Decider {
             phases: Phases::new(alloc),
             settled: Settled::new(),
             costs: Costs::new(alloc),
+            near: Near::new(alloc),
             scores: Scores::new(alloc),
             atoms: Order::new(alloc),
             others: Order::new(alloc),
@@ -169,8 +173,8 @@ impl Decider {
         Ok(Some(Lit { var, positive }))
     }
 
-    /// The sign of a decision: the cheaper value, or else false where a function has another value, or else the value
-    /// that was seen least.
+    /// The sign of a decision: the cheaper value, or else that of the model before, or else false where a function has
+    /// another value, or else the value that was seen least.
     fn sign(
         &mut self,
         problem: &KeptProblem,
@@ -183,7 +187,11 @@ impl Decider {
             Some(place) => Some(problem.clause(place)),
             None => None,
         };
-        match self.costs.sign(assignment, choice, var) {
+        let led = match self.costs.sign(assignment, choice, var) {
+            Some(positive) => Some(positive),
+            None => self.near.sign(var),
+        };
+        match led {
             Some(positive) => positive,
             None => {
                 !self.is_settled(problem, assignment, var)

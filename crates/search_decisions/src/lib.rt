@@ -3,6 +3,7 @@
 
 mod costs;
 mod decider;
+mod near;
 mod order;
 mod phases;
 mod scores;
@@ -10,6 +11,7 @@ mod settled;
 
 pub use costs::Costs;
 pub use decider::Decider;
+pub use near::Near;
 pub use order::Order;
 pub use phases::{First, Phases};
 pub use scores::Scores;

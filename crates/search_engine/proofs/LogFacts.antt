@@ -97,6 +97,20 @@ pub excludes-logged : (e : Engine) (l : LogState) (values : List Bool) (f : Engi
     → Excludes e values f
 excludes-logged e l values f h = record { problem = h.problem; same = same-from e l f h.same }
 
+-- and where all that is seen stays after that
+pub excludes-stays : (d e : Engine) (values : List Bool) (f : Engine) → Excludes d values e → Stays e f
+    → Excludes d values f
+excludes-stays d e values f h s = record {
+  problem = s.problem ∙ h.problem;
+  same = record {
+    learnt = s.same.learnt ∙ h.same.learnt;
+    moments = s.same.moments ∙ h.same.moments;
+    searches = s.same.searches ∙ h.same.searches;
+    conflicts = s.same.conflicts ∙ h.same.conflicts;
+    root_conflicts = s.same.root_conflicts ∙ h.same.root_conflicts;
+  };
+}
+
 pub bounds-logged : (e : Engine) (l : LogState) (term : ℕ) (below : ExtInt) (f : Engine)
     → Bounds (with_log e l) term below f → Bounds e term below f
 bounds-logged e l term below f h = record { problem = h.problem; same = same-from e l f h.same }

@@ -1,6 +1,6 @@
 -- What constraints on sums imply, in a search.
 use Rattle.std.proofs.Common.{◌≡◌, ℕ, ◌+◌, ◌<◌, ◌≤◌, Bool, false, Option, Some, None, List, [], ◌∷◌, ◌++◌, length}
-use Rattle.std.proofs.Common.{slice_index_or}
+use Rattle.std.proofs.Common.{slice_get, slice_index_or}
 use Rattle.std.proofs.Common.{refl, sym, ap, subst, ◌⊎◌, inl, inr, ⊎_elim, arith, All, Any, Contains}
 use Rattle.std.specs.Global.{Vec}
 use Rattle.std.specs.Prelude.{IfSome, IsSome}
@@ -15,6 +15,7 @@ use Rattle.ground_core.specs.declared.parts.Part.{Part}
 use Rattle.ground_core.specs.Problems.{ProblemState, IsProblem, IsLitOf, IsSumOf}
 use Rattle.aggregate_propagators.specs.Implied.{IsOfSum, IsWithin}
 use Rattle.sum_ledger.specs.declared.consequences.Consequence.{Consequence}
+use Rattle.sum_ledger.specs.declared.consequences.Consequences.{Consequences}
 use Rattle.sum_ledger.specs.Asking.{IsImplied, IsImpliedAt}
 use Rattle.search_decisions.specs.Scores.{HaveValues}
 use Rattle.sum_ledger.specs.declared.ledger.Ledger.{Ledger}
@@ -174,6 +175,36 @@ implied-here ss sums xs values o f a b is h =
     let one : IsImplied ss xs f.clause = implied-somewhere ss xs f.place f.clause found in
     subst (λ (t : List AggCon). IsImplied t values f.clause) a
     (subst (λ (t : List (Option Bool)). IsImplied ss t f.clause) b one)
+
+pub all-implied-here : (ss sums : List AggCon) (values : List (Option Bool)) (o : Option Consequences)
+    (f : Consequences) → ss ≡ sums → o ≡ Some f
+    → IfSome o (λ (g : Consequences). All (IsImpliedAt ss values g.place) g.clauses)
+    → All (IsImplied sums values) f.clauses
+all-implied-here ss sums values o f a is h =
+    let found : All (IsImpliedAt ss values f.place) f.clauses = subst (λ (p : Option Consequences).
+    IfSome p (λ (g : Consequences). All (IsImpliedAt ss values g.place) g.clauses)) is h in
+    subst (λ (t : List AggCon). All (IsImplied t values) f.clauses) a
+    (All-weaker (IsImpliedAt ss values f.place) (IsImplied ss values) (implied-somewhere ss values f.place) f.clauses
+    found)
+
+pub some-here : (o : Option Consequences) (f : Consequences) → o ≡ Some f
+    → IfSome o (λ (g : Consequences). g.clauses ≡ [] → ⊥) → f.clauses ≡ [] → ⊥
+some-here o f is h = subst (λ (p : Option Consequences). IfSome p (λ (g : Consequences). g.clauses ≡ [] → ⊥)) is h
+
+-- what holds of all holds of the one at a place, and where there are some there is a first
+pub at-place : {X : Type 0} (P : X → Type 0) (xs : List X) (place : ℕ) (x : X) → All P xs
+    → slice_get xs place ≡ Some x → P x
+at-place P xs place x h e = subst P (get_or_from_slice_get xs place x x e)
+    (h place x (slice_get_within xs place x e))
+
+pub some-length : {X : Type 0} (xs : List X) → (xs ≡ [] → ⊥) → 0 < length xs
+some-length [] some = absurd (some refl)
+some-length (x ∷ xs) some = omega arith
+
+-- each of them is explained
+pub all-explained : (p : ProblemState) (a : List (Option Bool)) (cs : List (List Lit)) → IsProblem p
+    → All (IsImplied p.sums a) cs → All (IsExplained p) cs
+all-explained p a cs fine h = All-weaker (IsImplied p.sums a) (IsExplained p) (λ c. implied-explained p a c fine) cs h
 
 -- where all variables have values it is false
 pub implied-false : (e : Engine) → IsSearch e → (end : ℕ) (c : List Lit) → HaveValues e.store.trail.values 1 end

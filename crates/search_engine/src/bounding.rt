@@ -28,7 +28,7 @@ fn with_first(alloc: Global, lit: Lit, others: &[Lit]) -> Result<Vec<Lit>, Memor
 }
 
 /// Whether the literal is true or has no value.
-fn may_hold(values: &Assignment, lit: Lit) -> bool
+pub fn may_hold(values: &Assignment, lit: Lit) -> bool
     requires { lit.var.0 < length values.now }
     ensures { result ≡ false → value_in values.now lit ≡ Some false }
 {
@@ -50,7 +50,7 @@ fn are_false(values: &Assignment, lits: &[Lit]) -> bool
 
 impl Engine {
     /// Holds a clause that a constraint implies and of which this literal is left, and makes it true.
-    fn force(&mut self, clause: &[Lit], lit: Lit) -> Result<(), Memory>
+    pub fn force(&mut self, clause: &[Lit], lit: Lit) -> Result<(), Memory>
         requires search { IsSearch self.old }
         requires explained { IsExplained self.old.problem clause.now }
         requires unit { IsUnitAt self.old.store.trail.values clause.now lit }

@@ -156,6 +156,21 @@ impl Engine {
         }
     }
 
+    /// Has the next search go by these values, where the last one met conflicts: one that met none finds models that are
+    /// far from each other as fast.
+    fn stay_near(&mut self, values: &Values)
+        requires resting { IsResting self.old }
+        ensures resting { IsResting self.new }
+        ensures same { Stays self.old self.new }
+        ensures log { self.new.log ≡ self.old.log }
+    {
+        if self.conflicts > 0 {
+            self.decider.near.follow(values, self.problem.atom_count());
+        } else {
+            self.decider.near.leave();
+        }
+    }
+
     /// Adds a selector under which the ground atoms differ from these values somewhere.
     pub fn exclude(&mut self, values: &Values) -> Result<Lit, Memory>
         requires resting { IsResting self.old }
@@ -170,7 +185,10 @@ impl Engine {
         let id = self.store.len() as u64;
         note_exclusion(self.alloc, &mut self.log, &self.problem, id, values)?;
         match self.hold_exclusion(values) {
-            Ok(out) => Ok(out),
+            Ok(out) => {
+                self.stay_near(values);
+                Ok(out)
+            }
             Err(error) => {
                 self.log.back_to(mark);
                 Err(error)
@@ -259,6 +277,7 @@ impl Engine {
         ensures log { self.new.log ≡ self.old.log }
     {
         self.problem.retire(selector);
+        self.decider.near.leave();
         // What is known of retired selectors comes with this.
         let _vars = self.problem.vars();
     }

@@ -1,6 +1,3 @@
-use Rattle.std.proofs.Common.{◌≡◌, ℕ, ◌+◌, ◌≤◌, ◌<◌, [], length, List, Bool, Option, sym, ap, ◌∙◌, subst, refl, ⊎_elim}
-use Rattle.std.proofs.Common.{arith}
-use Rattle.search_decisions.specs.Scores.{AreListed, AreListedFirst}
 use Rattle.search_decisions.specs.declared.scores.Scores.{Scores}
 use Rattle.search_decisions.proofs.ScoreFacts.{first-values}
 use Rattle.search_decisions.proofs.decider.Decider.choose.Goals as goal

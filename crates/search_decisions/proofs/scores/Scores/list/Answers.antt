@@ -1,4 +1,4 @@
-use Rattle.std.proofs.Common.{◌≡◌, ◌≤◌, ◌+◌, List, ℕ, sym, ap, ◌∙◌, subst}
+use Rattle.std.proofs.Common.{◌+◌, List, ℕ, sym, ap, ◌∙◌, subst}
 use Rattle.search_decisions.specs.Scores.{AreListed}
 use Rattle.search_decisions.proofs.scores.Scores.list.Goals as goal
 

@@ -1,5 +1,4 @@
-use Rattle.std.proofs.Common.{◌≡◌, ◌++◌, ◌∷◌, [], None, List, ℕ, get_or, ap, ◌∙◌}
-use Rattle.search_decisions.specs.Scores.{AreListed}
+use Rattle.std.proofs.Common.{◌≡◌, ◌++◌, ◌∷◌, [], None, get_or}
 use Rattle.search_decisions.proofs.ScoreFacts.{listed-takes}
 use Rattle.search_decisions.proofs.scores.Scores.list_next.Goals as goal
 

@@ -1,6 +1,7 @@
 use Rattle.std.proofs.Common.{sym, ◌∙◌, subst}
 use Rattle.search_log.specs.Entries.{AreEntries}
-use Rattle.search_engine.proofs.LogFacts.{excludes-logged, on-err, resting-logged, stays-logged, stays-only, taken-back}
+use Rattle.search_engine.proofs.LogFacts.{excludes-logged, excludes-stays, on-err, resting-logged, stays-logged, stays-only}
+use Rattle.search_engine.proofs.LogFacts.{taken-back}
 use Rattle.search_engine.proofs.engine.Engine.exclude.Goals as goal
 
 pub returns-in_err-note_exclusion-clause-resting : goal.returns-in_err-note_exclusion-clause-resting
@@ -15,8 +16,9 @@ hold_exclusion-requires-clause-resting c = resting-logged c.args.self.now c.note
 pub returns-in-Ok-clause-ok : goal.returns-in-Ok-clause-ok
 returns-in-Ok-clause-ok c = (
   c.in-Ok.ensures.ok.0,
-  excludes-logged c.args.self.now c.note_exclusion.new.log c.args.values.now c.hold_exclusion.new.self
-      c.in-Ok.ensures.ok.1,
+  excludes-stays c.args.self.now c.hold_exclusion.new.self c.args.values.now c.stay_near.new.self
+      (excludes-logged c.args.self.now c.note_exclusion.new.log c.args.values.now c.hold_exclusion.new.self
+      c.in-Ok.ensures.ok.1) c.stay_near.ensures.same,
 )
 
 -- what was written is taken away
