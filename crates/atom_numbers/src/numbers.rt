@@ -9,19 +9,22 @@ ghost use Rattle.term_values.specs.GroundBases.{structure_of};
 ghost use Rattle.term_values.specs.KnownBases.{IsGroundBase};
 ghost use Rattle.atom_numbers.specs.Numbers.{HasNumber, IsApplication, bare_base, AreNumbered};
 
+use crate::found::FoundStructure;
 use crate::places::{application_at, atom_count, literal_at, symbol_of, variable_of};
 use crate::tables::{functions, relations};
-use kb_logic::{DomainList, ElemList, Literal, Memory, Structure, Symbol, Vocabulary};
+use kb_logic::{DomainList, ElemList, Literal, Memory, Symbol, Vocabulary};
 use lit_core::{Lit, Values, Var};
 use std::alloc::Global;
 use std::marker::Model;
+use std::rc::Rc;
 
 /// The ground atoms over a vocabulary and domains, numbered from 1 on in their order: the symbols as
 /// declared, the arguments of each in domain order, then the values of a function in domain order.
 #[derive(Drop)]
 pub struct AtomNumbers {
     vocabulary: Vocabulary,
-    domains: DomainList,
+    // Shared with each structure that is found.
+    domains: Rc<DomainList>,
     // The variable of each symbol's first atom.
     firsts: Vec<u64>,
 }
@@ -58,6 +61,23 @@ fn first_vars(alloc: Global, domains: &[ElemList], symbols: &[Symbol]) -> Result
     Ok(firsts)
 }
 
+/// A copy that is to be shared.
+fn shared(alloc: Global, domains: &DomainList) -> Result<Rc<DomainList>, Memory>
+    ensures { IfOk result (λ copy. copy.value ≡ domains.now) }
+{
+    match Rc::new(alloc, domains.copy(alloc)?) {
+        Ok(copy) => Ok(copy),
+        Err(_) => Err(Memory),
+    }
+}
+
+/// The domains that are shared.
+fn lists(domains: &Rc<DomainList>) -> &[ElemList]
+    ensures { result.now ≡ domains.now.value }
+{
+    domains.as_slice()
+}
+
 impl AtomNumbers {
     /// The numbers of the atoms over these domains, of which the value has copies. It takes time and
     /// memory linear in the elements and symbols. More atoms than a `u64` counts are answered as out of memory.
@@ -71,8 +91,8 @@ impl AtomNumbers {
         ensures { IfOk result (λ n. n ≡ bare_base vocabulary.now domains.now) }
     {
         let vocabulary = vocabulary.copy(alloc)?;
-        let domains = domains.copy(alloc)?;
         let firsts = first_vars(alloc, domains.as_slice(), vocabulary.symbols.as_slice())?;
+        let domains = shared(alloc, domains)?;
         Ok(AtomNumbers {
             vocabulary,
             domains,
@@ -80,14 +100,14 @@ impl AtomNumbers {
         })
     }
 
-    /// The literal of the variable that the literal's atom has. It takes time linear in the domains of
-    /// the atom's types.
+    /// The literal of the variable that the literal's atom has. It takes time linear in the atom's arguments where
+    /// their domains are runs of integers, and else in these domains.
     pub fn lit_of(&self, literal: &Literal) -> Lit
         requires { IsAtomOver self.now.vocabulary.symbols self.now.domains (atom_of literal.now) }
         ensures { HasNumber self.now literal.now result }
     {
         let symbols = self.vocabulary.symbols.as_slice();
-        let domains = self.domains.as_slice();
+        let domains = lists(&self.domains);
         Lit {
             var: Var(variable_of(domains, symbols, self.firsts.as_slice(), literal)),
             positive: literal.positive,
@@ -102,7 +122,7 @@ impl AtomNumbers {
             (atom_of l)) }
     {
         let symbols = self.vocabulary.symbols.as_slice();
-        let domains = self.domains.as_slice();
+        let domains = lists(&self.domains);
         let firsts = self.firsts.as_slice();
         let number = symbol_of(domains, symbols, firsts, lit);
         let place = lit.var.0 - firsts[number];
@@ -118,7 +138,7 @@ impl AtomNumbers {
             → MatchOption result (l.value ≡ None) (IsApplication self.now l) }
     {
         let symbols = self.vocabulary.symbols.as_slice();
-        let domains = self.domains.as_slice();
+        let domains = lists(&self.domains);
         let firsts = self.firsts.as_slice();
         let number = symbol_of(domains, symbols, firsts, lit);
         let place = lit.var.0 - firsts[number];
@@ -127,17 +147,14 @@ impl AtomNumbers {
 
     /// The structure in which the atoms with true variables hold. It takes time linear in the number
     /// of atoms.
-    pub fn structure_of(&self, alloc: Global, values: &Values) -> Result<Structure, Memory>
+    pub fn structure_of(&self, alloc: Global, values: &Values) -> Result<FoundStructure, Memory>
         ensures { IfOk result (λ m. m ≡ structure_of self.now (valuation values.now)) }
     {
         let symbols = self.vocabulary.symbols.as_slice();
         let firsts = self.firsts.as_slice();
-        let relations = relations(alloc, self.domains.as_slice(), symbols, firsts, values)?;
-        let functions = functions(alloc, self.domains.as_slice(), symbols, firsts, values)?;
-        Ok(Structure {
-            domains: self.domains.copy(alloc)?,
-            relations,
-            functions,
-        })
+        let domains = lists(&self.domains);
+        let relations = relations(alloc, domains, symbols, firsts, values)?;
+        let functions = functions(alloc, domains, symbols, firsts, values)?;
+        FoundStructure::over(alloc, &self.domains, relations, functions)
     }
 }

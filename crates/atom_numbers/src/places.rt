@@ -40,11 +40,32 @@ pub(crate) fn atom_count(domains: &[ElemList], symbol: &Symbol) -> Option<u64>
     }
 }
 
+/// The place of the element if it stands as far from the domain's first one as their numbers are apart.
+fn place_in_run(domain: &[Elem], elem: &Elem) -> Option<usize>
+    ensures { IfSome result (λ place. slice_get domain.now place ≡ Some elem.now) }
+{
+    let Some(Elem::Num(first)) = domain.first() else {
+        return None;
+    };
+    let Elem::Num(number) = elem else {
+        return None;
+    };
+    let place = number.abs_diff(*first) as usize;
+    match domain.get(place) {
+        Some(there) if there.same(elem) => Some(place),
+        _ => None,
+    }
+}
+
+// Most long domains are runs of integers, as `1..60000`: there the element is found at once.
 /// The place of the element in its domain.
 fn position(domain: &[Elem], elem: &Elem) -> usize
     requires { Contains domain.now elem.now }
     ensures { slice_get domain.now result ≡ Some elem.now }
 {
+    if let Some(place) = place_in_run(domain, elem) {
+        return place;
+    }
     let mut place = 0;
     while !domain[place].same(elem) {
         place += 1;

@@ -2,7 +2,8 @@
 ghost use Rattle.std.specs.Prelude.{◌≡◌, IfOk};
 
 use crate::refusals::F;
-use kb_logic::{ExtInt, ListOf, LiteralList, Memory, Structure};
+use atom_numbers::FoundStructure;
+use kb_logic::{ExtInt, ListOf, LiteralList, Memory};
 use std::alloc::Global;
 
 /// A reply to a command.
@@ -15,13 +16,13 @@ pub enum Reply {
     /// The choices, in the order in which they were made.
     Choices(LiteralList),
     /// A model.
-    Model(Structure),
+    Model(FoundStructure),
     /// Different models, and whether there are no others.
-    Models(ListOf<Structure>, bool),
+    Models(ListOf<FoundStructure>, bool),
     /// The literals that are true in all models, but for those of known atoms and the choices.
     Forced(LiteralList),
     /// The least value of the term block, and a model in which it has that value.
-    Minimum(ExtInt, Structure),
+    Minimum(ExtInt, FoundStructure),
     /// Choices that make the literal true in all models, none of which can be spared.
     Supported(LiteralList),
     /// The literal is false in some model.
@@ -61,7 +62,7 @@ impl Reply {
     }
 }
 
-fn copy_models(alloc: Global, models: &[Structure]) -> Result<ListOf<Structure>, Memory>
+fn copy_models(alloc: Global, models: &[FoundStructure]) -> Result<ListOf<FoundStructure>, Memory>
     ensures { IfOk result (λ ms. ms ≡ models.now) }
 {
     let mut copies = Vec::with_capacity(alloc, models.len())?;

@@ -8,7 +8,8 @@ ghost use Rattle.consult_text.specs.Texts.{reply_text};
 
 use crate::refusals::F;
 use crate::replies::Reply;
-use kb_logic::{ExtInt, Literal, Memory, Structure, Vocabulary};
+use atom_numbers::FoundStructure;
+use kb_logic::{ExtInt, Literal, Memory, Vocabulary};
 use literal_printer::pieces::push_bytes;
 use literal_printer::{push_literal, push_symbols};
 use std::alloc::Global;
@@ -88,11 +89,11 @@ fn push_labelled(
     push_bytes(out, b"done\n")
 }
 
-fn push_model(out: &mut Vec<u8>, vocab: &Vocabulary, m: &Structure) -> Result<(), Memory>
+fn push_model(out: &mut Vec<u8>, vocab: &Vocabulary, m: &FoundStructure) -> Result<(), Memory>
     ensures { OnOk result (out.new.items ≡ out.old.items ++ model_block vocab.now m.now) }
 {
     push_bytes(out, b"model\n")?;
-    push_symbols(out, vocab, m)?;
+    push_symbols(out, vocab, m.tables())?;
     push_bytes(out, b"done\n")
 }
 
@@ -101,14 +102,14 @@ fn push_minimum(
     out: &mut Vec<u8>,
     vocab: &Vocabulary,
     value: ExtInt,
-    m: &Structure,
+    m: &FoundStructure,
 ) -> Result<(), Memory>
     ensures { OnOk result (out.new.items ≡ out.old.items ++ minimum_text vocab.now value m.now) }
 {
     push_bytes(out, b"minimum ")?;
     kb_logic::decimal(out, value)?;
     push_bytes(out, b"\n")?;
-    push_symbols(out, vocab, m)?;
+    push_symbols(out, vocab, m.tables())?;
     push_bytes(out, b"done\n")
 }
 
@@ -116,7 +117,7 @@ fn push_minimum(
 fn push_models(
     out: &mut Vec<u8>,
     vocab: &Vocabulary,
-    models: &[Structure],
+    models: &[FoundStructure],
     all: bool,
 ) -> Result<(), Memory>
     ensures { OnOk result (out.new.items ≡ out.old.items ++ models_text vocab.now models.now all) }

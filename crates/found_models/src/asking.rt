@@ -13,9 +13,10 @@ ghost use Rattle.found_models.specs.Found.{those_under};
 ghost use Rattle.found_models.specs.Models.{AreFoundModels, IsTaskWith, IsKept, IsNewest, IsAnswer};
 
 use crate::models::FoundModels;
+use atom_numbers::FoundStructure;
 use ground_core::{Budget, Halt, Solve, Verdict};
 use ground_task::Task;
-use kb_logic::{Literal, Memory, Structure};
+use kb_logic::{Literal, Memory};
 use lit_core::Values;
 use model_expansion::expand;
 use std::alloc::Global;
@@ -26,7 +27,7 @@ pub fn known_model<S: Solve>(
     task: &Task<S>,
     found: &FoundModels,
     choices: &[Literal],
-) -> Result<Option<Structure>, Memory>
+) -> Result<Option<FoundStructure>, Memory>
     requires task { IsTaskWith task.now.numbers (S.state task.now.solver).problem found.now }
     requires choices { AreOver task.now.numbers choices.now }
     ensures newest { IfOk result (λ it. (lits : List Lit) → EachWith (HasNumber task.now.numbers) choices.now lits
@@ -68,7 +69,7 @@ pub fn new_model<S: Solve>(
     found: &mut FoundModels,
     choices: &[Literal],
     budget: &mut Budget,
-) -> Result<Option<Structure>, Halt>
+) -> Result<Option<FoundStructure>, Halt>
     requires task { IsTaskWith task.old.numbers (S.state task.old.solver).problem found.old }
     requires choices { AreOver task.old.numbers choices.now }
     requires budget { IsBudgetOf (S.state task.old.solver).learnt budget.old }

@@ -1,11 +1,12 @@
 //! What a task answers.
-use kb_logic::{LiteralList, Structure};
+use atom_numbers::FoundStructure;
+use kb_logic::LiteralList;
 
 /// What the choices admit.
 #[derive(Drop)]
 pub enum Answer {
     /// A model that makes them true.
-    Model(Structure),
+    Model(FoundStructure),
     /// No model: some of them, in their order, with which there is none.
     NoModel(LiteralList),
 }

@@ -16,9 +16,9 @@ ghost use Rattle.ground_task.specs.Choices.{AreOver, AreChosen};
 
 use crate::answers::Answer;
 use crate::choices::{chosen_among, lits_of};
-use atom_numbers::AtomNumbers;
+use atom_numbers::{AtomNumbers, FoundStructure};
 use ground_core::{Budget, Grow, Halt, Memory as NoMemory, Solve, Verdict};
-use kb_logic::{ExtInt, Literal, LiteralList, Memory, Structure, Vocabulary};
+use kb_logic::{ExtInt, Literal, LiteralList, Memory, Vocabulary};
 use lit_core::{Lit, Values};
 use model_expansion::expand;
 use partial_structures::Partial;
@@ -70,7 +70,7 @@ impl<S: Solve> Task<S> {
     }
 
     /// The structure in which the atoms with true variables hold.
-    pub fn structure_of(&self, alloc: Global, values: &Values) -> Result<Structure, Memory>
+    pub fn structure_of(&self, alloc: Global, values: &Values) -> Result<FoundStructure, Memory>
         ensures { IfOk result (λ m. m ≡ structure_of self.now.numbers (valuation values.now)) }
     {
         self.numbers.structure_of(alloc, values)

@@ -1,8 +1,9 @@
 //! What queries find.
-use kb_logic::{ExtInt, ListOf, LiteralList, Structure};
+use atom_numbers::FoundStructure;
+use kb_logic::{ExtInt, ListOf, LiteralList};
 
 /// Structures in an order.
-pub type StructureList = ListOf<Structure>;
+pub type StructureList = ListOf<FoundStructure>;
 
 /// Models under some choices.
 #[derive(Drop)]
@@ -29,5 +30,5 @@ pub enum Reason {
 pub struct Least {
     pub value: ExtInt,
     /// A model in which the term has it.
-    pub model: Structure,
+    pub model: FoundStructure,
 }
