@@ -3,8 +3,9 @@ use Rattle.std.proofs.Common.{◌≡◌, ℕ, ◌+◌, ◌<◌, ◌≤◌, Bool,
 use Rattle.std.proofs.Common.{get_or, All, Contains, eqb, refl, sym, ap, ◌∙◌, subst, arith, inl, inr, ◌⊎◌, ⊎_elim}
 use Rattle.std.specs.List.{Any, IsDistinct}
 use Rattle.std.proofs.lemmas.List.{take_more, length-append, map_push, take_all}
-use Rattle.std.proofs.lemmas.List.Elements.{All-nil, All-push, All-contains_itself, Contains-push_cases}
+use Rattle.std.proofs.lemmas.List.Elements.{All-nil, All-push, All-contains, All-contains_itself, Contains-push_cases}
 use Rattle.std.proofs.lemmas.List.Quantifiers.{Any-push}
+use Rattle.kb_logic.proofs.Members.{first, member_cases, none_in}
 use Rattle.lit_core.specs.declared.literals.Lit.{Lit}
 use Rattle.lit_core.specs.Literals.{valuation, literal_value, negated}
 use Rattle.lit_core.proofs.LiteralFacts.{same_literal, negated-negated}
@@ -20,6 +21,7 @@ use Rattle.consequences.specs.declared.kept.Kept.{Kept}
 use Rattle.model_search.specs.Models.{IsLeft}
 use Rattle.consequences.specs.Forced.{IsForced, IsFree, KeepsOne, FindsOne, Decides, IsFalseInAny, IsFalseInSeen}
 use Rattle.consequences.specs.Forced.{IsSettled, IsOpen, IsSeen, Searches, AreForced}
+use Rattle.consequences.specs.Indexed.{IsSetOf}
 use Rattle.consequences.proofs.Numbers.{distinct-nil, distinct-more, no-more}
 
 sublist-right : (xs ys : List Lit) (z : Lit) → IsSublist xs ys → IsSublist xs (ys ++ z ∷ [])
@@ -44,9 +46,34 @@ still-forced : (p : ProblemState) (assumed : List Lit) (before after : List (Lis
 still-forced p assumed before after k more h = record {
   among = h.among;
   forces = h.forces;
-  shown =
-      still-shown before after (k.support ++ negated k.lit ∷ []) more h.shown;
+  shown = ⊎_elim (λ core. inl (still-shown before after (k.support ++ negated k.lit ∷ []) more core)) (λ is. inr is)
+      h.shown;
 }
+
+-- a list of an item of another one is a sublist of that
+alone : (xs : List Lit) (x : Lit) → Contains xs x → IsSublist (x ∷ []) xs
+alone [] x has = absurd (none_in x has)
+alone (y ∷ ys) x has = ⊎_elim (λ e. inl (sym e, tt)) (λ more. inr (alone ys x more)) (member_cases y x ys has)
+
+-- a literal that is assumed is forced by itself
+forced-itself : (p : ProblemState) (assumed : List Lit) (cores : List (List Lit)) (k : Kept) → Contains assumed k.lit
+    → k.support ≡ k.lit ∷ [] → IsForced p assumed cores k
+forced-itself p assumed cores k has is = record {
+  among = subst (λ (ls : List Lit). IsSublist ls assumed) (sym is) (alone assumed k.lit has);
+  forces = λ v s makes. All-contains (λ (l : Lit). literal_value v l ≡ true) k.support k.lit makes
+      (subst (λ (ls : List Lit). Contains ls k.lit) (sym is) (first k.lit []));
+  shown = inr is;
+}
+
+-- and kept as such
+pub decides-itself : (p : ProblemState) (assumed hashed : List Lit) (l : Lit) (cores : List (List Lit))
+    (ks ks2 : List Kept) (found found2 : List (List Bool)) → IsSetOf hashed assumed → Contains hashed l
+    → (k : Kept) × (ks2 ≡ ks ++ k ∷ []) × (k.lit ≡ l) × (k.support ≡ l ∷ []) → found2 ≡ found
+    → Decides p assumed l cores ks ks2 found found2
+decides-itself p assumed hashed l cores ks ks2 found found2 set has one same =
+    let here : Contains assumed one.0.lit = subst (Contains assumed) (sym one.2) ((set l).0 has) in
+    let is : one.0.support ≡ one.0.lit ∷ [] = one.3 ∙ ap (λ (x : Lit). x ∷ []) (sym one.2) in
+    inl ((one.0, one.1, one.2, forced-itself p assumed cores one.0 here is), same)
 
 -- a literal of the same variable is the literal or its negation
 two-signs : (l x : Lit) → l.var.0 ≡ x.var.0 → (l ≡ x) ⊎ (l ≡ negated x)
@@ -88,7 +115,7 @@ pub record IsSoFar (assumed ask : List Lit) (atoms : ℕ) (seen : List (List Boo
   pub order : IsSublist (map (λ (k : Kept). k.lit) ks) (take i ask)
   pub forced : All (IsForced r.problem assumed s.cores) ks
   pub others : All (λ (l : Lit). Any (λ (k : Kept). k.lit ≡ l) ks ⊎ IsFree r.problem assumed l) (take i ask)
-  -- the variables of the literals that were searched
+  -- the variables of the literals that were searched or kept as assumed
   pub tested : List ℕ
   pub once : IsDistinct eqb tested
   pub wanted : (vs : List ℕ) → Searches vs atoms seen ask → (n : ℕ) → Contains tested n → Contains vs n

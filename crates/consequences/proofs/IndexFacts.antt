@@ -13,7 +13,10 @@ use Rattle.lit_core.specs.contracts.literals.LitPartialEq.TheImpl as same_lit
 use Rattle.lit_core.proofs.LiteralFacts.{same_literal}
 use Rattle.ground_core.proofs.CoreFacts.{any-left}
 use Rattle.consequences.specs.declared.kept.Kept.{Kept}
-use Rattle.consequences.specs.Indexed.{IsIndexed}
+use Rattle.consequences.specs.Indexed.{IsIndexed, IsSetOf}
+
+abbrev pub zero_lit : Lit
+zero_lit = record { var = record { 0 = 0 }; positive = false }
 
 abbrev same : Lit → Lit → Bool
 same = same_lit.eq-value.it
@@ -40,13 +43,21 @@ same-itself x = and_from (eqb x.var.0 x.var.0) (beq x.positive x.positive) (eq-e
 there : (lits : List Lit) (l : Lit) → list_any (same l) lits ≡ true → Contains lits l
 there lits l e = let r = some_one (same l) lits e in subst (Contains lits) (sym (same-is l r.0 r.2)) r.1
 
--- a literal is found exactly where it is kept
+-- a literal is found exactly where it is one of these
+pub has-key : (lits : List Lit) (l : Lit) (b : Bool) → b ≡ list_any (same l) lits → IsTrue b ↔ Contains lits l
+has-key lits l b is = (
+  λ t. there lits l (sym is ∙ t),
+  λ has. is ∙ one_is_some (same l) lits l has (same-itself l),
+)
+
+-- and exactly where it is kept
 pub looked-up : (lits : List Lit) (ks : List Kept) (l : Lit) (b : Bool) → IsIndexed lits ks
     → b ≡ list_any (same l) lits → IsTrue b ↔ Any (λ (k : Kept). k.lit ≡ l) ks
-looked-up lits ks l b h is = (
-  λ t. (h l).0 (there lits l (sym is ∙ t)),
-  λ any. is ∙ one_is_some (same l) lits l ((h l).1 any) (same-itself l),
-)
+looked-up lits ks l b h is =
+    let key = has-key lits l b is in (
+      λ t. (h l).0 (key.0 t),
+      λ any. key.1 ((h l).1 any),
+    )
 
 -- one literal more, which may be there
 module _ (lits : List Lit) (x l : Lit) where
@@ -61,6 +72,19 @@ module _ (lits : List Lit) (x l : Lit) where
       (λ h. Contains-append_left lits (x ∷ []) l h)
       (λ is. subst (Contains (lits ++ x ∷ [])) is (Contains-push lits x))
       way
+
+-- and in the list one more
+pub one-more : (lits new list longer : List Lit) (x : Lit) → IsSetOf lits list → new ≡ insert_key same lits x
+    → longer ≡ list ++ x ∷ [] → IsSetOf new longer
+one-more lits new list longer x h is more = λ l. (
+  λ has. subst (λ (ls : List Lit). Contains ls l) (sym more)
+      (⊎_elim (λ old. Contains-append_left list (x ∷ []) l ((h l).0 old))
+      (λ e. subst (Contains (list ++ x ∷ [])) e (Contains-push list x))
+      (inserted lits x l (list_any (same x) lits) (subst (λ (ls : List Lit). Contains ls l) is has))),
+  λ has. subst (λ (ls : List Lit). Contains ls l) (sym is)
+      (still lits x l (list_any (same x) lits) refl (⊎_elim (λ old. inl ((h l).1 old)) (λ e. inr e)
+      (Contains-push_cases list x l (subst (λ (ls : List Lit). Contains ls l) more has)))),
+)
 
 -- and one that is kept more
 pub kept-one : (lits new : List Lit) (ks longer : List Kept) (k : Kept) → IsIndexed lits ks

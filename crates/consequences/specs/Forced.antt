@@ -16,11 +16,11 @@ use Rattle.consequences.specs.declared.kept.Tested.TheVariants.{Forced, Free}
 abbrev pub Forces : ProblemState → List Lit → Lit → Type 0
 Forces p ls l = (v : ℕ → Bool) → Satisfies p v → MakesTrue v ls → literal_value v l ≡ true
 
--- some of what was assumed forces it, and a kept core shows that
+-- some of what was assumed forces it, which a kept core shows where it is not the literal itself
 pub record IsForced (p : ProblemState) (assumed : List Lit) (cores : List (List Lit)) (k : Kept) : Type 0 where
   pub among : IsSublist k.support assumed
   pub forces : Forces p k.support k.lit
-  pub shown : HasCoreWithin cores (k.support ++ negated k.lit ∷ [])
+  pub shown : HasCoreWithin cores (k.support ++ negated k.lit ∷ []) ⊎ (k.support ≡ k.lit ∷ [])
 
 -- in some valuation that satisfies the problem and makes the literals true it is false
 abbrev pub IsFree : ProblemState → List Lit → Lit → Type 0

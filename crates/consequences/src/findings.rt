@@ -1,23 +1,29 @@
 //! What was found of literals, and whether it tells of one more without a search.
 ghost use Rattle.std.specs.Prelude.{◌≡◌, ◌↔◌, ◌<◌, ◌⊎◌, ◌++◌, ◌∷◌, [], length, All, Any, IfOk, OnOk, IsTrue, false};
+ghost use Rattle.std.specs.Prelude.{Contains, IfErr};
+ghost use Rattle.ground_core.specs.declared.solving.Halt.TheVariants as halt;
 ghost use Rattle.consequences.specs.Forced.{IsFalseInAny, IsFalseInSeen, IsSettled, IsOpen};
-ghost use Rattle.consequences.specs.Indexed.{IsIndexed};
+ghost use Rattle.consequences.specs.Indexed.{IsIndexed, IsSetOf, AreHashed};
+ghost use Rattle.consequences.specs.declared.kept.Kept.{Kept as AKept};
 
 use crate::asking::Question;
 use crate::kept::{Kept, KeptList};
-use ground_core::Memory;
+use ground_core::{Halt, LitList, Memory};
 use indexmap::IndexSet;
 use kb_logic::ListOf;
 use lit_core::{Lit, Values};
 use std::alloc::Global;
 
-// The kept literals are hashed as well, so that each literal is looked up once, however many are kept.
+// The kept literals are hashed as well, so that each literal is looked up once, however many are kept. So are the
+// assumed ones.
 /// What the searches so far have found.
 #[derive(Drop)]
 pub struct Findings {
     pub kept: KeptList,
     /// The literals that are kept.
     pub lits: IndexSet<Lit>,
+    /// The literals that are assumed.
+    pub assumed: IndexSet<Lit>,
     /// Valuations that are left. Each makes the literals false for which it was found.
     pub found: ListOf<Values>,
 }
@@ -38,18 +44,30 @@ fn is_false_in_seen(seen: &[Values], atoms: u64, lit: Lit) -> bool
     lit.var.0 <= atoms && is_false_in_any(seen, lit)
 }
 
+/// The literals, each once.
+fn set_of(alloc: Global, lits: &[Lit]) -> Result<IndexSet<Lit>, Memory>
+    ensures { IfOk result (λ set. IsSetOf set.keys lits.now) }
+{
+    let mut set = IndexSet::new(alloc);
+    for lit in lits {
+        set.insert_full(*lit)?;
+    }
+    Ok(set)
+}
+
 impl Findings {
-    /// A first valuation.
-    pub fn begin(alloc: Global, first: Values) -> Result<Findings, Memory>
+    /// A first valuation, and what is assumed.
+    pub fn begin(alloc: Global, first: Values, assume: &[Lit]) -> Result<Findings, Memory>
         ensures kept { IfOk result (λ f. f.kept ≡ []) }
         ensures found { IfOk result (λ f. f.found ≡ first ∷ []) }
-        ensures indexed { IfOk result (λ f. IsIndexed f.lits.keys f.kept) }
+        ensures hashed { IfOk result (λ f. AreHashed f assume.now) }
     {
         let mut found = ListOf::new(alloc);
         found.push(first)?;
         Ok(Findings {
             kept: ListOf::new(alloc),
             lits: IndexSet::new(alloc),
+            assumed: set_of(alloc, assume)?,
             found,
         })
     }
@@ -60,10 +78,38 @@ impl Findings {
         ensures kept { OnOk result (self.new.kept ≡ self.old.kept ++ forced ∷ []) }
         ensures found { OnOk result (self.new.found ≡ self.old.found) }
         ensures indexed { OnOk result (IsIndexed self.new.lits.keys self.new.kept) }
+        ensures assumed { OnOk result (self.new.assumed ≡ self.old.assumed) }
     {
         self.lits.insert_full(forced.lit)?;
         self.kept.push(forced)?;
         Ok(())
+    }
+
+    /// Keeps a literal that is forced by itself.
+    pub fn keep_itself(&mut self, alloc: Global, lit: Lit) -> Result<(), Halt>
+        requires { IsIndexed self.old.lits.keys self.old.kept }
+        ensures kept { OnOk result ((k : AKept) × (self.new.kept ≡ self.old.kept ++ k ∷ []) × (k.lit ≡ lit)
+            × (k.support ≡ lit ∷ [])) }
+        ensures found { OnOk result (self.new.found ≡ self.old.found) }
+        ensures indexed { OnOk result (IsIndexed self.new.lits.keys self.new.kept) }
+        ensures assumed { OnOk result (self.new.assumed ≡ self.old.assumed) }
+        ensures halt { IfErr result (λ h. h ≡ halt.Memory) }
+    {
+        let mut support = LitList::new(alloc);
+        if support.push(lit).is_err() {
+            return Err(Halt::Memory);
+        }
+        match self.keep(Kept { lit, support }) {
+            Ok(()) => Ok(()),
+            Err(_) => Err(Halt::Memory),
+        }
+    }
+
+    /// Whether the literal is assumed.
+    pub fn is_assumed(&self, lit: Lit) -> bool
+        ensures { IsTrue result ↔ Contains self.now.assumed.keys lit }
+    {
+        self.assumed.contains(&lit)
     }
 
     /// Whether the literal is kept.

@@ -6,7 +6,7 @@ ghost use Rattle.ground_core.specs.Solving.{IsBudgetOf, AreUnretired, HaltedAt, 
 ghost use Rattle.ground_core.specs.Calls.{Keeps, CountsUpTo, Costs, Stays, IsAnsweredAtOnce};
 ghost use Rattle.model_search.specs.Models.{IsLeft};
 ghost use Rattle.consequences.specs.Forced.{Decides, AreForced, FindsForced, IsSeen, Searches};
-ghost use Rattle.consequences.specs.Indexed.{IsIndexed};
+ghost use Rattle.consequences.specs.Indexed.{AreHashed};
 
 use crate::asking::Question;
 use crate::findings::Findings;
@@ -17,7 +17,8 @@ use lit_core::{Lit, Values};
 use model_search::model_of;
 use std::alloc::Global;
 
-/// Searches for values that make the literal false, and adds what was found.
+// A literal that is assumed needs no search: each would be one that assumes all of them.
+/// Adds the literal as forced, by itself where it is assumed, or values that make it false.
 fn decide<S: Solve>(
     alloc: Global,
     s: &mut S,
@@ -30,10 +31,10 @@ fn decide<S: Solve>(
     requires unretired { AreUnretired (S.state s.old).problem (assume.now ++ negated lit ∷ []) }
     requires budget { IsBudgetOf (S.state s.old).learnt budget.old }
     requires kept { IsKept (S.state s.old) }
-    requires indexed { IsIndexed findings.old.lits.keys findings.old.kept }
+    requires hashed { AreHashed findings.old assume.now }
     ensures decides { OnOk result (Decides (S.state s.old).problem assume.now lit (S.state s.new).cores
         findings.old.kept findings.new.kept findings.old.found findings.new.found) }
-    ensures indexed { OnOk result (IsIndexed findings.new.lits.keys findings.new.kept) }
+    ensures hashed { OnOk result (AreHashed findings.new assume.now) }
     ensures halt { IfErr result (HaltedAt budget.new) }
     ensures stays { Stays (S.state s.old) (S.state s.new) }
     ensures keeps { Keeps (S.state s.old) (S.state s.new) budget.old budget.new }
@@ -41,6 +42,9 @@ fn decide<S: Solve>(
     ensures kept { IsKept (S.state s.new) }
     ensures later { S.goes_on s.old s.new }
 {
+    if findings.is_assumed(lit) {
+        return findings.keep_itself(alloc, lit);
+    }
     match test(alloc, s, assume, lit, budget) {
         Ok(Tested::Forced(forced)) => match findings.keep(forced) {
             Ok(()) => Ok(()),
@@ -54,9 +58,9 @@ fn decide<S: Solve>(
     }
 }
 
-/// Decides each literal, beginning from one valuation. Each search either shows its literal forced
-/// or finds a valuation that makes it false. The first valuation makes its negation false in both
-/// cases, so that no variable is searched twice.
+/// Decides each literal, beginning from one valuation. A literal that is assumed is forced by itself, and each search
+/// either shows its literal forced or finds a valuation that makes it false. The first valuation makes its negation
+/// false in all cases, so that no variable is searched twice.
 fn decide_each<S: Solve>(
     alloc: Global,
     s: &mut S,
@@ -83,7 +87,7 @@ fn decide_each<S: Solve>(
     ensures kept { IsKept (S.state s.new) }
     ensures later { S.goes_on s.old s.new }
 {
-    let Ok(mut findings) = Findings::begin(alloc, first) else {
+    let Ok(mut findings) = Findings::begin(alloc, first, question.assume) else {
         return Err(Halt::Memory);
     };
     for lit in question.ask {
@@ -98,8 +102,8 @@ fn decide_each<S: Solve>(
 }
 
 /// The asked literals that are true wherever the problem and what is assumed hold, each with some of what was assumed
-/// that forces it; None where they nowhere hold. No search is made for a literal of the first `atoms` variables that
-/// values in `seen` make false.
+/// that forces it; None where they nowhere hold. No search is made for a literal that is assumed, nor for one of the
+/// first `atoms` variables that values in `seen` make false.
 pub fn forced<S: Solve>(
     alloc: Global,
     s: &mut S,

@@ -1,6 +1,5 @@
-use Rattle.std.proofs.Common.{◌++◌, ◌∷◌, [], false, length, get_or, refl, sym, subst, arith}
+use Rattle.std.proofs.Common.{◌++◌, ◌∷◌, [], length, get_or, refl, sym, subst, arith}
 use Rattle.std.proofs.lemmas.List.Elements.{All-contains_itself}
-use Rattle.lit_core.specs.declared.literals.Lit.{Lit}
 use Rattle.lit_core.specs.Literals.{negated}
 use Rattle.ground_core.specs.Problems.{ProblemState, AreLitsOf}
 use Rattle.ground_core.specs.Solving.{AreUnretired}
@@ -8,11 +7,9 @@ use Rattle.ground_core.proofs.CallFacts.{stays-twice, keeps-none, keeps-twice, n
 use Rattle.consequences.proofs.ForcingFacts.{so-far-begins, so-far-budget, so-far-long, so-far-most, all-decided}
 use Rattle.consequences.proofs.ForcingFacts.{skipped, searched, searched-most, test-lits}
 use Rattle.consequences.proofs.ForcingFacts.{test-unretired}
+use Rattle.consequences.proofs.IndexFacts.{zero_lit}
 use Rattle.consequences.proofs.forcing.decide_each.Goals.{then-leave_open+in-Ok-decide, else-leave_open}
 use Rattle.consequences.proofs.forcing.decide_each.Goals as goal
-
-abbrev zero_lit : Lit
-zero_lit = record { var = record { 0 = 0 }; positive = false }
 
 pub returns-in_default-clause-keeps : goal.returns-in_default-clause-keeps
 returns-in_default-clause-keeps g c = keeps-none (g.S.Solve.state c.args.s.now) c.args.budget.now c.requires.budget
@@ -27,7 +24,7 @@ loop-lit-init g c = (
       c.args.question.now.seen.now c.args.first c.in-Ok.findings.kept c.in-Ok.findings.found
       (g.S.Solve.state c.args.s.now) c.args.budget.now c.in-Ok.ensures.kept c.in-Ok.ensures.found c.requires.budget
       c.requires.kept c.requires.first,
-  c.in-Ok.ensures.indexed,
+  c.in-Ok.ensures.hashed,
   g.met.S.Solve.goes_on_itself c.args.s.now,
 )
 
@@ -110,7 +107,7 @@ loop-lit-preserved g c = (
         c.requires.seen c.requires.asked (w.if-leave_open.ensures.known refl))
   ],
   elim c.if-leave_open.branch [
-    | then-leave_open+in-Ok-decide w ↦ rw w.findings-is w.in-Ok-decide.ensures.indexed
+    | then-leave_open+in-Ok-decide w ↦ rw w.findings-is w.in-Ok-decide.ensures.hashed
     | else-leave_open w ↦ rw w.findings-is c.loop-lit.invariant.1
   ],
   elim c.if-leave_open.branch [

@@ -1,4 +1,4 @@
-use Rattle.std.proofs.Common.{◌++◌, ◌∷◌, [], List, Contains, Ok, refl, ap, ◌∙◌, subst}
+use Rattle.std.proofs.Common.{◌++◌, ◌∷◌, [], List, Contains, Ok, refl, ap, ◌∙◌, subst, inl}
 use Rattle.lit_core.specs.declared.literals.Lit.{Lit}
 use Rattle.ground_core.specs.declared.solving.Verdict.{Verdict}
 use Rattle.ground_core.specs.declared.solving.Verdict.TheVariants.{Sat, Unsat}
@@ -38,4 +38,4 @@ returns-in-Ok-without-clause-tests g c =
     c.as_slice-in-Ok-Unsat.ensures c.in-Ok-without.ensures) in
     let all = test-forced s.problem c.args.assume.now c.args.lit c.in-Ok-Unsat.core c.in-Ok-without.support s.cores
     t.cores w answers keeps in
-    (refl, record { among = all.0; forces = all.1; shown = all.2 })
+    (refl, record { among = all.0; forces = all.1; shown = inl all.2 })
