@@ -10,3 +10,5 @@ pub mod KeptAnswers
 pub mod ReplyLemmas
 pub mod LiteralsOver
 pub mod ForcedReplies
+pub mod HashedFacts
+pub mod ChosenLits

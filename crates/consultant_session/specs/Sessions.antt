@@ -1,6 +1,6 @@
 -- What a session holds, and which of its commands take memory.
 use Rattle.std.specs.Prelude.{◌≡◌, ◌+◌, ℕ, All, List, [], length, Option, Some, Result, IfOk, OnOk, OnErr}
-use Rattle.std.specs.Prelude.{if◌then◌else◌, ⊤}
+use Rattle.std.specs.Prelude.{if◌then◌else◌, ⊤, ◌↔◌, Contains}
 use Rattle.std.specs.List.{AllByRecursion}
 use Rattle.std.specs.declared.alloc.AllocError.{AllocError as Memory}
 use Rattle.kb_logic.specs.Bases.{Base}
@@ -62,11 +62,17 @@ pub record IsKeptAnswer (kb : Base) (s : State) (supports : List Kept) (solver :
   pub refuted : Refutes (atom_base kb) s.choices solver.cores a.reply
   pub covers : CoversReply kb s.choices supports a.reply
 
--- the choices are over the knowledge base, the task is one of it, these atoms' variables are unknown in its data, and
--- the found models are models of it; the supports are choices, and the answers are right
-pub record IsSession (kb : Opened) (s : State) (lits : List Lit) (models : FoundState) (ks : List Kept)
+-- of the literals of atoms' variables these are the ones that the choices have
+abbrev pub AreLitsOf : Base → List Literal → List Lit → Type 0
+AreLitsOf kb choices lits = (l : Literal) (lit : Lit) → HasNumber (atom_base kb) l lit
+    → Contains lits lit ↔ Contains choices l
+
+-- the choices are over the knowledge base, their literals are hashed, the task is one of it, these atoms' variables are
+-- unknown in its data, and the found models are models of it; the supports are choices, and the answers are right
+pub record IsSession (kb : Opened) (s : State) (own lits : List Lit) (models : FoundState) (ks : List Kept)
     (answers : List Answered) (numbers : GroundBase) (solver : SolveState) : Type 0 where
   pub choices : AreChoicesOver kb s.choices
+  pub hashed : AreLitsOf (base_of kb) s.choices own
   pub unknown : AreUnknownOf (base_of kb) lits
   pub over : IsTaskOver (base_of kb) numbers solver
   pub found : AreFoundModels (base_of kb) models

@@ -1,6 +1,7 @@
 //! The consultant's session: commands and their right replies.
 #![tactic(auto)]
 
+mod chosen;
 pub mod laws;
 mod literals;
 mod session;

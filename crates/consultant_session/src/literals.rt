@@ -1,23 +1,13 @@
 //! Literals: which ones are the same, and which ones the data make known.
 ghost use Rattle.std.specs.Prelude.{◌≡◌};
-ghost use Rattle.std.specs.List.{list_any};
 ghost use Rattle.consult_base.specs.Opened.{base_of};
 ghost use Rattle.consult_text.specs.Literals.{IsLiteralOver};
-ghost use Rattle.consult_text.specs.States.{is_known, same_literal, without};
+ghost use Rattle.consult_text.specs.States.{is_known, without};
 
 use consult_base::KnowledgeBase;
 use kb_logic::Literal;
 use kept_answers::are_same_literals;
 use partial_structures::Truth;
-
-/// Whether the literal is one of these.
-pub(crate) fn is_among(literals: &[Literal], literal: &Literal) -> bool
-    ensures { result ≡ list_any (same_literal literal.now) literals.now }
-{
-    literals
-        .iter()
-        .any(|other| are_same_literals(literal, other))
-}
 
 /// Removes the literal, which takes no memory. The order of others stays.
 pub(crate) fn remove(literals: &mut Vec<Literal>, literal: &Literal)

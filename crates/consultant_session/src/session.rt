@@ -26,6 +26,7 @@ use consult_base::KnowledgeBase;
 use consult_text::{Command, Reply};
 use found_models::FoundModels;
 use ground_task::Task;
+use indexmap::IndexSet;
 use kb_logic::{LiteralList, Memory};
 use kb_sizes::atoms;
 use kept_answers::KeptAnswers;
@@ -53,6 +54,8 @@ pub struct Session<C: Choose + Copy + Drop> {
     /// The last answer to each kind of query, which is right in this state.
     answered: KeptAnswers,
     choices: LiteralList,
+    /// The literals of the choices' variables: whether a literal is a choice is asked of these.
+    hashed: IndexSet<Lit>,
     budget: Option<u64>,
     /// Whether the solver keeps a log: its numbers then go on from one query to the next.
     logs: bool,
@@ -76,8 +79,8 @@ impl<C: Choose + Copy + Drop> Model for Session<C> {
       answered = s.answered;
     } };
 
-    ghost invariant = { λ s. IsSession s.kb (record { choices = s.choices; budget = s.budget }) s.unknown.items s.found
-        s.supports s.answered s.task.numbers s.task.solver.kept };
+    ghost invariant = { λ s. IsSession s.kb (record { choices = s.choices; budget = s.budget }) s.hashed.keys
+        s.unknown.items s.found s.supports s.answered s.task.numbers s.task.solver.kept };
 }
 
 impl<C: Choose + Copy + Drop> Session<C> {
@@ -106,6 +109,7 @@ impl<C: Choose + Copy + Drop> Session<C> {
             supports,
             answered,
             choices: LiteralList::new(alloc),
+            hashed: IndexSet::new(alloc),
             budget,
             logs: false,
         })

@@ -4,18 +4,38 @@ ghost use Rattle.consult_base.specs.Opened.{base_of};
 ghost use Rattle.consult_text.specs.declared.commands.Command.TheVariants as command;
 ghost use Rattle.consult_text.specs.Literals.{IsLiteralOver};
 ghost use Rattle.consult_text.specs.RightReplies.{RightReply};
-ghost use Rattle.consult_text.specs.States.{state_after};
+ghost use Rattle.consult_text.specs.States.{is_chosen, state_after};
+ghost use Rattle.atom_numbers.specs.Numbers.{HasNumber};
+ghost use Rattle.ground_task.specs.Tasks.{atom_base};
 ghost use Rattle.clause_learning.specs.SolverState.{forgotten};
 ghost use Rattle.consultant_session.specs.Sessions.{SupportsAfter};
 
 use super::Session;
-use crate::literals::{is_among, is_known, remove};
+use crate::chosen::{add_choice, has_lit, lose_lit};
+use crate::literals::{is_known, remove};
 use chooser::Choose;
 use consult_text::{F, Reply};
 use kb_logic::{Literal, LiteralList, Memory};
+use lit_core::Lit;
 use std::mem;
 
 impl<C: Choose + Copy + Drop> Session<C> {
+    /// The literal of the variable that the literal's atom has.
+    fn lit_of(&self, literal: &Literal) -> Lit
+        requires { IsLiteralOver (base_of self.now.kb) literal.now }
+        ensures { HasNumber (atom_base (base_of self.now.kb)) literal.now result }
+    {
+        self.task.lit_of(literal)
+    }
+
+    /// Whether the literal, of which this is the variable's literal, is a choice.
+    fn has_chosen(&self, literal: &Literal, lit: Lit) -> bool
+        requires { HasNumber (atom_base (base_of self.now.kb)) literal.now lit }
+        ensures { result ≡ is_chosen self.now.state literal.now }
+    {
+        has_lit(&self.hashed, lit)
+    }
+
     /// Makes the literal the last choice.
     pub(super) fn assert(&mut self, literal: &Literal) -> Result<Reply, Memory>
         requires { IsLiteralOver (base_of self.old.kb) literal.now }
@@ -31,10 +51,12 @@ impl<C: Choose + Copy + Drop> Session<C> {
         if is_known(&self.kb, literal) {
             return Ok(Reply::Refused(F::GivenByData));
         }
-        if is_among(self.choices.as_slice(), literal) {
+        let lit = self.lit_of(literal);
+        if self.has_chosen(literal, lit) {
             return Ok(Reply::Refused(F::AlreadyChosen));
         }
-        self.choices.push(literal.copy(self.alloc)?)?;
+        let choice = literal.copy(self.alloc)?;
+        add_choice(&mut self.choices, &mut self.hashed, choice, lit)?;
         self.answered.clear();
         Ok(Reply::Fine)
     }
@@ -50,13 +72,14 @@ impl<C: Choose + Copy + Drop> Session<C> {
         ensures supports { SupportsAfter (base_of self.old.kb) self.old.state (command.Retract literal.now)
             self.old.supports self.new.supports }
     {
-        if !is_among(self.choices.as_slice(), literal) {
+        let lit = self.lit_of(literal);
+        if !self.has_chosen(literal, lit) {
             return Reply::Refused(F::NotChosen);
         }
-        let lit = self.task.lit_of(literal);
         let mut choices = mem::replace(&mut self.choices, LiteralList::new(self.alloc)).into_vec();
         remove(&mut choices, literal);
         self.choices = LiteralList::from_vec(choices);
+        lose_lit(&mut self.hashed, lit);
         self.supports.lose(lit);
         self.answered.clear();
         Reply::Fine
@@ -72,6 +95,7 @@ impl<C: Choose + Copy + Drop> Session<C> {
             self.new.supports }
     {
         self.choices = LiteralList::new(self.alloc);
+        self.hashed.clear();
         self.supports.lose_supported();
         self.answered.clear();
         Reply::Fine

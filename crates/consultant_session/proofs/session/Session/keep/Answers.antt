@@ -17,6 +17,7 @@ invariant_of-self g c =
     let back = sym c.self.view_is in
     record {
       choices = c.self.invariant.choices;
+      hashed = c.self.invariant.hashed;
       unknown = c.self.invariant.unknown;
       found = c.self.invariant.found;
       over = c.self.invariant.over;

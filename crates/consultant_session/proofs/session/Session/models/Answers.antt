@@ -37,6 +37,7 @@ models-requires-clause-choices g c =
 pub invariant_of-self : goal.invariant_of-self
 invariant_of-self g c = record {
   choices = c.self.invariant.choices;
+  hashed = c.self.invariant.hashed;
   unknown = c.self.invariant.unknown;
   found = c.self.invariant.found;
   over = still_over _ (base_of c.self.inside.kb) (command.Models c.args.most) _ _ _ _ _ _ _ c.models.ensures

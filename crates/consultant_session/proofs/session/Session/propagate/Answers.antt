@@ -78,6 +78,7 @@ invariant_of-self g c =
     ) in
     record {
       choices = c.self.invariant.choices;
+      hashed = c.self.invariant.hashed;
       unknown = c.self.invariant.unknown;
       found = c.self.invariant.found;
       over = still_over _ base command.Propagate _ _ _ _ _ _ _ c.propagate.ensures.ends c.self.invariant.over;

@@ -28,6 +28,7 @@ returns-in_err-open_anew-clause-solver g c =
 pub invariant_of-self-2 : goal.invariant_of-self-2
 invariant_of-self-2 g c = record {
   choices = c.self.invariant.choices;
+  hashed = c.self.invariant.hashed;
   unknown = c.self.invariant.unknown;
   found = c.self.invariant.found;
   over = c.in_ok-open_anew.ensures.over;

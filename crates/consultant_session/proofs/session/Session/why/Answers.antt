@@ -40,6 +40,7 @@ returns-clause-refuted g c =
 pub invariant_of-self : goal.invariant_of-self
 invariant_of-self g c = record {
   choices = c.self.invariant.choices;
+  hashed = c.self.invariant.hashed;
   unknown = c.self.invariant.unknown;
   found = c.self.invariant.found;
   over = still_over _ (base_of c.self.inside.kb) command.Why _ _ _ _ _ _ _ c.why.ensures c.self.invariant.over;
