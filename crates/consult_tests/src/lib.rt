@@ -1,4 +1,4 @@
-//! Tests of the session, of copies of commands and replies, and of files too long for a case.
+//! Tests of files too long for a case.
 //! What a list of cases can say stands in consult_cases, what devices do in device_call_tests and run_tests.
 #![tactic(auto)]
 

@@ -1,5 +1,3 @@
 //! What no clause says and no case of consult_cases can show.
 
-mod copies;
 mod files;
-mod sessions;
