@@ -1,8 +1,8 @@
 -- What stands after some entries.
-use Rattle.std.proofs.Common.{◌≡◌, ℕ, ◌+◌, ◌<◌, ◌≤◌, List, [], ◌∷◌, ◌++◌, All, drop, length, refl, sym, ap, ◌∙◌, subst}
+use Rattle.std.proofs.Common.{◌≡◌, ℕ, ◌+◌, ◌<◌, ◌≤◌, List, [], ◌∷◌, ◌++◌, All, drop, length, sym, ap, ◌∙◌, subst}
 use Rattle.std.proofs.Common.{arith}
 use Rattle.std.proofs.lemmas.List.{drop_all, length-drop, length-append}
-use Rattle.std.proofs.lemmas.List.Elements.{All-push, All-nil}
+use Rattle.std.proofs.lemmas.List.Elements.{All-push}
 use Rattle.ground_core.specs.Problems.{ProblemState, IsProblem}
 use Rattle.derivation_log.specs.declared.claims.Claim.{Claim}
 use Rattle.derivation_log.specs.declared.entries.Entry.{Entry}
@@ -10,13 +10,13 @@ use Rattle.derivation_log.specs.declared.entries.Entry.TheVariants as entry
 use Rattle.derivation_log.specs.Texts.{IsWritten}
 use Rattle.derivation_log.specs.Steps.{CheckState, start, LogStep, after, Accepts, after_all}
 use Rattle.derivation_log.specs.Claims.{ClaimHolds}
-use Rattle.derivation_log.specs.Checks.{put_entries, NoStepHere, IsAccepted, IsFirstBad}
+use Rattle.derivation_log.specs.Checks.{put_entries, NoStepHere, IsAccepted}
 use Rattle.derivation_log.specs.Readings.{IsEntryAt, NoEntryAt}
 use Rattle.derivation_log.proofs.Loops.{put-push, accepts-push, after-push}
 use Rattle.derivation_log.proofs.ReadBack.{one-reading}
 use Rattle.derivation_log.proofs.Induction.{claims-true}
 use Rattle.log_checker.specs.States.{IsNext}
-use Rattle.log_checker.specs.Verdicts.{Takes}
+use Rattle.log_checker.specs.Verdicts.{Takes, Stands, ComesTo}
 
 pub is-next : (p : ProblemState) (st : CheckState) (e : Entry) → LogStep p st e → IsNext st e
 is-next p st (entry.Mark n) h = tt
@@ -43,58 +43,27 @@ module _ (p : ProblemState) (st : CheckState) (bytes : List ℕ) (at : ℕ) (lt 
         (sym (one-reading e d (drop next bytes) more here.written w (sym here.text ∙ text)).0) step),
   )
 
-pub record Stands (p : ProblemState) (bytes : List ℕ) (at : ℕ) (st : CheckState) (n : ℕ) : Type 0 where
-  pub entries : List Entry
-  pub written : All IsWritten entries
-  pub text : bytes ≡ put_entries entries (drop at bytes)
-  pub steps : Accepts p (start p) entries
-  pub state : after_all (start p) entries ≡ st
-  pub number : n ≡ length entries + 1
-  pub below : n ≤ at + 1
+module _ (p : ProblemState) (first : CheckState) (bytes : List ℕ) where
+  pub stands-more : (at next : ℕ) (st new : CheckState) (n : ℕ) → Stands p first bytes at st n
+      → Takes p st bytes at next new → Stands p first bytes next new (n + 1)
+  stands-more at next st new n s t = record {
+    entries = s.entries ++ t.entry ∷ [];
+    written = All-push IsWritten s.entries t.entry s.written t.here.written;
+    text = s.text ∙ ap (put_entries s.entries) t.here.text ∙ sym (put-push s.entries t.entry (drop next bytes));
+    steps = accepts-push p first s.entries t.entry s.steps (subst (λ x. LogStep p x t.entry) (sym s.state) t.step);
+    state = after-push first s.entries t.entry ∙ ap (λ x. after x t.entry) s.state ∙ sym t.leaves;
+    number = let x = s.number in let y = length-append s.entries (t.entry ∷ []) in omega (arith, x, y);
+    below = let x = s.below in let y = t.here.beyond in omega (arith, x, y);
+  }
 
-pub stands-first : (p : ProblemState) (bytes : List ℕ) (st : CheckState) → st ≡ start p → Stands p bytes 0 st 1
-stands-first p bytes st e = record {
-  entries = [];
-  written = All-nil IsWritten;
-  text = refl;
-  steps = tt;
-  state = sym e;
-  number = refl;
-  below = omega arith;
-}
-
-pub stands-more : (p : ProblemState) (bytes : List ℕ) (at next : ℕ) (st new : CheckState) (n : ℕ)
-    → Stands p bytes at st n → Takes p st bytes at next new → Stands p bytes next new (n + 1)
-stands-more p bytes at next st new n s t = record {
-  entries = s.entries ++ t.entry ∷ [];
-  written = All-push IsWritten s.entries t.entry s.written t.here.written;
-  text = s.text ∙ ap (put_entries s.entries) t.here.text ∙ sym (put-push s.entries t.entry (drop next bytes));
-  steps = accepts-push p (start p) s.entries t.entry s.steps (subst (λ x. LogStep p x t.entry) (sym s.state) t.step);
-  state = after-push (start p) s.entries t.entry ∙ ap (λ x. after x t.entry) s.state ∙ sym t.leaves;
-  number = let x = s.number in let y = length-append s.entries (t.entry ∷ []) in omega (arith, x, y);
-  below = let x = s.below in let y = t.here.beyond in omega (arith, x, y);
-}
-
-pub refused : (p : ProblemState) (bytes : List ℕ) (at : ℕ) (st : CheckState) (n : ℕ) → Stands p bytes at st n
-    → NoStepHere p st (drop at bytes) → IsFirstBad p bytes n
-refused p bytes at st n s bad = record {
-  entries = s.entries;
-  rest = drop at bytes;
-  written = s.written;
-  text = s.text;
-  steps = s.steps;
-  number = s.number;
-  bad = subst (λ x. NoStepHere p x (drop at bytes)) (sym s.state) bad;
-}
-
-pub accepted : (p : ProblemState) (bytes : List ℕ) (at : ℕ) (st : CheckState) (n : ℕ) → length bytes ≤ at
-    → Stands p bytes at st n → IsAccepted p bytes st.claims
-accepted p bytes at st n le s = record {
+pub accepted : (p : ProblemState) (first : CheckState) (bytes : List ℕ) (at : ℕ) (st : CheckState) (n : ℕ)
+    → first ≡ start p → length bytes ≤ at → ComesTo p first bytes at st n → IsAccepted p bytes st.claims
+accepted p first bytes at st n e le c = let s = c.stands in record {
   entries = s.entries;
   written = s.written;
   text = s.text ∙ ap (put_entries s.entries) (drop_all at bytes le);
-  steps = s.steps;
-  claims_are = ap (λ (x : CheckState). x.claims) s.state;
+  steps = subst (λ x. Accepts p x s.entries) e s.steps;
+  claims_are = ap (λ (x : CheckState). x.claims) (ap (λ x. after_all x s.entries) (sym e) ∙ s.state);
 }
 
 pub truth : (p : ProblemState) (bytes : List ℕ) (cs : List Claim) → IsProblem p → IsAccepted p bytes cs

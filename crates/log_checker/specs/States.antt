@@ -6,7 +6,7 @@ use Rattle.derivation_log.specs.Steps.{CheckState}
 use Rattle.log_checker.specs.declared.checked.Checked.{Checked}
 
 abbrev pub state_view : Checked → CheckState
-state_view c = record { vars = c.vars; clauses = c.clauses; bounds = c.bounds; line = c.line; claims = c.claims }
+state_view c = record { vars = c.vars; clauses = c.clauses; bounds = c.bounds; line = c.line; claims = c.claims.items }
 
 -- what an entry that adds a variable needs to be added
 abbrev pub IsNext : CheckState → Entry → Type 0

@@ -1,5 +1,5 @@
 //! What a step leaves.
-ghost use Rattle.std.specs.Prelude.{◌≡◌, IfOk, OnOk, ◌∷◌, flat_map};
+ghost use Rattle.std.specs.Prelude.{◌≡◌, IfOk, OnOk, [], ◌∷◌, ◌++◌, flat_map};
 ghost use Rattle.ground_core.specs.GateClauses.{gate_clauses, clauses_of};
 ghost use Rattle.lit_core.specs.Literals.{negated};
 ghost use Rattle.derivation_log.specs.declared.entries.Entry.TheVariants.{Bound, Exclude};
@@ -10,7 +10,7 @@ use crate::bound_tables::BoundTable;
 use crate::checked::Checked;
 use derivation_log::{Claim, Entry};
 use ground_core::{Memory, Problem, TermBound, clauses_of_gate};
-use kb_logic::{ExtInt, ListOf};
+use kb_logic::ExtInt;
 use lit_core::{Clause, ClauseList, Lit, Var};
 use std::alloc::Global;
 
@@ -36,7 +36,7 @@ pub fn started(alloc: Global, p: &Problem) -> Result<Checked, Memory>
         clauses: all_clauses(alloc, p)?,
         bounds: BoundTable::new(alloc),
         line: 0,
-        claims: ListOf::new(alloc),
+        claims: Vec::new(alloc),
     })
 }
 
@@ -84,6 +84,14 @@ fn push_exclusion(alloc: Global, st: &mut Checked, s: Var, lits: &[Lit]) -> Resu
     Ok(())
 }
 
+/// With one claim more.
+fn push_claim(claims: &mut Vec<Claim>, claim: Claim) -> Result<(), Memory>
+    ensures { OnOk result (claims.new.items ≡ claims.old.items ++ claim ∷ []) }
+{
+    claims.push(claim)?;
+    Ok(())
+}
+
 /// After one entry more.
 pub fn advance(alloc: Global, st: &mut Checked, e: Entry) -> Result<(), Memory>
     requires { IsNext (state_view st.old) e }
@@ -98,8 +106,13 @@ pub fn advance(alloc: Global, st: &mut Checked, e: Entry) -> Result<(), Memory>
         Entry::Sum(_n, lits) => st.clauses.push(lits.as_slice()),
         Entry::Bound(s, t, k) => push_bound(st, s, t, k),
         Entry::Exclude(s, lits) => push_exclusion(alloc, st, s, lits.as_slice()),
-        Entry::Inconsistent(lits, _c) => st.claims.push(Claim::Inconsistent(st.line, lits)),
-        Entry::Forced(l, lits, _c) => st.claims.push(Claim::Forced(st.line, l, lits)),
-        Entry::Least(t, k, lits, _c) => st.claims.push(Claim::Least(st.line, t, k, lits)),
+        Entry::Inconsistent(lits, _c) => {
+            push_claim(&mut st.claims, Claim::Inconsistent(st.line, lits))
+        }
+        Entry::Forced(l, lits, _c) => push_claim(&mut st.claims, Claim::Forced(st.line, l, lits)),
+        Entry::Least(t, k, lits, _c) => push_claim(
+            &mut st.claims,
+            Claim::Least(st.line, t, k, lits),
+        ),
     }
 }

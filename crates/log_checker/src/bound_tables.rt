@@ -1,10 +1,9 @@
 //! The bounds of a log, found by their selectors.
-ghost use Rattle.std.specs.Prelude.{◌≡◌, [], ◌∷◌, ◌++◌, OnOk, MatchOption, IsTrue};
+ghost use Rattle.std.specs.Prelude.{◌≡◌, [], ◌∷◌, ◌++◌, take, OnOk, MatchOption, IsTrue};
 ghost use Rattle.ground_core.specs.declared.parts.TermBound.{TermBound};
 ghost use Rattle.log_checker.specs.BoundOrder.{IsFound, IsNotFound, IsAfter, Ascend};
 
 use ground_core::{Memory, TermBound};
-use kb_logic::ListOf;
 use lit_core::Var;
 use std::alloc::Global;
 use std::marker::Model;
@@ -13,7 +12,7 @@ use std::marker::Model;
 /// claim of a minimum costs the logarithm of the number of bounds for each literal of the clause that it cites.
 #[derive(Drop)]
 pub struct BoundTable {
-    list: ListOf<TermBound>,
+    list: Vec<TermBound>,
 }
 
 impl Model for BoundTable {
@@ -23,9 +22,9 @@ impl Model for BoundTable {
 
     ghost Value = { List TermBound };
 
-    ghost view = { λ t. t.list };
+    ghost view = { λ t. t.list.items };
 
-    ghost invariant = { λ t. Ascend t.list };
+    ghost invariant = { λ t. Ascend t.list.items };
 }
 
 /// Whether the bound may be added at the end.
@@ -66,7 +65,7 @@ impl BoundTable {
         ensures { result ≡ [] }
     {
         BoundTable {
-            list: ListOf::new(alloc),
+            list: Vec::new(alloc),
         }
     }
 
@@ -85,7 +84,15 @@ impl BoundTable {
         if !is_after(self.list.as_slice(), b) {
             return Err(Memory);
         }
-        self.list.push(b)
+        self.list.push(b)?;
+        Ok(())
+    }
+
+    /// Keeps the first `len` bounds.
+    pub fn truncate(&mut self, len: usize)
+        ensures { self.new ≡ take len self.old }
+    {
+        self.list.truncate(len);
     }
 
     /// The bound with this selector, if there is one.

@@ -5,7 +5,7 @@ ghost use Rattle.derivation_log.specs.Checks.{IsAccepted, NoStepHere};
 ghost use Rattle.derivation_log.specs.Claims.{ClaimHolds};
 ghost use Rattle.log_checker.specs.Sets.{OnlyIn};
 ghost use Rattle.log_checker.specs.States.{state_view};
-ghost use Rattle.log_checker.specs.Verdicts.{Takes, RefusedFor};
+ghost use Rattle.log_checker.specs.Verdicts.{Takes, ComesTo, RefusedFor};
 
 use crate::advancing::{advance, started};
 use crate::checked::Checked;
@@ -34,8 +34,9 @@ fn take(
 ) -> Result<Option<usize>, Memory>
     requires inside { at < length log.now }
     requires clean { OnlyIn set.old [] }
-    ensures takes { IfOk result (λ o. MatchOption o (NoStepHere p.now (state_view st.old) (drop at log.now)) (λ next.
-        Takes p.now (state_view st.old) log.now at next (state_view st.new))) }
+    ensures takes { IfOk result (λ o. MatchOption o (NoStepHere p.now (state_view st.old) (drop at log.now)
+        × (state_view st.new ≡ state_view st.old)) (λ next. Takes p.now (state_view st.old) log.now at next
+        (state_view st.new))) }
     ensures clean { OnOk result (OnlyIn set.new []) }
 {
     let (e, next) = match read_entry(alloc, log, at) {
@@ -50,6 +51,38 @@ fn take(
     Ok(Some(next))
 }
 
+/// Where the steps of a log end.
+#[derive(Clone, Copy)]
+pub struct Reached {
+    pub at: usize,
+    /// Of the entry that would come next, from 1 on.
+    pub number: u64,
+}
+
+/// Goes through the log as far as its entries are steps.
+pub fn go_through(
+    alloc: Global,
+    p: &Problem,
+    st: &mut Checked,
+    log: &[u8],
+) -> Result<Reached, Memory>
+    ensures { IfOk result (λ r. ComesTo p.now (state_view st.old) log.now r.at (state_view st.new) r.number) }
+{
+    let mut set = LiteralSet::new(alloc);
+    let mut at = 0;
+    let mut number: u64 = 1;
+    while at < log.len() {
+        match take(alloc, p, st, &mut set, log, at)? {
+            Some(next) => {
+                at = next;
+                number += 1;
+            }
+            None => return Ok(Reached { at, number }),
+        }
+    }
+    Ok(Reached { at, number })
+}
+
 /// Checks every entry: what the log claims, or the first entry that is no step.
 pub fn verify(alloc: Global, p: &Problem, log: &[u8]) -> Result<Claims, Refused>
     ensures claims { IfOk result (λ cs. IsAccepted p.now log.now cs.list) }
@@ -61,18 +94,13 @@ pub fn verify(alloc: Global, p: &Problem, log: &[u8]) -> Result<Claims, Refused>
     let Ok(mut st) = started(alloc, p) else {
         return Err(Refused::Memory);
     };
-    let mut set = LiteralSet::new(alloc);
-    let mut at = 0;
-    let mut n: u64 = 1;
-    while at < log.len() {
-        match take(alloc, p, &mut st, &mut set, log, at) {
-            Ok(Some(next)) => {
-                at = next;
-                n += 1;
-            }
-            Ok(None) => return Err(Refused::Entry(n)),
-            Err(_) => return Err(Refused::Memory),
-        }
+    let Ok(reached) = go_through(alloc, p, &mut st, log) else {
+        return Err(Refused::Memory);
+    };
+    if reached.at < log.len() {
+        return Err(Refused::Entry(reached.number));
     }
-    Ok(Claims { list: st.claims })
+    Ok(Claims {
+        list: ListOf::from_vec(st.claims),
+    })
 }
