@@ -9,7 +9,7 @@ use Rattle.consult_text.specs.States.{State, first_state}
 use Rattle.consultation.specs.Answering.{AnswersCommands}
 use Rattle.consultation.specs.Answers.{AnswersTo, IsPrintedInPart, IsStatedInPart}
 use Rattle.consultation.specs.Streams.{IfObservable, Streams, held_by, IsWithoutFault}
-use Rattle.consultation.specs.Turns.{ConsultantState, just_opened, Turns}
+use Rattle.consultation.specs.Turns.{ConsultantState, IsJustOpened, Turns}
 use Rattle.consultation.specs.declared.stop.Stop.{Stop}
 use Rattle.consultation.specs.declared.stop.Stop.TheVariants as stop
 use Rattle.consultation.proofs.Answered.{answers_none, answers_more}
@@ -40,17 +40,15 @@ begins logs kb first before = record {
 }
 
 -- a consultant that was just opened begins so
-pub began : (c : ConsultantState) (before : Streams) → c ≡ just_opened c.kb c.state.budget c.logs
+pub began : (c : ConsultantState) (before : Streams) → IsJustOpened c
     → IsSoFar c.logs (base_of c.kb) (first_state c.state.budget) c.state c.number c.lines before before
 began c before is =
     let kb : Base = base_of c.kb in
     let first : State = first_state c.state.budget in
-    subst (λ (s : State). IsSoFar c.logs kb first s c.number c.lines before before)
-    (sym (ap (λ (d : ConsultantState). d.state) is))
-    (subst (λ (n : ℕ). IsSoFar c.logs kb first first n c.lines before before)
-    (sym (ap (λ (d : ConsultantState). d.number) is))
-    (subst (λ (p : Pending). IsSoFar c.logs kb first first 0 p before before)
-    (sym (ap (λ (d : ConsultantState). d.lines) is)) (begins c.logs kb first before)))
+    subst (λ (s : State). IsSoFar c.logs kb first s c.number c.lines before before) (sym is.state)
+    (subst (λ (n : ℕ). IsSoFar c.logs kb first first n c.lines before before) (sym is.number)
+    (subst (λ (p : Pending). IsSoFar c.logs kb first first 0 p before before) (sym is.lines)
+    (begins c.logs kb first before)))
 
 no_fault : (before mid now : Streams) → IsWithoutFault before mid → IsWithoutFault mid now → IsWithoutFault before now
 no_fault before mid now first second = record {

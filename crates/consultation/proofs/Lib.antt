@@ -3,3 +3,5 @@ mod Progress
 mod Answered
 mod Ending
 mod Telling
+mod Accepting
+mod Bare

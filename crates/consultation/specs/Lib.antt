@@ -5,3 +5,4 @@ pub mod EndedLines
 pub mod Answers
 pub mod Answering
 pub mod Turns
+pub mod Accepted

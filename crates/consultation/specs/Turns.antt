@@ -1,5 +1,5 @@
 -- The answer to one line.
-use Rattle.std.specs.Prelude.{◌≡◌, ℕ, List, [], Bool, true, false, Option, Result, Ok, Err}
+use Rattle.std.specs.Prelude.{◌≡◌, ℕ, List, [], Bool, true, false, is_some, Option, Result, Ok, Err}
 use Rattle.std.specs.Io.KnownBytes.{Appends}
 use Rattle.kb_io.specs.Outside.{Rose}
 use Rattle.kb_io.specs.Pending.{Pending, TakesLine, NextLine}
@@ -8,13 +8,15 @@ use Rattle.kb_io.specs.declared.lines.LineError.{LineError}
 use Rattle.kb_io.specs.declared.lines.LineError.TheVariants as line_error
 use Rattle.kb_io.specs.declared.lines.Next.{Next}
 use Rattle.kb_io.specs.declared.lines.Next.TheVariants as next
-use Rattle.consult_base.specs.Opened.{Opened}
+use Rattle.consult_base.specs.Opened.{Opened, base_of}
 use Rattle.kb_logic.specs.Bases.{Base}
+use Rattle.log_checker.specs.Growing.{Checking}
 use Rattle.consult_text.specs.States.{State, first_state}
 use Rattle.consult_text.specs.declared.replies.Reply.{Reply}
 use Rattle.consultation.specs.Consultation.{IsRightAnswer, state_left, reply_of, said_text}
 use Rattle.consultation.specs.Statements.{IsStatement, GrowsLog}
 use Rattle.consultation.specs.Answers.{IsAnswered, IsPrintedInPart, IsStatedInPart}
+use Rattle.consultation.specs.Accepted.{IsFreshFor}
 use Rattle.consultation.specs.Answering.{HasReason}
 use Rattle.consultation.specs.Streams.{Held, Streams, held_by, IsWithoutFault}
 use Rattle.consultation.specs.declared.said.Said.{Said}
@@ -89,24 +91,27 @@ Turns (Err stop.LogFault) logs kb n s t old new before now =
 Turns (Err stop.Memory) logs kb n s t old new before now = IsWithoutFault before now × (held_by now ≡ held_by before)
 
 -- what a consultant holds: the knowledge base and the state of its session, what is known of the commands, whether a
--- log is kept, and how many lines were read
+-- log is kept, what is known of it, and how many lines were read
 pub record ConsultantState : Type 0 where
   pub kb : Opened
   pub state : State
   pub lines : Pending
   pub logs : Bool
+  pub checker : Option Checking
   pub number : ℕ
 
--- a consultant that has read no line
-abbrev pub just_opened : Opened → Option ℕ → Bool → ConsultantState
-just_opened kb budget logs = record {
-  kb = kb;
-  state = first_state budget;
-  lines = record { taken = 0; ahead = []; line = [] };
-  logs = logs;
-  number = 0;
-}
+-- it has read no line, no choice is made, and no entry is in its log, where one is kept
+pub record IsJustOpened (c : ConsultantState) : Type 0 where
+  pub state : c.state ≡ first_state c.state.budget
+  pub lines : c.lines ≡ record { taken = 0; ahead = []; line = [] }
+  pub number : c.number ≡ 0
+  pub checks : c.logs ≡ is_some c.checker
+  pub fresh : IsFreshFor (base_of c.kb) c.checker
 
--- all but the state of the session stayed
+-- all but what is known of the log stayed
+abbrev pub IsSameButChecker : ConsultantState → ConsultantState → Type 0
+IsSameButChecker old new = new ≡ record old { checker = new.checker }
+
+-- all but the state of the session and what is known of the log stayed
 abbrev pub IsSameButState : ConsultantState → ConsultantState → Type 0
-IsSameButState old new = new ≡ record old { state = new.state }
+IsSameButState old new = new ≡ record old { state = new.state; checker = new.checker }

@@ -1,7 +1,8 @@
 //! The bytes of an answer, and what a log states of it.
-ghost use Rattle.std.specs.Prelude.{◌≡◌, IfOk};
+ghost use Rattle.std.specs.Prelude.{◌≡◌, ◌≤◌, ◌<◌, IfOk, OnOk};
 ghost use Rattle.derivation_log.specs.Lines.{entry_text};
 ghost use Rattle.derivation_log.specs.declared.entries.Entry.TheVariants.{Mark};
+ghost use Rattle.log_checker.specs.Growing.{GoesOn};
 ghost use Rattle.consult_text.specs.RightReplies.{RightReply};
 ghost use Rattle.consult_text.specs.States.{State};
 ghost use Rattle.consult_text.specs.Texts.{reply_text};
@@ -16,6 +17,7 @@ use consult_text::{Command, F, Reply, write_reply};
 use consultant_session::Session;
 use derivation_log::{Entry, write_entry};
 use kb_logic::{Memory, Vocabulary};
+use log_checker::Checker;
 use std::alloc::Global;
 
 /// The bytes of a reply.
@@ -68,23 +70,65 @@ fn statement_of_reply(
     Ok(bytes)
 }
 
-/// What is stated of the line with this number, to which this is said.
+/// The mark alone, of which the checker knows then.
+fn marked(alloc: Global, number: u64, checker: &mut Checker) -> Result<Vec<u8>, Memory>
+    requires { checker.old.state.line < number }
+    ensures mark { IfOk result (λ bytes. bytes.items ≡ entry_text (Mark number)) }
+    ensures steps { IfOk result (λ bytes. GoesOn checker.old bytes.items checker.new) }
+    ensures line { OnOk result (checker.new.state.line ≡ number) }
+{
+    let bytes = mark_of(alloc, number)?;
+    checker.mark(number);
+    Ok(bytes)
+}
+
+// What a search states of itself rests on how it was done, and the contract of a search does not say that each entry is
+// a step. So each statement is checked before it is written, as whoever reads the log will check it.
+/// What is stated of the line with this number, which is this command and has this reply: all of it, where each entry
+/// is a step behind the log so far, and else the mark alone.
+fn checked_reply(
+    alloc: Global,
+    session: &Session<FirstGreatest>,
+    number: u64,
+    command: &Command,
+    reply: &Reply,
+    checker: &mut Checker,
+) -> Result<Vec<u8>, Memory>
+    requires right { (s : State) × RightReply (base_of session.now.kb) s command.now reply.now }
+    requires line { checker.old.state.line < number }
+    ensures statement { IfOk result (λ bytes. IsStatement (base_of session.now.kb) session.now.state number
+        (said.Replied command.now reply.now) bytes.items) }
+    ensures steps { IfOk result (λ bytes. GoesOn checker.old bytes.items checker.new) }
+    ensures line { OnOk result (checker.new.state.line ≡ number) }
+{
+    let statement = statement_of_reply(alloc, session, number, command, reply)?;
+    if checker.go_on(number, &statement)? {
+        return Ok(statement);
+    }
+    marked(alloc, number, checker)
+}
+
+/// What is stated of the line with this number, to which this is said, of which the checker knows then.
 pub(crate) fn statement_of(
     alloc: Global,
     session: &Session<FirstGreatest>,
     number: u64,
     said: &Said,
+    checker: &mut Checker,
 ) -> Result<Vec<u8>, Memory>
-    requires { IsRightSomewhere (base_of session.now.kb) said.now }
-    ensures { IfOk result
+    requires right { IsRightSomewhere (base_of session.now.kb) said.now }
+    requires line { checker.old.state.line < number }
+    ensures statement { IfOk result
         (λ bytes. IsStatement (base_of session.now.kb) session.now.state number said.now bytes.items) }
+    ensures steps { IfOk result (λ bytes. GoesOn checker.old bytes.items checker.new) }
+    ensures line { OnOk result (checker.new.state.line ≤ number) }
 {
     match said {
         Said::Nothing => Ok(Vec::new(alloc)),
-        Said::TooLong => mark_of(alloc, number),
-        Said::Refused(_) => mark_of(alloc, number),
+        Said::TooLong => marked(alloc, number, checker),
+        Said::Refused(_) => marked(alloc, number, checker),
         Said::Replied(command, reply) => {
-            statement_of_reply(alloc, session, number, command, reply)
+            checked_reply(alloc, session, number, command, reply, checker)
         }
     }
 }

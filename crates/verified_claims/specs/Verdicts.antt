@@ -6,6 +6,7 @@ use Rattle.kb_logic.specs.Structures.{EachWith}
 use Rattle.derivation_log.specs.declared.claims.Claim.{Claim}
 use Rattle.derivation_log.specs.Checks.{IsAccepted, IsFirstBad}
 use Rattle.ground_core.specs.Problems.{ProblemState}
+use Rattle.log_checker.specs.Growing.{Checking, beginning}
 use Rattle.narrowed_bases.specs.Narrowings.{IsProblemOf}
 use Rattle.verified_claims.specs.declared.said.SaidClaim.{SaidClaim}
 use Rattle.verified_claims.specs.declared.verdicts.LogError.{LogError}
@@ -16,6 +17,10 @@ use Rattle.verified_claims.specs.ClaimLines.{verdict_text}
 -- the log is accepted over the ground problem of the knowledge base, and has these claims
 abbrev pub IsAcceptedOver : Base → List ℕ → List Claim → Type 0
 IsAcceptedOver base log claims = (p : ProblemState) × IsProblemOf base p × IsAccepted p log claims
+
+-- no entry is known of a log over the ground problem of the knowledge base
+abbrev pub IsFresh : Base → Checking → Type 0
+IsFresh base c = IsProblemOf base c.problem × (c ≡ beginning c.problem)
 
 -- the entry of this number is the first that is no step over the ground problem of the knowledge base
 abbrev pub IsFirstBadOver : Base → List ℕ → ℕ → Type 0

@@ -7,5 +7,6 @@ mod said;
 mod saying;
 mod verdicts;
 
+pub use checking::checker_of;
 pub use said::SaidClaim;
 pub use verdicts::{LogError, verdict_of};

@@ -2,6 +2,8 @@ use Rattle.std.proofs.Common.{◌≡◌, ◌∙◌, refl, ap}
 use Rattle.std.proofs.lemmas.Bool.{OnFalse_at, OnFalse_from, OnTrue_at}
 use Rattle.std.proofs.lemmas.Result.{err_from_is_err_and}
 use Rattle.consult_base.specs.Opened.{base_of}
+use Rattle.consultation.proofs.Accepting.{keeps-none, keeps-more, breaks-later, fresh-up-to}
+use Rattle.consultation.proofs.Accepting.{accepted-whole, accepted-early}
 use Rattle.consultation.proofs.Ending.{began, goes_on, ends_done, ends_early, takes_some}
 use Rattle.consultation.proofs.consultant.Consultant.answer_all.Goals as goal
 
@@ -10,6 +12,12 @@ returns-in_err-answer_next-clause-ends g c =
     let p = err_from_is_err_and c.from_residual.result c.from_residual.ensures.1 in
     rw (p.1, p.2) (ends_early c.in_err-answer_next.field-0.0 _ _ _ _ _ _ _ _ _ _ _ _ _
     c.loop.invariant.logs (ap base_of c.loop.invariant.kb) c.loop.invariant.so_far c.in_err-answer_next.ensures.turn)
+
+pub returns-in_err-answer_next-clause-accepted : goal.returns-in_err-answer_next-clause-accepted
+returns-in_err-answer_next-clause-accepted g c =
+    let p = err_from_is_err_and c.from_residual.result c.from_residual.ensures.1 in
+    rw (p.1, p.2, c.requires.checks) (accepted-early (base_of c.args.self.now.kb) c.in_err-answer_next.field-0.0 _ _ _ c.requires.fresh
+    (breaks-later _ _ _ _ _ _ _ c.loop.invariant.steps c.in_err-answer_next.ensures.breaks))
 
 pub loop-smaller : goal.loop-smaller
 loop-smaller g c =
@@ -22,12 +30,18 @@ returns-clause-ends g c =
     ends_done _ _ _ _ _ _ c.answer_next.new.self.state _ _ _ _ _ _
     c.loop.invariant.logs (ap base_of c.loop.invariant.kb) c.loop.invariant.so_far turn
 
+pub returns-clause-accepted : goal.returns-clause-accepted
+returns-clause-accepted g c =
+    rw (c.requires.checks) (accepted-whole (base_of c.args.self.now.kb) _ _ _ _ _ c.requires.fresh
+    (keeps-more _ _ _ _ _ _ _ _ c.loop.invariant.steps c.in_ok-answer_next.ensures.steps))
+
 pub loop-init : goal.loop-init
 loop-init g c = record {
   kb = refl;
   logs = refl;
   none = OnFalse_from c.args.self.now.logs (c.args.log.now ≡ c.args.log.now) (λ e. refl);
   so_far = began c.args.self.now _ c.requires;
+  steps = keeps-none _ _ _ (fresh-up-to (base_of c.args.self.now.kb) _ _ c.requires.fresh);
 }
 
 pub loop-preserved : goal.loop-preserved
@@ -42,4 +56,5 @@ loop-preserved g c =
           (λ e. OnFalse_at (before.logs ∙ e) ensures.none ∙ OnFalse_at e before.none);
       so_far = goes_on _ _ _ _ _ _ _ _ _ _ _ _ _ _ before.logs (ap base_of before.kb)
           (OnTrue_at c.if-branch.true ensures.number) before.so_far turn;
+      steps = keeps-more _ _ _ _ _ _ _ _ before.steps ensures.steps;
     }
