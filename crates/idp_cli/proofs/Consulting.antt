@@ -1,14 +1,19 @@
 -- How a job about a file ends, from how the file is opened and what is done with it.
-use Rattle.std.proofs.Common.{◌≡◌, ℕ, List, Bool, refl, sym, subst, Option, Some, None, Result, Ok, Err, inl, inr}
+use Rattle.std.proofs.Common.{◌≡◌, ◌⊎◌, ℕ, List, Bool, true, false, refl, sym, subst, Option, Some, None, Result, Ok}
+use Rattle.std.proofs.Common.{Err, inl, inr}
+use Rattle.std.specs.Bool.{OnTrue, OnFalse}
+use Rattle.kb_logic.specs.Bases.{Base}
 use Rattle.consult_text.specs.States.{first_state}
 use Rattle.base_reader.specs.FileMeanings.{Choice, Meaning, FileMeans, base_of_meaning}
+use Rattle.consultation.specs.Accepted.{LogsAccepted}
 use Rattle.consultation.specs.Answering.{AnswersCommands, OpensAndAnswers}
 use Rattle.consultation.specs.Streams.{IfObservable, streams}
 use Rattle.consultation.specs.declared.stop.Stop.{Stop}
 use Rattle.consultation.specs.declared.stop.Stop.TheVariants as stop
 use Rattle.idp_cli.specs.Printing.{PrintsText}
 use Rattle.idp_cli.specs.Runs.{Outside, outside, AnswersByFile, ConsultationEnds, CheckEnds, FileFails, IsMeantBy}
-use Rattle.idp_cli.specs.Runs.{OnFiles, ended_as, structure_text}
+use Rattle.idp_cli.specs.Runs.{OnFiles, ended_as, structure_text, AcceptsLog, LogEnds, Words, texts_of}
+use Rattle.idp_cli.specs.Jobs.{consult, Asks}
 use Rattle.idp_cli.specs.declared.status.Status.{Status}
 use Rattle.idp_cli.specs.declared.status.Status.TheVariants as status
 
@@ -17,6 +22,46 @@ with_meaning : (file : Option (List ℕ)) (c : Choice) (m : Meaning) (P : Meanin
     → IfObservable file (λ bytes. (m : Meaning) × FileMeans c bytes m × P m)
 with_meaning None c m P is holds = tt
 with_meaning (Some bytes) c m P is holds = (m, is, holds)
+
+-- what the log grew by is accepted, where one is kept, and else it is as before
+pub log_accepted : (logs logs' : Bool) (kb kb' : Base) (result : Result Unit Stop) (old new : Option (List ℕ))
+    → logs' ≡ logs → kb' ≡ kb → OnTrue logs' (LogsAccepted result kb' old new) → OnFalse logs' (new ≡ old)
+    → (new ≡ old) ⊎ ((logs ≡ true) × LogsAccepted result kb old new)
+log_accepted logs logs' kb kb' result old new same_logs same_kb accepted none =
+    subst (λ (b : Bool). (new ≡ old) ⊎ ((b ≡ true) × LogsAccepted result kb old new)) same_logs
+    (subst (λ (k : Base). (new ≡ old) ⊎ ((logs' ≡ true) × LogsAccepted result k old new)) same_kb
+    (by logs' accepted none))
+  where
+    by : (b : Bool) → OnTrue b (LogsAccepted result kb' old new) → OnFalse b (new ≡ old)
+        → (new ≡ old) ⊎ ((b ≡ true) × LogsAccepted result kb' old new)
+    by true accepted none = inr (refl, accepted)
+    by false accepted none = inl none
+
+-- so it is by the file
+pub accepts_log : (file : List ℕ) (c : Choice) (m : Meaning) (logs : Bool) (files : List ℕ → Option (List ℕ))
+    (result : Result Unit Stop) (old new : Option (List ℕ)) → IfObservable (files file) (λ bytes. FileMeans c bytes m)
+    → (new ≡ old) ⊎ ((logs ≡ true) × LogsAccepted result (base_of_meaning m) old new)
+    → AcceptsLog (ended_as result) file c logs files old new
+accepts_log file c m logs files result old new is (inl same) = inl same
+accepts_log file c m logs files result old new is (inr kept) = inr (
+  kept.0,
+  with_meaning (files file) c m (λ (n : Meaning). (ended : Result Unit Stop) × (ended_as result ≡ ended_as ended)
+      × LogsAccepted ended (base_of_meaning n) old new) is (result, refl, kept.1),
+)
+
+-- and by the words
+pub log_ends : (s : Status) (words : Words) (file : List ℕ) (c : Choice) (budget : Option ℕ) (logs : Bool)
+    (files : List ℕ → Option (List ℕ)) (old new : Option (List ℕ))
+    → Asks (texts_of words) (consult file c budget logs) → AcceptsLog s file c logs files old new
+    → LogEnds s words files old new
+log_ends s words file c budget logs files old new asks (inl same) = inl same
+log_ends s words file c budget logs files old new asks (inr kept) = inr (
+  file,
+  c,
+  budget,
+  subst (λ (b : Bool). Asks (texts_of words) (consult file c budget b)) kept.0 asks,
+  kept.1,
+)
 
 -- without a knowledge base a consultation ends so
 pub consultation_fails : (s : Status) (file : List ℕ) (c : Choice) (budget : Option ℕ) (logs : Bool)

@@ -1,5 +1,5 @@
 -- The top call: when each status comes.
-use Rattle.std.specs.Prelude.{◌≡◌, ◌≢◌, ◌⊎◌, ◌<◌, ◌≤◌, ℕ, List, length, map, Bool, Option, Result, Ok, Err}
+use Rattle.std.specs.Prelude.{◌≡◌, ◌≢◌, ◌⊎◌, ◌<◌, ◌≤◌, ℕ, List, length, map, Bool, true, Option, Result, Ok, Err}
 use Rattle.std.specs.String.{string_bytes}
 use Rattle.std.specs.Io.KnownBytes.{Appends}
 use Rattle.std.specs.declared.string.String.{String}
@@ -15,6 +15,7 @@ use Rattle.kb_logic.specs.declared.structures.Literal.{Literal}
 use Rattle.kb_logic.specs.Bases.{Base}
 use Rattle.block_texts.specs.Texts.{block_text}
 use Rattle.base_reader.specs.FileMeanings.{Choice, Meaning, FileMeans, base_of_meaning}
+use Rattle.consultation.specs.Accepted.{LogsAccepted}
 use Rattle.consultation.specs.Answering.{HasReason, AnswersScript}
 use Rattle.consultation.specs.Streams.{IfObservable, Streams, streams, held_by, IsWithoutFault}
 use Rattle.consultation.specs.declared.stop.Stop.{Stop}
@@ -312,3 +313,19 @@ AsksOf (summarise k n) files before now = KeptNames before now
 abbrev pub AsksForFile : Words → (List ℕ → Option (List ℕ)) → Option (List (List ℕ)) → Option (List (List ℕ)) → Type 0
 AsksForFile words files before now =
     KeptNames before now ⊎ ((job : Job) × Asks (texts_of words) job × AsksOf job files before now)
+
+-- what the log grew by is accepted over the ground problem of what the file means, as far as that is observable, by the
+-- way in which the answers ended
+abbrev pub IsAcceptedBy : Status → List ℕ → Choice → (List ℕ → Option (List ℕ)) → (old new : Option (List ℕ)) → Type 0
+IsAcceptedBy s file c files old new = IfObservable (files file) (λ bytes. (m : Meaning) × FileMeans c bytes m
+    × ((ended : Result Unit Stop) × (s ≡ ended_as ended) × LogsAccepted ended (base_of_meaning m) old new))
+
+-- the log is as before, or it is kept and accepted
+abbrev pub AcceptsLog : Status → List ℕ → Choice → Bool → (List ℕ → Option (List ℕ)) → (old new : Option (List ℕ))
+    → Type 0
+AcceptsLog s file c logs files old new = (new ≡ old) ⊎ ((logs ≡ true) × IsAcceptedBy s file c files old new)
+
+-- the log is as before, or the words ask to consult about a file and to keep a log, and it is accepted
+abbrev pub LogEnds : Status → Words → (List ℕ → Option (List ℕ)) → (old new : Option (List ℕ)) → Type 0
+LogEnds s words files old new = (new ≡ old) ⊎ ((file : List ℕ) × (c : Choice) × (budget : Option ℕ)
+    × Asks (texts_of words) (consult file c budget true) × IsAcceptedBy s file c files old new)

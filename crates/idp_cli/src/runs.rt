@@ -1,15 +1,16 @@
 //! The top call: one run over the words, a shelf, the commands, the output and a log.
-ghost use Rattle.std.specs.Prelude.{◌≡◌, ◌⊎◌};
+ghost use Rattle.std.specs.Prelude.{◌≡◌, ◌⊎◌, true};
 ghost use Rattle.std.specs.Bool.{OnFalse};
 ghost use Rattle.kb_io.specs.Outside.{GrewByName, KeptNumber};
 ghost use Rattle.consult_base.specs.Opened.{base_of};
 ghost use Rattle.consult_text.specs.States.{first_state};
+ghost use Rattle.consultation.specs.Accepted.{LogsAccepted};
 ghost use Rattle.consultation.specs.Answering.{OpensAndAnswers};
 ghost use Rattle.consultation.specs.Streams.{streams};
 ghost use Rattle.idp_cli.specs.Jobs.{AskForLog};
 ghost use Rattle.idp_cli.specs.JobViews.{choice_view};
 ghost use Rattle.idp_cli.specs.Runs.{outside, texts_of, ended_as, OnFiles, RunEnds, CheckEnds, ConsultationEnds};
-ghost use Rattle.idp_cli.specs.Runs.{AsksForFile};
+ghost use Rattle.idp_cli.specs.Runs.{AcceptsLog, AsksForFile, LogEnds};
 
 use crate::generation::{make, summarise};
 use crate::jobs::{ConsultJob, Job, Options, job_of};
@@ -37,6 +38,8 @@ fn answer_commands<C: Source, W: Sink, L: Sink>(
         (L.faults log.old))
         (streams (C.left commands.new) (C.faults commands.new) (W.holds out.new) (W.faults out.new) (L.holds log.new)
         (L.faults log.new)) }
+    ensures accepted { (L.holds log.new ≡ L.holds log.old) ⊎ ((job.entry.logs ≡ true)
+        × LogsAccepted result (base_of kb) (L.holds log.old) (L.holds log.new)) }
     ensures log { OnFalse job.entry.logs (log.new ≡ log.old) }
 {
     let Ok(mut consultant) = Consultant::open(alloc, kb, job.budget, job.logs) else {
@@ -77,6 +80,8 @@ fn consult<H: Shelf, C: Source, W: Sink, L: Sink>(
         (L.faults log.new))) }
     ensures asked { GrewByName (H.asked shelf.old) (H.asked shelf.new) job.entry.file.now }
     ensures closed { KeptNumber (H.open_sources shelf.old) (H.open_sources shelf.new) }
+    ensures accepted { AcceptsLog result job.entry.file.now (choice_view job.entry.options) job.entry.logs
+        (H.file shelf.old) (L.holds log.old) (L.holds log.new) }
     ensures log { OnFalse job.entry.logs (log.new ≡ log.old) }
 {
     match open_file(alloc, job.file, job.options, shelf, out) {
@@ -124,6 +129,7 @@ pub fn run<H: Shelf, C: Source, W: Sink, L: Sink>(
     ensures asked { AsksForFile words.now (H.file shelf.old) (H.asked shelf.old) (H.asked shelf.new) }
     ensures closed { KeptNumber (H.open_sources shelf.old) (H.open_sources shelf.new) }
     ensures log { AskForLog (texts_of words.now) ⊎ (log.new ≡ log.old) }
+    ensures accepted { LogEnds result words.now (H.file shelf.old) (L.holds log.old) (L.holds log.new) }
 {
     match job_of(alloc, words) {
         Ok(Some(Job::Consult(job))) => consult(alloc, job, shelf, commands, out, log),

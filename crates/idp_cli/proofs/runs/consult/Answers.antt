@@ -1,7 +1,7 @@
 use Rattle.std.proofs.Common.{sym}
 use Rattle.base_reader.specs.Readings.{meaning_of}
 use Rattle.idp_cli.specs.JobViews.{choice_view}
-use Rattle.idp_cli.proofs.Consulting.{consultation_ends, consultation_fails}
+use Rattle.idp_cli.proofs.Consulting.{accepts_log, consultation_ends, consultation_fails}
 use Rattle.idp_cli.proofs.runs.consult.Goals as goal
 
 pub returns-in-Ok-clause-ends : goal.returns-in-Ok-clause-ends
@@ -10,6 +10,11 @@ returns-in-Ok-clause-ends g c =
     rw (c.status_of.ensures, sym c.in-Ok.ensures.silent)
     (consultation_ends c.args.job.file.now (choice_view c.args.job.options) (meaning_of c.in-Ok.kb) c.args.job.budget
     c.args.job.logs _ _ load.0 load.1 c.answer_commands.result c.answer_commands.ensures.ends)
+
+pub returns-in-Ok-clause-accepted : goal.returns-in-Ok-clause-accepted
+returns-in-Ok-clause-accepted g c =
+    rw (c.status_of.ensures) (accepts_log c.args.job.file.now (choice_view c.args.job.options) (meaning_of c.in-Ok.kb)
+    c.args.job.logs (g.H.Shelf.file c.args.shelf.now) c.answer_commands.result _ _ c.in-Ok.ensures.loaded.1 c.answer_commands.ensures.accepted)
 
 pub returns-in-Err-clause-ends : goal.returns-in-Err-clause-ends
 returns-in-Err-clause-ends g c =
