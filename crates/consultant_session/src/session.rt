@@ -115,6 +115,11 @@ impl<C: Choose + Copy + Drop> Session<C> {
         })
     }
 
+    // Whoever owns a session and ends proves how each of its parts is given up, beside all else that it does, and so at
+    // each of its ends. Here it is proved once.
+    /// Gives the session up, with its knowledge base and its solver.
+    pub fn let_go(self) {}
+
     /// What `open` took.
     pub fn kb(&self) -> &KnowledgeBase
         ensures { result.now ≡ self.now.kb }

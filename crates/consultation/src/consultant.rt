@@ -142,7 +142,6 @@ impl Consultant {
         ensures logs { IfOk result (λ c. c.logs ≡ logs) }
     {
         let mut session = Session::open(alloc, kb, budget, FirstGreatest)?;
-        // One exit behind the session's start lets it go: each proves anew how a whole session is dropped.
         match begin(alloc, &mut session, logs) {
             Ok(start) => Ok(Consultant {
                 alloc,
@@ -151,8 +150,17 @@ impl Consultant {
                 checker: start.checker,
                 number: 0,
             }),
-            Err(Memory) => Err(Memory),
+            Err(Memory) => {
+                session.let_go();
+                Err(Memory)
+            }
         }
+    }
+
+    // As of a session: proved once, and not where a consultant ends.
+    /// Gives the consultant up, with its session.
+    pub fn let_go(self) {
+        self.session.let_go();
     }
 
     /// States in the log what is said to the last line, where a log is kept, and flushes.

@@ -45,7 +45,9 @@ fn answer_commands<C: Source, W: Sink, L: Sink>(
     let Ok(mut consultant) = Consultant::open(alloc, kb, job.budget, job.logs) else {
         return Err(Stop::Memory);
     };
-    consultant.answer_all(commands, out, log)
+    let ended = consultant.answer_all(commands, out, log);
+    consultant.let_go();
+    ended
 }
 
 /// The status of a run in which the answers ended so.

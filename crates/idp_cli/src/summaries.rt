@@ -79,8 +79,9 @@ pub fn summary_of(alloc: Global, kb: KnowledgeBase) -> Result<Option<Summary>, M
         × AnswersQuestions (base_of kb) ls summary.least)) }
 {
     let mut session = Session::open(alloc, kb, None, FirstGreatest)?;
-    // There is one exit behind the session's start: each proves anew how a whole session is dropped.
-    summary_by(alloc, &mut session)
+    let found = summary_by(alloc, &mut session);
+    session.let_go();
+    found
 }
 
 /// Appends a line.
