@@ -1,17 +1,16 @@
 -- Steps in the log, behind those before them.
-use Rattle.std.proofs.Common.{◌≡◌, ℕ, ◌≤◌, List, [], ◌++◌, refl, sym, ap, ◌∙◌, subst, append_assoc, append-nil, arith}
-use Rattle.std.proofs.Common.{Option, Some, None, Result, Ok, Err}
+use Rattle.std.proofs.Common.{◌≡◌, ℕ, ◌≤◌, List, [], ◌++◌, sym, ap, ◌∙◌, subst, append_assoc, append-nil, arith}
+use Rattle.std.proofs.Common.{Option, Some, None, Ok, Err}
 use Rattle.std.specs.Bool.{OnTrue}
 use Rattle.std.specs.Prelude.{is_some}
 use Rattle.std.specs.Io.KnownBytes.{Appends}
-use Rattle.kb_io.specs.ReadWrite.{AppendsPrefix}
 use Rattle.kb_io.proofs.KnownBytes.{appends_more, appends_none}
 use Rattle.kb_logic.specs.Bases.{Base}
-use Rattle.log_checker.specs.Growing.{Checking, GoesOn, beginning}
+use Rattle.log_checker.specs.Growing.{Checking, GoesOn}
 use Rattle.log_checker.proofs.Going.{goes-nowhere, goes-on-twice, accepted-so-far}
 use Rattle.verified_claims.specs.Verdicts.{IsFresh}
 use Rattle.consultation.specs.Accepted.{IsAcceptedLog, IsLogged, LogsAccepted, IsUpTo, IsFreshFor}
-use Rattle.consultation.specs.Accepted.{GrowsBySteps, KeepsSteps, BreaksAfterSteps}
+use Rattle.consultation.specs.Accepted.{KeepsSteps, BreaksAfterSteps}
 use Rattle.consultation.specs.declared.stop.Stop.{Stop}
 use Rattle.consultation.specs.declared.stop.Stop.TheVariants as stop
 
@@ -59,7 +58,8 @@ logged-more stop.LogFault old mid new xs ys first second = (
 logged-more stop.Memory old mid new xs ys first second = appends_more old mid new xs ys first second
 logged-more stop.ScriptTooLong old mid new xs ys first second = appends_more old mid new xs ys first second
 
-pub logged-whole : (s : Stop) (old new : Option (List ℕ)) (bytes : List ℕ) → Appends old new bytes → IsLogged s old new bytes
+pub logged-whole : (s : Stop) (old new : Option (List ℕ)) (bytes : List ℕ) → Appends old new bytes
+    → IsLogged s old new bytes
 logged-whole stop.ReadFault old new bytes grew = grew
 logged-whole stop.WriteFault old new bytes grew = grew
 logged-whole stop.LogFault old new bytes grew = (bytes, [], sym (append-nil bytes), grew)

@@ -1,7 +1,6 @@
 -- A statement without what a search states and claims.
-use Rattle.std.proofs.Common.{◌≡◌, ℕ, List, [], ◌++◌, refl, sym, ◌∙◌, ap, append-nil, inl, flat_map}
+use Rattle.std.proofs.Common.{◌≡◌, ℕ, List, [], ◌++◌, refl, sym, append-nil, inl}
 use Rattle.kb_logic.specs.Bases.{Base}
-use Rattle.kb_logic.specs.declared.structures.Literal.{Literal}
 use Rattle.lit_core.specs.declared.literals.Lit.{Lit}
 use Rattle.consult_text.specs.States.{State}
 use Rattle.consult_text.specs.declared.commands.Command.{Command}
@@ -13,7 +12,7 @@ use Rattle.derivation_log.specs.declared.entries.Entry.TheVariants.{Mark}
 use Rattle.search_log.specs.Entries.{IsOfSearch}
 use Rattle.std.proofs.lemmas.List.Elements.{All-nil}
 use Rattle.term_values.specs.GroundBases.{GroundBase}
-use Rattle.claimed_replies.specs.Claims.{ClaimsOf, AreClaims}
+use Rattle.claimed_replies.specs.Claims.{ClaimsOf}
 use Rattle.consultation.specs.Statements.{IsStatement}
 use Rattle.consultation.specs.declared.said.Said.TheVariants as said
 

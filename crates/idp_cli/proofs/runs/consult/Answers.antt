@@ -14,7 +14,8 @@ returns-in-Ok-clause-ends g c =
 pub returns-in-Ok-clause-accepted : goal.returns-in-Ok-clause-accepted
 returns-in-Ok-clause-accepted g c =
     rw (c.status_of.ensures) (accepts_log c.args.job.file.now (choice_view c.args.job.options) (meaning_of c.in-Ok.kb)
-    c.args.job.logs (g.H.Shelf.file c.args.shelf.now) c.answer_commands.result _ _ c.in-Ok.ensures.loaded.1 c.answer_commands.ensures.accepted)
+    c.args.job.logs (g.H.Shelf.file c.args.shelf.now) c.answer_commands.result _ _ c.in-Ok.ensures.loaded.1
+    c.answer_commands.ensures.accepted)
 
 pub returns-in-Err-clause-ends : goal.returns-in-Err-clause-ends
 returns-in-Err-clause-ends g c =

@@ -16,7 +16,8 @@ returns-in_err-answer_next-clause-ends g c =
 pub returns-in_err-answer_next-clause-accepted : goal.returns-in_err-answer_next-clause-accepted
 returns-in_err-answer_next-clause-accepted g c =
     let p = err_from_is_err_and c.from_residual.result c.from_residual.ensures.1 in
-    rw (p.1, p.2, c.requires.checks) (accepted-early (base_of c.args.self.now.kb) c.in_err-answer_next.field-0.0 _ _ _ c.requires.fresh
+    rw (p.1, p.2, c.requires.checks)
+    (accepted-early (base_of c.args.self.now.kb) c.in_err-answer_next.field-0.0 _ _ _ c.requires.fresh
     (breaks-later _ _ _ _ _ _ _ c.loop.invariant.steps c.in_err-answer_next.ensures.breaks))
 
 pub loop-smaller : goal.loop-smaller
