@@ -22,11 +22,12 @@ pub struct CoreIndex {
     pub negative: Vec<usize>,
     /// For each core the newest one before it with the same last literal, counted from 1, or 0.
     pub older: Vec<usize>,
-    /// For each core the number of its negation in the log, or 0.
+    /// For each core the number in the log of the clause that says it, or 0. The clause has negations of the core's
+    /// literals and, where a bound was assumed, of wider bounds' selectors.
     pub numbers: Vec<u64>,
     /// Whether one of the cores has no literals.
     pub refuted: bool,
-    /// The number of that one's negation.
+    /// The number of that one's clause.
     pub refuted_number: u64,
 }
 
@@ -151,7 +152,7 @@ impl CoreIndex {
         }
     }
 
-    /// The number in the log of a kept core's negation, if the literals contain such a core.
+    /// The number in the log of a kept core's clause, if the literals contain such a core.
     pub fn number_within(&self, alloc: Global, lits: &[Lit]) -> Result<Option<u64>, Memory>
         requires indexed { IsIndexed self.now }
         ensures { IfOk result (λ found. MatchOption found (HasCoreWithin self.now.cores.items lits.now → ⊥)
@@ -226,7 +227,7 @@ impl CoreIndex {
         Ok(())
     }
 
-    /// Keeps one more core, whose negation has this number in the log.
+    /// Keeps one more core, whose clause has this number in the log.
     pub fn keep(&mut self, alloc: Global, core: &[Lit], number: u64) -> Result<(), Memory>
         requires indexed { IsIndexed self.old }
         ensures indexed { IsIndexed self.new }

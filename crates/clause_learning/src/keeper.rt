@@ -157,34 +157,6 @@ impl Keeper {
         }
     }
 
-    /// Searches within the budget. Where a log is kept nothing more is assumed: the claim of a least value cites the
-    /// selector of its own bound, and of no wider one.
-    fn search_assumed<C: Choose>(
-        &mut self,
-        rule: &C,
-        assume: &[Lit],
-        budget: &mut Budget,
-    ) -> Result<Verdict, Halt>
-        requires keeper { IsKeeper self.old }
-        requires literals { AreLitsOf self.old.engine.problem.vars assume.now }
-        requires budget { IsBudgetOf self.old.engine.learnt budget.old }
-        ensures keeper { IsKeeper self.new }
-        ensures index { self.new.index ≡ self.old.index }
-        ensures additions { self.new.additions ≡ self.old.additions }
-        ensures verdict { IfOk result (Answers self.old.engine.problem assume.now) }
-        ensures halt { IfErr result (HaltedAt budget.new) }
-        ensures problem { self.new.engine.problem ≡ self.old.engine.problem }
-        ensures searches { self.new.engine.searches ≡ counted (self.old.engine.searches + 1) }
-        ensures spends { Spends (kept_of self.old) (kept_of self.new) budget.old budget.new }
-        ensures counted { length self.new.engine.learnt ≤ length self.old.engine.learnt + self.new.engine.conflicts }
-        ensures fewer { self.new.engine.conflicts < 2 ^ (kept_of self.old).free }
-    {
-        if self.engine.log.is_kept() {
-            return self.search(rule, assume, budget);
-        }
-        self.search_widened(rule, assume, budget)
-    }
-
     /// Keeps the core of an answer.
     fn keep(&mut self, verdict: Verdict) -> Result<Verdict, Halt>
         requires keeper { IsKeeper self.old }
@@ -232,7 +204,7 @@ impl Keeper {
         ensures fewer { self.new.engine.conflicts < 2 ^ (kept_of self.old).free }
     {
         match self.index.contained(self.alloc, assume) {
-            Ok(None) => match self.search_assumed(rule, assume, budget) {
+            Ok(None) => match self.search_widened(rule, assume, budget) {
                 Ok(verdict) => self.keep(verdict),
                 Err(halt) => Err(halt),
             },

@@ -154,7 +154,8 @@ impl<C: Choose + Drop> Solver<C> {
     }
 
     /// The number of the clause in the log that says why nothing makes the literals true, where the literals contain a
-    /// kept core: that core's negation. It is 0 where the core has a literal with its negation.
+    /// kept core. It has negations of the core's literals and, where a bound was assumed, of wider bounds' selectors.
+    /// The number is 0 where the core has a literal with its negation.
     pub fn clause_of(&self, lits: &[Lit]) -> Result<Option<u64>, Memory>
         ensures { IfOk result (λ found. MatchOption found (HasCoreWithin self.now.kept.cores lits.now → ⊥)
             (λ number. HasCoreWithin self.now.kept.cores lits.now)) }

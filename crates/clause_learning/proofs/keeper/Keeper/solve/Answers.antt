@@ -7,9 +7,9 @@ use Rattle.clause_learning.proofs.keeper.Keeper.solve.Goals as goal
 pub keep-requires-clause-new : goal.keep-requires-clause-new
 keep-requires-clause-new g c =
     let none = rw c.in-Ok-None.field-0-is at c.in-Ok-None.ensures in
-    new-refusal c.args.self.now c.search_assumed.new.self c.args.assume.now c.in-Ok.verdict
-    c.search_assumed.ensures.index
-    c.search_assumed.ensures.problem c.in-Ok.ensures.verdict none
+    new-refusal c.args.self.now c.search_widened.new.self c.args.assume.now c.in-Ok.verdict
+    c.search_widened.ensures.index
+    c.search_widened.ensures.problem c.in-Ok.ensures.verdict none
 
 pub returns-in-Ok-Some-clause-verdict : goal.returns-in-Ok-Some-clause-verdict
 returns-in-Ok-Some-clause-verdict g c =

@@ -1,0 +1,3 @@
+pub mod LastBounds
+pub mod Readings
+pub mod SelectorSets
