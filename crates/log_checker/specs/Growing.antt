@@ -35,3 +35,7 @@ pub record GoesOn (old : Checking) (bytes : List ℕ) (new : Checking) : Type 0 
 abbrev pub Answers : Checking → ℕ → List ℕ → Checking → Bool → Type 0
 Answers old line bytes new true = GoesOn old bytes new × (new.state.line ≡ line)
 Answers old line bytes new false = (new ≡ old) × ((c : Checking) → GoesOn old bytes c → c.state.line ≡ line → ⊥)
+
+-- the state is what entries leave behind the other, each a step after those before it
+abbrev pub Reaches : ProblemState → CheckState → CheckState → Type 0
+Reaches p old new = (entries : List Entry) × Accepts p old entries × (after_all old entries ≡ new)

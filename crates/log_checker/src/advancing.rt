@@ -1,5 +1,5 @@
 //! What a step leaves.
-ghost use Rattle.std.specs.Prelude.{◌≡◌, IfOk, OnOk, [], ◌∷◌, ◌++◌, flat_map};
+ghost use Rattle.std.specs.Prelude.{◌≡◌, IfOk, OnOk, OnErr, [], ◌∷◌, ◌++◌, flat_map};
 ghost use Rattle.ground_core.specs.GateClauses.{gate_clauses, clauses_of};
 ghost use Rattle.lit_core.specs.Literals.{negated};
 ghost use Rattle.derivation_log.specs.declared.entries.Entry.TheVariants.{Bound, Exclude};
@@ -58,7 +58,8 @@ fn selected(alloc: Global, s: Var, lits: &[Lit]) -> Result<Clause, Memory>
 /// After a bound, whose selector is the next variable.
 fn push_bound(st: &mut Checked, s: Var, t: u32, below: ExtInt) -> Result<(), Memory>
     requires { IsNext (state_view st.old) (Bound s t below) }
-    ensures { OnOk result (state_view st.new ≡ after (state_view st.old) (Bound s t below)) }
+    ensures ok { OnOk result (state_view st.new ≡ after (state_view st.old) (Bound s t below)) }
+    ensures err { OnErr result (state_view st.new ≡ state_view st.old) }
 {
     let out = Lit {
         var: s,
@@ -76,7 +77,8 @@ fn push_bound(st: &mut Checked, s: Var, t: u32, below: ExtInt) -> Result<(), Mem
 /// After an exclusion, whose selector is the next variable.
 fn push_exclusion(alloc: Global, st: &mut Checked, s: Var, lits: &[Lit]) -> Result<(), Memory>
     requires { IsNext (state_view st.old) (Exclude s lits.now) }
-    ensures { OnOk result (state_view st.new ≡ after (state_view st.old) (Exclude s lits.now)) }
+    ensures ok { OnOk result (state_view st.new ≡ after (state_view st.old) (Exclude s lits.now)) }
+    ensures err { OnErr result (state_view st.new ≡ state_view st.old) }
 {
     let clause = selected(alloc, s, lits)?;
     st.clauses.push(clause.as_slice())?;
@@ -86,7 +88,8 @@ fn push_exclusion(alloc: Global, st: &mut Checked, s: Var, lits: &[Lit]) -> Resu
 
 /// With one claim more.
 fn push_claim(claims: &mut Vec<Claim>, claim: Claim) -> Result<(), Memory>
-    ensures { OnOk result (claims.new.items ≡ claims.old.items ++ claim ∷ []) }
+    ensures ok { OnOk result (claims.new.items ≡ claims.old.items ++ claim ∷ []) }
+    ensures err { OnErr result (claims.new.items ≡ claims.old.items) }
 {
     claims.push(claim)?;
     Ok(())
@@ -95,7 +98,8 @@ fn push_claim(claims: &mut Vec<Claim>, claim: Claim) -> Result<(), Memory>
 /// After one entry more.
 pub fn advance(alloc: Global, st: &mut Checked, e: Entry) -> Result<(), Memory>
     requires { IsNext (state_view st.old) e }
-    ensures { OnOk result (state_view st.new ≡ after (state_view st.old) e) }
+    ensures ok { OnOk result (state_view st.new ≡ after (state_view st.old) e) }
+    ensures err { OnErr result (state_view st.new ≡ state_view st.old) }
 {
     match e {
         Entry::Mark(n) => {

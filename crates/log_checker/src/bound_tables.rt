@@ -1,5 +1,5 @@
 //! The bounds of a log, found by their selectors.
-ghost use Rattle.std.specs.Prelude.{◌≡◌, [], ◌∷◌, ◌++◌, take, OnOk, MatchOption, IsTrue};
+ghost use Rattle.std.specs.Prelude.{◌≡◌, [], ◌∷◌, ◌++◌, take, OnOk, OnErr, MatchOption, IsTrue};
 ghost use Rattle.ground_core.specs.declared.parts.TermBound.{TermBound};
 ghost use Rattle.log_checker.specs.BoundOrder.{IsFound, IsNotFound, IsAfter, Ascend};
 
@@ -79,7 +79,8 @@ impl BoundTable {
     /// Adds a bound, whose selector comes after the others: each is a new variable. One that does not is refused as
     /// out of memory.
     pub fn push(&mut self, b: TermBound) -> Result<(), Memory>
-        ensures { OnOk result (self.new ≡ self.old ++ b ∷ []) }
+        ensures ok { OnOk result (self.new ≡ self.old ++ b ∷ []) }
+        ensures err { OnErr result (self.new ≡ self.old) }
     {
         if !is_after(self.list.as_slice(), b) {
             return Err(Memory);

@@ -1,14 +1,16 @@
 //! A log that is checked as it grows.
-ghost use Rattle.std.specs.Prelude.{◌≡◌, ◌≤◌, ◌<◌, ◌↔◌, length, IfOk, IsTrue};
+ghost use Rattle.std.specs.Prelude.{◌≡◌, ◌≤◌, ◌<◌, ◌↔◌, length, IfOk, OnOk, IsTrue};
 ghost use Rattle.derivation_log.specs.declared.entries.Entry.TheVariants.{Mark};
 ghost use Rattle.derivation_log.specs.Lines.{entry_text};
+ghost use Rattle.derivation_log.specs.Steps.{LogStep, after};
 ghost use Rattle.log_checker.specs.States.{state_view};
-ghost use Rattle.log_checker.specs.Growing.{beginning, known, GoesOn, Answers};
+ghost use Rattle.log_checker.specs.Growing.{beginning, known, GoesOn, Answers, Reaches};
 
-use crate::advancing::started;
+use crate::advancing::{advance, started};
 use crate::checked::Checked;
 use crate::checking::go_through;
 use crate::undoing::{cut_back, ends_of};
+use derivation_log::Entry;
 use ground_core::{Memory, Problem};
 use std::alloc::Global;
 use std::marker::Model;
@@ -17,8 +19,8 @@ use std::marker::Model;
 #[derive(Drop)]
 pub struct Checker {
     alloc: Global,
-    problem: Problem,
-    st: Checked,
+    pub(crate) problem: Problem,
+    pub(crate) st: Checked,
 }
 
 impl Model for Checker {
@@ -26,9 +28,11 @@ impl Model for Checker {
 
     ghost Value = { Checking };
 
-    ghost use Rattle.log_checker.specs.CheckerFields.{checking_of};
+    ghost use Rattle.log_checker.specs.CheckerFields.{checking_of, keeps};
 
     ghost view = { checking_of };
+
+    ghost invariant = { keeps };
 }
 
 /// Whether all of it was gone through, and the last mark is this line's.
@@ -46,8 +50,9 @@ fn follow(
     line: u64,
     statement: &[u8],
 ) -> Result<bool, Memory>
-    ensures { IfOk result (Answers (known p.now (state_view st.old)) line statement.now (known p.now
+    ensures answers { IfOk result (Answers (known p.now (state_view st.old)) line statement.now (known p.now
         (state_view st.new))) }
+    ensures reaches { Reaches p.now (state_view st.old) (state_view st.new) }
 {
     let ends = ends_of(st);
     let reached = go_through(alloc, p, st, statement)?;
@@ -83,5 +88,14 @@ impl Checker {
         ensures problem { self.new.problem ≡ self.old.problem }
     {
         follow(self.alloc, &self.problem, &mut self.st, line, statement)
+    }
+
+    /// Goes on by an entry that is a step.
+    pub fn add(&mut self, entry: Entry) -> Result<(), Memory>
+        requires step { LogStep self.old.problem self.old.state entry }
+        ensures adds { OnOk result (self.new ≡ known self.old.problem (after self.old.state entry)) }
+        ensures problem { self.new.problem ≡ self.old.problem }
+    {
+        advance(self.alloc, &mut self.st, entry)
     }
 }

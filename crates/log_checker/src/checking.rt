@@ -1,10 +1,11 @@
 //! A log, entry by entry.
-ghost use Rattle.std.specs.Prelude.{◌≡◌, ◌<◌, ◌≤◌, length, List, [], ◌∷◌, All, IfOk, IfErr, OnOk, MatchOption, drop};
-ghost use Rattle.std.specs.Prelude.{Some, None};
+ghost use Rattle.std.specs.Prelude.{◌≡◌, ◌<◌, ◌≤◌, length, List, [], ◌∷◌, All, IfOk, IfErr, OnOk, OnErr};
+ghost use Rattle.std.specs.Prelude.{MatchOption, drop, Some, None};
 ghost use Rattle.derivation_log.specs.Checks.{IsAccepted, NoStepHere};
 ghost use Rattle.derivation_log.specs.Claims.{ClaimHolds};
 ghost use Rattle.log_checker.specs.Sets.{OnlyIn};
 ghost use Rattle.log_checker.specs.States.{state_view};
+ghost use Rattle.log_checker.specs.Growing.{Reaches};
 ghost use Rattle.log_checker.specs.Verdicts.{Takes, ComesTo, RefusedFor};
 
 use crate::advancing::{advance, started};
@@ -38,6 +39,7 @@ fn take(
         × (state_view st.new ≡ state_view st.old)) (λ next. Takes p.now (state_view st.old) log.now at next
         (state_view st.new))) }
     ensures clean { OnOk result (OnlyIn set.new []) }
+    ensures err { OnErr result (state_view st.new ≡ state_view st.old) }
 {
     let (e, next) = match read_entry(alloc, log, at) {
         Ok(found) => found,
@@ -66,7 +68,8 @@ pub fn go_through(
     st: &mut Checked,
     log: &[u8],
 ) -> Result<Reached, Memory>
-    ensures { IfOk result (λ r. ComesTo p.now (state_view st.old) log.now r.at (state_view st.new) r.number) }
+    ensures comes { IfOk result (λ r. ComesTo p.now (state_view st.old) log.now r.at (state_view st.new) r.number) }
+    ensures reaches { Reaches p.now (state_view st.old) (state_view st.new) }
 {
     let mut set = LiteralSet::new(alloc);
     let mut at = 0;

@@ -20,7 +20,7 @@ pub enum Seen {
 }
 
 /// The clause under the literals in force.
-fn look(set: &LiteralSet, clause: &[PackedLit]) -> Seen
+pub fn look(set: &LiteralSet, clause: &[PackedLit]) -> Seen
     ensures { (inforce : List Lit) → IsMarked set.now inforce → IsSeen inforce clause.now result }
 {
     let mut open: Option<Lit> = None;
