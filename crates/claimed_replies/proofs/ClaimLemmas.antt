@@ -1,47 +1,44 @@
 -- Claims that belong to replies.
 use Rattle.std.proofs.Common.{◌≡◌, ◌∙◌, ℕ, ◌+◌, ◌<◌, ◌≤◌, List, [], ◌∷◌, ◌++◌, take, get_or, refl, sym, ap, subst}
-use Rattle.std.proofs.Common.{inl, inr, length, append-nil, take_all, flat_map, ⊎_elim, Option, Some, None}
+use Rattle.std.proofs.Common.{length, append-nil, take_all, flat_map, Option, Some, None}
 use Rattle.std.specs.Option.{IfSome}
-use Rattle.std.specs.Prelude.{MatchOption}
 use Rattle.std.proofs.lemmas.Grind.{flat_map-append}
 use Rattle.std.proofs.lemmas.List.{take_more}
+use Rattle.kb_logic.specs.declared.elements.ExtInt.{ExtInt}
+use Rattle.kb_logic.specs.declared.elements.ExtInt.TheVariants.{NegInf, Num, PosInf}
 use Rattle.kb_logic.specs.declared.structures.Literal.{Literal}
-use Rattle.kb_logic.specs.Lists.{IsSublist}
 use Rattle.kb_logic.specs.Structures.{EachWith}
 use Rattle.lit_core.specs.declared.literals.Lit.{Lit}
 use Rattle.derivation_log.specs.Lines.{entry_text}
 use Rattle.derivation_log.specs.declared.entries.Entry.{Entry}
 use Rattle.term_values.specs.GroundBases.{GroundBase}
-use Rattle.consult_text.specs.declared.commands.Command.{Command}
-use Rattle.consult_text.specs.declared.commands.Command.TheVariants as command
-use Rattle.consult_text.specs.declared.replies.Reply.{Reply}
-use Rattle.consult_text.specs.declared.replies.Reply.TheVariants as reply
-use Rattle.claimed_replies.specs.Claims.{SaysInconsistent, SaysForced, SaysLeast, IsOneClaim, AreForcedClaims, ClaimsOf}
-use Rattle.claimed_replies.specs.Claims.{AreClaims}
+use Rattle.claimed_replies.specs.Claims.{SaysForced, SaysLeast, IsTheClaim, AreLeastClaims}
 
--- the text of what was found is that of one claim at most
-pub one_claim : (Says : Entry → Type 0) (found : Option Entry) (old new : List ℕ) → old ≡ [] → IfSome found Says
-    → MatchOption found (new ≡ old) (λ e. new ≡ old ++ entry_text e)
-    → (es : List Entry) × IsOneClaim Says es × (new ≡ flat_map entry_text es)
-one_claim Says None old new none says pushed = ([], inl refl, pushed ∙ none)
-one_claim Says (Some e) old new none says pushed = (
-  e ∷ [],
-  inr (e, says, refl),
-  pushed ∙ ap (λ (l : List ℕ). l ++ entry_text e) none ∙ sym (append-nil (entry_text e)),
+-- the text of what was found is that of one claim
+pub the_claim : {T : Type 0} (items : T → List ℕ) (Says : Entry → Type 0) (found : Option Entry) (text : Option T)
+    → IfSome found Says → IfSome text (λ t. (e : Entry) × (found ≡ Some e) × (items t ≡ entry_text e))
+    → IfSome text (λ t. (es : List Entry) × IsTheClaim Says es × (items t ≡ flat_map entry_text es))
+the_claim items Says found None says is = tt
+the_claim items Says None (Some t) says is = absurd (let none : None ≡ Some is.0 = is.1 in let no : ⊥ = cc in no)
+the_claim items Says (Some e) (Some t) says is = (
+  is.0 ∷ [],
+  (is.0, subst (λ (o : Option Entry). IfSome o Says) is.1 says, refl),
+  is.2 ∙ sym (append-nil (entry_text is.0)),
 )
 
-sublist_push : {A : Type 0} (xs ys : List A) (y : A) → IsSublist xs ys → IsSublist (xs ++ y ∷ []) (ys ++ y ∷ [])
-sublist_push [] [] y s = inl (refl, tt)
-sublist_push [] (z ∷ ys) y s = inr (sublist_push [] ys y tt)
-sublist_push (x ∷ xs) [] y s = absurd s
-sublist_push (x ∷ xs) (z ∷ ys) y s =
-    ⊎_elim (λ a. inl (a.0, sublist_push xs ys y a.1)) (λ b. inr (sublist_push (x ∷ xs) ys y b)) s
+-- of a value that is not the lowest
+least_claims : (lits : List Lit) (t : ℕ) (v : ExtInt) (es : List Entry) → (v ≡ NegInf → ⊥)
+    → IsTheClaim (SaysLeast lits t v) es → AreLeastClaims lits t v es
+least_claims lits t NegInf es above claim = absurd (above refl)
+least_claims lits t (Num n) es above claim = claim
+least_claims lits t PosInf es above claim = claim
 
-sublist_more : {A : Type 0} (xs ys : List A) (y : A) → IsSublist xs ys → IsSublist xs (ys ++ y ∷ [])
-sublist_more [] ys y s = tt
-sublist_more (x ∷ xs) [] y s = absurd s
-sublist_more (x ∷ xs) (z ∷ ys) y s =
-    ⊎_elim (λ a. inl (a.0, sublist_more xs ys y a.1)) (λ b. inr (sublist_more (x ∷ xs) ys y b)) s
+pub the_least : {T : Type 0} (items : T → List ℕ) (lits : List Lit) (t : ℕ) (v : ExtInt) (text : Option T)
+    → (v ≡ NegInf → ⊥)
+    → IfSome text (λ x. (es : List Entry) × IsTheClaim (SaysLeast lits t v) es × (items x ≡ flat_map entry_text es))
+    → IfSome text (λ x. (es : List Entry) × AreLeastClaims lits t v es × (items x ≡ flat_map entry_text es))
+the_least items lits t v None above is = tt
+the_least items lits t v (Some x) above is = (is.0, least_claims lits t v is.0 above is.1, is.2)
 
 each_push : {A B : Type 0} (R : A → B → Type 0) (xs : List A) (ys : List B) (x : A) (y : B) → EachWith R xs ys → R x y
     → EachWith R (xs ++ x ∷ []) (ys ++ y ∷ [])
@@ -50,42 +47,47 @@ each_push R [] (w ∷ ys) x y all here = absurd all
 each_push R (v ∷ xs) [] x y all here = absurd all
 each_push R (v ∷ xs) (w ∷ ys) x y all here = (all.0, each_push R xs ys x y all.1 here)
 
--- the bytes are the texts of claims of some of these literals
+-- the bytes are the texts of the claims of these literals
 abbrev pub AreForcedTexts : GroundBase → List Lit → List Literal → List ℕ → Type 0
-AreForcedTexts b lits ls bytes = (es : List Entry) × AreForcedClaims b lits ls es × (bytes ≡ flat_map entry_text es)
+AreForcedTexts b lits ls bytes = (es : List Entry) × EachWith (SaysForced b lits) ls es
+    × (bytes ≡ flat_map entry_text es)
 
 pub none_forced : (b : GroundBase) (lits : List Lit) → AreForcedTexts b lits [] []
-none_forced b lits = ([], ([], tt, tt), refl)
+none_forced b lits = ([], tt, refl)
 
--- one literal more, with a claim or without
-pub one_more : (b : GroundBase) (lits : List Lit) (ls : List Literal) (l : Literal) (found : Option Entry)
-    (old new : List ℕ) → AreForcedTexts b lits ls old → IfSome found (SaysForced b lits l)
-    → MatchOption found (new ≡ old) (λ e. new ≡ old ++ entry_text e) → AreForcedTexts b lits (ls ++ l ∷ []) new
-one_more b lits ls l None old new so_far says pushed =
-    let claims = so_far.1 in
-    (so_far.0, (claims.0, sublist_more claims.0 ls l claims.1, claims.2), pushed ∙ so_far.2)
-one_more b lits ls l (Some e) old new so_far says pushed =
-    let claims = so_far.1 in (
-      so_far.0 ++ e ∷ [],
-      (
-        claims.0 ++ l ∷ [],
-        sublist_push claims.0 ls l claims.1,
-        each_push (SaysForced b lits) claims.0 so_far.0 l e claims.2 says,
-      ),
-      pushed ∙ ap (λ (t : List ℕ). t ++ entry_text e) so_far.2
-          ∙ ap (λ (t : List ℕ). flat_map entry_text so_far.0 ++ t) (sym (append-nil (entry_text e)))
-          ∙ sym (flat_map-append entry_text so_far.0 (e ∷ [])),
-    )
+-- one literal more
+pub one_more : (b : GroundBase) (lits : List Lit) (ls : List Literal) (l : Literal) (e : Entry) (old new : List ℕ)
+    → AreForcedTexts b lits ls old → SaysForced b lits l e → new ≡ old ++ entry_text e
+    → AreForcedTexts b lits (ls ++ l ∷ []) new
+one_more b lits ls l e old new so_far says pushed = (
+  so_far.0 ++ e ∷ [],
+  each_push (SaysForced b lits) ls so_far.0 l e so_far.1 says,
+  pushed ∙ ap (λ (t : List ℕ). t ++ entry_text e) so_far.2
+      ∙ ap (λ (t : List ℕ). flat_map entry_text so_far.0 ++ t) (sym (append-nil (entry_text e)))
+      ∙ sym (flat_map-append entry_text so_far.0 (e ∷ [])),
+)
 
 -- the next of the literals
-pub next_forced : (b : GroundBase) (lits : List Lit) (ls : List Literal) (i : ℕ) (l : Literal) (found : Option Entry)
+pub next_forced : (b : GroundBase) (lits : List Lit) (ls : List Literal) (i : ℕ) (l : Literal) (e : Entry)
     (old new : List ℕ) → i < length ls → l ≡ get_or ls i l → AreForcedTexts b lits (take i ls) old
-    → IfSome found (SaysForced b lits l)
-    → MatchOption found (new ≡ old) (λ e. new ≡ old ++ entry_text e) → AreForcedTexts b lits (take (i + 1) ls) new
-next_forced b lits ls i l found old new within is so_far says pushed =
+    → SaysForced b lits l e → new ≡ old ++ entry_text e → AreForcedTexts b lits (take (i + 1) ls) new
+next_forced b lits ls i l e old new within is so_far says pushed =
     subst (λ (some : List Literal). AreForcedTexts b lits some new)
     (sym (take_more ls i l within ∙ ap (λ (x : Literal). take i ls ++ x ∷ []) (sym is)))
-    (one_more b lits (take i ls) l found old new so_far says pushed)
+    (one_more b lits (take i ls) l e old new so_far says pushed)
+
+-- the same, of what was found
+pub next_found : (b : GroundBase) (lits now : List Lit) (ls : List Literal) (i : ℕ) (l : Literal) (found : Option Entry)
+    (old new : List ℕ) → now ≡ lits → i < length ls → l ≡ get_or ls i l → AreForcedTexts b lits (take i ls) old
+    → IfSome found (SaysForced b now l) → (text : List ℕ) → (e : Entry) × (found ≡ Some e) × (text ≡ entry_text e)
+    → new ≡ old ++ text → AreForcedTexts b lits (take (i + 1) ls) new
+next_found b lits now ls i l None old new same within is so_far says text told pushed =
+    absurd (let none : None ≡ Some told.0 = told.1 in let no : ⊥ = cc in no)
+next_found b lits now ls i l (Some e) old new same within is so_far says text told pushed =
+    next_forced b lits ls i l told.0 old new within is so_far
+    (subst (λ (some : List Lit). SaysForced b some l told.0) same
+    (subst (λ (o : Option Entry). IfSome o (SaysForced b now l)) told.1 says))
+    (pushed ∙ ap (λ (t : List ℕ). old ++ t) told.2)
 
 -- all of them
 pub all_forced : (b : GroundBase) (lits : List Lit) (ls : List Literal) (i : ℕ) (bytes : List ℕ) → length ls ≤ i

@@ -1,8 +1,8 @@
 -- The claims that belong to a reply.
-use Rattle.std.specs.Prelude.{◌≡◌, ◌⊎◌, ◌+◌, ℕ, List, [], ◌∷◌, flat_map, ⊤}
+use Rattle.std.specs.Prelude.{◌≡◌, ◌+◌, ℕ, List, [], ◌∷◌, flat_map, ⊤}
 use Rattle.kb_logic.specs.declared.structures.Literal.{Literal}
 use Rattle.kb_logic.specs.declared.elements.ExtInt.{ExtInt}
-use Rattle.kb_logic.specs.Lists.{IsSublist}
+use Rattle.kb_logic.specs.declared.elements.ExtInt.TheVariants.{NegInf, Num, PosInf}
 use Rattle.kb_logic.specs.Structures.{EachWith}
 use Rattle.lit_core.specs.declared.literals.Lit.{Lit}
 use Rattle.derivation_log.specs.Lines.{entry_text}
@@ -28,22 +28,25 @@ SaysForced b lits l e = (lit : Lit) × (clause : ℕ) × HasNumber b l lit × (e
 abbrev pub SaysLeast : List Lit → ℕ → ExtInt → Entry → Type 0
 SaysLeast lits term value e = (clause : ℕ) × (e ≡ entry.Least (term + 1) value lits clause)
 
--- at most one entry, which says this
-abbrev pub IsOneClaim : (Entry → Type 0) → List Entry → Type 0
-IsOneClaim Says es = (es ≡ []) ⊎ ((e : Entry) × Says e × (es ≡ e ∷ []))
+-- one entry, which says this
+abbrev pub IsTheClaim : (Entry → Type 0) → List Entry → Type 0
+IsTheClaim Says es = (e : Entry) × Says e × (es ≡ e ∷ [])
 
--- one entry for each of some of the literals, in their order
-abbrev pub AreForcedClaims : GroundBase → List Lit → List Literal → List Entry → Type 0
-AreForcedClaims b lits ls es = (some : List Literal) × IsSublist some ls × EachWith (SaysForced b lits) some es
+-- the claim of a least value: none where it is `-inf`, below which there is none
+abbrev pub AreLeastClaims : List Lit → ℕ → ExtInt → List Entry → Type 0
+AreLeastClaims lits term NegInf es = es ≡ []
+AreLeastClaims lits term (Num n) es = IsTheClaim (SaysLeast lits term (Num n)) es
+AreLeastClaims lits term PosInf es = IsTheClaim (SaysLeast lits term PosInf) es
 
--- the claims that belong to the reply to a command, of choices with these literals
+-- the claims that belong to the reply to a command, of choices with these literals: just one of `inconsistent`, one of
+-- each literal that is shown, in their order, and one of a least value
 abbrev pub ClaimsOf : GroundBase → List Lit → Command → Reply → List Entry → Type 0
-ClaimsOf b lits c reply.Inconsistent es = IsOneClaim (SaysInconsistent lits) es
-ClaimsOf b lits c (reply.Forced ls) es = AreForcedClaims b lits ls es
-ClaimsOf b lits (command.Minimize t) (reply.Minimum v m) es = IsOneClaim (SaysLeast lits t v) es
+ClaimsOf b lits c reply.Inconsistent es = IsTheClaim (SaysInconsistent lits) es
+ClaimsOf b lits c (reply.Forced ls) es = EachWith (SaysForced b lits) ls es
+ClaimsOf b lits (command.Minimize t) (reply.Minimum v m) es = AreLeastClaims lits t v es
 ClaimsOf b lits _ _ es = es ≡ []
 
--- the bytes are the texts of claims that belong to the reply to a command under these choices
+-- the bytes are the texts of the claims that belong to the reply to a command under these choices
 pub record AreClaims (b : GroundBase) (choices : List Literal) (c : Command) (r : Reply) (bytes : List ℕ) : Type 0 where
   pub lits : List Lit
   pub each : EachWith (HasNumber b) choices lits

@@ -1,8 +1,9 @@
 //! One claim, where a clause shows it.
-ghost use Rattle.std.specs.Prelude.{◌≡◌, ◌++◌, [], IfOk, OnOk, MatchOption};
+ghost use Rattle.std.specs.Prelude.{◌≡◌, Some, IfOk, OnOk};
 ghost use Rattle.std.specs.Option.{IfSome};
 ghost use Rattle.kb_logic.specs.Models.{IsAtomOver, atom_of};
 ghost use Rattle.derivation_log.specs.Lines.{entry_text};
+ghost use Rattle.derivation_log.specs.declared.entries.Entry.{Entry as AnEntry};
 ghost use Rattle.claimed_replies.specs.Claims.{SaysForced, SaysInconsistent, SaysLeast};
 
 use chooser::Choose;
@@ -21,14 +22,19 @@ fn list_of(alloc: Global, lits: &[Lit]) -> Result<LitList, Memory>
     Ok(ListOf::from_vec(lits.to_vec(alloc)?))
 }
 
-/// Appends the text of the entry, if there is one.
-pub fn push_found(out: &mut Vec<u8>, found: &Option<Entry>) -> Result<(), Memory>
-    ensures { OnOk result (MatchOption found.now (out.new.items ≡ out.old.items)
-        (λ e. out.new.items ≡ out.old.items ++ entry_text e)) }
+// An entry has lists of its own, so that each way out of whoever holds one gives them up: here it has one.
+/// The text of the entry, if there is one.
+pub fn text_of(alloc: Global, found: &Option<Entry>) -> Result<Option<Vec<u8>>, Memory>
+    ensures { IfOk result (λ text. IfSome text
+        (λ bytes. (e : AnEntry) × (found.now ≡ Some e) × (bytes.items ≡ entry_text e))) }
 {
     match found {
-        Some(entry) => write_entry(out, entry),
-        None => Ok(()),
+        Some(entry) => {
+            let mut text = Vec::new(alloc);
+            write_entry(&mut text, entry)?;
+            Ok(Some(text))
+        }
+        None => Ok(None),
     }
 }
 

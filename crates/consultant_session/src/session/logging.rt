@@ -1,5 +1,6 @@
 //! What a session leaves for a log.
 ghost use Rattle.std.specs.Prelude.{◌≡◌, IfOk};
+ghost use Rattle.std.specs.Option.{IfSome};
 ghost use Rattle.consult_base.specs.Opened.{base_of};
 ghost use Rattle.consult_text.specs.RightReplies.{RightReply};
 ghost use Rattle.consult_text.specs.States.{State};
@@ -38,12 +39,12 @@ impl<C: Choose + Copy + Drop> Session<C> {
         self.task.clear_entries();
     }
 
-    /// The claims that belong to a right reply to a command, under the choices in force, as texts of entries. Those of
-    /// which the solver knows no clause are left out.
-    pub fn claims(&self, command: &Command, reply: &Reply) -> Result<Vec<u8>, Memory>
+    /// The claims that belong to a right reply to a command, under the choices in force, as texts of entries; None
+    /// where the solver knows no clause of one of them.
+    pub fn claims(&self, command: &Command, reply: &Reply) -> Result<Option<Vec<u8>>, Memory>
         requires { (s : State) × RightReply (base_of self.now.kb) s command.now reply.now }
-        ensures { IfOk result (λ bytes. AreClaims (atom_base (base_of self.now.kb)) self.now.state.choices
-            command.now reply.now bytes.items) }
+        ensures { IfOk result (λ found. IfSome found (λ bytes. AreClaims (atom_base (base_of self.now.kb))
+            self.now.state.choices command.now reply.now bytes.items)) }
     {
         claims_of(
             self.alloc,
