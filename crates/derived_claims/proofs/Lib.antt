@@ -1,0 +1,6 @@
+mod Citing
+mod Adding
+mod Models
+mod Answering
+mod Stating
+mod Claiming
