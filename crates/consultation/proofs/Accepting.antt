@@ -1,5 +1,5 @@
 -- Steps in the log, behind those before them.
-use Rattle.std.proofs.Common.{◌≡◌, ℕ, ◌≤◌, List, [], ◌++◌, sym, ap, ◌∙◌, subst, append_assoc, append-nil, arith}
+use Rattle.std.proofs.Common.{◌≡◌, ℕ, ◌+◌, ◌≤◌, List, [], ◌++◌, sym, ap, ◌∙◌, subst, append_assoc, append-nil, arith}
 use Rattle.std.proofs.Common.{Option, Some, None, Ok, Err}
 use Rattle.std.specs.Bool.{OnTrue}
 use Rattle.std.specs.Prelude.{is_some}
@@ -8,27 +8,42 @@ use Rattle.kb_io.proofs.KnownBytes.{appends_more, appends_none}
 use Rattle.kb_logic.specs.Bases.{Base}
 use Rattle.log_checker.specs.Growing.{Checking, GoesOn}
 use Rattle.log_checker.proofs.Going.{goes-nowhere, goes-on-twice, accepted-so-far}
+use Rattle.narrowed_bases.specs.Narrowings.{IsProblemOf}
 use Rattle.verified_claims.specs.Verdicts.{IsFresh}
-use Rattle.consultation.specs.Accepted.{IsAcceptedLog, IsLogged, LogsAccepted, IsUpTo, IsFreshFor}
+use Rattle.consultation.specs.Accepted.{IsAcceptedLog, IsLogged, LogsAccepted, IsBefore, IsUpTo, IsFreshFor}
 use Rattle.consultation.specs.Accepted.{KeepsSteps, BreaksAfterSteps}
 use Rattle.consultation.specs.declared.stop.Stop.{Stop}
 use Rattle.consultation.specs.declared.stop.Stop.TheVariants as stop
 
 -- nothing was written
-pub keeps-none : (n : ℕ) (c : Option Checking) (log : Option (List ℕ)) → IsUpTo n c → KeepsSteps n c c log log
-keeps-none n None log up = tt
-keeps-none n (Some c) log up =
-    record { bytes = []; steps = goes-nowhere c; grew = appends_none log; line = up }
+pub keeps-none : (kb : Base) (n : ℕ) (c : Option Checking) (log : Option (List ℕ)) → IsUpTo kb n c
+    → KeepsSteps n c c log log
+keeps-none kb n None log up = tt
+keeps-none kb n (Some c) log up =
+    record { bytes = []; steps = goes-nowhere c; grew = appends_none log; line = up.1 }
 
-pub up-to : (n : ℕ) (a b : Option Checking) (old new : Option (List ℕ)) → KeepsSteps n a b old new → IsUpTo n b
-up-to n None None old new keeps = tt
-up-to n None (Some b) old new keeps = absurd keeps
-up-to n (Some a) None old new keeps = absurd keeps
-up-to n (Some a) (Some b) old new keeps = keeps.line
+pub up-to : (kb : Base) (m n : ℕ) (a b : Option Checking) (old new : Option (List ℕ)) → IsUpTo kb m a
+    → KeepsSteps n a b old new → IsUpTo kb n b
+up-to kb m n None None old new over keeps = tt
+up-to kb m n None (Some b) old new over keeps = absurd keeps
+up-to kb m n (Some a) None old new over keeps = absurd keeps
+up-to kb m n (Some a) (Some b) old new over keeps =
+    (subst (IsProblemOf kb) (sym keeps.steps.problem) over.0, keeps.line)
 
-pub fresh-up-to : (kb : Base) (n : ℕ) (c : Option Checking) → IsFreshFor kb c → IsUpTo n c
+pub fresh-up-to : (kb : Base) (n : ℕ) (c : Option Checking) → IsFreshFor kb c → IsUpTo kb n c
 fresh-up-to kb n None fresh = tt
-fresh-up-to kb n (Some c) fresh = subst (λ (d : Checking). d.state.line ≤ n) (sym fresh.1) (omega arith)
+fresh-up-to kb n (Some c) fresh =
+    (fresh.0, subst (λ (d : Checking). d.state.line ≤ n) (sym fresh.1) (omega arith))
+
+-- before the next line
+pub before-next : (kb : Base) (n : ℕ) (c : Option Checking) → IsUpTo kb n c → IsBefore kb (n + 1) c
+before-next kb n None up = tt
+before-next kb n (Some c) up = let line : c.state.line ≤ n = up.1 in (up.0, omega (arith, line))
+
+pub problem-before : (kb : Base) (n : ℕ) (o : Option Checking) (c : Checking) → o ≡ Some c → IsBefore kb n o
+    → IsProblemOf kb c.problem
+problem-before kb n o c is before =
+    let there : IsBefore kb n (Some c) = subst (λ (x : Option Checking). IsBefore kb n x) is before in there.0
 
 -- one line behind others
 pub keeps-more : (m n : ℕ) (a b c : Option Checking) (old mid new : Option (List ℕ)) → KeepsSteps m a b old mid

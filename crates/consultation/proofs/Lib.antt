@@ -4,4 +4,4 @@ mod Answered
 mod Ending
 mod Telling
 mod Accepting
-mod Bare
+mod Stated

@@ -1,10 +1,11 @@
 -- That the log of a consultation is accepted.
-use Rattle.std.specs.Prelude.{◌≡◌, ◌≤◌, ◌<◌, ℕ, List, Option, Some, None, IfSome, Result, Ok, Err, ⊤}
+use Rattle.std.specs.Prelude.{◌≤◌, ◌<◌, ℕ, List, Option, Some, None, IfSome, Result, Ok, Err, ⊤}
 use Rattle.std.specs.Io.KnownBytes.{Appends}
 use Rattle.kb_io.specs.ReadWrite.{AppendsPrefix}
 use Rattle.kb_logic.specs.Bases.{Base}
 use Rattle.derivation_log.specs.declared.claims.Claim.{Claim}
 use Rattle.log_checker.specs.Growing.{Checking, GoesOn}
+use Rattle.narrowed_bases.specs.Narrowings.{IsProblemOf}
 use Rattle.verified_claims.specs.Verdicts.{IsAcceptedOver, IsFresh}
 use Rattle.consultation.specs.declared.stop.Stop.{Stop}
 use Rattle.consultation.specs.declared.stop.Stop.TheVariants as stop
@@ -26,13 +27,14 @@ abbrev pub LogsAccepted : Result Unit Stop → Base → Option (List ℕ) → Op
 LogsAccepted (Ok x) kb old new = (bytes : List ℕ) × IsAcceptedLog kb bytes × Appends old new bytes
 LogsAccepted (Err s) kb old new = (bytes : List ℕ) × IsAcceptedLog kb bytes × IsLogged s old new bytes
 
--- the marks in the log are of lines up to this one, where one is kept
-abbrev pub IsUpTo : ℕ → Option Checking → Type 0
-IsUpTo n checker = IfSome checker (λ c. c.state.line ≤ n)
+-- the log, where one is kept, is over the ground problem of the knowledge base, and its marks are of lines up to this
+-- one
+abbrev pub IsUpTo : Base → ℕ → Option Checking → Type 0
+IsUpTo kb n checker = IfSome checker (λ c. IsProblemOf kb c.problem × (c.state.line ≤ n))
 
--- the marks in the log are of lines before this one, where one is kept
-abbrev pub IsBefore : ℕ → Option Checking → Type 0
-IsBefore n checker = IfSome checker (λ c. c.state.line < n)
+-- the same, and its marks are of lines before this one
+abbrev pub IsBefore : Base → ℕ → Option Checking → Type 0
+IsBefore kb n checker = IfSome checker (λ c. IsProblemOf kb c.problem × (c.state.line < n))
 
 -- no entry is in the log, where one is kept
 abbrev pub IsFreshFor : Base → Option Checking → Type 0

@@ -3,7 +3,7 @@ use Rattle.std.specs.Prelude.{◌≡◌, ℕ, ◌+◌, List, [], ◌∷◌, ◌+
 use Rattle.std.specs.Io.KnownBytes.{Appends}
 use Rattle.kb_logic.specs.Bases.{Base}
 use Rattle.consult_text.specs.RightReplies.{RightReply}
-use Rattle.consult_text.specs.States.{State}
+use Rattle.consult_text.specs.States.{State, state_after}
 use Rattle.derivation_log.specs.Lines.{entry_text}
 use Rattle.derivation_log.specs.declared.entries.Entry.TheVariants.{Mark}
 use Rattle.search_log.specs.Entries.{AreEntries}
@@ -14,8 +14,8 @@ use Rattle.consultation.specs.declared.said.Said.{Said}
 use Rattle.consultation.specs.declared.said.Said.TheVariants as said
 
 -- What is stated of line n, to which this is said and which leaves the state t: nothing of a blank one, and of each
--- other one its mark; of a command, behind its mark, entries of a search, and then claims that belong to its reply, of
--- the choices then in force.
+-- other one its mark; of a command, behind its mark, entries of a search, and then the claims that belong to its reply,
+-- of the choices then in force: one of `inconsistent`, one of each literal that is shown, and one of a least value.
 abbrev pub IsStatement : Base → State → ℕ → Said → List ℕ → Type 0
 IsStatement kb t n said.Nothing bytes = bytes ≡ []
 IsStatement kb t n said.TooLong bytes = bytes ≡ entry_text (Mark n)
@@ -35,9 +35,9 @@ abbrev pub GrowsLog : Bool → (List ℕ → Type 0) → Option (List ℕ) → O
 GrowsLog true AreSo old new = (bytes : List ℕ) × AreSo bytes × Appends old new bytes
 GrowsLog false AreSo old new = new ≡ old
 
--- a reply is right for its command in some state
-abbrev pub IsRightSomewhere : Base → Said → Type 0
-IsRightSomewhere kb said.Nothing = ⊤
-IsRightSomewhere kb said.TooLong = ⊤
-IsRightSomewhere kb (said.Refused f) = ⊤
-IsRightSomewhere kb (said.Replied c r) = (s : State) × RightReply kb s c r
+-- a reply is right for its command in a state that the command turned into t
+abbrev pub IsRightBefore : Base → State → Said → Type 0
+IsRightBefore kb t said.Nothing = ⊤
+IsRightBefore kb t said.TooLong = ⊤
+IsRightBefore kb t (said.Refused f) = ⊤
+IsRightBefore kb t (said.Replied c r) = (s : State) × RightReply kb s c r × (t ≡ state_after kb s c)

@@ -5,9 +5,10 @@ ghost use Rattle.kb_io.specs.Lines.{longest_line};
 ghost use Rattle.kb_io.specs.Pending.{most_bytes};
 ghost use Rattle.consult_base.specs.Opened.{base_of};
 ghost use Rattle.consult_text.specs.States.{first_state};
+ghost use Rattle.narrowed_bases.specs.Narrowings.{IsProblemOf};
 ghost use Rattle.consultation.specs.Accepted.{BreaksAfterSteps, IsBefore, IsFreshFor, IsUpTo, KeepsSteps, LogsAccepted};
 ghost use Rattle.consultation.specs.Answering.{AnswersCommands};
-ghost use Rattle.consultation.specs.Statements.{IsRightSomewhere};
+ghost use Rattle.consultation.specs.Statements.{IsRightBefore};
 ghost use Rattle.consultation.specs.Streams.{held, streams};
 ghost use Rattle.consultation.specs.Turns.{States, HasCounts, Tells, AnswersLine, Turns};
 ghost use Rattle.consultation.specs.Turns.{IsJustOpened, IsSameButChecker, IsSameButState};
@@ -108,7 +109,8 @@ fn write_statement<L: Sink>(
     checker: &mut Checker,
     log: &mut L,
 ) -> Result<(), Stop>
-    requires right { IsRightSomewhere (base_of session.old.kb) said.now }
+    requires right { IsRightBefore (base_of session.old.kb) session.old.state said.now }
+    requires problem { IsProblemOf (base_of session.old.kb) checker.old.problem }
     requires line { checker.old.state.line < number }
     ensures states { States result true (base_of session.old.kb) session.old.state number said.now (L.holds log.old)
         (L.holds log.new) (L.faults log.old) (L.faults log.new) }
@@ -165,8 +167,8 @@ impl Consultant {
 
     /// States in the log what is said to the last line, where a log is kept, and flushes.
     fn state<L: Sink>(&mut self, said: &Said, log: &mut L) -> Result<(), Stop>
-        requires right { IsRightSomewhere (base_of self.old.kb) said.now }
-        requires line { IsBefore self.old.number self.old.checker }
+        requires right { IsRightBefore (base_of self.old.kb) self.old.state said.now }
+        requires line { IsBefore (base_of self.old.kb) self.old.number self.old.checker }
         ensures states { States result self.old.logs (base_of self.old.kb) self.old.state self.old.number said.now
             (L.holds log.old) (L.holds log.new) (L.faults log.old) (L.faults log.new) }
         ensures steps { OnOk result (KeepsSteps self.old.number self.old.checker self.new.checker (L.holds log.old)
@@ -193,8 +195,8 @@ impl Consultant {
 
     /// States what is said to the last line, and then prints it and flushes. All memory that it takes is taken before.
     fn tell<W: Sink, L: Sink>(&mut self, said: &Said, out: &mut W, log: &mut L) -> Result<(), Stop>
-        requires right { IsRightSomewhere (base_of self.old.kb) said.now }
-        requires line { IsBefore self.old.number self.old.checker }
+        requires right { IsRightBefore (base_of self.old.kb) self.old.state said.now }
+        requires line { IsBefore (base_of self.old.kb) self.old.number self.old.checker }
         ensures told { Tells result self.old.logs (base_of self.old.kb) self.old.state self.old.number said.now
             (held (W.holds out.old) (L.holds log.old)) (held (W.holds out.new) (L.holds log.new)) }
         ensures counts { HasCounts result self.old.logs (W.faults out.old) (W.faults out.new) (L.faults log.old)
@@ -222,7 +224,7 @@ impl Consultant {
     /// Answers the line that was read.
     fn answer<W: Sink, L: Sink>(&mut self, out: &mut W, log: &mut L) -> Result<(), Stop>
         requires line { length self.old.lines.line ≤ longest_line }
-        requires number { IsBefore self.old.number self.old.checker }
+        requires number { IsBefore (base_of self.old.kb) self.old.number self.old.checker }
         ensures answered { AnswersLine result self.old.logs (base_of self.old.kb) self.old.number self.old.state
             self.new.state self.old.lines.line (held (W.holds out.old) (L.holds log.old))
             (held (W.holds out.new) (L.holds log.new)) }
@@ -249,7 +251,7 @@ impl Consultant {
         log: &mut L,
     ) -> Result<bool, Stop>
         requires number { self.old.number ≤ most_bytes }
-        requires line { IsUpTo self.old.number self.old.checker }
+        requires line { IsUpTo (base_of self.old.kb) self.old.number self.old.checker }
         ensures turn { Turns result self.old.logs (base_of self.old.kb) (self.old.number + 1) self.old.state
             self.new.state self.old.lines self.new.lines
             (streams (C.left commands.old) (C.faults commands.old) (W.holds out.old) (W.faults out.old)

@@ -1,14 +1,17 @@
 //! The bytes of an answer, and what a log states of it.
-ghost use Rattle.std.specs.Prelude.{◌≡◌, ◌≤◌, ◌<◌, IfOk, OnOk};
+ghost use Rattle.std.specs.Prelude.{◌≡◌, ◌≤◌, ◌<◌, ◌++◌, ℕ, List, IfOk, OnOk};
+ghost use Rattle.std.specs.Option.{IfSome};
 ghost use Rattle.derivation_log.specs.Lines.{entry_text};
 ghost use Rattle.derivation_log.specs.declared.entries.Entry.TheVariants.{Mark};
+ghost use Rattle.search_log.specs.Entries.{AreEntries};
 ghost use Rattle.log_checker.specs.Growing.{GoesOn};
+ghost use Rattle.narrowed_bases.specs.Narrowings.{IsProblemOf};
 ghost use Rattle.consult_text.specs.RightReplies.{RightReply};
-ghost use Rattle.consult_text.specs.States.{State};
+ghost use Rattle.consult_text.specs.States.{State, state_after};
 ghost use Rattle.consult_text.specs.Texts.{reply_text};
 ghost use Rattle.consult_base.specs.Opened.{base_of};
 ghost use Rattle.consultation.specs.Consultation.{said_text};
-ghost use Rattle.consultation.specs.Statements.{IsRightSomewhere, IsStatement};
+ghost use Rattle.consultation.specs.Statements.{IsRightBefore, IsStatement};
 ghost use Rattle.consultation.specs.declared.said.Said.TheVariants as said;
 
 use crate::said::Said;
@@ -16,9 +19,11 @@ use chooser::FirstGreatest;
 use consult_text::{Command, F, Reply, write_reply};
 use consultant_session::Session;
 use derivation_log::{Entry, write_entry};
+use derived_claims::derived_claims;
 use kb_logic::{Memory, Vocabulary};
 use log_checker::Checker;
 use std::alloc::Global;
+use tightened_entries::under_last_bound;
 
 /// The bytes of a reply.
 fn text_of_reply(alloc: Global, vocab: &Vocabulary, reply: &Reply) -> Result<Vec<u8>, Memory>
@@ -50,24 +55,49 @@ fn mark_of(alloc: Global, number: u64) -> Result<Vec<u8>, Memory>
     Ok(bytes)
 }
 
+// A search for a least value assumes each wider bound beside the tightest, so that what it learnt under one stays of
+// use. Its claim may cite the selector of the tightest alone.
+/// Appends the entries that the session left; those of a search for a least value as derived under the last bound.
+fn push_entries(
+    alloc: Global,
+    bytes: &mut Vec<u8>,
+    session: &Session<FirstGreatest>,
+    reply: &Reply,
+    checker: &Checker,
+) -> Result<(), Memory>
+    ensures { OnOk result ((entries : List ℕ) × AreEntries entries × (bytes.new.items ≡ bytes.old.items ++ entries)) }
+{
+    match reply {
+        Reply::Minimum(_, _) => {
+            let constraints = checker.constraints()?;
+            bytes.extend_from_slice(&under_last_bound(alloc, session.entries(), constraints)?)?;
+        }
+        _ => bytes.extend_from_slice(session.entries())?,
+    }
+    Ok(())
+}
+
 /// The mark of the line with this number, the entries that the session left, and the claims that belong to the reply
-/// to the command.
-fn statement_of_reply(
+/// to the command; None where the solver knows no clause of one of them.
+fn found_statement(
     alloc: Global,
     session: &Session<FirstGreatest>,
     number: u64,
     command: &Command,
     reply: &Reply,
-) -> Result<Vec<u8>, Memory>
+    checker: &Checker,
+) -> Result<Option<Vec<u8>>, Memory>
     requires { (s : State) × RightReply (base_of session.now.kb) s command.now reply.now }
-    ensures { IfOk result (λ bytes. IsStatement (base_of session.now.kb) session.now.state number
-        (said.Replied command.now reply.now) bytes.items) }
+    ensures { IfOk result (λ found. IfSome found (λ bytes. IsStatement (base_of session.now.kb) session.now.state number
+        (said.Replied command.now reply.now) bytes.items)) }
 {
-    let claims = session.claims(command, reply)?;
+    let Some(claims) = session.claims(command, reply)? else {
+        return Ok(None);
+    };
     let mut bytes = mark_of(alloc, number)?;
-    bytes.extend_from_slice(session.entries())?;
+    push_entries(alloc, &mut bytes, session, reply, checker)?;
     bytes.extend_from_slice(&claims)?;
-    Ok(bytes)
+    Ok(Some(bytes))
 }
 
 /// The mark alone, of which the checker knows then.
@@ -82,10 +112,36 @@ fn marked(alloc: Global, number: u64, checker: &mut Checker) -> Result<Vec<u8>, 
     Ok(bytes)
 }
 
+/// The mark, and the claims of the reply, with entries by which they follow that no search made.
+fn derived_statement(
+    alloc: Global,
+    session: &Session<FirstGreatest>,
+    number: u64,
+    command: &Command,
+    reply: &Reply,
+    checker: &mut Checker,
+) -> Result<Vec<u8>, Memory>
+    requires right { (s : State) × RightReply (base_of session.now.kb) s command.now reply.now
+        × (session.now.state ≡ state_after (base_of session.now.kb) s command.now) }
+    requires problem { IsProblemOf (base_of session.now.kb) checker.old.problem }
+    requires line { checker.old.state.line < number }
+    ensures statement { IfOk result (λ bytes. IsStatement (base_of session.now.kb) session.now.state number
+        (said.Replied command.now reply.now) bytes.items) }
+    ensures steps { IfOk result (λ bytes. GoesOn checker.old bytes.items checker.new) }
+    ensures line { OnOk result (checker.new.state.line ≡ number) }
+{
+    session.known();
+    let mut bytes = marked(alloc, number, checker)?;
+    let choices = session.choices().as_slice();
+    let claims = derived_claims(alloc, session.kb(), checker, choices, command, reply)?;
+    bytes.extend_from_slice(&claims)?;
+    Ok(bytes)
+}
+
 // What a search states of itself rests on how it was done, and the contract of a search does not say that each entry is
-// a step. So each statement is checked before it is written, as whoever reads the log will check it.
-/// What is stated of the line with this number, which is this command and has this reply: all of it, where each entry
-/// is a step behind the log so far, and else the mark alone.
+// a step. So each statement is checked before it is written, as whoever reads the log will check it; and where it is no
+// sequence of steps, which nobody has seen yet, the claims are derived by cases, for which a right reply is enough.
+/// What is stated of the line with this number, which is this command and has this reply.
 fn checked_reply(
     alloc: Global,
     session: &Session<FirstGreatest>,
@@ -94,18 +150,21 @@ fn checked_reply(
     reply: &Reply,
     checker: &mut Checker,
 ) -> Result<Vec<u8>, Memory>
-    requires right { (s : State) × RightReply (base_of session.now.kb) s command.now reply.now }
+    requires right { (s : State) × RightReply (base_of session.now.kb) s command.now reply.now
+        × (session.now.state ≡ state_after (base_of session.now.kb) s command.now) }
+    requires problem { IsProblemOf (base_of session.now.kb) checker.old.problem }
     requires line { checker.old.state.line < number }
     ensures statement { IfOk result (λ bytes. IsStatement (base_of session.now.kb) session.now.state number
         (said.Replied command.now reply.now) bytes.items) }
     ensures steps { IfOk result (λ bytes. GoesOn checker.old bytes.items checker.new) }
     ensures line { OnOk result (checker.new.state.line ≡ number) }
 {
-    let statement = statement_of_reply(alloc, session, number, command, reply)?;
-    if checker.go_on(number, &statement)? {
-        return Ok(statement);
+    if let Some(statement) = found_statement(alloc, session, number, command, reply, checker)? {
+        if checker.go_on(number, &statement)? {
+            return Ok(statement);
+        }
     }
-    marked(alloc, number, checker)
+    derived_statement(alloc, session, number, command, reply, checker)
 }
 
 /// What is stated of the line with this number, to which this is said, of which the checker knows then.
@@ -116,7 +175,8 @@ pub(crate) fn statement_of(
     said: &Said,
     checker: &mut Checker,
 ) -> Result<Vec<u8>, Memory>
-    requires right { IsRightSomewhere (base_of session.now.kb) said.now }
+    requires right { IsRightBefore (base_of session.now.kb) session.now.state said.now }
+    requires problem { IsProblemOf (base_of session.now.kb) checker.old.problem }
     requires line { checker.old.state.line < number }
     ensures statement { IfOk result
         (λ bytes. IsStatement (base_of session.now.kb) session.now.state number said.now bytes.items) }

@@ -2,7 +2,7 @@ use Rattle.std.proofs.Common.{◌≡◌, ◌∙◌, refl, ap}
 use Rattle.std.proofs.lemmas.Bool.{OnFalse_at, OnFalse_from, OnTrue_at}
 use Rattle.std.proofs.lemmas.Result.{err_from_is_err_and}
 use Rattle.consult_base.specs.Opened.{base_of}
-use Rattle.consultation.proofs.Accepting.{keeps-none, keeps-more, breaks-later, fresh-up-to}
+use Rattle.consultation.proofs.Accepting.{keeps-none, keeps-more, breaks-later, fresh-up-to, up-to}
 use Rattle.consultation.proofs.Accepting.{accepted-whole, accepted-early}
 use Rattle.consultation.proofs.Ending.{began, goes_on, ends_done, ends_early, takes_some}
 use Rattle.consultation.proofs.consultant.Consultant.answer_all.Goals as goal
@@ -42,7 +42,9 @@ loop-init g c = record {
   logs = refl;
   none = OnFalse_from c.args.self.now.logs (c.args.log.now ≡ c.args.log.now) (λ e. refl);
   so_far = began c.args.self.now _ c.requires;
-  steps = keeps-none _ _ _ (fresh-up-to (base_of c.args.self.now.kb) _ _ c.requires.fresh);
+  over = fresh-up-to (base_of c.args.self.now.kb) c.args.self.now.number c.args.self.now.checker c.requires.fresh;
+  steps = keeps-none (base_of c.args.self.now.kb) c.args.self.now.number c.args.self.now.checker _
+      (fresh-up-to (base_of c.args.self.now.kb) c.args.self.now.number c.args.self.now.checker c.requires.fresh);
 }
 
 pub loop-preserved : goal.loop-preserved
@@ -57,5 +59,7 @@ loop-preserved g c =
           (λ e. OnFalse_at (before.logs ∙ e) ensures.none ∙ OnFalse_at e before.none);
       so_far = goes_on _ _ _ _ _ _ _ _ _ _ _ _ _ _ before.logs (ap base_of before.kb)
           (OnTrue_at c.if-branch.true ensures.number) before.so_far turn;
+      over = up-to (base_of c.args.self.now.kb) c.loop.self.number c.answer_next.new.self.number c.loop.self.checker
+          c.answer_next.new.self.checker _ _ before.over ensures.steps;
       steps = keeps-more _ _ _ _ _ _ _ _ before.steps ensures.steps;
     }

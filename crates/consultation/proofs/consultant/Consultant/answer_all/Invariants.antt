@@ -3,7 +3,7 @@ use Rattle.std.specs.Bool.{OnFalse}
 use Rattle.kb_io.specs.Pending.{most_bytes}
 use Rattle.consult_base.specs.Opened.{base_of}
 use Rattle.consult_text.specs.States.{first_state}
-use Rattle.consultation.specs.Accepted.{KeepsSteps}
+use Rattle.consultation.specs.Accepted.{IsUpTo, KeepsSteps}
 use Rattle.consultation.specs.Streams.{streams}
 use Rattle.consultation.proofs.Ending.{IsSoFar}
 use Rattle.consultation.proofs.consultant.Consultant.answer_all.Given as goal
@@ -20,6 +20,7 @@ invariant-loop g l = record {
       (g.L.Sink.holds l.initial.log) (g.L.Sink.faults l.initial.log))
       (streams (g.C.Source.left l.commands) (g.C.Source.faults l.commands) (g.W.Sink.holds l.out)
       (g.W.Sink.faults l.out) (g.L.Sink.holds l.log) (g.L.Sink.faults l.log));
+  over : IsUpTo (base_of l.initial.self.kb) l.self.number l.self.checker;
   steps : KeepsSteps l.self.number l.initial.self.checker l.self.checker (g.L.Sink.holds l.initial.log)
       (g.L.Sink.holds l.log);
 }
